@@ -1,0 +1,58 @@
+-- What a fault says, without the room that its text keeps.
+use Rattle.std.specs.Prelude.{◌≡◌, ℕ, ◌⊎◌, List, Result, Ok, Err, Option, Some, None, IfErr, string_bytes, codes}
+use Rattle.semver.specs.Parse.{memory_error}
+use Rattle.semver.specs.declared.error.Error.{Error as VersionError}
+use Rattle.cargo_lock_parts.specs.declared.error.Error.{Error}
+use Rattle.cargo_lock_parts.specs.declared.error.Error.TheVariants.{Io, Parse, Version, Resolution, Memory}
+
+-- the fault is `Parse` with this text
+abbrev pub IsParse : Error → List ℕ → Type 0
+IsParse (Io kind) text = ⊥
+IsParse (Parse said) text = string_bytes said ≡ text
+IsParse (Version fault) text = ⊥
+IsParse (Resolution said) text = ⊥
+IsParse Memory text = ⊥
+
+-- the fault is `Parse` or want of memory
+abbrev pub IsParseOrMemory : Error → Type 0
+IsParseOrMemory (Io kind) = ⊥
+IsParseOrMemory (Parse said) = Unit {0}
+IsParseOrMemory (Version fault) = ⊥
+IsParseOrMemory (Resolution said) = ⊥
+IsParseOrMemory Memory = Unit {0}
+
+-- the fault of `semver` as a fault of this crate: its want of memory is want of memory
+abbrev pub IsFromVersion : VersionError → Error → Type 0
+IsFromVersion fault e =
+    ((fault ≡ memory_error) × (e ≡ Memory)) ⊎ (¬ (fault ≡ memory_error) × (e ≡ Version fault))
+
+-- an error is `Parse` with this text, or memory ran out
+abbrev pub RefusesWith : {T : Type 0} → Result T Error → List ℕ → Type 0
+RefusesWith result text = IfErr result (λ e. (e ≡ Memory) ⊎ IsParse e text)
+
+-- The crate `url` reads no URL that comes to 4 GB, and promises no length below which it does not
+-- say so. That refusal has this one text.
+abbrev pub too_long : List ℕ
+too_long = codes "invalid url: more than 4 GB"
+
+-- the fault is that of a URL that came to 4 GB
+abbrev pub IsTooLong : Error → Type 0
+IsTooLong e = IsParse e too_long
+
+-- A refusal of a reader: memory may run out at any time, and `Parse` comes only where P holds or
+-- a URL came to 4 GB. No other fault comes.
+abbrev pub Refuses : Error → Type 0 → Type 0
+Refuses (Io kind) P = ⊥
+Refuses (Parse said) P = P ⊎ (string_bytes said ≡ too_long)
+Refuses (Version fault) P = ⊥
+Refuses (Resolution said) P = ⊥
+Refuses Memory P = Unit {0}
+
+-- What a reader answers: `Ok` with the meaning alone, and `Parse` only where there is none.
+abbrev pub Reads : {X Y : Type 0} → (X → Y) → Result X Error → Option Y → Type 0
+Reads view (Ok x) meaning = meaning ≡ Some (view x)
+Reads view (Err e) meaning = Refuses e (meaning ≡ None)
+
+-- memory ran out, or a URL came to 4 GB
+abbrev pub OnlyTooLong : Error → Type 0
+OnlyTooLong e = Refuses e ⊥

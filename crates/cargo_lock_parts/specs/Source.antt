@@ -1,0 +1,101 @@
+-- What contracts see of a source: where a package of a lockfile comes from.
+use Rattle.std.specs.Prelude.{ℕ, Bool, List, Option, Some, None, string_bytes, true, false}
+use Rattle.url.specs.Parts.{Parts}
+use Rattle.cargo_lock_parts.specs.declared.package.source.reference.GitReference.{GitReference}
+use Rattle.cargo_lock_parts.specs.declared.package.source.reference.GitReference.TheVariants as reference
+use Rattle.cargo_lock_parts.specs.declared.package.source.SourceKind.{SourceKind}
+use Rattle.cargo_lock_parts.specs.declared.package.source.SourceKind.TheVariants as kind
+
+-- what is checked out of a repository
+pub data Reference : Type 0 where
+  DefaultBranch : Reference
+  Tag : List ℕ → Reference
+  Branch : List ℕ → Reference
+  Rev : List ℕ → Reference
+
+-- the kind of a source
+pub data Kind : Type 0 where
+  Git : Reference → Kind
+  Path : Kind
+  Registry : Kind
+  SparseRegistry : Kind
+  LocalRegistry : Kind
+  Directory : Kind
+
+-- a source: its URL, its kind, the text that pins it, and the name of its registry
+pub record Source : Type 0 where
+  pub url : Parts
+  pub kind : Kind
+  pub precise : Option (List ℕ)
+  pub name : Option (List ℕ)
+
+-- a source that is to be written, escaped or plain
+pub record MarkedSource : Type 0 where
+  pub source : Source
+  pub escaped : Bool
+
+-- a reference that is to be written, escaped or plain
+pub record MarkedReference : Type 0 where
+  pub reference : Reference
+  pub escaped : Bool
+
+-- the reference without the room that its text keeps
+abbrev pub reference_of : GitReference → Reference
+reference_of reference.DefaultBranch = DefaultBranch
+reference_of (reference.Tag text) = Tag (string_bytes text)
+reference_of (reference.Branch text) = Branch (string_bytes text)
+reference_of (reference.Rev text) = Rev (string_bytes text)
+
+-- the kind without the room that its texts keep
+abbrev pub kind_of : SourceKind → Kind
+kind_of (kind.Git reference) = Git (reference_of reference)
+kind_of kind.Path = Path
+kind_of kind.Registry = Registry
+kind_of kind.SparseRegistry = SparseRegistry
+kind_of kind.LocalRegistry = LocalRegistry
+kind_of kind.Directory = Directory
+
+-- the source is a folder on this machine, which no lockfile names
+abbrev pub is_path : Kind → Bool
+is_path (Git reference) = false
+is_path Path = true
+is_path Registry = false
+is_path SparseRegistry = false
+is_path LocalRegistry = false
+is_path Directory = false
+
+-- the source is a repository
+abbrev pub is_git : Kind → Bool
+is_git (Git reference) = true
+is_git Path = false
+is_git Registry = false
+is_git SparseRegistry = false
+is_git LocalRegistry = false
+is_git Directory = false
+
+-- the source is a registry, remote or on this machine
+abbrev pub is_registry : Kind → Bool
+is_registry (Git reference) = false
+is_registry Path = false
+is_registry Registry = true
+is_registry SparseRegistry = true
+is_registry LocalRegistry = true
+is_registry Directory = false
+
+-- the source is a registry that is asked over the network
+abbrev pub is_remote_registry : Kind → Bool
+is_remote_registry (Git reference) = false
+is_remote_registry Path = false
+is_remote_registry Registry = true
+is_remote_registry SparseRegistry = true
+is_remote_registry LocalRegistry = false
+is_remote_registry Directory = false
+
+-- what is checked out, if the source is a repository
+abbrev pub git_reference : Kind → Option Reference
+git_reference (Git reference) = Some reference
+git_reference Path = None
+git_reference Registry = None
+git_reference SparseRegistry = None
+git_reference LocalRegistry = None
+git_reference Directory = None

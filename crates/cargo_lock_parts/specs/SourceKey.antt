@@ -1,0 +1,89 @@
+-- The key of a source: what equality, order and hash look at.
+--
+-- The precise text pins a commit of a repository, and so tells two git sources apart. That of a
+-- registry is the word `locked`, which only says that the source stood in a lockfile.
+use Rattle.std.specs.Prelude.{◌≡◌, ℕ, Bool, List, [], ◌++◌, Option, Some, None, unwrap_or}
+use Rattle.std.specs.Option.{option_cmp}
+use Rattle.std.specs.declared.cmp.Ordering.{Ordering}
+use Rattle.std.specs.Ordering.{nat_cmp, on, then_cmp, eq_by_cmp}
+use Rattle.std.specs.Cmp.Lexicographic.{slice_cmp}
+use Rattle.std.specs.Hash.{HashWrites}
+use Rattle.std.specs.Hash as fed
+use Rattle.url.specs.Parts.{serialize}
+use Rattle.cargo_lock_parts.specs.Source.{Kind, Reference, Source, DefaultBranch, Tag, Branch, Rev, Git, Path, Registry, SparseRegistry, LocalRegistry, Directory}
+
+-- where a kind with its reference stands in the order
+abbrev pub place : Kind → ℕ
+place (Git DefaultBranch) = 0
+place (Git (Tag text)) = 1
+place (Git (Branch text)) = 2
+place (Git (Rev text)) = 3
+place Path = 4
+place Registry = 5
+place SparseRegistry = 6
+place LocalRegistry = 7
+place Directory = 8
+
+-- the text of the reference, which is empty where there is none
+abbrev pub reference_text : Kind → List ℕ
+reference_text (Git DefaultBranch) = []
+reference_text (Git (Tag text)) = text
+reference_text (Git (Branch text)) = text
+reference_text (Git (Rev text)) = text
+reference_text Path = []
+reference_text Registry = []
+reference_text SparseRegistry = []
+reference_text LocalRegistry = []
+reference_text Directory = []
+
+-- the precise text of a git source
+abbrev pub precise_if_git : Kind → Option (List ℕ) → Option (List ℕ)
+precise_if_git (Git reference) precise = precise
+precise_if_git Path precise = None
+precise_if_git Registry precise = None
+precise_if_git SparseRegistry precise = None
+precise_if_git LocalRegistry precise = None
+precise_if_git Directory precise = None
+
+-- what tells a source from others
+pub record Key : Type 0 where
+  pub url : List ℕ
+  pub name : Option (List ℕ)
+  pub kind : Kind
+  pub precise : Option (List ℕ)
+
+-- the key of a source
+abbrev pub key_of : Source → Key
+key_of s = record {
+  url = serialize s.url;
+  name = s.name;
+  kind = s.kind;
+  precise = precise_if_git s.kind s.precise;
+}
+
+-- texts compare byte by byte
+abbrev pub text_cmp : List ℕ → List ℕ → Ordering
+text_cmp = slice_cmp nat_cmp
+
+-- keys compare by their parts in order, and an absent text stands before a present one
+abbrev pub key_cmp : Key → Key → Ordering
+key_cmp =
+    then_cmp (then_cmp (then_cmp (then_cmp
+    (on (λ k. k.url) text_cmp)
+    (on (λ k. k.name) (option_cmp text_cmp)))
+    (on (λ k. place k.kind) nat_cmp))
+    (on (λ k. reference_text k.kind) text_cmp))
+    (on (λ k. k.precise) (option_cmp text_cmp))
+
+-- sources compare by their keys
+abbrev pub source_cmp : Source → Source → Ordering
+source_cmp = on key_of key_cmp
+
+-- the keys are the same
+abbrev pub is_same_source : Source → Source → Bool
+is_same_source = eq_by_cmp source_cmp
+
+-- what a hasher is fed of a source
+abbrev pub key_hash : Key → HashWrites
+key_hash k = fed.str k.url ++ fed.str (unwrap_or k.name []) ++ fed.u8 (place k.kind)
+    ++ fed.str (reference_text k.kind) ++ fed.str (unwrap_or k.precise [])

@@ -1,0 +1,97 @@
+//! What a call of this crate answers in place of a value.
+
+use semver::Error as VersionError;
+use std::alloc::{AllocError, AllocFailed, Global};
+use std::io;
+use std::num::ParseIntError;
+use thiserror::Error;
+
+/// Why a call failed. Displayed, each variant but the last begins with the words below and ends
+/// with the text that it holds.
+#[derive(Debug, Drop, Error)]
+pub enum Error {
+    /// A file or a writer failed in the call.
+    #[error("I/O operation failed: {0}")]
+    Io(io::ErrorKind),
+
+    /// A text or a table is none of those that the call reads.
+    #[error("parse error: {0}")]
+    Parse(String),
+
+    /// A text is no version.
+    #[error("version error: {0}")]
+    Version(VersionError),
+
+    /// A dependency has no package.
+    #[error("resolution error: {0}")]
+    Resolution(String),
+
+    /// A growth was refused.
+    #[error("out of memory")]
+    Memory,
+}
+
+/// What the calls of this crate answer.
+pub type Result<T> = std::result::Result<T, Error>;
+
+impl From<io::Error> for Error {
+    ghost use Rattle.std.specs.Prelude.{◌≡◌};
+    ghost use Rattle.std.specs.IoError.{error_kind};
+    ghost use Rattle.cargo_lock_parts.specs.declared.error.Error.TheVariants.{Io};
+
+    ghost from_gives = { λ fault e. e ≡ Io (error_kind fault) };
+
+    fn from(fault: io::Error) -> Error {
+        Error::Io(fault.kind())
+    }
+}
+
+impl From<VersionError> for Error {
+    ghost use Rattle.cargo_lock_parts.specs.Error.{IsFromVersion};
+
+    ghost from_gives = { IsFromVersion };
+
+    fn from(fault: VersionError) -> Error {
+        if fault == VersionError::from(AllocError) {
+            Error::Memory
+        } else {
+            Error::Version(fault)
+        }
+    }
+}
+
+impl From<AllocError> for Error {
+    ghost use Rattle.std.specs.Prelude.{◌≡◌};
+    ghost use Rattle.cargo_lock_parts.specs.declared.error.Error.TheVariants.{Memory};
+
+    ghost from_gives = { λ _ e. e ≡ Memory };
+
+    fn from(_: AllocError) -> Error {
+        Error::Memory
+    }
+}
+
+impl<T: Drop> From<AllocFailed<T>> for Error {
+    ghost use Rattle.std.specs.Prelude.{◌≡◌};
+    ghost use Rattle.cargo_lock_parts.specs.declared.error.Error.TheVariants.{Memory};
+
+    ghost from_gives = { λ _ e. e ≡ Memory };
+
+    fn from(_: AllocFailed<T>) -> Error {
+        Error::Memory
+    }
+}
+
+impl Error {
+    ghost use Rattle.cargo_lock_parts.specs.Error.{IsParseOrMemory};
+
+    /// The fault of a text that is no whole number: `Parse` with the words of `std`.
+    pub fn from_int(alloc: Global, fault: ParseIntError) -> Error
+        ensures { IsParseOrMemory result }
+    {
+        match fault.to_string(alloc) {
+            Ok(text) => Error::Parse(text),
+            Err(_) => Error::Memory,
+        }
+    }
+}

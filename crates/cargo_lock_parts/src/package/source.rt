@@ -1,0 +1,345 @@
+//! Package sources.
+
+ghost use Rattle.std.specs.Prelude.{◌≡◌, None, IfOk, IsOkUnless, option_copied, option_map, string_bytes};
+ghost use Rattle.std.specs.Option.{option_cmp};
+ghost use Rattle.std.specs.Ordering.{nat_cmp};
+ghost use Rattle.std.specs.Cmp.Lexicographic.{slice_cmp};
+ghost use Rattle.cargo_lock_parts.specs.Source.{kind_of, reference_of};
+ghost use Rattle.cargo_lock_parts.specs.declared.error.Error.TheVariants.{Memory};
+
+mod reading;
+mod reference;
+mod text;
+
+pub use crate::package::source::reference::{GitReference, PrettyRef};
+pub use crate::package::source::text::SourceIdAsUrl;
+
+use crate::error::Result;
+use std::alloc::{AllocError, Global};
+use std::cmp::Ordering;
+use std::fmt;
+use std::hash::{Hash, Hasher};
+use std::marker::Model;
+use url::Url;
+
+/// The index of crates.io, as a git repository.
+pub const CRATES_IO_INDEX: &str = "https://github.com/rust-lang/crates.io-index";
+
+/// The index of crates.io that is asked file by file, as the text of a source.
+pub const CRATES_IO_SPARSE_INDEX: &str = "sparse+https://index.crates.io/";
+
+/// The kind of a source.
+#[derive(Debug, PartialEq, Eq, PartialOrd, Ord, Hash, Drop)]
+pub enum SourceKind {
+    /// A git repository.
+    Git(GitReference),
+
+    /// A folder on this machine.
+    Path,
+
+    /// A remote registry, whose index is a git repository.
+    Registry,
+
+    /// A remote registry, whose index is asked file by file.
+    SparseRegistry,
+
+    /// A registry on this machine.
+    LocalRegistry,
+
+    /// A folder of packages on this machine.
+    Directory,
+}
+
+/// Where a package comes from: a URL, a kind, and for a package of a lockfile mostly a precise
+/// text, which is the commit of a git source and `locked` for a registry.
+///
+/// Two sources are equal where their URLs, kinds and, for git, their precise texts are. So a
+/// registry that was read from a lockfile equals one that was made by a call.
+#[derive(Debug, Drop)]
+pub struct SourceId {
+    url: Url,
+    kind: SourceKind,
+    precise: Option<String>,
+    name: Option<String>,
+}
+
+impl Model for SourceId {
+    ghost use Rattle.std.specs.Prelude.{option_map, string_bytes};
+    ghost use Rattle.cargo_lock_parts.specs.Source.{Source, kind_of};
+
+    ghost Value = { Source };
+
+    ghost view = { λ s. record {
+        url = s.url;
+        kind = kind_of s.kind;
+        precise = option_map string_bytes s.precise;
+        name = option_map string_bytes s.name;
+    } };
+}
+
+impl SourceId {
+    ghost use Rattle.std.specs.Prelude.{codes};
+    ghost use Rattle.cargo_lock_parts.specs.Source.{Source, Git, Registry, git_reference};
+    ghost use Rattle.cargo_lock_parts.specs.SourceReading.{plain_source, url_of};
+    ghost use Rattle.cargo_lock_parts.specs.Error.{IsTooLong, OnlyTooLong};
+
+    /// The URL. That of a git source has no query and no fragment.
+    pub fn url(&self) -> &Url
+        ensures { result.now ≡ self.now.url }
+    {
+        &self.url
+    }
+
+    /// The kind.
+    pub fn kind(&self) -> &SourceKind
+        ensures { kind_of result.now ≡ self.now.kind }
+    {
+        &self.kind
+    }
+
+    /// The text that pins the source, if there is one: a commit, or `locked`.
+    pub fn precise(&self) -> Option<&str>
+        ensures { option_copied result ≡ self.now.precise }
+    {
+        match &self.precise {
+            Some(text) => Some(text.as_str()),
+            None => None,
+        }
+    }
+
+    /// What is checked out of the repository, if the source is one.
+    pub fn git_reference(&self) -> Option<&GitReference>
+        ensures { option_map (λ reference. reference_of reference.now) result ≡ git_reference self.now.kind }
+    {
+        match &self.kind {
+            SourceKind::Git(reference) => Some(reference),
+            _ => None,
+        }
+    }
+
+    /// A repository at this URL, with no precise text.
+    pub fn for_git(url: &Url, reference: GitReference) -> Result<SourceId>
+        ensures ok { IfOk result (λ source. source ≡ plain_source (Git (reference_of reference)) None url.now) }
+        ensures err { IsOkUnless result Memory }
+    {
+        SourceId::of(url, SourceKind::Git(reference))
+    }
+
+    /// A remote registry whose index is the repository at this URL, with no precise text.
+    pub fn for_registry(url: &Url) -> Result<SourceId>
+        ensures ok { IfOk result (λ source. source ≡ plain_source Registry None url.now) }
+        ensures err { IsOkUnless result Memory }
+    {
+        SourceId::of(url, SourceKind::Registry)
+    }
+
+    /// This source with another precise text, or with none.
+    pub fn with_precise(&self, precise: Option<String>) -> Result<SourceId>
+        ensures ok { IfOk result (λ source. source ≡ record self.now { precise = option_map string_bytes precise }) }
+        ensures err { IsOkUnless result Memory }
+    {
+        Ok(SourceId {
+            url: self.url.clone()?,
+            kind: self.kind.clone()?,
+            precise,
+            name: clone_text(&self.name)?,
+        })
+    }
+
+    // A source of this kind, with no precise text.
+    fn of(url: &Url, kind: SourceKind) -> Result<SourceId>
+        ensures ok { IfOk result (λ source. source ≡ plain_source (kind_of kind) None url.now) }
+        ensures err { IsOkUnless result Memory }
+    {
+        Ok(SourceId {
+            url: url.clone()?,
+            kind,
+            precise: None,
+            name: None,
+        })
+    }
+}
+
+impl SourceId {
+    ghost use Rattle.cargo_lock_parts.specs.SourceKey.{precise_if_git};
+
+    // The name of the registry, which no public call sets.
+    fn name(&self) -> Option<&str>
+        ensures { option_copied result ≡ self.now.name }
+    {
+        match &self.name {
+            Some(text) => Some(text.as_str()),
+            None => None,
+        }
+    }
+
+    fn precise_if_git(&self) -> Option<&str>
+        ensures { option_copied result ≡ precise_if_git self.now.kind self.now.precise }
+    {
+        match &self.kind {
+            SourceKind::Git(_) => self.precise(),
+            _ => None,
+        }
+    }
+}
+
+impl SourceKind {
+    ghost use Rattle.cargo_lock_parts.specs.SourceKey.{place, reference_text};
+
+    // Where the kind stands in the order.
+    fn place(&self) -> u8
+        ensures { result ≡ place (kind_of self.now) }
+    {
+        match self {
+            SourceKind::Git(GitReference::DefaultBranch) => 0,
+            SourceKind::Git(GitReference::Tag(_)) => 1,
+            SourceKind::Git(GitReference::Branch(_)) => 2,
+            SourceKind::Git(GitReference::Rev(_)) => 3,
+            SourceKind::Path => 4,
+            SourceKind::Registry => 5,
+            SourceKind::SparseRegistry => 6,
+            SourceKind::LocalRegistry => 7,
+            SourceKind::Directory => 8,
+        }
+    }
+
+    // The text of the reference, empty where there is none.
+    fn reference_text(&self) -> &str
+        ensures { result.now ≡ reference_text (kind_of self.now) }
+    {
+        match self {
+            SourceKind::Git(GitReference::Tag(text)) => text.as_str(),
+            SourceKind::Git(GitReference::Branch(text)) => text.as_str(),
+            SourceKind::Git(GitReference::Rev(text)) => text.as_str(),
+            _ => "",
+        }
+    }
+}
+
+impl Clone for SourceKind {
+    ghost use Rattle.std.specs.Prelude.{◌≡◌};
+    ghost use Rattle.cargo_lock_parts.specs.Source.{kind_of};
+
+    ghost is_clone = { λ kind copy. kind_of copy ≡ kind_of kind };
+
+    fn clone(&self) -> std::result::Result<SourceKind, AllocError> {
+        match self {
+            SourceKind::Git(reference) => Ok(SourceKind::Git(reference.clone()?)),
+            SourceKind::Path => Ok(SourceKind::Path),
+            SourceKind::Registry => Ok(SourceKind::Registry),
+            SourceKind::SparseRegistry => Ok(SourceKind::SparseRegistry),
+            SourceKind::LocalRegistry => Ok(SourceKind::LocalRegistry),
+            SourceKind::Directory => Ok(SourceKind::Directory),
+        }
+    }
+}
+
+fn clone_text(text: &Option<String>) -> std::result::Result<Option<String>, AllocError>
+    ensures { IfOk result (λ copy. option_map string_bytes copy ≡ option_map string_bytes text.now) }
+{
+    match text {
+        Some(text) => Ok(Some(text.clone()?)),
+        None => Ok(None),
+    }
+}
+
+impl Clone for SourceId {
+    ghost is_clone = { λ source copy. copy ≡ source };
+
+    fn clone(&self) -> std::result::Result<SourceId, AllocError> {
+        Ok(SourceId {
+            url: self.url.clone()?,
+            kind: self.kind.clone()?,
+            precise: clone_text(&self.precise)?,
+            name: clone_text(&self.name)?,
+        })
+    }
+}
+
+impl PartialEq for SourceId {
+    ghost use Rattle.std.specs.Cmp.{partial_equiv_from_equiv, eq_by_cmp_equiv};
+    ghost use Rattle.cargo_lock_parts.specs.SourceKey.{is_same_source};
+    ghost use Rattle.cargo_lock_parts.specs.SourceLaws.{source_total};
+
+    ghost eq = { is_same_source };
+
+    ghost laws = { partial_equiv_from_equiv (eq_by_cmp_equiv source_total) };
+
+    fn eq(&self, other: &SourceId) -> bool {
+        self.cmp(other) == Ordering::Equal
+    }
+}
+
+impl Eq for SourceId {
+    ghost use Rattle.std.specs.Cmp.{eq_by_cmp_equiv};
+    ghost use Rattle.cargo_lock_parts.specs.SourceLaws.{source_total};
+
+    ghost laws = { eq_by_cmp_equiv source_total };
+}
+
+impl PartialOrd for SourceId {
+    ghost use Rattle.std.specs.Ordering.{as_partial_cmp};
+    ghost use Rattle.std.specs.Cmp.{partial_order_from_total};
+    ghost use Rattle.cargo_lock_parts.specs.SourceKey.{source_cmp};
+    ghost use Rattle.cargo_lock_parts.specs.SourceLaws.{source_total};
+
+    ghost partial_cmp = { as_partial_cmp source_cmp };
+
+    ghost laws = { partial_order_from_total source_total };
+
+    fn partial_cmp(&self, other: &SourceId) -> Option<Ordering> {
+        Some(self.cmp(other))
+    }
+}
+
+impl Ord for SourceId {
+    ghost use Rattle.std.specs.Prelude.{refl};
+    ghost use Rattle.cargo_lock_parts.specs.SourceKey.{source_cmp};
+    ghost use Rattle.cargo_lock_parts.specs.SourceLaws.{source_total};
+
+    ghost cmp = { source_cmp };
+
+    ghost total = { source_total };
+
+    ghost matches_partial_cmp = { λ a b. refl };
+
+    ghost matches_eq = { λ a b. refl };
+
+    fn cmp(&self, other: &SourceId) -> Ordering {
+        self.url
+            .cmp(&other.url)
+            .then(cmp_texts(self.name(), other.name()))
+            .then(self.kind.place().cmp(&other.kind.place()))
+            .then(self.kind.reference_text().cmp(other.kind.reference_text()))
+            .then(cmp_texts(self.precise_if_git(), other.precise_if_git()))
+    }
+}
+
+// An absent text stands before a present one.
+fn cmp_texts(a: Option<&str>, b: Option<&str>) -> Ordering
+    ensures { result ≡ option_cmp (slice_cmp nat_cmp) (option_copied a.entry) (option_copied b.entry) }
+{
+    match (a, b) {
+        (None, None) => Ordering::Equal,
+        (None, Some(_)) => Ordering::Less,
+        (Some(_), None) => Ordering::Greater,
+        (Some(a), Some(b)) => a.cmp(b),
+    }
+}
+
+impl Hash for SourceId {
+    ghost use Rattle.cargo_lock_parts.specs.SourceKey.{key_of, key_hash};
+    ghost use Rattle.cargo_lock_parts.specs.SourceLaws.{source_alike};
+
+    ghost hash_input = { λ source. key_hash (key_of source) };
+
+    ghost respects_eq = { source_alike };
+
+    fn hash<H: Hasher>(&self, state: &mut H) {
+        self.url.hash(state);
+        self.name().unwrap_or("").hash(state);
+        self.kind.place().hash(state);
+        self.kind.reference_text().hash(state);
+        self.precise_if_git().unwrap_or("").hash(state);
+    }
+}
