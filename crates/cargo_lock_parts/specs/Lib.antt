@@ -5,3 +5,6 @@ pub mod SourceLaws
 pub mod SourceReading
 pub mod SourceText
 pub mod Checksum
+pub mod Identity
+pub mod IdentityOrder
+pub mod IdentityLaws

@@ -3,8 +3,12 @@
 //! The crate `cargo_lock` gives all of this under its own paths. Use that one.
 #![tactic(auto)]
 
+pub mod dependency;
 pub mod error;
 pub mod package;
+pub mod patch;
 
+pub use crate::dependency::Dependency;
 pub use crate::error::{Error, Result};
-pub use crate::package::{Checksum, Name, SourceId, Version};
+pub use crate::package::{Checksum, Name, Package, SourceId, Version};
+pub use crate::patch::Patch;

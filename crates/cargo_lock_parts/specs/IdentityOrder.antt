@@ -1,0 +1,56 @@
+-- The order of dependencies and of packages: field by field, sources by their keys, and an absent
+-- value before a present one. What ties is equal.
+use Rattle.std.specs.Prelude.{ℕ, Bool, List, ◌++◌, Option}
+use Rattle.std.specs.Option.{option_cmp}
+use Rattle.std.specs.declared.cmp.Ordering.{Ordering}
+use Rattle.std.specs.Ordering.{nat_cmp, on, then_cmp, eq_by_cmp}
+use Rattle.std.specs.Cmp.Lexicographic.{slice_cmp}
+use Rattle.std.specs.Hash.{HashWrites}
+use Rattle.std.specs.Hash as fed
+use Rattle.semver.specs.Order.{build_cmp, pre_cmp}
+use Rattle.semver.specs.Parse.{Parts}
+use Rattle.cargo_lock_parts.specs.Source.{Source}
+use Rattle.cargo_lock_parts.specs.SourceKey.{key_of, key_hash, source_cmp, text_cmp}
+use Rattle.cargo_lock_parts.specs.Identity.{Identity, PackageData, identity_of}
+
+-- versions compare as `semver` orders them, build metadata last
+abbrev pub version_cmp : Parts → Parts → Ordering
+version_cmp =
+    then_cmp (on (λ v. v.0) nat_cmp) (then_cmp (on (λ v. v.1) nat_cmp) (then_cmp (on (λ v. v.2) nat_cmp)
+    (then_cmp (on (λ v. v.3) pre_cmp) (on (λ v. v.4) build_cmp))))
+
+abbrev pub identity_cmp : Identity → Identity → Ordering
+identity_cmp = then_cmp (then_cmp
+    (on (λ d. d.name) text_cmp)
+    (on (λ d. d.version) version_cmp))
+    (on (λ d. d.source) (option_cmp source_cmp))
+
+abbrev pub package_cmp : PackageData → PackageData → Ordering
+package_cmp = then_cmp (then_cmp (then_cmp (then_cmp (then_cmp
+    (on (λ p. p.name) text_cmp)
+    (on (λ p. p.version) version_cmp))
+    (on (λ p. p.source) (option_cmp source_cmp)))
+    (on (λ p. p.checksum) (option_cmp text_cmp)))
+    (on (λ p. p.dependencies) (slice_cmp identity_cmp)))
+    (on (λ p. p.replace) (option_cmp identity_cmp))
+
+abbrev pub is_same_identity : Identity → Identity → Bool
+is_same_identity = eq_by_cmp identity_cmp
+
+abbrev pub is_same_package : PackageData → PackageData → Bool
+is_same_package = eq_by_cmp package_cmp
+
+-- ---- what a hasher is fed
+
+abbrev pub version_hash : Parts → HashWrites
+version_hash v = fed.u64 v.0 ++ (fed.u64 v.1 ++ (fed.u64 v.2 ++ (fed.str v.3 ++ fed.str v.4)))
+
+abbrev pub source_hash : Source → HashWrites
+source_hash s = key_hash (key_of s)
+
+abbrev pub identity_hash : Identity → HashWrites
+identity_hash d = fed.str d.name ++ version_hash d.version ++ fed.option source_hash d.source
+
+-- the replacement and the checksum follow from the rest in most lockfiles, and are not fed
+abbrev pub package_hash : PackageData → HashWrites
+package_hash p = identity_hash (identity_of p) ++ fed.slice identity_hash p.dependencies
