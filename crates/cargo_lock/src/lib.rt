@@ -1,13 +1,12 @@
-// A library with one function.
+//! Reads and writes `Cargo.lock`.
 #![tactic(auto)]
 
-ghost use Rattle.std.specs.Prelude.{◌≡◌};
-ghost use Rattle.cargo_lock.specs.Echo.{echo_of};
+pub mod dependency;
+pub mod lockfile;
 
-// The `ensures` clause is the contract: what `echo` returns is `echo_of` of its argument, a definition
-// in `specs/Echo.antt`, which a caller's clause can cite too.
-pub fn echo(x: usize) -> usize
-    ensures { result ≡ echo_of x }
-{
-    x
-}
+pub use crate::lockfile::ResolveVersion;
+pub use cargo_lock_parts::dependency::Dependency;
+pub use cargo_lock_parts::error::{Error, Result};
+pub use cargo_lock_parts::package::{Checksum, Name, Package, SourceId, Version};
+pub use cargo_lock_parts::patch::Patch;
+pub use cargo_lock_parts::{error, package, patch};

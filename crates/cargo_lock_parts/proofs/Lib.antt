@@ -1,2 +1,4 @@
 pub mod Ascii
+pub mod DefaultRegistry
 pub mod LastReference
+pub mod RankLemmas

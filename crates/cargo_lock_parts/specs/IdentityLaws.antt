@@ -47,17 +47,17 @@ package_total = then_total (then_total (then_total (then_total (then_total
 
 -- ---- only one key ties
 
-tied-first : (r s : Ordering) → ordering_then r s ≡ Equal → r ≡ Equal
+pub tied-first : (r s : Ordering) → ordering_then r s ≡ Equal → r ≡ Equal
 tied-first Less s e = cc e
 tied-first Equal s e = refl
 tied-first Greater s e = cc e
 
-tied-second : (r s : Ordering) → ordering_then r s ≡ Equal → s ≡ Equal
+pub tied-second : (r s : Ordering) → ordering_then r s ≡ Equal → s ≡ Equal
 tied-second Less s e = cc e
 tied-second Equal s e = e
 tied-second Greater s e = cc e
 
-text_cmp-anti : IsAntisymmetric text_cmp
+pub text_cmp-anti : IsAntisymmetric text_cmp
 text_cmp-anti = slice_cmp-IsAntisymmetric nat_cmp-IsAntisymmetric
 
 pub version_cmp-anti : IsAntisymmetric version_cmp
@@ -72,25 +72,18 @@ version_cmp-anti x y e =
     let build = build-anti x.4 y.4 (tied-second _ _ e3) in
     λ i. (major i, minor i, patch i, pre i, build i)
 
-key_cmp-anti : IsAntisymmetric key_cmp
+pub key_cmp-anti : IsAntisymmetric key_cmp
 key_cmp-anti j k e = key_same j k (ap is_eq e)
 
 -- the order of keys, where there may be none
-option_cmp-anti : {K : Type 0} {R : K → K → Ordering} → IsAntisymmetric R → IsAntisymmetric (option_cmp R)
+pub option_cmp-anti : {K : Type 0} {R : K → K → Ordering} → IsAntisymmetric R → IsAntisymmetric (option_cmp R)
 option_cmp-anti anti None None e = refl
 option_cmp-anti anti None (Some y) e = cc e
 option_cmp-anti anti (Some x) None e = cc e
 option_cmp-anti anti (Some x) (Some y) e = ap Some (anti x y e)
 
 -- a comparison through a function
-option_cmp-on : {K J : Type 0} (f : K → J) (R : J → J → Ordering) (x y : Option K)
-    → option_cmp (on f R) x y ≡ option_cmp R (option_map f x) (option_map f y)
-option_cmp-on f R None None = refl
-option_cmp-on f R None (Some y) = refl
-option_cmp-on f R (Some x) None = refl
-option_cmp-on f R (Some x) (Some y) = refl
-
-slice_cmp-by : {K J : Type 0} (f : K → J) (C : K → K → Ordering) (R : J → J → Ordering)
+pub slice_cmp-by : {K J : Type 0} (f : K → J) (C : K → K → Ordering) (R : J → J → Ordering)
     → ((x y : K) → C x y ≡ R (f x) (f y)) → (xs ys : List K)
     → slice_cmp C xs ys ≡ slice_cmp R (map f xs) (map f ys)
 slice_cmp-by f C R same [] [] = refl
@@ -98,7 +91,7 @@ slice_cmp-by f C R same [] (y ∷ ys) = refl
 slice_cmp-by f C R same (x ∷ xs) [] = refl
 slice_cmp-by f C R same (x ∷ xs) (y ∷ ys) = λ i. ordering_then (same x y i) (slice_cmp-by f C R same xs ys i)
 
-option_cmp-by : {K J : Type 0} (f : K → J) (C : K → K → Ordering) (R : J → J → Ordering)
+pub option_cmp-by : {K J : Type 0} (f : K → J) (C : K → K → Ordering) (R : J → J → Ordering)
     → ((x y : K) → C x y ≡ R (f x) (f y)) → (x y : Option K)
     → option_cmp C x y ≡ option_cmp R (option_map f x) (option_map f y)
 option_cmp-by f C R same None None = refl

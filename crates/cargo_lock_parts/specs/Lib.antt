@@ -8,3 +8,5 @@ pub mod Checksum
 pub mod Identity
 pub mod IdentityOrder
 pub mod IdentityLaws
+pub mod Rank
+pub mod SourceShown

@@ -1,6 +1,6 @@
 -- The text of a source: its word, `+` and its URL, and of a git source the reference and the
 -- commit too. Cargo escapes the reference's value from format V4 on.
-use Rattle.std.specs.Prelude.{ℕ, Bool, true, false, List, [], ◌++◌, codes, Option, Some, None, if◌then◌else◌}
+use Rattle.std.specs.Prelude.{ℕ, Bool, List, [], ◌++◌, codes, Option, Some, None, if◌then◌else◌}
 use Rattle.form_urlencoded.specs.Form.{byte_serialize}
 use Rattle.url.specs.Parts.{serialize}
 use Rattle.cargo_lock_parts.specs.Source.{Kind, Reference, Source, MarkedSource, MarkedReference, DefaultBranch, Tag, Branch, Rev, Git, Path, Registry, SparseRegistry, LocalRegistry, Directory}

@@ -5,6 +5,7 @@
 
 pub mod dependency;
 pub mod error;
+pub mod laws;
 pub mod package;
 pub mod patch;
 

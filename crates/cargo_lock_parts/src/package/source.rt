@@ -7,8 +7,10 @@ ghost use Rattle.std.specs.Cmp.Lexicographic.{slice_cmp};
 ghost use Rattle.cargo_lock_parts.specs.Source.{kind_of, reference_of};
 ghost use Rattle.cargo_lock_parts.specs.declared.error.Error.TheVariants.{Memory};
 
+mod rank;
 mod reading;
 mod reference;
+mod shown;
 mod text;
 
 pub use crate::package::source::reference::{GitReference, PrettyRef};

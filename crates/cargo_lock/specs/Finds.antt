@@ -1,0 +1,9 @@
+-- What a search answers.
+use Rattle.std.specs.Prelude.{Result, Ok, Err}
+use Rattle.cargo_lock_parts.specs.declared.error.Error.{Error}
+use Rattle.cargo_lock_parts.specs.Error.{Refuses}
+
+-- `Ok` only with what P holds of, and `Parse` only where P holds of nothing
+abbrev pub Finds : {X : Type 0} → (X → Type 0) → Result X Error → Type 0
+Finds {X} P (Ok x) = P x
+Finds {X} P (Err e) = Refuses e ((x : X) → ¬ P x)

@@ -1,0 +1,3 @@
+//! Dependencies of packages.
+
+pub use cargo_lock_parts::dependency::Dependency;

@@ -1,0 +1,115 @@
+-- How well two sources match: the ranks by which a dependency finds its package.
+--
+-- Rank 1 is the best. Each rank has a condition, those of the ranks 1 to 3 imply that of rank 4,
+-- and two sources match where the condition of rank 4 holds. A match is no equality: a dependency
+-- on a branch matches each commit of that branch.
+use Rattle.std.specs.Prelude.{◌≡◌, ◌↔◌, ℕ, Bool, true, false, not, ◌&&◌, ◌||◌, ◌==◌, List, bytes_eq, Option, Some, None, is_none, if◌then◌else◌}
+use Rattle.std.specs.Option.{option_eq, option_or}
+use Rattle.url.specs.Parts.{serialize}
+use Rattle.cargo_lock_parts.specs.Source.{Kind, Source, DefaultBranch, Tag, Branch, Rev, Git, Path, Registry, SparseRegistry, LocalRegistry, Directory, is_git}
+use Rattle.cargo_lock_parts.specs.SourceKey.{place, reference_text, key_of, is_same_source}
+
+-- ---- what the conditions look at
+
+-- the value of `Rev`, where the source is a repository at one
+abbrev pub revision : Kind → Option (List ℕ)
+revision (Git DefaultBranch) = None
+revision (Git (Tag text)) = None
+revision (Git (Branch text)) = None
+revision (Git (Rev text)) = Some text
+revision Path = None
+revision Registry = None
+revision SparseRegistry = None
+revision LocalRegistry = None
+revision Directory = None
+
+-- the commit of a git source: the precise text, or else the value of `Rev`
+abbrev pub commit_of : Source → Option (List ℕ)
+commit_of s = option_or s.precise (revision s.kind)
+
+-- both texts are there, and they are equal
+abbrev pub are_equal_texts : Option (List ℕ) → Option (List ℕ) → Bool
+are_equal_texts None y = false
+are_equal_texts (Some x) None = false
+are_equal_texts (Some x) (Some y) = bytes_eq x y
+
+-- both texts are there, and they differ
+abbrev pub are_different_texts : Option (List ℕ) → Option (List ℕ) → Bool
+are_different_texts None y = false
+are_different_texts (Some x) None = false
+are_different_texts (Some x) (Some y) = not (bytes_eq x y)
+
+-- the same URL text and the same name, or no name in both
+abbrev pub same_url_and_name : Source → Source → Bool
+same_url_and_name a b = bytes_eq (serialize a.url) (serialize b.url) && option_eq bytes_eq a.name b.name
+
+-- both are repositories
+abbrev pub both_git : Source → Source → Bool
+both_git a b = is_git a.kind && is_git b.kind
+
+-- the same kind, which for a repository means the same sort of reference with the same value
+abbrev pub same_kind : Kind → Kind → Bool
+same_kind j k = (place j == place k) && bytes_eq (reference_text j) (reference_text k)
+
+-- ---- the conditions
+
+-- equal keys
+abbrev pub has_rank_1 : Source → Source → Bool
+has_rank_1 a b = is_same_source a b
+
+-- repositories with the same URL and name, which both have a commit, and these are equal
+abbrev pub has_rank_2 : Source → Source → Bool
+has_rank_2 a b = same_url_and_name a b && both_git a b && are_equal_texts (commit_of a) (commit_of b)
+
+-- repositories with the same URL, name and reference, of which one at least has no precise text
+abbrev pub has_rank_3 : Source → Source → Bool
+has_rank_3 a b =
+    same_url_and_name a b && both_git a b && same_kind a.kind b.kind
+    && (is_none a.precise || is_none b.precise)
+
+-- repositories without two different precise texts
+abbrev pub is_open_git : Source → Source → Bool
+is_open_git a b = both_git a b && not (are_different_texts a.precise b.precise)
+
+-- no repositories, and of the same kind
+abbrev pub is_same_other_kind : Kind → Kind → Bool
+is_same_other_kind j k = not (is_git j) && not (is_git k) && same_kind j k
+
+-- the same URL and name, and either repositories without two different precise texts, or no
+-- repositories and of the same kind
+abbrev pub has_rank_4 : Source → Source → Bool
+has_rank_4 a b = same_url_and_name a b && (is_open_git a b || is_same_other_kind a.kind b.kind)
+
+-- ---- the rank
+
+-- the least of four ranks that holds
+abbrev pub least_rank : Bool → Bool → Bool → Bool → Option ℕ
+least_rank first second third fourth =
+    if first then Some 1
+    else (if second then Some 2
+    else (if third then Some 3
+    else (if fourth then Some 4
+    else None)))
+
+-- the least rank whose condition holds
+abbrev pub rank_of : Source → Source → Option ℕ
+rank_of a b = least_rank (has_rank_1 a b) (has_rank_2 a b) (has_rank_3 a b) (has_rank_4 a b)
+
+-- ---- the laws of the rank
+
+-- it is the same from both sides
+abbrev pub RankIsSymmetric : Type 0
+RankIsSymmetric = (a b : Source) → rank_of a b ≡ rank_of b a
+
+-- it is 1 exactly where the keys are equal
+abbrev pub RankOneIsEqualKeys : Type 0
+RankOneIsEqualKeys = (a b : Source) → (rank_of a b ≡ Some 1) ↔ (key_of a ≡ key_of b)
+
+-- there is none exactly where the condition of rank 4 fails
+abbrev pub NoRankIsNoMatch : Type 0
+NoRankIsNoMatch = (a b : Source) → (rank_of a b ≡ None) ↔ (has_rank_4 a b ≡ false)
+
+-- so each of the other conditions implies that of rank 4
+abbrev pub RanksImplyLast : Type 0
+RanksImplyLast = (a b : Source) → (has_rank_1 a b || has_rank_2 a b || has_rank_3 a b) ≡ true
+    → has_rank_4 a b ≡ true
