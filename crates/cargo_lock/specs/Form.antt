@@ -76,7 +76,7 @@ abbrev pub form_of : List ℕ → Option Form
 form_of text = result_ok (form_or_refusal text)
 
 -- a fault for this reason; a URL may also have come to 4 GB
-abbrev pub IsFormFault : Error → Result Form Refusal → Type 0
+abbrev pub IsFormFault : {X : Type 0} → Error → Result X Refusal → Type 0
 IsFormFault (Version fault) expected = expected ≡ Err (NoVersion fault)
 IsFormFault (Io kind) expected = ⊥
 IsFormFault (Parse said) expected = Refuses (Parse said) (expected ≡ Err NoForm)
@@ -84,7 +84,7 @@ IsFormFault (Resolution said) expected = ⊥
 IsFormFault Memory expected = Unit {0}
 
 -- what the reader of a reference answers
-abbrev pub ReadsForm : Result Form Error → Result Form Refusal → Type 0
+abbrev pub ReadsForm : {X : Type 0} → Result X Error → Result X Refusal → Type 0
 ReadsForm (Ok f) expected = expected ≡ Ok f
 ReadsForm (Err e) expected = IsFormFault e expected
 

@@ -9,8 +9,46 @@ pub use crate::lockfile::encoding::source::EncodableSourceId;
 
 use crate::error::Result;
 use cargo_lock_parts::dependency::Dependency;
+use crate::metadata::Metadata;
 use cargo_lock_parts::package::{Checksum, Name, Version};
+use cargo_lock_parts::patch::Patch;
 use std::marker::Model;
+
+/// A lockfile as its table has it.
+#[derive(Debug, Drop)]
+pub struct EncodableLockfile {
+    /// The number under `version`, where there is one.
+    pub version: Option<i64>,
+
+    /// The packages.
+    pub package: Vec<EncodablePackage>,
+
+    /// The root package, which old lockfiles have apart from the others.
+    pub root: Option<EncodablePackage>,
+
+    /// The metadata.
+    pub metadata: Metadata,
+
+    /// The patches that no package uses.
+    pub patch: Patch,
+}
+
+impl Model for EncodableLockfile {
+    ghost use Rattle.std.specs.Coded.{codes};
+    ghost use Rattle.cargo_lock.specs.Records.{EncodedData, texts_code, texts_of};
+
+    ghost Value = { EncodedData };
+
+    ghost coded = { Prim.hlevel (codes, texts_code) };
+
+    ghost view = { λ e. record {
+        version = e.version;
+        entries = e.«package».items;
+        root = e.root;
+        metadata = texts_of e.metadata.entries;
+        patch = e.patch;
+    } };
+}
 
 /// A package as its table has it: its references are not looked up yet.
 #[derive(Debug, Drop)]

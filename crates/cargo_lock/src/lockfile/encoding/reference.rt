@@ -264,6 +264,20 @@ impl EncodableDependency {
     }
 }
 
+impl EncodableDependency {
+    ghost use Rattle.std.specs.Prelude.{Ok};
+    ghost use Rattle.cargo_lock.specs.Form.{ReadsForm};
+    ghost use Rattle.cargo_lock.specs.Metadata.{own_identity};
+
+    // The reference's own words as an identity.
+    pub(crate) fn own_identity(&self, alloc: Global) -> Result<Dependency>
+        ensures { ReadsForm result (own_identity (Ok self.now)) }
+    {
+        let dependency = self.itself(alloc)?;
+        Ok(dependency)
+    }
+}
+
 // The refusal of a reference that needs a version.
 pub(crate) fn unresolved(alloc: Global, name: &Name) -> Error
     ensures { IsParseOrMemory result }
