@@ -1,3 +1,5 @@
 pub mod Walk
 pub mod WordLemmas
 pub mod SaysLemmas
+pub mod Texts
+pub mod TableLemmas

@@ -98,6 +98,17 @@ entries_at ms = do
   list ← optional_list (get_member (codes "package") ms)
   read_all entry_in list
 
+-- the packages of a lockfile and its root
+pub record EntriesData : Type 0 where
+  pub listed : List EntryData
+  pub root : Option EntryData
+
+unfoldable pub all_entries_at : Members → Option EntriesData
+all_entries_at ms = do
+  listed ← entries_at ms
+  root ← optional_by entry_in (get_member (codes "root") ms)
+  Some (record { listed = listed; root = root })
+
 -- ---- metadata: texts by keys
 
 -- each pair put in turn
@@ -142,8 +153,13 @@ patch_in (Some d) = members_in d >>= patch_at
 unfoldable pub encoded_at : Members → Option EncodedData
 encoded_at ms = do
   version ← optional_by number_in (get_member (codes "version") ms)
-  entries ← entries_at ms
-  root ← optional_by entry_in (get_member (codes "root") ms)
+  entries ← all_entries_at ms
   metadata ← metadata_in (get_member (codes "metadata") ms)
   patch ← patch_in (get_member (codes "patch") ms)
-  Some (record { version = version; entries = entries; root = root; metadata = metadata; patch = patch })
+  Some (record {
+    version = version;
+    entries = entries.listed;
+    root = entries.root;
+    metadata = metadata;
+    patch = patch;
+  })

@@ -84,22 +84,22 @@ has_rank_1-symm a b =
 has_rank_2-symm : (a b : Source) → has_rank_2 a b ≡ has_rank_2 b a
 has_rank_2-symm a b =
     λ i. same_url_and_name-symm a b i && both_git-symm a b i
-        && are_equal_texts-symm (commit_of a) (commit_of b) i
+    && are_equal_texts-symm (commit_of a) (commit_of b) i
 
 has_rank_3-symm : (a b : Source) → has_rank_3 a b ≡ has_rank_3 b a
 has_rank_3-symm a b =
     λ i. same_url_and_name-symm a b i && both_git-symm a b i && same_kind-symm a.kind b.kind i
-        && or_comm (is_none a.precise) (is_none b.precise) i
+    && or_comm (is_none a.precise) (is_none b.precise) i
 
 has_rank_4-symm : (a b : Source) → has_rank_4 a b ≡ has_rank_4 b a
 has_rank_4-symm a b =
     λ i. same_url_and_name-symm a b i
-        && (is_open_git-symm a b i || is_same_other_kind-symm a.kind b.kind i)
+    && (is_open_git-symm a b i || is_same_other_kind-symm a.kind b.kind i)
 
 pub rank_of-symm : RankIsSymmetric
 rank_of-symm a b =
     λ i. least_rank (has_rank_1-symm a b i) (has_rank_2-symm a b i) (has_rank_3-symm a b i)
-        (has_rank_4-symm a b i)
+    (has_rank_4-symm a b i)
 
 -- ---- the conditions of the ranks 1 to 3 imply that of rank 4
 
@@ -151,7 +151,7 @@ kinds_fit_by : (j k : Kind) (p q : Option (List ℕ)) → j ≡ k → precise_if
     → (((is_git j && is_git k) && not (are_different_texts p q)) || is_same_other_kind j k) ≡ true
 kinds_fit_by j k p q same =
     subst (λ (k : Kind). precise_if_git j p ≡ precise_if_git k q
-        → (((is_git j && is_git k) && not (are_different_texts p q)) || is_same_other_kind j k) ≡ true)
+    → (((is_git j && is_git k) && not (are_different_texts p q)) || is_same_other_kind j k) ≡ true)
     same (kinds_fit j p q)
 
 open_git : (a b : Source) → both_git a b ≡ true → are_different_texts a.precise b.precise ≡ false
@@ -166,7 +166,7 @@ rank_4_from_keys a b e =
     let precise : precise_if_git a.kind a.precise ≡ precise_if_git b.kind b.precise = λ i. (e i).precise in
     let name_test = subst (λ (n : Option (List ℕ)). option_eq bytes_eq a.name n ≡ true) name (option_eq-itself a.name) in
     let fit : (is_open_git a b || is_same_other_kind a.kind b.kind) ≡ true =
-        kinds_fit_by a.kind b.kind a.precise b.precise kind precise in
+    kinds_fit_by a.kind b.kind a.precise b.precise kind precise in
     both_true (both_true ((bytes_eq-Decides _ _).1 url) name_test) fit
 
 rank_4_from_1 : (a b : Source) → has_rank_1 a b ≡ true → has_rank_4 a b ≡ true

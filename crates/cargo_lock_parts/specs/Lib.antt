@@ -10,3 +10,4 @@ pub mod IdentityOrder
 pub mod IdentityLaws
 pub mod Rank
 pub mod SourceShown
+pub mod FileUrl

@@ -41,7 +41,8 @@ are_different_texts (Some x) (Some y) = not (bytes_eq x y)
 
 -- the same URL text and the same name, or no name in both
 abbrev pub same_url_and_name : Source → Source → Bool
-same_url_and_name a b = bytes_eq (serialize a.url) (serialize b.url) && option_eq bytes_eq a.name b.name
+same_url_and_name a b =
+    bytes_eq (serialize a.url) (serialize b.url) && option_eq bytes_eq a.name b.name
 
 -- both are repositories
 abbrev pub both_git : Source → Source → Bool
@@ -59,7 +60,8 @@ has_rank_1 a b = is_same_source a b
 
 -- repositories with the same URL and name, which both have a commit, and these are equal
 abbrev pub has_rank_2 : Source → Source → Bool
-has_rank_2 a b = same_url_and_name a b && both_git a b && are_equal_texts (commit_of a) (commit_of b)
+has_rank_2 a b =
+    same_url_and_name a b && both_git a b && are_equal_texts (commit_of a) (commit_of b)
 
 -- repositories with the same URL, name and reference, of which one at least has no precise text
 abbrev pub has_rank_3 : Source → Source → Bool

@@ -1,27 +1,29 @@
 //! Laws of this crate, each the contract of a function without a body.
 
+ghost use Rattle.cargo_lock_parts.specs.FileUrl.{RootedPathsHaveSources};
 ghost use Rattle.cargo_lock_parts.specs.Rank.{RankIsSymmetric, RankOneIsEqualKeys, NoRankIsNoMatch, RanksImplyLast};
 
 /// Two sources match from both sides with one rank.
 pub fn rank_is_symmetric()
     ensures { RankIsSymmetric }
-{
-}
+{}
 
 /// The rank is 1 exactly where the sources are equal, that is where their keys are.
 pub fn rank_one_is_equal_keys()
     ensures { RankOneIsEqualKeys }
-{
-}
+{}
 
 /// There is no rank exactly where the condition of rank 4 fails.
 pub fn no_rank_is_no_match()
     ensures { NoRankIsNoMatch }
-{
-}
+{}
 
 /// The condition of each rank implies that of rank 4, the widest.
 pub fn ranks_imply_last()
     ensures { RanksImplyLast }
-{
-}
+{}
+
+/// Each path from the root has a source, so the calls that take a path refuse only the others.
+pub fn rooted_paths_have_sources()
+    ensures { RootedPathsHaveSources }
+{}

@@ -1,6 +1,7 @@
 //! A lockfile as its table has it: with its references not looked up yet, and with the number of
 //! the format.
 
+mod reading;
 mod reference;
 mod source;
 

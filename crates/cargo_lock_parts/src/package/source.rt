@@ -7,6 +7,7 @@ ghost use Rattle.std.specs.Cmp.Lexicographic.{slice_cmp};
 ghost use Rattle.cargo_lock_parts.specs.Source.{kind_of, reference_of};
 ghost use Rattle.cargo_lock_parts.specs.declared.error.Error.TheVariants.{Memory};
 
+mod file_url;
 mod rank;
 mod reading;
 mod reference;

@@ -55,10 +55,7 @@ impl SourceId {
     pub fn is_remote_registry(&self) -> bool
         ensures { result ≡ is_remote_registry self.now.kind }
     {
-        matches!(
-            self.kind,
-            SourceKind::Registry | SourceKind::SparseRegistry
-        )
+        matches!(self.kind, SourceKind::Registry | SourceKind::SparseRegistry)
     }
 
     /// Whether the source is the registry of crates.io, by either of its two indexes. The URL

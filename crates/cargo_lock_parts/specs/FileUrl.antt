@@ -1,0 +1,80 @@
+-- The URL of a folder on this machine, by a rule of this crate: the path is cut at `/`, parts that
+-- are empty or `.` are dropped, and the others are escaped. What then stands after `file://` is
+-- read as any URL, so a part `..` takes back the part before it.
+use Rattle.std.specs.Prelude.{◌≡◌, ℕ, Bool, true, false, not, ◌&&◌, ◌||◌, ◌==◌, List, [], ◌∷◌, ◌++◌, length, filter, codes, bytes_eq, Option, Some, None, is_some, option_map, option_and_then, if◌then◌else◌}
+use Rattle.std.specs.Char.{is_ascii_alphanumeric}
+use Rattle.std.specs.List.{flat_map, list_any, slice_split}
+use Rattle.percent_encoding.specs.Percent.{percent_encode_byte}
+use Rattle.cargo_lock_parts.specs.Source.{Kind, Source}
+use Rattle.cargo_lock_parts.specs.SourceReading.{plain_source, url_of}
+
+-- ---- the parts of a path
+
+-- the byte is `/`
+abbrev pub is_slash : ℕ → Bool
+is_slash b = b == 47
+
+-- the path is one from the root
+abbrev pub begins_with_slash : List ℕ → Bool
+begins_with_slash [] = false
+begins_with_slash (b ∷ bytes) = is_slash b
+
+-- the part is kept: it is neither empty nor `.`
+abbrev pub is_kept_part : List ℕ → Bool
+is_kept_part part = not (length part == 0) && not (bytes_eq part (codes "."))
+
+-- the parts of a path that are kept
+abbrev pub parts_of : List ℕ → List (List ℕ)
+parts_of path = filter is_kept_part (slice_split is_slash path)
+
+-- ---- their text in a URL
+
+-- the marks that stand in a part as they are
+abbrev pub plain_marks : List ℕ
+plain_marks = codes "-._~!$&'()*+,;=:@"
+
+-- the byte stands in a part as it is
+abbrev pub is_plain_byte : ℕ → Bool
+is_plain_byte b = is_ascii_alphanumeric b || list_any (λ c. b == c) plain_marks
+
+-- a part with every other byte as `%` and two upper-case hex digits
+abbrev pub escaped_part : List ℕ → List ℕ
+escaped_part part = flat_map (λ b. if is_plain_byte b then b ∷ [] else percent_encode_byte b) part
+
+-- a part after its `/`
+abbrev pub part_text : List ℕ → List ℕ
+part_text part = codes "/" ++ escaped_part part
+
+-- a part as it is added: nothing of one that is dropped
+abbrev pub kept_text : List ℕ → List ℕ
+kept_text part = if is_kept_part part then part_text part else []
+
+-- the parts of a path that are kept, one after the other
+abbrev pub parts_text : List ℕ → List ℕ
+parts_text path = flat_map part_text (parts_of path)
+
+-- `file://` and the parts, or one `/` where there is none
+abbrev pub text_of_parts : List (List ℕ) → List ℕ
+text_of_parts [] = codes "file:///"
+text_of_parts (part ∷ parts) = codes "file://" ++ flat_map part_text (part ∷ parts)
+
+-- the text that is read as the URL of a path; there is none unless the path begins with `/`
+abbrev pub file_url_text : List ℕ → Option (List ℕ)
+file_url_text path =
+    if begins_with_slash path then Some (text_of_parts (parts_of path)) else None
+
+-- ---- the source
+
+-- the source of this kind at a path
+unfoldable pub source_at : Kind → List ℕ → Option Source
+source_at kind path =
+    option_map (plain_source kind None) (option_and_then url_of (file_url_text path))
+
+-- what is said of a path that does not begin with `/`
+abbrev pub invalid_path : List ℕ → List ℕ
+invalid_path path = codes "invalid path url `" ++ path ++ codes "`"
+
+-- each path from the root has a source
+abbrev pub RootedPathsHaveSources : Type 0
+RootedPathsHaveSources = (kind : Kind) (path : List ℕ) → begins_with_slash path ≡ true
+    → is_some (source_at kind path) ≡ true
