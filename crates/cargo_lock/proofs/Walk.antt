@@ -3,7 +3,7 @@ use Rattle.std.proofs.Common.{◌≡◌, ◌<◌, ◌+◌, ◌⊎◌, inl, inr, 
 use Rattle.std.proofs.lemmas.List.{map-append, take_more}
 use Rattle.cargo_lock_parts.specs.declared.error.Error.{Error}
 use Rattle.cargo_lock_parts.specs.declared.error.Error.TheVariants.{Io, Parse, Version, Resolution, Memory}
-use Rattle.cargo_lock_parts.specs.Error.{Refuses}
+use Rattle.cargo_lock_parts.specs.Error.{Refuses, RefusesUrls}
 
 -- the items read so far, before what the rest reads as
 abbrev pub after : {X : Type 0} → List X → Option (List X) → Option (List X)
@@ -12,11 +12,18 @@ after done o = option_map (λ xs. done ++ xs) o
 -- a refusal for another reason
 pub Refuses-by : (e : Error) (P Q : Type 0) → Refuses e P → (P → Q) → Refuses e Q
 Refuses-by (Io kind) P Q h f = absurd h
-Refuses-by (Parse said) P Q (inl p) f = inl (f p)
-Refuses-by (Parse said) P Q (inr long) f = inr long
+Refuses-by (Parse said) P Q h f = f h
 Refuses-by (Version fault) P Q h f = absurd h
 Refuses-by (Resolution said) P Q h f = absurd h
 Refuses-by Memory P Q h f = tt
+
+pub RefusesUrls-by : (e : Error) (P Q : Type 0) → RefusesUrls e P → (P → Q) → RefusesUrls e Q
+RefusesUrls-by (Io kind) P Q h f = absurd h
+RefusesUrls-by (Parse said) P Q (inl p) f = inl (f p)
+RefusesUrls-by (Parse said) P Q (inr long) f = inr long
+RefusesUrls-by (Version fault) P Q h f = absurd h
+RefusesUrls-by (Resolution said) P Q h f = absurd h
+RefusesUrls-by Memory P Q h f = tt
 
 -- one more item, mapped on both sides
 pub map-more : {A B C : Type 0} (f : A → C) (g : B → C) (xs : List A) (x : A) (ys : List B) (i : ℕ) (y : B) → i < length ys → y ≡ get_or ys i y → f x ≡ g y → map f xs ≡ map g (take i ys)

@@ -8,7 +8,7 @@ use Rattle.semver.specs.Parse.{Parts, version_parts}
 use Rattle.semver.specs.declared.error.Error.{Error as VersionError}
 use Rattle.cargo_lock_parts.specs.declared.error.Error.{Error}
 use Rattle.cargo_lock_parts.specs.declared.error.Error.TheVariants.{Io, Parse, Version, Resolution, Memory}
-use Rattle.cargo_lock_parts.specs.Error.{Refuses}
+use Rattle.cargo_lock_parts.specs.Error.{RefusesUrls}
 use Rattle.cargo_lock_parts.specs.Source.{Source, MarkedSource}
 use Rattle.cargo_lock_parts.specs.SourceReading.{source_of}
 use Rattle.cargo_lock_parts.specs.SourceText.{marked_text}
@@ -79,7 +79,7 @@ form_of text = result_ok (form_or_refusal text)
 abbrev pub IsFormFault : {X : Type 0} → Error → Result X Refusal → Type 0
 IsFormFault (Version fault) expected = expected ≡ Err (NoVersion fault)
 IsFormFault (Io kind) expected = ⊥
-IsFormFault (Parse said) expected = Refuses (Parse said) (expected ≡ Err NoForm)
+IsFormFault (Parse said) expected = RefusesUrls (Parse said) (expected ≡ Err NoForm)
 IsFormFault (Resolution said) expected = ⊥
 IsFormFault Memory expected = Unit {0}
 

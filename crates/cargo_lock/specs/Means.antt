@@ -22,7 +22,7 @@ reading_list V4 list = list
 
 -- the checksum of an entry: in V1 the metadata has it
 abbrev pub entry_checksum : ResolveVersion → Texts → EntryData → Option (List ℕ)
-entry_checksum V1 m e = checksum_in m (entry_identity e)
+entry_checksum V1 m e = checksum_in m e.name e.version
 entry_checksum V2 m e = e.checksum
 entry_checksum V3 m e = e.checksum
 entry_checksum V4 m e = e.checksum

@@ -4,6 +4,7 @@ use Rattle.std.specs.Prelude.{◌≡◌, ◌&&◌, not, if◌then◌else◌, Boo
 use Rattle.std.specs.FinMap.{entries, from_entries, insert, remove, retain_keys}
 use Rattle.std.specs.List.{find, list_any}
 use Rattle.std.specs.Result.{result_ok}
+use Rattle.semver.specs.Parse.{Parts}
 use Rattle.cargo_lock_parts.specs.Checksum.{digest_in, digest_text}
 use Rattle.cargo_lock_parts.specs.Identity.{Identity, PackageData, identity_of, dependency_text}
 use Rattle.cargo_lock.specs.declared.lockfile.version.ResolveVersion.{ResolveVersion}
@@ -41,21 +42,21 @@ key_identity k = result_ok (key_or_refusal k)
 
 -- ---- the checksum that the metadata holds for a package
 
-abbrev pub is_named_by : Identity → Option Identity → Bool
-is_named_by p None = false
-is_named_by p (Some d) = same_text p.name d.name && same_parts d.version p.version
+abbrev pub is_named : List ℕ → Parts → Option Identity → Bool
+is_named name version None = false
+is_named name version (Some d) = same_text d.name name && same_parts d.version version
 
--- the key reads as the name and the version of the package; the source is not compared
-abbrev pub reads_as : Identity → List ℕ → Bool
-reads_as p k = is_named_by p (key_identity k)
+-- the key reads as this name and this version; the source is not compared
+abbrev pub reads_as : List ℕ → Parts → List ℕ → Bool
+reads_as name version k = is_named name version (key_identity k)
 
 -- the value at the first of the pairs whose key reads so, as a checksum
-abbrev pub checksum_among : List (List ℕ × List ℕ) → Identity → Option (List ℕ)
-checksum_among pairs p = find (λ e. reads_as p e.0) pairs >>= λ e. digest_in e.1
+abbrev pub checksum_among : List (List ℕ × List ℕ) → List ℕ → Parts → Option (List ℕ)
+checksum_among pairs name version = find (λ e. reads_as name version e.0) pairs >>= λ e. digest_in e.1
 
--- the value at the least key that reads as the package's name and version, as a checksum
-unfoldable pub checksum_in : Texts → Identity → Option (List ℕ)
-checksum_in m p = checksum_among (entries m) p
+-- the value at the least key that reads as this name and this version, as a checksum
+unfoldable pub checksum_in : Texts → List ℕ → Parts → Option (List ℕ)
+checksum_in m name version = checksum_among (entries m) name version
 
 -- some key begins `checksum `
 unfoldable pub has_checksum_key : Texts → Bool

@@ -39,20 +39,35 @@ too_long = codes "invalid url: more than 4 GB"
 abbrev pub IsTooLong : Error → Type 0
 IsTooLong e = IsParse e too_long
 
--- A refusal of a reader: memory may run out at any time, and `Parse` comes only where P holds or
--- a URL came to 4 GB. No other fault comes.
+-- ---- what readers answer
+
+-- A refusal: memory may run out at any time, and `Parse` comes only where P holds. No other fault
+-- comes.
 abbrev pub Refuses : Error → Type 0 → Type 0
 Refuses (Io kind) P = ⊥
-Refuses (Parse said) P = P ⊎ (string_bytes said ≡ too_long)
+Refuses (Parse said) P = P
 Refuses (Version fault) P = ⊥
 Refuses (Resolution said) P = ⊥
 Refuses Memory P = Unit {0}
 
--- What a reader answers: `Ok` with the meaning alone, and `Parse` only where there is none.
+-- `Ok` with the meaning alone, and `Parse` only where there is none
 abbrev pub Reads : {X Y : Type 0} → (X → Y) → Result X Error → Option Y → Type 0
 Reads view (Ok x) meaning = meaning ≡ Some (view x)
 Reads view (Err e) meaning = Refuses e (meaning ≡ None)
 
+-- A refusal of a reader of URLs, one of which may also have come to 4 GB.
+abbrev pub RefusesUrls : Error → Type 0 → Type 0
+RefusesUrls (Io kind) P = ⊥
+RefusesUrls (Parse said) P = P ⊎ (string_bytes said ≡ too_long)
+RefusesUrls (Version fault) P = ⊥
+RefusesUrls (Resolution said) P = ⊥
+RefusesUrls Memory P = Unit {0}
+
+-- `Ok` with the meaning alone, and `Parse` only where there is none or a URL came to 4 GB
+abbrev pub ReadsUrls : {X Y : Type 0} → (X → Y) → Result X Error → Option Y → Type 0
+ReadsUrls view (Ok x) meaning = meaning ≡ Some (view x)
+ReadsUrls view (Err e) meaning = RefusesUrls e (meaning ≡ None)
+
 -- memory ran out, or a URL came to 4 GB
 abbrev pub OnlyTooLong : Error → Type 0
-OnlyTooLong e = Refuses e ⊥
+OnlyTooLong e = RefusesUrls e ⊥

@@ -82,8 +82,22 @@ impl<T: Drop> From<AllocFailed<T>> for Error {
     }
 }
 
+// The words of the refusal of a URL that comes to 4 GB.
+pub(crate) const TOO_LONG: &str = "invalid url: more than 4 GB";
+
 impl Error {
-    ghost use Rattle.cargo_lock_parts.specs.Error.{IsParseOrMemory};
+    ghost use Rattle.std.specs.Prelude.{◌↔◌, IsTrue};
+    ghost use Rattle.cargo_lock_parts.specs.Error.{IsParseOrMemory, IsTooLong};
+
+    /// Whether the fault is that of a URL that came to 4 GB, which is refused though it may be one.
+    pub fn is_too_long(&self) -> bool
+        ensures { IsTrue result ↔ IsTooLong self.now }
+    {
+        match self {
+            Error::Parse(text) => text.as_str() == TOO_LONG,
+            _ => false,
+        }
+    }
 
     /// The fault of a text that is no whole number: `Parse` with the words of `std`.
     pub fn from_int(alloc: Global, fault: ParseIntError) -> Error

@@ -1,10 +1,12 @@
 //! A lockfile as its table has it: with its references not looked up yet, and with the number of
 //! the format.
 
+mod checksums;
 mod reading;
 mod reference;
 mod source;
 
+pub(crate) use crate::lockfile::encoding::checksums::has_checksum_key;
 pub use crate::lockfile::encoding::reference::EncodableDependency;
 pub use crate::lockfile::encoding::source::EncodableSourceId;
 

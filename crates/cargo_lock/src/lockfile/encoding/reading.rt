@@ -10,7 +10,7 @@ ghost use Rattle.semver.specs.Parse.{memory_error};
 ghost use Rattle.toml.specs.Data.{get_member};
 ghost use Rattle.toml.specs.View.{items_view, table_view, view};
 ghost use Rattle.cargo_lock_parts.specs.Checksum.{digest_of};
-ghost use Rattle.cargo_lock_parts.specs.Error.{IsParseOrMemory, Reads};
+ghost use Rattle.cargo_lock_parts.specs.Error.{IsParseOrMemory, ReadsUrls};
 ghost use Rattle.cargo_lock_parts.specs.declared.error.Error.TheVariants.{Memory};
 ghost use Rattle.cargo_lock.specs.Form.{form_of, plainly};
 ghost use Rattle.cargo_lock.specs.Records.{texts_of};
@@ -30,10 +30,10 @@ use std::marker::Model;
 use toml::{Table, Value};
 
 impl EncodableLockfile {
-    // Reads the values of a table.
+    // ReadsUrls the values of a table.
     #[tactic(auto, unfolding(crate::specs::TableReading::encoded_at))]
     pub(crate) fn from_table(alloc: Global, table: &Table) -> Result<EncodableLockfile>
-        ensures { Reads (λ e. e) result (encoded_at (table_view table.now)) }
+        ensures { ReadsUrls (λ e. e) result (encoded_at (table_view table.now)) }
     {
         let version = number_at(alloc, table, "version")?;
         let entries = all_entries_at(alloc, table)?;
@@ -68,7 +68,7 @@ impl Model for AllEntries {
 // The packages of a table and its root.
 #[tactic(auto, unfolding(crate::specs::TableReading::all_entries_at))]
 fn all_entries_at(alloc: Global, table: &Table) -> Result<AllEntries>
-    ensures { Reads (λ e. e) result (all_entries_at (table_view table.now)) }
+    ensures { ReadsUrls (λ e. e) result (all_entries_at (table_view table.now)) }
 {
     let listed = entries_at(alloc, table)?;
     let root = entry_at_key(alloc, table, "root")?;
@@ -125,7 +125,7 @@ fn value_at<'a>(table: &'a Table, key: &str) -> Option<&'a Value>
 
 // The text that a value is.
 fn text_in<'a>(alloc: Global, value: &'a Value, key: &str) -> Result<&'a str>
-    ensures { Reads (λ s. s.now) result (text_in (view value.now)) }
+    ensures { ReadsUrls (λ s. s.now) result (text_in (view value.now)) }
 {
     match value.as_str() {
         Some(text) => Ok(text),
@@ -135,7 +135,7 @@ fn text_in<'a>(alloc: Global, value: &'a Value, key: &str) -> Result<&'a str>
 
 // The text at a key that may not be missing.
 fn required_text<'a>(alloc: Global, table: &'a Table, key: &str) -> Result<&'a str>
-    ensures { Reads (λ s. s.now) result (required_text (get_member key.now (table_view table.now))) }
+    ensures { ReadsUrls (λ s. s.now) result (required_text (get_member key.now (table_view table.now))) }
 {
     match value_at(table, key) {
         Some(value) => text_in(alloc, value, key),
@@ -145,7 +145,7 @@ fn required_text<'a>(alloc: Global, table: &'a Table, key: &str) -> Result<&'a s
 
 // The whole number at a key that may be missing.
 fn number_at(alloc: Global, table: &Table, key: &str) -> Result<Option<i64>>
-    ensures { Reads (λ o. o) result (optional_by number_in (get_member key.now (table_view table.now))) }
+    ensures { ReadsUrls (λ o. o) result (optional_by number_in (get_member key.now (table_view table.now))) }
 {
     let Some(value) = value_at(table, key) else {
         return Ok(None);
@@ -158,7 +158,7 @@ fn number_at(alloc: Global, table: &Table, key: &str) -> Result<Option<i64>>
 
 // The list that a value is.
 fn list_in<'a>(alloc: Global, value: &'a Value, key: &str) -> Result<&'a [Value]>
-    ensures { Reads (λ s. items_view s.now) result (items_in (view value.now)) }
+    ensures { ReadsUrls (λ s. items_view s.now) result (items_in (view value.now)) }
 {
     match value.as_array() {
         Some(list) => Ok(list.as_slice()),
@@ -168,7 +168,7 @@ fn list_in<'a>(alloc: Global, value: &'a Value, key: &str) -> Result<&'a [Value]
 
 // The list at a key, empty where it is missing.
 fn optional_list<'a>(alloc: Global, table: &'a Table, key: &str) -> Result<&'a [Value]>
-    ensures { Reads (λ s. items_view s.now) result (optional_list (get_member key.now (table_view table.now))) }
+    ensures { ReadsUrls (λ s. items_view s.now) result (optional_list (get_member key.now (table_view table.now))) }
 {
     match value_at(table, key) {
         Some(value) => list_in(alloc, value, key),
@@ -178,7 +178,7 @@ fn optional_list<'a>(alloc: Global, table: &'a Table, key: &str) -> Result<&'a [
 
 // The list at a key that may not be missing.
 fn required_list<'a>(alloc: Global, table: &'a Table, key: &str) -> Result<&'a [Value]>
-    ensures { Reads (λ s. items_view s.now) result (required_list (get_member key.now (table_view table.now))) }
+    ensures { ReadsUrls (λ s. items_view s.now) result (required_list (get_member key.now (table_view table.now))) }
 {
     match value_at(table, key) {
         Some(value) => list_in(alloc, value, key),
@@ -191,7 +191,7 @@ fn required_list<'a>(alloc: Global, table: &'a Table, key: &str) -> Result<&'a [
 // The version that a text is.
 #[tactic(auto, unfolding(crate::specs::TableReading::version_of))]
 fn version_of(alloc: Global, text: &str) -> Result<Version>
-    ensures { Reads parts_of result (version_of text.now) }
+    ensures { ReadsUrls parts_of result (version_of text.now) }
 {
     match Version::parse(alloc, text) {
         Ok(version) => Ok(version),
@@ -202,7 +202,7 @@ fn version_of(alloc: Global, text: &str) -> Result<Version>
 
 // The source that a value is the text of.
 fn source_in(alloc: Global, value: &Value, key: &str) -> Result<SourceId>
-    ensures { Reads (λ s. s) result (source_in (view value.now)) }
+    ensures { ReadsUrls (λ s. s) result (source_in (view value.now)) }
 {
     let text = text_in(alloc, value, key)?;
     let source = SourceId::from_url(alloc, text)?;
@@ -211,7 +211,7 @@ fn source_in(alloc: Global, value: &Value, key: &str) -> Result<SourceId>
 
 // The source at a key that may be missing.
 fn source_at(alloc: Global, table: &Table, key: &str) -> Result<Option<SourceId>>
-    ensures { Reads (λ o. o) result (optional_by source_in (get_member key.now (table_view table.now))) }
+    ensures { ReadsUrls (λ o. o) result (optional_by source_in (get_member key.now (table_view table.now))) }
 {
     match value_at(table, key) {
         Some(value) => Ok(Some(source_in(alloc, value, key)?)),
@@ -231,7 +231,7 @@ fn plainly(source: Option<SourceId>) -> Option<EncodableSourceId>
 
 // The checksum that a value is the text of.
 fn checksum_from(alloc: Global, value: &Value, key: &str) -> Result<Checksum>
-    ensures { Reads digest_of result (checksum_from (view value.now)) }
+    ensures { ReadsUrls digest_of result (checksum_from (view value.now)) }
 {
     let text = text_in(alloc, value, key)?;
     let checksum = Checksum::from_str(alloc, text)?;
@@ -240,7 +240,7 @@ fn checksum_from(alloc: Global, value: &Value, key: &str) -> Result<Checksum>
 
 // The checksum at a key that may be missing.
 fn checksum_at(alloc: Global, table: &Table, key: &str) -> Result<Option<Checksum>>
-    ensures { Reads (option_map digest_of) result (optional_by checksum_from (get_member key.now (table_view table.now))) }
+    ensures { ReadsUrls (option_map digest_of) result (optional_by checksum_from (get_member key.now (table_view table.now))) }
 {
     match value_at(table, key) {
         Some(value) => Ok(Some(checksum_from(alloc, value, key)?)),
@@ -250,7 +250,7 @@ fn checksum_at(alloc: Global, table: &Table, key: &str) -> Result<Option<Checksu
 
 // The reference that a text is.
 fn form_of(alloc: Global, text: &str) -> Result<EncodableDependency>
-    ensures { Reads (λ f. f) result (form_of text.now) }
+    ensures { ReadsUrls (λ f. f) result (form_of text.now) }
 {
     match EncodableDependency::from_str(alloc, text) {
         Err(Error::Version(fault)) => Err(refused_version(alloc, &fault)),
@@ -260,7 +260,7 @@ fn form_of(alloc: Global, text: &str) -> Result<EncodableDependency>
 
 // The reference that a value is the text of.
 fn form_in(alloc: Global, value: &Value, key: &str) -> Result<EncodableDependency>
-    ensures { Reads (λ f. f) result (form_in (view value.now)) }
+    ensures { ReadsUrls (λ f. f) result (form_in (view value.now)) }
 {
     let text = text_in(alloc, value, key)?;
     let reference = form_of(alloc, text)?;
@@ -269,7 +269,7 @@ fn form_in(alloc: Global, value: &Value, key: &str) -> Result<EncodableDependenc
 
 // The reference at a key that may be missing.
 fn form_at(alloc: Global, table: &Table, key: &str) -> Result<Option<EncodableDependency>>
-    ensures { Reads (λ o. o) result (optional_by form_in (get_member key.now (table_view table.now))) }
+    ensures { ReadsUrls (λ o. o) result (optional_by form_in (get_member key.now (table_view table.now))) }
 {
     match value_at(table, key) {
         Some(value) => Ok(Some(form_in(alloc, value, key)?)),
@@ -279,7 +279,7 @@ fn form_at(alloc: Global, table: &Table, key: &str) -> Result<Option<EncodableDe
 
 // The references of a list.
 fn forms_of(alloc: Global, list: &[Value], key: &str) -> Result<Vec<EncodableDependency>>
-    ensures { Reads (λ v. v.items) result (read_all form_in (items_view list.now)) }
+    ensures { ReadsUrls (λ v. v.items) result (read_all form_in (items_view list.now)) }
 {
     let mut forms = Vec::new(alloc);
     for value in list {
@@ -294,7 +294,7 @@ fn forms_of(alloc: Global, list: &[Value], key: &str) -> Result<Vec<EncodableDep
 // The package of a table.
 #[tactic(auto, unfolding(crate::specs::TableReading::entry_at))]
 fn entry_at(alloc: Global, table: &Table) -> Result<EncodablePackage>
-    ensures { Reads (λ e. e) result (entry_at (table_view table.now)) }
+    ensures { ReadsUrls (λ e. e) result (entry_at (table_view table.now)) }
 {
     let name = required_text(alloc, table, "name")?;
     let name = Name::from_str(alloc, name)?;
@@ -317,7 +317,7 @@ fn entry_at(alloc: Global, table: &Table) -> Result<EncodablePackage>
 
 // The package that a value is.
 fn entry_in(alloc: Global, value: &Value, key: &str) -> Result<EncodablePackage>
-    ensures { Reads (λ e. e) result (entry_in (view value.now)) }
+    ensures { ReadsUrls (λ e. e) result (entry_in (view value.now)) }
 {
     match value.as_table() {
         Some(table) => entry_at(alloc, table),
@@ -327,7 +327,7 @@ fn entry_in(alloc: Global, value: &Value, key: &str) -> Result<EncodablePackage>
 
 // The packages of a list.
 fn entries_of(alloc: Global, list: &[Value], key: &str) -> Result<Vec<EncodablePackage>>
-    ensures { Reads (λ v. v.items) result (read_all entry_in (items_view list.now)) }
+    ensures { ReadsUrls (λ v. v.items) result (read_all entry_in (items_view list.now)) }
 {
     let mut entries = Vec::new(alloc);
     for value in list {
@@ -340,7 +340,7 @@ fn entries_of(alloc: Global, list: &[Value], key: &str) -> Result<Vec<EncodableP
 // The packages of a table.
 #[tactic(auto, unfolding(crate::specs::TableReading::entries_at))]
 fn entries_at(alloc: Global, table: &Table) -> Result<Vec<EncodablePackage>>
-    ensures { Reads (λ v. v.items) result (entries_at (table_view table.now)) }
+    ensures { ReadsUrls (λ v. v.items) result (entries_at (table_view table.now)) }
 {
     let list = optional_list(alloc, table, "package")?;
     entries_of(alloc, list, "package")
@@ -348,7 +348,7 @@ fn entries_at(alloc: Global, table: &Table) -> Result<Vec<EncodablePackage>>
 
 // The package at a key that may be missing.
 fn entry_at_key(alloc: Global, table: &Table, key: &str) -> Result<Option<EncodablePackage>>
-    ensures { Reads (λ o. o) result (optional_by entry_in (get_member key.now (table_view table.now))) }
+    ensures { ReadsUrls (λ o. o) result (optional_by entry_in (get_member key.now (table_view table.now))) }
 {
     match value_at(table, key) {
         Some(value) => Ok(Some(entry_in(alloc, value, key)?)),
@@ -379,7 +379,7 @@ fn put_text(alloc: Global, metadata: &mut Metadata, key: &str, value: &str) -> R
 
 // The texts of a table, in the order of its keys.
 fn texts_at(alloc: Global, table: &Table) -> Result<Metadata>
-    ensures { Reads (λ m. texts_of m.entries) result (texts_at (table_view table.now)) }
+    ensures { ReadsUrls (λ m. texts_of m.entries) result (texts_at (table_view table.now)) }
 {
     let mut metadata = Metadata::new(alloc);
     for (key, value) in table {
@@ -391,7 +391,7 @@ fn texts_at(alloc: Global, table: &Table) -> Result<Metadata>
 
 // The metadata at a key, empty where it is missing.
 fn metadata_at(alloc: Global, table: &Table, key: &str) -> Result<Metadata>
-    ensures { Reads (λ m. texts_of m.entries) result (metadata_in (get_member key.now (table_view table.now))) }
+    ensures { ReadsUrls (λ m. texts_of m.entries) result (metadata_in (get_member key.now (table_view table.now))) }
 {
     let Some(value) = value_at(table, key) else {
         return Ok(Metadata::new(alloc));
@@ -407,7 +407,7 @@ fn metadata_at(alloc: Global, table: &Table, key: &str) -> Result<Metadata>
 // The unused patch of a table.
 #[tactic(auto, unfolding(crate::specs::TableReading::patch_entry_at))]
 fn patch_entry_at(alloc: Global, table: &Table) -> Result<Dependency>
-    ensures { Reads (λ e. e) result (patch_entry_at (table_view table.now)) }
+    ensures { ReadsUrls (λ e. e) result (patch_entry_at (table_view table.now)) }
 {
     let name = required_text(alloc, table, "name")?;
     let name = Name::from_str(alloc, name)?;
@@ -423,7 +423,7 @@ fn patch_entry_at(alloc: Global, table: &Table) -> Result<Dependency>
 
 // The unused patch that a value is.
 fn patch_entry_in(alloc: Global, value: &Value, key: &str) -> Result<Dependency>
-    ensures { Reads (λ e. e) result (patch_entry_in (view value.now)) }
+    ensures { ReadsUrls (λ e. e) result (patch_entry_in (view value.now)) }
 {
     match value.as_table() {
         Some(table) => patch_entry_at(alloc, table),
@@ -433,7 +433,7 @@ fn patch_entry_in(alloc: Global, value: &Value, key: &str) -> Result<Dependency>
 
 // The unused patches of a list.
 fn patches_of(alloc: Global, list: &[Value], key: &str) -> Result<Vec<Dependency>>
-    ensures { Reads (λ v. v.items) result (read_all patch_entry_in (items_view list.now)) }
+    ensures { ReadsUrls (λ v. v.items) result (read_all patch_entry_in (items_view list.now)) }
 {
     let mut patches = Vec::new(alloc);
     for value in list {
@@ -445,7 +445,7 @@ fn patches_of(alloc: Global, list: &[Value], key: &str) -> Result<Vec<Dependency
 
 // The unused patches of a table.
 fn patch_at(alloc: Global, table: &Table) -> Result<Patch>
-    ensures { Reads (λ p. p) result (patch_at (table_view table.now)) }
+    ensures { ReadsUrls (λ p. p) result (patch_at (table_view table.now)) }
 {
     let list = required_list(alloc, table, "unused")?;
     let unused = patches_of(alloc, list, "unused")?;
@@ -454,7 +454,7 @@ fn patch_at(alloc: Global, table: &Table) -> Result<Patch>
 
 // The unused patches at a key, none where it is missing.
 fn patch_at_key(alloc: Global, table: &Table, key: &str) -> Result<Patch>
-    ensures { Reads (λ p. p) result (patch_in (get_member key.now (table_view table.now))) }
+    ensures { ReadsUrls (λ p. p) result (patch_in (get_member key.now (table_view table.now))) }
 {
     let Some(value) = value_at(table, key) else {
         return Ok(Patch::new(alloc));

@@ -6,7 +6,7 @@ ghost use Rattle.std.specs.Option.{option_cmp};
 ghost use Rattle.std.specs.Str.Iter.{split_whitespace_rest};
 ghost use Rattle.semver.specs.Identifiers.{parts_of};
 ghost use Rattle.cargo_lock_parts.specs.declared.error.Error.TheVariants.{Memory};
-ghost use Rattle.cargo_lock_parts.specs.Error.{IsParseOrMemory, Reads};
+ghost use Rattle.cargo_lock_parts.specs.Error.{IsParseOrMemory, Reads, ReadsUrls};
 ghost use Rattle.cargo_lock_parts.specs.Identity.{identity_of};
 ghost use Rattle.cargo_lock_parts.specs.IdentityOrder.{version_cmp};
 ghost use Rattle.cargo_lock.specs.Words.{text_words};
@@ -123,7 +123,7 @@ fn next_word<'a>(rest: &mut SplitWhitespace<'a>) -> Option<&'a str>
 // The source between round brackets.
 #[tactic(auto, unfolding(crate::specs::Form::bracketed_source))]
 fn bracketed_source(alloc: Global, word: &str) -> Result<SourceId>
-    ensures { Reads (λ source. source) result (spec.bracketed_source word.now) }
+    ensures { ReadsUrls (λ source. source) result (spec.bracketed_source word.now) }
 {
     let bytes = word.as_bytes();
     let length = bytes.len();

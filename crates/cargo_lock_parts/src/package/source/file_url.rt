@@ -3,7 +3,7 @@
 ghost use Rattle.std.specs.Prelude.{◌≡◌, ◌++◌, Some, OnOk, IfOk, IsOkUnless, false, string_bytes};
 ghost use Rattle.std.specs.Path.{path_bytes};
 ghost use Rattle.cargo_lock_parts.specs.declared.error.Error.TheVariants.{Memory};
-ghost use Rattle.cargo_lock_parts.specs.Error.{Reads, RefusesWith};
+ghost use Rattle.cargo_lock_parts.specs.Error.{ReadsUrls, RefusesWith};
 ghost use Rattle.cargo_lock_parts.specs.Source.{kind_of};
 ghost use Rattle.cargo_lock_parts.specs.FileUrl.{begins_with_slash, invalid_path, kept_text, parts_of, parts_text, text_of_parts, source_at};
 
@@ -44,7 +44,7 @@ impl SourceId {
     /// The path is from the root, and becomes a `file` URL: `/a b/./c/` is `file:///a%20b/c`.
     /// `Parse` says that the path does not begin with `/`. A URL that comes to 4 GB is refused too.
     pub fn for_path(alloc: Global, path: Path<'_>) -> Result<SourceId>
-        ensures reads { Reads (λ source. source) result
+        ensures reads { ReadsUrls (λ source. source) result
             (source_at seen.Path (path_bytes path.entry)) }
         ensures refused { begins_with_slash (path_bytes path.entry) ≡ false
             → RefusesWith result (invalid_path (path_bytes path.entry)) }
@@ -57,7 +57,7 @@ impl SourceId {
     ///
     /// The path and the errors are those of `for_path`.
     pub fn for_local_registry(alloc: Global, path: Path<'_>) -> Result<SourceId>
-        ensures reads { Reads (λ source. source) result
+        ensures reads { ReadsUrls (λ source. source) result
             (source_at seen.LocalRegistry (path_bytes path.entry)) }
         ensures refused { begins_with_slash (path_bytes path.entry) ≡ false
             → RefusesWith result (invalid_path (path_bytes path.entry)) }
@@ -70,7 +70,7 @@ impl SourceId {
     ///
     /// The path and the errors are those of `for_path`.
     pub fn for_directory(alloc: Global, path: Path<'_>) -> Result<SourceId>
-        ensures reads { Reads (λ source. source) result
+        ensures reads { ReadsUrls (λ source. source) result
             (source_at seen.Directory (path_bytes path.entry)) }
         ensures refused { begins_with_slash (path_bytes path.entry) ≡ false
             → RefusesWith result (invalid_path (path_bytes path.entry)) }
@@ -83,7 +83,7 @@ impl SourceId {
 // The source of this kind at a path.
 #[tactic(auto, unfolding(crate::specs::FileUrl::source_at))]
 fn at_path(alloc: Global, path: Path<'_>, kind: SourceKind) -> Result<SourceId>
-    ensures reads { Reads (λ source. source) result
+    ensures reads { ReadsUrls (λ source. source) result
         (source_at (kind_of kind) (path_bytes path.entry)) }
     ensures refused { begins_with_slash (path_bytes path.entry) ≡ false
         → RefusesWith result (invalid_path (path_bytes path.entry)) }

@@ -3,23 +3,20 @@
 ghost use Rattle.std.specs.Prelude.{◌≡◌, ◌⊎◌, [], Some, None, IfOk, IfErr, IsOkUnless, codes, unwrap_or, if◌then◌else◌};
 ghost use Rattle.url.specs.Head.{without_tail};
 ghost use Rattle.cargo_lock_parts.specs.declared.error.Error.TheVariants.{Memory};
-ghost use Rattle.cargo_lock_parts.specs.Error.{IsTooLong, OnlyTooLong, Reads};
+ghost use Rattle.cargo_lock_parts.specs.Error.{IsTooLong, OnlyTooLong, ReadsUrls};
 ghost use Rattle.cargo_lock_parts.specs.Source.{kind_of, reference_of};
 ghost use Rattle.cargo_lock_parts.specs.SourceReading as spec;
 ghost use Rattle.cargo_lock_parts.specs.SourceReading.{reference_named};
 
-use crate::error::{Error, Result};
+use crate::error::{Error, Result, TOO_LONG};
 use crate::package::source::{GitReference, SourceId, SourceKind};
 use std::alloc::Global;
 use url::{ParseError, Url};
 
-// The words of the refusal of a URL that comes to 4 GB.
-const TOO_LONG: &str = "invalid url: more than 4 GB";
-
 impl SourceId {
     ghost use Rattle.cargo_lock_parts.specs.SourceReading.{source_of};
 
-    /// Reads the text of a source as a lockfile has it, plain or escaped: `git`, `registry`,
+    /// ReadsUrls the text of a source as a lockfile has it, plain or escaped: `git`, `registry`,
     /// `sparse` or `path`, then `+` and a URL.
     ///
     /// A registry has the precise text `locked`. Of a git source the fragment is the precise text,
@@ -28,7 +25,7 @@ impl SourceId {
     /// `Parse` says which part is refused. A URL that comes to 4 GB is refused too.
     #[tactic(auto, unfolding(crate::specs::SourceReading::source_of))]
     pub fn from_url(alloc: Global, text: &str) -> Result<SourceId>
-        ensures { Reads (λ source. source) result (source_of text.now) }
+        ensures { ReadsUrls (λ source. source) result (source_of text.now) }
     {
         let Some((word, url)) = text.split_once('+') else {
             let message = format!(in alloc; "invalid source `{text}`")?;
@@ -43,9 +40,9 @@ impl SourceId {
         Ok(source)
     }
 
-    /// Reads a text as `from_url` does.
+    /// ReadsUrls a text as `from_url` does.
     pub fn from_str(alloc: Global, text: &str) -> Result<SourceId>
-        ensures { Reads (λ source. source) result (source_of text.now) }
+        ensures { ReadsUrls (λ source. source) result (source_of text.now) }
     {
         SourceId::from_url(alloc, text)
     }
@@ -73,9 +70,9 @@ fn protocol_of(word: &str) -> Option<Protocol>
     }
 }
 
-// Reads a URL.
+// ReadsUrls a URL.
 pub(super) fn parse_url(alloc: Global, text: &str) -> Result<Url>
-    ensures { Reads (λ url. url) result (spec.url_of text.now) }
+    ensures { ReadsUrls (λ url. url) result (spec.url_of text.now) }
 {
     match Url::parse(alloc, text) {
         Ok(url) => Ok(url),
