@@ -3,3 +3,5 @@ pub mod WordLemmas
 pub mod SaysLemmas
 pub mod Texts
 pub mod TableLemmas
+pub mod MeansLemmas
+pub mod Lines

@@ -2,6 +2,7 @@
 use Rattle.std.specs.Prelude.{◌≡◌, ℕ, List, [], Option, Some, map}
 use Rattle.std.specs.List.{AllZip}
 use Rattle.toml.specs.Data.{Members}
+use Rattle.toml.specs.Parse.{parse_document}
 use Rattle.cargo_lock_parts.specs.Identity.{Identity, PackageData}
 use Rattle.cargo_lock.specs.declared.lockfile.version.ResolveVersion.{ResolveVersion}
 use Rattle.cargo_lock.specs.declared.lockfile.version.ResolveVersion.TheVariants.{V1, V2, V3, V4}
@@ -59,3 +60,9 @@ pub record Means (t : Members) (l : LockfileData) : Type 0 where
   pub encoded : EncodedData
   pub values : encoded_at t ≡ Some encoded
   pub locked : IsLocked encoded l
+
+-- the text is that of a TOML table, which means the lockfile
+pub record TextMeans (text : List ℕ) (l : LockfileData) : Type 0 where
+  pub table : Members
+  pub parsed : parse_document text ≡ Some table
+  pub means : Means table l

@@ -60,8 +60,12 @@ abbrev pub is_nonempty_text : List ℕ → Bool
 is_nonempty_text [] = false
 is_nonempty_text (b ∷ bs) = true
 
+-- the key is nonempty and of such bytes alone
+abbrev pub is_bare_key : List ℕ → Bool
+is_bare_key key = is_nonempty_text key && list_all is_bare_byte key
+
 abbrev pub key_text : List ℕ → List ℕ
-key_text key = if is_nonempty_text key && list_all is_bare_byte key then key else quoted key
+key_text key = if is_bare_key key then key else quoted key
 
 -- ---- lines
 

@@ -1,6 +1,7 @@
 //! Lockfiles.
 
 pub mod encoding;
+mod reading;
 pub mod version;
 
 pub use crate::lockfile::version::ResolveVersion;

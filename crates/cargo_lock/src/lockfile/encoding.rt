@@ -2,9 +2,11 @@
 //! the format.
 
 mod checksums;
+mod meaning;
 mod reading;
 mod reference;
 mod source;
+mod text;
 
 pub(crate) use crate::lockfile::encoding::checksums::has_checksum_key;
 pub use crate::lockfile::encoding::reference::EncodableDependency;

@@ -218,7 +218,7 @@ pub(crate) fn same_version(a: &Version, b: &Version) -> bool
 
 impl EncodableDependency {
     // What the reference says, found by a search of the list.
-    fn said(&self, alloc: Global, list: &[EncodablePackage]) -> Result<Dependency>
+    pub(super) fn said(&self, alloc: Global, list: &[EncodablePackage]) -> Result<Dependency>
         ensures { Reads (λ d. d) result (said self.now (map entry_identity list.now)) }
     {
         if self.source.is_some() {

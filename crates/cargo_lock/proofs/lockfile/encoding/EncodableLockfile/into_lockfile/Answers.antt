@@ -1,0 +1,5 @@
+use Rattle.cargo_lock.proofs.MeansLemmas.{Finds-locked}
+use Rattle.cargo_lock.proofs.lockfile.encoding.EncodableLockfile.into_lockfile.Goals as goal
+
+pub returns : goal.returns
+returns c = Finds-locked c.args.self c.locked.result c.locked.ensures

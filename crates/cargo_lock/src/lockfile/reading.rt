@@ -1,0 +1,84 @@
+//! Reading a lockfile.
+
+ghost use Rattle.std.specs.Prelude.{◌≡◌, ◌⊎◌};
+ghost use Rattle.toml.specs.Errors.{IsMemory};
+ghost use Rattle.toml.specs.View.{table_view};
+ghost use Rattle.cargo_lock_parts.specs.declared.error.Error.TheVariants.{Io, Memory};
+ghost use Rattle.cargo_lock_parts.specs.Error.{ReadsUrls, Refuses};
+ghost use Rattle.cargo_lock.specs.Finds.{FindsUrls};
+ghost use Rattle.cargo_lock.specs.Means.{Means, TextMeans};
+ghost use Rattle.cargo_lock.specs.Meaning.{meaning};
+
+use crate::error::{Error, Result};
+use crate::lockfile::Lockfile;
+use crate::lockfile::encoding::EncodableLockfile;
+use std::alloc::Global;
+use std::fs;
+use std::io::ErrorKind;
+use std::path::Path;
+use std::rt::Files;
+use toml::Table;
+use toml::de::Error as TomlError;
+
+impl Lockfile {
+    /// Reads a file, whose text is read as `from_str` reads it. A file that is missing, is no file
+    /// or is not UTF-8 is refused with `Io`.
+    pub fn load<R: Files>(files: &R, alloc: Global, path: Path<'_>) -> Result<Lockfile> {
+        let text = match fs::read_to_string(&(files, alloc), path) {
+            Ok(text) => text,
+            Err(fault) => return Err(of_file(fault.kind())),
+        };
+        Lockfile::from_str(alloc, text.as_str())
+    }
+
+    /// Reads the text of a lockfile in any format: a TOML document, whose table is read as
+    /// `from_table` reads it. `Parse` says what is refused.
+    pub fn from_str(alloc: Global, text: &str) -> Result<Lockfile>
+        ensures { FindsUrls (TextMeans text.now) result }
+    {
+        match toml::table_from_str(alloc, text) {
+            Ok(table) => Lockfile::from_table(alloc, &table),
+            Err(fault) => Err(of_text(alloc, &fault)),
+        }
+    }
+
+    /// Reads the table of a lockfile in any format. `Parse` says what is refused: the first value,
+    /// in the order of the table's keys, that is missing, of another type or no text of its kind,
+    /// then the format, then the first reference that stands for nothing.
+    pub fn from_table(alloc: Global, table: &Table) -> Result<Lockfile>
+        ensures { FindsUrls (Means (table_view table.now)) result }
+    {
+        read(alloc, table)
+    }
+}
+
+fn read(alloc: Global, table: &Table) -> Result<Lockfile>
+    ensures { ReadsUrls (λ l. l) result (meaning (table_view table.now)) }
+{
+    let encoded = EncodableLockfile::from_table(alloc, table)?;
+    let lockfile = encoded.locked(alloc)?;
+    Ok(lockfile)
+}
+
+// The fault of a file. Want of memory is told as that.
+fn of_file(kind: ErrorKind) -> Error
+    ensures { (result ≡ Memory) ⊎ (result ≡ Io kind) }
+{
+    match kind {
+        ErrorKind::OutOfMemory => Error::Memory,
+        kind => Error::Io(kind),
+    }
+}
+
+// The fault of a text that is no TOML.
+fn of_text(alloc: Global, fault: &TomlError) -> Error
+    ensures { Refuses result (¬ (IsMemory fault.now)) }
+{
+    if fault.is_memory() {
+        return Error::Memory;
+    }
+    match format!(in alloc; "{fault}") {
+        Ok(text) => Error::Parse(text),
+        Err(_) => Error::Memory,
+    }
+}
