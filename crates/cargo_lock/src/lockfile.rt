@@ -1,17 +1,25 @@
 //! Lockfiles.
 
+ghost use Rattle.std.specs.Prelude.{◌≡◌, IfOk};
+ghost use Rattle.std.specs.Cmp.Lexicographic.{pointwise};
+ghost use Rattle.cargo_lock.specs.Records.{texts_of};
+ghost use Rattle.cargo_lock.specs.Same.{is_same_metadata, is_same_pair};
+
 pub mod encoding;
 mod reading;
 pub mod version;
 
 pub use crate::lockfile::version::ResolveVersion;
 
+use crate::lockfile::encoding::ordered;
 use crate::metadata::Metadata;
 use cargo_lock_parts::package::Package;
 use cargo_lock_parts::patch::Patch;
+use std::alloc::AllocError;
 use std::marker::Model;
 
-/// A lockfile: the packages of a project, each in the one version that is used.
+/// A lockfile: the packages of a project, each in the one version that is used. Two are equal where
+/// all fields are.
 #[derive(Debug, Drop)]
 pub struct Lockfile {
     /// The format in which the lockfile is written.
@@ -45,4 +53,78 @@ impl Model for Lockfile {
         metadata = texts_of l.metadata.entries;
         patch = l.patch;
     } };
+}
+
+impl Clone for Lockfile {
+    ghost use Rattle.std.specs.Prelude.{◌≡◌};
+
+    ghost is_clone = { λ one copy. copy ≡ one };
+
+    fn clone(&self) -> std::result::Result<Lockfile, AllocError> {
+        Ok(Lockfile {
+            version: self.version,
+            packages: clone_packages(&self.packages)?,
+            root: clone_root(&self.root)?,
+            metadata: clone_metadata(&self.metadata)?,
+            patch: self.patch.clone()?,
+        })
+    }
+}
+
+fn clone_packages(packages: &Vec<Package>) -> std::result::Result<Vec<Package>, AllocError>
+    ensures { IfOk result (λ copy. copy.items ≡ packages.now.items) }
+{
+    packages.clone()
+}
+
+fn clone_root(root: &Option<Package>) -> std::result::Result<Option<Package>, AllocError>
+    ensures { IfOk result (λ copy. copy ≡ root.now) }
+{
+    match root {
+        Some(root) => Ok(Some(root.clone()?)),
+        None => Ok(None),
+    }
+}
+
+fn clone_metadata(metadata: &Metadata) -> std::result::Result<Metadata, AllocError>
+    ensures { IfOk result (λ copy. copy.entries ≡ metadata.now.entries) }
+{
+    metadata.clone()
+}
+
+impl PartialEq for Lockfile {
+    ghost use Rattle.std.specs.Cmp.{partial_equiv_from_equiv};
+    ghost use Rattle.cargo_lock.specs.Same.{is_same_lockfile, lockfile_equivalence};
+
+    ghost eq = { is_same_lockfile };
+
+    ghost laws = { partial_equiv_from_equiv lockfile_equivalence };
+
+    fn eq(&self, other: &Lockfile) -> bool {
+        u32::from(self.version) == u32::from(other.version)
+            && self.packages == other.packages
+            && self.root == other.root
+            && same_metadata(&self.metadata, &other.metadata)
+            && self.patch == other.patch
+    }
+}
+
+impl Eq for Lockfile {
+    ghost use Rattle.cargo_lock.specs.Same.{lockfile_equivalence};
+
+    ghost laws = { lockfile_equivalence };
+}
+
+fn same_metadata(a: &Metadata, b: &Metadata) -> bool
+    ensures { result ≡ is_same_metadata (texts_of a.now.entries) (texts_of b.now.entries) }
+{
+    ordered(a);
+    ordered(b);
+    same_entries(a, b)
+}
+
+fn same_entries(a: &Metadata, b: &Metadata) -> bool
+    ensures { result ≡ pointwise is_same_pair a.now.entries b.now.entries }
+{
+    a == b
 }

@@ -5,8 +5,8 @@ use Rattle.std.specs.declared.cmp.Ordering.{Ordering}
 use Rattle.std.specs.declared.cmp.Ordering.TheVariants.{Less, Equal, Greater}
 use Rattle.std.specs.Ordering.{nat_cmp, on, then_cmp, ordering_then, is_eq, eq_by_cmp}
 use Rattle.std.specs.Bool.{Decides}
-use Rattle.std.specs.Cmp.{Equal-is, IsTotalOrder, on_total, then_total, nat_cmp_total}
-use Rattle.std.specs.Cmp.Lexicographic.{slice_cmp, lists_total, nat_list_cmp_total, options_total}
+use Rattle.std.specs.Cmp.{Equal-is, IsEquivalence, IsTotalOrder, eq_by_cmp_equiv, on_total, then_total, nat_cmp_total}
+use Rattle.std.specs.Cmp.Lexicographic.{slice_cmp, lists_equiv, lists_total, nat_list_cmp_total, options_total}
 use Rattle.std.specs.FinMap.{IsAntisymmetric, nat_cmp-IsAntisymmetric, slice_cmp-IsAntisymmetric}
 use Rattle.std.specs.List.{flat_map}
 use Rattle.std.proofs.lemmas.List.{length-map}
@@ -21,7 +21,7 @@ use Rattle.cargo_lock_parts.specs.Source.{Source}
 use Rattle.cargo_lock_parts.specs.SourceKey.{Key, key_of, key_cmp, key_hash, source_cmp, text_cmp}
 use Rattle.cargo_lock_parts.specs.SourceLaws.{key_same, key_total, source_total, tied_parts}
 use Rattle.cargo_lock_parts.specs.Identity.{Identity, PackageData, IdentityKey, PackageKey, identity_of, identity_key, package_key}
-use Rattle.cargo_lock_parts.specs.IdentityOrder.{version_cmp, identity_cmp, package_cmp, is_same_identity, is_same_package, version_hash, source_hash, identity_hash, package_hash}
+use Rattle.cargo_lock_parts.specs.IdentityOrder.{version_cmp, identity_cmp, package_cmp, is_same_identity, is_same_package, is_same_patch, version_hash, source_hash, identity_hash, package_hash}
 
 -- ---- the orders are total
 
@@ -44,6 +44,9 @@ package_total = then_total (then_total (then_total (then_total (then_total
     (on_total (λ (p : PackageData). p.checksum) (options_total nat_list_cmp_total)))
     (on_total (λ (p : PackageData). p.dependencies) (lists_total identity_total)))
     (on_total (λ (p : PackageData). p.replace) (options_total identity_total))
+
+pub patch_equivalence : IsEquivalence is_same_patch
+patch_equivalence = lists_equiv (eq_by_cmp_equiv identity_total)
 
 -- ---- only one key ties
 

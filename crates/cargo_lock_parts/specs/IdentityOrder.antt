@@ -4,7 +4,7 @@ use Rattle.std.specs.Prelude.{ℕ, Bool, List, ◌++◌, Option}
 use Rattle.std.specs.Option.{option_cmp}
 use Rattle.std.specs.declared.cmp.Ordering.{Ordering}
 use Rattle.std.specs.Ordering.{nat_cmp, on, then_cmp, eq_by_cmp}
-use Rattle.std.specs.Cmp.Lexicographic.{slice_cmp}
+use Rattle.std.specs.Cmp.Lexicographic.{pointwise, slice_cmp}
 use Rattle.std.specs.Hash.{HashWrites}
 use Rattle.std.specs.Hash as fed
 use Rattle.semver.specs.Order.{build_cmp, pre_cmp}
@@ -39,6 +39,10 @@ is_same_identity = eq_by_cmp identity_cmp
 
 abbrev pub is_same_package : PackageData → PackageData → Bool
 is_same_package = eq_by_cmp package_cmp
+
+-- lists of unused patches are equal place by place
+abbrev pub is_same_patch : List Identity → List Identity → Bool
+is_same_patch = pointwise is_same_identity
 
 -- ---- what a hasher is fed
 

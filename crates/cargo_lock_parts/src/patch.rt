@@ -49,3 +49,23 @@ impl Clone for Patch {
         })
     }
 }
+
+impl PartialEq for Patch {
+    ghost use Rattle.std.specs.Cmp.{partial_equiv_from_equiv};
+    ghost use Rattle.cargo_lock_parts.specs.IdentityOrder.{is_same_patch};
+    ghost use Rattle.cargo_lock_parts.specs.IdentityLaws.{patch_equivalence};
+
+    ghost eq = { is_same_patch };
+
+    ghost laws = { partial_equiv_from_equiv patch_equivalence };
+
+    fn eq(&self, other: &Patch) -> bool {
+        self.unused == other.unused
+    }
+}
+
+impl Eq for Patch {
+    ghost use Rattle.cargo_lock_parts.specs.IdentityLaws.{patch_equivalence};
+
+    ghost laws = { patch_equivalence };
+}

@@ -8,7 +8,7 @@ mod reference;
 mod source;
 mod text;
 
-pub(crate) use crate::lockfile::encoding::checksums::has_checksum_key;
+pub(crate) use crate::lockfile::encoding::checksums::{has_checksum_key, ordered};
 pub use crate::lockfile::encoding::reference::EncodableDependency;
 pub use crate::lockfile::encoding::source::EncodableSourceId;
 

@@ -64,7 +64,7 @@ fn find_among(
 }
 
 // The keys of a map ascend.
-pub(super) fn ordered(metadata: &Metadata)
+pub(crate) fn ordered(metadata: &Metadata)
     ensures { entries (texts_of metadata.now.entries) ≡ metadata.now.entries }
 {
     let _length = metadata.len();

@@ -1,0 +1,41 @@
+-- Lockfiles are equal field by field: packages, the root and patches as they compare, the metadata
+-- pair by pair.
+use Rattle.std.specs.Prelude.{◌&&◌, Bool, ℕ, List, nat_eq}
+use Rattle.std.specs.Cmp.{IsEquivalence, and_equiv, eq_by_cmp_equiv, nat_eq_equiv, on_equiv}
+use Rattle.std.specs.Cmp.Lexicographic.{lists_equiv, nat_list_eq_equiv, options_equiv, pointwise}
+use Rattle.std.specs.FinMap.{entries}
+use Rattle.std.specs.Option.{option_eq}
+use Rattle.std.specs.Ordering.{eq_of_both, on}
+use Rattle.cargo_lock_parts.specs.Identity.{PackageData}
+use Rattle.cargo_lock_parts.specs.IdentityLaws.{package_total, patch_equivalence}
+use Rattle.cargo_lock_parts.specs.IdentityOrder.{is_same_package, is_same_patch}
+use Rattle.cargo_lock.specs.Format.{number_of}
+use Rattle.cargo_lock.specs.Records.{LockfileData, Texts}
+
+abbrev pub is_same_pair : List ℕ × List ℕ → List ℕ × List ℕ → Bool
+is_same_pair p q = pointwise nat_eq p.0 q.0 && pointwise nat_eq p.1 q.1
+
+abbrev pub is_same_metadata : Texts → Texts → Bool
+is_same_metadata m n = pointwise is_same_pair (entries m) (entries n)
+
+abbrev pub is_same_lockfile : LockfileData → LockfileData → Bool
+is_same_lockfile = eq_of_both (eq_of_both (eq_of_both (eq_of_both
+    (on (λ l. number_of l.version) nat_eq)
+    (on (λ l. l.packages) (pointwise is_same_package)))
+    (on (λ l. l.root) (option_eq is_same_package)))
+    (on (λ l. l.metadata) is_same_metadata))
+    (on (λ l. l.patch) is_same_patch)
+
+pair_equivalence : IsEquivalence is_same_pair
+pair_equivalence = and_equiv (on_equiv (λ p. p.0) nat_list_eq_equiv) (on_equiv (λ p. p.1) nat_list_eq_equiv)
+
+package_equivalence : IsEquivalence is_same_package
+package_equivalence = eq_by_cmp_equiv package_total
+
+pub lockfile_equivalence : IsEquivalence is_same_lockfile
+lockfile_equivalence = and_equiv (and_equiv (and_equiv (and_equiv
+    (on_equiv (λ (l : LockfileData). number_of l.version) nat_eq_equiv)
+    (on_equiv (λ (l : LockfileData). l.packages) (lists_equiv package_equivalence)))
+    (on_equiv (λ (l : LockfileData). l.root) (options_equiv package_equivalence)))
+    (on_equiv (λ (l : LockfileData). l.metadata) (on_equiv entries (lists_equiv pair_equivalence))))
+    (on_equiv (λ (l : LockfileData). l.patch) patch_equivalence)

@@ -1,0 +1,84 @@
+//! The command `list`: the packages of a lockfile, one line each.
+use crate::fault::Fault;
+use crate::output::put;
+use crate::words;
+use cargo_lock::{Dependency, Lockfile, Name, Package, SourceId, Version};
+use clap::ArgMatches;
+use std::io::Write;
+use std::rt::Files;
+
+/// What is printed of a package beside its name and version.
+#[derive(Clone, Copy)]
+struct Detail {
+    dependencies: bool,
+    sources: bool,
+}
+
+/// Prints each package of the lockfile in list order, or each that has the name that is asked for.
+/// Fails where the lockfile is not read or `out` fails; a beginning of the text was then written.
+pub fn run<R: Files + AllocGlobal, W: Write>(
+    rt: &R,
+    options: &ArgMatches<'_>,
+    out: &mut W,
+) -> Result<(), Fault> {
+    let lockfile = Lockfile::load(rt, rt.alloc(), words::lockfile_path(options))?;
+    let wanted = options.get_str("package");
+    let detail = Detail {
+        dependencies: options.get_flag("dependencies"),
+        sources: options.get_flag("sources"),
+    };
+    for package in lockfile.packages.as_slice() {
+        if is_wanted(package, wanted) {
+            print_package(out, package, detail)?;
+        }
+    }
+    Ok(())
+}
+
+/// Whether the package has the name that is asked for. Without one each package is wanted.
+fn is_wanted(package: &Package, wanted: Option<&str>) -> bool {
+    match wanted {
+        Some(name) => package.name.as_str() == name,
+        None => true,
+    }
+}
+
+/// Prints a package, and its dependencies where they are asked for.
+fn print_package<W: Write>(out: &mut W, package: &Package, detail: Detail) -> Result<(), Fault> {
+    put(out, "- ")?;
+    let source = package.source.as_ref().filter(|_| detail.sources);
+    print_identity(out, &package.name, &package.version, source)?;
+    if detail.dependencies {
+        print_dependencies(out, package.dependencies.as_slice(), detail.sources)?;
+    }
+    Ok(())
+}
+
+/// Prints the dependencies of a package in their order, one line each.
+fn print_dependencies<W: Write>(
+    out: &mut W,
+    dependencies: &[Dependency],
+    sources: bool,
+) -> Result<(), Fault> {
+    for dependency in dependencies {
+        put(out, "  - ")?;
+        let source = dependency.source.as_ref().filter(|_| sources);
+        print_identity(out, &dependency.name, &dependency.version, source)?;
+    }
+    Ok(())
+}
+
+/// Prints a name, a version and, where there is one, a source in parentheses, and ends the line.
+fn print_identity<W: Write>(
+    out: &mut W,
+    name: &Name,
+    version: &Version,
+    source: Option<&SourceId>,
+) -> Result<(), Fault> {
+    put(out, format_args!("{name} {version}"))?;
+    if let Some(source) = source {
+        put(out, format_args!(" ({source})"))?;
+    }
+    put(out, "\n")?;
+    Ok(())
+}
