@@ -1,7 +1,12 @@
+pub mod Checksums
+pub mod ChosenLemmas
+pub mod KeyTexts
+pub mod Lines
+pub mod MeansLemmas
+pub mod Puts
+pub mod SaysLemmas
+pub mod TableLemmas
+pub mod TextPuts
+pub mod Texts
 pub mod Walk
 pub mod WordLemmas
-pub mod SaysLemmas
-pub mod Texts
-pub mod TableLemmas
-pub mod MeansLemmas
-pub mod Lines

@@ -87,3 +87,11 @@ chosen_form V1 list d = in_full false d
 chosen_form V2 list d = shortened list (in_full false d)
 chosen_form V3 list d = shortened list (in_full false d)
 chosen_form V4 list d = shortened list (in_full true d)
+
+-- a form is shortened by the places that have its name and its version
+abbrev pub ShortenedByPlaces : Type 0
+ShortenedByPlaces = (list : List Identity) (f : Form) → ShortensTo list f (shortened list f)
+
+-- what is shortened stays as it is
+abbrev pub ShortenedTwice : Type 0
+ShortenedTwice = (list : List Identity) (f : Form) → shortened list (shortened list f) ≡ shortened list f

@@ -66,3 +66,7 @@ pub record TextMeans (text : List ℕ) (l : LockfileData) : Type 0 where
   pub table : Members
   pub parsed : parse_document text ≡ Some table
   pub means : Means table l
+
+-- a table means at most one lockfile
+abbrev pub MeansOne : Type 0
+MeansOne = (t : Members) (a b : LockfileData) → Means t a → Means t b → a ≡ b

@@ -91,3 +91,13 @@ metadata_of V1 m ps = with_checksums m ps
 metadata_of V2 m ps = without_checksums m ps
 metadata_of V3 m ps = without_checksums m ps
 metadata_of V4 m ps = without_checksums m ps
+
+-- ---- the same, package by package
+
+abbrev pub put_some : Texts → List ℕ → Option (List ℕ) → Texts
+put_some m k None = m
+put_some m k (Some c) = insert m k (digest_text c)
+
+-- the checksum of one package set, where it has one
+abbrev pub put_checksum : Texts → PackageData → Texts
+put_checksum m p = put_some m (checksum_key (identity_of p)) p.checksum

@@ -2,6 +2,7 @@
 #![tactic(auto)]
 
 pub mod dependency;
+pub mod laws;
 pub mod lockfile;
 pub mod metadata;
 

@@ -8,6 +8,7 @@ ghost use Rattle.cargo_lock.specs.Same.{is_same_metadata, is_same_pair};
 pub mod encoding;
 mod reading;
 pub mod version;
+mod writing;
 
 pub use crate::lockfile::version::ResolveVersion;
 

@@ -6,7 +6,10 @@ mod meaning;
 mod reading;
 mod reference;
 mod source;
+mod table;
 mod text;
+mod writing;
+mod written;
 
 pub(crate) use crate::lockfile::encoding::checksums::{has_checksum_key, ordered};
 pub use crate::lockfile::encoding::reference::EncodableDependency;

@@ -359,7 +359,7 @@ fn entry_at_key(alloc: Global, table: &Table, key: &str) -> Result<Option<Encoda
 // ---- metadata
 
 // Sets a key to a value.
-fn set(metadata: &mut Metadata, key: MetadataKey, value: MetadataValue) -> std::result::Result<(), AllocError>
+pub(super) fn set(metadata: &mut Metadata, key: MetadataKey, value: MetadataValue) -> std::result::Result<(), AllocError>
     ensures { OnOk result (texts_of metadata.new.entries ≡ insert (texts_of metadata.old.entries) key value) }
 {
     metadata.insert(key, value)?;

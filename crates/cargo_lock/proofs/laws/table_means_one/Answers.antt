@@ -1,0 +1,5 @@
+use Rattle.cargo_lock.proofs.MeansLemmas.{Means-one}
+use Rattle.cargo_lock.proofs.laws.table_means_one.Goals as goal
+
+pub returns : goal.returns
+returns c = Means-one

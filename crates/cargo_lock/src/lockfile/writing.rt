@@ -1,0 +1,36 @@
+//! Writing a lockfile.
+
+ghost use Rattle.std.specs.Prelude.{◌≡◌, IfOk, IsOkUnless, string_bytes};
+ghost use Rattle.toml.specs.View.{table_view};
+ghost use Rattle.cargo_lock_parts.specs.declared.error.Error.TheVariants.{Memory};
+ghost use Rattle.cargo_lock.specs.Table.{table_of};
+ghost use Rattle.cargo_lock.specs.Text.{joined, lines_of};
+
+use crate::error::Result;
+use crate::lockfile::Lockfile;
+use crate::lockfile::encoding::EncodableLockfile;
+use std::alloc::Global;
+use toml::Table;
+
+impl Lockfile {
+    /// The table of the lockfile, in the lockfile's format, as Cargo writes it. Only want of memory
+    /// is refused.
+    pub fn to_table(&self, alloc: Global) -> Result<Table>
+        ensures ok { IfOk result (λ t. table_view t ≡ table_of self.now) }
+        ensures err { IsOkUnless result Memory }
+    {
+        let values = EncodableLockfile::of(alloc, self)?;
+        values.to_table(alloc)
+    }
+
+    /// The text of the lockfile, in the lockfile's format, as Cargo writes it. The root is left
+    /// out, and so is the replacement of a package with dependencies. Only want of memory is
+    /// refused.
+    pub fn to_string(&self, alloc: Global) -> Result<String>
+        ensures ok { IfOk result (λ text. string_bytes text ≡ joined (lines_of self.now)) }
+        ensures err { IsOkUnless result Memory }
+    {
+        let values = EncodableLockfile::of(alloc, self)?;
+        values.to_string(alloc)
+    }
+}
