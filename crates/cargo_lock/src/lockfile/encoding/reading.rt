@@ -296,8 +296,8 @@ fn forms_of(alloc: Global, list: &[Value], key: &str) -> Result<Vec<EncodableDep
 fn entry_at(alloc: Global, table: &Table) -> Result<EncodablePackage>
     ensures { ReadsUrls (λ e. e) result (entry_at (table_view table.now)) }
 {
-    let name = required_text(alloc, table, "name")?;
-    let name = Name::from_str(alloc, name)?;
+    let written = required_text(alloc, table, "name")?;
+    let name = Name::from_str(alloc, written)?;
     let version = required_text(alloc, table, "version")?;
     let version = version_of(alloc, version)?;
     let source = source_at(alloc, table, "source")?;
