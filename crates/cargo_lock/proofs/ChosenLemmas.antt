@@ -1,13 +1,12 @@
 -- A form is shortened by the places that have its name and its version.
-use Rattle.std.proofs.Common.{◌≡◌, ◌≤◌, ◌+◌, ◌==◌, ◌⊎◌, inl, inr, ℕ, zero, suc, Bool, true, false, cond, ◌&&◌, List, [], ◌∷◌, slice_get, Option, Some, None, refl, sym, ap, ◌∙◌, arith, if◌then◌else◌, count_by}
+use Rattle.std.proofs.Common.{◌≡◌, ◌≤◌, ◌+◌, inl, inr, ℕ, zero, suc, Bool, true, false, cond, List, [], ◌∷◌, slice_get, Option, Some, None, refl, sym, ap, ◌∙◌, arith, count_by}
 use Rattle.std.proofs.lemmas.Bool.{cases_Bool, false≢true, and_parts}
 use Rattle.std.proofs.lemmas.Bool.Decides.{Decides-eqb}
 use Rattle.std.proofs.lemmas.List.Sums.{sum_by-cons}
 use Rattle.std.proofs.lemmas.Option.{same_Some, none-some}
 use Rattle.semver.specs.Parse.{Parts}
 use Rattle.cargo_lock_parts.specs.Identity.{Identity}
-use Rattle.cargo_lock.specs.Chosen.{BearsBoth, BearsName, HasUniqueName, HasUniqueVersion, IsUnique, ShortenedByPlaces, ShortenedTwice, ShortensTo, bears_both, bears_name, is_version_unique, one, shortened, without_source}
-use Rattle.cargo_lock.specs.Form.{Form, of_one}
+use Rattle.cargo_lock.specs.Chosen.{BearsBoth, BearsName, IsUnique, ShortenedByPlaces, ShortenedTwice, bears_both, bears_name, is_version_unique, one, shortened}
 use Rattle.cargo_lock.proofs.SaysLemmas.{same_parts-refl, same_parts-yes, same_text-refl, same_text-yes}
 
 -- ---- counting
@@ -26,9 +25,9 @@ count-pos q (x ∷ xs) (suc k) d at hit = let more = count-pos q xs k d at hit i
 count-some : {X : Type 0} (q : X → Bool) (xs : List X) → 1 ≤ count_by q xs → (y : X) × (k : ℕ) × (slice_get xs k ≡ Some y) × (q y ≡ true)
 count-some q [] h = absurd (omega arith)
 count-some q (x ∷ xs) h = elim (cases_Bool (q x)) [
-    | inl hit ↦ (x, 0, refl, hit)
-    | inr miss ↦ let m = count-some q xs (omega (arith, count-miss q x xs miss)) in (m.0, suc m.1, m.2, m.3)
-  ]
+  | inl hit ↦ (x, 0, refl, hit)
+  | inr miss ↦ let m = count-some q xs (omega (arith, count-miss q x xs miss)) in (m.0, suc m.1, m.2, m.3)
+]
 
 -- where one is counted, two places that pass are one
 same-place : {X : Type 0} (q : X → Bool) (xs : List X) (j k : ℕ) (x y : X) → count_by q xs ≡ 1
@@ -44,9 +43,9 @@ same-place q (z ∷ zs) (suc j) zero x y e a p b r =
     let more = count-pos q zs j x a p in
     absurd (omega (arith, count-hit q z zs (rw s r)))
 same-place q (z ∷ zs) (suc j) (suc k) x y e a p b r = elim (cases_Bool (q z)) [
-    | inl hit ↦ let more = count-pos q zs j x a p in absurd (omega (arith, count-hit q z zs hit))
-    | inr miss ↦ ap suc (same-place q zs j k x y (sym (count-miss q z zs miss) ∙ e) a p b r)
-  ]
+  | inl hit ↦ let more = count-pos q zs j x a p in absurd (omega (arith, count-hit q z zs hit))
+  | inr miss ↦ ap suc (same-place q zs j k x y (sym (count-miss q z zs miss) ∙ e) a p b r)
+]
 
 -- one place that passes, and no other, are counted as one
 one-place : {X : Type 0} (q : X → Bool) (xs : List X) (k : ℕ) (x : X) → slice_get xs k ≡ Some x → q x ≡ true
@@ -57,16 +56,16 @@ one-place q (z ∷ zs) zero x a p only =
     let rest : count_by q zs ≡ 0 = none-later q zs (λ j y b r. let e = only (suc j) y b r in omega arith) in
     omega (arith, count-hit q z zs (rw s p))
   where
-  none-later : {X : Type 0} (q : X → Bool) (zs : List X) → ((j : ℕ) (y : X) → slice_get zs j ≡ Some y → q y ≡ true → ⊥) → count_by q zs ≡ 0
-  none-later q [] never = refl
-  none-later q (z ∷ zs) never = elim (cases_Bool (q z)) [
+    none-later : {X : Type 0} (q : X → Bool) (zs : List X) → ((j : ℕ) (y : X) → slice_get zs j ≡ Some y → q y ≡ true → ⊥) → count_by q zs ≡ 0
+    none-later q [] never = refl
+    none-later q (z ∷ zs) never = elim (cases_Bool (q z)) [
       | inl hit ↦ absurd (never 0 z refl hit)
       | inr miss ↦ count-miss q z zs miss ∙ none-later q zs (λ j y b r. never (suc j) y b r)
     ]
 one-place q (z ∷ zs) (suc k) x a p only = elim (cases_Bool (q z)) [
-    | inl hit ↦ absurd (let e = only 0 z refl hit in omega arith)
-    | inr miss ↦ count-miss q z zs miss ∙ one-place q zs k x a p (λ j y b r. let e = only (suc j) y b r in omega arith)
-  ]
+  | inl hit ↦ absurd (let e = only 0 z refl hit in omega arith)
+  | inr miss ↦ count-miss q z zs miss ∙ one-place q zs k x a p (λ j y b r. let e = only (suc j) y b r in omega arith)
+]
 
 -- ---- the test and the places
 
@@ -124,21 +123,21 @@ version-no list name (Some w) h v e u =
 pub shortened-by_places : ShortenedByPlaces
 unfolding shortened
 shortened-by_places list f = elim (cases_Bool (one (bears_name f.name) list)) [
-    | inl hit ↦ inl (unique-yes (BearsName f.name) (bears_name f.name) (name-sound f.name) (name-full f.name) list hit, rw hit)
-    | inr miss ↦
-        let no_name = unique-no (BearsName f.name) (bears_name f.name) (name-sound f.name) (name-full f.name) list miss in
-        elim (cases_Bool (is_version_unique list f.name f.version)) [
-          | inl unique ↦ inr (inl (no_name, version-yes list f.name f.version unique, rw (miss, unique)))
-          | inr several ↦ inr (inr (no_name, λ u. version-no list f.name f.version several u.0 u.1 u.2, rw (miss, several)))
-        ]
-  ]
+  | inl hit ↦ inl (unique-yes (BearsName f.name) (bears_name f.name) (name-sound f.name) (name-full f.name) list hit, rw hit)
+  | inr miss ↦
+      let no_name = unique-no (BearsName f.name) (bears_name f.name) (name-sound f.name) (name-full f.name) list miss in
+      elim (cases_Bool (is_version_unique list f.name f.version)) [
+        | inl unique ↦ inr (inl (no_name, version-yes list f.name f.version unique, rw (miss, unique)))
+        | inr several ↦ inr (inr (no_name, λ u. version-no list f.name f.version several u.0 u.1 u.2, rw (miss, several)))
+      ]
+]
 
 pub shortened-twice : ShortenedTwice
 unfolding shortened
 shortened-twice list f = elim (cases_Bool (one (bears_name f.name) list)) [
-    | inl hit ↦ rw (hit, hit)
-    | inr miss ↦ elim (cases_Bool (is_version_unique list f.name f.version)) [
-        | inl unique ↦ rw (miss, unique, miss, unique)
-        | inr several ↦ rw (miss, several, miss, several)
-      ]
+  | inl hit ↦ rw (hit, hit)
+  | inr miss ↦ elim (cases_Bool (is_version_unique list f.name f.version)) [
+    | inl unique ↦ rw (miss, unique, miss, unique)
+    | inr several ↦ rw (miss, several, miss, several)
   ]
+]

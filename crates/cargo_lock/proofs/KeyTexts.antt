@@ -10,20 +10,21 @@ use Rattle.semver.specs.Parse.{Parts}
 use Rattle.toml.specs.Data.{Data, string, integer, array, table, Members}
 use Rattle.toml.specs.View.{items_of}
 use Rattle.cargo_lock_parts.specs.Checksum.{digest_text}
-use Rattle.cargo_lock_parts.specs.Identity.{Identity, IdentityKey, PackageData, PackageKey, identity_key, identity_of, package_key, dependency_text, source_part as brackets}
+use Rattle.cargo_lock_parts.specs.Identity.{Identity, IdentityKey, PackageData, PackageKey, identity_key, identity_of, package_key, source_part as brackets}
 use Rattle.cargo_lock_parts.specs.Source.{Kind, Source, MarkedSource, Git, Path, Registry, SparseRegistry, LocalRegistry, Directory, is_path}
 use Rattle.cargo_lock_parts.specs.SourceKey.{Key, key_of, precise_if_git}
 use Rattle.cargo_lock_parts.specs.SourceText.{marked_text, text_by_kind, text_of}
 use Rattle.cargo_lock.specs.declared.lockfile.version.ResolveVersion.{ResolveVersion}
 use Rattle.cargo_lock.specs.declared.lockfile.version.ResolveVersion.TheVariants.{V1, V2, V3, V4}
-use Rattle.cargo_lock.specs.Chosen.{bears_both, bears_name, chosen_form, in_full, is_version_unique, marked, one, shortened, unless_path, without_source, written, written_source}
+use Rattle.cargo_lock.specs.Chosen.{bears_both, bears_name, chosen_form, in_full, marked, one, shortened, unless_path, without_source, written_source}
 use Rattle.cargo_lock.specs.Form.{Form, form_text, of_one, source_part, version_part}
 use Rattle.cargo_lock.specs.Metadata.{checksum_key, checksum_pairs, has_key, metadata_of, pairs_before, with_checksums, without_checksums}
 use Rattle.cargo_lock.specs.Records.{EntryData, EncodedData, LockfileData, Texts, is_escaped}
 use Rattle.cargo_lock.specs.Said.{same_parts, same_text}
-use Rattle.cargo_lock.specs.Same.{IsEqualLockfile, EqualTablesAndTexts}
-use Rattle.cargo_lock.specs.Table.{checksum_value, encoded_of, encoded_table, entry_of, entry_table, entry_value, entry_with, form_value, metadata_value, packages_value, patch_entry_value, patch_table, patch_value, present, root_entry, source_value, table_of, unless_empty, unless_no_patch, written_checksum, written_version}
-use Rattle.cargo_lock.specs.Text.{checksum_line, comment_lines, dependency_line, encoded_lines, entry_lines, field, lines_of, metadata_lines, patch_lines, quoted, reference_lines, replace_line, source_line, version_lines}
+use Rattle.cargo_lock.specs.Same.{EqualTablesAndTexts}
+use Rattle.cargo_lock.proofs.EqualLockfiles.{IsEqualLockfile, equal_fields}
+use Rattle.cargo_lock.specs.Table.{checksum_value, encoded_of, encoded_table, entry_of, entry_value, entry_with, form_value, metadata_value, patch_entry_value, present, root_entry, source_value, unless_empty, unless_no_patch, written_checksum, written_version}
+use Rattle.cargo_lock.specs.Text.{checksum_line, comment_lines, dependency_line, encoded_lines, entry_lines, field, metadata_lines, patch_lines, quoted, reference_lines, replace_line, source_line, version_lines}
 
 -- ---- lists and options, by what keys tell
 
@@ -218,12 +219,12 @@ entry_value-texts e =
     let r = optionally-by form_value string form_text (λ f. refl) e.replace in
     let s = optionally-by source_value string marked_text (λ m. refl) e.source in
     λ i. table (present (
-        (codes "checksum", option_map checksum_value e.checksum)
-        ∷ (codes "dependencies", unless_empty (ds i))
-        ∷ (codes "name", Some (string e.name))
-        ∷ (codes "replace", r i)
-        ∷ (codes "source", s i)
-        ∷ (codes "version", Some (string (parts_text e.version))) ∷ []))
+    (codes "checksum", option_map checksum_value e.checksum)
+    ∷ (codes "dependencies", unless_empty (ds i))
+    ∷ (codes "name", Some (string e.name))
+    ∷ (codes "replace", r i)
+    ∷ (codes "source", s i)
+    ∷ (codes "version", Some (string (parts_text e.version))) ∷ []))
 
 abbrev text_line : List ℕ → List ℕ
 text_line t = 32 ∷ (quoted t ++ 44 ∷ [])
@@ -248,7 +249,7 @@ entry_lines-texts e =
     let s = optionally-by source_line (field (codes "source")) marked_text (λ m. refl) e.source in
     let r = reference_lines-texts e.dependencies e.replace in
     λ i. [] ∷ codes "[[package]]" ∷ field (codes "name") e.name ∷ field (codes "version") (parts_text e.version)
-        ∷ (option_to_list (s i) ++ (option_to_list (option_map checksum_line e.checksum) ++ r i))
+    ∷ (option_to_list (s i) ++ (option_to_list (option_map checksum_line e.checksum) ++ r i))
 
 abbrev key_texts : Bool → Option (List ℕ) → (IdentityKey → List ℕ) → PackageKey → EntryTexts
 key_texts escaped checksum text k = record {
@@ -289,9 +290,9 @@ patch_value-texts : (i : Identity) → patch_entry_value false i ≡ patch_texts
 patch_value-texts d =
     let s = optionally-by source_value string marked_text (λ m. refl) (written_source false d.source) in
     λ i. table (present (
-        (codes "name", Some (string d.name))
-        ∷ (codes "source", s i)
-        ∷ (codes "version", Some (string (parts_text d.version))) ∷ []))
+    (codes "name", Some (string d.name))
+    ∷ (codes "source", s i)
+    ∷ (codes "version", Some (string (parts_text d.version))) ∷ []))
 
 abbrev patch_texts_lines : PatchTexts → List (List ℕ)
 patch_texts_lines t =
@@ -302,7 +303,7 @@ patch_lines-texts : (d : Identity) → patch_lines false d ≡ patch_texts_lines
 patch_lines-texts d =
     let s = optionally-by source_line (field (codes "source")) marked_text (λ m. refl) (written_source false d.source) in
     λ i. [] ∷ codes "[[patch.unused]]" ∷ field (codes "name") d.name ∷ field (codes "version") (parts_text d.version)
-        ∷ (option_to_list (s i) ++ [] ∷ [])
+    ∷ (option_to_list (s i) ++ [] ∷ [])
 
 abbrev key_patch : IdentityKey → PatchTexts
 key_patch k = record { name = k.name; version = k.version; source = written_text false k.source }
@@ -343,11 +344,11 @@ encoded_table-texts e =
     let us = map-by (patch_entry_value false) patch_texts_value patch_texts patch_value-texts e.patch in
     let r = optionally-by entry_value texts_value entry_texts entry_value-texts e.root in
     λ i. present (
-        (codes "metadata", metadata_value e.metadata)
-        ∷ (codes "package", Some (array (items_of (ps i))))
-        ∷ (codes "patch", unless_no_patch (us i))
-        ∷ (codes "root", r i)
-        ∷ (codes "version", option_map integer e.version) ∷ [])
+    (codes "metadata", metadata_value e.metadata)
+    ∷ (codes "package", Some (array (items_of (ps i))))
+    ∷ (codes "patch", unless_no_patch (us i))
+    ∷ (codes "root", r i)
+    ∷ (codes "version", option_map integer e.version) ∷ [])
 
 abbrev lines_of_texts : EncodedTexts → List (List ℕ)
 lines_of_texts e =
@@ -441,7 +442,7 @@ entries-key v ps =
     let list = map identity_of ps in
     let keys = identities-key ps in
     map-through entry_texts (entry_of v list) (key_entry v (map identity_key list)) package_key
-        (λ p. entry_with-texts v (written_checksum v p.checksum) (chosen_form v list) (chosen_text v (map identity_key list)) p (chosen_form-text v list)) ps
+    (λ p. entry_with-texts v (written_checksum v p.checksum) (chosen_form v list) (chosen_text v (map identity_key list)) p (chosen_form-text v list)) ps
     ∙ (λ i. map (key_entry v (keys i)) (map package_key ps))
 
 encoded_of-key : (l : LockfileData)
@@ -450,7 +451,7 @@ unfolding encoded_of key_encoded
 encoded_of-key l =
     let ps = entries-key l.version l.packages in
     let r = optionally-through entry_texts (root_entry l.version) (key_root l.version) package_key
-        (λ p. entry_with-texts l.version p.checksum (in_full (is_escaped l.version)) (full_text (is_escaped l.version)) p (in_full-text (is_escaped l.version))) l.root in
+    (λ p. entry_with-texts l.version p.checksum (in_full (is_escaped l.version)) (full_text (is_escaped l.version)) p (in_full-text (is_escaped l.version))) l.root in
     let m = metadata_of-key l.version l.metadata l.packages in
     let us = map-by patch_texts key_patch identity_key patch_texts-key l.patch in
     λ i. record { version = written_version l.version; entries = ps i; root = r i; metadata = m i; patch = us i }
@@ -463,8 +464,7 @@ same-texts a b h =
 
 pub equal_tables_and_texts : EqualTablesAndTexts
 equal_tables_and_texts a b h =
-    let same = same-texts a b h in
-    (
+    let same = same-texts a b (equal_fields a b h) in (
       encoded_table-texts (encoded_of a) ∙ ap table_of_texts same ∙ sym (encoded_table-texts (encoded_of b)),
       encoded_lines-texts (encoded_of a) ∙ ap lines_of_texts same ∙ sym (encoded_lines-texts (encoded_of b)),
     )

@@ -1,5 +1,6 @@
 pub mod Checksums
 pub mod ChosenLemmas
+pub mod EqualLockfiles
 pub mod KeyTexts
 pub mod Lines
 pub mod MeansLemmas

@@ -9,7 +9,6 @@ use Rattle.cargo_lock_parts.specs.declared.error.Error.TheVariants.{Io, Parse, V
 use Rattle.cargo_lock_parts.specs.Error.{Reads, ReadsUrls, Refuses}
 use Rattle.cargo_lock_parts.specs.Identity.{Identity, PackageData}
 use Rattle.cargo_lock.specs.Finds.{Finds, FindsUrls}
-use Rattle.cargo_lock.specs.Form.{Form}
 use Rattle.cargo_lock.specs.Format.{format_of}
 use Rattle.cargo_lock.specs.Means.{IsLocked, IsPackage, Means, TextMeans, entry_checksum, reading_list}
 use Rattle.cargo_lock.specs.Meaning.{ResolvedData, all_packages, completed, entry_package, locked, meaning, package_of, resolved, root_package}
@@ -66,9 +65,14 @@ BothOrNone-from f R each (Some x) p e = let s = some-parts (f x) p e in rw (← 
 
 pub package_of-from : (list : List Identity) (c : Option (List ℕ)) (e : EntryData) (p : PackageData) → IsPackage list c e p → package_of list c e ≡ Some p
 package_of-from list c e p h =
-    rw (map_all-from (λ f. said f list) (λ f i. Says f list i) (λ f i s. said-from f list i s) e.dependencies p.dependencies h.dependencies,
+    rw (
+      map_all-from (λ f. said f list) (λ f i. Says f list i) (λ f i s. said-from f list i s) e.dependencies p.dependencies h.dependencies,
       map_some-from (λ f. said f []) (λ f i. Says f [] i) (λ f i s. said-from f [] i s) e.replace p.replace h.replace,
-      ← h.name, ← h.version, ← h.source, ← h.checksum)
+      ← h.name,
+      ← h.version,
+      ← h.source,
+      ← h.checksum,
+    )
 
 pub IsPackage-from : (list : List Identity) (c : Option (List ℕ)) (e : EntryData) (p : PackageData) → package_of list c e ≡ Some p → IsPackage list c e p
 IsPackage-from list c e p h =
@@ -89,10 +93,13 @@ IsPackage-from list c e p h =
 pub locked-from : (e : EncodedData) (l : LockfileData) → IsLocked e l → locked e ≡ Some l
 unfolding locked
 locked-from e l h =
-    rw (h.format,
+    rw (
+      h.format,
       map_all-from (entry_package l.version (reading_list l.version (map entry_identity e.entries)) e.metadata) (λ entry p. IsPackage (reading_list l.version (map entry_identity e.entries)) (entry_checksum l.version e.metadata entry) entry p) (λ x y s. package_of-from _ _ x y s) e.entries l.packages h.packages,
       map_some-from root_package (λ entry p. IsPackage [] entry.checksum entry p) (λ x y s. package_of-from [] _ x y s) e.root l.root h.root,
-      ← h.metadata, ← h.patch)
+      ← h.metadata,
+      ← h.patch,
+    )
 
 pub IsLocked-from : (e : EncodedData) (l : LockfileData) → locked e ≡ Some l → IsLocked e l
 unfolding locked

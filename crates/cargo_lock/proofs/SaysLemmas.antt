@@ -1,5 +1,5 @@
 -- What a form says, by places and by a search, is the same.
-use Rattle.std.proofs.Common.{◌≡◌, ◌<◌, ◌⊎◌, inl, inr, ℕ, zero, suc, Bool, true, false, List, [], ◌∷◌, map, slice_get, Option, Some, None, IfSome, is_some, option_map, Result, Ok, Err, refl, sym, ap, ◌∙◌, arith}
+use Rattle.std.proofs.Common.{◌≡◌, ◌<◌, inl, inr, ℕ, zero, suc, Bool, true, false, List, [], ◌∷◌, map, slice_get, Option, Some, None, IfSome, is_some, option_map, Result, Ok, Err, refl, sym, ap, ◌∙◌, arith}
 use Rattle.std.specs.List.{find}
 use Rattle.std.specs.Bool.{Decides}
 use Rattle.std.proofs.lemmas.Bool.{cases_Bool, false≢true, and_parts}
@@ -15,7 +15,7 @@ use Rattle.cargo_lock.specs.Finds.{Finds}
 use Rattle.cargo_lock.specs.Form.{Form}
 use Rattle.cargo_lock.specs.Records.{EntryData, bare_source, entry_identity}
 use Rattle.cargo_lock.specs.Said.{same_text, same_parts, has_version, fits, itself, or_itself, said_by, said, with_version}
-use Rattle.cargo_lock.specs.Says.{Fits, IsFirst, NoneFits, IsItself, says_by, Says}
+use Rattle.cargo_lock.specs.Says.{Fits, IsItself, says_by, Says}
 use Rattle.cargo_lock.proofs.Walk.{Refuses-by}
 
 -- ---- tests
@@ -64,9 +64,9 @@ fits-true f i h = rw (h.0, same_text-refl f.name, has_version-true f.version i.v
 
 pub fits-false : (f : Form) (i : Identity) → ¬ Fits f i → fits f i ≡ false
 fits-false f i h = elim (cases_Bool (fits f i)) [
-    | inl hit ↦ absurd (h (fits-yes f i hit))
-    | inr miss ↦ miss
-  ]
+  | inl hit ↦ absurd (h (fits-yes f i hit))
+  | inr miss ↦ miss
+]
 
 -- ---- the first that passes
 
@@ -90,15 +90,15 @@ earlier p x xs k miss before (suc j) y low there = before j y (omega arith) ther
 pub find-found : {X : Type 0} (p : X → Bool) (xs : List X) (i : X) → find p xs ≡ Some i → Found p xs i
 find-found p [] i e = absurd (none-some i e)
 find-found p (x ∷ xs) i e = elim (cases_Bool (p x)) [
-    | inl hit ↦ let s : x ≡ i = same_Some x i (rw hit at e) in (0, ap Some s, rw (← s) hit, λ j y low there. absurd (omega arith))
-    | inr miss ↦ let f = find-found p xs i (rw miss at e) in (suc f.0, f.1, f.2, earlier p x xs f.0 miss f.3)
-  ]
+  | inl hit ↦ let s : x ≡ i = same_Some x i (rw hit at e) in (0, ap Some s, rw (← s) hit, λ j y low there. absurd (omega arith))
+  | inr miss ↦ let f = find-found p xs i (rw miss at e) in (suc f.0, f.1, f.2, earlier p x xs f.0 miss f.3)
+]
 
 no_head : {X : Type 0} (p : X → Bool) (x : X) (xs : List X) → find p (x ∷ xs) ≡ None → (p x ≡ false) × (find p xs ≡ None)
 no_head p x xs e = elim (cases_Bool (p x)) [
-    | inl hit ↦ absurd (none-some x (sym (rw hit at e)))
-    | inr miss ↦ (miss, rw miss at e)
-  ]
+  | inl hit ↦ absurd (none-some x (sym (rw hit at e)))
+  | inr miss ↦ (miss, rw miss at e)
+]
 
 pub find-unfound : {X : Type 0} (p : X → Bool) (xs : List X) → find p xs ≡ None → (j : ℕ) (y : X) → slice_get xs j ≡ Some y → p y ≡ false
 find-unfound p [] e j y there = absurd (none-some y there)
@@ -150,9 +150,9 @@ Says-from f list i e = says_by-from f.source f list i e
 pub find-map : {X Y : Type 0} (p : Y → Bool) (f : X → Y) (xs : List X) → find p (map f xs) ≡ option_map f (find (λ x. p (f x)) xs)
 find-map p f [] = refl
 find-map p f (x ∷ xs) = elim (cases_Bool (p (f x))) [
-    | inl hit ↦ rw hit
-    | inr miss ↦ rw miss (find-map p f xs)
-  ]
+  | inl hit ↦ rw hit
+  | inr miss ↦ rw miss (find-map p f xs)
+]
 
 pub said-found : (f : Form) (es : List EntryData) (e : EntryData) → f.source ≡ None → find (λ x. fits f (entry_identity x)) es ≡ Some e → said f (map entry_identity es) ≡ Some (entry_identity e)
 said-found f es e none found = rw (none, find-map (fits f) entry_identity es, found)

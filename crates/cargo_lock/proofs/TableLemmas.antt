@@ -1,5 +1,5 @@
 -- Where the reading of a table stops.
-use Rattle.std.proofs.Common.{◌≡◌, ℕ, List, Option, Some, None, codes}
+use Rattle.std.proofs.Common.{◌≡◌, Option, Some, None, codes}
 use Rattle.std.specs.Prelude.{ℤ}
 use Rattle.toml.specs.Data.{Members, get_member}
 use Rattle.cargo_lock.specs.Records.{Texts}

@@ -1,12 +1,11 @@
 -- The words of a text, one by one.
-use Rattle.std.proofs.Common.{◌≡◌, ℕ, ◌<◌, ◌≤◌, Bool, true, false, not, List, [], ◌∷◌, ◌++◌, map, length, nat_lt, refl, sym, subst, ◌∙◌, ap, arith, true≢false, IsUtf8, chars, encode_utf8_all, append-nil}
+use Rattle.std.proofs.Common.{◌≡◌, ℕ, ◌<◌, Bool, true, false, not, List, [], ◌∷◌, ◌++◌, map, length, refl, sym, subst, ◌∙◌, ap, arith, true≢false, IsUtf8, chars, encode_utf8_all, append-nil}
 use Rattle.std.specs.Char.{encode_utf8}
 use Rattle.std.specs.Prelude.{All, filter}
 use Rattle.std.specs.Char.{is_whitespace, is_not_whitespace}
 use Rattle.std.specs.Str.{NonePass, NoCharPasses, EmptyOrStartsWithPassing}
-use Rattle.std.specs.List.{slice_split}
 use Rattle.std.proofs.Math.Utf8.{scalar, scalars}
-use Rattle.std.proofs.lemmas.Str.{chars-append, chars-encodes, chars_past_char, encodes_same, encodes-chars, IsUtf8-encode, chars-nil, is_utf8-from_IsUtf8}
+use Rattle.std.proofs.lemmas.Str.{chars-append, chars-encodes, encodes_same, encodes-chars, IsUtf8-encode, chars-nil, is_utf8-from_IsUtf8}
 use Rattle.std.proofs.lemmas.List.Elements.{All-cons, All-nil}
 use Rattle.std.proofs.lemmas.List.Splits.{slice_split_none, slice_split_at, slice_split-cons_yes}
 use Rattle.std.proofs.lemmas.Bool.Decides.{nat_tests}
@@ -69,7 +68,7 @@ word_and_rest (x ∷ xs) [] long none more starts =
 word_and_rest (x ∷ xs) (b ∷ bs) long none more starts =
     let p = starts (omega arith) in
     let split : chars (b ∷ bs) ≡ p.0 ∷ chars more =
-        ap chars p.2 ∙ chars-append (encode_utf8 p.0) more (IsUtf8-encode p.0 p.3) ∙ ap (λ front. front ++ chars more) (chars-encode p.0 p.3) in
+    ap chars p.2 ∙ chars-append (encode_utf8 p.0) more (IsUtf8-encode p.0 p.3) ∙ ap (λ front. front ++ chars more) (chars-encode p.0 p.3) in
     rw split (word_first x xs p.0 (chars more) none p.1)
 
 -- the next word of a text
@@ -81,12 +80,12 @@ words-step bs gap w rest more e long utf8 white none starts =
     let gap_utf8 : IsUtf8 gap = (white.0, (gap_scalars, white.1)) in
     let gap_chars : chars gap ≡ white.0 = ap chars (sym white.1) ∙ chars-encodes white.0 gap_scalars in
     let whole : chars bs ≡ white.0 ++ (chars w ++ chars rest) =
-        ap chars e ∙ chars-append gap (w ++ rest) gap_utf8
-        ∙ ap (λ front. front ++ chars (w ++ rest)) gap_chars
-        ∙ ap (λ back. white.0 ++ back) (chars-append w rest utf8) in
+    ap chars e ∙ chars-append gap (w ++ rest) gap_utf8
+    ∙ ap (λ front. front ++ chars (w ++ rest)) gap_chars
+    ∙ ap (λ back. white.0 ++ back) (chars-append w rest utf8) in
     let long_chars : 0 < length (encode_utf8_all (chars w)) = rw (encodes-chars w utf8) long in
     ap (map encode_utf8_all) (ap words_of_chars whole ∙ words_past_gap white.0 (chars w ++ chars rest) white.2
-        ∙ word_and_rest (chars w) rest long_chars (word_chars w utf8 none) more starts)
+    ∙ word_and_rest (chars w) rest long_chars (word_chars w utf8 none) more starts)
     ∙ ap (λ first. first ∷ text_words rest) (encodes-chars w utf8)
 
 -- no word is left

@@ -1,7 +1,7 @@
 -- References: how a lockfile names the package that another one depends on. Cargo writes a
 -- reference as one to three words, a name, a version and a source in round brackets, and leaves
 -- out words that the lockfile's packages make needless.
-use Rattle.std.specs.Prelude.{◌≡◌, ℕ, ◌-◌, ◌⊎◌, Bool, ◌&&◌, ◌==◌, nat_le, List, [], ◌∷◌, ◌++◌, codes, length, slice_index, slice_range, Option, Some, None, option_map, Result, Ok, Err, if◌then◌else◌, false}
+use Rattle.std.specs.Prelude.{◌≡◌, ℕ, ◌-◌, ◌&&◌, ◌==◌, nat_le, List, [], ◌∷◌, ◌++◌, codes, length, slice_index, slice_range, Option, Some, None, Result, Ok, Err, if◌then◌else◌, false}
 use Rattle.std.specs.Result.{result_ok}
 use Rattle.semver.specs.Identifiers.{parts_text}
 use Rattle.semver.specs.Parse.{Parts, version_parts}

@@ -1,9 +1,9 @@
 -- The order of references is total, and what ties has one key.
-use Rattle.std.specs.Prelude.{◌≡◌, ℕ, Bool, true, List, ◌++◌, Option, Some, None, option_map, refl}
+use Rattle.std.specs.Prelude.{◌≡◌, true, ◌++◌, Option, Some, None, option_map, refl}
 use Rattle.std.specs.Option.{option_cmp}
 use Rattle.std.specs.declared.cmp.Ordering.{Ordering}
-use Rattle.std.specs.declared.cmp.Ordering.TheVariants.{Less, Equal, Greater}
-use Rattle.std.specs.Ordering.{nat_cmp, on, then_cmp, ordering_then, is_eq}
+use Rattle.std.specs.declared.cmp.Ordering.TheVariants.{Equal}
+use Rattle.std.specs.Ordering.{on, then_cmp, ordering_then, is_eq}
 use Rattle.std.specs.Bool.{Decides}
 use Rattle.std.specs.Cmp.{Equal-is, IsTotalOrder, on_total, then_total}
 use Rattle.std.specs.Cmp.Lexicographic.{nat_list_cmp_total, options_total}
@@ -13,10 +13,10 @@ use Rattle.std.specs.Hash as fed
 use Rattle.std.proofs.Common.{sym, ◌∙◌, ap, subst}
 use Rattle.std.proofs.lemmas.Cmp.{tied_itself}
 use Rattle.cargo_lock_parts.specs.IdentityLaws.{version_total, version_cmp-anti, text_cmp-anti, key_cmp-anti, option_cmp-anti, option_cmp-by, tied-first, tied-second}
-use Rattle.cargo_lock_parts.specs.IdentityOrder.{source_hash, version_cmp, version_hash}
+use Rattle.cargo_lock_parts.specs.IdentityOrder.{version_cmp}
 use Rattle.cargo_lock_parts.specs.Source.{MarkedSource}
-use Rattle.cargo_lock_parts.specs.SourceKey.{Key, key_cmp, key_hash, key_of, text_cmp}
-use Rattle.cargo_lock_parts.specs.SourceLaws.{is_same_source-Decides, key_total, source_total, source_alike}
+use Rattle.cargo_lock_parts.specs.SourceKey.{key_cmp, key_hash, text_cmp}
+use Rattle.cargo_lock_parts.specs.SourceLaws.{key_total, source_total, source_alike}
 use Rattle.cargo_lock.specs.Form.{Form}
 use Rattle.cargo_lock.specs.FormOrder.{FormKey, form_cmp, form_hash, form_key, is_same_form, is_same_marked, marked_cmp, marked_hash, marked_key}
 

@@ -1,15 +1,15 @@
 -- The order of references: name, version, source by its key, and an absent value before a present
 -- one.
-use Rattle.std.specs.Prelude.{◌≡◌, ℕ, Bool, true, List, ◌++◌, Option, Some, None, option_map, refl}
+use Rattle.std.specs.Prelude.{ℕ, Bool, List, ◌++◌, Option, option_map}
 use Rattle.std.specs.Option.{option_cmp}
 use Rattle.std.specs.declared.cmp.Ordering.{Ordering}
 use Rattle.std.specs.Ordering.{on, then_cmp, eq_by_cmp}
 use Rattle.std.specs.Hash.{HashWrites}
 use Rattle.std.specs.Hash as fed
 use Rattle.semver.specs.Parse.{Parts}
-use Rattle.cargo_lock_parts.specs.IdentityOrder.{source_hash, version_cmp, version_hash}
+use Rattle.cargo_lock_parts.specs.IdentityOrder.{source_hash, version_cmp}
 use Rattle.cargo_lock_parts.specs.Source.{MarkedSource}
-use Rattle.cargo_lock_parts.specs.SourceKey.{Key, key_of, source_cmp, is_same_source, text_cmp}
+use Rattle.cargo_lock_parts.specs.SourceKey.{Key, key_of, source_cmp, text_cmp}
 use Rattle.cargo_lock.specs.Form.{Form}
 
 -- a source compares by its key alone, however it is marked

@@ -1,5 +1,5 @@
 -- `Means` as it is computed. The lemmas that the two agree are in proofs/.
-use Rattle.std.specs.Prelude.{◌≡◌, ℕ, List, [], Option, Some, option_map, map}
+use Rattle.std.specs.Prelude.{ℕ, List, [], Option, Some, option_map, map}
 use Rattle.toml.specs.Data.{Members}
 use Rattle.cargo_lock_parts.specs.Identity.{Identity, PackageData}
 use Rattle.cargo_lock.specs.declared.lockfile.version.ResolveVersion.{ResolveVersion}

@@ -6,7 +6,6 @@ use Rattle.toml.specs.Parse.{parse_document}
 use Rattle.cargo_lock_parts.specs.Identity.{Identity, PackageData}
 use Rattle.cargo_lock.specs.declared.lockfile.version.ResolveVersion.{ResolveVersion}
 use Rattle.cargo_lock.specs.declared.lockfile.version.ResolveVersion.TheVariants.{V1, V2, V3, V4}
-use Rattle.cargo_lock.specs.Form.{Form}
 use Rattle.cargo_lock.specs.Format.{format_of}
 use Rattle.cargo_lock.specs.Metadata.{checksum_in}
 use Rattle.cargo_lock.specs.Optional.{BothOrNone}

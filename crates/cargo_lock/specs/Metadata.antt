@@ -1,7 +1,7 @@
 -- The metadata of a lockfile. In V1 it holds the checksums of the packages: the key `checksum ` and
 -- the displayed identity of a package, and the digest in hex.
-use Rattle.std.specs.Prelude.{◌≡◌, ◌&&◌, not, if◌then◌else◌, Bool, true, false, ℕ, List, [], ◌∷◌, ◌++◌, Option, Some, None, Result, Ok, Err, codes, take, drop, reverse}
-use Rattle.std.specs.FinMap.{entries, from_entries, insert, remove, retain_keys}
+use Rattle.std.specs.Prelude.{◌&&◌, not, if◌then◌else◌, Bool, false, ℕ, List, [], ◌∷◌, ◌++◌, Option, Some, None, Result, Ok, Err, codes, take, drop, reverse}
+use Rattle.std.specs.FinMap.{entries, from_entries, insert, retain_keys}
 use Rattle.std.specs.List.{find, list_any}
 use Rattle.std.specs.Result.{result_ok}
 use Rattle.semver.specs.Parse.{Parts}

@@ -1,12 +1,11 @@
 -- Lockfiles are equal field by field: packages, the root and patches as they compare, the metadata
 -- pair by pair.
-use Rattle.std.specs.Prelude.{◌≡◌, ◌&&◌, Bool, ℕ, List, map, nat_eq, option_map}
+use Rattle.std.specs.Prelude.{◌≡◌, ◌&&◌, Bool, true, ℕ, List, nat_eq}
 use Rattle.std.specs.Cmp.{IsEquivalence, and_equiv, eq_by_cmp_equiv, nat_eq_equiv, on_equiv}
 use Rattle.std.specs.Cmp.Lexicographic.{lists_equiv, nat_list_eq_equiv, options_equiv, pointwise}
 use Rattle.std.specs.FinMap.{entries}
 use Rattle.std.specs.Option.{option_eq}
 use Rattle.std.specs.Ordering.{eq_of_both, on}
-use Rattle.cargo_lock_parts.specs.Identity.{PackageData, identity_key, package_key}
 use Rattle.cargo_lock_parts.specs.IdentityLaws.{package_total, patch_equivalence}
 use Rattle.cargo_lock_parts.specs.IdentityOrder.{is_same_package, is_same_patch}
 use Rattle.cargo_lock.specs.Format.{number_of}
@@ -44,14 +43,6 @@ lockfile_equivalence = and_equiv (and_equiv (and_equiv (and_equiv
 
 -- ---- what equality looks at
 
--- the same format and metadata, and equal packages, root and patches
-pub record IsEqualLockfile (a b : LockfileData) : Type 0 where
-  pub version : a.version ≡ b.version
-  pub packages : map package_key a.packages ≡ map package_key b.packages
-  pub root : option_map package_key a.root ≡ option_map package_key b.root
-  pub metadata : a.metadata ≡ b.metadata
-  pub patch : map identity_key a.patch ≡ map identity_key b.patch
-
--- equal lockfiles have equal tables and equal texts
+-- lockfiles that `==` calls equal have equal tables and equal texts
 abbrev pub EqualTablesAndTexts : Type 0
-EqualTablesAndTexts = (a b : LockfileData) → IsEqualLockfile a b → (table_of a ≡ table_of b) × (lines_of a ≡ lines_of b)
+EqualTablesAndTexts = (a b : LockfileData) → is_same_lockfile a b ≡ true → (table_of a ≡ table_of b) × (lines_of a ≡ lines_of b)

@@ -1,5 +1,5 @@
 -- The table of a lockfile.
-use Rattle.std.specs.Prelude.{ℕ, ℤ, pos, Bool, true, false, List, [], ◌∷◌, Option, Some, None, option_map, map, codes}
+use Rattle.std.specs.Prelude.{ℕ, ℤ, pos, Bool, false, List, [], ◌∷◌, Option, Some, None, option_map, map, codes}
 use Rattle.std.specs.FinMap.{entries}
 use Rattle.std.specs.Cmp.Lexicographic.{slice_cmp}
 use Rattle.std.specs.Ordering.{nat_cmp, match_ordering}
@@ -8,7 +8,7 @@ use Rattle.toml.specs.Data.{Data, string, integer, array, table, Members, no_mem
 use Rattle.toml.specs.View.{items_of}
 use Rattle.cargo_lock_parts.specs.Checksum.{digest_text}
 use Rattle.cargo_lock_parts.specs.Identity.{Identity, PackageData, identity_of}
-use Rattle.cargo_lock_parts.specs.Source.{MarkedSource, Source}
+use Rattle.cargo_lock_parts.specs.Source.{MarkedSource}
 use Rattle.cargo_lock_parts.specs.SourceText.{marked_text}
 use Rattle.cargo_lock.specs.declared.lockfile.version.ResolveVersion.{ResolveVersion}
 use Rattle.cargo_lock.specs.declared.lockfile.version.ResolveVersion.TheVariants.{V1, V2, V3, V4}

@@ -8,24 +8,20 @@ ghost use Rattle.cargo_lock.specs.Same.{EqualTablesAndTexts};
 /// A table means at most one lockfile, in every field.
 pub fn table_means_one()
     ensures { MeansOne }
-{
-}
+{}
 
 /// Equal lockfiles have equal tables and equal texts.
 pub fn equal_lockfiles_are_written_alike()
     ensures { EqualTablesAndTexts }
-{
-}
+{}
 
 /// A reference is shortened to its name exactly where one package has the name, and otherwise to
 /// name and version exactly where one package has both.
 pub fn references_are_shortened_by_places()
     ensures { ShortenedByPlaces }
-{
-}
+{}
 
 /// A reference that was shortened is not shortened any further.
 pub fn shortened_references_stay()
     ensures { ShortenedTwice }
-{
-}
+{}

@@ -7,12 +7,12 @@ ghost use Rattle.cargo_lock.specs.Same.{is_same_metadata, is_same_pair};
 
 pub mod encoding;
 mod reading;
+mod serialization;
 pub mod version;
 mod writing;
 
-pub use crate::lockfile::version::ResolveVersion;
-
 use crate::lockfile::encoding::ordered;
+pub use crate::lockfile::version::ResolveVersion;
 use crate::metadata::Metadata;
 use cargo_lock_parts::package::Package;
 use cargo_lock_parts::patch::Patch;
@@ -48,11 +48,11 @@ impl Model for Lockfile {
     ghost coded = { Prim.hlevel (codes, texts_code) };
 
     ghost view = { λ l. record {
-        version = l.version;
-        packages = l.packages.items;
-        root = l.root;
-        metadata = texts_of l.metadata.entries;
-        patch = l.patch;
+      version = l.version;
+      packages = l.packages.items;
+      root = l.root;
+      metadata = texts_of l.metadata.entries;
+      patch = l.patch;
     } };
 }
 

@@ -19,6 +19,9 @@ use crate::error::{Error, Result};
 use crate::lockfile::encoding::EncodableDependency;
 use cargo_lock_parts::dependency::Dependency;
 use cargo_lock_parts::package::Checksum;
+use serde::{
+    Described, Deserialize, DeserializeOwned, Deserializer, Format, Serialize, Serializer,
+};
 use std::alloc::{AllocError, Global};
 use std::cmp::Ordering;
 use std::collections::BTreeMap;
@@ -167,6 +170,32 @@ impl Hash for MetadataKey {
     }
 }
 
+impl Described for MetadataKey {}
+
+impl Serialize for MetadataKey {
+    fn serialize<S: Serializer>(&self, out: &mut S) -> std::result::Result<(), S::Error> {
+        out.str(self.as_str())
+    }
+}
+
+impl<'de> Deserialize<'de> for MetadataKey {
+    fn deserialize<F: Format>(
+        alloc: Global,
+        from: &mut Deserializer<'de, '_, F>,
+    ) -> std::result::Result<MetadataKey, F::Error> {
+        DeserializeOwned::deserialize_owned(alloc, from)
+    }
+}
+
+impl DeserializeOwned for MetadataKey {
+    fn deserialize_owned<F: Format>(
+        alloc: Global,
+        from: &mut Deserializer<'_, '_, F>,
+    ) -> std::result::Result<MetadataKey, F::Error> {
+        Ok(MetadataKey(from.string(alloc)?))
+    }
+}
+
 /// A value of the metadata: any text.
 #[derive(Drop)]
 pub struct MetadataValue(String);
@@ -237,4 +266,30 @@ impl PartialEq for MetadataValue {
 
 impl Eq for MetadataValue {
     ghost laws = { nat_list_eq_equiv };
+}
+
+impl Described for MetadataValue {}
+
+impl Serialize for MetadataValue {
+    fn serialize<S: Serializer>(&self, out: &mut S) -> std::result::Result<(), S::Error> {
+        out.str(self.as_str())
+    }
+}
+
+impl<'de> Deserialize<'de> for MetadataValue {
+    fn deserialize<F: Format>(
+        alloc: Global,
+        from: &mut Deserializer<'de, '_, F>,
+    ) -> std::result::Result<MetadataValue, F::Error> {
+        DeserializeOwned::deserialize_owned(alloc, from)
+    }
+}
+
+impl DeserializeOwned for MetadataValue {
+    fn deserialize_owned<F: Format>(
+        alloc: Global,
+        from: &mut Deserializer<'_, '_, F>,
+    ) -> std::result::Result<MetadataValue, F::Error> {
+        Ok(MetadataValue(from.string(alloc)?))
+    }
 }

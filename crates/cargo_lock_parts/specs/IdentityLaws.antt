@@ -1,9 +1,9 @@
 -- The orders of dependencies and of packages are total, and what ties has one key.
-use Rattle.std.specs.Prelude.{◌≡◌, ℕ, Bool, true, List, [], ◌∷◌, ◌++◌, map, Option, Some, None, option_map, refl}
+use Rattle.std.specs.Prelude.{◌≡◌, true, List, [], ◌∷◌, ◌++◌, map, Option, Some, None, option_map, refl}
 use Rattle.std.specs.Option.{option_cmp}
 use Rattle.std.specs.declared.cmp.Ordering.{Ordering}
 use Rattle.std.specs.declared.cmp.Ordering.TheVariants.{Less, Equal, Greater}
-use Rattle.std.specs.Ordering.{nat_cmp, on, then_cmp, ordering_then, is_eq, eq_by_cmp}
+use Rattle.std.specs.Ordering.{on, then_cmp, ordering_then, is_eq}
 use Rattle.std.specs.Bool.{Decides}
 use Rattle.std.specs.Cmp.{Equal-is, IsEquivalence, IsTotalOrder, eq_by_cmp_equiv, on_total, then_total, nat_cmp_total}
 use Rattle.std.specs.Cmp.Lexicographic.{slice_cmp, lists_equiv, lists_total, nat_list_cmp_total, options_total}
@@ -12,14 +12,13 @@ use Rattle.std.specs.List.{flat_map}
 use Rattle.std.proofs.lemmas.List.{length-map}
 use Rattle.std.specs.Hash.{HashWrites}
 use Rattle.std.specs.Hash as fed
-use Rattle.std.proofs.Common.{sym, ◌∙◌, ap, subst, true≢false}
+use Rattle.std.proofs.Common.{sym, ◌∙◌, ap, subst}
 use Rattle.std.proofs.lemmas.Cmp.{tied_itself}
-use Rattle.semver.specs.Order.{build_cmp, pre_cmp}
 use Rattle.semver.specs.OrderLaws.{build-anti, build_total, pre-anti, pre_total}
 use Rattle.semver.specs.Parse.{Parts}
 use Rattle.cargo_lock_parts.specs.Source.{Source}
 use Rattle.cargo_lock_parts.specs.SourceKey.{Key, key_of, key_cmp, key_hash, source_cmp, text_cmp}
-use Rattle.cargo_lock_parts.specs.SourceLaws.{key_same, key_total, source_total, tied_parts}
+use Rattle.cargo_lock_parts.specs.SourceLaws.{key_same, key_total, source_total}
 use Rattle.cargo_lock_parts.specs.Identity.{Identity, PackageData, IdentityKey, PackageKey, identity_of, identity_key, package_key}
 use Rattle.cargo_lock_parts.specs.IdentityOrder.{version_cmp, identity_cmp, package_cmp, is_same_identity, is_same_package, is_same_patch, version_hash, source_hash, identity_hash, package_hash}
 
@@ -210,11 +209,12 @@ items_writes : (xs ys : List Identity) → map identity_key xs ≡ map identity_
     → fed.slice identity_hash xs ≡ fed.slice identity_hash ys
 items_writes xs ys e = slice_key xs ∙ ap (fed.slice identity_writes) e ∙ sym (slice_key ys)
   where
-  each : (zs : List Identity) → flat_map identity_hash zs ≡ flat_map identity_writes (map identity_key zs)
-  each [] = refl
-  each (z ∷ zs) = λ i. identity_hash-key z i ++ each zs i
-  slice_key : (zs : List Identity) → fed.slice identity_hash zs ≡ fed.slice identity_writes (map identity_key zs)
-  slice_key zs = λ i. fed.usize (sym (length-map zs identity_key) i) ++ each zs i
+    each : (zs : List Identity) → flat_map identity_hash zs ≡ flat_map identity_writes (map identity_key zs)
+    each [] = refl
+    each (z ∷ zs) = λ i. identity_hash-key z i ++ each zs i
+
+    slice_key : (zs : List Identity) → fed.slice identity_hash zs ≡ fed.slice identity_writes (map identity_key zs)
+    slice_key zs = λ i. fed.usize (sym (length-map zs identity_key) i) ++ each zs i
 
 pub package_alike : (a b : PackageData) → is_same_package a b ≡ true → package_hash a ≡ package_hash b
 package_alike a b h =

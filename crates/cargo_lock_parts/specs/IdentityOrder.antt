@@ -1,6 +1,6 @@
 -- The order of dependencies and of packages: field by field, sources by their keys, and an absent
 -- value before a present one. What ties is equal.
-use Rattle.std.specs.Prelude.{ℕ, Bool, List, ◌++◌, Option}
+use Rattle.std.specs.Prelude.{Bool, List, ◌++◌}
 use Rattle.std.specs.Option.{option_cmp}
 use Rattle.std.specs.declared.cmp.Ordering.{Ordering}
 use Rattle.std.specs.Ordering.{nat_cmp, on, then_cmp, eq_by_cmp}

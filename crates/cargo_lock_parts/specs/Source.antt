@@ -55,7 +55,7 @@ kind_of kind.SparseRegistry = SparseRegistry
 kind_of kind.LocalRegistry = LocalRegistry
 kind_of kind.Directory = Directory
 
--- the source is a folder on this machine, which no lockfile names
+-- the source is a path: it may be read from a lockfile, and is never written into one
 abbrev pub is_path : Kind → Bool
 is_path (Git reference) = false
 is_path Path = true

@@ -6,6 +6,7 @@ ghost use Rattle.cargo_lock_parts.specs.declared.error.Error.TheVariants.{Memory
 use crate::error::Result;
 use crate::package::{Name, Package, SourceId};
 use semver::Version;
+use serde::{Deserialize, Serialize};
 use std::alloc::AllocError;
 use std::cmp::Ordering;
 use std::fmt;
@@ -14,12 +15,13 @@ use std::marker::Model;
 
 /// A dependency on a package: the name, the version and the source of the package. Two are equal
 /// where the three are, and they compare in this order.
-#[derive(Debug, Drop)]
+#[derive(Debug, Drop, Serialize, Deserialize)]
 pub struct Dependency {
     /// The package's name.
     pub name: Name,
 
     /// The package's version.
+    #[serde(with = crate::serialization::version)]
     pub version: Version,
 
     /// Where the package comes from. A package of the workspace itself has no source.

@@ -8,6 +8,7 @@ pub mod error;
 pub mod laws;
 pub mod package;
 pub mod patch;
+pub mod serialization;
 
 pub use crate::dependency::Dependency;
 pub use crate::error::{Error, Result};

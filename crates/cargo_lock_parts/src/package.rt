@@ -9,12 +9,12 @@ pub mod checksum;
 pub mod name;
 pub mod source;
 
+use crate::dependency::Dependency;
 pub use crate::package::checksum::Checksum;
 pub use crate::package::name::Name;
 pub use crate::package::source::{GitReference, SourceId, SourceKind};
 pub use semver::Version;
-
-use crate::dependency::Dependency;
+use serde::{Deserialize, Serialize};
 use std::alloc::AllocError;
 use std::cmp::Ordering;
 use std::hash::{Hash, Hasher};
@@ -22,12 +22,13 @@ use std::marker::Model;
 
 /// A package of a lockfile. Its name, version and source are its identity. Two packages are equal
 /// where all fields are, and they compare field by field in this order.
-#[derive(Debug, Drop)]
+#[derive(Debug, Drop, Serialize, Deserialize)]
 pub struct Package {
     /// The name.
     pub name: Name,
 
     /// The version.
+    #[serde(with = crate::serialization::version)]
     pub version: Version,
 
     /// Where the package comes from. A package of the workspace itself has no source.
@@ -37,6 +38,7 @@ pub struct Package {
     pub checksum: Option<Checksum>,
 
     /// What the package depends on, in the lockfile's order.
+    #[serde(default, skip_serializing_if = "Vec::is_empty")]
     pub dependencies: Vec<Dependency>,
 
     /// What stands in for the package.
@@ -52,12 +54,12 @@ impl Model for Package {
     ghost Value = { PackageData };
 
     ghost view = { λ p. record {
-        name = p.name;
-        version = parts_of p.version;
-        source = p.source;
-        checksum = option_map digest_of p.checksum;
-        dependencies = p.dependencies.items;
-        replace = p.replace;
+      name = p.name;
+      version = parts_of p.version;
+      source = p.source;
+      checksum = option_map digest_of p.checksum;
+      dependencies = p.dependencies.items;
+      replace = p.replace;
     } };
 }
 

@@ -5,19 +5,19 @@ mod checksums;
 mod meaning;
 mod reading;
 mod reference;
+mod serialization;
 mod source;
 mod table;
 mod text;
 mod writing;
 mod written;
 
+use crate::error::Result;
 pub(crate) use crate::lockfile::encoding::checksums::{has_checksum_key, ordered};
 pub use crate::lockfile::encoding::reference::EncodableDependency;
 pub use crate::lockfile::encoding::source::EncodableSourceId;
-
-use crate::error::Result;
-use cargo_lock_parts::dependency::Dependency;
 use crate::metadata::Metadata;
+use cargo_lock_parts::dependency::Dependency;
 use cargo_lock_parts::package::{Checksum, Name, Version};
 use cargo_lock_parts::patch::Patch;
 use std::marker::Model;
@@ -50,11 +50,11 @@ impl Model for EncodableLockfile {
     ghost coded = { Prim.hlevel (codes, texts_code) };
 
     ghost view = { λ e. record {
-        version = e.version;
-        entries = e.«package».items;
-        root = e.root;
-        metadata = texts_of e.metadata.entries;
-        patch = e.patch;
+      version = e.version;
+      entries = e.«package».items;
+      root = e.root;
+      metadata = texts_of e.metadata.entries;
+      patch = e.patch;
     } };
 }
 
@@ -89,12 +89,12 @@ impl Model for EncodablePackage {
     ghost Value = { EntryData };
 
     ghost view = { λ e. record {
-        name = e.name;
-        version = parts_of e.version;
-        source = e.source;
-        checksum = option_map digest_of e.checksum;
-        dependencies = e.dependencies.items;
-        replace = e.replace;
+      name = e.name;
+      version = parts_of e.version;
+      source = e.source;
+      checksum = option_map digest_of e.checksum;
+      dependencies = e.dependencies.items;
+      replace = e.replace;
     } };
 }
 

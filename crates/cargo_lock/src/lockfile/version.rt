@@ -9,11 +9,12 @@ ghost use Rattle.cargo_lock.specs.Records.{texts_of};
 use crate::error::{Error, Result};
 use crate::lockfile::encoding::{EncodablePackage, has_checksum_key};
 use crate::metadata::Metadata;
+use serde::{Deserialize, Serialize};
 use std::alloc::Global;
 use std::fmt;
 
 /// A format of lockfiles, by its number.
-#[derive(Clone, Copy, Debug, PartialEq, Eq, PartialOrd, Ord, Hash)]
+#[derive(Clone, Copy, Debug, PartialEq, Eq, PartialOrd, Ord, Hash, Serialize, Deserialize)]
 pub enum ResolveVersion {
     /// The first format: references in full, and checksums in the metadata.
     V1,

@@ -10,7 +10,9 @@ ghost use Rattle.std.specs.Cmp.Rules.{hashing};
 ghost use Rattle.cargo_lock_parts.specs.declared.error.Error.TheVariants.{Memory};
 
 use crate::error::Result;
-use serde::{Described, Deserialize, Deserializer, Format, Serialize, Serializer};
+use serde::{
+    Described, Deserialize, DeserializeOwned, Deserializer, Format, Serialize, Serializer,
+};
 use std::alloc::{AllocError, Global};
 use std::cmp::Ordering;
 use std::fmt;
@@ -139,6 +141,15 @@ impl<'de> Deserialize<'de> for Name {
     fn deserialize<F: Format>(
         alloc: Global,
         from: &mut Deserializer<'de, '_, F>,
+    ) -> std::result::Result<Name, F::Error> {
+        DeserializeOwned::deserialize_owned(alloc, from)
+    }
+}
+
+impl DeserializeOwned for Name {
+    fn deserialize_owned<F: Format>(
+        alloc: Global,
+        from: &mut Deserializer<'_, '_, F>,
     ) -> std::result::Result<Name, F::Error> {
         Ok(Name(from.string(alloc)?))
     }

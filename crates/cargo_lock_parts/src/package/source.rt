@@ -11,13 +11,13 @@ mod file_url;
 mod rank;
 mod reading;
 mod reference;
+mod serialization;
 mod shown;
 mod text;
 
+use crate::error::Result;
 pub use crate::package::source::reference::{GitReference, PrettyRef};
 pub use crate::package::source::text::SourceIdAsUrl;
-
-use crate::error::Result;
 use std::alloc::{AllocError, Global};
 use std::cmp::Ordering;
 use std::fmt;
@@ -73,10 +73,10 @@ impl Model for SourceId {
     ghost Value = { Source };
 
     ghost view = { λ s. record {
-        url = s.url;
-        kind = kind_of s.kind;
-        precise = option_map string_bytes s.precise;
-        name = option_map string_bytes s.name;
+      url = s.url;
+      kind = kind_of s.kind;
+      precise = option_map string_bytes s.precise;
+      name = option_map string_bytes s.name;
     } };
 }
 

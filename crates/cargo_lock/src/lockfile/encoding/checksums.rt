@@ -81,8 +81,9 @@ fn reads_as(
     ensures { IfOk result (λ reads. reads ≡ reads_as name.now (parts_of version.now) key.now) }
 {
     match key.checksum_dependency(alloc) {
-        Ok(dependency) => Ok(dependency.name.as_str() == name.as_str()
-            && same_version(&dependency.version, version)),
+        Ok(dependency) => Ok(
+            dependency.name.as_str() == name.as_str() && same_version(&dependency.version, version),
+        ),
         Err(Error::Memory) => Err(AllocError),
         Err(fault) if fault.is_too_long() => Err(AllocError),
         Err(_) => Ok(false),

@@ -61,12 +61,7 @@ impl EncodableLockfile {
     fn format(&self, alloc: Global) -> Result<ResolveVersion>
         ensures { Reads (λ v. v) result (format_of self.now) }
     {
-        ResolveVersion::of_values(
-            alloc,
-            self.version,
-            self.package.as_slice(),
-            &self.metadata,
-        )
+        ResolveVersion::of_values(alloc, self.version, self.package.as_slice(), &self.metadata)
     }
 
     fn packages_in(&self, alloc: Global, format: ResolveVersion) -> Result<Vec<Package>>

@@ -30,7 +30,7 @@ use std::marker::Model;
 use toml::{Table, Value};
 
 impl EncodableLockfile {
-    // ReadsUrls the values of a table.
+    // Reads the values of a table.
     #[tactic(auto, unfolding(crate::specs::TableReading::encoded_at))]
     pub(crate) fn from_table(alloc: Global, table: &Table) -> Result<EncodableLockfile>
         ensures { ReadsUrls (λ e. e) result (encoded_at (table_view table.now)) }
@@ -359,7 +359,11 @@ fn entry_at_key(alloc: Global, table: &Table, key: &str) -> Result<Option<Encoda
 // ---- metadata
 
 // Sets a key to a value.
-pub(super) fn set(metadata: &mut Metadata, key: MetadataKey, value: MetadataValue) -> std::result::Result<(), AllocError>
+pub(super) fn set(
+    metadata: &mut Metadata,
+    key: MetadataKey,
+    value: MetadataValue,
+) -> std::result::Result<(), AllocError>
     ensures { OnOk result (texts_of metadata.new.entries ≡ insert (texts_of metadata.old.entries) key value) }
 {
     metadata.insert(key, value)?;

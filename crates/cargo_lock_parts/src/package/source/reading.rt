@@ -16,7 +16,7 @@ use url::{ParseError, Url};
 impl SourceId {
     ghost use Rattle.cargo_lock_parts.specs.SourceReading.{source_of};
 
-    /// ReadsUrls the text of a source as a lockfile has it, plain or escaped: `git`, `registry`,
+    /// Reads the text of a source as a lockfile has it, plain or escaped: `git`, `registry`,
     /// `sparse` or `path`, then `+` and a URL.
     ///
     /// A registry has the precise text `locked`. Of a git source the fragment is the precise text,
@@ -40,7 +40,7 @@ impl SourceId {
         Ok(source)
     }
 
-    /// ReadsUrls a text as `from_url` does.
+    /// Reads a text as `from_url` does.
     pub fn from_str(alloc: Global, text: &str) -> Result<SourceId>
         ensures { ReadsUrls (λ source. source) result (source_of text.now) }
     {
@@ -70,7 +70,7 @@ fn protocol_of(word: &str) -> Option<Protocol>
     }
 }
 
-// ReadsUrls a URL.
+// Reads a URL.
 pub(super) fn parse_url(alloc: Global, text: &str) -> Result<Url>
     ensures { ReadsUrls (λ url. url) result (spec.url_of text.now) }
 {
@@ -150,12 +150,7 @@ fn reference_in(alloc: Global, url: &Url) -> Result<GitReference>
 }
 
 // The reference that a pair names, or the other one if its key is none of a reference.
-fn reference_by(
-    alloc: Global,
-    key: &str,
-    value: &str,
-    other: GitReference,
-) -> Result<GitReference>
+fn reference_by(alloc: Global, key: &str, value: &str, other: GitReference) -> Result<GitReference>
     ensures ok { IfOk result (λ reference. reference_of reference ≡ unwrap_or (reference_named (key.now, value.now)) (reference_of other)) }
     ensures err { IsOkUnless result Memory }
 {

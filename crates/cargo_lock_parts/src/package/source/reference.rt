@@ -49,7 +49,7 @@ impl GitReference {
     pub fn pretty_ref(&self, escaped: bool) -> Option<PrettyRef<'_>>
         ensures { MatchOption result (reference_of self.now ≡ DefaultBranch)
             (λ shown. (reference_of self.now ≢ DefaultBranch)
-                × (shown ≡ record { reference = reference_of self.now; escaped = escaped })) }
+            × (shown ≡ record { reference = reference_of self.now; escaped = escaped })) }
     {
         match self {
             GitReference::DefaultBranch => None,
@@ -104,11 +104,7 @@ impl fmt::Display for PrettyRef<'_> {
 }
 
 // A reference's value, escaped or not.
-fn write_value<W: fmt::Write>(
-    text: &str,
-    escaped: bool,
-    f: &mut fmt::Formatter<W>,
-) -> fmt::Result
+fn write_value<W: fmt::Write>(text: &str, escaped: bool, f: &mut fmt::Formatter<W>) -> fmt::Result
     ensures { DisplaysOnOk W.write_str_gives f.old result (Some (value_text escaped text.now)) f.new }
 {
     if escaped {

@@ -1,6 +1,6 @@
-use Rattle.std.proofs.Common.{◌≡◌, length, ap, ◌∙◌, arith, rules}
+use Rattle.std.proofs.Common.{◌≡◌, length, ap, arith, rules}
 use Rattle.std.specs.Result.{result_ok}
-use Rattle.hex.specs.Hex.{IsBytes, decode_sized}
+use Rattle.hex.specs.Hex.{IsBytes}
 use Rattle.hex.proofs.HexLemmas.{decode_sized-encode_lower}
 use Rattle.cargo_lock_parts.specs.Checksum.{digest_in}
 use Rattle.cargo_lock_parts.proofs.package.checksum.lower_hex.Goals as goal
