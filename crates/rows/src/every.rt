@@ -1,0 +1,189 @@
+//! A lockfile with every feature at once.
+
+use crate::lockfiles::{meaning, meaning_in, printed, through_table};
+use crate::shown::or_fault;
+use cargo_lock::{Error, Lockfile, ResolveVersion};
+use std::alloc::Global;
+
+const EVERY: &str = "
+version = 3
+
+[root]
+name = \"r\"
+version = \"0.1.0\"
+source = \"registry+https://e.org/r\"
+checksum = \"0000000000000000000000000000000000000000000000000000000000000003\"
+dependencies = [
+ \"app 0.1.0\",
+ \"gone 1.0.0 (sparse+https://e.org/s/)\",
+]
+replace = \"gone 2.0.0 (git+https://e.org/gone)\"
+
+[[package]]
+name = \"app\"
+version = \"0.1.0\"
+dependencies = [
+ \"app\",
+ \"local\",
+ \"log 0.3.9\",
+ \"log 0.4.1+b\",
+ \"sparse\",
+ \"twin 1.0.0 (git+https://e.org/twin?rev=aaaa#aaaa)\",
+ \"twin 1.0.0 (git+https://e.org/twin?branch=m#bbbb)\",
+ \"old\",
+]
+
+[[package]]
+name = \"local\"
+version = \"0.2.0\"
+source = \"path+file:///local\"
+
+[[package]]
+name = \"log\"
+version = \"0.3.9\"
+source = \"registry+https://github.com/rust-lang/crates.io-index\"
+checksum = \"af6f3550d8dff9ef7dc34d384ac6f107e5d31c8f57d9f28e0081503f547ac8f5\"
+dependencies = [\"log 0.4.1+b (registry+https://github.com/rust-lang/crates.io-index)\"]
+
+[[package]]
+name = \"log\"
+version = \"0.4.1+b\"
+source = \"registry+https://github.com/rust-lang/crates.io-index\"
+
+[[package]]
+name = \"sparse\"
+version = \"1.0.0-rc.1\"
+source = \"sparse+https://index.crates.io/\"
+checksum = \"0000000000000000000000000000000000000000000000000000000000000002\"
+
+[[package]]
+name = \"twin\"
+version = \"1.0.0\"
+source = \"git+https://e.org/twin?branch=m#bbbb\"
+
+[[package]]
+name = \"twin\"
+version = \"1.0.0\"
+source = \"git+https://e.org/twin?rev=aaaa#aaaa\"
+
+[[package]]
+name = \"tagged\"
+version = \"1.0.0\"
+source = \"git+https://e.org/tagged?tag=v1.0#cccc\"
+
+[[package]]
+name = \"old\"
+version = \"1.0.0\"
+source = \"git+https://e.org/old#dddd\"
+replace = \"old 1.0.0 (git+https://e.org/new?tag=v1.0#eeee)\"
+
+[[patch.unused]]
+name = \"p\"
+version = \"1.0.0\"
+source = \"git+https://e.org/p?branch=m#ffff\"
+
+[[patch.unused]]
+name = \"q\"
+version = \"1.0.0\"
+source = \"registry+https://e.org/q\"
+
+[[patch.unused]]
+name = \"q\"
+version = \"2.0.0\"
+
+[metadata]
+note = \"kept\"
+\"a b\" = \"kept too\"
+";
+
+// The packages, where the one with a path has none.
+const PACKAGES: &str = "app 0.1.0
+- app 0.1.0
+- local 0.2.0
+- log 0.3.9 (registry+https://github.com/rust-lang/crates.io-index)
+- log 0.4.1+b (registry+https://github.com/rust-lang/crates.io-index)
+- sparse 1.0.0-rc.1 (sparse+https://index.crates.io/)
+- twin 1.0.0 (git+https://e.org/twin?rev=aaaa#aaaa)
+- twin 1.0.0 (git+https://e.org/twin?branch=m#bbbb)
+- old 1.0.0 (git+https://e.org/old#dddd)
+local 0.2.0
+log 0.3.9 (registry+https://github.com/rust-lang/crates.io-index) af6f3550d8dff9ef7dc34d384ac6f107e5d31c8f57d9f28e0081503f547ac8f5
+- log 0.4.1+b (registry+https://github.com/rust-lang/crates.io-index)
+log 0.4.1+b (registry+https://github.com/rust-lang/crates.io-index)
+sparse 1.0.0-rc.1 (sparse+https://index.crates.io/) 0000000000000000000000000000000000000000000000000000000000000002
+twin 1.0.0 (git+https://e.org/twin?branch=m#bbbb)
+twin 1.0.0 (git+https://e.org/twin?rev=aaaa#aaaa)
+tagged 1.0.0 (git+https://e.org/tagged?tag=v1.0#cccc)
+old 1.0.0 (git+https://e.org/old#dddd)
+replaced by old 1.0.0 (git+https://e.org/new?tag=v1.0#eeee)
+";
+
+const ROOT: &str =
+    "root r 0.1.0 (registry+https://e.org/r) 0000000000000000000000000000000000000000000000000000000000000003
+- app 0.1.0
+- gone 1.0.0 (sparse+https://e.org/s/)
+replaced by gone 2.0.0 (git+https://e.org/gone)
+";
+
+const METADATA: &str = "a b = kept too
+note = kept
+";
+
+const METADATA_IN_V1: &str = "a b = kept too
+checksum log 0.3.9 (registry+https://github.com/rust-lang/crates.io-index) = af6f3550d8dff9ef7dc34d384ac6f107e5d31c8f57d9f28e0081503f547ac8f5
+checksum sparse 1.0.0-rc.1 (sparse+https://index.crates.io/) = 0000000000000000000000000000000000000000000000000000000000000002
+note = kept
+";
+
+const PATCHES: &str = "patch p 1.0.0 (git+https://e.org/p?branch=m#ffff)
+patch q 1.0.0 (registry+https://e.org/q)
+patch q 2.0.0
+";
+
+// The meaning in a format, with a root or without.
+fn wanted(alloc: Global, number: u32, root: &str, metadata: &str) -> Result<String, Error> {
+    Ok(format!(in alloc; "V{number}\n{PACKAGES}{root}{metadata}{PATCHES}")?)
+}
+
+// Written as a table once more, whether it stays the same.
+fn stays(alloc: Global, text: &str, format: ResolveVersion) -> Result<String, Error> {
+    let once = through_table(alloc, text, format)?;
+    let twice = written_again(alloc, &once)?;
+    let equal = twice == once;
+    Ok(equal.to_string(alloc)?)
+}
+
+fn written_again(alloc: Global, lockfile: &Lockfile) -> Result<Lockfile, Error> {
+    let table = lockfile.to_table(alloc)?;
+    Lockfile::from_table(alloc, &table)
+}
+
+// The text after a table.
+fn printed_after(alloc: Global, text: &str, format: ResolveVersion) -> Result<String, Error> {
+    let once = through_table(alloc, text, format)?;
+    once.to_string(alloc)
+}
+
+#[test]
+fn every_feature(rt: HostRuntime) {
+    for (format, metadata) in [
+        (ResolveVersion::V1, METADATA_IN_V1),
+        (ResolveVersion::V2, METADATA),
+        (ResolveVersion::V3, METADATA),
+        (ResolveVersion::V4, METADATA),
+    ] {
+        let number = u32::from(format);
+        let meant = or_fault(rt.alloc(), wanted(rt.alloc(), number, ROOT, metadata));
+        let answer = or_fault(rt.alloc(), meaning_in(rt.alloc(), EVERY, format));
+        assert_eq!(rt; answer.as_str(), meant.as_str());
+        let answer = or_fault(rt.alloc(), stays(rt.alloc(), EVERY, format));
+        assert_eq!(rt; answer.as_str(), "true", "V{number}");
+        // The text is without the root.
+        let text = or_fault(rt.alloc(), printed_after(rt.alloc(), EVERY, format));
+        let meant = or_fault(rt.alloc(), wanted(rt.alloc(), number, "", metadata));
+        let answer = or_fault(rt.alloc(), meaning(rt.alloc(), text.as_str()));
+        assert_eq!(rt; answer.as_str(), meant.as_str());
+        let answer = or_fault(rt.alloc(), printed(rt.alloc(), text.as_str()));
+        assert_eq!(rt; answer.as_str(), text.as_str());
+    }
+}

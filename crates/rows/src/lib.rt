@@ -1,0 +1,46 @@
+//! Tests over the public calls of `cargo_lock` and `cargo_lock_parts`. What they expect was worked
+//! out by hand or comes from outside, never from the calls' own output.
+#![tactic(auto)]
+
+#[cfg(test)]
+mod checksums;
+#[cfg(test)]
+mod every;
+#[cfg(test)]
+mod faults;
+#[cfg(test)]
+mod files;
+#[cfg(test)]
+mod formats;
+#[cfg(test)]
+mod large;
+#[cfg(test)]
+mod lockfiles;
+#[cfg(test)]
+mod made_sources;
+#[cfg(test)]
+mod metadata;
+#[cfg(test)]
+mod ranks;
+#[cfg(test)]
+mod reading;
+#[cfg(test)]
+mod references;
+#[cfg(test)]
+mod serialization;
+#[cfg(test)]
+mod shortening;
+#[cfg(test)]
+mod shown;
+#[cfg(test)]
+mod sources;
+#[cfg(test)]
+mod table_faults;
+#[cfg(test)]
+mod tables;
+#[cfg(test)]
+mod texts;
+#[cfg(test)]
+mod translating;
+#[cfg(test)]
+mod writing;
