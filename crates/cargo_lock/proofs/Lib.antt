@@ -2,6 +2,7 @@ pub mod Checksums
 pub mod ChosenLemmas
 pub mod EqualLockfiles
 pub mod KeyTexts
+pub mod LeastKeys
 pub mod Lines
 pub mod MeansLemmas
 pub mod Puts

@@ -2,6 +2,7 @@
 //! speak of are those of the contracts of `Lockfile` and of the types of `lockfile::encoding`.
 
 ghost use Rattle.cargo_lock.specs.Chosen.{ShortenedByPlaces, ShortenedTwice};
+ghost use Rattle.cargo_lock.specs.LeastKey.{ChecksumAtLeastKey};
 ghost use Rattle.cargo_lock.specs.Means.{MeansOne};
 ghost use Rattle.cargo_lock.specs.Same.{EqualTablesAndTexts};
 
@@ -24,4 +25,10 @@ pub fn references_are_shortened_by_places()
 /// A reference that was shortened is not shortened any further.
 pub fn shortened_references_stay()
     ensures { ShortenedTwice }
+{}
+
+/// The checksum that the metadata holds for a package is the value at the least key that reads as
+/// the package's name and version, and there is none where no key reads so.
+pub fn checksums_stand_at_least_keys()
+    ensures { ChecksumAtLeastKey }
 {}
