@@ -67,53 +67,6 @@ fn checksum_texts(rt: HostRuntime) {
 }
 
 #[test]
-fn checksum_faults(rt: HostRuntime) {
-    for (written, fault) in [
-        (
-            "",
-            "parse error: invalid checksum: expected 64 hex chars, got 0",
-        ),
-        (
-            "zz",
-            "parse error: invalid checksum: expected 64 hex chars, got 2",
-        ),
-        (
-            "af6f3550d8dff9ef7dc34d384ac6f107e5d31c8f57d9f28e0081503f547ac8f",
-            "parse error: invalid checksum: expected 64 hex chars, got 63",
-        ),
-        (
-            "af6f3550d8dff9ef7dc34d384ac6f107e5d31c8f57d9f28e0081503f547ac8f5a",
-            "parse error: invalid checksum: expected 64 hex chars, got 65",
-        ),
-        (
-            "Could not get crate checksum",
-            "parse error: invalid checksum: expected 64 hex chars, got 28",
-        ),
-        (
-            "0é0000000000000000000000000000000000000000000000000000000000000",
-            "parse error: invalid checksum: not hexadecimal",
-        ),
-        (
-            "+f+f+f+f+f+f+f+f+f+f+f+f+f+f+f+f+f+f+f+f+f+f+f+f+f+f+f+f+f+f+f+f",
-            "parse error: invalid checksum: not hexadecimal",
-        ),
-        (
-            "gf6f3550d8dff9ef7dc34d384ac6f107e5d31c8f57d9f28e0081503f547ac8f5",
-            "parse error: invalid checksum: not hexadecimal",
-        ),
-        (
-            "af6f3550d8dff9ef7dc34d384ac6f107e5d31c8f57d9f28e0081503f547ac8f ",
-            "parse error: invalid checksum: not hexadecimal",
-        ),
-    ] {
-        let answer = or_fault(rt.alloc(), displayed(rt.alloc(), written));
-        assert_eq!(rt; answer.as_str(), fault, "{written}");
-        let answer = or_fault(rt.alloc(), of_value(rt.alloc(), written));
-        assert_eq!(rt; answer.as_str(), fault, "{written}");
-    }
-}
-
-#[test]
 fn checksum_bytes(rt: HostRuntime) {
     let made = Checksum::from_bytes([0x1e; 32]);
     assert!(rt; made.is_sha256());
@@ -141,73 +94,6 @@ fn dependency_of_key(alloc: Global, text: &str) -> Result<String, Error> {
     let key = MetadataKey::from_str(alloc, text)?;
     let dependency = key.checksum_dependency(alloc)?;
     Ok(dependency.to_string(alloc)?)
-}
-
-#[test]
-fn checksum_keys(rt: HostRuntime) {
-    for (written, is, fault) in [
-        (
-            "foo",
-            "false",
-            "parse error: can only parse dependencies from `checksum` metadata",
-        ),
-        (
-            "checksum",
-            "false",
-            "parse error: can only parse dependencies from `checksum` metadata",
-        ),
-        (
-            "checksum\tfoo 1.0.0",
-            "false",
-            "parse error: can only parse dependencies from `checksum` metadata",
-        ),
-        (
-            " checksum foo 1.0.0",
-            "false",
-            "parse error: can only parse dependencies from `checksum` metadata",
-        ),
-        ("checksum ", "true", "parse error: empty dependency string"),
-        (
-            "checksum foo",
-            "true",
-            "parse error: couldn't resolve dependency: foo",
-        ),
-        (
-            "checksum foo 1.0.0 x",
-            "true",
-            "parse error: malformed source in dependency: x",
-        ),
-        (
-            "checksum foo 1.0.0 (path+file:///a) y",
-            "true",
-            "parse error: malformed dependency: foo 1.0.0 (path+file:///a) y",
-        ),
-    ] {
-        let answer = or_fault(rt.alloc(), is_checksum(rt.alloc(), written));
-        assert_eq!(rt; answer.as_str(), is, "{written}");
-        let answer = or_fault(rt.alloc(), dependency_of_key(rt.alloc(), written));
-        assert_eq!(rt; answer.as_str(), fault, "{written}");
-    }
-    let answer = or_fault(
-        rt.alloc(),
-        dependency_of_key(rt.alloc(), "checksum foo bad"),
-    );
-    assert!(rt; answer.as_str().starts_with("version error: "), "{answer}");
-    for (written, dependency) in [
-        ("checksum foo 1.0.0", "foo 1.0.0"),
-        ("checksum  foo \u{3000}1.0.0 ", "foo 1.0.0"),
-        (
-            "checksum foo 1.0.0 (registry+https://E.org:443/x)",
-            "foo 1.0.0 (registry+https://e.org/x)",
-        ),
-    ] {
-        let answer = or_fault(rt.alloc(), is_checksum(rt.alloc(), written));
-        assert_eq!(rt; answer.as_str(), "true", "{written}");
-        let answer = or_fault(rt.alloc(), dependency_of_key(rt.alloc(), written));
-        assert_eq!(rt; answer.as_str(), dependency, "{written}");
-    }
-    let answer = or_fault(rt.alloc(), key_text(rt.alloc(), "a \"b"));
-    assert_eq!(rt; answer.as_str(), "a \"b|a \"b");
 }
 
 // The key of the package that a reference with a version stands for by itself.

@@ -145,14 +145,6 @@ fn wanted(alloc: Global, number: u32, root: &str, metadata: &str) -> Result<Stri
     Ok(format!(in alloc; "V{number}\n{PACKAGES}{root}{metadata}{PATCHES}")?)
 }
 
-// Written as a table once more, whether it stays the same.
-fn stays(alloc: Global, text: &str, format: ResolveVersion) -> Result<String, Error> {
-    let once = through_table(alloc, text, format)?;
-    let twice = written_again(alloc, &once)?;
-    let equal = twice == once;
-    Ok(equal.to_string(alloc)?)
-}
-
 fn written_again(alloc: Global, lockfile: &Lockfile) -> Result<Lockfile, Error> {
     let table = lockfile.to_table(alloc)?;
     Lockfile::from_table(alloc, &table)
@@ -164,26 +156,3 @@ fn printed_after(alloc: Global, text: &str, format: ResolveVersion) -> Result<St
     once.to_string(alloc)
 }
 
-#[test]
-fn every_feature(rt: HostRuntime) {
-    for (format, metadata) in [
-        (ResolveVersion::V1, METADATA_IN_V1),
-        (ResolveVersion::V2, METADATA),
-        (ResolveVersion::V3, METADATA),
-        (ResolveVersion::V4, METADATA),
-    ] {
-        let number = u32::from(format);
-        let meant = or_fault(rt.alloc(), wanted(rt.alloc(), number, ROOT, metadata));
-        let answer = or_fault(rt.alloc(), meaning_in(rt.alloc(), EVERY, format));
-        assert_eq!(rt; answer.as_str(), meant.as_str());
-        let answer = or_fault(rt.alloc(), stays(rt.alloc(), EVERY, format));
-        assert_eq!(rt; answer.as_str(), "true", "V{number}");
-        // The text is without the root.
-        let text = or_fault(rt.alloc(), printed_after(rt.alloc(), EVERY, format));
-        let meant = or_fault(rt.alloc(), wanted(rt.alloc(), number, "", metadata));
-        let answer = or_fault(rt.alloc(), meaning(rt.alloc(), text.as_str()));
-        assert_eq!(rt; answer.as_str(), meant.as_str());
-        let answer = or_fault(rt.alloc(), printed(rt.alloc(), text.as_str()));
-        assert_eq!(rt; answer.as_str(), text.as_str());
-    }
-}

@@ -27,43 +27,6 @@ fn after(alloc: Global, word: &str, url: &str) -> Result<String, Error> {
     Ok(format!(in alloc; "{word}+{url}")?)
 }
 
-#[test]
-fn path_urls(rt: HostRuntime) {
-    for (path, url) in [
-        ("/a b/./c/", "file:///a%20b/c"),
-        ("/", "file:///"),
-        ("//", "file:///"),
-        ("/r", "file:///r"),
-        ("/a//b", "file:///a/b"),
-        ("/a/../b", "file:///b"),
-        ("/a.b/..c", "file:///a.b/..c"),
-        ("/ü^%?#", "file:///%C3%BC%5E%25%3F%23"),
-        ("/-._~!$&'()*+,;=:@", "file:///-._~!$&'()*+,;=:@"),
-    ] {
-        let wanted = or_fault(rt.alloc(), after(rt.alloc(), "path", url));
-        let answer = or_fault(rt.alloc(), path_source(rt.alloc(), path));
-        assert_eq!(rt; answer.as_str(), wanted.as_str());
-        let wanted = or_fault(rt.alloc(), after(rt.alloc(), "local-registry", url));
-        let answer = or_fault(rt.alloc(), local_registry(rt.alloc(), path));
-        assert_eq!(rt; answer.as_str(), wanted.as_str());
-        let wanted = or_fault(rt.alloc(), after(rt.alloc(), "directory", url));
-        let answer = or_fault(rt.alloc(), directory(rt.alloc(), path));
-        assert_eq!(rt; answer.as_str(), wanted.as_str());
-    }
-    for (path, fault) in [
-        ("a", "parse error: invalid path url `a`"),
-        ("", "parse error: invalid path url ``"),
-        ("./a", "parse error: invalid path url `./a`"),
-    ] {
-        let answer = or_fault(rt.alloc(), path_source(rt.alloc(), path));
-        assert_eq!(rt; answer.as_str(), fault);
-        let answer = or_fault(rt.alloc(), local_registry(rt.alloc(), path));
-        assert_eq!(rt; answer.as_str(), fault);
-        let answer = or_fault(rt.alloc(), directory(rt.alloc(), path));
-        assert_eq!(rt; answer.as_str(), fault);
-    }
-}
-
 // A path, a git source, a registry, a remote registry.
 fn asked_text(alloc: Global, source: &SourceId) -> Result<String, Error> {
     let path = source.is_path();
@@ -162,68 +125,6 @@ fn equal_text(alloc: Global, read: &SourceId, made: &SourceId) -> Result<String,
     let equal = read == made;
     let rank = read.match_rank(made).unwrap_or(0);
     Ok(format!(in alloc; "{equal} {rank}")?)
-}
-
-#[test]
-fn default_registry(rt: HostRuntime) {
-    for (written, default, shown, name) in [
-        (CRATES_IO, "true", "crates.io index", "crates.io"),
-        (
-            CRATES_IO_SPARSE_INDEX,
-            "true",
-            "crates.io index",
-            "crates.io",
-        ),
-        (
-            "registry+https://e.org/x",
-            "false",
-            "`https://e.org/x` index",
-            "https://e.org/x",
-        ),
-        (
-            "registry+https://index.crates.io/",
-            "false",
-            "`https://index.crates.io/` index",
-            "https://index.crates.io/",
-        ),
-        (
-            "sparse+https://github.com/rust-lang/crates.io-index",
-            "false",
-            "`https://github.com/rust-lang/crates.io-index` index",
-            "https://github.com/rust-lang/crates.io-index",
-        ),
-        (
-            "git+https://github.com/rust-lang/crates.io-index",
-            "false",
-            "`https://github.com/rust-lang/crates.io-index` index",
-            "https://github.com/rust-lang/crates.io-index",
-        ),
-    ] {
-        let answer = or_fault(rt.alloc(), is_default(rt.alloc(), written));
-        assert_eq!(rt; answer.as_str(), default, "{written}");
-        let answer = or_fault(rt.alloc(), index(rt.alloc(), written));
-        assert_eq!(rt; answer.as_str(), shown);
-        let answer = or_fault(rt.alloc(), registry_name(rt.alloc(), written));
-        assert_eq!(rt; answer.as_str(), name);
-    }
-    let default =
-        "registry+https://github.com/rust-lang/crates.io-index true crates.io index crates.io false";
-    let answer = or_fault(rt.alloc(), made_registry(rt.alloc()));
-    assert_eq!(rt; answer.as_str(), default);
-    let answer = or_fault(rt.alloc(), registry_at(rt.alloc(), CRATES_IO_INDEX));
-    assert_eq!(rt; answer.as_str(), default);
-    let answer = or_fault(rt.alloc(), registry_at(rt.alloc(), "https://e.org/x"));
-    assert_eq!(rt;
-        answer.as_str(),
-        "registry+https://e.org/x false `https://e.org/x` index https://e.org/x false"
-    );
-    let answer = or_fault(rt.alloc(), equals_default(rt.alloc(), CRATES_IO));
-    assert_eq!(rt; answer.as_str(), "true 1");
-    let answer = or_fault(
-        rt.alloc(),
-        equals_default(rt.alloc(), CRATES_IO_SPARSE_INDEX),
-    );
-    assert_eq!(rt; answer.as_str(), "false 0");
 }
 
 // A repository at a URL.

@@ -29,99 +29,9 @@ fn first_checksum(alloc: Global, text: &str) -> Result<String, Error> {
     }
 }
 
-// The checksum that the metadata of a lockfile holds for its first package.
-fn found_checksum(alloc: Global, text: &str) -> Result<String, Error> {
-    let lockfile = Lockfile::from_str(alloc, text)?;
-    let encodable = EncodableLockfile::of(alloc, &lockfile)?;
-    match lockfile.packages.first() {
-        Some(one) => found_for(alloc, &encodable, one),
-        None => Ok(String::from_str(alloc, "no package")?),
-    }
-}
-
 fn found_for(alloc: Global, encodable: &EncodableLockfile, one: &Package) -> Result<String, Error> {
     let checksum = encodable.find_checksum(alloc, one)?;
     checksum_text(alloc, &checksum)
-}
-
-#[test]
-fn checksums_found(rt: HostRuntime) {
-    for (lines, wanted) in [
-        // A key that does not read is passed over.
-        (
-            "\"checksum foo\" = \"zz\"\n\"checksum foo 1.0.0 (registry+https://github.com/rust-lang/crates.io-index)\" = \"af6f3550d8dff9ef7dc34d384ac6f107e5d31c8f57d9f28e0081503f547ac8f5\"",
-            "af6f3550d8dff9ef7dc34d384ac6f107e5d31c8f57d9f28e0081503f547ac8f5",
-        ),
-        // The first key that reads decides, whatever its value.
-        (
-            "\"checksum foo 1.0.0\" = \"zz\"\n\"checksum foo 1.0.0 (registry+https://github.com/rust-lang/crates.io-index)\" = \"af6f3550d8dff9ef7dc34d384ac6f107e5d31c8f57d9f28e0081503f547ac8f5\"",
-            "none",
-        ),
-        // The source is not compared.
-        (
-            "\"checksum foo 1.0.0 (registry+https://e.org/x)\" = \"af6f3550d8dff9ef7dc34d384ac6f107e5d31c8f57d9f28e0081503f547ac8f5\"",
-            "af6f3550d8dff9ef7dc34d384ac6f107e5d31c8f57d9f28e0081503f547ac8f5",
-        ),
-        // The first one in the order of the keys, not of the lines.
-        (
-            "\"checksum foo 1.0.0 (registry+https://e.org/x)\" = \"af6f3550d8dff9ef7dc34d384ac6f107e5d31c8f57d9f28e0081503f547ac8f5\"\n\"checksum foo 1.0.0\" = \"0000000000000000000000000000000000000000000000000000000000000001\"",
-            "0000000000000000000000000000000000000000000000000000000000000001",
-        ),
-        (
-            "\"checksum foo 1.0.0+b\" = \"af6f3550d8dff9ef7dc34d384ac6f107e5d31c8f57d9f28e0081503f547ac8f5\"",
-            "none",
-        ),
-        (
-            "\"checksum foo 2.0.0\" = \"af6f3550d8dff9ef7dc34d384ac6f107e5d31c8f57d9f28e0081503f547ac8f5\"",
-            "none",
-        ),
-        (
-            "\"checksum fo 1.0.0\" = \"af6f3550d8dff9ef7dc34d384ac6f107e5d31c8f57d9f28e0081503f547ac8f5\"",
-            "none",
-        ),
-        ("\"checksum foo 1.0.0\" = \"<none>\"", "none"),
-        (
-            "\"checksum \\tfoo  1.0.0\" = \"AF6F3550D8DFF9EF7DC34D384AC6F107E5D31C8F57D9F28E0081503F547AC8F5\"",
-            "af6f3550d8dff9ef7dc34d384ac6f107e5d31c8f57d9f28e0081503f547ac8f5",
-        ),
-    ] {
-        let written = or_fault(rt.alloc(), first_format(rt.alloc(), "", lines));
-        let answer = or_fault(rt.alloc(), first_checksum(rt.alloc(), written.as_str()));
-        assert_eq!(rt; answer.as_str(), wanted, "{lines}");
-        let written = or_fault(rt.alloc(), first_format(rt.alloc(), "version = 1", lines));
-        let answer = or_fault(rt.alloc(), first_checksum(rt.alloc(), written.as_str()));
-        assert_eq!(rt; answer.as_str(), wanted, "{lines}");
-        // With another number the metadata says nothing of the package, but the call still does.
-        let written = or_fault(rt.alloc(), first_format(rt.alloc(), "version = 3", lines));
-        let answer = or_fault(rt.alloc(), first_checksum(rt.alloc(), written.as_str()));
-        assert_eq!(rt; answer.as_str(), "none", "{lines}");
-    }
-}
-
-#[test]
-fn find_checksum(rt: HostRuntime) {
-    for (lines, wanted) in [
-        (
-            "\"checksum foo\" = \"zz\"\n\"checksum foo 1.0.0 (registry+https://e.org/x)\" = \"af6f3550d8dff9ef7dc34d384ac6f107e5d31c8f57d9f28e0081503f547ac8f5\"",
-            "af6f3550d8dff9ef7dc34d384ac6f107e5d31c8f57d9f28e0081503f547ac8f5",
-        ),
-        (
-            "\"checksum foo 1.0.0\" = \"zz\"\n\"checksum foo 1.0.0 (registry+https://e.org/x)\" = \"af6f3550d8dff9ef7dc34d384ac6f107e5d31c8f57d9f28e0081503f547ac8f5\"",
-            "none",
-        ),
-        (
-            "\"checksum bar 1.0.0\" = \"af6f3550d8dff9ef7dc34d384ac6f107e5d31c8f57d9f28e0081503f547ac8f5\"",
-            "none",
-        ),
-        (
-            "\"foo 1.0.0\" = \"af6f3550d8dff9ef7dc34d384ac6f107e5d31c8f57d9f28e0081503f547ac8f5\"",
-            "none",
-        ),
-    ] {
-        let written = or_fault(rt.alloc(), first_format(rt.alloc(), "version = 3", lines));
-        let answer = or_fault(rt.alloc(), found_checksum(rt.alloc(), written.as_str()));
-        assert_eq!(rt; answer.as_str(), wanted, "{lines}");
-    }
 }
 
 #[test]

@@ -28,52 +28,6 @@ fn ranks_text(alloc: Global, one: &SourceId, other: &SourceId) -> Result<String,
     Ok(format!(in alloc; "{rank} {back} {equal}")?)
 }
 
-#[test]
-fn match_ranks(rt: HostRuntime) {
-    for (first, second, wanted) in [
-        (A, A, "1 1 true"),
-        (B, B, "1 1 true"),
-        (C, C, "1 1 true"),
-        (D, D, "1 1 true"),
-        (R, R, "1 1 true"),
-        (A, B, "2 2 false"),
-        (A, C, "4 4 false"),
-        (A, D, "0 0 false"),
-        (B, C, "4 4 false"),
-        (B, D, "4 4 false"),
-        (C, D, "3 3 false"),
-        (A, R, "0 0 false"),
-        (B, R, "0 0 false"),
-        (C, R, "0 0 false"),
-        (D, R, "0 0 false"),
-        (
-            "git+https://e.org/x?rev=aaaa#bbbb",
-            "git+https://e.org/x?rev=bbbb",
-            "2 2 false",
-        ),
-        ("git+https://e.org/x?rev=aaaa#bbbb", B, "3 3 false"),
-        (
-            "git+https://e.org/x?rev=aaaa",
-            "git+https://e.org/x?rev=bbbb",
-            "4 4 false",
-        ),
-        ("git+https://e.org/x?tag=m#f00", D, "2 2 false"),
-        ("git+https://e.org/x?branch=m#f01", D, "0 0 false"),
-        (
-            "git+https://e.org/x",
-            "git+https://e.org/x#f00",
-            "3 3 false",
-        ),
-        ("git+https://e.org/y?branch=m", C, "0 0 false"),
-        ("path+https://e.org/x", R, "0 0 false"),
-        ("sparse+https://e.org/x", R, "0 0 false"),
-        ("registry+https://e.org/y", R, "0 0 false"),
-    ] {
-        let answer = or_fault(rt.alloc(), ranks(rt.alloc(), first, second));
-        assert_eq!(rt; answer.as_str(), wanted, "{first} and {second}");
-    }
-}
-
 // How two sources compare.
 fn order(alloc: Global, one: &str, other: &str) -> Result<String, Error> {
     let one = SourceId::from_url(alloc, one)?;

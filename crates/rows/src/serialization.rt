@@ -61,57 +61,6 @@ fn member_message<T: DeserializeOwned>(alloc: Global, text: &str) -> Result<Stri
 }
 
 #[test]
-fn values_as_texts(rt: HostRuntime) -> Result<(), Fail> {
-    let mut metadata = Metadata::new(rt.alloc());
-    metadata.insert(
-        MetadataKey::from_str(rt.alloc(), "checksum foo 1.0.0")?,
-        MetadataValue::from_str(rt.alloc(), "<none>")?,
-    )?;
-    let texts = Texts {
-        name: Name::from_str(rt.alloc(), "foo")?,
-        checksum: Checksum::from_str(
-            rt.alloc(),
-            "AF6F3550D8DFF9EF7DC34D384AC6F107E5D31C8F57D9F28E0081503F547AC8F5",
-        )?,
-        source: source(rt.alloc(), "git+https://example.org/u?branch=dev#0123")?,
-        reference: EncodableDependency::from_str(rt.alloc(), "foo  1.0.0")?,
-        format: ResolveVersion::V3,
-        metadata,
-    };
-    let wanted = format!(in rt.alloc();
-        "name = \"foo\"
-checksum = \"{DIGEST}\"
-source = \"git+https://example.org/u?branch=dev#0123\"
-reference = \"foo 1.0.0\"
-format = \"V3\"
-
-[metadata]
-\"checksum foo 1.0.0\" = \"<none>\"
-"
-    )?;
-    assert!(rt; goes_both_ways(rt.alloc(), &texts, wanted.as_str())?);
-    Ok(())
-}
-
-#[test]
-fn written_sources(rt: HostRuntime) -> Result<(), Fail> {
-    let place = Place {
-        source: Some(source(rt.alloc(), TAGGED)?),
-    };
-    let written = toml::to_string(rt.alloc(), &place)?;
-    let wanted = format!(in rt.alloc(); "source = \"{TAGGED_PLAIN}\"\n")?;
-    assert_eq!(rt; written.as_str(), wanted.as_str());
-    let place = Place {
-        source: Some(source(rt.alloc(), "path+file:///tmp")?),
-    };
-    let written = toml::to_string(rt.alloc(), &place)?;
-    assert_eq!(rt; written.as_str(), "");
-    let back: Place = toml::from_str(rt.alloc(), written.as_str())?;
-    assert!(rt; back.source.is_none());
-    Ok(())
-}
-
-#[test]
 fn dependencies_and_patches(rt: HostRuntime) -> Result<(), Fail> {
     let text = format!(in rt.alloc();
         "name = \"foo\"\nversion = \"1.0.0-a.1+b\"\nsource = \"{CRATES_IO}\"\n"
@@ -126,58 +75,6 @@ fn dependencies_and_patches(rt: HostRuntime) -> Result<(), Fail> {
     let text = format!(in rt.alloc(); "[[unused]]\n{text}")?;
     assert!(rt; goes_both_ways(rt.alloc(), &patch, text.as_str())?);
     assert!(rt; goes_both_ways(rt.alloc(), &Patch::new(rt.alloc()), "unused = []\n")?);
-    Ok(())
-}
-
-#[test]
-fn packages(rt: HostRuntime) -> Result<(), Fail> {
-    let text = "name = \"foo\"\nversion = \"1.0.0\"\n";
-    let package: Package = toml::from_str(rt.alloc(), text)?;
-    assert!(rt; package.source.is_none() && package.checksum.is_none());
-    assert!(rt; package.dependencies.is_empty() && package.replace.is_none());
-    assert!(rt; goes_both_ways(rt.alloc(), &package, text)?);
-    let text = format!(in rt.alloc();
-        "name = \"foo\"
-version = \"1.0.0\"
-source = \"{CRATES_IO}\"
-checksum = \"{DIGEST}\"
-
-[[dependencies]]
-name = \"bar\"
-version = \"0.1.0\"
-
-[[dependencies]]
-name = \"baz\"
-version = \"0.2.0\"
-source = \"{CRATES_IO}\"
-
-[replace]
-name = \"foo\"
-version = \"2.0.0\"
-source = \"git+https://example.org/u?rev=aaaa#aaaa\"
-"
-    )?;
-    let package: Package = toml::from_str(rt.alloc(), text.as_str())?;
-    assert_eq!(rt; package.dependencies.len(), 2);
-    assert!(rt; package.checksum.is_some() && package.replace.is_some());
-    assert!(rt; goes_both_ways(rt.alloc(), &package, text.as_str())?);
-    Ok(())
-}
-
-#[test]
-fn lockfiles(rt: HostRuntime) -> Result<(), Fail> {
-    let read = Lockfile::from_str(rt.alloc(), REGISTRY_AND_GIT)?;
-    let typed: Lockfile = toml::from_str(rt.alloc(), REGISTRY_AND_GIT)?;
-    assert!(rt; typed == read);
-    let written = toml::to_string(rt.alloc(), &typed)?;
-    let table = toml::table_from_str(rt.alloc(), written.as_str())?;
-    assert!(rt; table == typed.to_table(rt.alloc())?);
-    assert!(rt; goes_both_ways(rt.alloc(), &read, written.as_str())?);
-    let mut held = BTreeMap::new(rt.alloc());
-    held.insert(String::from_str(rt.alloc(), "lock")?, typed)?;
-    let written = toml::to_string(rt.alloc(), &held)?;
-    let back: BTreeMap<String, Lockfile> = toml::from_str(rt.alloc(), written.as_str())?;
-    assert!(rt; back.get("lock") == Some(&read));
     Ok(())
 }
 

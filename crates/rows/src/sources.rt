@@ -17,59 +17,6 @@ fn read_text_again(alloc: Global, text: &str) -> Result<String, Error> {
     source.to_text(alloc)
 }
 
-#[test]
-fn source_faults(rt: HostRuntime) {
-    for (written, fault) in [
-        ("foo", "parse error: invalid source `foo`"),
-        ("", "parse error: invalid source ``"),
-        (
-            "hg+https://e.org/",
-            "parse error: unsupported source protocol: `hg` from `hg+https://e.org/`",
-        ),
-        (
-            "hg+no url",
-            "parse error: unsupported source protocol: `hg` from `hg+no url`",
-        ),
-        (
-            "+https://e.org/",
-            "parse error: unsupported source protocol: `` from `+https://e.org/`",
-        ),
-        (
-            "Git+https://e.org/",
-            "parse error: unsupported source protocol: `Git` from `Git+https://e.org/`",
-        ),
-        (
-            "local-registry+file:///r",
-            "parse error: unsupported source protocol: `local-registry` from `local-registry+file:///r`",
-        ),
-        (
-            "directory+file:///r",
-            "parse error: unsupported source protocol: `directory` from `directory+file:///r`",
-        ),
-    ] {
-        let answer = or_fault(rt.alloc(), read_text(rt.alloc(), written));
-        assert_eq!(rt; answer.as_str(), fault);
-        let answer = or_fault(rt.alloc(), read_text_again(rt.alloc(), written));
-        assert_eq!(rt; answer.as_str(), fault);
-    }
-    for (written, beginning) in [
-        ("git+", "parse error: invalid url ``: "),
-        ("registry+foo", "parse error: invalid url `foo`: "),
-        ("sparse+https://", "parse error: invalid url `https://`: "),
-        ("path+/a/b", "parse error: invalid url `/a/b`: "),
-        (
-            "git+https://e.org:99999/",
-            "parse error: invalid url `https://e.org:99999/`: ",
-        ),
-    ] {
-        let answer = or_fault(rt.alloc(), read_text(rt.alloc(), written));
-        assert!(rt;
-            answer.as_str().starts_with(beginning),
-            "{written}: {answer}"
-        );
-    }
-}
-
 // The kind of a source in words, with the value of its reference as it is.
 fn kind_text(alloc: Global, kind: &SourceKind) -> Result<String, Error> {
     match kind {
@@ -177,16 +124,6 @@ const READ: [(&str, &str); 24] = [
     ("path+file:///a/../b?q#f", "path file:///b?q#f"),
 ];
 
-#[test]
-fn sources_read(rt: HostRuntime) {
-    for (written, wanted) in READ {
-        let answer = or_fault(rt.alloc(), parts(rt.alloc(), written));
-        assert_eq!(rt; answer.as_str(), wanted, "{written}");
-        let answer = or_fault(rt.alloc(), parts_of_copy(rt.alloc(), written));
-        assert_eq!(rt; answer.as_str(), wanted, "{written}");
-    }
-}
-
 fn displayed(alloc: Global, text: &str) -> Result<String, Error> {
     let source = SourceId::from_url(alloc, text)?;
     Ok(source.to_string(alloc)?)
@@ -265,33 +202,3 @@ fn pretty_ref(alloc: Global, text: &str, escaped: bool) -> Result<String, Error>
     }
 }
 
-#[test]
-fn escaped_reference(rt: HostRuntime) {
-    for (written, plain, escaped) in [
-        (TAGGED, "tag=a-_+#$)z", "tag=a-_%2B%23%24%29z"),
-        // Read from its plain text it is another source.
-        (TAGGED_PLAIN, "tag=a-_ ", "tag=a-_+"),
-        ("git+https://e.org/x?ref=m", "branch=m", "branch=m"),
-        ("git+https://e.org/x?rev=~", "rev=~", "rev=%7E"),
-        ("git+https://e.org/x", "no text", "no text"),
-        (CRATES_IO, "no reference", "no reference"),
-    ] {
-        let answer = or_fault(rt.alloc(), pretty_ref(rt.alloc(), written, false));
-        assert_eq!(rt; answer.as_str(), plain);
-        let answer = or_fault(rt.alloc(), pretty_ref(rt.alloc(), written, true));
-        assert_eq!(rt; answer.as_str(), escaped);
-    }
-    for (written, wanted) in [
-        (
-            TAGGED,
-            "git tag a-_+#$)z https://example.org/u #0123456789012345678901234567890123456789",
-        ),
-        (
-            TAGGED_PLAIN,
-            "git tag a-_  https://example.org/u #$)z#0123456789012345678901234567890123456789",
-        ),
-    ] {
-        let answer = or_fault(rt.alloc(), parts(rt.alloc(), written));
-        assert_eq!(rt; answer.as_str(), wanted);
-    }
-}

@@ -86,19 +86,6 @@ fn tables_written(rt: HostRuntime) {
 const PARTS: &str =
     "version = 3\n[[package]]\nname = \"foo\"\nversion = \"1.0.0\"\nsource = \"registry+https://e.org/x\"\nchecksum = \"af6f3550d8dff9ef7dc34d384ac6f107e5d31c8f57d9f28e0081503f547ac8f5\"\n[[package]]\nname = \"bar\"\nversion = \"1.0.0\"\nsource = \"git+https://e.org/bar?tag=v#f\"\ndependencies = [\"foo\", \"gone 1.0.0 (sparse+https://e.org/)\"]\n[metadata]\nx = \"y\"\n[[patch.unused]]\nname = \"p\"\nversion = \"1.0.0\"\nsource = \"git+https://e.org/p\"\n";
 
-// The number, whether the text is that of the lockfile, and whether the way back is to equal
-// packages, patches and format.
-fn between(alloc: Global, text: &str, format: ResolveVersion) -> Result<String, Error> {
-    let lockfile = with_format(alloc, text, format)?;
-    let encodable = EncodableLockfile::of(alloc, &lockfile)?;
-    let number = encodable.version.unwrap_or(0);
-    let printed = is_printed(alloc, &lockfile, &encodable)?;
-    let back = encodable.into_lockfile(alloc)?;
-    let equal = back.packages == lockfile.packages && back.patch == lockfile.patch;
-    let format = u32::from(back.version);
-    Ok(format!(in alloc; "{number} {printed} {equal} {format}")?)
-}
-
 fn is_printed(
     alloc: Global,
     lockfile: &Lockfile,
@@ -117,11 +104,6 @@ fn numbered(alloc: Global, text: &str, number: Option<i64>) -> Result<EncodableL
     Ok(encodable)
 }
 
-fn numbered_text(alloc: Global, text: &str, number: Option<i64>) -> Result<String, Error> {
-    let encodable = numbered(alloc, text, number)?;
-    encodable.to_string(alloc)
-}
-
 // The format of the lockfile that these values are.
 fn numbered_format(alloc: Global, text: &str, number: Option<i64>) -> Result<String, Error> {
     let encodable = numbered(alloc, text, number)?;
@@ -130,60 +112,3 @@ fn numbered_format(alloc: Global, text: &str, number: Option<i64>) -> Result<Str
     Ok(format.to_string(alloc)?)
 }
 
-// Whether the patches between are those of the lockfile, path sources included.
-fn keeps_patches(alloc: Global, text: &str) -> Result<String, Error> {
-    let lockfile = Lockfile::from_str(alloc, text)?;
-    let encodable = EncodableLockfile::of(alloc, &lockfile)?;
-    let equal = encodable.patch == lockfile.patch;
-    Ok(equal.to_string(alloc)?)
-}
-
-#[test]
-fn encodable_lockfiles(rt: HostRuntime) {
-    for (format, wanted) in [
-        (V1, "0 true true 1"),
-        (V2, "0 true true 2"),
-        (V3, "3 true true 3"),
-        (V4, "4 true true 4"),
-    ] {
-        let answer = or_fault(rt.alloc(), between(rt.alloc(), PARTS, format));
-        assert_eq!(rt; answer.as_str(), wanted);
-    }
-    for (number, beginning, format) in [
-        (None, "editing.\n\n[[package]]\n", "2"),
-        (Some(2), "editing.\n\n[[package]]\n", "2"),
-        (Some(3), "editing.\nversion = 3\n\n[[package]]\n", "3"),
-        (
-            Some(9),
-            "editing.\nversion = 9\n\n[[package]]\n",
-            "parse error: invalid Cargo.lock format version: `9`",
-        ),
-        (
-            Some(-1),
-            "editing.\n\n[[package]]\n",
-            "parse error: invalid Cargo.lock format version: `-1`",
-        ),
-        // References without a version say nothing in V1.
-        (
-            Some(1),
-            "editing.\n\n[[package]]\n",
-            "parse error: couldn't resolve dependency: foo",
-        ),
-    ] {
-        let answer = or_fault(rt.alloc(), numbered_text(rt.alloc(), PARTS, number));
-        assert!(rt; answer.as_str().contains(beginning), "{answer}");
-        let answer = or_fault(rt.alloc(), numbered_format(rt.alloc(), PARTS, number));
-        assert_eq!(rt; answer.as_str(), format);
-    }
-    let patched =
-        "version = 3\n[[patch.unused]]\nname = \"p\"\nversion = \"1.0.0\"\nsource = \"path+file:///p\"\n";
-    let answer = or_fault(rt.alloc(), keeps_patches(rt.alloc(), patched));
-    assert_eq!(rt; answer.as_str(), "true");
-    let answer = or_fault(rt.alloc(), numbered_text(rt.alloc(), patched, None));
-    assert!(rt;
-        answer
-            .as_str()
-            .ends_with("\nname = \"p\"\nversion = \"1.0.0\"\n\n"),
-        "{answer}"
-    );
-}

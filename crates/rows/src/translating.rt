@@ -148,28 +148,3 @@ fn printed_in_formats(rt: HostRuntime) {
     assert!(rt; !answer.as_str().contains("metadata"), "{answer}");
 }
 
-#[test]
-fn keys_that_stay(rt: HostRuntime) {
-    // From V1 on to V2 a key that is no package's stays, and then the printed text is refused. In
-    // V3 it is read.
-    let written =
-        "[[package]]\nname = \"foo\"\nversion = \"1.0.0\"\nsource = \"registry+https://E.org/x\"\n[metadata]\n\"checksum foo 1.0.0 (registry+https://E.org/x)\" = \"af6f3550d8dff9ef7dc34d384ac6f107e5d31c8f57d9f28e0081503f547ac8f5\"\n";
-    for (format, wanted) in [
-        (
-            V1,
-            "V1\nfoo 1.0.0 (registry+https://e.org/x) af6f3550d8dff9ef7dc34d384ac6f107e5d31c8f57d9f28e0081503f547ac8f5\nchecksum foo 1.0.0 (registry+https://E.org/x) = af6f3550d8dff9ef7dc34d384ac6f107e5d31c8f57d9f28e0081503f547ac8f5\nchecksum foo 1.0.0 (registry+https://e.org/x) = af6f3550d8dff9ef7dc34d384ac6f107e5d31c8f57d9f28e0081503f547ac8f5\n",
-        ),
-        (
-            V2,
-            "parse error: malformed lockfile: contains checksums in both [[package]] and [[metadata]] sections",
-        ),
-        (
-            V3,
-            "V3\nfoo 1.0.0 (registry+https://e.org/x) af6f3550d8dff9ef7dc34d384ac6f107e5d31c8f57d9f28e0081503f547ac8f5\nchecksum foo 1.0.0 (registry+https://E.org/x) = af6f3550d8dff9ef7dc34d384ac6f107e5d31c8f57d9f28e0081503f547ac8f5\n",
-        ),
-    ] {
-        let printed = or_fault(rt.alloc(), printed_in(rt.alloc(), written, format));
-        let answer = or_fault(rt.alloc(), meaning(rt.alloc(), printed.as_str()));
-        assert_eq!(rt; answer.as_str(), wanted);
-    }
-}

@@ -58,18 +58,6 @@ fn registry_and_git(rt: HostRuntime) {
 }
 
 #[test]
-fn two_git_children(rt: HostRuntime) {
-    for (written, wanted) in [
-        (TWO_GIT_CHILDREN, TWO_GIT_CHILDREN),
-        (TWO_LOGS, TWO_LOGS),
-        (TWO_LOGS_IN_FULL, TWO_LOGS),
-    ] {
-        let answer = or_fault(rt.alloc(), printed(rt.alloc(), written));
-        assert_eq!(rt; answer.as_str(), wanted);
-    }
-}
-
-#[test]
 fn empty_lockfiles(rt: HostRuntime) {
     for (written, body) in [
         ("", ""),
@@ -114,55 +102,6 @@ fn back_text(alloc: Global, first: &Lockfile, other: &Lockfile) -> Result<String
     let before = other.metadata.len();
     let after = back.metadata.len();
     Ok(format!(in alloc; "{equal} {before} {after}")?)
-}
-
-#[test]
-fn checksum_moves_to_metadata(rt: HostRuntime) {
-    let wanted = or_fault(rt.alloc(), with_head(rt.alloc(), PACKAGE_IN_V1));
-    let answer = or_fault(
-        rt.alloc(),
-        printed_in(rt.alloc(), PACKAGE, ResolveVersion::V1),
-    );
-    assert_eq!(rt; answer.as_str(), wanted.as_str());
-    let wanted = or_fault(rt.alloc(), with_head(rt.alloc(), PACKAGE));
-    let answer = or_fault(
-        rt.alloc(),
-        printed_in(rt.alloc(), PACKAGE_IN_V1, ResolveVersion::V3),
-    );
-    assert_eq!(rt; answer.as_str(), wanted.as_str());
-    let answer = or_fault(
-        rt.alloc(),
-        meaning_in(rt.alloc(), PACKAGE, ResolveVersion::V1),
-    );
-    assert_eq!(rt;
-        answer.as_str(),
-        "V1\nfoo 1.0.0 (registry+https://github.com/rust-lang/crates.io-index) af6f3550d8dff9ef7dc34d384ac6f107e5d31c8f57d9f28e0081503f547ac8f5\nchecksum foo 1.0.0 (registry+https://github.com/rust-lang/crates.io-index) = af6f3550d8dff9ef7dc34d384ac6f107e5d31c8f57d9f28e0081503f547ac8f5\n"
-    );
-    let answer = or_fault(rt.alloc(), there_and_back(rt.alloc(), PACKAGE));
-    assert_eq!(rt; answer.as_str(), "true 1 0");
-}
-
-#[test]
-fn v1_without_checksum(rt: HostRuntime) {
-    let written = "version = 1\n[[package]]\nname = \"foo\"\nversion = \"1.0.0\"\n";
-    let answer = or_fault(rt.alloc(), meaning(rt.alloc(), written));
-    assert_eq!(rt; answer.as_str(), "V1\nfoo 1.0.0\n");
-    let printed = or_fault(rt.alloc(), printed(rt.alloc(), written));
-    let wanted = or_fault(
-        rt.alloc(),
-        with_head(
-            rt.alloc(),
-            "\n[[package]]\nname = \"foo\"\nversion = \"1.0.0\"\n",
-        ),
-    );
-    assert_eq!(rt; printed.as_str(), wanted.as_str());
-    let answer = or_fault(rt.alloc(), meaning(rt.alloc(), printed.as_str()));
-    assert_eq!(rt; answer.as_str(), "V2\nfoo 1.0.0\n");
-    let answer = or_fault(
-        rt.alloc(),
-        meaning_in(rt.alloc(), written, ResolveVersion::V1),
-    );
-    assert_eq!(rt; answer.as_str(), "V2\nfoo 1.0.0\n");
 }
 
 #[test]
