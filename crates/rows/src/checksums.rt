@@ -1,6 +1,6 @@
 //! Checksums, and the keys and values of the metadata.
 
-use crate::shown::or_fault;
+use crate::shown::{Question, first_wrong, or_fault};
 use cargo_lock::lockfile::encoding::EncodableDependency;
 use cargo_lock::{Checksum, Error, MetadataKey, MetadataValue};
 use std::alloc::Global;
@@ -121,4 +121,153 @@ fn keys_of_packages(rt: HostRuntime) {
         let answer = or_fault(rt.alloc(), key_of(rt.alloc(), reference));
         assert_eq!(rt; answer.as_str(), key);
     }
+}
+
+// A checksum, read and displayed.
+struct AsDisplayed;
+
+impl Question for AsDisplayed {
+    fn ask(alloc: Global, text: &str) -> Result<String, Error> {
+        displayed(alloc, text)
+    }
+}
+
+// The checksum of a value.
+struct OfValue;
+
+impl Question for OfValue {
+    fn ask(alloc: Global, text: &str) -> Result<String, Error> {
+        of_value(alloc, text)
+    }
+}
+
+// Whether a key is one of a checksum.
+struct IsChecksum;
+
+impl Question for IsChecksum {
+    fn ask(alloc: Global, text: &str) -> Result<String, Error> {
+        is_checksum(alloc, text)
+    }
+}
+
+// The dependency of a key.
+struct DependencyOfKey;
+
+impl Question for DependencyOfKey {
+    fn ask(alloc: Global, text: &str) -> Result<String, Error> {
+        dependency_of_key(alloc, text)
+    }
+}
+
+const CHECKSUM_FAULTS: [(&str, &str); 9] = [
+    (
+        "",
+        "parse error: invalid checksum: expected 64 hex chars, got 0",
+    ),
+    (
+        "zz",
+        "parse error: invalid checksum: expected 64 hex chars, got 2",
+    ),
+    (
+        "af6f3550d8dff9ef7dc34d384ac6f107e5d31c8f57d9f28e0081503f547ac8f",
+        "parse error: invalid checksum: expected 64 hex chars, got 63",
+    ),
+    (
+        "af6f3550d8dff9ef7dc34d384ac6f107e5d31c8f57d9f28e0081503f547ac8f5a",
+        "parse error: invalid checksum: expected 64 hex chars, got 65",
+    ),
+    (
+        "Could not get crate checksum",
+        "parse error: invalid checksum: expected 64 hex chars, got 28",
+    ),
+    (
+        "0é0000000000000000000000000000000000000000000000000000000000000",
+        "parse error: invalid checksum: not hexadecimal",
+    ),
+    (
+        "+f+f+f+f+f+f+f+f+f+f+f+f+f+f+f+f+f+f+f+f+f+f+f+f+f+f+f+f+f+f+f+f",
+        "parse error: invalid checksum: not hexadecimal",
+    ),
+    (
+        "gf6f3550d8dff9ef7dc34d384ac6f107e5d31c8f57d9f28e0081503f547ac8f5",
+        "parse error: invalid checksum: not hexadecimal",
+    ),
+    (
+        "af6f3550d8dff9ef7dc34d384ac6f107e5d31c8f57d9f28e0081503f547ac8f ",
+        "parse error: invalid checksum: not hexadecimal",
+    ),
+];
+
+#[test]
+fn checksum_faults(rt: HostRuntime) {
+    assert_eq!(rt;
+        first_wrong::<AsDisplayed>(rt.alloc(), &CHECKSUM_FAULTS),
+        None
+    );
+    assert_eq!(rt; first_wrong::<OfValue>(rt.alloc(), &CHECKSUM_FAULTS), None);
+}
+
+const CHECKSUM_KEYS: [(&str, &str); 8] = [
+    ("foo", "false"),
+    ("checksum", "false"),
+    ("checksum\tfoo 1.0.0", "false"),
+    (" checksum foo 1.0.0", "false"),
+    ("checksum ", "true"),
+    ("checksum foo", "true"),
+    ("checksum foo 1.0.0 x", "true"),
+    ("checksum foo 1.0.0 (path+file:///a) y", "true"),
+];
+
+const KEYS_REFUSED: [(&str, &str); 8] = [
+    (
+        "foo",
+        "parse error: can only parse dependencies from `checksum` metadata",
+    ),
+    (
+        "checksum",
+        "parse error: can only parse dependencies from `checksum` metadata",
+    ),
+    (
+        "checksum\tfoo 1.0.0",
+        "parse error: can only parse dependencies from `checksum` metadata",
+    ),
+    (
+        " checksum foo 1.0.0",
+        "parse error: can only parse dependencies from `checksum` metadata",
+    ),
+    ("checksum ", "parse error: empty dependency string"),
+    (
+        "checksum foo",
+        "parse error: couldn't resolve dependency: foo",
+    ),
+    (
+        "checksum foo 1.0.0 x",
+        "parse error: malformed source in dependency: x",
+    ),
+    (
+        "checksum foo 1.0.0 (path+file:///a) y",
+        "parse error: malformed dependency: foo 1.0.0 (path+file:///a) y",
+    ),
+];
+
+const DEPENDENCIES_OF_KEYS: [(&str, &str); 3] = [
+    ("checksum foo 1.0.0", "foo 1.0.0"),
+    ("checksum  foo \u{3000}1.0.0 ", "foo 1.0.0"),
+    (
+        "checksum foo 1.0.0 (registry+https://E.org:443/x)",
+        "foo 1.0.0 (registry+https://e.org/x)",
+    ),
+];
+
+#[test]
+fn checksum_keys(rt: HostRuntime) {
+    assert_eq!(rt; first_wrong::<IsChecksum>(rt.alloc(), &CHECKSUM_KEYS), None);
+    assert_eq!(rt;
+        first_wrong::<DependencyOfKey>(rt.alloc(), &KEYS_REFUSED),
+        None
+    );
+    assert_eq!(rt;
+        first_wrong::<DependencyOfKey>(rt.alloc(), &DEPENDENCIES_OF_KEYS),
+        None
+    );
 }

@@ -155,4 +155,3 @@ fn printed_after(alloc: Global, text: &str, format: ResolveVersion) -> Result<St
     let once = through_table(alloc, text, format)?;
     once.to_string(alloc)
 }
-

@@ -6,4 +6,3 @@ use crate::texts::TWO_LOGS;
 use cargo_lock::{Error, Lockfile};
 use std::path::Path;
 use std::{fs, io};
-

@@ -46,4 +46,3 @@ fn printed_as(alloc: Global, text: &str) -> Result<String, Error> {
     let equal = printed.as_str() == text;
     Ok(format!(in alloc; "{packages} {dependencies} {equal}")?)
 }
-

@@ -1,6 +1,6 @@
 //! Sources that calls make, and what sources are asked.
 
-use crate::shown::{CRATES_IO, or_fault};
+use crate::shown::{CRATES_IO, Question, first_wrong, or_fault};
 use cargo_lock::package::GitReference;
 use cargo_lock::package::source::{CRATES_IO_INDEX, CRATES_IO_SPARSE_INDEX};
 use cargo_lock::{Error, SourceId};
@@ -170,4 +170,187 @@ fn made_by_url(rt: HostRuntime) {
         unpinned_text(rt.alloc(), "git+https://e.org/x?rev=a#b"),
     );
     assert_eq!(rt; answer.as_str(), "git+https://e.org/x?rev=a");
+}
+
+// The source of a path.
+struct OfPath;
+
+impl Question for OfPath {
+    fn ask(alloc: Global, text: &str) -> Result<String, Error> {
+        path_source(alloc, text)
+    }
+}
+
+// The source of a local registry.
+struct OfLocalRegistry;
+
+impl Question for OfLocalRegistry {
+    fn ask(alloc: Global, text: &str) -> Result<String, Error> {
+        local_registry(alloc, text)
+    }
+}
+
+// The source of a directory.
+struct OfDirectory;
+
+impl Question for OfDirectory {
+    fn ask(alloc: Global, text: &str) -> Result<String, Error> {
+        directory(alloc, text)
+    }
+}
+
+// Whether a source is the default registry.
+struct IsDefault;
+
+impl Question for IsDefault {
+    fn ask(alloc: Global, text: &str) -> Result<String, Error> {
+        is_default(alloc, text)
+    }
+}
+
+// The displayed index.
+struct ByIndex;
+
+impl Question for ByIndex {
+    fn ask(alloc: Global, text: &str) -> Result<String, Error> {
+        index(alloc, text)
+    }
+}
+
+// The displayed name.
+struct RegistryName;
+
+impl Question for RegistryName {
+    fn ask(alloc: Global, text: &str) -> Result<String, Error> {
+        registry_name(alloc, text)
+    }
+}
+
+const PATH_URLS: [(&str, &str); 9] = [
+    ("/a b/./c/", "path+file:///a%20b/c"),
+    ("/", "path+file:///"),
+    ("//", "path+file:///"),
+    ("/r", "path+file:///r"),
+    ("/a//b", "path+file:///a/b"),
+    ("/a/../b", "path+file:///b"),
+    ("/a.b/..c", "path+file:///a.b/..c"),
+    ("/ü^%?#", "path+file:///%C3%BC%5E%25%3F%23"),
+    ("/-._~!$&'()*+,;=:@", "path+file:///-._~!$&'()*+,;=:@"),
+];
+
+const LOCAL_REGISTRY_URLS: [(&str, &str); 9] = [
+    ("/a b/./c/", "local-registry+file:///a%20b/c"),
+    ("/", "local-registry+file:///"),
+    ("//", "local-registry+file:///"),
+    ("/r", "local-registry+file:///r"),
+    ("/a//b", "local-registry+file:///a/b"),
+    ("/a/../b", "local-registry+file:///b"),
+    ("/a.b/..c", "local-registry+file:///a.b/..c"),
+    ("/ü^%?#", "local-registry+file:///%C3%BC%5E%25%3F%23"),
+    (
+        "/-._~!$&'()*+,;=:@",
+        "local-registry+file:///-._~!$&'()*+,;=:@",
+    ),
+];
+
+const DIRECTORY_URLS: [(&str, &str); 9] = [
+    ("/a b/./c/", "directory+file:///a%20b/c"),
+    ("/", "directory+file:///"),
+    ("//", "directory+file:///"),
+    ("/r", "directory+file:///r"),
+    ("/a//b", "directory+file:///a/b"),
+    ("/a/../b", "directory+file:///b"),
+    ("/a.b/..c", "directory+file:///a.b/..c"),
+    ("/ü^%?#", "directory+file:///%C3%BC%5E%25%3F%23"),
+    ("/-._~!$&'()*+,;=:@", "directory+file:///-._~!$&'()*+,;=:@"),
+];
+
+const PATH_FAULTS: [(&str, &str); 3] = [
+    ("a", "parse error: invalid path url `a`"),
+    ("", "parse error: invalid path url ``"),
+    ("./a", "parse error: invalid path url `./a`"),
+];
+
+#[test]
+fn path_urls(rt: HostRuntime) {
+    assert_eq!(rt; first_wrong::<OfPath>(rt.alloc(), &PATH_URLS), None);
+    assert_eq!(rt;
+        first_wrong::<OfLocalRegistry>(rt.alloc(), &LOCAL_REGISTRY_URLS),
+        None
+    );
+    assert_eq!(rt;
+        first_wrong::<OfDirectory>(rt.alloc(), &DIRECTORY_URLS),
+        None
+    );
+}
+
+#[test]
+fn path_faults(rt: HostRuntime) {
+    assert_eq!(rt; first_wrong::<OfPath>(rt.alloc(), &PATH_FAULTS), None);
+    assert_eq!(rt;
+        first_wrong::<OfLocalRegistry>(rt.alloc(), &PATH_FAULTS),
+        None
+    );
+    assert_eq!(rt; first_wrong::<OfDirectory>(rt.alloc(), &PATH_FAULTS), None);
+}
+
+const DEFAULT_REGISTRY: [(&str, &str); 6] = [
+    (CRATES_IO, "true"),
+    (CRATES_IO_SPARSE_INDEX, "true"),
+    ("registry+https://e.org/x", "false"),
+    ("registry+https://index.crates.io/", "false"),
+    (
+        "sparse+https://github.com/rust-lang/crates.io-index",
+        "false",
+    ),
+    ("git+https://github.com/rust-lang/crates.io-index", "false"),
+];
+
+const INDEXES: [(&str, &str); 6] = [
+    (CRATES_IO, "crates.io index"),
+    (CRATES_IO_SPARSE_INDEX, "crates.io index"),
+    ("registry+https://e.org/x", "`https://e.org/x` index"),
+    (
+        "registry+https://index.crates.io/",
+        "`https://index.crates.io/` index",
+    ),
+    (
+        "sparse+https://github.com/rust-lang/crates.io-index",
+        "`https://github.com/rust-lang/crates.io-index` index",
+    ),
+    (
+        "git+https://github.com/rust-lang/crates.io-index",
+        "`https://github.com/rust-lang/crates.io-index` index",
+    ),
+];
+
+const REGISTRY_NAMES: [(&str, &str); 6] = [
+    (CRATES_IO, "crates.io"),
+    (CRATES_IO_SPARSE_INDEX, "crates.io"),
+    ("registry+https://e.org/x", "https://e.org/x"),
+    (
+        "registry+https://index.crates.io/",
+        "https://index.crates.io/",
+    ),
+    (
+        "sparse+https://github.com/rust-lang/crates.io-index",
+        "https://github.com/rust-lang/crates.io-index",
+    ),
+    (
+        "git+https://github.com/rust-lang/crates.io-index",
+        "https://github.com/rust-lang/crates.io-index",
+    ),
+];
+
+#[test]
+fn default_registry(rt: HostRuntime) {
+    assert_eq!(rt;
+        first_wrong::<IsDefault>(rt.alloc(), &DEFAULT_REGISTRY),
+        None
+    );
+    assert_eq!(rt; first_wrong::<ByIndex>(rt.alloc(), &INDEXES), None);
+    assert_eq!(rt;
+        first_wrong::<RegistryName>(rt.alloc(), &REGISTRY_NAMES),
+        None
+    );
 }

@@ -1,7 +1,7 @@
 //! Checksums among the metadata, which V1 has there.
 
 use crate::lockfiles::{meaning, table_meaning};
-use crate::shown::or_fault;
+use crate::shown::{Question, first_wrong, or_fault};
 use cargo_lock::lockfile::encoding::EncodableLockfile;
 use cargo_lock::{Checksum, Error, Lockfile, Package};
 use std::alloc::Global;
@@ -71,4 +71,73 @@ fn places_of_checksums(rt: HostRuntime) {
         let answer = or_fault(rt.alloc(), table_meaning(rt.alloc(), written));
         assert_eq!(rt; answer.as_str(), meant);
     }
+}
+
+// The checksum of the package beside these lines of metadata.
+struct First;
+
+impl Question for First {
+    fn ask(alloc: Global, text: &str) -> Result<String, Error> {
+        let written = first_format(alloc, "", text)?;
+        first_checksum(alloc, written.as_str())
+    }
+}
+
+// The same where the format stands in the file.
+struct FirstByNumber;
+
+impl Question for FirstByNumber {
+    fn ask(alloc: Global, text: &str) -> Result<String, Error> {
+        let written = first_format(alloc, "version = 1", text)?;
+        first_checksum(alloc, written.as_str())
+    }
+}
+
+const CHECKSUMS_FOUND: [(&str, &str); 9] = [
+    // A key that does not read is passed over.
+    (
+        "\"checksum foo\" = \"zz\"\n\"checksum foo 1.0.0 (registry+https://github.com/rust-lang/crates.io-index)\" = \"af6f3550d8dff9ef7dc34d384ac6f107e5d31c8f57d9f28e0081503f547ac8f5\"",
+        "af6f3550d8dff9ef7dc34d384ac6f107e5d31c8f57d9f28e0081503f547ac8f5",
+    ),
+    // The first key that reads decides, whatever its value.
+    (
+        "\"checksum foo 1.0.0\" = \"zz\"\n\"checksum foo 1.0.0 (registry+https://github.com/rust-lang/crates.io-index)\" = \"af6f3550d8dff9ef7dc34d384ac6f107e5d31c8f57d9f28e0081503f547ac8f5\"",
+        "none",
+    ),
+    // The source is not compared.
+    (
+        "\"checksum foo 1.0.0 (registry+https://e.org/x)\" = \"af6f3550d8dff9ef7dc34d384ac6f107e5d31c8f57d9f28e0081503f547ac8f5\"",
+        "af6f3550d8dff9ef7dc34d384ac6f107e5d31c8f57d9f28e0081503f547ac8f5",
+    ),
+    // The first one in the order of the keys, not of the lines.
+    (
+        "\"checksum foo 1.0.0 (registry+https://e.org/x)\" = \"af6f3550d8dff9ef7dc34d384ac6f107e5d31c8f57d9f28e0081503f547ac8f5\"\n\"checksum foo 1.0.0\" = \"0000000000000000000000000000000000000000000000000000000000000001\"",
+        "0000000000000000000000000000000000000000000000000000000000000001",
+    ),
+    (
+        "\"checksum foo 1.0.0+b\" = \"af6f3550d8dff9ef7dc34d384ac6f107e5d31c8f57d9f28e0081503f547ac8f5\"",
+        "none",
+    ),
+    (
+        "\"checksum foo 2.0.0\" = \"af6f3550d8dff9ef7dc34d384ac6f107e5d31c8f57d9f28e0081503f547ac8f5\"",
+        "none",
+    ),
+    (
+        "\"checksum fo 1.0.0\" = \"af6f3550d8dff9ef7dc34d384ac6f107e5d31c8f57d9f28e0081503f547ac8f5\"",
+        "none",
+    ),
+    ("\"checksum foo 1.0.0\" = \"<none>\"", "none"),
+    (
+        "\"checksum \\tfoo  1.0.0\" = \"AF6F3550D8DFF9EF7DC34D384AC6F107E5D31C8F57D9F28E0081503F547AC8F5\"",
+        "af6f3550d8dff9ef7dc34d384ac6f107e5d31c8f57d9f28e0081503f547ac8f5",
+    ),
+];
+
+#[test]
+fn checksums_found(rt: HostRuntime) {
+    assert_eq!(rt; first_wrong::<First>(rt.alloc(), &CHECKSUMS_FOUND), None);
+    assert_eq!(rt;
+        first_wrong::<FirstByNumber>(rt.alloc(), &CHECKSUMS_FOUND),
+        None
+    );
 }

@@ -1,6 +1,6 @@
 //! Sources, compared and ranked.
 
-use crate::shown::or_fault;
+use crate::shown::{PairQuestion, first_wrong_pair, or_fault};
 use cargo_lock::{Error, SourceId};
 use std::alloc::Global;
 
@@ -68,4 +68,61 @@ fn sorted_sources(rt: HostRuntime) {
         assert_eq!(rt; answer.as_str(), "Less", "{before} and {next}");
         before = next;
     }
+}
+
+// The ranks of two sources.
+struct BothRanks;
+
+impl PairQuestion for BothRanks {
+    fn ask(alloc: Global, one: &str, other: &str) -> Result<String, Error> {
+        ranks(alloc, one, other)
+    }
+}
+
+const MATCH_RANKS: [(&str, &str, &str); 25] = [
+    (A, A, "1 1 true"),
+    (B, B, "1 1 true"),
+    (C, C, "1 1 true"),
+    (D, D, "1 1 true"),
+    (R, R, "1 1 true"),
+    (A, B, "2 2 false"),
+    (A, C, "4 4 false"),
+    (A, D, "0 0 false"),
+    (B, C, "4 4 false"),
+    (B, D, "4 4 false"),
+    (C, D, "3 3 false"),
+    (A, R, "0 0 false"),
+    (B, R, "0 0 false"),
+    (C, R, "0 0 false"),
+    (D, R, "0 0 false"),
+    (
+        "git+https://e.org/x?rev=aaaa#bbbb",
+        "git+https://e.org/x?rev=bbbb",
+        "2 2 false",
+    ),
+    ("git+https://e.org/x?rev=aaaa#bbbb", B, "3 3 false"),
+    (
+        "git+https://e.org/x?rev=aaaa",
+        "git+https://e.org/x?rev=bbbb",
+        "4 4 false",
+    ),
+    ("git+https://e.org/x?tag=m#f00", D, "2 2 false"),
+    ("git+https://e.org/x?branch=m#f01", D, "0 0 false"),
+    (
+        "git+https://e.org/x",
+        "git+https://e.org/x#f00",
+        "3 3 false",
+    ),
+    ("git+https://e.org/y?branch=m", C, "0 0 false"),
+    ("path+https://e.org/x", R, "0 0 false"),
+    ("sparse+https://e.org/x", R, "0 0 false"),
+    ("registry+https://e.org/y", R, "0 0 false"),
+];
+
+#[test]
+fn match_ranks(rt: HostRuntime) {
+    assert_eq!(rt;
+        first_wrong_pair::<BothRanks>(rt.alloc(), &MATCH_RANKS),
+        None
+    );
 }

@@ -1,6 +1,6 @@
 //! References: read, printed, resolved and shortened.
 
-use crate::shown::or_fault;
+use crate::shown::{Question, first_other_start, first_wrong, or_fault};
 use cargo_lock::lockfile::encoding::{EncodableDependency, EncodableLockfile, EncodableSourceId};
 use cargo_lock::{Error, Lockfile, SourceId};
 use std::alloc::Global;
@@ -114,3 +114,161 @@ fn resolved_among(alloc: Global, list: &EncodableLockfile, text: &str) -> Result
     Ok(dependency.to_string(alloc)?)
 }
 
+// A reference, read and printed.
+struct Read;
+
+impl Question for Read {
+    fn ask(alloc: Global, text: &str) -> Result<String, Error> {
+        read_text(alloc, text)
+    }
+}
+
+// What a reference stands for among the packages of the list.
+struct StandsFor;
+
+impl Question for StandsFor {
+    fn ask(alloc: Global, text: &str) -> Result<String, Error> {
+        resolved(alloc, LIST, text)
+    }
+}
+
+const REFERENCE_FAULTS: [(&str, &str); 15] = [
+    ("", "parse error: empty dependency string"),
+    (" \t\n", "parse error: empty dependency string"),
+    (
+        "foo 1.0.0 x",
+        "parse error: malformed source in dependency: x",
+    ),
+    (
+        "foo 1.0.0 x y",
+        "parse error: malformed source in dependency: x",
+    ),
+    (
+        "foo 1.0.0 (x",
+        "parse error: malformed source in dependency: (x",
+    ),
+    (
+        "foo 1.0.0 x)",
+        "parse error: malformed source in dependency: x)",
+    ),
+    (
+        "foo 1.0.0 (",
+        "parse error: malformed source in dependency: (",
+    ),
+    (
+        "foo 1.0.0 )",
+        "parse error: malformed source in dependency: )",
+    ),
+    (
+        "foo 1.0.0 ü",
+        "parse error: malformed source in dependency: ü",
+    ),
+    ("foo 1.0.0 ()", "parse error: invalid source ``"),
+    ("foo 1.0.0 (x)", "parse error: invalid source `x`"),
+    ("foo 1.0.0 (x) y", "parse error: invalid source `x`"),
+    (
+        "foo 1.0.0 (hg+https://e.org/)",
+        "parse error: unsupported source protocol: `hg` from `hg+https://e.org/`",
+    ),
+    (
+        "foo 1.0.0 (registry+https://github.com/rust-lang/crates.io-index) y",
+        "parse error: malformed dependency: foo 1.0.0 (registry+https://github.com/rust-lang/crates.io-index) y",
+    ),
+    (
+        " foo  1.0.0 (path+file:///a) y z ",
+        "parse error: malformed dependency:  foo  1.0.0 (path+file:///a) y z ",
+    ),
+];
+
+const VERSION_FAULTS: [&str; 4] = [
+    "foo bad (x) y",
+    "foo 1",
+    "foo (path+file:///a)",
+    "foo 1.0.0\u{200b}",
+];
+
+#[test]
+fn reference_faults(rt: HostRuntime) {
+    assert_eq!(rt; first_wrong::<Read>(rt.alloc(), &REFERENCE_FAULTS), None);
+    assert_eq!(rt;
+        first_other_start::<Read>(rt.alloc(), &VERSION_FAULTS, "version error: "),
+        None
+    );
+}
+
+// White space around and between two words.
+const WHITE_SPACE: [(&str, &str); 16] = [
+    ("\u{20}foo\u{20}\u{20}1.0.0\u{20}", "foo 1.0.0"),
+    ("\tfoo\t\t1.0.0\t", "foo 1.0.0"),
+    ("\nfoo\n\n1.0.0\n", "foo 1.0.0"),
+    ("\u{b}foo\u{b}\u{b}1.0.0\u{b}", "foo 1.0.0"),
+    ("\u{c}foo\u{c}\u{c}1.0.0\u{c}", "foo 1.0.0"),
+    ("\rfoo\r\r1.0.0\r", "foo 1.0.0"),
+    ("\u{85}foo\u{85}\u{85}1.0.0\u{85}", "foo 1.0.0"),
+    ("\u{a0}foo\u{a0}\u{a0}1.0.0\u{a0}", "foo 1.0.0"),
+    ("\u{1680}foo\u{1680}\u{1680}1.0.0\u{1680}", "foo 1.0.0"),
+    ("\u{2000}foo\u{2000}\u{2000}1.0.0\u{2000}", "foo 1.0.0"),
+    ("\u{200a}foo\u{200a}\u{200a}1.0.0\u{200a}", "foo 1.0.0"),
+    ("\u{2028}foo\u{2028}\u{2028}1.0.0\u{2028}", "foo 1.0.0"),
+    ("\u{2029}foo\u{2029}\u{2029}1.0.0\u{2029}", "foo 1.0.0"),
+    ("\u{202f}foo\u{202f}\u{202f}1.0.0\u{202f}", "foo 1.0.0"),
+    ("\u{205f}foo\u{205f}\u{205f}1.0.0\u{205f}", "foo 1.0.0"),
+    ("\u{3000}foo\u{3000}\u{3000}1.0.0\u{3000}", "foo 1.0.0"),
+];
+
+// Characters that are no white space.
+const NO_WHITE_SPACE: [(&str, &str); 6] = [
+    ("foo\u{200b}1.0.0", "foo\u{200b}1.0.0"),
+    ("foo\u{180e}1.0.0", "foo\u{180e}1.0.0"),
+    ("foo\u{feff}1.0.0", "foo\u{feff}1.0.0"),
+    ("foo\u{1c}1.0.0", "foo\u{1c}1.0.0"),
+    ("foo\u{1f}1.0.0", "foo\u{1f}1.0.0"),
+    ("foo\u{2060}1.0.0", "foo\u{2060}1.0.0"),
+];
+
+#[test]
+fn white_space(rt: HostRuntime) {
+    assert_eq!(rt; first_wrong::<Read>(rt.alloc(), &WHITE_SPACE), None);
+    assert_eq!(rt; first_wrong::<Read>(rt.alloc(), &NO_WHITE_SPACE), None);
+}
+
+// What a reference stands for among the packages of a lockfile.
+fn resolved(alloc: Global, list: &str, text: &str) -> Result<String, Error> {
+    let list = Lockfile::from_str(alloc, list)?;
+    resolved_in(alloc, &list, text)
+}
+
+fn resolved_in(alloc: Global, list: &Lockfile, text: &str) -> Result<String, Error> {
+    let list = EncodableLockfile::of(alloc, list)?;
+    resolved_among(alloc, &list, text)
+}
+
+const REFERENCES_RESOLVED: [(&str, &str); 10] = [
+    (
+        "foo",
+        "foo 1.0.0 (registry+https://github.com/rust-lang/crates.io-index)",
+    ),
+    (
+        "foo 1.0.0",
+        "foo 1.0.0 (registry+https://github.com/rust-lang/crates.io-index)",
+    ),
+    ("foo 2.0.0", "foo 2.0.0"),
+    ("foo 3.0.0", "foo 3.0.0"),
+    ("foo 3.0.0 (path+file:///a)", "foo 3.0.0 (path+file:///a)"),
+    (
+        "foo 2.0.0 (sparse+https://e.org/)",
+        "foo 2.0.0 (sparse+https://e.org/)",
+    ),
+    ("bar", "bar 0.1.0+a"),
+    ("bar 0.1.0", "bar 0.1.0"),
+    ("bar 0.1.0+b", "bar 0.1.0+b"),
+    ("gone 1.0.0", "gone 1.0.0"),
+];
+
+#[test]
+fn references_resolved(rt: HostRuntime) {
+    assert_eq!(rt;
+        first_wrong::<StandsFor>(rt.alloc(), &REFERENCES_RESOLVED),
+        None
+    );
+}

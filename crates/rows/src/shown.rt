@@ -28,3 +28,58 @@ fn fault_text(alloc: Global, fault: &Error) -> String {
         Err(_) => String::new(alloc),
     }
 }
+
+/// What a test asks of a text.
+pub(crate) trait Question {
+    /// The answer as a text.
+    fn ask(alloc: Global, text: &str) -> Result<String, Error>;
+}
+
+/// What a test asks of two texts.
+pub(crate) trait PairQuestion {
+    /// The answer as a text.
+    fn ask(alloc: Global, one: &str, other: &str) -> Result<String, Error>;
+}
+
+/// The first text whose answer, or fault, is another than the one beside it.
+pub(crate) fn first_wrong<'r, Q: Question>(
+    alloc: Global,
+    rows: &[(&'r str, &'r str)],
+) -> Option<&'r str> {
+    for (text, wanted) in rows {
+        let answer = or_fault(alloc, Q::ask(alloc, text));
+        if answer.as_str() != *wanted {
+            return Some(*text);
+        }
+    }
+    None
+}
+
+/// The first text whose answer, or fault, does not begin as wanted.
+pub(crate) fn first_other_start<'r, Q: Question>(
+    alloc: Global,
+    rows: &[&'r str],
+    wanted: &str,
+) -> Option<&'r str> {
+    for text in rows {
+        let answer = or_fault(alloc, Q::ask(alloc, text));
+        if !answer.as_str().starts_with(wanted) {
+            return Some(*text);
+        }
+    }
+    None
+}
+
+/// The first two texts whose answer, or fault, is another than the one beside them.
+pub(crate) fn first_wrong_pair<'r, Q: PairQuestion>(
+    alloc: Global,
+    rows: &[(&'r str, &'r str, &'r str)],
+) -> Option<(&'r str, &'r str)> {
+    for (one, other, wanted) in rows {
+        let answer = or_fault(alloc, Q::ask(alloc, one, other));
+        if answer.as_str() != *wanted {
+            return Some((*one, *other));
+        }
+    }
+    None
+}

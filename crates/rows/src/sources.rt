@@ -1,6 +1,8 @@
 //! Sources: read and printed.
 
-use crate::shown::{CRATES_IO, TAGGED, TAGGED_PLAIN, or_fault};
+use crate::shown::{
+    CRATES_IO, Question, TAGGED, TAGGED_PLAIN, first_other_start, first_wrong, or_fault,
+};
 use cargo_lock::package::source::{CRATES_IO_SPARSE_INDEX, PrettyRef};
 use cargo_lock::package::{GitReference, SourceKind};
 use cargo_lock::{Error, SourceId};
@@ -202,3 +204,157 @@ fn pretty_ref(alloc: Global, text: &str, escaped: bool) -> Result<String, Error>
     }
 }
 
+// The text of a source.
+struct Read;
+
+impl Question for Read {
+    fn ask(alloc: Global, text: &str) -> Result<String, Error> {
+        read_text(alloc, text)
+    }
+}
+
+// The text of a source by the other call.
+struct ReadAgain;
+
+impl Question for ReadAgain {
+    fn ask(alloc: Global, text: &str) -> Result<String, Error> {
+        read_text_again(alloc, text)
+    }
+}
+
+// The kind, the URL and the precise text.
+struct AllParts;
+
+impl Question for AllParts {
+    fn ask(alloc: Global, text: &str) -> Result<String, Error> {
+        parts(alloc, text)
+    }
+}
+
+// The same of a copy.
+struct PartsOfCopy;
+
+impl Question for PartsOfCopy {
+    fn ask(alloc: Global, text: &str) -> Result<String, Error> {
+        parts_of_copy(alloc, text)
+    }
+}
+
+// The value of a reference, plain.
+struct Pretty;
+
+impl Question for Pretty {
+    fn ask(alloc: Global, text: &str) -> Result<String, Error> {
+        pretty_ref(alloc, text, false)
+    }
+}
+
+// The value of a reference, escaped.
+struct PrettyEscaped;
+
+impl Question for PrettyEscaped {
+    fn ask(alloc: Global, text: &str) -> Result<String, Error> {
+        pretty_ref(alloc, text, true)
+    }
+}
+
+const SOURCE_FAULTS: [(&str, &str); 8] = [
+    ("foo", "parse error: invalid source `foo`"),
+    ("", "parse error: invalid source ``"),
+    (
+        "hg+https://e.org/",
+        "parse error: unsupported source protocol: `hg` from `hg+https://e.org/`",
+    ),
+    (
+        "hg+no url",
+        "parse error: unsupported source protocol: `hg` from `hg+no url`",
+    ),
+    (
+        "+https://e.org/",
+        "parse error: unsupported source protocol: `` from `+https://e.org/`",
+    ),
+    (
+        "Git+https://e.org/",
+        "parse error: unsupported source protocol: `Git` from `Git+https://e.org/`",
+    ),
+    (
+        "local-registry+file:///r",
+        "parse error: unsupported source protocol: `local-registry` from `local-registry+file:///r`",
+    ),
+    (
+        "directory+file:///r",
+        "parse error: unsupported source protocol: `directory` from `directory+file:///r`",
+    ),
+];
+
+#[test]
+fn source_faults(rt: HostRuntime) {
+    assert_eq!(rt; first_wrong::<Read>(rt.alloc(), &SOURCE_FAULTS), None);
+    assert_eq!(rt; first_wrong::<ReadAgain>(rt.alloc(), &SOURCE_FAULTS), None);
+}
+
+// What `url` refuses, in its own words.
+const URLS_REFUSED: [&str; 5] = [
+    "git+",
+    "registry+foo",
+    "sparse+https://",
+    "path+/a/b",
+    "git+https://e.org:99999/",
+];
+
+#[test]
+fn urls_refused(rt: HostRuntime) {
+    let wanted = "parse error: invalid url `";
+    assert_eq!(rt;
+        first_other_start::<Read>(rt.alloc(), &URLS_REFUSED, wanted),
+        None
+    );
+}
+
+#[test]
+fn sources_read(rt: HostRuntime) {
+    assert_eq!(rt; first_wrong::<AllParts>(rt.alloc(), &READ), None);
+    assert_eq!(rt; first_wrong::<PartsOfCopy>(rt.alloc(), &READ), None);
+}
+
+const PLAIN_REFERENCES: [(&str, &str); 6] = [
+    (TAGGED, "tag=a-_+#$)z"),
+    (TAGGED_PLAIN, "tag=a-_ "),
+    ("git+https://e.org/x?ref=m", "branch=m"),
+    ("git+https://e.org/x?rev=~", "rev=~"),
+    ("git+https://e.org/x", "no text"),
+    (CRATES_IO, "no reference"),
+];
+
+const ESCAPED_REFERENCES: [(&str, &str); 6] = [
+    (TAGGED, "tag=a-_%2B%23%24%29z"),
+    (TAGGED_PLAIN, "tag=a-_+"),
+    ("git+https://e.org/x?ref=m", "branch=m"),
+    ("git+https://e.org/x?rev=~", "rev=%7E"),
+    ("git+https://e.org/x", "no text"),
+    (CRATES_IO, "no reference"),
+];
+
+const REFERENCE_VALUES: [(&str, &str); 2] = [
+    (
+        TAGGED,
+        "git tag a-_+#$)z https://example.org/u #0123456789012345678901234567890123456789",
+    ),
+    (
+        TAGGED_PLAIN,
+        "git tag a-_  https://example.org/u #$)z#0123456789012345678901234567890123456789",
+    ),
+];
+
+#[test]
+fn escaped_reference(rt: HostRuntime) {
+    assert_eq!(rt; first_wrong::<Pretty>(rt.alloc(), &PLAIN_REFERENCES), None);
+    assert_eq!(rt;
+        first_wrong::<PrettyEscaped>(rt.alloc(), &ESCAPED_REFERENCES),
+        None
+    );
+    assert_eq!(rt;
+        first_wrong::<AllParts>(rt.alloc(), &REFERENCE_VALUES),
+        None
+    );
+}

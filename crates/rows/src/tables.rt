@@ -111,4 +111,3 @@ fn numbered_format(alloc: Global, text: &str, number: Option<i64>) -> Result<Str
     let format = u32::from(lockfile.version);
     Ok(format.to_string(alloc)?)
 }
-

@@ -147,4 +147,3 @@ fn printed_in_formats(rt: HostRuntime) {
     assert!(rt; answer.as_str().starts_with(front.as_str()), "{answer}");
     assert!(rt; !answer.as_str().contains("metadata"), "{answer}");
 }
-

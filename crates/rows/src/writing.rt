@@ -1,7 +1,7 @@
 //! Lockfiles, printed.
 
 use crate::lockfiles::{meaning, meaning_in, printed, printed_in, through_table};
-use crate::shown::or_fault;
+use crate::shown::{Question, first_wrong, or_fault};
 use crate::texts::{
     HEAD, REGISTRY_AND_GIT, REGISTRY_AND_GIT_IN_V1, TWO_GIT_CHILDREN, TWO_LOGS, TWO_LOGS_IN_FULL,
 };
@@ -127,4 +127,24 @@ fn shadowed_version(rt: HostRuntime) {
         answer.as_str().contains("\n- foo 1.0.0 (registry+"),
         "{answer}"
     );
+}
+
+// What a text prints as.
+struct Printed;
+
+impl Question for Printed {
+    fn ask(alloc: Global, text: &str) -> Result<String, Error> {
+        printed(alloc, text)
+    }
+}
+
+const TEXTS_WRITTEN: [(&str, &str); 3] = [
+    (TWO_GIT_CHILDREN, TWO_GIT_CHILDREN),
+    (TWO_LOGS, TWO_LOGS),
+    (TWO_LOGS_IN_FULL, TWO_LOGS),
+];
+
+#[test]
+fn two_git_children(rt: HostRuntime) {
+    assert_eq!(rt; first_wrong::<Printed>(rt.alloc(), &TEXTS_WRITTEN), None);
 }
