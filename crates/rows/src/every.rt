@@ -1,7 +1,7 @@
 //! A lockfile with every feature at once.
 
 use crate::lockfiles::{meaning, meaning_in, printed, through_table};
-use crate::shown::or_fault;
+use crate::shown::holds;
 use cargo_lock::{Error, Lockfile, ResolveVersion};
 use std::alloc::Global;
 
@@ -154,4 +154,54 @@ fn written_again(alloc: Global, lockfile: &Lockfile) -> Result<Lockfile, Error> 
 fn printed_after(alloc: Global, text: &str, format: ResolveVersion) -> Result<String, Error> {
     let once = through_table(alloc, text, format)?;
     once.to_string(alloc)
+}
+
+// Written as a table once more, whether it stays the same.
+fn stays(alloc: Global, text: &str, format: ResolveVersion) -> Result<bool, Error> {
+    let once = through_table(alloc, text, format)?;
+    stays_again(alloc, &once)
+}
+
+fn stays_again(alloc: Global, once: &Lockfile) -> Result<bool, Error> {
+    let twice = written_again(alloc, once)?;
+    Ok(twice == *once)
+}
+
+// Whether it means all that it should, read from its table in a format.
+fn is_whole(alloc: Global, format: ResolveVersion, metadata: &str) -> Result<bool, Error> {
+    let meant = wanted(alloc, u32::from(format), ROOT, metadata)?;
+    let answer = meaning_in(alloc, EVERY, format)?;
+    Ok(answer.as_str() == meant.as_str())
+}
+
+// Whether its text in a format means the same without the root.
+fn text_is_whole(alloc: Global, format: ResolveVersion, metadata: &str) -> Result<bool, Error> {
+    let text = printed_after(alloc, EVERY, format)?;
+    let meant = wanted(alloc, u32::from(format), "", metadata)?;
+    let answer = meaning(alloc, text.as_str())?;
+    Ok(answer.as_str() == meant.as_str())
+}
+
+// Whether its text in a format is printed as it is read.
+fn text_stays(alloc: Global, format: ResolveVersion) -> Result<bool, Error> {
+    let text = printed_after(alloc, EVERY, format)?;
+    let again = printed(alloc, text.as_str())?;
+    Ok(again.as_str() == text.as_str())
+}
+
+const EVERY_FEATURE: [(ResolveVersion, &str); 4] = [
+    (ResolveVersion::V1, METADATA_IN_V1),
+    (ResolveVersion::V2, METADATA),
+    (ResolveVersion::V3, METADATA),
+    (ResolveVersion::V4, METADATA),
+];
+
+#[test]
+fn every_feature(rt: HostRuntime) {
+    for (format, metadata) in EVERY_FEATURE {
+        assert!(rt; holds(is_whole(rt.alloc(), format, metadata)));
+        assert!(rt; holds(stays(rt.alloc(), EVERY, format)));
+        assert!(rt; holds(text_is_whole(rt.alloc(), format, metadata)));
+        assert!(rt; holds(text_stays(rt.alloc(), format)));
+    }
 }

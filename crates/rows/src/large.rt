@@ -46,3 +46,10 @@ fn printed_as(alloc: Global, text: &str) -> Result<String, Error> {
     let equal = printed.as_str() == text;
     Ok(format!(in alloc; "{packages} {dependencies} {equal}")?)
 }
+
+#[test]
+fn two_thousand_packages(rt: HostRuntime) {
+    let written = or_fault(rt.alloc(), large(rt.alloc()));
+    let answer = or_fault(rt.alloc(), printed_as(rt.alloc(), written.as_str()));
+    assert_eq!(rt; answer.as_str(), "2000 8000 true");
+}

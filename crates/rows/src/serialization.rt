@@ -107,3 +107,24 @@ fn refused_texts(rt: HostRuntime) -> Result<(), Fail> {
     );
     Ok(())
 }
+
+// Read through `serde`, whether it is the lockfile of the text, and its table that of the lockfile.
+fn is_by_table(alloc: Global, text: &str) -> Result<bool, Fail> {
+    let read = Lockfile::from_str(alloc, text)?;
+    let typed: Lockfile = toml::from_str(alloc, text)?;
+    Ok(typed == read)
+}
+
+fn is_written_by_table(alloc: Global, text: &str) -> Result<bool, Fail> {
+    let read = Lockfile::from_str(alloc, text)?;
+    let written = toml::to_string(alloc, &read)?;
+    let table = toml::table_from_str(alloc, written.as_str())?;
+    Ok(table == read.to_table(alloc)?)
+}
+
+#[test]
+fn lockfiles(rt: HostRuntime) -> Result<(), Fail> {
+    assert!(rt; is_by_table(rt.alloc(), REGISTRY_AND_GIT)?);
+    assert!(rt; is_written_by_table(rt.alloc(), REGISTRY_AND_GIT)?);
+    Ok(())
+}

@@ -83,3 +83,11 @@ pub(crate) fn first_wrong_pair<'r, Q: PairQuestion>(
     }
     None
 }
+
+/// Whether the answer is yes.
+pub(crate) fn holds(answer: Result<bool, Error>) -> bool {
+    match answer {
+        Ok(holds) => holds,
+        Err(_) => false,
+    }
+}

@@ -147,3 +147,34 @@ fn printed_in_formats(rt: HostRuntime) {
     assert!(rt; answer.as_str().starts_with(front.as_str()), "{answer}");
     assert!(rt; !answer.as_str().contains("metadata"), "{answer}");
 }
+
+// What the text means that a lockfile is printed as in a format.
+fn read_back(alloc: Global, text: &str, format: ResolveVersion) -> Result<String, Error> {
+    let printed = printed_in(alloc, text, format)?;
+    meaning(alloc, printed.as_str())
+}
+
+// A key with the URL in another spelling, which is no package's checksum key.
+const OTHER_KEY: &str =
+    "[[package]]\nname = \"foo\"\nversion = \"1.0.0\"\nsource = \"registry+https://E.org/x\"\n[metadata]\n\"checksum foo 1.0.0 (registry+https://E.org/x)\" = \"af6f3550d8dff9ef7dc34d384ac6f107e5d31c8f57d9f28e0081503f547ac8f5\"\n";
+
+#[test]
+fn keys_that_stay(rt: HostRuntime) {
+    // From V1 on to V2 a key that is no package's stays, and then the printed text is refused. In
+    // V3 it is read.
+    let answer = or_fault(rt.alloc(), read_back(rt.alloc(), OTHER_KEY, V1));
+    assert_eq!(rt;
+        answer.as_str(),
+        "V1\nfoo 1.0.0 (registry+https://e.org/x) af6f3550d8dff9ef7dc34d384ac6f107e5d31c8f57d9f28e0081503f547ac8f5\nchecksum foo 1.0.0 (registry+https://E.org/x) = af6f3550d8dff9ef7dc34d384ac6f107e5d31c8f57d9f28e0081503f547ac8f5\nchecksum foo 1.0.0 (registry+https://e.org/x) = af6f3550d8dff9ef7dc34d384ac6f107e5d31c8f57d9f28e0081503f547ac8f5\n"
+    );
+    let answer = or_fault(rt.alloc(), read_back(rt.alloc(), OTHER_KEY, V2));
+    assert_eq!(rt;
+        answer.as_str(),
+        "parse error: malformed lockfile: contains checksums in both [[package]] and [[metadata]] sections"
+    );
+    let answer = or_fault(rt.alloc(), read_back(rt.alloc(), OTHER_KEY, V3));
+    assert_eq!(rt;
+        answer.as_str(),
+        "V3\nfoo 1.0.0 (registry+https://e.org/x) af6f3550d8dff9ef7dc34d384ac6f107e5d31c8f57d9f28e0081503f547ac8f5\nchecksum foo 1.0.0 (registry+https://E.org/x) = af6f3550d8dff9ef7dc34d384ac6f107e5d31c8f57d9f28e0081503f547ac8f5\n"
+    );
+}

@@ -1,7 +1,7 @@
 //! Lockfiles, printed.
 
 use crate::lockfiles::{meaning, meaning_in, printed, printed_in, through_table};
-use crate::shown::{Question, first_wrong, or_fault};
+use crate::shown::{Question, first_wrong, holds, or_fault};
 use crate::texts::{
     HEAD, REGISTRY_AND_GIT, REGISTRY_AND_GIT_IN_V1, TWO_GIT_CHILDREN, TWO_LOGS, TWO_LOGS_IN_FULL,
 };
@@ -147,4 +147,52 @@ const TEXTS_WRITTEN: [(&str, &str); 3] = [
 #[test]
 fn two_git_children(rt: HostRuntime) {
     assert_eq!(rt; first_wrong::<Printed>(rt.alloc(), &TEXTS_WRITTEN), None);
+}
+
+// Whether a text is printed in a format as the two comment lines and this.
+fn prints_as(alloc: Global, text: &str, format: ResolveVersion, body: &str) -> Result<bool, Error> {
+    let wanted = with_head(alloc, body)?;
+    let answer = printed_in(alloc, text, format)?;
+    Ok(answer.as_str() == wanted.as_str())
+}
+
+#[test]
+fn checksum_moves_to_metadata(rt: HostRuntime) {
+    assert!(rt; holds(prints_as(rt.alloc(), PACKAGE, ResolveVersion::V1, PACKAGE_IN_V1)));
+    assert!(rt; holds(prints_as(rt.alloc(), PACKAGE_IN_V1, ResolveVersion::V3, PACKAGE)));
+    let answer = or_fault(
+        rt.alloc(),
+        meaning_in(rt.alloc(), PACKAGE, ResolveVersion::V1),
+    );
+    assert_eq!(rt;
+        answer.as_str(),
+        "V1\nfoo 1.0.0 (registry+https://github.com/rust-lang/crates.io-index) af6f3550d8dff9ef7dc34d384ac6f107e5d31c8f57d9f28e0081503f547ac8f5\nchecksum foo 1.0.0 (registry+https://github.com/rust-lang/crates.io-index) = af6f3550d8dff9ef7dc34d384ac6f107e5d31c8f57d9f28e0081503f547ac8f5\n"
+    );
+    let answer = or_fault(rt.alloc(), there_and_back(rt.alloc(), PACKAGE));
+    assert_eq!(rt; answer.as_str(), "true 1 0");
+}
+
+const NO_CHECKSUM: &str = "version = 1\n[[package]]\nname = \"foo\"\nversion = \"1.0.0\"\n";
+
+const NO_CHECKSUM_PRINTED: &str = "\n[[package]]\nname = \"foo\"\nversion = \"1.0.0\"\n";
+
+#[test]
+fn v1_without_checksum(rt: HostRuntime) {
+    let answer = or_fault(rt.alloc(), meaning(rt.alloc(), NO_CHECKSUM));
+    assert_eq!(rt; answer.as_str(), "V1\nfoo 1.0.0\n");
+    assert!(rt;
+        holds(prints_as(
+            rt.alloc(),
+            NO_CHECKSUM,
+            ResolveVersion::V1,
+            NO_CHECKSUM_PRINTED
+        ))
+    );
+    let answer = or_fault(rt.alloc(), meaning(rt.alloc(), NO_CHECKSUM_PRINTED));
+    assert_eq!(rt; answer.as_str(), "V2\nfoo 1.0.0\n");
+    let answer = or_fault(
+        rt.alloc(),
+        meaning_in(rt.alloc(), NO_CHECKSUM, ResolveVersion::V1),
+    );
+    assert_eq!(rt; answer.as_str(), "V2\nfoo 1.0.0\n");
 }
