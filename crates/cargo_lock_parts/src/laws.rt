@@ -1,5 +1,6 @@
 //! Laws of this crate, each the contract of a function without a body.
 
+ghost use Rattle.cargo_lock_parts.specs.Checksum.{DigestsReadBack};
 ghost use Rattle.cargo_lock_parts.specs.FileUrl.{RootedPathsHaveSources};
 ghost use Rattle.cargo_lock_parts.specs.Rank.{RankIsSymmetric, RankOneIsEqualKeys, NoRankIsNoMatch, RanksImplyLast};
 
@@ -26,4 +27,9 @@ pub fn ranks_imply_last()
 /// Each path from the root has a source, so the calls that take a path refuse only the others.
 pub fn rooted_paths_have_sources()
     ensures { RootedPathsHaveSources }
+{}
+
+/// The 32 bytes of every checksum read back from their digits.
+pub fn checksums_read_back()
+    ensures { DigestsReadBack }
 {}
