@@ -41,7 +41,7 @@ with-more m n o ps i p h is before after = after ∙ ap (λ t. put_checksum t p)
 
 -- ---- without
 
-get-without : (m : Texts) (ps : List PackageData) (q : List ℕ) → get (without_checksums m ps) q ≡ cond (not (list_any (has_key q) ps)) (get m q) None
+pub get-without : (m : Texts) (ps : List PackageData) (q : List ℕ) → get (without_checksums m ps) q ≡ cond (not (list_any (has_key q) ps)) (get m q) None
 unfolding without_checksums
 get-without m ps q = get-retain_keys m (λ k. not (list_any (has_key k) ps)) q (λ x e. ap (λ k. not (list_any (has_key k) ps)) (sym (texts_tie q x e)))
 

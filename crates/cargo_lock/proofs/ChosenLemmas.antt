@@ -11,18 +11,18 @@ use Rattle.cargo_lock.proofs.SaysLemmas.{same_parts-refl, same_parts-yes, same_t
 
 -- ---- counting
 
-count-hit : {X : Type 0} (q : X → Bool) (x : X) (xs : List X) → q x ≡ true → count_by q (x ∷ xs) ≡ 1 + count_by q xs
+pub count-hit : {X : Type 0} (q : X → Bool) (x : X) (xs : List X) → q x ≡ true → count_by q (x ∷ xs) ≡ 1 + count_by q xs
 count-hit q x xs hit = sum_by-cons (λ y. cond (q y) 1 0) x xs ∙ rw hit refl
 
-count-miss : {X : Type 0} (q : X → Bool) (x : X) (xs : List X) → q x ≡ false → count_by q (x ∷ xs) ≡ count_by q xs
+pub count-miss : {X : Type 0} (q : X → Bool) (x : X) (xs : List X) → q x ≡ false → count_by q (x ∷ xs) ≡ count_by q xs
 count-miss q x xs miss = sum_by-cons (λ y. cond (q y) 1 0) x xs ∙ rw miss (omega arith)
 
-count-pos : {X : Type 0} (q : X → Bool) (xs : List X) (k : ℕ) (d : X) → slice_get xs k ≡ Some d → q d ≡ true → 1 ≤ count_by q xs
+pub count-pos : {X : Type 0} (q : X → Bool) (xs : List X) (k : ℕ) (d : X) → slice_get xs k ≡ Some d → q d ≡ true → 1 ≤ count_by q xs
 count-pos q [] k d at hit = absurd (none-some d at)
 count-pos q (x ∷ xs) zero d at hit = let s : x ≡ d = same_Some x d at in omega (arith, count-hit q x xs (rw s hit))
 count-pos q (x ∷ xs) (suc k) d at hit = let more = count-pos q xs k d at hit in omega (arith, sum_by-cons (λ y. cond (q y) 1 0) x xs)
 
-count-some : {X : Type 0} (q : X → Bool) (xs : List X) → 1 ≤ count_by q xs → (y : X) × (k : ℕ) × (slice_get xs k ≡ Some y) × (q y ≡ true)
+pub count-some : {X : Type 0} (q : X → Bool) (xs : List X) → 1 ≤ count_by q xs → (y : X) × (k : ℕ) × (slice_get xs k ≡ Some y) × (q y ≡ true)
 count-some q [] h = absurd (omega arith)
 count-some q (x ∷ xs) h = elim (cases_Bool (q x)) [
   | inl hit ↦ (x, 0, refl, hit)
@@ -48,7 +48,7 @@ same-place q (z ∷ zs) (suc j) (suc k) x y e a p b r = elim (cases_Bool (q z)) 
 ]
 
 -- one place that passes, and no other, are counted as one
-one-place : {X : Type 0} (q : X → Bool) (xs : List X) (k : ℕ) (x : X) → slice_get xs k ≡ Some x → q x ≡ true
+pub one-place : {X : Type 0} (q : X → Bool) (xs : List X) (k : ℕ) (x : X) → slice_get xs k ≡ Some x → q x ≡ true
     → ((j : ℕ) (y : X) → slice_get xs j ≡ Some y → q y ≡ true → j ≡ k) → count_by q xs ≡ 1
 one-place q [] k x a p only = absurd (none-some x a)
 one-place q (z ∷ zs) zero x a p only =

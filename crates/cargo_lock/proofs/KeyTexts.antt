@@ -21,9 +21,10 @@ use Rattle.cargo_lock.specs.Form.{Form, form_text, of_one, source_part, version_
 use Rattle.cargo_lock.specs.Metadata.{checksum_key, checksum_pairs, has_key, metadata_of, pairs_before, with_checksums, without_checksums}
 use Rattle.cargo_lock.specs.Records.{EntryData, EncodedData, LockfileData, Texts, is_escaped}
 use Rattle.cargo_lock.specs.Said.{same_parts, same_text}
+use Rattle.cargo_lock.specs.Survives.{HasSamePackages}
 use Rattle.cargo_lock.specs.Same.{EqualTablesAndTexts}
-use Rattle.cargo_lock.proofs.EqualLockfiles.{IsEqualLockfile, equal_fields}
-use Rattle.cargo_lock.specs.Table.{checksum_value, encoded_of, encoded_table, entry_of, entry_value, entry_with, form_value, metadata_value, patch_entry_value, present, root_entry, source_value, unless_empty, unless_no_patch, written_checksum, written_version}
+use Rattle.cargo_lock.proofs.EqualLockfiles.{equal_fields}
+use Rattle.cargo_lock.specs.Table.{checksum_value, encoded_of, encoded_table, entry_of, entry_value, entry_with, form_value, metadata_value, patch_entry_value, present, root_entry, source_value, table_of, unless_empty, unless_no_patch, written_checksum, written_version}
 use Rattle.cargo_lock.specs.Text.{checksum_line, comment_lines, dependency_line, encoded_lines, entry_lines, field, metadata_lines, patch_lines, quoted, reference_lines, replace_line, source_line, version_lines}
 
 -- ---- lists and options, by what keys tell
@@ -66,7 +67,7 @@ count-key q key (x ∷ xs) =
 
 -- ---- sources
 
-abbrev key_text : Bool → Key → List ℕ
+abbrev pub key_text : Bool → Key → List ℕ
 key_text escaped k = text_by_kind escaped k.kind k.url k.precise
 
 precise-unseen : (escaped : Bool) (k : Kind) (u : List ℕ) (p : Option (List ℕ)) → text_by_kind escaped k u p ≡ text_by_kind escaped k u (precise_if_git k p)
@@ -77,7 +78,7 @@ precise-unseen escaped SparseRegistry u p = refl
 precise-unseen escaped LocalRegistry u p = refl
 precise-unseen escaped Directory u p = refl
 
-text_of-key : (escaped : Bool) (s : Source) → text_of escaped s ≡ key_text escaped (key_of s)
+pub text_of-key : (escaped : Bool) (s : Source) → text_of escaped s ≡ key_text escaped (key_of s)
 unfolding text_of
 text_of-key escaped s = precise-unseen escaped s.kind _ s.precise
 
@@ -363,7 +364,7 @@ encoded_lines-texts e =
 
 -- ---- metadata
 
-checksum_key_text : IdentityKey → List ℕ
+pub checksum_key_text : IdentityKey → List ℕ
 checksum_key_text k = codes "checksum " ++ (k.name ++ codes " " ++ parts_text k.version ++ part_of_text (option_map (key_text false) k.source))
 
 brackets-text : (s : Option Source) → brackets s ≡ part_of_text (option_map (key_text false) (option_map key_of s))
@@ -396,7 +397,7 @@ key_has q k = same_text q (checksum_key_text k.identity)
 has_key-key : (q : List ℕ) (ps : List PackageData) → list_any (has_key q) ps ≡ list_any (key_has q) (map package_key ps)
 has_key-key q ps = any-by (has_key q) (key_has q) package_key (λ p. ap (same_text q) (checksum_key-key (identity_of p))) ps
 
-abbrev key_metadata : ResolveVersion → Texts → List PackageKey → Texts
+abbrev pub key_metadata : ResolveVersion → Texts → List PackageKey → Texts
 key_metadata V1 m ks = from_entries (reverse (key_pairs ks) ++ entries m)
 key_metadata V2 m ks = retain_keys m (λ q. not (list_any (key_has q) ks))
 key_metadata V3 m ks = retain_keys m (λ q. not (list_any (key_has q) ks))
@@ -410,11 +411,15 @@ with-key : (m : Texts) (ps : List PackageData) → with_checksums m ps ≡ key_m
 unfolding with_checksums
 with-key m ps = ap (λ (pairs : List (List ℕ × List ℕ)). from_entries (reverse pairs ++ entries m)) (checksum_pairs-key ps)
 
-metadata_of-key : (v : ResolveVersion) (m : Texts) (ps : List PackageData) → metadata_of v m ps ≡ key_metadata v m (map package_key ps)
+pub metadata_of-key : (v : ResolveVersion) (m : Texts) (ps : List PackageData) → metadata_of v m ps ≡ key_metadata v m (map package_key ps)
 metadata_of-key V1 m ps = with-key m ps
 metadata_of-key V2 m ps = without-key m ps
 metadata_of-key V3 m ps = without-key m ps
 metadata_of-key V4 m ps = without-key m ps
+
+-- what is written of the metadata is told by the keys of the packages
+pub metadata_of-same : (v : ResolveVersion) (m : Texts) (ps qs : List PackageData) → map package_key ps ≡ map package_key qs → metadata_of v m ps ≡ metadata_of v m qs
+metadata_of-same v m ps qs e = metadata_of-key v m ps ∙ ap (key_metadata v m) e ∙ sym (metadata_of-key v m qs)
 
 -- ---- lockfiles
 
@@ -432,7 +437,7 @@ key_encoded v packages root metadata patch = record {
   version = written_version v;
   entries = map (key_entry v (map (λ k. k.identity) packages)) packages;
   root = option_map (key_root v) root;
-  metadata = key_metadata v metadata packages;
+  metadata = metadata;
   patch = map key_patch patch;
 }
 
@@ -446,25 +451,35 @@ entries-key v ps =
     ∙ (λ i. map (key_entry v (keys i)) (map package_key ps))
 
 encoded_of-key : (l : LockfileData)
-    → encoded_texts (encoded_of l) ≡ key_encoded l.version (map package_key l.packages) (option_map package_key l.root) l.metadata (map identity_key l.patch)
+    → encoded_texts (encoded_of l)
+    ≡ key_encoded l.version (map package_key l.packages) (option_map package_key l.root) (metadata_of l.version l.metadata l.packages) (map identity_key l.patch)
 unfolding encoded_of key_encoded
 encoded_of-key l =
     let ps = entries-key l.version l.packages in
     let r = optionally-through entry_texts (root_entry l.version) (key_root l.version) package_key
     (λ p. entry_with-texts l.version p.checksum (in_full (is_escaped l.version)) (full_text (is_escaped l.version)) p (in_full-text (is_escaped l.version))) l.root in
-    let m = metadata_of-key l.version l.metadata l.packages in
     let us = map-by patch_texts key_patch identity_key patch_texts-key l.patch in
-    λ i. record { version = written_version l.version; entries = ps i; root = r i; metadata = m i; patch = us i }
+    λ i. record { version = written_version l.version; entries = ps i; root = r i; metadata = metadata_of l.version l.metadata l.packages; patch = us i }
 
-same-texts : (a b : LockfileData) → IsEqualLockfile a b → encoded_texts (encoded_of a) ≡ encoded_texts (encoded_of b)
-same-texts a b h =
+-- lockfiles with the same format, equal packages and the same written metadata have one written form
+same-texts : (a b : LockfileData) → a.version ≡ b.version → HasSamePackages a b
+    → metadata_of a.version a.metadata a.packages ≡ metadata_of b.version b.metadata b.packages
+    → encoded_texts (encoded_of a) ≡ encoded_texts (encoded_of b)
+same-texts a b version h metadata =
     encoded_of-key a
-    ∙ (λ i. key_encoded (h.version i) (h.packages i) (h.root i) (h.metadata i) (h.patch i))
+    ∙ (λ i. key_encoded (version i) (h.packages i) (h.root i) (metadata i) (h.patch i))
     ∙ sym (encoded_of-key b)
+
+pub same-tables : (a b : LockfileData) → a.version ≡ b.version → HasSamePackages a b
+    → metadata_of a.version a.metadata a.packages ≡ metadata_of b.version b.metadata b.packages → table_of a ≡ table_of b
+same-tables a b version h metadata =
+    encoded_table-texts (encoded_of a) ∙ ap table_of_texts (same-texts a b version h metadata) ∙ sym (encoded_table-texts (encoded_of b))
 
 pub equal_tables_and_texts : EqualTablesAndTexts
 equal_tables_and_texts a b h =
-    let same = same-texts a b (equal_fields a b h) in (
-      encoded_table-texts (encoded_of a) ∙ ap table_of_texts same ∙ sym (encoded_table-texts (encoded_of b)),
-      encoded_lines-texts (encoded_of a) ∙ ap lines_of_texts same ∙ sym (encoded_lines-texts (encoded_of b)),
+    let e = equal_fields a b h in
+    let kept : HasSamePackages a b = record { packages = e.packages; root = e.root; patch = e.patch } in
+    let metadata = (λ i. metadata_of (e.version i) (e.metadata i) a.packages) ∙ metadata_of-same b.version b.metadata a.packages b.packages e.packages in (
+      same-tables a b e.version kept metadata,
+      encoded_lines-texts (encoded_of a) ∙ ap lines_of_texts (same-texts a b e.version kept metadata) ∙ sym (encoded_lines-texts (encoded_of b)),
     )

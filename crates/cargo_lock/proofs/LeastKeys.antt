@@ -18,10 +18,10 @@ use Rattle.cargo_lock.specs.Optional.{◌>>=◌}
 use Rattle.cargo_lock.specs.Records.{Texts}
 use Rattle.cargo_lock.proofs.Texts.{texts_tie}
 
-abbrev order : List ℕ → List ℕ → Ordering
+abbrev pub order : List ℕ → List ℕ → Ordering
 order = slice_cmp nat_cmp
 
-abbrev Pairs : Type 0
+abbrev pub Pairs : Type 0
 Pairs = List (List ℕ × List ℕ)
 
 left : (a b : Bool) → T (a && b) → T a
@@ -42,10 +42,10 @@ is_equal Less e = cc e
 is_equal Equal e = refl
 is_equal Greater e = cc e
 
-same-key : (j k : List ℕ) → eq_by_cmp order j k ≡ true → j ≡ k
+pub same-key : (j k : List ℕ) → eq_by_cmp order j k ≡ true → j ≡ k
 same-key j k e = texts_tie j k (is_equal (order j k) e)
 
-itself-equal : (k : List ℕ) → eq_by_cmp order k k ≡ true
+pub itself-equal : (k : List ℕ) → eq_by_cmp order k k ≡ true
 itself-equal k = ap is_eq (tied_itself nat_list_cmp_total k)
 
 one-value : (x y : List ℕ) → Some x ≡ Some y → x ≡ y

@@ -45,7 +45,7 @@ pub bind-parts : {A B : Type 0} (o : Option A) (f : A → Option B) (b : B) → 
 bind-parts None f b e = absurd (none-some b e)
 bind-parts (Some a) f b e = (a, refl, e)
 
-map-parts : {A B : Type 0} (f : A → B) (o : Option A) (b : B) → option_map f o ≡ Some b → (a : A) × (o ≡ Some a) × (f a ≡ b)
+pub map-parts : {A B : Type 0} (f : A → B) (o : Option A) (b : B) → option_map f o ≡ Some b → (a : A) × (o ≡ Some a) × (f a ≡ b)
 map-parts f None b e = absurd (none-some b e)
 map-parts f (Some a) b e = (a, refl, same_Some _ _ e)
 

@@ -13,7 +13,7 @@ use Rattle.cargo_lock_parts.specs.Identity.{Identity}
 use Rattle.cargo_lock_parts.specs.Source.{Source, MarkedSource}
 use Rattle.cargo_lock.specs.Finds.{Finds}
 use Rattle.cargo_lock.specs.Form.{Form}
-use Rattle.cargo_lock.specs.Records.{EntryData, bare_source, entry_identity}
+use Rattle.cargo_lock.specs.Records.{bare_source}
 use Rattle.cargo_lock.specs.Said.{same_text, same_parts, has_version, fits, itself, or_itself, said_by, said, with_version}
 use Rattle.cargo_lock.specs.Says.{Fits, IsItself, says_by, Says}
 use Rattle.cargo_lock.proofs.Walk.{Refuses-by}
@@ -48,7 +48,7 @@ same_parts-yes a b h =
 pub same_parts-refl : (a : Parts) → same_parts a a ≡ true
 same_parts-refl a = rw ((Decides-eqb a.0 a.0).1 refl, (Decides-eqb a.1 a.1).1 refl, (Decides-eqb a.2 a.2).1 refl, same_text-refl a.3, same_text-refl a.4)
 
-has_version-yes : (o : Option Parts) (v : Parts) → has_version o v ≡ true → IfSome o (λ w. v ≡ w)
+pub has_version-yes : (o : Option Parts) (v : Parts) → has_version o v ≡ true → IfSome o (λ w. v ≡ w)
 has_version-yes None v h = tt
 has_version-yes (Some w) v h = same_parts-yes v w h
 
@@ -154,11 +154,11 @@ find-map p f (x ∷ xs) = elim (cases_Bool (p (f x))) [
   | inr miss ↦ rw miss (find-map p f xs)
 ]
 
-pub said-found : (f : Form) (es : List EntryData) (e : EntryData) → f.source ≡ None → find (λ x. fits f (entry_identity x)) es ≡ Some e → said f (map entry_identity es) ≡ Some (entry_identity e)
-said-found f es e none found = rw (none, find-map (fits f) entry_identity es, found)
+pub said-found : {X : Type 0} (identity : X → Identity) (f : Form) (xs : List X) (x : X) → f.source ≡ None → find (λ y. fits f (identity y)) xs ≡ Some x → said f (map identity xs) ≡ Some (identity x)
+said-found identity f xs x none found = rw (none, find-map (fits f) identity xs, found)
 
-pub said-unfound : (f : Form) (es : List EntryData) → f.source ≡ None → find (λ x. fits f (entry_identity x)) es ≡ None → said f (map entry_identity es) ≡ itself f
-said-unfound f es none unfound = rw (none, find-map (fits f) entry_identity es, unfound)
+pub said-unfound : {X : Type 0} (identity : X → Identity) (f : Form) (xs : List X) → f.source ≡ None → find (λ y. fits f (identity y)) xs ≡ None → said f (map identity xs) ≡ itself f
+said-unfound identity f xs none unfound = rw (none, find-map (fits f) identity xs, unfound)
 
 pub no_source : (s : Option MarkedSource) → is_some s ≡ false → s ≡ None
 no_source None h = refl

@@ -2,14 +2,16 @@
 use Rattle.std.proofs.Common.{◌≡◌, ℕ, List, [], ◌∷◌, Option, Some, None, Bool, true, false, cond, nat_cmp, refl, ap, ◌∙◌, sym}
 use Rattle.std.specs.BTreeMap.{BTreeMap, UpdatesBy, is_at}
 use Rattle.std.specs.Map.{lookup}
-use Rattle.std.specs.Ordering.{eq_by_cmp}
+use Rattle.std.specs.Ordering.{eq_by_cmp, is_eq, is_lt}
 use Rattle.std.specs.declared.cmp.Ordering.{Ordering}
-use Rattle.std.specs.Cmp.{eq_by_cmp_equiv}
+use Rattle.std.specs.Cmp.{Equal-is, eq_by_cmp_equiv}
 use Rattle.std.specs.Cmp.Lexicographic.{slice_cmp, nat_list_cmp_total}
-use Rattle.std.specs.FinMap.{find, is_sorted, from_sorted, entries-from_sorted, get-from_sorted, entries, get, insert, remove, from_entries, get-entries, get-from_entries, get-insert, get-remove, same_map, IsAntisymmetric, nat_cmp-IsAntisymmetric, slice_cmp-IsAntisymmetric}
+use Rattle.std.specs.FinMap.{empty, entries_sorted, find, is_sorted, from_sorted, entries-from_sorted, get-from_sorted, entries, get, get-empty, insert, remove, from_entries, get-entries, get-from_entries, get-insert, get-remove, same_map, IsAntisymmetric, nat_cmp-IsAntisymmetric, slice_cmp-IsAntisymmetric}
 use Rattle.cargo_lock.specs.Records.{Texts, texts_of}
 use Rattle.std.specs.Prelude.{T}
 use Rattle.std.proofs.Common.{◌&&◌, Less}
+use Rattle.std.specs.declared.cmp.Ordering.TheVariants.{Equal, Greater}
+use Rattle.cargo_lock.specs.TableReading.{put_all}
 use Rattle.std.specs.Map.{keys_of}
 use Rattle.std.specs.List.{AllByRecursion}
 use Rattle.std.specs.List.Sorted.{IsStrictlySortedBy}
@@ -59,3 +61,52 @@ pub entries-of : (es : List (List ℕ × List ℕ)) → IsStrictlySortedBy (slic
 entries-of es h =
     let t : T (is_sorted (slice_cmp nat_cmp) es) = sorted es h in
     ap entries (same_texts (texts_of es) (from_sorted es) (λ q. get-from_entries nat_list_cmp_total es q ∙ sym (get-from_sorted (slice_cmp nat_cmp) es q t))) ∙ entries-from_sorted (slice_cmp nat_cmp) es t
+
+-- ---- pairs that are put one by one
+
+and-first : (a b : Bool) → T (a && b) → T a
+and-first true b h = tt
+and-first false b h = h
+
+and-second : (a b : Bool) → T (a && b) → T b
+and-second true b h = h
+and-second false b h = absurd h
+
+lower-differs : (o : Ordering) → T (is_lt o) → is_eq o ≡ false
+lower-differs Less h = refl
+lower-differs Equal h = absurd h
+lower-differs Greater h = absurd h
+
+find-below : (k : List ℕ) (es : List (List ℕ × List ℕ)) → T (below_all (slice_cmp nat_cmp) k es) → find (slice_cmp nat_cmp) k es ≡ None
+find-below k [] h = refl
+find-below k (e ∷ es) h =
+    ap (λ b. cond b (Some e.1) (find (slice_cmp nat_cmp) k es)) (lower-differs _ (and-first _ _ h)) ∙ find-below k es (and-second _ _ h)
+
+abbrev pub or_else : Option (List ℕ) → Option (List ℕ) → Option (List ℕ)
+or_else None o = o
+or_else (Some v) o = Some v
+
+put_all-get : (es : List (List ℕ × List ℕ)) (m : Texts) (q : List ℕ) → T (is_sorted (slice_cmp nat_cmp) es)
+    → get (put_all m es) q ≡ or_else (find (slice_cmp nat_cmp) q es) (get m q)
+put_all-get [] m q h = refl
+put_all-get (e ∷ es) m q h =
+    put_all-get es (insert m e.0 e.1) q (and-second _ _ h)
+    ∙ ap (or_else (find (slice_cmp nat_cmp) q es)) (get-insert nat_list_cmp_total m e.0 e.1 q)
+    ∙ by (eq_by_cmp (slice_cmp nat_cmp) q e.0) refl
+  where
+    unfound : eq_by_cmp (slice_cmp nat_cmp) q e.0 ≡ true → find (slice_cmp nat_cmp) q es ≡ None
+    unfound tied =
+        ap (λ k. find (slice_cmp nat_cmp) k es) (texts_tie q e.0 ((Equal-is _).0 tied)) ∙ find-below e.0 es (and-first _ _ h)
+
+    by : (b : Bool) → eq_by_cmp (slice_cmp nat_cmp) q e.0 ≡ b
+        → or_else (find (slice_cmp nat_cmp) q es) (cond b (Some e.1) (get m q)) ≡ or_else (cond b (Some e.1) (find (slice_cmp nat_cmp) q es)) (get m q)
+    by true tied = ap (λ o. or_else o (Some e.1)) (unfound tied)
+    by false apart = refl
+
+or_none : (o : Option (List ℕ)) → or_else o None ≡ o
+or_none None = refl
+or_none (Some v) = refl
+
+-- the pairs of a map, put into the empty map, are the map
+pub put_all-entries : (m : Texts) → put_all empty (entries m) ≡ m
+put_all-entries m = same_texts _ _ (λ q. put_all-get (entries m) empty q (entries_sorted m) ∙ ap (or_else _) (get-empty (slice_cmp nat_cmp) q) ∙ or_none _ ∙ sym (get-entries m q))

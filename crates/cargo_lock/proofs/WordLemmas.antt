@@ -34,7 +34,7 @@ words_past_gap (g ∷ gs) cs h =
     ap (filter is_nonempty) (slice_split-cons_yes is_whitespace g (gs ++ cs) (white_from_not (is_whitespace g) h.0))
     ∙ words_past_gap gs cs h.1
 
-All-from_none : (cs : List ℕ) → NonePass is_whitespace cs → All (λ c. is_whitespace c ≡ false) cs
+pub All-from_none : (cs : List ℕ) → NonePass is_whitespace cs → All (λ c. is_whitespace c ≡ false) cs
 All-from_none [] h = All-nil _
 All-from_none (c ∷ cs) h = All-cons (λ c. is_whitespace c ≡ false) c cs h.0 (All-from_none cs h.1)
 

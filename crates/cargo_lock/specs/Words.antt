@@ -1,7 +1,7 @@
 -- The words of a text: what stands between the white space of Unicode.
-use Rattle.std.specs.Prelude.{ℕ, Bool, List, [], ◌∷◌, map, true, false, chars, encode_utf8_all, filter, if◌then◌else◌}
+use Rattle.std.specs.Prelude.{◌≡◌, ℕ, Bool, List, [], ◌∷◌, map, true, false, chars, encode_utf8_all, filter, if◌then◌else◌}
 use Rattle.std.specs.Char.{is_whitespace}
-use Rattle.std.specs.Str.{is_utf8}
+use Rattle.std.specs.Str.{NonePass, all_scalars, is_utf8}
 use Rattle.std.specs.List.{slice_split}
 
 -- there are characters
@@ -20,3 +20,15 @@ text_words text = map encode_utf8_all (words_of_chars (chars text))
 -- the words of a text; bytes that are no text have none
 unfoldable pub words : List ℕ → List (List ℕ)
 words text = if is_utf8 text then text_words text else []
+
+-- the text has no white space: it is that of characters none of which is white space
+pub record IsDense (text : List ℕ) : Type 0 where
+  pub letters : List ℕ
+  pub encoded : encode_utf8_all letters ≡ text
+  pub scalar : all_scalars letters ≡ true
+  pub none : NonePass is_whitespace letters
+
+-- the text is a word: it has no white space, and is not empty
+pub record IsWord (text : List ℕ) : Type 0 where
+  pub dense : IsDense text
+  pub nonempty : is_nonempty text ≡ true

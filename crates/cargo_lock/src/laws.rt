@@ -1,10 +1,21 @@
 //! Laws of this crate, each the contract of a function without a body. The definitions that they
 //! speak of are those of the contracts of `Lockfile` and of the types of `lockfile::encoding`.
+//! `headline` has the promises of this library in one.
 
 ghost use Rattle.cargo_lock.specs.Chosen.{ShortenedByPlaces, ShortenedTwice};
+ghost use Rattle.cargo_lock.specs.Headline.{Headline};
 ghost use Rattle.cargo_lock.specs.LeastKey.{ChecksumAtLeastKey};
 ghost use Rattle.cargo_lock.specs.Means.{MeansOne};
+ghost use Rattle.cargo_lock.specs.Shortest.{ShortestReferences, WrittenByBearers};
+ghost use Rattle.cargo_lock.specs.Survives.{SurvivesExactly};
+ghost use Rattle.cargo_lock.specs.Translation.{WrittenAgain};
+ghost use Rattle.cargo_lock.specs.Plain.{PlainSurvives};
+ghost use Rattle.cargo_lock.specs.Printed.{PrintedBack};
 ghost use Rattle.cargo_lock.specs.Same.{EqualTablesAndTexts};
+ghost use Rattle.cargo_lock.specs.WrittenMetadata.{ChecksumsAtKeys, NoChecksumKeys};
+ghost use Rattle.cargo_lock.specs.Targets.{EdgesAreOne, LostHaveNoEdges};
+
+use crate::dependency::tree::laws as drawings;
 
 /// A table means at most one lockfile, in every field.
 pub fn table_means_one()
@@ -32,3 +43,83 @@ pub fn shortened_references_stay()
 pub fn checksums_stand_at_least_keys()
     ensures { ChecksumAtLeastKey }
 {}
+
+/// A lockfile survives a format exactly where the table written in that format means a lockfile of
+/// that format with equal packages, root and patches.
+pub fn survival_is_exact()
+    ensures { SurvivesExactly }
+{}
+
+/// Where a lockfile survives its own format, writing, reading and writing again gives the same
+/// table.
+pub fn survivors_are_written_again()
+    ensures { WrittenAgain }
+{}
+
+/// Where a lockfile survives its own format, which is V2 or later, and no two packages are equal in
+/// identity, each dependency that is among the packages stands in the table in its shortest form.
+/// `Lockfile::to_table` promises it of its table.
+pub fn references_are_shortest()
+    ensures { ShortestReferences }
+{}
+
+/// The table of a package depends on the format, on the package, and on the packages that bear the
+/// names of its dependencies, and not on the order of the packages.
+pub fn packages_are_written_by_bearers()
+    ensures { WrittenByBearers }
+{}
+
+/// Where a lockfile survives its own format and no package has both a replacement and dependencies,
+/// its printed text means a lockfile of that format with equal packages and patches, the written
+/// metadata and no root. The premise is that `toml` reads the text as the table that was printed.
+pub fn printed_survivors_are_read_back()
+    ensures { PrintedBack }
+{}
+
+/// In V1 the written metadata has, at the checksum key of packages with checksums, the text of the
+/// last one's checksum, and at every other key the old value. From V2 on it has nothing at the
+/// checksum key of a package, and at every other key the old value.
+pub fn written_metadata_key_by_key()
+    ensures v1 { ChecksumsAtKeys }
+    ensures later { NoChecksumKeys }
+{}
+
+/// Plain lockfiles survive V2, V3 and V4, and where some package has a checksum V1 too.
+pub fn plain_lockfiles_survive()
+    ensures { PlainSurvives }
+{}
+
+/// Packages have one list of edges: from where each edge goes, to where, and for which dependency,
+/// is told by the packages.
+pub fn edges_are_one()
+    ensures { EdgesAreOne }
+{}
+
+/// Packages have no list of edges where no package fits some dependency. So a tree is built only
+/// where each dependency has a package.
+pub fn lost_dependencies_have_no_edges()
+    ensures { LostHaveNoEdges }
+{}
+
+/// What this library promises of lockfiles and their trees: a lockfile survives a format exactly
+/// where the table written in it reads back; there a dependency stands in its shortest form; and a
+/// rendering draws its start and each reachable edge exactly once.
+pub fn headline()
+    ensures { Headline }
+{
+    table_means_one();
+    survival_is_exact();
+    survivors_are_written_again();
+    printed_survivors_are_read_back();
+    plain_lockfiles_survive();
+    references_are_shortest();
+    packages_are_written_by_bearers();
+    edges_are_one();
+    drawings::drawing_exists();
+    drawings::drawing_is_unique();
+    drawings::node_occurs_where_reachable();
+    drawings::reachable_node_is_expanded();
+    drawings::edges_match_entries();
+    drawings::entries_are_counted();
+    drawings::text_tells_the_drawing();
+}

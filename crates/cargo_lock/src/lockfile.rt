@@ -8,6 +8,8 @@ ghost use Rattle.cargo_lock.specs.Same.{is_same_metadata, is_same_pair};
 pub mod encoding;
 mod reading;
 mod serialization;
+mod survival;
+mod translation;
 pub mod version;
 mod writing;
 

@@ -213,7 +213,8 @@ impl MetadataValue {
     pub fn as_str(&self) -> &str
         ensures { result.now ≡ self.now }
     {
-        self.0.as_str()
+        let MetadataValue(text) = self;
+        text.as_str()
     }
 
     /// Any text is a value.

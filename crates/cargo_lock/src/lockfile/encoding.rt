@@ -1,16 +1,16 @@
 //! A lockfile as its table has it: with its references not looked up yet, and with the number of
 //! the format.
 
-mod checksums;
+pub(crate) mod checksums;
 mod meaning;
-mod reading;
-mod reference;
+pub(crate) mod reading;
+pub(crate) mod reference;
 mod serialization;
 mod source;
 mod table;
 mod text;
-mod writing;
-mod written;
+pub(crate) mod writing;
+pub(crate) mod written;
 
 use crate::error::Result;
 pub(crate) use crate::lockfile::encoding::checksums::{has_checksum_key, ordered};

@@ -52,7 +52,8 @@ impl Lockfile {
     }
 }
 
-fn read(alloc: Global, table: &Table) -> Result<Lockfile>
+// Reads the table.
+pub(super) fn read(alloc: Global, table: &Table) -> Result<Lockfile>
     ensures { ReadsUrls (λ l. l) result (meaning (table_view table.now)) }
 {
     let encoded = EncodableLockfile::from_table(alloc, table)?;

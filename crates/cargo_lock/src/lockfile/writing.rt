@@ -3,6 +3,7 @@
 ghost use Rattle.std.specs.Prelude.{◌≡◌, IfOk, IsOkUnless, string_bytes};
 ghost use Rattle.toml.specs.View.{table_view};
 ghost use Rattle.cargo_lock_parts.specs.declared.error.Error.TheVariants.{Memory};
+ghost use Rattle.cargo_lock.specs.Shortest.{HasShortestReferences};
 ghost use Rattle.cargo_lock.specs.Table.{table_of};
 ghost use Rattle.cargo_lock.specs.Text.{joined, lines_of};
 
@@ -15,7 +16,19 @@ use toml::Table;
 impl Lockfile {
     /// The table of the lockfile, in the lockfile's format, as Cargo writes it. Only want of memory
     /// is refused.
+    ///
+    /// Where the lockfile survives its format, which is V2 or later, and no two packages are equal
+    /// in identity, a dependency that is among the packages stands in the shortest form that names
+    /// it in every order of the packages.
     pub fn to_table(&self, alloc: Global) -> Result<Table>
+        ensures ok { IfOk result (λ t. table_view t ≡ table_of self.now) }
+        ensures shortest { IfOk result (λ t. HasShortestReferences self.now (table_view t)) }
+        ensures err { IsOkUnless result Memory }
+    {
+        self.written(alloc)
+    }
+
+    fn written(&self, alloc: Global) -> Result<Table>
         ensures ok { IfOk result (λ t. table_view t ≡ table_of self.now) }
         ensures err { IsOkUnless result Memory }
     {

@@ -190,7 +190,7 @@ fn required_list<'a>(alloc: Global, table: &'a Table, key: &str) -> Result<&'a [
 
 // The version that a text is.
 #[tactic(auto, unfolding(crate::specs::TableReading::version_of))]
-fn version_of(alloc: Global, text: &str) -> Result<Version>
+pub(crate) fn version_of(alloc: Global, text: &str) -> Result<Version>
     ensures { ReadsUrls parts_of result (version_of text.now) }
 {
     match Version::parse(alloc, text) {

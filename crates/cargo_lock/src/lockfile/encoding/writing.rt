@@ -134,7 +134,7 @@ fn written_checksum(format: ResolveVersion, checksum: &Option<Checksum>) -> Opti
 
 // A dependency as it is written among these packages.
 #[tactic(auto, unfolding(crate::specs::Chosen::chosen_form))]
-fn chosen_form(
+pub(crate) fn chosen_form(
     format: ResolveVersion,
     list: &[Package],
     dependency: &Dependency,

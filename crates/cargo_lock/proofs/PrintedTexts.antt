@@ -1,0 +1,63 @@
+-- The printed text of a lockfile that survives is read back, where `toml` reads it as it was printed.
+use Rattle.std.proofs.Common.{◌≡◌, [], ◌∷◌, map, Option, Some, None, option_map, codes, refl, sym, ◌∙◌, ap}
+use Rattle.std.proofs.lemmas.Option.{none-some}
+use Rattle.toml.specs.Data.{Data, Items, integer}
+use Rattle.cargo_lock_parts.specs.Identity.{PackageData, identity_of, package_key}
+use Rattle.cargo_lock.specs.Meaning.{locked, meaning}
+use Rattle.cargo_lock.specs.Metadata.{metadata_of}
+use Rattle.cargo_lock.specs.Optional.{◌>>=◌}
+use Rattle.cargo_lock.specs.Printed.{PrintedBack, printed_table}
+use Rattle.cargo_lock.specs.Records.{EncodedData, LockfileData}
+use Rattle.cargo_lock.specs.Survives.{Survives}
+use Rattle.cargo_lock.specs.Table.{entry_of, entry_value, metadata_value, patch_value, present, table_of, unless_empty, written_version}
+use Rattle.cargo_lock.specs.TableReading.{all_entries_at, encoded_at, entries_at, optional_list}
+use Rattle.cargo_lock.proofs.MeansLemmas.{Means-from}
+use Rattle.cargo_lock.proofs.PackageTables.{list-read}
+use Rattle.cargo_lock.proofs.Survival.{reading, table-values, values_from}
+
+printed-present : (m k p v : Option Data)
+    → encoded_at (present ((codes "metadata", m) ∷ (codes "package", k) ∷ (codes "patch", p) ∷ (codes "version", v) ∷ [])) ≡ values_from m (optional_list k) p None v
+unfolding encoded_at all_entries_at entries_at
+printed-present None None None None = refl
+printed-present None None None (Some v) = refl
+printed-present None None (Some p) None = refl
+printed-present None None (Some p) (Some v) = refl
+printed-present None (Some k) None None = refl
+printed-present None (Some k) None (Some v) = refl
+printed-present None (Some k) (Some p) None = refl
+printed-present None (Some k) (Some p) (Some v) = refl
+printed-present (Some m) None None None = refl
+printed-present (Some m) None None (Some v) = refl
+printed-present (Some m) None (Some p) None = refl
+printed-present (Some m) None (Some p) (Some v) = refl
+printed-present (Some m) (Some k) None None = refl
+printed-present (Some m) (Some k) None (Some v) = refl
+printed-present (Some m) (Some k) (Some p) None = refl
+printed-present (Some m) (Some k) (Some p) (Some v) = refl
+
+abbrev without_root : LockfileData → LockfileData
+without_root l = record { version = l.version; packages = l.packages; root = None; metadata = l.metadata; patch = l.patch }
+
+-- the table of the text is read as the table without a root is
+printed-values : (l : LockfileData) → encoded_at (printed_table l) ≡ encoded_at (table_of (without_root l))
+printed-values l =
+    let ds = map entry_value (map (entry_of l.version (map identity_of l.packages)) l.packages) in
+    let metadata = metadata_value (metadata_of l.version l.metadata l.packages) in
+    let version = option_map integer (written_version l.version) in
+    printed-present metadata (unless_empty ds) (patch_value l.patch) version
+    ∙ ap (λ (o : Option Items). values_from metadata o (patch_value l.patch) None version) (list-read ds)
+    ∙ sym (table-values l.version (without_root l))
+
+no_root : (o : Option PackageData) → option_map package_key o ≡ None → o ≡ None
+no_root None e = refl
+no_root (Some p) e = absurd (none-some (package_key p) (sym e))
+
+pub printed-back : PrintedBack
+printed-back l h printed parsed =
+    let survives : Survives (without_root l) l.version = record { packages = h.packages; root = tt; patch = h.patch; told = h.told } in
+    let r = reading (without_root l) l.version survives in
+    let means : meaning (printed_table l) ≡ Some r.read = ap (λ (o : Option EncodedData). o >>= locked) (printed-values l) ∙ r.means in (
+      r.read,
+      record { table = printed_table l; parsed = parsed; means = Means-from (printed_table l) r.read means },
+      record { version = r.version; packages = r.same.packages; patch = r.same.patch; metadata = r.metadata; root = no_root r.read.root r.same.root },
+    )

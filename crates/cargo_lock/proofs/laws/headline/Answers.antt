@@ -1,0 +1,20 @@
+use Rattle.cargo_lock.proofs.laws.headline.Goals as goal
+
+pub returns : goal.returns
+returns c = record {
+  one_meaning = c.table_means_one.ensures;
+  survival = c.survival_is_exact.ensures;
+  again = c.survivors_are_written_again.ensures;
+  printed = c.printed_survivors_are_read_back.ensures;
+  plain = c.plain_lockfiles_survive.ensures;
+  shortest = c.references_are_shortest.ensures;
+  bearers = c.packages_are_written_by_bearers.ensures;
+  edges = c.edges_are_one.ensures;
+  drawn = c.drawing_exists.ensures;
+  drawn_alone = c.drawing_is_unique.ensures;
+  reached = c.node_occurs_where_reachable.ensures;
+  expanded = c.reachable_node_is_expanded.ensures.some;
+  matched = c.edges_match_entries.ensures;
+  counted = c.entries_are_counted.ensures;
+  told = c.text_tells_the_drawing.ensures;
+}

@@ -1,0 +1,41 @@
+-- What this library promises of lockfiles and their trees, as one statement. Each field is a law of
+-- its own; a contract of the call that is named beside it speaks of the same definition.
+use Rattle.cargo_lock.specs.DrawingLaws.{DrawingExists, DrawingIsUnique, EdgesMatch, EntriesAreCounted, OccursWhereReachable, ReachableIsExpanded, TextTellsDrawing}
+use Rattle.cargo_lock.specs.Means.{MeansOne}
+use Rattle.cargo_lock.specs.Plain.{PlainSurvives}
+use Rattle.cargo_lock.specs.Printed.{PrintedBack}
+use Rattle.cargo_lock.specs.Shortest.{ShortestReferences, WrittenByBearers}
+use Rattle.cargo_lock.specs.Survives.{SurvivesExactly}
+use Rattle.cargo_lock.specs.Targets.{EdgesAreOne}
+use Rattle.cargo_lock.specs.Translation.{WrittenAgain}
+
+pub record Headline : Type 0 where
+  -- a table means at most one lockfile: `Lockfile::from_table`
+  pub one_meaning : MeansOne
+  -- a lockfile survives a format exactly where the table written in it reads back, to that format
+  -- and equal packages, patches and root: `Lockfile::survives`
+  pub survival : SurvivesExactly
+  -- what survives is written again as it was: `Lockfile::to_table`
+  pub again : WrittenAgain
+  -- and its text is read back, as far as `toml` reads what was printed: `Lockfile::to_string`
+  pub printed : PrintedBack
+  -- lockfiles of plain projects survive every format: `Lockfile::survives`
+  pub plain : PlainSurvives
+  -- there, from V2 on with distinct identities, a listed dependency stands in the shortest form that
+  -- names it in every order of the packages, one sourceless case excepted: `Lockfile::to_table`
+  pub shortest : ShortestReferences
+  -- and the table of a package depends on the packages that bear the names of its dependencies
+  pub bearers : WrittenByBearers
+  -- the edges of a tree are told by the packages: `Tree::new`
+  pub edges : EdgesAreOne
+  -- a successful rendering draws its start and each reachable edge exactly once, and nothing else:
+  -- `Tree::render_into` draws a drawing, there is exactly one, it has the reachable nodes alone, each
+  -- is expanded once, and the edges of reachable nodes match the entries after the first one to one
+  pub drawn : DrawingExists
+  pub drawn_alone : DrawingIsUnique
+  pub reached : OccursWhereReachable
+  pub expanded : ReachableIsExpanded
+  pub matched : EdgesMatch
+  pub counted : EntriesAreCounted
+  -- and the text tells the drawing
+  pub told : TextTellsDrawing

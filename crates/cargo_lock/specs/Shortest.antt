@@ -1,0 +1,112 @@
+-- References that name a dependency in every order of the packages, in as few words as there can be.
+use Rattle.std.specs.Prelude.{◌≡◌, ◌+◌, ◌<◌, Bool, ℕ, zero, suc, List, Option, Some, None, IsPermutation, codes, filter, map, slice_get}
+use Rattle.std.specs.List.{list_any}
+use Rattle.toml.specs.Data.{Data, Items, no_items, item, Members, get_member}
+use Rattle.cargo_lock_parts.specs.Identity.{Identity, PackageData, identity_key, identity_of}
+use Rattle.cargo_lock.specs.declared.lockfile.version.ResolveVersion.{ResolveVersion}
+use Rattle.cargo_lock.specs.declared.lockfile.version.ResolveVersion.TheVariants.{V1, V2, V3, V4}
+use Rattle.cargo_lock.specs.Form.{Form, form_of, form_text}
+use Rattle.cargo_lock.specs.FormOrder.{form_key}
+use Rattle.cargo_lock.specs.Optional.{◌>>=◌}
+use Rattle.cargo_lock.specs.Records.{LockfileData}
+use Rattle.cargo_lock.specs.Said.{same_text}
+use Rattle.cargo_lock.specs.Survives.{SaysEqual, Survives}
+use Rattle.cargo_lock.specs.Table.{table_of}
+use Rattle.cargo_lock.specs.TableReading.{members_in, required_list, text_in}
+
+-- ---- forms that name
+
+-- an identity that is equal to this one stands in the list
+abbrev pub IsAmong : List Identity → Identity → Type 0
+IsAmong list d = (k : ℕ) × (i : Identity) × (slice_get list k ≡ Some i) × (identity_key i ≡ identity_key d)
+
+-- no two places of the list hold equal identities
+abbrev pub AreDistinct : List Identity → Type 0
+AreDistinct list = (j k : ℕ) (x y : Identity) → slice_get list j ≡ Some x → slice_get list k ≡ Some y
+    → identity_key x ≡ identity_key y → j ≡ k
+
+-- what stands in the list with the same name and version is equal to this one
+abbrev pub HasNoTwin : List Identity → Identity → Type 0
+HasNoTwin list d = (k : ℕ) (i : Identity) → slice_get list k ≡ Some i → i.name ≡ d.name → i.version ≡ d.version
+    → identity_key i ≡ identity_key d
+
+-- the form says this dependency in every order of the list
+abbrev pub Names : Form → List Identity → Identity → Type 0
+Names f list d = (order : List Identity) → IsPermutation list order → SaysEqual f order d
+
+abbrev pub one_if_some : {X : Type 0} → Option X → ℕ
+one_if_some None = 0
+one_if_some (Some x) = 1
+
+-- how many words a form has
+abbrev pub words_in : Form → ℕ
+words_in f = 1 + one_if_some f.version + one_if_some f.source
+
+-- no form of fewer words names the dependency
+abbrev pub IsLeast : Form → List Identity → Identity → Type 0
+IsLeast f list d = (g : Form) → words_in g < words_in f → ¬ Names g list d
+
+-- the text of the form is read as a form that is equal to it
+abbrev pub IsReadBack : Form → Type 0
+IsReadBack f = (g : Form) × (form_of (form_text f) ≡ Some g) × (form_key g ≡ form_key f)
+
+-- The text is that of a form which names the dependency and is read back, and no form of fewer
+-- words names it. One case is excepted from naming it: a dependency without a source, with whose
+-- name and version another package stands in the list. Two words are then all that can be written.
+pub record IsShortest (list : List Identity) (d : Identity) (text : Option (List ℕ)) : Type 0 where
+  pub form : Form
+  pub written : text ≡ Some (form_text form)
+  pub read : IsReadBack form
+  pub names : (d.source ≡ None → HasNoTwin list d) → Names form list d
+  pub least : IsLeast form list d
+
+-- ---- the texts of a table
+
+abbrev pub item_at : Items → ℕ → Option Data
+item_at no_items k = None
+item_at (item d ds) zero = Some d
+item_at (item d ds) (suc k) = item_at ds k
+
+-- the table of the package at a place
+abbrev pub package_at : Members → ℕ → Option Members
+package_at t k = required_list (get_member (codes "package") t) >>= λ packages. item_at packages k >>= members_in
+
+-- the text of a dependency of the package at a place
+abbrev pub reference_at : Members → ℕ → ℕ → Option (List ℕ)
+reference_at t k j = package_at t k >>= λ entry.
+    required_list (get_member (codes "dependencies") entry) >>= λ references. item_at references j >>= text_in
+
+-- from V2 on references are shortened
+abbrev pub IsShortening : ResolveVersion → Type 0
+IsShortening V1 = ⊥
+IsShortening V2 = Unit {0}
+IsShortening V3 = Unit {0}
+IsShortening V4 = Unit {0}
+
+-- Where the lockfile survives its own format, which is V2 or later, and no two packages are equal
+-- in identity, each dependency that is among the packages stands in the table in its shortest form.
+abbrev pub HasShortestReferences : LockfileData → Members → Type 0
+HasShortestReferences l t = Survives l l.version → IsShortening l.version → AreDistinct (map identity_of l.packages)
+    → (k j : ℕ) (p : PackageData) (d : Identity) → slice_get l.packages k ≡ Some p → slice_get p.dependencies j ≡ Some d
+    → IsAmong (map identity_of l.packages) d → IsShortest (map identity_of l.packages) d (reference_at t k j)
+
+abbrev pub ShortestReferences : Type 0
+ShortestReferences = (l : LockfileData) → HasShortestReferences l (table_of l)
+
+-- ---- what the written table of a package depends on
+
+-- the identity bears the name of one of the package's dependencies
+abbrev pub bears_some : PackageData → Identity → Bool
+bears_some p i = list_any (λ d. same_text i.name d.name) p.dependencies
+
+-- those of the packages that bear the name of one of this package's dependencies
+abbrev pub bearers : PackageData → List PackageData → List Identity
+bearers p packages = filter (bears_some p) (map identity_of packages)
+
+-- The table of a package is the same in two lockfiles of one format where the same packages, each
+-- as often, bear the names of its dependencies; their order does not count.
+abbrev pub WrittenByBearers : Type 0
+WrittenByBearers = (l m : LockfileData) (j k : ℕ) (p : PackageData) → l.version ≡ m.version
+    → slice_get l.packages j ≡ Some p → slice_get m.packages k ≡ Some p
+    → IsPermutation (bearers p l.packages) (bearers p m.packages)
+    → package_at (table_of l) j ≡ package_at (table_of m) k

@@ -1,0 +1,137 @@
+-- When a lockfile survives a format, so that what is written in it reads back: conditions on its
+-- parts, one by one. Each says that a written text is read as what it was written for.
+use Rattle.std.specs.Prelude.{◌≡◌, ◌↔◌, ℕ, Bool, true, false, List, [], Some, IfSome, option_map, map}
+use Rattle.std.specs.List.{AllByRecursion}
+use Rattle.semver.specs.Identifiers.{parts_text}
+use Rattle.semver.specs.Parse.{Parts}
+use Rattle.cargo_lock_parts.specs.Checksum.{digest_in, digest_text}
+use Rattle.cargo_lock_parts.specs.Identity.{Identity, PackageData, identity_key, identity_of, package_key}
+use Rattle.cargo_lock_parts.specs.Source.{MarkedSource, Source, is_path}
+use Rattle.cargo_lock_parts.specs.SourceKey.{key_of}
+use Rattle.cargo_lock_parts.specs.SourceReading.{source_of}
+use Rattle.cargo_lock_parts.specs.SourceText.{marked_text}
+use Rattle.cargo_lock.specs.declared.lockfile.version.ResolveVersion.{ResolveVersion}
+use Rattle.cargo_lock.specs.declared.lockfile.version.ResolveVersion.TheVariants.{V1, V2, V3, V4}
+use Rattle.cargo_lock.specs.Chosen.{chosen_form, in_full, marked}
+use Rattle.cargo_lock.specs.Form.{Form}
+use Rattle.cargo_lock.specs.Means.{Means, reading_list}
+use Rattle.cargo_lock.specs.Metadata.{checksum_in, has_checksum_key, metadata_of}
+use Rattle.cargo_lock.specs.Records.{LockfileData, Texts, is_escaped}
+use Rattle.cargo_lock.specs.Says.{Says}
+use Rattle.cargo_lock.specs.Table.{table_of}
+use Rattle.cargo_lock.specs.TableReading.{version_of}
+use Rattle.cargo_lock.specs.Words.{IsDense, IsWord}
+
+-- ---- texts that read back
+
+-- the version reads back from its text
+abbrev pub VersionSurvives : Parts → Type 0
+VersionSurvives v = version_of (parts_text v) ≡ Some v
+
+-- the text of the source, as it is marked, reads as a source with the same key
+abbrev pub TextReadsBack : MarkedSource → Type 0
+TextReadsBack m = option_map key_of (source_of (marked_text m)) ≡ Some (key_of m.source)
+
+-- the source is no path, so it is written, and its text reads back
+abbrev pub SourceSurvives : Bool → Source → Type 0
+SourceSurvives escaped s = (is_path s.kind ≡ false) × TextReadsBack (marked escaped s)
+
+-- the digest reads back from its text, as the 32 bytes of every checksum do
+abbrev pub DigestReadsBack : List ℕ → Type 0
+DigestReadsBack digest = digest_in (digest_text digest) ≡ Some digest
+
+-- ---- references
+
+-- each part of the form is one word that reads back
+pub record FormSurvives (f : Form) : Type 0 where
+  pub name : IsWord f.name
+  pub version : IfSome f.version (λ v. IsWord (parts_text v) × VersionSurvives v)
+  pub source : IfSome f.source (λ m. IsDense (marked_text m) × TextReadsBack m)
+
+-- the form says an identity that is equal to this one
+abbrev pub SaysEqual : Form → List Identity → Identity → Type 0
+SaysEqual f list d = (i : Identity) × Says f list i × (identity_key i ≡ identity_key d)
+
+-- a reference to this dependency: its text reads back, and says the dependency in this list
+pub record ReferenceSurvives (f : Form) (list : List Identity) (d : Identity) : Type 0 where
+  pub written : FormSurvives f
+  pub says : SaysEqual f list d
+
+-- ---- packages
+
+-- the version, the source and the replacement of a package, which is in full and looked up by
+-- itself
+pub record OwnPartsSurvive (format : ResolveVersion) (p : PackageData) : Type 0 where
+  pub version : VersionSurvives p.version
+  pub source : IfSome p.source (SourceSurvives (is_escaped format))
+  pub replace : IfSome p.replace (λ d. ReferenceSurvives (in_full (is_escaped format) d) [] d)
+
+-- a package whose dependencies are written in these forms, and looked up in this list
+pub record PackageSurvives (format : ResolveVersion) (form : Identity → Form) (list : List Identity) (p : PackageData) : Type 0 where
+  pub own : OwnPartsSurvive format p
+  pub dependencies : AllByRecursion (λ d. ReferenceSurvives (form d) list d) p.dependencies
+
+-- the checksum is found again: in V1 in the written metadata
+abbrev pub ChecksumSurvives : ResolveVersion → Texts → PackageData → Type 0
+ChecksumSurvives V1 m p = checksum_in m p.name p.version ≡ p.checksum
+ChecksumSurvives V2 m p = IfSome p.checksum DigestReadsBack
+ChecksumSurvives V3 m p = IfSome p.checksum DigestReadsBack
+ChecksumSurvives V4 m p = IfSome p.checksum DigestReadsBack
+
+-- a package among those of the lockfile, with the metadata that is written
+abbrev pub EntrySurvives : ResolveVersion → List Identity → Texts → PackageData → Type 0
+EntrySurvives format list m p =
+    PackageSurvives format (chosen_form format list) (reading_list format list) p × ChecksumSurvives format m p
+
+-- the root: its references are in full, and its checksum stands with it in every format
+abbrev pub RootSurvives : ResolveVersion → PackageData → Type 0
+RootSurvives format p =
+    PackageSurvives format (in_full (is_escaped format)) [] p × IfSome p.checksum DigestReadsBack
+
+-- an unused patch, whose source is plain in every format
+abbrev pub PatchSurvives : Identity → Type 0
+PatchSurvives i = VersionSurvives i.version × IfSome i.source (SourceSurvives false)
+
+-- ---- lockfiles
+
+-- V1 and V2 have no number in the table: the written metadata tells them apart
+abbrev pub FormatSurvives : ResolveVersion → Texts → Type 0
+FormatSurvives V1 m = has_checksum_key m ≡ true
+FormatSurvives V2 m = has_checksum_key m ≡ false
+FormatSurvives V3 m = Unit {0}
+FormatSurvives V4 m = Unit {0}
+
+-- the lockfile survives the format
+pub record Survives (l : LockfileData) (format : ResolveVersion) : Type 0 where
+  pub packages : AllByRecursion (EntrySurvives format (map identity_of l.packages) (metadata_of format l.metadata l.packages)) l.packages
+  pub root : IfSome l.root (RootSurvives format)
+  pub patch : AllByRecursion PatchSurvives l.patch
+  pub told : FormatSurvives format (metadata_of format l.metadata l.packages)
+
+-- ---- what survival is for
+
+-- the lockfile, set to this format
+abbrev pub in_format : ResolveVersion → LockfileData → LockfileData
+in_format format l = record {
+  version = format;
+  packages = l.packages;
+  root = l.root;
+  metadata = l.metadata;
+  patch = l.patch;
+}
+
+-- packages, root and patches are equal
+pub record HasSamePackages (a b : LockfileData) : Type 0 where
+  pub packages : map package_key a.packages ≡ map package_key b.packages
+  pub root : option_map package_key a.root ≡ option_map package_key b.root
+  pub patch : map identity_key a.patch ≡ map identity_key b.patch
+
+-- the table written in this format means a lockfile of this format with equal packages, root and
+-- patches
+abbrev pub ReadsBack : LockfileData → ResolveVersion → Type 0
+ReadsBack l format =
+    (x : LockfileData) × Means (table_of (in_format format l)) x × (x.version ≡ format) × HasSamePackages x l
+
+-- a lockfile survives a format exactly where what is written in it reads back
+abbrev pub SurvivesExactly : Type 0
+SurvivesExactly = (l : LockfileData) (format : ResolveVersion) → Survives l format ↔ ReadsBack l format

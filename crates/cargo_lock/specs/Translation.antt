@@ -1,0 +1,68 @@
+-- Translation of a lockfile over a list of formats: for each format in order the lockfile is written
+-- as a table in that format, and the table is read.
+use Rattle.std.specs.Prelude.{◌≡◌, ◌⊎◌, List, [], ◌∷◌, Option, Some}
+use Rattle.cargo_lock_parts.specs.Identity.{PackageData}
+use Rattle.cargo_lock.specs.declared.lockfile.version.ResolveVersion.{ResolveVersion}
+use Rattle.cargo_lock.specs.Means.{Means}
+use Rattle.cargo_lock.specs.Meaning.{meaning}
+use Rattle.cargo_lock.specs.Metadata.{metadata_of}
+use Rattle.cargo_lock.specs.Optional.{◌>>=◌}
+use Rattle.cargo_lock.specs.Records.{LockfileData, Texts}
+use Rattle.cargo_lock.specs.Survives.{HasSamePackages, Survives, in_format}
+use Rattle.cargo_lock.specs.Table.{table_of}
+
+-- ---- the chain
+
+-- the table of the lockfile in this format means the other one
+abbrev pub IsStep : ResolveVersion → LockfileData → LockfileData → Type 0
+IsStep format l x = Means (table_of (in_format format l)) x
+
+-- the steps, one after another, lead to x; without a format x is the lockfile itself
+abbrev pub LeadsTo : List ResolveVersion → LockfileData → LockfileData → Type 0
+LeadsTo [] l x = x ≡ l
+LeadsTo (format ∷ formats) l x = (y : LockfileData) × IsStep format l y × LeadsTo formats y x
+
+-- the table of some step means no lockfile
+abbrev pub IsStuck : List ResolveVersion → LockfileData → Type 0
+IsStuck [] l = ⊥
+IsStuck (format ∷ formats) l =
+    ((y : LockfileData) → ¬ IsStep format l y)
+    ⊎ ((y : LockfileData) × IsStep format l y × IsStuck formats y)
+
+-- ---- what is kept
+
+-- the lockfile before each step survives the format of the step
+abbrev pub SurvivesEach : List ResolveVersion → LockfileData → Type 0
+SurvivesEach [] l = Unit {0}
+SurvivesEach (format ∷ formats) l =
+    Survives l format × ((y : LockfileData) → IsStep format l y → SurvivesEach formats y)
+
+-- the metadata that is written in each format in turn
+abbrev pub metadata_through : List ResolveVersion → Texts → List PackageData → Texts
+metadata_through [] m packages = m
+metadata_through (format ∷ formats) m packages = metadata_through formats (metadata_of format m packages) packages
+
+-- the last of the formats, or this one where there is none
+abbrev pub last_format : ResolveVersion → List ResolveVersion → ResolveVersion
+last_format format [] = format
+last_format format (next ∷ formats) = last_format next formats
+
+-- equal packages, root and patches, the last of the formats, and the metadata that is written in
+-- each format in turn
+pub record KeepsThrough (formats : List ResolveVersion) (l x : LockfileData) : Type 0 where
+  pub version : x.version ≡ last_format l.version formats
+  pub same : HasSamePackages x l
+  pub metadata : x.metadata ≡ metadata_through formats l.metadata l.packages
+
+-- ---- computed
+
+-- the lockfile that the chain gives
+abbrev pub translated : List ResolveVersion → LockfileData → Option LockfileData
+translated [] l = Some l
+translated (format ∷ formats) l = meaning (table_of (in_format format l)) >>= translated formats
+
+-- ---- laws
+
+-- what a lockfile that survives its own format is read back as is written again as it was
+abbrev pub WrittenAgain : Type 0
+WrittenAgain = (l x : LockfileData) → Survives l l.version → Means (table_of l) x → table_of x ≡ table_of l

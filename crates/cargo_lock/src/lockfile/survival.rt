@@ -1,0 +1,310 @@
+//! Whether a lockfile survives a format.
+
+ghost use Rattle.std.specs.Prelude.{◌≡◌, ◌↔◌, [], IfOk, IfSome, IsOkUnless, IsTrue, map, option_map};
+ghost use Rattle.std.specs.List.{AllByRecursion};
+ghost use Rattle.cargo_lock_parts.specs.declared.error.Error.TheVariants.{Memory};
+ghost use Rattle.cargo_lock_parts.specs.Checksum.{digest_of};
+ghost use Rattle.cargo_lock_parts.specs.Identity.{identity_of};
+ghost use Rattle.cargo_lock.specs.Chosen.{chosen_form, in_full};
+ghost use Rattle.cargo_lock.specs.Means.{reading_list};
+ghost use Rattle.cargo_lock.specs.Records.{is_escaped, texts_of};
+ghost use Rattle.cargo_lock.specs.Survives.{ChecksumSurvives, DigestReadsBack, EntrySurvives, FormatSurvives, OwnPartsSurvive, PatchSurvives, ReadsBack, ReferenceSurvives, RootSurvives, Survives};
+
+mod texts;
+
+use crate::error::Result;
+use crate::lockfile::Lockfile;
+use crate::lockfile::encoding::EncodableDependency;
+use crate::lockfile::encoding::checksums::{find_checksum, has_checksum_key};
+use crate::lockfile::encoding::writing::chosen_form;
+use crate::lockfile::encoding::written::metadata_of;
+use crate::lockfile::survival::texts::{reference_survives, source_survives, version_survives};
+use crate::lockfile::version::ResolveVersion;
+use crate::metadata::Metadata;
+use cargo_lock_parts::dependency::Dependency;
+use cargo_lock_parts::laws::checksums_read_back;
+use cargo_lock_parts::package::{Checksum, Package};
+use std::alloc::Global;
+
+impl Lockfile {
+    /// Whether the lockfile survives a format: whether its table, written in this format, is read
+    /// back as a lockfile of this format with equal packages, root and patches. It is told from
+    /// the parts, without writing the table: every version and source reads back from its text,
+    /// each reference, in the form in which it is written, says the dependency that it stands for,
+    /// checksums are found again, and V1 and V2 can be told apart.
+    ///
+    /// A path source is not written, so a package with one survives no format. Only want of
+    /// memory is refused; a source that comes to 4 GB counts as that.
+    pub fn survives(&self, alloc: Global, format: ResolveVersion) -> Result<bool>
+        ensures decided { IfOk result (λ b. IsTrue b ↔ Survives self.now format) }
+        ensures exact { Survives self.now format ↔ ReadsBack self.now format }
+        ensures err { IsOkUnless result Memory }
+    {
+        self.parts_survive(alloc, format)
+    }
+
+    fn parts_survive(&self, alloc: Global, format: ResolveVersion) -> Result<bool>
+        ensures ok { IfOk result (λ b. IsTrue b ↔ Survives self.now format) }
+        ensures err { IsOkUnless result Memory }
+    {
+        let list = self.packages.as_slice();
+        let metadata = metadata_of(alloc, format, &self.metadata, list)?;
+        Ok(
+            format_survives(format, &metadata)
+                && patches_survive(alloc, self.patch.unused.as_slice())?
+                && root_survives(alloc, format, &self.root)?
+                && packages_survive(alloc, format, &metadata, list)?,
+        )
+    }
+}
+
+// Whether the written metadata tells the format, where the table has no number.
+fn format_survives(format: ResolveVersion, metadata: &Metadata) -> bool
+    ensures { IsTrue result ↔ FormatSurvives format (texts_of metadata.now.entries) }
+{
+    match format {
+        ResolveVersion::V1 => has_checksum_key(metadata),
+        ResolveVersion::V2 => !has_checksum_key(metadata),
+        ResolveVersion::V3 | ResolveVersion::V4 => true,
+    }
+}
+
+fn patches_survive(alloc: Global, patches: &[Dependency]) -> Result<bool>
+    ensures ok { IfOk result (λ b. IsTrue b ↔ AllByRecursion PatchSurvives patches.now) }
+    ensures err { IsOkUnless result Memory }
+{
+    for patch in patches {
+        if !patch_survives(alloc, patch)? {
+            return Ok(false);
+        }
+    }
+    Ok(true)
+}
+
+fn patch_survives(alloc: Global, patch: &Dependency) -> Result<bool>
+    ensures ok { IfOk result (λ b. IsTrue b ↔ PatchSurvives patch.now) }
+    ensures err { IsOkUnless result Memory }
+{
+    Ok(version_survives(alloc, &patch.version)? && source_survives(alloc, false, &patch.source)?)
+}
+
+fn root_survives(alloc: Global, format: ResolveVersion, root: &Option<Package>) -> Result<bool>
+    ensures ok { IfOk result (λ b. IsTrue b ↔ IfSome root.now (RootSurvives format)) }
+    ensures err { IsOkUnless result Memory }
+{
+    match root {
+        Some(one) => one_root_survives(alloc, format, one),
+        None => Ok(true),
+    }
+}
+
+// The references of the root are in full.
+fn one_root_survives(alloc: Global, format: ResolveVersion, one: &Package) -> Result<bool>
+    ensures ok { IfOk result (λ b. IsTrue b ↔ RootSurvives format one.now) }
+    ensures err { IsOkUnless result Memory }
+{
+    digest_reads_back(&one.checksum);
+    Ok(
+        own_parts_survive(alloc, format, one)?
+            && full_references_survive(alloc, format, one.dependencies.as_slice())?,
+    )
+}
+
+fn packages_survive(
+    alloc: Global,
+    format: ResolveVersion,
+    metadata: &Metadata,
+    list: &[Package],
+) -> Result<bool>
+    ensures ok { IfOk result (λ b. IsTrue b
+        ↔ AllByRecursion (EntrySurvives format (map identity_of list.now) (texts_of metadata.now.entries)) list.now) }
+    ensures err { IsOkUnless result Memory }
+{
+    for one in list {
+        if !entry_survives(alloc, format, metadata, list, one)? {
+            return Ok(false);
+        }
+    }
+    Ok(true)
+}
+
+fn entry_survives(
+    alloc: Global,
+    format: ResolveVersion,
+    metadata: &Metadata,
+    list: &[Package],
+    one: &Package,
+) -> Result<bool>
+    ensures ok { IfOk result (λ b. IsTrue b
+        ↔ EntrySurvives format (map identity_of list.now) (texts_of metadata.now.entries) one.now) }
+    ensures err { IsOkUnless result Memory }
+{
+    Ok(
+        own_parts_survive(alloc, format, one)?
+            && checksum_survives(alloc, format, metadata, one)?
+            && references_survive(alloc, format, list, one.dependencies.as_slice())?,
+    )
+}
+
+// Whether the version, the source and the replacement survive.
+fn own_parts_survive(alloc: Global, format: ResolveVersion, one: &Package) -> Result<bool>
+    ensures ok { IfOk result (λ b. IsTrue b ↔ OwnPartsSurvive format one.now) }
+    ensures err { IsOkUnless result Memory }
+{
+    Ok(
+        version_survives(alloc, &one.version)?
+            && source_survives(alloc, is_escaped(format), &one.source)?
+            && replace_survives(alloc, format, &one.replace)?,
+    )
+}
+
+fn is_escaped(format: ResolveVersion) -> bool
+    ensures { result ≡ is_escaped format }
+{
+    match format {
+        ResolveVersion::V1 | ResolveVersion::V2 | ResolveVersion::V3 => false,
+        ResolveVersion::V4 => true,
+    }
+}
+
+// A replacement is in full, and looked up by itself.
+fn replace_survives(
+    alloc: Global,
+    format: ResolveVersion,
+    replace: &Option<Dependency>,
+) -> Result<bool>
+    ensures ok { IfOk result (λ b. IsTrue b
+        ↔ IfSome replace.now (λ d. ReferenceSurvives (in_full (is_escaped format) d) [] d)) }
+    ensures err { IsOkUnless result Memory }
+{
+    match replace {
+        Some(dependency) => full_reference_survives(alloc, format, dependency),
+        None => Ok(true),
+    }
+}
+
+// ---- checksums
+
+// Whether the checksum is found again: in V1 in the written metadata.
+fn checksum_survives(
+    alloc: Global,
+    format: ResolveVersion,
+    metadata: &Metadata,
+    one: &Package,
+) -> Result<bool>
+    ensures ok { IfOk result (λ b. IsTrue b
+        ↔ ChecksumSurvives format (texts_of metadata.now.entries) one.now) }
+    ensures err { IsOkUnless result Memory }
+{
+    match format {
+        ResolveVersion::V1 => {
+            let found = find_checksum(alloc, metadata, &one.name, &one.version)?;
+            Ok(same_checksum(&found, &one.checksum))
+        }
+        ResolveVersion::V2 | ResolveVersion::V3 | ResolveVersion::V4 => {
+            digest_reads_back(&one.checksum);
+            Ok(true)
+        }
+    }
+}
+
+fn same_checksum(a: &Option<Checksum>, b: &Option<Checksum>) -> bool
+    ensures { IsTrue result ↔ (option_map digest_of a.now ≡ option_map digest_of b.now) }
+{
+    match (a, b) {
+        (None, None) => true,
+        (Some(a), Some(b)) => a == b,
+        (None, Some(_)) | (Some(_), None) => false,
+    }
+}
+
+// Every checksum reads back from its text.
+fn digest_reads_back(checksum: &Option<Checksum>)
+    ensures { IfSome (option_map digest_of checksum.now) DigestReadsBack }
+{
+    if let Some(Checksum::Sha256(digest)) = checksum {
+        bytes_read_back(digest);
+    }
+}
+
+fn bytes_read_back(digest: &[u8; 32])
+    ensures { DigestReadsBack digest.now }
+{
+    checksums_read_back();
+}
+
+// ---- references
+
+fn references_survive(
+    alloc: Global,
+    format: ResolveVersion,
+    list: &[Package],
+    dependencies: &[Dependency],
+) -> Result<bool>
+    ensures ok { IfOk result (λ b. IsTrue b
+        ↔ AllByRecursion (λ d. ReferenceSurvives (chosen_form format (map identity_of list.now) d) (reading_list format (map identity_of list.now)) d) dependencies.now) }
+    ensures err { IsOkUnless result Memory }
+{
+    for dependency in dependencies {
+        if !chosen_reference_survives(alloc, format, list, dependency)? {
+            return Ok(false);
+        }
+    }
+    Ok(true)
+}
+
+fn chosen_reference_survives(
+    alloc: Global,
+    format: ResolveVersion,
+    list: &[Package],
+    dependency: &Dependency,
+) -> Result<bool>
+    ensures ok { IfOk result (λ b. IsTrue b
+        ↔ ReferenceSurvives (chosen_form format (map identity_of list.now) dependency.now) (reading_list format (map identity_of list.now)) dependency.now) }
+    ensures err { IsOkUnless result Memory }
+{
+    let form = chosen_form(format, list, dependency)?;
+    let survives = reference_survives(alloc, &form, reading_list(format, list), dependency)?;
+    Ok(survives)
+}
+
+// The list in which references are looked up: in V1 they are in full.
+fn reading_list(format: ResolveVersion, list: &[Package]) -> &[Package]
+    ensures { map identity_of result.now ≡ reading_list format (map identity_of list.now) }
+{
+    match format {
+        ResolveVersion::V1 => &[],
+        ResolveVersion::V2 | ResolveVersion::V3 | ResolveVersion::V4 => list,
+    }
+}
+
+fn full_references_survive(
+    alloc: Global,
+    format: ResolveVersion,
+    dependencies: &[Dependency],
+) -> Result<bool>
+    ensures ok { IfOk result (λ b. IsTrue b
+        ↔ AllByRecursion (λ d. ReferenceSurvives (in_full (is_escaped format) d) [] d) dependencies.now) }
+    ensures err { IsOkUnless result Memory }
+{
+    for dependency in dependencies {
+        if !full_reference_survives(alloc, format, dependency)? {
+            return Ok(false);
+        }
+    }
+    Ok(true)
+}
+
+fn full_reference_survives(
+    alloc: Global,
+    format: ResolveVersion,
+    dependency: &Dependency,
+) -> Result<bool>
+    ensures ok { IfOk result (λ b. IsTrue b
+        ↔ ReferenceSurvives (in_full (is_escaped format) dependency.now) [] dependency.now) }
+    ensures err { IsOkUnless result Memory }
+{
+    let form = EncodableDependency::from_dependency(dependency, format)?;
+    let survives = reference_survives(alloc, &form, &[], dependency)?;
+    Ok(survives)
+}

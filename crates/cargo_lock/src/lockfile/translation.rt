@@ -1,0 +1,68 @@
+//! Translation between formats.
+
+ghost use Rattle.std.specs.Prelude.{◌≡◌, IfErr, IfOk};
+ghost use Rattle.cargo_lock_parts.specs.Error.{OnlyTooLong, ReadsUrls, RefusesUrls};
+ghost use Rattle.cargo_lock.specs.Meaning.{meaning};
+ghost use Rattle.cargo_lock.specs.Survives.{in_format};
+ghost use Rattle.cargo_lock.specs.Table.{table_of};
+ghost use Rattle.cargo_lock.specs.Translation.{IsStuck, KeepsThrough, LeadsTo, SurvivesEach, translated};
+
+use crate::error::Result;
+use crate::lockfile::Lockfile;
+use crate::lockfile::reading::read;
+use crate::lockfile::version::ResolveVersion;
+use std::alloc::Global;
+
+impl Lockfile {
+    /// The lockfile, translated to each of these formats in order: it is set to the format, written
+    /// as a table and read. Without a format it is a copy.
+    ///
+    /// Where the lockfile before each step survives the format of the step (see `survives`), the
+    /// packages, the root and the patches stay equal. Otherwise they may change, or be refused:
+    /// `Parse` says what a table could not be read for.
+    pub fn translate_through(&self, alloc: Global, formats: &[ResolveVersion]) -> Result<Lockfile>
+        ensures chain { IfOk result (LeadsTo formats.now self.now) }
+        ensures stuck { IfErr result (λ e. RefusesUrls e (IsStuck formats.now self.now)) }
+        ensures kept { SurvivesEach formats.now self.now → IfOk result (KeepsThrough formats.now self.now) }
+        ensures refused { SurvivesEach formats.now self.now → IfErr result OnlyTooLong }
+    {
+        self.translated(alloc, formats)
+    }
+
+    fn translated(&self, alloc: Global, formats: &[ResolveVersion]) -> Result<Lockfile>
+        ensures { ReadsUrls (λ x. x) result (translated formats.now self.now) }
+    {
+        let mut lockfile = self.clone()?;
+        for format in formats {
+            lockfile = lockfile.step(alloc, *format)?;
+        }
+        Ok(lockfile)
+    }
+
+    // One step: the lockfile, written in this format and read.
+    fn step(self, alloc: Global, format: ResolveVersion) -> Result<Lockfile>
+        ensures { ReadsUrls (λ x. x) result (meaning (table_of (in_format format self))) }
+    {
+        let table = self.in_format(format).to_table(alloc)?;
+        read(alloc, &table)
+    }
+
+    fn in_format(self, format: ResolveVersion) -> Lockfile
+        ensures { result ≡ in_format format self }
+    {
+        let Lockfile {
+            version: _,
+            packages,
+            root,
+            metadata,
+            patch,
+        } = self;
+        Lockfile {
+            version: format,
+            packages,
+            root,
+            metadata,
+            patch,
+        }
+    }
+}
