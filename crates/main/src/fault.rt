@@ -1,12 +1,13 @@
 //! Why the program fails.
-ghost use Rattle.std.specs.Prelude.{◌≡◌, ◌≢◌};
+ghost use Rattle.std.specs.Prelude.{◌≡◌, ◌≢◌, ◌⊎◌, String, string_bytes};
+ghost use Rattle.std.specs.declared.alloc.Global.{Global};
 ghost use Rattle.std.specs.IoError.{error_kind};
 ghost use Rattle.cargo_lock_parts.specs.declared.error.Error.TheVariants.{Io, Memory};
-ghost use Rattle.main.specs.declared.fault.Fault.TheVariants.{Library};
+ghost use Rattle.main.specs.declared.fault.Fault.TheVariants.{Library, Spec};
 
 use cargo_lock::Error;
 use clap::error::ErrorKind;
-use std::alloc::{AllocError, AllocFailed};
+use std::alloc::{AllocError, AllocFailed, Global};
 use std::io;
 use thiserror::Error as DeriveError;
 
@@ -21,6 +22,14 @@ pub enum Fault {
     /// The words are none that the program takes. The parser's text ends its last line.
     #[error("{0}")]
     Words(clap::Error),
+
+    /// The lockfile does not survive the format of this number.
+    #[error("lockfile does not survive format `{0}`\n")]
+    Lost(u32),
+
+    /// A specification fits no package.
+    #[error("invalid dependency name: `{0}`\n")]
+    Spec(String),
 
     /// The words name no command.
     #[error("no command\n")]
@@ -38,6 +47,16 @@ impl Fault {
         match error.kind() {
             io::ErrorKind::OutOfMemory => Fault::Library(Error::Memory),
             kind => Fault::Library(Error::Io(kind)),
+        }
+    }
+
+    /// The fault of a specification that fits no package, or want of memory.
+    pub fn of_spec(alloc: Global, spec: &str) -> Fault
+        ensures { (result ≡ Library Memory) ⊎ ((said : String Global) × (result ≡ Spec said) × (string_bytes said ≡ spec.now)) }
+    {
+        match String::from_str(alloc, spec) {
+            Ok(spec) => Fault::Spec(spec),
+            Err(_) => Fault::Library(Error::Memory),
         }
     }
 }

@@ -1,4 +1,6 @@
 //! The program over writers in memory, and files that each test writes.
+mod translations;
+
 use crate::run;
 use std::io::{ErrorKind, Write};
 use std::path::PathBuf;
@@ -65,7 +67,7 @@ fn path_of(rt: &HostRuntime, name: &str) -> Result<PathBuf, Fail> {
 }
 
 /// A file for this test alone that holds these bytes.
-fn file_of(rt: &HostRuntime, name: &str, bytes: &[u8]) -> Result<PathBuf, Fail> {
+pub(crate) fn file_of(rt: &HostRuntime, name: &str, bytes: &[u8]) -> Result<PathBuf, Fail> {
     let path = path_of(rt, name)?;
     fs::write(rt, path.as_path(), bytes)?;
     Ok(path)
@@ -73,23 +75,23 @@ fn file_of(rt: &HostRuntime, name: &str, bytes: &[u8]) -> Result<PathBuf, Fail> 
 
 /// What the two writers took, and the status.
 #[derive(Drop)]
-struct Outcome {
-    out: Vec<u8>,
-    err: Vec<u8>,
-    status: ExitCode,
+pub(crate) struct Outcome {
+    pub(crate) out: Vec<u8>,
+    pub(crate) err: Vec<u8>,
+    pub(crate) status: ExitCode,
 }
 
 impl Outcome {
-    fn out(&self) -> &str {
+    pub(crate) fn out(&self) -> &str {
         std::str::from_utf8(self.out.as_slice()).unwrap_or("not text")
     }
 
-    fn err(&self) -> &str {
+    pub(crate) fn err(&self) -> &str {
         std::str::from_utf8(self.err.as_slice()).unwrap_or("not text")
     }
 }
 
-fn outcome_of(rt: &HostRuntime, words: &[&str]) -> Outcome {
+pub(crate) fn outcome_of(rt: &HostRuntime, words: &[&str]) -> Outcome {
     let mut out: Vec<u8> = Vec::new(rt.alloc());
     let mut err: Vec<u8> = Vec::new(rt.alloc());
     let status = run(rt, words, &mut out, &mut err);
@@ -161,7 +163,7 @@ fn unreadable_files(rt: HostRuntime) -> Result<(), Fail> {
 
 #[test]
 fn words_refused(rt: HostRuntime) {
-    for word in ["frob", "", "-f", "translate"] {
+    for word in ["frob", "", "-f"] {
         let outcome = outcome_of(&rt, &[word]);
         assert!(rt; outcome.err().starts_with("*** error: "), "at {word:?}");
         assert!(rt; outcome.err().ends_with('\n'), "at {word:?}");
@@ -224,8 +226,8 @@ fn source_refused(rt: HostRuntime) -> Result<(), Fail> {
 /// A writer that takes one byte a call for so many calls. Each later call, a flush too, fails with
 /// the kind, or takes nothing where there is none.
 #[derive(Drop)]
-struct Failing {
-    taken: Vec<u8>,
+pub(crate) struct Failing {
+    pub(crate) taken: Vec<u8>,
     calls: usize,
     kind: Option<ErrorKind>,
 }
@@ -252,7 +254,7 @@ impl Write for Failing {
     }
 }
 
-fn failing_after(rt: &HostRuntime, calls: usize, kind: Option<ErrorKind>) -> Failing {
+pub(crate) fn failing_after(rt: &HostRuntime, calls: usize, kind: Option<ErrorKind>) -> Failing {
     Failing {
         taken: Vec::new(rt.alloc()),
         calls,

@@ -7,6 +7,9 @@ use std::path::Path;
 /// The lockfile that is read where the words name none.
 const DEFAULT_PATH: &str = "Cargo.lock";
 
+/// The format that is written where the words name none.
+const DEFAULT_FORMAT: &str = "3";
+
 /// The words as the parser reads them, the program's name first. A leading `lock` is left out, and
 /// `list` stands before the first option where no command does. Fails for want of memory.
 pub fn with_command<'a, S: AsStr>(
@@ -34,12 +37,19 @@ pub fn lockfile_path<'a>(options: &ArgMatches<'a>) -> Path<'a> {
     Path::new(options.get_str("file").unwrap_or(DEFAULT_PATH))
 }
 
+/// The text of the format that a command writes.
+pub fn format<'a>(options: &ArgMatches<'a>) -> &'a str {
+    options.get_str("version").unwrap_or(DEFAULT_FORMAT)
+}
+
 /// The parser of the words. Fails for want of memory.
 pub fn command<'a>(alloc: Global) -> Result<Command<'a>, AllocError> {
     Command::new(alloc, "cargo-lock")
         .about("Looks into lockfiles")
         .subcommand_required(true)
-        .subcommand(list(alloc)?)
+        .subcommand(list(alloc)?)?
+        .subcommand(translate(alloc)?)?
+        .subcommand(tree(alloc)?)
 }
 
 /// The command `list` and its options.
@@ -50,6 +60,45 @@ fn list<'a>(alloc: Global) -> Result<Command<'a>, AllocError> {
         .arg(value(alloc, "package", 'p', "NAME").help("Lists only the packages of this name"))?
         .arg(flag(alloc, "dependencies", 'd').help("Lists the dependencies of each package"))?
         .arg(flag(alloc, "sources", 's').help("Shows where each comes from"))
+}
+
+/// The command `translate` and its options.
+fn translate<'a>(alloc: Global) -> Result<Command<'a>, AllocError> {
+    Command::new(alloc, "translate")
+        .about("Writes a lockfile in another format")
+        .arg(file(alloc))?
+        .arg(value(alloc, "output", 'o', "PATH").help(
+            "The file that is written, - for standard output",
+        ))?
+        .arg(
+            value(alloc, "version", 'v', "FORMAT")
+                .default_value(DEFAULT_FORMAT)
+                .help("The format, 1 to 4"),
+        )?
+        .arg(
+            Arg::new(alloc, "check")
+                .long("check")
+                .action(ArgAction::SetTrue)
+                .help("Refuses a lockfile that the format does not keep"),
+        )
+}
+
+/// The command `tree`, its options and its specifications.
+fn tree<'a>(alloc: Global) -> Result<Command<'a>, AllocError> {
+    Command::new(alloc, "tree")
+        .about("Draws the trees of packages")
+        .arg(file(alloc))?
+        .arg(flag(alloc, "exact", 'x').help("Shows checksums, or else where each comes from"))?
+        .arg(flag(alloc, "invert", 'i').help("Draws what depends on each package"))?
+        .arg(specs(alloc))
+}
+
+/// The specifications of packages.
+fn specs<'a>(alloc: Global) -> Arg<'a> {
+    Arg::new(alloc, "spec")
+        .value_name("SPEC")
+        .action(ArgAction::Append)
+        .help("Packages, by name, version, both as NAME@VERSION, checksum or commit")
 }
 
 /// The option for the path of the lockfile.

@@ -1,0 +1,223 @@
+//! The command `tree`: the trees of the roots of a lockfile, or of the packages that are asked for.
+use crate::fault::Fault;
+use crate::output::put;
+use crate::words;
+use cargo_lock::dependency::Tree;
+use cargo_lock::dependency::graph::{EdgeDirection, NodeIndex};
+use cargo_lock::{Checksum, Dependency, Error, Lockfile, Package, SourceId, Version};
+use clap::ArgMatches;
+use std::alloc::Global;
+use std::io::Write;
+use std::rt::Files;
+
+/// How trees are printed.
+#[derive(Clone, Copy)]
+struct Style {
+    direction: EdgeDirection,
+    exact: bool,
+}
+
+/// Prints the trees of the packages that the specifications name, or without any those of all
+/// roots, with an empty line between two trees. Fails where the lockfile is not read or has no tree,
+/// where a specification fits no package, or where `out` fails; a beginning of the text was then
+/// written in the last case, and nothing in the others.
+pub fn run<R: Files + AllocGlobal, W: Write>(
+    rt: &R,
+    options: &ArgMatches<'_>,
+    out: &mut W,
+) -> Result<(), Fault> {
+    let alloc = rt.alloc();
+    let lockfile = Lockfile::load(rt, alloc, words::lockfile_path(options))?;
+    let tree = lockfile.dependency_tree(alloc)?;
+    let starts = starts(alloc, &lockfile, &tree, options)?;
+    let style = Style {
+        direction: direction(options.get_flag("invert")),
+        exact: options.get_flag("exact"),
+    };
+    print_trees(alloc, out, &tree, starts.as_slice(), style)
+}
+
+fn direction(inverted: bool) -> EdgeDirection {
+    if inverted {
+        EdgeDirection::Incoming
+    } else {
+        EdgeDirection::Outgoing
+    }
+}
+
+/// The nodes whose trees are printed.
+fn starts(
+    alloc: Global,
+    lockfile: &Lockfile,
+    tree: &Tree,
+    options: &ArgMatches<'_>,
+) -> Result<Vec<NodeIndex>, Fault> {
+    match options.get_strs("spec") {
+        Some(specs) if !specs.is_empty() => {
+            starts_of(alloc, lockfile.packages.as_slice(), tree, specs)
+        }
+        _ => Ok(tree.roots(alloc)?),
+    }
+}
+
+/// The nodes of the packages that the specifications name, in their order.
+fn starts_of(
+    alloc: Global,
+    packages: &[Package],
+    tree: &Tree,
+    specs: &[&str],
+) -> Result<Vec<NodeIndex>, Fault> {
+    let mut starts = Vec::new(alloc);
+    for spec in specs {
+        starts.push(start_of(alloc, packages, tree, spec)?)?;
+    }
+    Ok(starts)
+}
+
+/// The node of the first package that a specification fits.
+fn start_of(
+    alloc: Global,
+    packages: &[Package],
+    tree: &Tree,
+    spec: &str,
+) -> Result<NodeIndex, Fault> {
+    let parsed = Spec::parse(alloc, spec)?;
+    match first_fitting(alloc, packages, &parsed)? {
+        Some(package) => node_of(alloc, tree, package, spec),
+        None => Err(Fault::of_spec(alloc, spec)),
+    }
+}
+
+/// The node that the tree has for the identity of a package.
+fn node_of(alloc: Global, tree: &Tree, package: &Package, spec: &str) -> Result<NodeIndex, Fault> {
+    let identity = Dependency::of(package)?;
+    match tree.nodes().get(&identity) {
+        Some(node) => Ok(*node),
+        None => Err(Fault::of_spec(alloc, spec)),
+    }
+}
+
+fn first_fitting<'p>(
+    alloc: Global,
+    packages: &'p [Package],
+    spec: &Spec<'_>,
+) -> Result<Option<&'p Package>, Fault> {
+    for package in packages {
+        if spec.fits(alloc, package)? {
+            return Ok(Some(package));
+        }
+    }
+    Ok(None)
+}
+
+/// A specification of a package, cut at its first `@` into a name and a second part. Without an `@`
+/// it stands for both.
+#[derive(Drop)]
+struct Spec<'a> {
+    name: &'a str,
+    part: &'a str,
+
+    /// Whether the name and the second part have to fit, and not one of them.
+    both: bool,
+
+    /// The version that the second part reads as, if it does.
+    version: Option<Version>,
+}
+
+impl<'a> Spec<'a> {
+    /// Reads a specification. Fails for want of memory.
+    fn parse(alloc: Global, spec: &'a str) -> Result<Spec<'a>, Fault> {
+        let (name, part, both) = match spec.split_once('@') {
+            Some((name, part)) => (name, part, true),
+            None => (spec, spec, false),
+        };
+        let version = version_in(alloc, part)?;
+        Ok(Spec {
+            name,
+            part,
+            both,
+            version,
+        })
+    }
+
+    /// Whether a package fits. Fails for want of memory.
+    fn fits(&self, alloc: Global, package: &Package) -> Result<bool, Fault> {
+        let named = package.name.as_str() == self.name;
+        if self.both {
+            return Ok(named && self.part_fits(alloc, package)?);
+        }
+        Ok(named || self.part_fits(alloc, package)?)
+    }
+
+    /// Whether the second part is the version of a package, or, where it is no version, its
+    /// checksum or the precise text of its source.
+    fn part_fits(&self, alloc: Global, package: &Package) -> Result<bool, Fault> {
+        if let Some(version) = &self.version {
+            return Ok(package.version == *version);
+        }
+        Ok(
+            is_precise(&package.source, self.part)
+                || is_checksum(alloc, &package.checksum, self.part)?,
+        )
+    }
+}
+
+/// The version that a text reads as, if it does. Fails for want of memory.
+fn version_in(alloc: Global, text: &str) -> Result<Option<Version>, Fault> {
+    match Version::parse(alloc, text) {
+        Ok(version) => Ok(Some(version)),
+        Err(fault) => match Error::from(fault) {
+            Error::Memory => Err(Fault::from(Error::Memory)),
+            _ => Ok(None),
+        },
+    }
+}
+
+/// Whether a text is the precise text of a source.
+fn is_precise(source: &Option<SourceId>, text: &str) -> bool {
+    match source {
+        Some(source) => source.precise() == Some(text),
+        None => false,
+    }
+}
+
+/// Whether a text is the lower-case text of a checksum. Fails for want of memory.
+fn is_checksum(alloc: Global, checksum: &Option<Checksum>, text: &str) -> Result<bool, Fault> {
+    match checksum {
+        Some(checksum) => Ok(checksum.to_lower_hex(alloc)?.as_str() == text),
+        None => Ok(false),
+    }
+}
+
+/// Prints the trees of nodes, with an empty line between two of them.
+fn print_trees<W: Write>(
+    alloc: Global,
+    out: &mut W,
+    tree: &Tree,
+    starts: &[NodeIndex],
+    style: Style,
+) -> Result<(), Fault> {
+    let mut is_first = true;
+    for start in starts {
+        if !is_first {
+            put(out, "\n")?;
+        }
+        is_first = false;
+        print_tree(alloc, out, tree, *start, style)?;
+    }
+    Ok(())
+}
+
+/// Prints the tree of a node.
+fn print_tree<W: Write>(
+    alloc: Global,
+    out: &mut W,
+    tree: &Tree,
+    start: NodeIndex,
+    style: Style,
+) -> Result<(), Fault> {
+    if start.index() < tree.graph().node_count() {
+        tree.render(alloc, out, start, style.direction, style.exact)?;
+    }
+    Ok(())
+}
