@@ -3,7 +3,11 @@
 #![tactic(auto)]
 
 #[cfg(test)]
+mod chains;
+#[cfg(test)]
 mod checksums;
+#[cfg(test)]
+mod drawings;
 #[cfg(test)]
 mod every;
 #[cfg(test)]
@@ -12,6 +16,8 @@ mod faults;
 mod files;
 #[cfg(test)]
 mod formats;
+#[cfg(test)]
+mod graphs;
 #[cfg(test)]
 mod large;
 #[cfg(test)]
@@ -33,7 +39,11 @@ mod shortening;
 #[cfg(test)]
 mod shown;
 #[cfg(test)]
+mod sinks;
+#[cfg(test)]
 mod sources;
+#[cfg(test)]
+mod survival;
 #[cfg(test)]
 mod table_faults;
 #[cfg(test)]
@@ -42,5 +52,7 @@ mod tables;
 mod texts;
 #[cfg(test)]
 mod translating;
+#[cfg(test)]
+mod translation;
 #[cfg(test)]
 mod writing;

@@ -73,6 +73,16 @@ fn places_of_checksums(rt: HostRuntime) {
     }
 }
 
+// The checksum that the metadata of a lockfile holds for its first package.
+fn found_checksum(alloc: Global, text: &str) -> Result<String, Error> {
+    let lockfile = Lockfile::from_str(alloc, text)?;
+    let encodable = EncodableLockfile::of(alloc, &lockfile)?;
+    match lockfile.packages.first() {
+        Some(one) => found_for(alloc, &encodable, one),
+        None => Ok(String::from_str(alloc, "no package")?),
+    }
+}
+
 // The checksum of the package beside these lines of metadata.
 struct First;
 
@@ -140,4 +150,61 @@ fn checksums_found(rt: HostRuntime) {
         first_wrong::<FirstByNumber>(rt.alloc(), &CHECKSUMS_FOUND),
         None
     );
+}
+
+// The checksum of the package where the number is that of V3.
+struct FirstOfV3;
+
+impl Question for FirstOfV3 {
+    fn ask(alloc: Global, text: &str) -> Result<String, Error> {
+        let written = first_format(alloc, "version = 3", text)?;
+        first_checksum(alloc, written.as_str())
+    }
+}
+
+// What the metadata holds for the package where the number is that of V3.
+struct FoundInV3;
+
+impl Question for FoundInV3 {
+    fn ask(alloc: Global, text: &str) -> Result<String, Error> {
+        let written = first_format(alloc, "version = 3", text)?;
+        found_checksum(alloc, written.as_str())
+    }
+}
+
+// In V3 the metadata says nothing of the package, but `find_checksum` still finds what it holds.
+const CHECKSUMS_IN_V3: [(&str, &str); 4] = [
+    (
+        "\"checksum foo\" = \"zz\"\n\"checksum foo 1.0.0 (registry+https://e.org/x)\" = \"af6f3550d8dff9ef7dc34d384ac6f107e5d31c8f57d9f28e0081503f547ac8f5\"",
+        "af6f3550d8dff9ef7dc34d384ac6f107e5d31c8f57d9f28e0081503f547ac8f5",
+    ),
+    (
+        "\"checksum foo 1.0.0\" = \"zz\"\n\"checksum foo 1.0.0 (registry+https://e.org/x)\" = \"af6f3550d8dff9ef7dc34d384ac6f107e5d31c8f57d9f28e0081503f547ac8f5\"",
+        "none",
+    ),
+    (
+        "\"checksum bar 1.0.0\" = \"af6f3550d8dff9ef7dc34d384ac6f107e5d31c8f57d9f28e0081503f547ac8f5\"",
+        "none",
+    ),
+    (
+        "\"foo 1.0.0\" = \"af6f3550d8dff9ef7dc34d384ac6f107e5d31c8f57d9f28e0081503f547ac8f5\"",
+        "none",
+    ),
+];
+
+const NOTHING_IN_V3: [(&str, &str); 2] = [
+    (
+        "\"checksum foo 1.0.0 (registry+https://e.org/x)\" = \"af6f3550d8dff9ef7dc34d384ac6f107e5d31c8f57d9f28e0081503f547ac8f5\"",
+        "none",
+    ),
+    ("\"checksum foo 1.0.0\" = \"zz\"", "none"),
+];
+
+#[test]
+fn checksums_in_v3(rt: HostRuntime) {
+    assert_eq!(rt;
+        first_wrong::<FoundInV3>(rt.alloc(), &CHECKSUMS_IN_V3),
+        None
+    );
+    assert_eq!(rt; first_wrong::<FirstOfV3>(rt.alloc(), &NOTHING_IN_V3), None);
 }

@@ -1,6 +1,9 @@
 //! References: read, printed, resolved and shortened.
 
-use crate::shown::{Question, first_other_start, first_wrong, or_fault};
+use crate::shown::{
+    CRATES_IO, PairQuestion, Question, TAGGED, TAGGED_PLAIN, first_other_start, first_wrong,
+    first_wrong_pair, or_fault,
+};
 use cargo_lock::lockfile::encoding::{EncodableDependency, EncodableLockfile, EncodableSourceId};
 use cargo_lock::{Error, Lockfile, SourceId};
 use std::alloc::Global;
@@ -13,15 +16,6 @@ fn read_text(alloc: Global, text: &str) -> Result<String, Error> {
 fn copy_text(alloc: Global, text: &str) -> Result<String, Error> {
     let copy = EncodableDependency::from_str(alloc, text)?.clone()?;
     Ok(copy.to_string(alloc)?)
-}
-
-// The name in what is read of two words with a character between.
-fn name_with(alloc: Global, character: char) -> Result<String, Error> {
-    let text = format!(in alloc; "foo{character}1.0.0")?;
-    let reference = EncodableDependency::from_str(alloc, text.as_str())?;
-    let name = &reference.name;
-    let whole = reference.version.is_none() && name.as_str() == text.as_str();
-    Ok(whole.to_string(alloc)?)
 }
 
 #[test]
@@ -52,43 +46,147 @@ fn references_printed(rt: HostRuntime) {
     }
 }
 
-// A source marked escaped or plain, printed.
-fn marked(alloc: Global, text: &str, escaped: bool) -> Result<String, Error> {
-    let source = SourceId::from_url(alloc, text)?;
-    let source = if escaped {
-        EncodableSourceId::new(source)
-    } else {
-        EncodableSourceId::without_url_encoded(source)
-    };
+// A marked source, copied and printed.
+fn shown(alloc: Global, source: &EncodableSourceId) -> Result<String, Error> {
     let copy = source.clone()?;
     Ok(copy.as_url().to_string(alloc)?)
 }
 
-// Whether a source marked escaped equals another one marked plain, and the URL of the first.
-fn marked_equal(alloc: Global, one: &str, other: &str) -> Result<String, Error> {
-    let one = EncodableSourceId::new(SourceId::from_url(alloc, one)?);
-    let other = EncodableSourceId::without_url_encoded(SourceId::from_url(alloc, other)?);
-    let equal = one == other;
+// Whether two marked sources are equal, and the URL of the first.
+fn are_equal(
+    alloc: Global,
+    one: &EncodableSourceId,
+    other: &EncodableSourceId,
+) -> Result<String, Error> {
+    let equal = *one == *other;
     let url = one.url().as_str();
     Ok(format!(in alloc; "{equal} {url}")?)
 }
 
-// A reference without a version, which no text reads as.
-fn versionless(alloc: Global, text: &str) -> Result<EncodableDependency, Error> {
+// A source marked escaped, printed.
+struct Escaped;
+
+impl Question for Escaped {
+    fn ask(alloc: Global, text: &str) -> Result<String, Error> {
+        let source = SourceId::from_url(alloc, text)?;
+        shown(alloc, &EncodableSourceId::new(source))
+    }
+}
+
+// A source marked plain, printed.
+struct Plain;
+
+impl Question for Plain {
+    fn ask(alloc: Global, text: &str) -> Result<String, Error> {
+        let source = SourceId::from_url(alloc, text)?;
+        shown(alloc, &EncodableSourceId::without_url_encoded(source))
+    }
+}
+
+// Whether a source marked escaped equals another one marked plain, and the URL of the first.
+struct EqualMarked;
+
+impl PairQuestion for EqualMarked {
+    fn ask(alloc: Global, one: &str, other: &str) -> Result<String, Error> {
+        let one = EncodableSourceId::new(SourceId::from_url(alloc, one)?);
+        let other = EncodableSourceId::without_url_encoded(SourceId::from_url(alloc, other)?);
+        are_equal(alloc, &one, &other)
+    }
+}
+
+const MARKED_ESCAPED: [(&str, &str); 3] = [
+    (
+        "git+https://e.org/x?tag=a+b#f",
+        "git+https://e.org/x?tag=a+b#f",
+    ),
+    (TAGGED, TAGGED),
+    (CRATES_IO, CRATES_IO),
+];
+
+const MARKED_PLAIN: [(&str, &str); 3] = [
+    (
+        "git+https://e.org/x?tag=a+b#f",
+        "git+https://e.org/x?tag=a b#f",
+    ),
+    (TAGGED, TAGGED_PLAIN),
+    (CRATES_IO, CRATES_IO),
+];
+
+// The mark does not count, and the commit does.
+const MARKED_EQUAL: [(&str, &str, &str); 2] = [
+    (
+        "git+https://e.org/x?tag=a+b#f",
+        "git+https://e.org/x?tag=a+b#f",
+        "true https://e.org/x",
+    ),
+    (
+        "git+https://e.org/x?tag=a+b#f",
+        "git+https://e.org/x?tag=a+b",
+        "false https://e.org/x",
+    ),
+];
+
+#[test]
+fn marked_sources(rt: HostRuntime) {
+    assert_eq!(rt; first_wrong::<Escaped>(rt.alloc(), &MARKED_ESCAPED), None);
+    assert_eq!(rt; first_wrong::<Plain>(rt.alloc(), &MARKED_PLAIN), None);
+    assert_eq!(rt;
+        first_wrong_pair::<EqualMarked>(rt.alloc(), &MARKED_EQUAL),
+        None
+    );
+}
+
+// A reference with a source and without a version, which no text reads as.
+fn without_version(alloc: Global, text: &str) -> Result<EncodableDependency, Error> {
     let mut reference = EncodableDependency::from_str(alloc, text)?;
     reference.version = None;
     Ok(reference)
 }
 
-fn versionless_text(alloc: Global, text: &str) -> Result<String, Error> {
-    let reference = versionless(alloc, text)?;
-    Ok(reference.to_string(alloc)?)
+// A reference without its version, printed.
+struct Versionless;
+
+impl Question for Versionless {
+    fn ask(alloc: Global, text: &str) -> Result<String, Error> {
+        let reference = without_version(alloc, text)?;
+        Ok(reference.to_string(alloc)?)
+    }
 }
 
-fn versionless_resolved(alloc: Global, text: &str) -> Result<String, Error> {
-    let reference = versionless(alloc, text)?;
-    let dependency = reference.resolve(alloc, &[])?;
-    Ok(dependency.to_string(alloc)?)
+// What a reference without its version stands for where there is no package.
+struct VersionlessAlone;
+
+impl Question for VersionlessAlone {
+    fn ask(alloc: Global, text: &str) -> Result<String, Error> {
+        let reference = without_version(alloc, text)?;
+        let dependency = reference.resolve(alloc, &[])?;
+        Ok(dependency.to_string(alloc)?)
+    }
+}
+
+const VERSIONLESS: [(&str, &str); 2] = [
+    (
+        "foo 1.0.0 (git+https://e.org/x)",
+        "foo (git+https://e.org/x)",
+    ),
+    ("foo 1.0.0", "foo"),
+];
+
+const VERSIONLESS_ALONE: [(&str, &str); 2] = [
+    (
+        "foo 1.0.0 (git+https://e.org/x)",
+        "parse error: couldn't resolve dependency: foo",
+    ),
+    ("foo", "parse error: couldn't resolve dependency: foo"),
+];
+
+#[test]
+fn versionless_references(rt: HostRuntime) {
+    assert_eq!(rt; first_wrong::<Versionless>(rt.alloc(), &VERSIONLESS), None);
+    assert_eq!(rt;
+        first_wrong::<VersionlessAlone>(rt.alloc(), &VERSIONLESS_ALONE),
+        None
+    );
 }
 
 const LIST: &str = "version = 3
@@ -243,7 +341,7 @@ fn resolved_in(alloc: Global, list: &Lockfile, text: &str) -> Result<String, Err
     resolved_among(alloc, &list, text)
 }
 
-const REFERENCES_RESOLVED: [(&str, &str); 10] = [
+const REFERENCES_RESOLVED: [(&str, &str); 11] = [
     (
         "foo",
         "foo 1.0.0 (registry+https://github.com/rust-lang/crates.io-index)",
@@ -263,6 +361,7 @@ const REFERENCES_RESOLVED: [(&str, &str); 10] = [
     ("bar 0.1.0", "bar 0.1.0"),
     ("bar 0.1.0+b", "bar 0.1.0+b"),
     ("gone 1.0.0", "gone 1.0.0"),
+    ("gone", "parse error: couldn't resolve dependency: gone"),
 ];
 
 #[test]

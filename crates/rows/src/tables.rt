@@ -1,7 +1,7 @@
 //! Lockfiles, written as tables and as what stands in between.
 
 use crate::lockfiles::with_format;
-use crate::shown::or_fault;
+use crate::shown::{holds, or_fault};
 use cargo_lock::lockfile::encoding::EncodableLockfile;
 use cargo_lock::{Error, Lockfile, ResolveVersion};
 use std::alloc::Global;
@@ -96,6 +96,53 @@ fn is_printed(
     Ok(one == other)
 }
 
+// Whether the values of a lockfile are printed as the lockfile is.
+fn values_are_printed(alloc: Global, lockfile: &Lockfile) -> Result<bool, Error> {
+    let encodable = EncodableLockfile::of(alloc, lockfile)?;
+    is_printed(alloc, lockfile, &encodable)
+}
+
+// Whether the way back from the values is to equal packages, patches and format.
+fn values_go_back(alloc: Global, lockfile: &Lockfile) -> Result<bool, Error> {
+    let encodable = EncodableLockfile::of(alloc, lockfile)?;
+    let back = encodable.into_lockfile(alloc)?;
+    Ok(
+        back.packages == lockfile.packages
+            && back.patch == lockfile.patch
+            && back.version == lockfile.version,
+    )
+}
+
+fn number_of_values(alloc: Global, lockfile: &Lockfile) -> Result<i64, Error> {
+    let encodable = EncodableLockfile::of(alloc, lockfile)?;
+    Ok(encodable.version.unwrap_or(0))
+}
+
+// The number that stands in the file or 0, whether the text is that of the lockfile, and whether
+// the way back is to an equal one.
+fn between(alloc: Global, text: &str, format: ResolveVersion) -> Result<String, Error> {
+    let lockfile = with_format(alloc, text, format)?;
+    let number = number_of_values(alloc, &lockfile)?;
+    let printed = values_are_printed(alloc, &lockfile)?;
+    let equal = values_go_back(alloc, &lockfile)?;
+    Ok(format!(in alloc; "{number} {printed} {equal}")?)
+}
+
+const BETWEEN: [(ResolveVersion, &str); 4] = [
+    (V1, "0 true true"),
+    (V2, "0 true true"),
+    (V3, "3 true true"),
+    (V4, "4 true true"),
+];
+
+#[test]
+fn values_of_lockfiles(rt: HostRuntime) {
+    for (format, wanted) in BETWEEN {
+        let answer = or_fault(rt.alloc(), between(rt.alloc(), PARTS, format));
+        assert_eq!(rt; answer.as_str(), wanted);
+    }
+}
+
 // The values of a text under another number.
 fn numbered(alloc: Global, text: &str, number: Option<i64>) -> Result<EncodableLockfile, Error> {
     let lockfile = Lockfile::from_str(alloc, text)?;
@@ -104,10 +151,71 @@ fn numbered(alloc: Global, text: &str, number: Option<i64>) -> Result<EncodableL
     Ok(encodable)
 }
 
+fn numbered_text(alloc: Global, text: &str, number: Option<i64>) -> Result<String, Error> {
+    let encodable = numbered(alloc, text, number)?;
+    encodable.to_string(alloc)
+}
+
 // The format of the lockfile that these values are.
 fn numbered_format(alloc: Global, text: &str, number: Option<i64>) -> Result<String, Error> {
     let encodable = numbered(alloc, text, number)?;
     let lockfile = encodable.into_lockfile(alloc)?;
     let format = u32::from(lockfile.version);
     Ok(format.to_string(alloc)?)
+}
+
+// A number, what the text then has, and the format or the fault of the way back.
+const NUMBERED: [(Option<i64>, &str, &str); 6] = [
+    (None, "editing.\n\n[[package]]\n", "2"),
+    (Some(2), "editing.\n\n[[package]]\n", "2"),
+    (Some(3), "editing.\nversion = 3\n\n[[package]]\n", "3"),
+    (
+        Some(9),
+        "editing.\nversion = 9\n\n[[package]]\n",
+        "parse error: invalid Cargo.lock format version: `9`",
+    ),
+    (
+        Some(-1),
+        "editing.\n\n[[package]]\n",
+        "parse error: invalid Cargo.lock format version: `-1`",
+    ),
+    // References without a version say nothing in V1.
+    (
+        Some(1),
+        "editing.\n\n[[package]]\n",
+        "parse error: couldn't resolve dependency: foo",
+    ),
+];
+
+#[test]
+fn values_under_other_numbers(rt: HostRuntime) {
+    for (number, beginning, format) in NUMBERED {
+        let answer = or_fault(rt.alloc(), numbered_text(rt.alloc(), PARTS, number));
+        assert!(rt; answer.as_str().contains(beginning), "{answer}");
+        let answer = or_fault(rt.alloc(), numbered_format(rt.alloc(), PARTS, number));
+        assert_eq!(rt; answer.as_str(), format);
+    }
+}
+
+const PATCHED: &str =
+    "version = 3\n[[patch.unused]]\nname = \"p\"\nversion = \"1.0.0\"\nsource = \"path+file:///p\"\n";
+
+// Whether the patches between are those of the lockfile.
+fn keeps_patches(alloc: Global, text: &str) -> Result<bool, Error> {
+    let lockfile = Lockfile::from_str(alloc, text)?;
+    let encodable = EncodableLockfile::of(alloc, &lockfile)?;
+    Ok(encodable.patch == lockfile.patch && !lockfile.patch.is_empty())
+}
+
+// A patch keeps its path source among the values, and has none in the text.
+#[test]
+fn patches_of_values(rt: HostRuntime) {
+    assert!(rt; holds(keeps_patches(rt.alloc(), PATCHED)));
+    let answer = or_fault(rt.alloc(), numbered_text(rt.alloc(), PATCHED, None));
+    assert!(rt;
+        answer
+            .as_str()
+            .ends_with("\nname = \"p\"\nversion = \"1.0.0\"\n\n"),
+        "{answer}"
+    );
 }
