@@ -1,7 +1,8 @@
 //! The formats of lockfiles.
 
-ghost use Rattle.std.specs.Prelude.{◌≡◌};
-ghost use Rattle.cargo_lock_parts.specs.Error.{IsParseOrMemory, Reads};
+ghost use Rattle.std.specs.Prelude.{◌≡◌, ◌⊎◌, ◌++◌, ℕ, List, Some, codes};
+ghost use Rattle.cargo_lock_parts.specs.declared.error.Error.TheVariants.{Memory};
+ghost use Rattle.cargo_lock_parts.specs.Error.{IsParse, IsParseOrMemory, Reads};
 ghost use Rattle.cargo_lock.specs.Finds.{Finds};
 ghost use Rattle.cargo_lock.specs.Format.{IsFormatText, format_by, format_without_number, has_checksum, numbered, numbered_int};
 ghost use Rattle.cargo_lock.specs.Records.{texts_of};
@@ -149,7 +150,9 @@ fn numbered(number: u32) -> Option<ResolveVersion>
 
 // The refusal of what is no number of a format.
 fn invalid_format<T: fmt::Display + Drop>(alloc: Global, number: T) -> Error
-    ensures { IsParseOrMemory result }
+    ensures kind { IsParseOrMemory result }
+    ensures text { (shown : List ℕ) → T.output number ≡ Some shown
+        → (result ≡ Memory) ⊎ IsParse result (codes "invalid Cargo.lock format version: `" ++ shown ++ codes "`") }
 {
     match format!(in alloc; "invalid Cargo.lock format version: `{number}`") {
         Ok(text) => Error::Parse(text),

@@ -3,14 +3,14 @@
 //! The values are read in the order in which the keys are named here, and the first fault is
 //! answered. A fault of `semver` is a `Parse` here, so that a table is refused with `Parse` alone.
 
-ghost use Rattle.std.specs.Prelude.{◌≡◌, ◌↔◌, IsOkUnless, IsTrue, OnOk, option_map};
+ghost use Rattle.std.specs.Prelude.{◌≡◌, ◌↔◌, ◌⊎◌, ◌++◌, IsOkUnless, IsTrue, OnOk, codes, option_map};
 ghost use Rattle.std.specs.FinMap.{insert};
 ghost use Rattle.semver.specs.Identifiers.{parts_of};
 ghost use Rattle.semver.specs.Parse.{memory_error};
 ghost use Rattle.toml.specs.Data.{get_member};
 ghost use Rattle.toml.specs.View.{items_view, table_view, view};
 ghost use Rattle.cargo_lock_parts.specs.Checksum.{digest_of};
-ghost use Rattle.cargo_lock_parts.specs.Error.{IsParseOrMemory, ReadsUrls};
+ghost use Rattle.cargo_lock_parts.specs.Error.{IsParse, IsParseOrMemory, ReadsUrls};
 ghost use Rattle.cargo_lock_parts.specs.declared.error.Error.TheVariants.{Memory};
 ghost use Rattle.cargo_lock.specs.Form.{form_of, plainly};
 ghost use Rattle.cargo_lock.specs.Records.{texts_of};
@@ -79,7 +79,8 @@ fn all_entries_at(alloc: Global, table: &Table) -> Result<AllEntries>
 
 // The fault of a value or of an element of another type. The key is that of the list.
 fn wrong_type(alloc: Global, key: &str) -> Error
-    ensures { IsParseOrMemory result }
+    ensures kind { IsParseOrMemory result }
+    ensures text { (result ≡ Memory) ⊎ IsParse result (codes "wrong type: `" ++ key.now ++ codes "`") }
 {
     match format!(in alloc; "wrong type: `{key}`") {
         Ok(text) => Error::Parse(text),
@@ -89,7 +90,8 @@ fn wrong_type(alloc: Global, key: &str) -> Error
 
 // The fault of a required key that is missing.
 fn missing_key(alloc: Global, key: &str) -> Error
-    ensures { IsParseOrMemory result }
+    ensures kind { IsParseOrMemory result }
+    ensures text { (result ≡ Memory) ⊎ IsParse result (codes "missing key: `" ++ key.now ++ codes "`") }
 {
     match format!(in alloc; "missing key: `{key}`") {
         Ok(text) => Error::Parse(text),

@@ -1,12 +1,12 @@
 //! References: how a lockfile names the package that another one depends on.
 
-ghost use Rattle.std.specs.Prelude.{◌≡◌, ◌∷◌, [], IfOk, IsOkUnless, MatchOption, count_by, map, option_copied, option_map};
+ghost use Rattle.std.specs.Prelude.{◌≡◌, ◌⊎◌, ◌∷◌, ◌++◌, [], IfOk, IsOkUnless, MatchOption, codes, count_by, map, option_copied, option_map};
 ghost use Rattle.std.specs.List.{find};
 ghost use Rattle.std.specs.Option.{option_cmp};
 ghost use Rattle.std.specs.Str.Iter.{split_whitespace_rest};
 ghost use Rattle.semver.specs.Identifiers.{parts_of};
 ghost use Rattle.cargo_lock_parts.specs.declared.error.Error.TheVariants.{Memory};
-ghost use Rattle.cargo_lock_parts.specs.Error.{IsParseOrMemory, Reads, ReadsUrls};
+ghost use Rattle.cargo_lock_parts.specs.Error.{IsParse, IsParseOrMemory, Reads, ReadsUrls};
 ghost use Rattle.cargo_lock_parts.specs.Identity.{identity_of};
 ghost use Rattle.cargo_lock_parts.specs.IdentityOrder.{version_cmp};
 ghost use Rattle.cargo_lock.specs.Words.{text_words};
@@ -280,7 +280,8 @@ impl EncodableDependency {
 
 // The refusal of a reference that needs a version.
 pub(crate) fn unresolved(alloc: Global, name: &Name) -> Error
-    ensures { IsParseOrMemory result }
+    ensures kind { IsParseOrMemory result }
+    ensures text { (result ≡ Memory) ⊎ IsParse result (codes "couldn't resolve dependency: " ++ name.now) }
 {
     match format!(in alloc; "couldn't resolve dependency: {name}") {
         Ok(text) => Error::Parse(text),
