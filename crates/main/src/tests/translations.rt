@@ -1,5 +1,5 @@
 //! The command `translate`.
-use super::{APP, file_of, outcome_of, path_of};
+use super::{APP, Outcome, file_of, outcome_of, path_of};
 use std::fs;
 use std::process::ExitCode;
 use std::test::Fail;
@@ -67,30 +67,33 @@ fn translate_onto_output(rt: HostRuntime) -> Result<(), Fail> {
     Ok(())
 }
 
+// What is told where a file is translated into another, or into itself.
+fn written_to<'a>(rt: &HostRuntime, format: &'a str, file: &'a str, output: &'a str) -> Outcome {
+    outcome_of(
+        rt,
+        &[
+            "translate",
+            "--version",
+            format,
+            "-f",
+            file,
+            "--output",
+            output,
+        ],
+    )
+}
+
 #[test]
 fn translate_into_file(rt: HostRuntime) -> Result<(), Fail> {
     let path = file_of(&rt, "translated_from", APP.as_bytes())?;
     let made = path_of(&rt, "translated_to")?;
-    let file = path.as_path().as_str();
-    let output = made.as_path().as_str();
-    let outcome = outcome_of(&rt, &["translate", "-v", "4", "-f", file, "-o", output]);
+    let outcome = written_to(&rt, "4", path.as_path().as_str(), made.as_path().as_str());
     assert_eq!(rt; outcome.err(), "");
     assert_eq!(rt; outcome.out(), "");
     assert_eq!(rt; outcome.status, ExitCode::SUCCESS);
     let text = fs::read_to_string(&rt, made.as_path())?;
     assert_eq!(rt; text.as_str(), APP_IN_V4);
-    let outcome = outcome_of(
-        &rt,
-        &[
-            "translate",
-            "--version",
-            "3",
-            "-f",
-            output,
-            "--output",
-            output,
-        ],
-    );
+    let outcome = written_to(&rt, "3", made.as_path().as_str(), made.as_path().as_str());
     assert_eq!(rt; outcome.status, ExitCode::SUCCESS);
     let text = fs::read_to_string(&rt, made.as_path())?;
     assert_eq!(rt; text.as_str(), APP);
@@ -130,10 +133,8 @@ fn translate_refused(rt: HostRuntime) -> Result<(), Fail> {
     );
     assert_eq!(rt; outcome.status, ExitCode::FAILURE);
     let path = file_of(&rt, "translate_present", APP.as_bytes())?;
-    let file = path.as_path().as_str();
     let output = missing.as_path().join(rt.alloc(), "in_no_folder")?;
-    let words = ["translate", "-f", file, "-o", output.as_path().as_str()];
-    let outcome = outcome_of(&rt, &words);
+    let outcome = written_to(&rt, "3", path.as_path().as_str(), output.as_path().as_str());
     assert!(rt;
         outcome
             .err()
