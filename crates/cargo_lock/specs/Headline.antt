@@ -19,7 +19,8 @@ pub record Headline : Type 0 where
   pub again : WrittenAgain
   -- and its text is read back, as far as `toml` reads what was printed: `Lockfile::to_string`
   pub printed : PrintedBack
-  -- lockfiles of plain projects survive every format: `Lockfile::survives`
+  -- lockfiles of registry packages alone, each name and version once, survive V2 to V4, and V1
+  -- where some package has a checksum: `Lockfile::survives`
   pub plain : PlainSurvives
   -- there, from V2 on with distinct identities, a listed dependency stands in the shortest form that
   -- names it in every order of the packages, one sourceless case excepted: `Lockfile::to_table`
