@@ -13,8 +13,8 @@ use Rattle.std.proofs.Math.Seq.{get_or-append_seam, take-append_seam, drop-appen
 use Rattle.std.proofs.lemmas.Str.{chars-append, chars-encodes, encodes-chars, scalars-chars, IsUtf8-append, NoCharPasses-byte, IsUtf8-take, IsUtf8-drop, IsUtf8-nil, IsCharBoundary-before_ascii, IsCharBoundary-after_ascii, encode_ascii, length-le-encodes, chars-nil, IsUtf8-from_is_utf8}
 use Rattle.std.proofs.lemmas.Bool.{cases_Bool, and_parts}
 use Rattle.std.proofs.lemmas.List.Splits.{slice_split_none, slice_split_at, slice_split-cons_yes, slice_split-cons_no}
-use Rattle.cargo_lock.specs.Words.{words, words_of_chars, is_nonempty, IsWord, IsDense}
-use Rattle.cargo_lock.proofs.WordLemmas.{All-from_none, words-text}
+use Rattle.cargo_lock_encoding.specs.Words.{words, words_of_chars, is_nonempty, IsWord, IsDense}
+use Rattle.cargo_lock_encoding.proofs.WordLemmas.{All-from_none, words-text}
 
 -- a text between round brackets
 abbrev pub bracketed : List ℕ → List ℕ

@@ -8,17 +8,17 @@ use Rattle.cargo_lock_parts.specs.declared.error.Error.{Error}
 use Rattle.cargo_lock_parts.specs.declared.error.Error.TheVariants.{Io, Parse, Version, Resolution, Memory}
 use Rattle.cargo_lock_parts.specs.Error.{Reads, ReadsUrls, Refuses}
 use Rattle.cargo_lock_parts.specs.Identity.{Identity, PackageData}
-use Rattle.cargo_lock.specs.Finds.{Finds, FindsUrls}
-use Rattle.cargo_lock.specs.Format.{format_of}
-use Rattle.cargo_lock.specs.Means.{IsLocked, IsPackage, Means, TextMeans, entry_checksum, reading_list}
-use Rattle.cargo_lock.specs.Meaning.{ResolvedData, all_packages, completed, entry_package, locked, meaning, package_of, resolved, root_package}
-use Rattle.cargo_lock.specs.Optional.{◌>>=◌, BothOrNone, map_all, map_some}
-use Rattle.cargo_lock.specs.Records.{EntryData, EncodedData, LockfileData, bare_source, entry_identity}
-use Rattle.cargo_lock.specs.Said.{said}
-use Rattle.cargo_lock.specs.Says.{Says}
-use Rattle.cargo_lock.specs.TableReading.{encoded_at}
-use Rattle.cargo_lock.proofs.SaysLemmas.{Says-from, said-from}
-use Rattle.cargo_lock.proofs.Walk.{Refuses-by, RefusesUrls-by}
+use Rattle.cargo_lock_encoding.specs.Finds.{Finds, FindsUrls}
+use Rattle.cargo_lock_encoding.specs.Format.{format_of}
+use Rattle.cargo_lock_encoding.specs.Means.{IsLocked, IsPackage, Means, TextMeans, entry_checksum, reading_list}
+use Rattle.cargo_lock_encoding.specs.Meaning.{ResolvedData, all_packages, completed, entry_package, locked, meaning, package_of, resolved, root_package}
+use Rattle.cargo_lock_encoding.specs.Optional.{◌>>=◌, BothOrNone, map_all, map_some}
+use Rattle.cargo_lock_encoding.specs.Records.{EntryData, EncodedData, LockfileData, bare_source, entry_identity}
+use Rattle.cargo_lock_encoding.specs.Said.{said}
+use Rattle.cargo_lock_encoding.specs.Says.{Says}
+use Rattle.cargo_lock_encoding.specs.TableReading.{encoded_at}
+use Rattle.cargo_lock_encoding.proofs.SaysLemmas.{Says-from, said-from}
+use Rattle.cargo_lock_encoding.proofs.Walk.{Refuses-by, RefusesUrls-by}
 
 -- ---- lists
 

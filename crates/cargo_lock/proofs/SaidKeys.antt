@@ -8,17 +8,17 @@ use Rattle.semver.specs.Parse.{Parts}
 use Rattle.cargo_lock_parts.specs.Identity.{Identity, IdentityKey, identity_key}
 use Rattle.cargo_lock_parts.specs.Source.{MarkedSource, Source, is_path}
 use Rattle.cargo_lock_parts.specs.SourceKey.{Key, key_of}
-use Rattle.cargo_lock.specs.declared.lockfile.version.ResolveVersion.{ResolveVersion}
-use Rattle.cargo_lock.specs.declared.lockfile.version.ResolveVersion.TheVariants.{V1, V2, V3, V4}
-use Rattle.cargo_lock.specs.Chosen.{bears_name, chosen_form, in_full, is_version_unique, marked, one, shortened, unless_path, without_source, written_source}
-use Rattle.cargo_lock.specs.Form.{Form, form_of, form_text, of_one}
-use Rattle.cargo_lock.specs.FormOrder.{marked_key}
-use Rattle.cargo_lock.specs.Records.{bare_source}
-use Rattle.cargo_lock.specs.Said.{fits, has_version, itself, or_itself, said, said_by, same_text, with_version}
+use Rattle.cargo_lock_encoding.specs.declared.version.ResolveVersion.{ResolveVersion}
+use Rattle.cargo_lock_encoding.specs.declared.version.ResolveVersion.TheVariants.{V1, V2, V3, V4}
+use Rattle.cargo_lock_encoding.specs.Chosen.{bears_name, chosen_form, in_full, is_version_unique, marked, one, shortened, unless_path, without_source, written_source}
+use Rattle.cargo_lock_encoding.specs.Form.{Form, form_of, form_text, of_one}
+use Rattle.cargo_lock_encoding.specs.FormOrder.{marked_key}
+use Rattle.cargo_lock_encoding.specs.Records.{bare_source}
+use Rattle.cargo_lock_encoding.specs.Said.{fits, has_version, itself, or_itself, said, said_by, same_text, with_version}
 use Rattle.cargo_lock.specs.Survives.{ReferenceSurvives, SaysEqual}
 use Rattle.cargo_lock.proofs.MeansLemmas.{map-parts}
 use Rattle.cargo_lock.proofs.ReferenceTexts.{Agrees, Alike, IsWhole, form-survives, form-reads}
-use Rattle.cargo_lock.proofs.SaysLemmas.{Says-from, find-found, find-map, has_version-yes, said-from, same_text-yes}
+use Rattle.cargo_lock_encoding.proofs.SaysLemmas.{Says-from, find-found, find-map, has_version-yes, said-from, same_text-yes}
 
 -- ---- what a form says, of keys alone
 

@@ -10,11 +10,11 @@ use Rattle.cargo_lock_parts.specs.IdentityOrder.{is_same_identity}
 use Rattle.cargo_lock_parts.specs.Source.{Source}
 use Rattle.cargo_lock_parts.specs.SourceKey.{is_same_source, key_of}
 use Rattle.cargo_lock_parts.specs.SourceLaws.{is_same_source-Decides}
-use Rattle.cargo_lock.specs.Form.{Form}
-use Rattle.cargo_lock.specs.Said.{said, same_parts}
+use Rattle.cargo_lock_encoding.specs.Form.{Form}
+use Rattle.cargo_lock_encoding.specs.Said.{said, same_parts}
 use Rattle.cargo_lock.specs.Survives.{ReferenceSurvives, SaysEqual}
 use Rattle.cargo_lock.proofs.SaidKeys.{says-equal}
-use Rattle.cargo_lock.proofs.SaysLemmas.{same_parts-refl, same_parts-yes}
+use Rattle.cargo_lock_encoding.proofs.SaysLemmas.{same_parts-refl, same_parts-yes}
 
 -- ---- what was read, compared with what was written
 

@@ -2,8 +2,8 @@
 use Rattle.std.proofs.Common.{◌≡◌, Option, Some, None, codes}
 use Rattle.std.specs.Prelude.{ℤ}
 use Rattle.toml.specs.Data.{Members, get_member}
-use Rattle.cargo_lock.specs.Records.{Texts}
-use Rattle.cargo_lock.specs.TableReading.{EntriesData, all_entries_at, encoded_at, metadata_in, number_in, optional_by, patch_in}
+use Rattle.cargo_lock_encoding.specs.Records.{Texts}
+use Rattle.cargo_lock_encoding.specs.TableReading.{EntriesData, all_entries_at, encoded_at, metadata_in, number_in, optional_by, patch_in}
 
 pub encoded_at-no_metadata : (t : Members) (version : Option ℤ) (entries : EntriesData)
     → optional_by number_in (get_member (codes "version") t) ≡ Some version → all_entries_at t ≡ Some entries

@@ -1,21 +1,22 @@
 -- The chain of a translation, by relations and as it is computed, and what it keeps.
-use Rattle.std.proofs.Common.{◌≡◌, inl, inr, List, [], ◌∷◌, map, Option, Some, None, Result, Ok, Err, IfOk, IfErr, refl, sym, subst, ◌∙◌, ap}
+use Rattle.std.proofs.Common.{◌≡◌, inl, inr, List, [], ◌∷◌, map, Option, Some, None, Result, Ok, Err, IfOk, IfErr, IsOkUnless, refl, sym, subst, ◌∙◌, ap}
 use Rattle.std.proofs.lemmas.Option.{same_Some, none-some}
 use Rattle.cargo_lock_parts.specs.declared.error.Error.{Error}
-use Rattle.cargo_lock_parts.specs.Error.{OnlyTooLong, ReadsUrls, RefusesUrls}
+use Rattle.cargo_lock_parts.specs.declared.error.Error.TheVariants.{Io, Parse, Version, Resolution, Memory}
+use Rattle.cargo_lock_parts.specs.Error.{Reads, Refuses}
 use Rattle.cargo_lock_parts.specs.Identity.{PackageData, package_key}
-use Rattle.cargo_lock.specs.declared.lockfile.version.ResolveVersion.{ResolveVersion}
-use Rattle.cargo_lock.specs.Meaning.{meaning}
-use Rattle.cargo_lock.specs.Metadata.{metadata_of}
-use Rattle.cargo_lock.specs.Optional.{◌>>=◌}
-use Rattle.cargo_lock.specs.Records.{LockfileData, Texts}
+use Rattle.cargo_lock_encoding.specs.declared.version.ResolveVersion.{ResolveVersion}
+use Rattle.cargo_lock_encoding.specs.Meaning.{meaning}
+use Rattle.cargo_lock_encoding.specs.Metadata.{metadata_of}
+use Rattle.cargo_lock_encoding.specs.Optional.{◌>>=◌}
+use Rattle.cargo_lock_encoding.specs.Records.{LockfileData, Texts}
 use Rattle.cargo_lock.specs.Survives.{in_format}
-use Rattle.cargo_lock.specs.Table.{table_of}
+use Rattle.cargo_lock_encoding.specs.Table.{table_of}
 use Rattle.cargo_lock.specs.Translation.{IsStuck, KeepsThrough, LeadsTo, SurvivesEach, last_format, metadata_through, translated}
 use Rattle.cargo_lock.proofs.KeyTexts.{metadata_of-same}
 use Rattle.cargo_lock.proofs.MeansLemmas.{Means-from, bind-parts, meaning-from}
 use Rattle.cargo_lock.proofs.Survival.{reading}
-use Rattle.cargo_lock.proofs.Walk.{RefusesUrls-by}
+use Rattle.cargo_lock_encoding.proofs.Walk.{Refuses-by}
 
 leads-to : (fs : List ResolveVersion) (l x : LockfileData) → translated fs l ≡ Some x → LeadsTo fs l x
 leads-to [] l x e = sym (same_Some _ _ e)
@@ -72,18 +73,25 @@ through (f ∷ fs) l h =
 
 -- ---- what the call answers
 
-pub chain-from : (fs : List ResolveVersion) (l : LockfileData) (r : Result LockfileData Error) → ReadsUrls (λ x. x) r (translated fs l) → IfOk r (LeadsTo fs l)
+pub chain-from : (fs : List ResolveVersion) (l : LockfileData) (r : Result LockfileData Error) → Reads (λ x. x) r (translated fs l) → IfOk r (LeadsTo fs l)
 chain-from fs l (Ok x) h = leads-to fs l x h
 chain-from fs l (Err e) h = tt
 
-pub stuck-from : (fs : List ResolveVersion) (l : LockfileData) (r : Result LockfileData Error) → ReadsUrls (λ x. x) r (translated fs l) → IfErr r (λ e. RefusesUrls e (IsStuck fs l))
+pub stuck-from : (fs : List ResolveVersion) (l : LockfileData) (r : Result LockfileData Error) → Reads (λ x. x) r (translated fs l) → IfErr r (λ e. Refuses e (IsStuck fs l))
 stuck-from fs l (Ok x) h = tt
-stuck-from fs l (Err e) h = RefusesUrls-by e _ _ h (stuck fs l)
+stuck-from fs l (Err e) h = Refuses-by e _ _ h (stuck fs l)
 
-pub kept-from : (fs : List ResolveVersion) (l : LockfileData) (r : Result LockfileData Error) → ReadsUrls (λ x. x) r (translated fs l) → SurvivesEach fs l → IfOk r (KeepsThrough fs l)
+pub kept-from : (fs : List ResolveVersion) (l : LockfileData) (r : Result LockfileData Error) → Reads (λ x. x) r (translated fs l) → SurvivesEach fs l → IfOk r (KeepsThrough fs l)
 kept-from fs l (Ok x) h s = let t = through fs l s in subst (KeepsThrough fs l) (same_Some _ _ (sym t.gives ∙ h)) t.keeps
 kept-from fs l (Err e) h s = tt
 
-pub refused-from : (fs : List ResolveVersion) (l : LockfileData) (r : Result LockfileData Error) → ReadsUrls (λ x. x) r (translated fs l) → SurvivesEach fs l → IfErr r OnlyTooLong
+only-memory : (e : Error) → Refuses e ⊥ → e ≡ Memory
+only-memory (Io kind) h = absurd h
+only-memory (Parse said) h = absurd h
+only-memory (Version fault) h = absurd h
+only-memory (Resolution said) h = absurd h
+only-memory Memory h = refl
+
+pub refused-from : (fs : List ResolveVersion) (l : LockfileData) (r : Result LockfileData Error) → Reads (λ x. x) r (translated fs l) → SurvivesEach fs l → IsOkUnless r Memory
 refused-from fs l (Ok x) h s = tt
-refused-from fs l (Err e) h s = let t = through fs l s in RefusesUrls-by e _ _ h (λ none. none-some t.end (sym none ∙ t.gives))
+refused-from fs l (Err e) h s = let t = through fs l s in only-memory e (Refuses-by e _ _ h (λ none. none-some t.end (sym none ∙ t.gives)))

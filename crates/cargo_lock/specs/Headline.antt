@@ -1,12 +1,12 @@
 -- What this library promises of lockfiles and their trees, as one statement. Each field is a law of
 -- its own; a contract of the call that is named beside it speaks of the same definition.
-use Rattle.cargo_lock.specs.DrawingLaws.{DrawingExists, DrawingIsUnique, EdgesMatch, EntriesAreCounted, OccursWhereReachable, ReachableIsExpanded, TextTellsDrawing}
-use Rattle.cargo_lock.specs.Means.{MeansOne}
+use Rattle.cargo_lock_graph.specs.DrawingLaws.{DrawingExists, DrawingIsUnique, EdgesMatch, EntriesAreCounted, OccursWhereReachable, ReachableIsExpanded, TextTellsDrawing}
+use Rattle.cargo_lock_encoding.specs.Means.{MeansOne}
 use Rattle.cargo_lock.specs.Plain.{PlainSurvives}
 use Rattle.cargo_lock.specs.Printed.{PrintedBack}
 use Rattle.cargo_lock.specs.Shortest.{ShortestReferences, WrittenByBearers}
 use Rattle.cargo_lock.specs.Survives.{SurvivesExactly}
-use Rattle.cargo_lock.specs.Targets.{EdgesAreOne}
+use Rattle.cargo_lock_graph.specs.Targets.{EdgesAreOne}
 use Rattle.cargo_lock.specs.Translation.{WrittenAgain}
 
 pub record Headline : Type 0 where

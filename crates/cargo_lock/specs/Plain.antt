@@ -1,4 +1,5 @@
--- The lockfiles of plain projects: what comes from registries alone survives every format.
+-- The lockfiles of plain projects: what comes from registries alone survives V2 to V4, and V1 where
+-- some package has a checksum.
 use Rattle.std.specs.Prelude.{◌≡◌, ℕ, true, false, List, [], Some, None, IfSome, map, slice_get}
 use Rattle.std.specs.FinMap.{empty}
 use Rattle.std.specs.List.{AllByRecursion}
@@ -6,12 +7,12 @@ use Rattle.semver.specs.Identifiers.{parts_text}
 use Rattle.cargo_lock_parts.specs.Identity.{Identity, PackageData, identity_of}
 use Rattle.cargo_lock_parts.specs.Source.{Source, is_registry}
 use Rattle.cargo_lock_parts.specs.SourceText.{text_of}
-use Rattle.cargo_lock.specs.declared.lockfile.version.ResolveVersion.TheVariants.{V1, V2, V3, V4}
-use Rattle.cargo_lock.specs.Chosen.{marked}
-use Rattle.cargo_lock.specs.Records.{LockfileData}
+use Rattle.cargo_lock_encoding.specs.declared.version.ResolveVersion.TheVariants.{V1, V2, V3, V4}
+use Rattle.cargo_lock_encoding.specs.Chosen.{marked}
+use Rattle.cargo_lock_encoding.specs.Records.{LockfileData}
 use Rattle.cargo_lock.specs.Shortest.{IsAmong}
 use Rattle.cargo_lock.specs.Survives.{DigestReadsBack, Survives, TextReadsBack, VersionSurvives}
-use Rattle.cargo_lock.specs.Words.{IsDense, IsWord}
+use Rattle.cargo_lock_encoding.specs.Words.{IsDense, IsWord}
 
 -- a registry whose text has no white space and reads back
 pub record IsPlainSource (s : Source) : Type 0 where

@@ -4,12 +4,12 @@ use Rattle.std.specs.List.{AllByRecursion}
 use Rattle.toml.specs.Data.{integer, Members}
 use Rattle.toml.specs.Parse.{parse_document}
 use Rattle.cargo_lock_parts.specs.Identity.{PackageData, identity_key, identity_of, package_key}
-use Rattle.cargo_lock.specs.Means.{TextMeans}
-use Rattle.cargo_lock.specs.Metadata.{metadata_of}
-use Rattle.cargo_lock.specs.Records.{LockfileData}
+use Rattle.cargo_lock_encoding.specs.Means.{TextMeans}
+use Rattle.cargo_lock_encoding.specs.Metadata.{metadata_of}
+use Rattle.cargo_lock_encoding.specs.Records.{LockfileData}
 use Rattle.cargo_lock.specs.Survives.{Survives}
-use Rattle.cargo_lock.specs.Table.{entry_of, entry_value, metadata_value, patch_value, present, unless_empty, written_version}
-use Rattle.cargo_lock.specs.Text.{joined, lines_of}
+use Rattle.cargo_lock_encoding.specs.Table.{entry_of, entry_value, metadata_value, patch_value, present, unless_empty, written_version}
+use Rattle.cargo_lock_encoding.specs.Text.{joined, lines_of}
 
 -- The written table as the text has it: without the root, and without a list of packages where it
 -- is empty.

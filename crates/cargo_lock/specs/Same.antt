@@ -8,10 +8,10 @@ use Rattle.std.specs.Option.{option_eq}
 use Rattle.std.specs.Ordering.{eq_of_both, on}
 use Rattle.cargo_lock_parts.specs.IdentityLaws.{package_total, patch_equivalence}
 use Rattle.cargo_lock_parts.specs.IdentityOrder.{is_same_package, is_same_patch}
-use Rattle.cargo_lock.specs.Format.{number_of}
-use Rattle.cargo_lock.specs.Records.{LockfileData, Texts}
-use Rattle.cargo_lock.specs.Table.{table_of}
-use Rattle.cargo_lock.specs.Text.{lines_of}
+use Rattle.cargo_lock_encoding.specs.Format.{number_of}
+use Rattle.cargo_lock_encoding.specs.Records.{LockfileData, Texts}
+use Rattle.cargo_lock_encoding.specs.Table.{table_of}
+use Rattle.cargo_lock_encoding.specs.Text.{lines_of}
 
 abbrev pub is_same_pair : List ℕ × List ℕ → List ℕ × List ℕ → Bool
 is_same_pair p q = pointwise nat_eq p.0 q.0 && pointwise nat_eq p.1 q.1

@@ -3,16 +3,16 @@ use Rattle.std.specs.Prelude.{◌≡◌, ◌+◌, ◌<◌, Bool, ℕ, zero, suc,
 use Rattle.std.specs.List.{list_any}
 use Rattle.toml.specs.Data.{Data, Items, no_items, item, Members, get_member}
 use Rattle.cargo_lock_parts.specs.Identity.{Identity, PackageData, identity_key, identity_of}
-use Rattle.cargo_lock.specs.declared.lockfile.version.ResolveVersion.{ResolveVersion}
-use Rattle.cargo_lock.specs.declared.lockfile.version.ResolveVersion.TheVariants.{V1, V2, V3, V4}
-use Rattle.cargo_lock.specs.Form.{Form, form_of, form_text}
-use Rattle.cargo_lock.specs.FormOrder.{form_key}
-use Rattle.cargo_lock.specs.Optional.{◌>>=◌}
-use Rattle.cargo_lock.specs.Records.{LockfileData}
-use Rattle.cargo_lock.specs.Said.{same_text}
+use Rattle.cargo_lock_encoding.specs.declared.version.ResolveVersion.{ResolveVersion}
+use Rattle.cargo_lock_encoding.specs.declared.version.ResolveVersion.TheVariants.{V1, V2, V3, V4}
+use Rattle.cargo_lock_encoding.specs.Form.{Form, form_of, form_text}
+use Rattle.cargo_lock_encoding.specs.FormOrder.{form_key}
+use Rattle.cargo_lock_encoding.specs.Optional.{◌>>=◌}
+use Rattle.cargo_lock_encoding.specs.Records.{LockfileData}
+use Rattle.cargo_lock_encoding.specs.Said.{same_text}
 use Rattle.cargo_lock.specs.Survives.{SaysEqual, Survives}
-use Rattle.cargo_lock.specs.Table.{table_of}
-use Rattle.cargo_lock.specs.TableReading.{members_in, required_list, text_in}
+use Rattle.cargo_lock_encoding.specs.Table.{table_of}
+use Rattle.cargo_lock_encoding.specs.TableReading.{members_in, required_list, text_in}
 
 -- ---- forms that name
 

@@ -10,17 +10,17 @@ use Rattle.cargo_lock_parts.specs.Source.{MarkedSource, Source, is_path}
 use Rattle.cargo_lock_parts.specs.SourceKey.{key_of}
 use Rattle.cargo_lock_parts.specs.SourceReading.{source_of}
 use Rattle.cargo_lock_parts.specs.SourceText.{marked_text}
-use Rattle.cargo_lock.specs.declared.lockfile.version.ResolveVersion.{ResolveVersion}
-use Rattle.cargo_lock.specs.declared.lockfile.version.ResolveVersion.TheVariants.{V1, V2, V3, V4}
-use Rattle.cargo_lock.specs.Chosen.{chosen_form, in_full, marked}
-use Rattle.cargo_lock.specs.Form.{Form}
-use Rattle.cargo_lock.specs.Means.{Means, reading_list}
-use Rattle.cargo_lock.specs.Metadata.{checksum_in, has_checksum_key, metadata_of}
-use Rattle.cargo_lock.specs.Records.{LockfileData, Texts, is_escaped}
-use Rattle.cargo_lock.specs.Says.{Says}
-use Rattle.cargo_lock.specs.Table.{table_of}
-use Rattle.cargo_lock.specs.TableReading.{version_of}
-use Rattle.cargo_lock.specs.Words.{IsDense, IsWord}
+use Rattle.cargo_lock_encoding.specs.declared.version.ResolveVersion.{ResolveVersion}
+use Rattle.cargo_lock_encoding.specs.declared.version.ResolveVersion.TheVariants.{V1, V2, V3, V4}
+use Rattle.cargo_lock_encoding.specs.Chosen.{chosen_form, in_full, marked}
+use Rattle.cargo_lock_encoding.specs.Form.{Form}
+use Rattle.cargo_lock_encoding.specs.Means.{Means, reading_list}
+use Rattle.cargo_lock_encoding.specs.Metadata.{checksum_in, has_checksum_key, metadata_of}
+use Rattle.cargo_lock_encoding.specs.Records.{LockfileData, Texts, is_escaped}
+use Rattle.cargo_lock_encoding.specs.Says.{Says}
+use Rattle.cargo_lock_encoding.specs.Table.{table_of}
+use Rattle.cargo_lock_encoding.specs.TableReading.{version_of}
+use Rattle.cargo_lock_encoding.specs.Words.{IsDense, IsWord}
 
 -- ---- texts that read back
 

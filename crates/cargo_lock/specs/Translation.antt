@@ -2,14 +2,14 @@
 -- as a table in that format, and the table is read.
 use Rattle.std.specs.Prelude.{◌≡◌, ◌⊎◌, List, [], ◌∷◌, Option, Some}
 use Rattle.cargo_lock_parts.specs.Identity.{PackageData}
-use Rattle.cargo_lock.specs.declared.lockfile.version.ResolveVersion.{ResolveVersion}
-use Rattle.cargo_lock.specs.Means.{Means}
-use Rattle.cargo_lock.specs.Meaning.{meaning}
-use Rattle.cargo_lock.specs.Metadata.{metadata_of}
-use Rattle.cargo_lock.specs.Optional.{◌>>=◌}
-use Rattle.cargo_lock.specs.Records.{LockfileData, Texts}
+use Rattle.cargo_lock_encoding.specs.declared.version.ResolveVersion.{ResolveVersion}
+use Rattle.cargo_lock_encoding.specs.Means.{Means}
+use Rattle.cargo_lock_encoding.specs.Meaning.{meaning}
+use Rattle.cargo_lock_encoding.specs.Metadata.{metadata_of}
+use Rattle.cargo_lock_encoding.specs.Optional.{◌>>=◌}
+use Rattle.cargo_lock_encoding.specs.Records.{LockfileData, Texts}
 use Rattle.cargo_lock.specs.Survives.{HasSamePackages, Survives, in_format}
-use Rattle.cargo_lock.specs.Table.{table_of}
+use Rattle.cargo_lock_encoding.specs.Table.{table_of}
 
 -- ---- the chain
 

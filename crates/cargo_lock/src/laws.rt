@@ -2,20 +2,21 @@
 //! speak of are those of the contracts of `Lockfile` and of the types of `lockfile::encoding`.
 //! `headline` has the promises of this library in one.
 
-ghost use Rattle.cargo_lock.specs.Chosen.{ShortenedByPlaces, ShortenedTwice};
 ghost use Rattle.cargo_lock.specs.Headline.{Headline};
-ghost use Rattle.cargo_lock.specs.LeastKey.{ChecksumAtLeastKey};
-ghost use Rattle.cargo_lock.specs.Means.{MeansOne};
+ghost use Rattle.cargo_lock_encoding.specs.Means.{MeansOne};
 ghost use Rattle.cargo_lock.specs.Shortest.{ShortestReferences, WrittenByBearers};
 ghost use Rattle.cargo_lock.specs.Survives.{SurvivesExactly};
 ghost use Rattle.cargo_lock.specs.Translation.{WrittenAgain};
 ghost use Rattle.cargo_lock.specs.Plain.{PlainSurvives};
 ghost use Rattle.cargo_lock.specs.Printed.{PrintedBack};
 ghost use Rattle.cargo_lock.specs.Same.{EqualTablesAndTexts};
-ghost use Rattle.cargo_lock.specs.WrittenMetadata.{ChecksumsAtKeys, NoChecksumKeys};
-ghost use Rattle.cargo_lock.specs.Targets.{EdgesAreOne, LostHaveNoEdges};
 
 use crate::dependency::tree::laws as drawings;
+pub use cargo_lock_encoding::laws::{
+    checksums_stand_at_least_keys, references_are_shortened_by_places, shortened_references_stay,
+    written_metadata_key_by_key,
+};
+pub use cargo_lock_graph::laws::{edges_are_one, lost_dependencies_have_no_edges};
 
 /// A table means at most one lockfile, in every field.
 pub fn table_means_one()
@@ -25,23 +26,6 @@ pub fn table_means_one()
 /// Equal lockfiles have equal tables and equal texts.
 pub fn equal_lockfiles_are_written_alike()
     ensures { EqualTablesAndTexts }
-{}
-
-/// A reference is shortened to its name exactly where one package has the name, and otherwise to
-/// name and version exactly where one package has both.
-pub fn references_are_shortened_by_places()
-    ensures { ShortenedByPlaces }
-{}
-
-/// A reference that was shortened is not shortened any further.
-pub fn shortened_references_stay()
-    ensures { ShortenedTwice }
-{}
-
-/// The checksum that the metadata holds for a package is the value at the least key that reads as
-/// the package's name and version, and there is none where no key reads so.
-pub fn checksums_stand_at_least_keys()
-    ensures { ChecksumAtLeastKey }
 {}
 
 /// A lockfile survives a format exactly where the table written in that format means a lockfile of
@@ -76,29 +60,9 @@ pub fn printed_survivors_are_read_back()
     ensures { PrintedBack }
 {}
 
-/// In V1 the written metadata has, at the checksum key of packages with checksums, the text of the
-/// last one's checksum, and at every other key the old value. From V2 on it has nothing at the
-/// checksum key of a package, and at every other key the old value.
-pub fn written_metadata_key_by_key()
-    ensures v1 { ChecksumsAtKeys }
-    ensures later { NoChecksumKeys }
-{}
-
 /// Plain lockfiles survive V2, V3 and V4, and where some package has a checksum V1 too.
 pub fn plain_lockfiles_survive()
     ensures { PlainSurvives }
-{}
-
-/// Packages have one list of edges: from where each edge goes, to where, and for which dependency,
-/// is told by the packages.
-pub fn edges_are_one()
-    ensures { EdgesAreOne }
-{}
-
-/// Packages have no list of edges where no package fits some dependency. So a tree is built only
-/// where each dependency has a package.
-pub fn lost_dependencies_have_no_edges()
-    ensures { LostHaveNoEdges }
 {}
 
 /// What this library promises of lockfiles and their trees: a lockfile survives a format exactly

@@ -4,10 +4,9 @@
 pub mod dependency;
 pub mod laws;
 pub mod lockfile;
-pub mod metadata;
 
 pub use crate::lockfile::{Lockfile, ResolveVersion};
-pub use crate::metadata::{Metadata, MetadataKey, MetadataValue};
+pub use cargo_lock_encoding::{Metadata, MetadataKey, MetadataValue, metadata};
 pub use cargo_lock_parts::dependency::Dependency;
 pub use cargo_lock_parts::error::{Error, Result};
 pub use cargo_lock_parts::package::{Checksum, Name, Package, SourceId, Version};

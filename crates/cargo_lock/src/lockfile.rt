@@ -2,7 +2,7 @@
 
 ghost use Rattle.std.specs.Prelude.{◌≡◌, IfOk};
 ghost use Rattle.std.specs.Cmp.Lexicographic.{pointwise};
-ghost use Rattle.cargo_lock.specs.Records.{texts_of};
+ghost use Rattle.cargo_lock_encoding.specs.Records.{texts_of};
 ghost use Rattle.cargo_lock.specs.Same.{is_same_metadata, is_same_pair};
 
 pub mod encoding;
@@ -10,12 +10,11 @@ mod reading;
 mod serialization;
 mod survival;
 mod translation;
-pub mod version;
 mod writing;
 
-use crate::lockfile::encoding::ordered;
-pub use crate::lockfile::version::ResolveVersion;
 use crate::metadata::Metadata;
+use cargo_lock_encoding::checksums::ordered;
+pub use cargo_lock_encoding::{ResolveVersion, version};
 use cargo_lock_parts::package::Package;
 use cargo_lock_parts::patch::Patch;
 use std::alloc::AllocError;
@@ -43,7 +42,7 @@ pub struct Lockfile {
 
 impl Model for Lockfile {
     ghost use Rattle.std.specs.Coded.{codes};
-    ghost use Rattle.cargo_lock.specs.Records.{LockfileData, texts_code, texts_of};
+    ghost use Rattle.cargo_lock_encoding.specs.Records.{LockfileData, texts_code, texts_of};
 
     ghost Value = { LockfileData };
 

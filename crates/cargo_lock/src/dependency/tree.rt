@@ -1,32 +1,27 @@
 //! Trees of packages: what each package depends on.
 
-ghost use Rattle.std.specs.Prelude.{◌≡◌, IfErr, IfOk, IsOkUnless};
+ghost use Rattle.std.specs.Prelude.{◌≡◌, ◌-◌, ◌^◌, ◌<◌, IfErr, IfOk, IsOkUnless, List, length};
 ghost use Rattle.std.specs.BTreeMap.{get};
 ghost use Rattle.cargo_lock_parts.specs.declared.error.Error.TheVariants.{Memory};
 ghost use Rattle.cargo_lock_parts.specs.Identity.{Identity};
 ghost use Rattle.cargo_lock_parts.specs.IdentityOrder.{identity_cmp};
-ghost use Rattle.cargo_lock.specs.declared.dependency.graph.EdgeDirection.TheVariants.{Incoming};
-ghost use Rattle.cargo_lock.specs.Edges.{externals};
-ghost use Rattle.cargo_lock.specs.Targets.{AreEdgesOf, IsLastWith, IsUnresolved, links};
+ghost use Rattle.cargo_lock_graph.specs.declared.drawing.entry.Entry.{Entry};
+ghost use Rattle.cargo_lock_graph.specs.declared.graph.EdgeDirection.TheVariants.{Incoming};
+ghost use Rattle.cargo_lock_graph.specs.Drawing.{IsDrawing};
+ghost use Rattle.cargo_lock_graph.specs.DrawingText.{drawn, standard_symbols};
+ghost use Rattle.cargo_lock_graph.specs.Edges.{externals, far_ends};
+ghost use Rattle.cargo_lock_graph.specs.Labels.{label_at};
+ghost use Rattle.cargo_lock_graph.specs.Sinks.{IsRenderedInto, IsRenderedTo};
+ghost use Rattle.cargo_lock_graph.specs.Targets.{AreEdgesOf, IsLastWith, IsUnresolved, links};
 
-mod building;
-mod entry;
-mod label;
-pub mod laws;
-mod put;
-mod render;
-mod sink;
-mod symbols;
-mod walk;
-
-use crate::dependency::graph::{EdgeDirection, Graph, NodeIndex, Nodes};
-use crate::dependency::tree::building::{edges_of, nodes_of};
-pub use crate::dependency::tree::sink::{Sink, WriterSink};
-pub use crate::dependency::tree::symbols::Symbols;
 use crate::error::Result;
 use crate::lockfile::Lockfile;
-use cargo_lock_parts::package::Package;
+use cargo_lock_graph::building::{graph_of, nodes_of};
+use cargo_lock_graph::drawing::{render_into, render_onto};
+pub use cargo_lock_graph::drawing::{Sink, Symbols, WriterSink, laws};
+use cargo_lock_graph::graph::{EdgeDirection, Graph, NodeIndex, Nodes};
 use std::alloc::{AllocError, Global};
+use std::io::Write;
 
 /// The tree of a lockfile: its packages as the nodes of a graph, and their dependencies as edges.
 #[derive(Debug, Drop)]
@@ -68,9 +63,7 @@ impl Tree {
         ensures err { IfErr result (λ e. IsUnresolved lockfile.now.packages (links lockfile.now.packages) e) }
     {
         let nodes = nodes_of(alloc, &lockfile.packages)?;
-        let edges = edges_of(alloc, &lockfile.packages, &nodes)?;
-        let packages = copy_packages(&lockfile.packages)?;
-        let graph = Graph::new(alloc, packages, edges)?;
+        let graph = graph_of(alloc, &lockfile.packages, &nodes)?;
         Ok(Tree { graph, nodes })
     }
 
@@ -99,6 +92,63 @@ impl Tree {
             .collect(alloc)?;
         Ok(roots)
     }
+
+    /// Draws the tree of a node into a sink, along the edges in a direction. Each line is an entry:
+    /// the node itself, and below each entry of a node that no earlier line has, the far ends of
+    /// the node's edges, newest first. A label is the name and the version, and where it is exact
+    /// also the checksum, or else the source, or else `inexact`.
+    ///
+    /// All memory is asked for before the first byte, so `Memory` means that nothing was taken. `Io`
+    /// means that the sink failed once, and that a beginning of the text was taken. No other fault
+    /// comes. The index is below the node count, and the sink's count of faults below 2^64 - 1.
+    pub fn render_into<S: Sink>(
+        &self,
+        alloc: Global,
+        sink: &mut S,
+        index: NodeIndex,
+        direction: EdgeDirection,
+        symbols: &Symbols,
+        exact: bool,
+    ) -> Result<()>
+        requires sound { S.failures sink.old < 2 ^ 64 - 1 }
+        requires start { index < length self.now.graph.packages }
+        ensures { (entries : List Entry) × IsDrawing (far_ends direction self.now.graph.edges) index entries × IsRenderedInto (S.taken sink.old) (S.taken sink.new) (S.failures sink.old) (S.failures sink.new) (drawn standard_symbols (label_at exact self.now.graph.packages) entries) result }
+    {
+        render_into(alloc, sink, &self.graph, index, direction, symbols, exact)
+    }
+
+    /// Draws the tree of a node onto a writer, with these symbols, as `render_into` does. A write
+    /// that is interrupted and a write of no bytes are faults.
+    pub fn render_with_symbols<W: Write>(
+        &self,
+        alloc: Global,
+        w: &mut W,
+        index: NodeIndex,
+        direction: EdgeDirection,
+        symbols: &Symbols,
+        exact: bool,
+    ) -> Result<()>
+        requires { index < length self.now.graph.packages }
+        ensures { (entries : List Entry) × IsDrawing (far_ends direction self.now.graph.edges) index entries × IsRenderedTo (W.contents w.old) (W.contents w.new) (drawn standard_symbols (label_at exact self.now.graph.packages) entries) result }
+    {
+        render_onto(alloc, w, &self.graph, index, direction, symbols, exact)
+    }
+
+    /// Draws the tree of a node onto a writer, as `render_into` does. A write that is interrupted
+    /// and a write of no bytes are faults.
+    pub fn render<W: Write>(
+        &self,
+        alloc: Global,
+        w: &mut W,
+        index: NodeIndex,
+        direction: EdgeDirection,
+        exact: bool,
+    ) -> Result<()>
+        requires { index < length self.now.graph.packages }
+        ensures { (entries : List Entry) × IsDrawing (far_ends direction self.now.graph.edges) index entries × IsRenderedTo (W.contents w.old) (W.contents w.new) (drawn standard_symbols (label_at exact self.now.graph.packages) entries) result }
+    {
+        self.render_with_symbols(alloc, w, index, direction, &Symbols::default(), exact)
+    }
 }
 
 impl Lockfile {
@@ -111,10 +161,4 @@ impl Lockfile {
     {
         Tree::new(alloc, self)
     }
-}
-
-fn copy_packages(packages: &Vec<Package>) -> std::result::Result<Vec<Package>, AllocError>
-    ensures { IfOk result (λ copy. copy.items ≡ packages.now.items) }
-{
-    packages.clone()
 }

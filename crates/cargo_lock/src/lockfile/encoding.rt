@@ -1,25 +1,22 @@
 //! A lockfile as its table has it: with its references not looked up yet, and with the number of
 //! the format.
 
-pub(crate) mod checksums;
+ghost use Rattle.std.specs.Prelude.{◌≡◌, IfOk, IsOkUnless, option_map};
+ghost use Rattle.cargo_lock_parts.specs.declared.error.Error.TheVariants.{Memory};
+ghost use Rattle.cargo_lock_parts.specs.Checksum.{digest_of};
+ghost use Rattle.cargo_lock_encoding.specs.Metadata.{checksum_in};
+
 mod meaning;
-pub(crate) mod reading;
-pub(crate) mod reference;
-mod serialization;
-mod source;
-mod table;
-mod text;
-pub(crate) mod writing;
-pub(crate) mod written;
+mod reading;
+mod writing;
 
 use crate::error::Result;
-pub(crate) use crate::lockfile::encoding::checksums::{has_checksum_key, ordered};
-pub use crate::lockfile::encoding::reference::EncodableDependency;
-pub use crate::lockfile::encoding::source::EncodableSourceId;
 use crate::metadata::Metadata;
-use cargo_lock_parts::dependency::Dependency;
-use cargo_lock_parts::package::{Checksum, Name, Version};
+use cargo_lock_encoding::checksums::find_checksum;
+pub use cargo_lock_encoding::{EncodableDependency, EncodablePackage, EncodableSourceId};
+use cargo_lock_parts::package::{Checksum, Package};
 use cargo_lock_parts::patch::Patch;
+use std::alloc::Global;
 use std::marker::Model;
 
 /// A lockfile as its table has it.
@@ -43,7 +40,7 @@ pub struct EncodableLockfile {
 
 impl Model for EncodableLockfile {
     ghost use Rattle.std.specs.Coded.{codes};
-    ghost use Rattle.cargo_lock.specs.Records.{EncodedData, texts_code, texts_of};
+    ghost use Rattle.cargo_lock_encoding.specs.Records.{EncodedData, texts_code, texts_of};
 
     ghost Value = { EncodedData };
 
@@ -58,59 +55,16 @@ impl Model for EncodableLockfile {
     } };
 }
 
-/// A package as its table has it: its references are not looked up yet.
-#[derive(Debug, Drop)]
-pub struct EncodablePackage {
-    /// The name.
-    pub name: Name,
-
-    /// The version.
-    pub version: Version,
-
-    /// Where the package comes from, marked for its text.
-    pub source: Option<EncodableSourceId>,
-
-    /// The checksum. A lockfile of V1 has it in the metadata.
-    pub checksum: Option<Checksum>,
-
-    /// What the package depends on.
-    pub dependencies: Vec<EncodableDependency>,
-
-    /// What stands in for the package.
-    pub replace: Option<EncodableDependency>,
-}
-
-impl Model for EncodablePackage {
-    ghost use Rattle.std.specs.Prelude.{option_map};
-    ghost use Rattle.semver.specs.Identifiers.{parts_of};
-    ghost use Rattle.cargo_lock_parts.specs.Checksum.{digest_of};
-    ghost use Rattle.cargo_lock.specs.Records.{EntryData};
-
-    ghost Value = { EntryData };
-
-    ghost view = { λ e. record {
-      name = e.name;
-      version = parts_of e.version;
-      source = e.source;
-      checksum = option_map digest_of e.checksum;
-      dependencies = e.dependencies.items;
-      replace = e.replace;
-    } };
-}
-
-impl EncodablePackage {
-    ghost use Rattle.std.specs.Prelude.{Some};
-    ghost use Rattle.cargo_lock_parts.specs.Error.{Reads};
-    ghost use Rattle.cargo_lock.specs.Records.{entry_identity};
-
-    // The identity of the package.
-    fn identity(&self) -> Result<Dependency>
-        ensures { Reads (λ d. d) result (Some (entry_identity self.now)) }
+impl EncodableLockfile {
+    /// The checksum that the metadata holds for a package: the value at the first key, in byte
+    /// order, that reads as the package's name and version. Keys that do not read are passed over,
+    /// and a value that is no checksum is none.
+    pub fn find_checksum(&self, alloc: Global, one: &Package) -> Result<Option<Checksum>>
+        ensures ok { IfOk result (λ found. option_map digest_of found
+            ≡ checksum_in self.now.metadata one.now.name one.now.version) }
+        ensures err { IsOkUnless result Memory }
     {
-        Ok(Dependency {
-            name: self.name.clone()?,
-            version: self.version.clone()?,
-            source: reference::bare_source(&self.source)?,
-        })
+        let found = find_checksum(alloc, &self.metadata, &one.name, &one.version)?;
+        Ok(found)
     }
 }

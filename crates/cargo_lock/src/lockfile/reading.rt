@@ -5,9 +5,9 @@ ghost use Rattle.toml.specs.Errors.{IsMemory};
 ghost use Rattle.toml.specs.View.{table_view};
 ghost use Rattle.cargo_lock_parts.specs.declared.error.Error.TheVariants.{Io, Memory};
 ghost use Rattle.cargo_lock_parts.specs.Error.{ReadsUrls, Refuses};
-ghost use Rattle.cargo_lock.specs.Finds.{FindsUrls};
-ghost use Rattle.cargo_lock.specs.Means.{Means, TextMeans};
-ghost use Rattle.cargo_lock.specs.Meaning.{meaning};
+ghost use Rattle.cargo_lock_encoding.specs.Finds.{FindsUrls};
+ghost use Rattle.cargo_lock_encoding.specs.Means.{Means, TextMeans};
+ghost use Rattle.cargo_lock_encoding.specs.Meaning.{meaning};
 
 use crate::error::{Error, Result};
 use crate::lockfile::Lockfile;

@@ -1,17 +1,20 @@
 //! Translation between formats.
 
-ghost use Rattle.std.specs.Prelude.{◌≡◌, IfErr, IfOk};
-ghost use Rattle.cargo_lock_parts.specs.Error.{OnlyTooLong, ReadsUrls, RefusesUrls};
-ghost use Rattle.cargo_lock.specs.Meaning.{meaning};
+ghost use Rattle.std.specs.Prelude.{◌≡◌, IfErr, IfOk, IsOkUnless};
+ghost use Rattle.toml.specs.View.{table_view};
+ghost use Rattle.cargo_lock_parts.specs.declared.error.Error.TheVariants.{Memory};
+ghost use Rattle.cargo_lock_parts.specs.Error.{Reads, Refuses};
+ghost use Rattle.cargo_lock_encoding.specs.Meaning.{meaning};
 ghost use Rattle.cargo_lock.specs.Survives.{in_format};
-ghost use Rattle.cargo_lock.specs.Table.{table_of};
+ghost use Rattle.cargo_lock_encoding.specs.Table.{table_of};
 ghost use Rattle.cargo_lock.specs.Translation.{IsStuck, KeepsThrough, LeadsTo, SurvivesEach, translated};
 
-use crate::error::Result;
+use crate::error::{Error, Result};
 use crate::lockfile::Lockfile;
 use crate::lockfile::reading::read;
-use crate::lockfile::version::ResolveVersion;
+use cargo_lock_encoding::ResolveVersion;
 use std::alloc::Global;
+use toml::Table;
 
 impl Lockfile {
     /// The lockfile, translated to each of these formats in order: it is set to the format, written
@@ -19,18 +22,18 @@ impl Lockfile {
     ///
     /// Where the lockfile before each step survives the format of the step (see `survives`), the
     /// packages, the root and the patches stay equal. Otherwise they may change, or be refused:
-    /// `Parse` says what a table could not be read for.
+    /// `Parse` says what a table could not be read for. A URL that comes to 4 GB is `Memory` here.
     pub fn translate_through(&self, alloc: Global, formats: &[ResolveVersion]) -> Result<Lockfile>
         ensures chain { IfOk result (LeadsTo formats.now self.now) }
-        ensures stuck { IfErr result (λ e. RefusesUrls e (IsStuck formats.now self.now)) }
+        ensures stuck { IfErr result (λ e. Refuses e (IsStuck formats.now self.now)) }
         ensures kept { SurvivesEach formats.now self.now → IfOk result (KeepsThrough formats.now self.now) }
-        ensures refused { SurvivesEach formats.now self.now → IfErr result OnlyTooLong }
+        ensures refused { SurvivesEach formats.now self.now → IsOkUnless result Memory }
     {
         self.translated(alloc, formats)
     }
 
     fn translated(&self, alloc: Global, formats: &[ResolveVersion]) -> Result<Lockfile>
-        ensures { ReadsUrls (λ x. x) result (translated formats.now self.now) }
+        ensures { Reads (λ x. x) result (translated formats.now self.now) }
     {
         let mut lockfile = self.clone()?;
         for format in formats {
@@ -41,10 +44,10 @@ impl Lockfile {
 
     // One step: the lockfile, written in this format and read.
     fn step(self, alloc: Global, format: ResolveVersion) -> Result<Lockfile>
-        ensures { ReadsUrls (λ x. x) result (meaning (table_of (in_format format self))) }
+        ensures { Reads (λ x. x) result (meaning (table_of (in_format format self))) }
     {
         let table = self.in_format(format).to_table(alloc)?;
-        read(alloc, &table)
+        read_again(alloc, &table)
     }
 
     fn in_format(self, format: ResolveVersion) -> Lockfile
@@ -64,5 +67,16 @@ impl Lockfile {
             metadata,
             patch,
         }
+    }
+}
+
+// Reads a table that was written here. A URL that comes to 4 GB is want of memory.
+fn read_again(alloc: Global, table: &Table) -> Result<Lockfile>
+    ensures { Reads (λ x. x) result (meaning (table_view table.now)) }
+{
+    match read(alloc, table) {
+        Ok(lockfile) => Ok(lockfile),
+        Err(fault) if fault.is_too_long() => Err(Error::Memory),
+        Err(fault) => Err(fault),
     }
 }

@@ -4,8 +4,8 @@ ghost use Rattle.std.specs.Prelude.{◌≡◌, IfOk, IsOkUnless, string_bytes};
 ghost use Rattle.toml.specs.View.{table_view};
 ghost use Rattle.cargo_lock_parts.specs.declared.error.Error.TheVariants.{Memory};
 ghost use Rattle.cargo_lock.specs.Shortest.{HasShortestReferences};
-ghost use Rattle.cargo_lock.specs.Table.{table_of};
-ghost use Rattle.cargo_lock.specs.Text.{joined, lines_of};
+ghost use Rattle.cargo_lock_encoding.specs.Table.{table_of};
+ghost use Rattle.cargo_lock_encoding.specs.Text.{joined, lines_of};
 
 use crate::error::Result;
 use crate::lockfile::Lockfile;

@@ -1,24 +1,19 @@
 //! From the values of a table to a lockfile: the format is found, and the references are looked up.
 
-ghost use Rattle.std.specs.Prelude.{◌≡◌, [], Some, map, option_map};
-ghost use Rattle.cargo_lock_parts.specs.Checksum.{digest_of};
+ghost use Rattle.std.specs.Prelude.{◌≡◌};
 ghost use Rattle.cargo_lock_parts.specs.Error.{Reads};
-ghost use Rattle.cargo_lock.specs.Finds.{Finds};
-ghost use Rattle.cargo_lock.specs.Format.{format_of};
-ghost use Rattle.cargo_lock.specs.Means.{IsLocked, entry_checksum, reading_list};
-ghost use Rattle.cargo_lock.specs.Meaning.{all_packages, completed, entry_package, locked, package_of, resolved, root_package};
-ghost use Rattle.cargo_lock.specs.Optional.{map_all, map_some};
-ghost use Rattle.cargo_lock.specs.Records.{entry_identity, texts_of};
-ghost use Rattle.cargo_lock.specs.Said.{said};
+ghost use Rattle.cargo_lock_encoding.specs.Finds.{Finds};
+ghost use Rattle.cargo_lock_encoding.specs.Format.{format_of};
+ghost use Rattle.cargo_lock_encoding.specs.Means.{IsLocked};
+ghost use Rattle.cargo_lock_encoding.specs.Meaning.{all_packages, completed, locked, resolved, root_package};
+ghost use Rattle.cargo_lock_encoding.specs.Optional.{map_some};
 
 use crate::error::Result;
-use crate::lockfile::encoding::checksums::find_checksum;
-use crate::lockfile::encoding::reference::bare_source;
-use crate::lockfile::encoding::{EncodableDependency, EncodableLockfile, EncodablePackage};
+use crate::lockfile::encoding::EncodableLockfile;
 use crate::lockfile::{Lockfile, ResolveVersion};
-use crate::metadata::Metadata;
-use cargo_lock_parts::dependency::Dependency;
-use cargo_lock_parts::package::{Checksum, Package};
+use cargo_lock_encoding::meaning::{all_packages, root_package};
+use cargo_lock_encoding::version::format_of_values;
+use cargo_lock_parts::package::Package;
 use std::alloc::Global;
 use std::marker::Model;
 
@@ -36,7 +31,7 @@ impl EncodableLockfile {
     }
 
     // The lockfile of these values.
-    #[tactic(auto, unfolding(crate::specs::Meaning::locked))]
+    #[tactic(auto, unfolding(cargo_lock_encoding::specs::Meaning::locked))]
     pub(crate) fn locked(self, alloc: Global) -> Result<Lockfile>
         ensures { Reads (λ l. l) result (locked self) }
     {
@@ -61,7 +56,7 @@ impl EncodableLockfile {
     fn format(&self, alloc: Global) -> Result<ResolveVersion>
         ensures { Reads (λ v. v) result (format_of self.now) }
     {
-        ResolveVersion::of_values(alloc, self.version, self.package.as_slice(), &self.metadata)
+        format_of_values(alloc, self.version, self.package.as_slice(), &self.metadata)
     }
 
     fn packages_in(&self, alloc: Global, format: ResolveVersion) -> Result<Vec<Package>>
@@ -89,7 +84,7 @@ struct Resolved {
 }
 
 impl Model for Resolved {
-    ghost use Rattle.cargo_lock.specs.Meaning.{ResolvedData};
+    ghost use Rattle.cargo_lock_encoding.specs.Meaning.{ResolvedData};
 
     ghost Value = { ResolvedData };
 
@@ -118,141 +113,5 @@ fn completed(encoded: EncodableLockfile, found: Resolved) -> Lockfile
         root,
         metadata,
         patch,
-    }
-}
-
-// ---- packages
-
-fn all_packages(
-    alloc: Global,
-    format: ResolveVersion,
-    metadata: &Metadata,
-    entries: &[EncodablePackage],
-) -> Result<Vec<Package>>
-    ensures { Reads (λ v. v.items) result (all_packages format (texts_of metadata.now.entries) entries.now) }
-{
-    let list = reading_list(format, entries);
-    packages_of(alloc, format, metadata, entries, list)
-}
-
-// The list in which references are looked up.
-fn reading_list(format: ResolveVersion, list: &[EncodablePackage]) -> &[EncodablePackage]
-    ensures { map entry_identity result.now ≡ reading_list format (map entry_identity list.now) }
-{
-    match format {
-        ResolveVersion::V1 => &[],
-        ResolveVersion::V2 | ResolveVersion::V3 | ResolveVersion::V4 => list,
-    }
-}
-
-fn packages_of(
-    alloc: Global,
-    format: ResolveVersion,
-    metadata: &Metadata,
-    entries: &[EncodablePackage],
-    list: &[EncodablePackage],
-) -> Result<Vec<Package>>
-    ensures { Reads (λ v. v.items) result
-        (map_all (entry_package format (map entry_identity list.now) (texts_of metadata.now.entries)) entries.now) }
-{
-    let mut packages = Vec::new(alloc);
-    for entry in entries {
-        let one = entry_package(alloc, format, metadata, entry, list)?;
-        packages.push(one)?;
-    }
-    Ok(packages)
-}
-
-fn entry_package(
-    alloc: Global,
-    format: ResolveVersion,
-    metadata: &Metadata,
-    entry: &EncodablePackage,
-    list: &[EncodablePackage],
-) -> Result<Package>
-    ensures { Reads (λ p. p) result
-        (entry_package format (map entry_identity list.now) (texts_of metadata.now.entries) entry.now) }
-{
-    let checksum = entry.checksum_in(alloc, format, metadata)?;
-    entry.with_references(alloc, checksum, list)
-}
-
-fn root_package(alloc: Global, entry: &EncodablePackage) -> Result<Package>
-    ensures { Reads (λ p. p) result (root_package entry.now) }
-{
-    let checksum = entry.own_checksum();
-    entry.with_references(alloc, checksum, &[])
-}
-
-impl EncodablePackage {
-    fn own_checksum(&self) -> Option<Checksum>
-        ensures { option_map digest_of result ≡ self.now.checksum }
-    {
-        self.checksum
-    }
-
-    // The checksum: in V1 the metadata has it.
-    fn checksum_in(
-        &self,
-        alloc: Global,
-        format: ResolveVersion,
-        metadata: &Metadata,
-    ) -> Result<Option<Checksum>>
-        ensures { Reads (option_map digest_of) result
-            (Some (entry_checksum format (texts_of metadata.now.entries) self.now)) }
-    {
-        match format {
-            ResolveVersion::V1 => {
-                let found = find_checksum(alloc, metadata, &self.name, &self.version)?;
-                Ok(found)
-            }
-            ResolveVersion::V2 | ResolveVersion::V3 | ResolveVersion::V4 => Ok(self.own_checksum()),
-        }
-    }
-
-    // The package, its references looked up in this list.
-    fn with_references(
-        &self,
-        alloc: Global,
-        checksum: Option<Checksum>,
-        list: &[EncodablePackage],
-    ) -> Result<Package>
-        ensures { Reads (λ p. p) result
-            (package_of (map entry_identity list.now) (option_map digest_of checksum) self.now) }
-    {
-        let dependencies = resolve_all(alloc, self.dependencies.as_slice(), list)?;
-        let replace = resolve_some(alloc, &self.replace)?;
-        Ok(Package {
-            name: self.name.clone()?,
-            version: self.version.clone()?,
-            source: bare_source(&self.source)?,
-            checksum,
-            dependencies,
-            replace,
-        })
-    }
-}
-
-fn resolve_all(
-    alloc: Global,
-    forms: &[EncodableDependency],
-    list: &[EncodablePackage],
-) -> Result<Vec<Dependency>>
-    ensures { Reads (λ v. v.items) result (map_all (λ f. said f (map entry_identity list.now)) forms.now) }
-{
-    let mut dependencies = Vec::new(alloc);
-    for form in forms {
-        let dependency = form.said(alloc, list)?;
-        dependencies.push(dependency)?;
-    }
-    Ok(dependencies)
-}
-
-fn resolve_some(alloc: Global, form: &Option<EncodableDependency>) -> Result<Option<Dependency>>
-    ensures { Reads (λ o. o) result (map_some (λ f. said f []) form.now) }
-{
-    match form {
-        Some(form) => Ok(Some(form.said(alloc, &[])?)),
-        None => Ok(None),
     }
 }

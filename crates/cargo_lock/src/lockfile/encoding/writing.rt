@@ -1,28 +1,30 @@
-//! From a lockfile to the values of its table.
+//! From a lockfile to the values of its table, and from these to the table and to the text.
 
-ghost use Rattle.std.specs.Prelude.{◌≡◌, IfOk, IsOkUnless, map, option_map};
+ghost use Rattle.std.specs.Prelude.{◌≡◌, ◌++◌, IfOk, IsOkUnless, OnOk, string_bytes};
+ghost use Rattle.toml.specs.View.{table_view};
 ghost use Rattle.cargo_lock_parts.specs.declared.error.Error.TheVariants.{Memory};
-ghost use Rattle.cargo_lock_parts.specs.Checksum.{digest_of};
-ghost use Rattle.cargo_lock_parts.specs.Identity.{identity_of};
-ghost use Rattle.cargo_lock.specs.Chosen.{chosen_form, in_full};
-ghost use Rattle.cargo_lock.specs.Records.{is_escaped};
-ghost use Rattle.cargo_lock.specs.Table.{encoded_of, entry_of, root_entry, written_checksum, written_version};
+ghost use Rattle.cargo_lock_encoding.specs.Table.{encoded_of, encoded_table};
+ghost use Rattle.cargo_lock_encoding.specs.Text.{encoded_lines, joined};
 
 use crate::error::Result;
 use crate::lockfile::Lockfile;
-use crate::lockfile::encoding::reference::written_source;
-use crate::lockfile::encoding::written::metadata_of;
-use crate::lockfile::encoding::{EncodableDependency, EncodableLockfile, EncodablePackage};
-use crate::lockfile::version::ResolveVersion;
-use cargo_lock_parts::dependency::Dependency;
-use cargo_lock_parts::package::{Checksum, Package};
+use crate::lockfile::encoding::EncodableLockfile;
+use cargo_lock_encoding::table::{
+    lockfile_members, metadata_value, packages_value, patch_value, root_value, version_number,
+};
+use cargo_lock_encoding::text::{
+    Put, put_comments, put_format, put_metadata, put_packages, put_patches,
+};
+use cargo_lock_encoding::writing::{all_entries, root_of, written_version};
+use cargo_lock_encoding::written::metadata_of;
 use std::alloc::Global;
+use toml::Table;
 
 impl EncodableLockfile {
     /// The values of a lockfile's table, in the lockfile's format. Its packages' references are
     /// without the words that the packages make needless, except in V1. The references of the root
     /// and all replacements are in full. Only want of memory is refused.
-    #[tactic(auto, unfolding(crate::specs::Table::encoded_of))]
+    #[tactic(auto, unfolding(cargo_lock_encoding::specs::Table::encoded_of))]
     pub fn of(alloc: Global, lockfile: &Lockfile) -> Result<EncodableLockfile>
         ensures ok { IfOk result (λ e. e ≡ encoded_of lockfile.now) }
         ensures err { IsOkUnless result Memory }
@@ -37,164 +39,44 @@ impl EncodableLockfile {
             patch: lockfile.patch.clone()?,
         })
     }
-}
 
-// The number that is written.
-fn written_version(format: ResolveVersion) -> Option<i64>
-    ensures { result ≡ written_version format }
-{
-    match format {
-        ResolveVersion::V1 | ResolveVersion::V2 => None,
-        ResolveVersion::V3 => Some(3),
-        ResolveVersion::V4 => Some(4),
+    // The table of these values.
+    #[tactic(auto, unfolding(cargo_lock_encoding::specs::Table::encoded_table))]
+    pub(crate) fn to_table(&self, alloc: Global) -> Result<Table>
+        ensures ok { IfOk result (λ t. table_view t ≡ encoded_table self.now) }
+        ensures err { IsOkUnless result Memory }
+    {
+        let metadata = metadata_value(alloc, &self.metadata)?;
+        let packages = packages_value(alloc, self.package.as_slice())?;
+        let patch = patch_value(alloc, false, &self.patch)?;
+        let root = root_value(alloc, &self.root)?;
+        let version = version_number(self.version);
+        let table = lockfile_members(alloc, metadata, packages, patch, root, version)?;
+        Ok(table)
     }
-}
 
-// ---- packages
-
-// The packages of a lockfile, as they are written.
-fn all_entries(
-    alloc: Global,
-    format: ResolveVersion,
-    list: &[Package],
-) -> Result<Vec<EncodablePackage>>
-    ensures ok { IfOk result (λ v. v.items ≡ map (entry_of format (map identity_of list.now)) list.now) }
-    ensures err { IsOkUnless result Memory }
-{
-    let mut entries = Vec::new(alloc);
-    for one in list {
-        let entry = entry_of(alloc, format, list, one)?;
-        entries.push(entry)?;
+    /// The text of the lockfile, as Cargo writes it: its packages, the patches that no package uses
+    /// and its metadata, and its number from the third format on. The root is not written.
+    ///
+    /// The one error is want of memory.
+    pub fn to_string(&self, alloc: Global) -> Result<String>
+        ensures ok { IfOk result (λ text. string_bytes text ≡ joined (encoded_lines self.now)) }
+        ensures err { IsOkUnless result Memory }
+    {
+        let mut out = String::new(alloc);
+        self.put(alloc, &mut out)?;
+        Ok(out)
     }
-    Ok(entries)
-}
 
-// A package among those of the lockfile, as it is written.
-fn entry_of(
-    alloc: Global,
-    format: ResolveVersion,
-    list: &[Package],
-    one: &Package,
-) -> Result<EncodablePackage>
-    ensures ok { IfOk result (λ e. e ≡ entry_of format (map identity_of list.now) one.now) }
-    ensures err { IsOkUnless result Memory }
-{
-    let dependencies = all_chosen(alloc, format, list, one.dependencies.as_slice())?;
-    Ok(EncodablePackage {
-        name: one.name.clone()?,
-        version: one.version.clone()?,
-        source: written_source(format, &one.source)?,
-        checksum: written_checksum(format, &one.checksum),
-        dependencies,
-        replace: full_replace(format, &one.replace)?,
-    })
-}
-
-// The root as it is written.
-fn root_of(
-    alloc: Global,
-    format: ResolveVersion,
-    root: &Option<Package>,
-) -> Result<Option<EncodablePackage>>
-    ensures ok { IfOk result (λ e. e ≡ option_map (root_entry format) root.now) }
-    ensures err { IsOkUnless result Memory }
-{
-    match root {
-        Some(one) => Ok(Some(root_entry(alloc, format, one)?)),
-        None => Ok(None),
-    }
-}
-
-fn root_entry(alloc: Global, format: ResolveVersion, one: &Package) -> Result<EncodablePackage>
-    ensures ok { IfOk result (λ e. e ≡ root_entry format one.now) }
-    ensures err { IsOkUnless result Memory }
-{
-    let dependencies = all_in_full(alloc, format, one.dependencies.as_slice())?;
-    Ok(EncodablePackage {
-        name: one.name.clone()?,
-        version: one.version.clone()?,
-        source: written_source(format, &one.source)?,
-        checksum: one.checksum,
-        dependencies,
-        replace: full_replace(format, &one.replace)?,
-    })
-}
-
-// The checksum that is written with a package. In V1 the metadata has it.
-fn written_checksum(format: ResolveVersion, checksum: &Option<Checksum>) -> Option<Checksum>
-    ensures { option_map digest_of result ≡ written_checksum format (option_map digest_of checksum.now) }
-{
-    match format {
-        ResolveVersion::V1 => None,
-        ResolveVersion::V2 | ResolveVersion::V3 | ResolveVersion::V4 => *checksum,
-    }
-}
-
-// ---- references
-
-// A dependency as it is written among these packages.
-#[tactic(auto, unfolding(crate::specs::Chosen::chosen_form))]
-pub(crate) fn chosen_form(
-    format: ResolveVersion,
-    list: &[Package],
-    dependency: &Dependency,
-) -> Result<EncodableDependency>
-    ensures ok { IfOk result (λ f. f ≡ chosen_form format (map identity_of list.now) dependency.now) }
-    ensures err { IsOkUnless result Memory }
-{
-    let full = EncodableDependency::from_dependency(dependency, format)?;
-    match format {
-        ResolveVersion::V1 => Ok(full),
-        ResolveVersion::V2 | ResolveVersion::V3 | ResolveVersion::V4 => Ok(full.v2(list)),
-    }
-}
-
-fn all_chosen(
-    alloc: Global,
-    format: ResolveVersion,
-    list: &[Package],
-    dependencies: &[Dependency],
-) -> Result<Vec<EncodableDependency>>
-    ensures ok { IfOk result (λ v. v.items ≡ map (chosen_form format (map identity_of list.now)) dependencies.now) }
-    ensures err { IsOkUnless result Memory }
-{
-    let mut forms = Vec::new(alloc);
-    for dependency in dependencies {
-        let form = chosen_form(format, list, dependency)?;
-        forms.push(form)?;
-    }
-    Ok(forms)
-}
-
-fn all_in_full(
-    alloc: Global,
-    format: ResolveVersion,
-    dependencies: &[Dependency],
-) -> Result<Vec<EncodableDependency>>
-    ensures ok { IfOk result (λ v. v.items ≡ map (in_full (is_escaped format)) dependencies.now) }
-    ensures err { IsOkUnless result Memory }
-{
-    let mut forms = Vec::new(alloc);
-    for dependency in dependencies {
-        let form = EncodableDependency::from_dependency(dependency, format)?;
-        forms.push(form)?;
-    }
-    Ok(forms)
-}
-
-// A replacement in full.
-fn full_replace(
-    format: ResolveVersion,
-    replace: &Option<Dependency>,
-) -> Result<Option<EncodableDependency>>
-    ensures ok { IfOk result (λ r. r ≡ option_map (in_full (is_escaped format)) replace.now) }
-    ensures err { IsOkUnless result Memory }
-{
-    match replace {
-        Some(replace) => {
-            let full = EncodableDependency::from_dependency(replace, format)?;
-            Ok(Some(full))
-        }
-        None => Ok(None),
+    // All lines of the lockfile.
+    fn put(&self, alloc: Global, out: &mut String) -> Put
+        ensures { OnOk result (string_bytes out.new ≡ string_bytes out.old ++ joined (encoded_lines self.now)) }
+    {
+        put_comments(out)?;
+        put_format(alloc, out, &self.version)?;
+        put_packages(alloc, out, self.package.as_slice())?;
+        put_patches(alloc, out, &self.patch)?;
+        put_metadata(out, &self.metadata)?;
+        Ok(())
     }
 }

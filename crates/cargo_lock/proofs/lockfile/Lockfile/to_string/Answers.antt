@@ -1,5 +1,5 @@
 use Rattle.std.proofs.Common.{◌≡◌, IfOk, string_bytes, subst}
-use Rattle.cargo_lock.specs.Text.{encoded_lines, joined}
+use Rattle.cargo_lock_encoding.specs.Text.{encoded_lines, joined}
 use Rattle.cargo_lock.proofs.lockfile.Lockfile.to_string.Goals as goal
 
 pub returns-clause-ok : goal.returns-clause-ok

@@ -1,6 +1,6 @@
 use Rattle.std.proofs.Common.{◌≡◌, IfOk, subst}
 use Rattle.toml.specs.View.{table_view}
-use Rattle.cargo_lock.specs.Table.{encoded_table}
+use Rattle.cargo_lock_encoding.specs.Table.{encoded_table}
 use Rattle.cargo_lock.proofs.lockfile.Lockfile.written.Goals as goal
 
 pub returns-clause-ok : goal.returns-clause-ok

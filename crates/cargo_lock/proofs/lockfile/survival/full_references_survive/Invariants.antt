@@ -1,7 +1,7 @@
 use Rattle.std.proofs.Common.{◌↔◌, drop, []}
 use Rattle.std.specs.List.{AllByRecursion}
-use Rattle.cargo_lock.specs.Chosen.{in_full}
-use Rattle.cargo_lock.specs.Records.{is_escaped}
+use Rattle.cargo_lock_encoding.specs.Chosen.{in_full}
+use Rattle.cargo_lock_encoding.specs.Records.{is_escaped}
 use Rattle.cargo_lock.specs.Survives.{ReferenceSurvives}
 use Rattle.cargo_lock.proofs.lockfile.survival.full_references_survive.Given as goal
 

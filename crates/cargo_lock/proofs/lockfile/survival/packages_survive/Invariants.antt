@@ -1,7 +1,7 @@
 use Rattle.std.proofs.Common.{◌↔◌, drop, map}
 use Rattle.std.specs.List.{AllByRecursion}
 use Rattle.cargo_lock_parts.specs.Identity.{identity_of}
-use Rattle.cargo_lock.specs.Records.{texts_of}
+use Rattle.cargo_lock_encoding.specs.Records.{texts_of}
 use Rattle.cargo_lock.specs.Survives.{EntrySurvives}
 use Rattle.cargo_lock.proofs.lockfile.survival.packages_survive.Given as goal
 

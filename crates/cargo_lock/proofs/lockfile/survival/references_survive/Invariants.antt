@@ -1,8 +1,8 @@
 use Rattle.std.proofs.Common.{◌↔◌, drop, map}
 use Rattle.std.specs.List.{AllByRecursion}
 use Rattle.cargo_lock_parts.specs.Identity.{identity_of}
-use Rattle.cargo_lock.specs.Chosen.{chosen_form}
-use Rattle.cargo_lock.specs.Means.{reading_list}
+use Rattle.cargo_lock_encoding.specs.Chosen.{chosen_form}
+use Rattle.cargo_lock_encoding.specs.Means.{reading_list}
 use Rattle.cargo_lock.specs.Survives.{ReferenceSurvives}
 use Rattle.cargo_lock.proofs.lockfile.survival.references_survive.Given as goal
 

@@ -1,6 +1,6 @@
 use Rattle.std.proofs.lemmas.Result.{err_from_is_err_and}
 use Rattle.toml.specs.View.{table_view}
-use Rattle.cargo_lock.proofs.Walk.{RefusesUrls-by}
+use Rattle.cargo_lock_encoding.proofs.Walk.{RefusesUrls-by}
 use Rattle.cargo_lock.proofs.TableLemmas.{encoded_at-no_metadata, encoded_at-no_patch}
 use Rattle.cargo_lock.proofs.lockfile.encoding.EncodableLockfile.from_table.Goals as goal
 

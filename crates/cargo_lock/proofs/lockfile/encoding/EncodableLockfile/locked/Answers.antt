@@ -1,6 +1,6 @@
 use Rattle.std.proofs.lemmas.Result.{err_from_is_err_and}
 use Rattle.cargo_lock.proofs.MeansLemmas.{locked-none}
-use Rattle.cargo_lock.proofs.Walk.{Refuses-by}
+use Rattle.cargo_lock_encoding.proofs.Walk.{Refuses-by}
 use Rattle.cargo_lock.proofs.lockfile.encoding.EncodableLockfile.locked.Goals as goal
 
 pub returns-in_err-found : goal.returns-in_err-found

@@ -1,6 +1,6 @@
 use Rattle.std.proofs.Common.{string_bytes}
-use Rattle.cargo_lock.specs.Records.{EncodedData, texts_of}
-use Rattle.cargo_lock.proofs.Lines.{then-encoded}
+use Rattle.cargo_lock_encoding.specs.Records.{EncodedData, texts_of}
+use Rattle.cargo_lock_encoding.proofs.Lines.{then-encoded}
 use Rattle.cargo_lock.proofs.lockfile.encoding.EncodableLockfile.put.Goals as goal
 
 pub returns : goal.returns

@@ -1,6 +1,6 @@
 use Rattle.std.proofs.Common.{◌≡◌, None, arith, sym}
 use Rattle.cargo_lock_parts.specs.Identity.{identity_of}
-use Rattle.cargo_lock.proofs.SaysLemmas.{said-found, said-unfound, no_source}
+use Rattle.cargo_lock_encoding.proofs.SaysLemmas.{said-found, said-unfound, no_source}
 use Rattle.cargo_lock.proofs.lockfile.survival.texts.said.Goals as goal
 
 pub returns-in_ok-identity-in-Some : goal.returns-in_ok-identity-in-Some

@@ -1,8 +1,0 @@
-use Rattle.cargo_lock.specs.DrawingMade.{drawing}
-use Rattle.cargo_lock.proofs.DrawingMade.{is_drawing}
-use Rattle.cargo_lock.proofs.DrawingWords.{in_words}
-use Rattle.cargo_lock.proofs.dependency.tree.laws.drawing_exists.Goals as goal
-
-pub returns : goal.returns
-returns c far nodes start below in' =
-    (drawing far nodes start, in_words far start (drawing far nodes start) (is_drawing far nodes start below in'))

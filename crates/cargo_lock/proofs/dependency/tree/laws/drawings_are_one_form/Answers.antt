@@ -1,5 +1,0 @@
-use Rattle.cargo_lock.proofs.DrawingWords.{in_words, from_words}
-use Rattle.cargo_lock.proofs.dependency.tree.laws.drawings_are_one_form.Goals as goal
-
-pub returns : goal.returns
-returns c far start es = (from_words far start es, in_words far start es)

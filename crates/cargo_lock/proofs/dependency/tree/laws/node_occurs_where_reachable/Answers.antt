@@ -1,8 +1,0 @@
-use Rattle.cargo_lock.proofs.DrawingReach.{occurs_reachable, reachable_occurs}
-use Rattle.cargo_lock.proofs.DrawingWords.{from_words}
-use Rattle.cargo_lock.proofs.dependency.tree.laws.node_occurs_where_reachable.Goals as goal
-
-pub returns : goal.returns
-returns c far start n es d =
-    let steps = from_words far start es d in
-    (occurs_reachable far start es n steps, reachable_occurs far start es n steps)

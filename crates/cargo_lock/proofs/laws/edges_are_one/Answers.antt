@@ -1,5 +1,0 @@
-use Rattle.cargo_lock.proofs.EdgesOnce.{edges_are_one}
-use Rattle.cargo_lock.proofs.laws.edges_are_one.Goals as goal
-
-pub returns : goal.returns
-returns c = edges_are_one

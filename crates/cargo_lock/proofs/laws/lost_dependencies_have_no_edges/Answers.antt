@@ -1,5 +1,0 @@
-use Rattle.cargo_lock.proofs.EdgesOnce.{lost_have_no_edges}
-use Rattle.cargo_lock.proofs.laws.lost_dependencies_have_no_edges.Goals as goal
-
-pub returns : goal.returns
-returns c = lost_have_no_edges

@@ -1,7 +1,0 @@
-use Rattle.std.proofs.Common.{◌≡◌, take, map}
-use Rattle.toml.specs.View.{view}
-use Rattle.cargo_lock.specs.Table.{patch_entry_value}
-use Rattle.cargo_lock.proofs.lockfile.encoding.table.patch_values.Given as goal
-
-abbrev pub invariant-loop-one : goal.invariant-loop-one
-invariant-loop-one l = map view l.values.items ≡ map (patch_entry_value l.escaped) (take l.one-index l.unused)

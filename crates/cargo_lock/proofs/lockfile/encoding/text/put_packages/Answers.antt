@@ -1,8 +1,0 @@
-use Rattle.std.proofs.Common.{string_bytes}
-use Rattle.cargo_lock.specs.Text.{entry_lines}
-use Rattle.cargo_lock.proofs.Lines.{then-more}
-use Rattle.cargo_lock.proofs.lockfile.encoding.text.put_packages.Goals as goal
-
-pub loop-one-preserved : goal.loop-one-preserved
-loop-one-preserved c =
-    then-more entry_lines c.args.packages.now _ c.one-item.result (string_bytes c.args.out.now) (string_bytes c.loop-one.out) _ c.loop-one-test.true c.one-item.is c.loop-one.invariant c.in_ok-put_package.ensures

@@ -1,7 +1,0 @@
-use Rattle.std.proofs.Common.{inl, rules}
-use Rattle.cargo_lock.specs.Metadata.{is_checksum, key_or_refusal}
-use Rattle.cargo_lock.proofs.metadata.MetadataKey.checksum_dependency.Goals as goal
-
-pub returns-in_default : goal.returns-in_default
-unfolding key_or_refusal is_checksum
-returns-in_default c = inl (search rules)

@@ -1,0 +1,11 @@
+pub mod ChecksumKeys
+pub mod ChosenLemmas
+pub mod LeastKeys
+pub mod Lines
+pub mod Puts
+pub mod SaysLemmas
+pub mod TextPuts
+pub mod Texts
+pub mod Walk
+pub mod WordLemmas
+pub mod WrittenMetadata

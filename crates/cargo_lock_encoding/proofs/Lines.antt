@@ -1,0 +1,109 @@
+-- Lines put after lines.
+use Rattle.std.proofs.Common.{◌≡◌, ◌<◌, ◌+◌, ℕ, Bool, true, false, List, [], ◌∷◌, ◌++◌, length, map, take, get_or, refl, ap, ◌∙◌, sym, append_assoc, codes, ◌==◌, option_map}
+use Rattle.std.specs.FinMap.{entries}
+use Rattle.std.specs.List.{flat_map}
+use Rattle.std.specs.Option.{option_to_list}
+use Rattle.std.proofs.lemmas.Bool.{false≢true}
+use Rattle.std.proofs.lemmas.Grind.{flat_map-append}
+use Rattle.std.proofs.lemmas.List.{append-nil, map-append, take_more}
+use Rattle.semver.specs.Identifiers.{parts_text}
+use Rattle.cargo_lock_parts.specs.Identity.{Identity}
+use Rattle.cargo_lock_encoding.specs.Chosen.{written_source}
+use Rattle.cargo_lock_encoding.specs.Form.{Form}
+use Rattle.cargo_lock_encoding.specs.Records.{EntryData, EncodedData}
+use Rattle.cargo_lock_encoding.specs.Text.{checksum_line, comment_lines, dependency_line, encoded_lines, entry_lines, field, is_nonempty_text, joined, metadata_lines, pair_line, patch_lines, reference_lines, source_line, version_lines}
+
+-- what was put, and what was put after it
+pub then : (a b c : List ℕ) (l m : List (List ℕ)) → b ≡ a ++ joined l → c ≡ b ++ joined m → c ≡ a ++ joined (l ++ m)
+then a b c l m e f = f ∙ rw e (append_assoc a (joined l) (joined m)) ∙ ap (λ (x : List ℕ). a ++ x) (sym (flat_map-append _ l m))
+
+-- one more line of a list of them
+pub then-one : {X : Type 0} (f : X → List ℕ) (xs : List X) (i : ℕ) (x : X) (a b c : List ℕ) → i < length xs → x ≡ get_or xs i x → b ≡ a ++ joined (map f (take i xs)) → c ≡ b ++ joined (f x ∷ []) → c ≡ a ++ joined (map f (take (i + 1) xs))
+then-one f xs i x a b c h is e g = then a b c (map f (take i xs)) (f x ∷ []) e g ∙ rw (take_more xs i x h, map-append f (take i xs) (get_or xs i x ∷ []), ← is)
+
+-- one more element's lines
+pub then-more : {X : Type 0} (f : X → List (List ℕ)) (xs : List X) (i : ℕ) (x : X) (a b c : List ℕ) → i < length xs → x ≡ get_or xs i x → b ≡ a ++ joined (flat_map f (take i xs)) → c ≡ b ++ joined (f x) → c ≡ a ++ joined (flat_map f (take (i + 1) xs))
+then-more f xs i x a b c h is e g = then a b c (flat_map f (take i xs)) (f x) e g ∙ rw (take_more xs i x h, flat_map-append f (take i xs) (get_or xs i x ∷ []), ← is, append-nil (f x))
+
+-- ---- a package
+
+pub then-dependencies : (fs : List Form) (a b c d : List ℕ)
+    → b ≡ a ++ joined (codes "dependencies = [" ∷ [])
+    → c ≡ b ++ joined (map dependency_line fs)
+    → d ≡ c ++ joined (codes "]" ∷ [])
+    → d ≡ a ++ joined (codes "dependencies = [" ∷ (map dependency_line fs ++ codes "]" ∷ []))
+then-dependencies fs a b c d h0 h1 h2 =
+    then a b d (codes "dependencies = [" ∷ []) (map dependency_line fs ++ codes "]" ∷ []) h0
+    (then b c d (map dependency_line fs) (codes "]" ∷ []) h1 h2)
+
+pub then-entry : (one : EntryData) (a b c d e f g : List ℕ)
+    → b ≡ a ++ joined ([] ∷ codes "[[package]]" ∷ [])
+    → c ≡ b ++ joined (field (codes "name") one.name ∷ [])
+    → d ≡ c ++ joined (field (codes "version") (parts_text one.version) ∷ [])
+    → e ≡ d ++ joined (option_to_list (option_map source_line one.source))
+    → f ≡ e ++ joined (option_to_list (option_map checksum_line one.checksum))
+    → g ≡ f ++ joined (reference_lines one.dependencies one.replace)
+    → g ≡ a ++ joined (entry_lines one)
+then-entry one a b c d e f g h0 h1 h2 h3 h4 h5 =
+    let l0 : List (List ℕ) = [] ∷ codes "[[package]]" ∷ [] in
+    let l1 : List (List ℕ) = field (codes "name") one.name ∷ [] in
+    let l2 : List (List ℕ) = field (codes "version") (parts_text one.version) ∷ [] in
+    let l3 : List (List ℕ) = option_to_list (option_map source_line one.source) in
+    let l4 : List (List ℕ) = option_to_list (option_map checksum_line one.checksum) in
+    let l5 : List (List ℕ) = reference_lines one.dependencies one.replace in
+    then a c g (l0 ++ l1) (l2 ++ (l3 ++ (l4 ++ l5))) (then a b c l0 l1 h0 h1)
+    (then c d g l2 (l3 ++ (l4 ++ l5)) h2 (then d e g l3 (l4 ++ l5) h3 (then e f g l4 l5 h4 h5)))
+
+-- ---- an unused patch
+
+pub then-patch : (escaped : Bool) (i : Identity) (a b c d e f : List ℕ)
+    → b ≡ a ++ joined ([] ∷ codes "[[patch.unused]]" ∷ [])
+    → c ≡ b ++ joined (field (codes "name") i.name ∷ [])
+    → d ≡ c ++ joined (field (codes "version") (parts_text i.version) ∷ [])
+    → e ≡ d ++ joined (option_to_list (option_map source_line (written_source escaped i.source)))
+    → f ≡ e ++ joined ([] ∷ [])
+    → f ≡ a ++ joined (patch_lines escaped i)
+then-patch escaped i a b c d e f h0 h1 h2 h3 h4 =
+    let l0 : List (List ℕ) = [] ∷ codes "[[patch.unused]]" ∷ [] in
+    let l1 : List (List ℕ) = field (codes "name") i.name ∷ [] in
+    let l2 : List (List ℕ) = field (codes "version") (parts_text i.version) ∷ [] in
+    let l3 : List (List ℕ) = option_to_list (option_map source_line (written_source escaped i.source)) in
+    let l4 : List (List ℕ) = [] ∷ [] in
+    then a c f (l0 ++ l1) (l2 ++ (l3 ++ l4)) (then a b c l0 l1 h0 h1)
+    (then c d f l2 (l3 ++ l4) h2 (then d e f l3 l4 h3 h4))
+
+-- ---- metadata
+
+pub nonempty-text : (k : List ℕ) → (length k == 0) ≡ false → is_nonempty_text k ≡ true
+nonempty-text [] h = absurd (false≢true (sym h))
+nonempty-text (b ∷ bs) h = refl
+
+pub metadata-some : (ms : List (List ℕ × List ℕ)) → ¬ (length ms ≡ 0) → metadata_lines ms ≡ [] ∷ codes "[metadata]" ∷ map pair_line ms
+metadata-some [] h = absurd (h refl)
+metadata-some (m ∷ ms) h = refl
+
+pub then-metadata : (ms : List (List ℕ × List ℕ)) (a b c : List ℕ)
+    → ¬ (length ms ≡ 0)
+    → b ≡ a ++ joined ([] ∷ codes "[metadata]" ∷ [])
+    → c ≡ b ++ joined (map pair_line ms)
+    → c ≡ a ++ joined (metadata_lines ms)
+then-metadata ms a b c some h0 h1 =
+    then a b c ([] ∷ codes "[metadata]" ∷ []) (map pair_line ms) h0 h1
+    ∙ ap (λ (ls : List (List ℕ)). a ++ joined ls) (sym (metadata-some ms some))
+
+-- ---- the whole
+
+pub then-encoded : (l : EncodedData) (a b c d e f : List ℕ)
+    → b ≡ a ++ joined comment_lines
+    → c ≡ b ++ joined (version_lines l.version)
+    → d ≡ c ++ joined (flat_map entry_lines l.entries)
+    → e ≡ d ++ joined (flat_map (patch_lines false) l.patch)
+    → f ≡ e ++ joined (metadata_lines (entries l.metadata))
+    → f ≡ a ++ joined (encoded_lines l)
+then-encoded l a b c d e f h0 h1 h2 h3 h4 =
+    let l1 : List (List ℕ) = version_lines l.version in
+    let l2 : List (List ℕ) = flat_map entry_lines l.entries in
+    let l3 : List (List ℕ) = flat_map (patch_lines false) l.patch in
+    let l4 : List (List ℕ) = metadata_lines (entries l.metadata) in
+    then a b f comment_lines (l1 ++ (l2 ++ (l3 ++ l4))) h0
+    (then b c f l1 (l2 ++ (l3 ++ l4)) h1 (then c d f l2 (l3 ++ l4) h2 (then d e f l3 l4 h3 h4)))

@@ -1,0 +1,50 @@
+-- The order of references: name, version, source by its key, and an absent value before a present
+-- one.
+use Rattle.std.specs.Prelude.{ℕ, Bool, List, ◌++◌, Option, option_map}
+use Rattle.std.specs.Option.{option_cmp}
+use Rattle.std.specs.declared.cmp.Ordering.{Ordering}
+use Rattle.std.specs.Ordering.{on, then_cmp, eq_by_cmp}
+use Rattle.std.specs.Hash.{HashWrites}
+use Rattle.std.specs.Hash as fed
+use Rattle.semver.specs.Parse.{Parts}
+use Rattle.cargo_lock_parts.specs.IdentityOrder.{source_hash, version_cmp}
+use Rattle.cargo_lock_parts.specs.Source.{MarkedSource}
+use Rattle.cargo_lock_parts.specs.SourceKey.{Key, key_of, source_cmp, text_cmp}
+use Rattle.cargo_lock_encoding.specs.Form.{Form}
+
+-- a source compares by its key alone, however it is marked
+abbrev pub marked_cmp : MarkedSource → MarkedSource → Ordering
+marked_cmp = on (λ m. m.source) source_cmp
+
+abbrev pub is_same_marked : MarkedSource → MarkedSource → Bool
+is_same_marked = eq_by_cmp marked_cmp
+
+abbrev pub marked_hash : MarkedSource → HashWrites
+marked_hash m = source_hash m.source
+
+abbrev pub form_cmp : Form → Form → Ordering
+form_cmp = then_cmp (then_cmp
+    (on (λ f. f.name) text_cmp)
+    (on (λ f. f.version) (option_cmp version_cmp)))
+    (on (λ f. f.source) (option_cmp marked_cmp))
+
+abbrev pub is_same_form : Form → Form → Bool
+is_same_form = eq_by_cmp form_cmp
+
+-- the version follows from the name in most lockfiles, and is not fed
+abbrev pub form_hash : Form → HashWrites
+form_hash f = fed.str f.name ++ fed.option marked_hash f.source
+
+-- ---- keys
+
+pub record FormKey : Type 0 where
+  pub name : List ℕ
+  pub version : Option Parts
+  pub source : Option Key
+
+abbrev pub marked_key : MarkedSource → Key
+marked_key m = key_of m.source
+
+-- what equality looks at
+abbrev pub form_key : Form → FormKey
+form_key f = record { name = f.name; version = f.version; source = option_map marked_key f.source }

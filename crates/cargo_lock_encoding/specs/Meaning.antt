@@ -1,0 +1,55 @@
+-- `Means` as it is computed. The lemmas that the two agree are in proofs/.
+use Rattle.std.specs.Prelude.{ℕ, List, [], Option, Some, option_map, map}
+use Rattle.toml.specs.Data.{Members}
+use Rattle.cargo_lock_parts.specs.Identity.{Identity, PackageData}
+use Rattle.cargo_lock_encoding.specs.declared.version.ResolveVersion.{ResolveVersion}
+use Rattle.cargo_lock_encoding.specs.Format.{format_of}
+use Rattle.cargo_lock_encoding.specs.Means.{reading_list, entry_checksum}
+use Rattle.cargo_lock_encoding.specs.Optional.{◌>>=◌, map_all, map_some}
+use Rattle.cargo_lock_encoding.specs.Records.{EntryData, EncodedData, LockfileData, Texts, bare_source, entry_identity}
+use Rattle.cargo_lock_encoding.specs.Said.{said}
+use Rattle.cargo_lock_encoding.specs.TableReading.{encoded_at}
+
+abbrev pub package_of : List Identity → Option (List ℕ) → EntryData → Option PackageData
+package_of list checksum e = do
+  dependencies ← map_all (λ f. said f list) e.dependencies
+  replace ← map_some (λ f. said f []) e.replace
+  Some (record {
+    name = e.name;
+    version = e.version;
+    source = bare_source e.source;
+    checksum = checksum;
+    dependencies = dependencies;
+    replace = replace;
+  })
+
+abbrev pub entry_package : ResolveVersion → List Identity → Texts → EntryData → Option PackageData
+entry_package v list m e = package_of list (entry_checksum v m e) e
+
+abbrev pub root_package : EntryData → Option PackageData
+root_package e = package_of [] e.checksum e
+
+abbrev pub all_packages : ResolveVersion → Texts → List EntryData → Option (List PackageData)
+all_packages v m es = map_all (entry_package v (reading_list v (map entry_identity es)) m) es
+
+-- what is found out about values
+pub record ResolvedData : Type 0 where
+  pub version : ResolveVersion
+  pub packages : List PackageData
+  pub root : Option PackageData
+
+abbrev pub resolved : EncodedData → Option ResolvedData
+resolved e = do
+  version ← format_of e
+  packages ← all_packages version e.metadata e.entries
+  root ← map_some root_package e.root
+  Some (record { version = version; packages = packages; root = root })
+
+abbrev pub completed : EncodedData → ResolvedData → LockfileData
+completed e r = record { version = r.version; packages = r.packages; root = r.root; metadata = e.metadata; patch = e.patch }
+
+unfoldable pub locked : EncodedData → Option LockfileData
+locked e = option_map (completed e) (resolved e)
+
+abbrev pub meaning : Members → Option LockfileData
+meaning t = encoded_at t >>= locked

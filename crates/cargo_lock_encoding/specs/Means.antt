@@ -1,0 +1,71 @@
+-- Which lockfile a table means.
+use Rattle.std.specs.Prelude.{◌≡◌, ℕ, List, [], Option, Some, map}
+use Rattle.std.specs.List.{AllZip}
+use Rattle.toml.specs.Data.{Members}
+use Rattle.toml.specs.Parse.{parse_document}
+use Rattle.cargo_lock_parts.specs.Identity.{Identity, PackageData}
+use Rattle.cargo_lock_encoding.specs.declared.version.ResolveVersion.{ResolveVersion}
+use Rattle.cargo_lock_encoding.specs.declared.version.ResolveVersion.TheVariants.{V1, V2, V3, V4}
+use Rattle.cargo_lock_encoding.specs.Format.{format_of}
+use Rattle.cargo_lock_encoding.specs.Metadata.{checksum_in}
+use Rattle.cargo_lock_encoding.specs.Optional.{BothOrNone}
+use Rattle.cargo_lock_encoding.specs.Records.{EntryData, EncodedData, LockfileData, Texts, bare_source, entry_identity}
+use Rattle.cargo_lock_encoding.specs.Says.{Says}
+use Rattle.cargo_lock_encoding.specs.TableReading.{encoded_at}
+
+-- the list in which the references of packages are looked up: in V1 they are in full
+abbrev pub reading_list : ResolveVersion → List Identity → List Identity
+reading_list V1 list = []
+reading_list V2 list = list
+reading_list V3 list = list
+reading_list V4 list = list
+
+-- the checksum of an entry: in V1 the metadata has it
+abbrev pub entry_checksum : ResolveVersion → Texts → EntryData → Option (List ℕ)
+entry_checksum V1 m e = checksum_in m e.name e.version
+entry_checksum V2 m e = e.checksum
+entry_checksum V3 m e = e.checksum
+entry_checksum V4 m e = e.checksum
+
+-- the package that an entry means, with this checksum and its dependencies looked up in this list;
+-- its replacement is in full in every format
+pub record IsPackage (list : List Identity) (digest : Option (List ℕ)) (entry : EntryData) (p : PackageData) : Type 0 where
+  pub name : p.name ≡ entry.name
+  pub version : p.version ≡ entry.version
+  pub source : p.source ≡ bare_source entry.source
+  pub checksum : p.checksum ≡ digest
+  pub dependencies : AllZip (λ form identity. Says form list identity) entry.dependencies p.dependencies
+  pub replace : BothOrNone (λ form identity. Says form [] identity) entry.replace p.replace
+
+-- the package of an entry of the list, in this format
+abbrev pub IsListed : ResolveVersion → List Identity → Texts → EntryData → PackageData → Type 0
+IsListed format list m entry p = IsPackage (reading_list format list) (entry_checksum format m entry) entry p
+
+-- the root, whose references are in full and which keeps its own checksum
+abbrev pub IsRoot : EntryData → PackageData → Type 0
+IsRoot entry p = IsPackage [] entry.checksum entry p
+
+-- the lockfile of these values
+pub record IsLocked (e : EncodedData) (l : LockfileData) : Type 0 where
+  pub format : format_of e ≡ Some l.version
+  pub packages : AllZip (IsListed l.version (map entry_identity e.entries) e.metadata) e.entries l.packages
+  pub root : BothOrNone IsRoot e.root l.root
+  pub metadata : l.metadata ≡ e.metadata
+  pub patch : l.patch ≡ e.patch
+
+-- The table means the lockfile: its values are read key by key, package k is that of entry k, and
+-- sources are taken to the letter.
+pub record Means (t : Members) (l : LockfileData) : Type 0 where
+  pub encoded : EncodedData
+  pub values : encoded_at t ≡ Some encoded
+  pub locked : IsLocked encoded l
+
+-- the text is that of a TOML table, which means the lockfile
+pub record TextMeans (text : List ℕ) (l : LockfileData) : Type 0 where
+  pub table : Members
+  pub parsed : parse_document text ≡ Some table
+  pub means : Means table l
+
+-- a table means at most one lockfile
+abbrev pub MeansOne : Type 0
+MeansOne = (t : Members) (a b : LockfileData) → Means t a → Means t b → a ≡ b

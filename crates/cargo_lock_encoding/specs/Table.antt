@@ -1,0 +1,158 @@
+-- The table of a lockfile.
+use Rattle.std.specs.Prelude.{ℕ, ℤ, pos, Bool, false, List, [], ◌∷◌, Option, Some, None, option_map, map, codes}
+use Rattle.std.specs.FinMap.{entries}
+use Rattle.std.specs.Cmp.Lexicographic.{slice_cmp}
+use Rattle.std.specs.Ordering.{nat_cmp, match_ordering}
+use Rattle.semver.specs.Identifiers.{parts_text}
+use Rattle.toml.specs.Data.{Data, string, integer, array, table, Members, no_members, member}
+use Rattle.toml.specs.View.{items_of}
+use Rattle.cargo_lock_parts.specs.Checksum.{digest_text}
+use Rattle.cargo_lock_parts.specs.Identity.{Identity, PackageData, identity_of}
+use Rattle.cargo_lock_parts.specs.Source.{MarkedSource}
+use Rattle.cargo_lock_parts.specs.SourceText.{marked_text}
+use Rattle.cargo_lock_encoding.specs.declared.version.ResolveVersion.{ResolveVersion}
+use Rattle.cargo_lock_encoding.specs.declared.version.ResolveVersion.TheVariants.{V1, V2, V3, V4}
+use Rattle.cargo_lock_encoding.specs.Chosen.{chosen_form, in_full, written_source}
+use Rattle.cargo_lock_encoding.specs.Form.{Form, form_text}
+use Rattle.cargo_lock_encoding.specs.Metadata.{metadata_of}
+use Rattle.cargo_lock_encoding.specs.Records.{EntryData, EncodedData, LockfileData, Texts, is_escaped}
+
+-- ---- the values that are written
+
+-- the number that is written: Cargo leaves out those of the first two formats
+abbrev pub written_version : ResolveVersion → Option ℤ
+written_version V1 = None
+written_version V2 = None
+written_version V3 = Some (pos 3)
+written_version V4 = Some (pos 4)
+
+-- in V1 the metadata has the checksums
+abbrev pub written_checksum : ResolveVersion → Option (List ℕ) → Option (List ℕ)
+written_checksum V1 checksum = None
+written_checksum V2 checksum = checksum
+written_checksum V3 checksum = checksum
+written_checksum V4 checksum = checksum
+
+-- a package with this checksum and with its dependencies written so; a replacement is in full
+abbrev pub entry_with : ResolveVersion → Option (List ℕ) → (Identity → Form) → PackageData → EntryData
+entry_with format checksum form p = record {
+  name = p.name;
+  version = p.version;
+  source = written_source (is_escaped format) p.source;
+  checksum = checksum;
+  dependencies = map form p.dependencies;
+  replace = option_map (in_full (is_escaped format)) p.replace;
+}
+
+-- a package among those of the lockfile
+abbrev pub entry_of : ResolveVersion → List Identity → PackageData → EntryData
+entry_of format list p = entry_with format (written_checksum format p.checksum) (chosen_form format list) p
+
+-- the root, whose references are in full and which keeps its checksum
+abbrev pub root_entry : ResolveVersion → PackageData → EntryData
+root_entry format p = entry_with format p.checksum (in_full (is_escaped format)) p
+
+unfoldable pub encoded_of : LockfileData → EncodedData
+encoded_of l = record {
+  version = written_version l.version;
+  entries = map (entry_of l.version (map identity_of l.packages)) l.packages;
+  root = option_map (root_entry l.version) l.root;
+  metadata = metadata_of l.version l.metadata l.packages;
+  patch = l.patch;
+}
+
+-- ---- tables
+
+abbrev pub present_one : List ℕ → Option Data → Members → Members
+present_one k None rest = rest
+present_one k (Some d) rest = member k d rest
+
+-- the members that are present, in this order
+abbrev pub present : List (List ℕ × Option Data) → Members
+present [] = no_members
+present (m ∷ ms) = present_one m.0 m.1 (present ms)
+
+-- a list that is left out where it is empty
+abbrev pub unless_empty : List Data → Option Data
+unless_empty [] = None
+unless_empty (d ∷ ds) = Some (array (items_of (d ∷ ds)))
+
+abbrev pub form_value : Form → Data
+form_value f = string (form_text f)
+
+abbrev pub source_value : MarkedSource → Data
+source_value m = string (marked_text m)
+
+abbrev pub checksum_value : List ℕ → Data
+checksum_value c = string (digest_text c)
+
+abbrev pub entry_table : EntryData → Members
+entry_table e = present (
+    (codes "checksum", option_map checksum_value e.checksum)
+    ∷ (codes "dependencies", unless_empty (map form_value e.dependencies))
+    ∷ (codes "name", Some (string e.name))
+    ∷ (codes "replace", option_map form_value e.replace)
+    ∷ (codes "source", option_map source_value e.source)
+    ∷ (codes "version", Some (string (parts_text e.version))) ∷ [])
+
+abbrev pub entry_value : EntryData → Data
+entry_value e = table (entry_table e)
+
+-- an unused patch, its source escaped or plain
+abbrev pub patch_table : Bool → Identity → Members
+patch_table escaped i = present (
+    (codes "name", Some (string i.name))
+    ∷ (codes "source", option_map source_value (written_source escaped i.source))
+    ∷ (codes "version", Some (string (parts_text i.version))) ∷ [])
+
+abbrev pub patch_entry_value : Bool → Identity → Data
+patch_entry_value escaped i = table (patch_table escaped i)
+
+abbrev pub unused_table : List Data → Members
+unused_table values = member (codes "unused") (array (items_of values)) no_members
+
+abbrev pub unless_no_patch : List Data → Option Data
+unless_no_patch [] = None
+unless_no_patch (d ∷ ds) = Some (table (unused_table (d ∷ ds)))
+
+-- the unused patches, whose sources are plain in every format
+abbrev pub patch_value : List Identity → Option Data
+patch_value patch = unless_no_patch (map (patch_entry_value false) patch)
+
+abbrev pub text_members : List (List ℕ × List ℕ) → Members
+text_members [] = no_members
+text_members (m ∷ ms) = member m.0 (string m.1) (text_members ms)
+
+abbrev pub unless_no_text : List (List ℕ × List ℕ) → Option Data
+unless_no_text [] = None
+unless_no_text (m ∷ ms) = Some (table (text_members (m ∷ ms)))
+
+abbrev pub metadata_value : Texts → Option Data
+metadata_value m = unless_no_text (entries m)
+
+abbrev pub packages_value : List EntryData → Data
+packages_value es = array (items_of (map entry_value es))
+
+-- the table of these values
+unfoldable pub encoded_table : EncodedData → Members
+encoded_table e = present (
+    (codes "metadata", metadata_value e.metadata)
+    ∷ (codes "package", Some (packages_value e.entries))
+    ∷ (codes "patch", patch_value e.patch)
+    ∷ (codes "root", option_map entry_value e.root)
+    ∷ (codes "version", option_map integer e.version) ∷ [])
+
+-- the table of a lockfile
+abbrev pub table_of : LockfileData → Members
+table_of l = encoded_table (encoded_of l)
+
+-- ---- putting a value at a key
+
+-- a member put into members that ascend
+abbrev pub put : List ℕ → Data → Members → Members
+put k d no_members = member k d no_members
+put k d (member l e ms) = match_ordering (slice_cmp nat_cmp k l) (member k d (member l e ms)) (member l d ms) (member l e (put k d ms))
+
+abbrev pub put_present : List ℕ → Option Data → Members → Members
+put_present k None ms = ms
+put_present k (Some d) ms = put k d ms

@@ -1,0 +1,165 @@
+-- The values of a table, as Cargo writes them: a key's value is a text, a whole number, a list or a
+-- table, and a text is read as a version, a source, a checksum or a reference.
+use Rattle.std.specs.Prelude.{ℕ, ℤ, List, [], ◌∷◌, Option, Some, None, option_map, codes}
+use Rattle.std.specs.FinMap.{empty, insert}
+use Rattle.std.specs.Option.{option_and_then}
+use Rattle.std.specs.Result.{result_ok}
+use Rattle.semver.specs.Parse.{Parts, version_parts}
+use Rattle.toml.specs.Data.{Data, string, array, table, integer, Items, no_items, item, Members, no_members, member, get_member}
+use Rattle.cargo_lock_parts.specs.Checksum.{digest_in}
+use Rattle.cargo_lock_parts.specs.Identity.{Identity}
+use Rattle.cargo_lock_parts.specs.Source.{Source}
+use Rattle.cargo_lock_parts.specs.SourceReading.{source_of}
+use Rattle.cargo_lock_encoding.specs.Form.{Form, form_of, plainly}
+use Rattle.cargo_lock_encoding.specs.Optional.{◌>>=◌}
+use Rattle.cargo_lock_encoding.specs.Records.{EntryData, EncodedData, Texts}
+
+-- ---- values by their types
+
+abbrev pub text_in : Data → Option (List ℕ)
+text_in (string s) = Some s
+text_in _ = None
+
+abbrev pub number_in : Data → Option ℤ
+number_in (integer z) = Some z
+number_in _ = None
+
+abbrev pub items_in : Data → Option Items
+items_in (array ds) = Some ds
+items_in _ = None
+
+abbrev pub members_in : Data → Option Members
+members_in (table ms) = Some ms
+members_in _ = None
+
+-- what a value reads as, where it may be missing
+abbrev pub optional_by : {X : Type 0} → (Data → Option X) → Option Data → Option (Option X)
+optional_by read None = Some None
+optional_by read (Some d) = option_map Some (read d)
+
+-- a text that may not be missing
+abbrev pub required_text : Option Data → Option (List ℕ)
+required_text o = option_and_then text_in o
+
+-- a list that is empty where it is missing
+abbrev pub optional_list : Option Data → Option Items
+optional_list None = Some no_items
+optional_list (Some d) = items_in d
+
+-- a list that may not be missing
+abbrev pub required_list : Option Data → Option Items
+required_list o = option_and_then items_in o
+
+-- each item read, or none where some item reads as none
+abbrev pub read_all : {X : Type 0} → (Data → Option X) → Items → Option (List X)
+read_all read no_items = Some []
+read_all read (item d ds) = read d >>= λ x. option_map (λ xs. x ∷ xs) (read_all read ds)
+
+-- ---- texts
+
+unfoldable pub version_of : List ℕ → Option Parts
+version_of text = result_ok (version_parts text)
+
+abbrev pub source_in : Data → Option Source
+source_in d = text_in d >>= source_of
+
+abbrev pub checksum_from : Data → Option (List ℕ)
+checksum_from d = text_in d >>= digest_in
+
+abbrev pub form_in : Data → Option Form
+form_in d = text_in d >>= form_of
+
+-- ---- packages
+
+unfoldable pub entry_at : Members → Option EntryData
+entry_at ms = do
+  name ← required_text (get_member (codes "name") ms)
+  text ← required_text (get_member (codes "version") ms)
+  version ← version_of text
+  source ← optional_by source_in (get_member (codes "source") ms)
+  checksum ← optional_by checksum_from (get_member (codes "checksum") ms)
+  list ← optional_list (get_member (codes "dependencies") ms)
+  forms ← read_all form_in list
+  replace ← optional_by form_in (get_member (codes "replace") ms)
+  Some (record {
+    name = name;
+    version = version;
+    source = option_map plainly source;
+    checksum = checksum;
+    dependencies = forms;
+    replace = replace;
+  })
+
+abbrev pub entry_in : Data → Option EntryData
+entry_in d = members_in d >>= entry_at
+
+unfoldable pub entries_at : Members → Option (List EntryData)
+entries_at ms = do
+  list ← optional_list (get_member (codes "package") ms)
+  read_all entry_in list
+
+-- the packages of a lockfile and its root
+pub record EntriesData : Type 0 where
+  pub listed : List EntryData
+  pub root : Option EntryData
+
+unfoldable pub all_entries_at : Members → Option EntriesData
+all_entries_at ms = do
+  listed ← entries_at ms
+  root ← optional_by entry_in (get_member (codes "root") ms)
+  Some (record { listed = listed; root = root })
+
+-- ---- metadata: texts by keys
+
+-- each pair put in turn
+abbrev pub put_all : Texts → List (List ℕ × List ℕ) → Texts
+put_all m [] = m
+put_all m (e ∷ es) = put_all (insert m e.0 e.1) es
+
+abbrev pub pairs_at : Members → Option (List (List ℕ × List ℕ))
+pairs_at no_members = Some []
+pairs_at (member k d ms) = text_in d >>= λ v. option_map (λ es. (k, v) ∷ es) (pairs_at ms)
+
+abbrev pub texts_at : Members → Option Texts
+texts_at ms = option_map (put_all empty) (pairs_at ms)
+
+abbrev pub metadata_in : Option Data → Option Texts
+metadata_in None = Some empty
+metadata_in (Some d) = members_in d >>= texts_at
+
+-- ---- patches that no package uses
+
+unfoldable pub patch_entry_at : Members → Option Identity
+patch_entry_at ms = do
+  name ← required_text (get_member (codes "name") ms)
+  text ← required_text (get_member (codes "version") ms)
+  version ← version_of text
+  source ← optional_by source_in (get_member (codes "source") ms)
+  Some (record { name = name; version = version; source = source })
+
+abbrev pub patch_entry_in : Data → Option Identity
+patch_entry_in d = members_in d >>= patch_entry_at
+
+abbrev pub patch_at : Members → Option (List Identity)
+patch_at ms = required_list (get_member (codes "unused") ms) >>= read_all patch_entry_in
+
+abbrev pub patch_in : Option Data → Option (List Identity)
+patch_in None = Some []
+patch_in (Some d) = members_in d >>= patch_at
+
+-- ---- all
+
+-- the values of a table
+unfoldable pub encoded_at : Members → Option EncodedData
+encoded_at ms = do
+  version ← optional_by number_in (get_member (codes "version") ms)
+  entries ← all_entries_at ms
+  metadata ← metadata_in (get_member (codes "metadata") ms)
+  patch ← patch_in (get_member (codes "patch") ms)
+  Some (record {
+    version = version;
+    entries = entries.listed;
+    root = entries.root;
+    metadata = metadata;
+    patch = patch;
+  })

@@ -1,0 +1,137 @@
+-- The text of a lockfile, line by line, as Cargo writes it.
+use Rattle.std.specs.Prelude.{ℕ, ℤ, pos, negsuc, ◌+◌, ◌/◌, ◌%◌, ◌==◌, ◌&&◌, ◌||◌, nat_lt, nat_le, Bool, true, false, if◌then◌else◌, List, [], ◌∷◌, ◌++◌, Option, Some, None, option_map, map, codes, decimal}
+use Rattle.std.specs.Char.{encode_utf8}
+use Rattle.std.specs.FinMap.{entries}
+use Rattle.std.specs.List.{flat_map, list_all}
+use Rattle.std.specs.Option.{option_to_list}
+use Rattle.std.specs.Str.{chars}
+use Rattle.semver.specs.Identifiers.{parts_text}
+use Rattle.cargo_lock_parts.specs.Checksum.{digest_text}
+use Rattle.cargo_lock_parts.specs.Identity.{Identity}
+use Rattle.cargo_lock_parts.specs.Source.{MarkedSource}
+use Rattle.cargo_lock_parts.specs.SourceText.{marked_text}
+use Rattle.cargo_lock_encoding.specs.Chosen.{written_source}
+use Rattle.cargo_lock_encoding.specs.Form.{Form, form_text}
+use Rattle.cargo_lock_encoding.specs.Records.{EntryData, EncodedData, LockfileData}
+use Rattle.cargo_lock_encoding.specs.Table.{encoded_of}
+
+-- ---- strings: a TOML basic string, with the escapes that TOML asks for and no others
+
+abbrev pub hex_digit : ℕ → ℕ
+hex_digit n = if nat_lt n 10 then 48 + n else 55 + n
+
+abbrev pub control_escape : ℕ → List ℕ
+control_escape c = codes "\\u00" ++ (hex_digit (c / 16) ∷ hex_digit (c % 16) ∷ [])
+
+-- the letter after the backslash, where a character has one
+abbrev pub short_escape : ℕ → Option ℕ
+short_escape c =
+    if c == 34 then Some 34
+    else if c == 92 then Some 92
+    else if c == 8 then Some 98
+    else if c == 9 then Some 116
+    else if c == 10 then Some 110
+    else if c == 12 then Some 102
+    else if c == 13 then Some 114
+    else None
+
+abbrev pub escape_or : Option ℕ → ℕ → List ℕ
+escape_or (Some letter) c = 92 ∷ letter ∷ []
+escape_or None c = if nat_lt c 32 || (c == 127) then control_escape c else encode_utf8 c
+
+abbrev pub escape_char : ℕ → List ℕ
+escape_char c = escape_or (short_escape c) c
+
+-- the characters of the text, each as it is escaped
+unfoldable pub escaped : List ℕ → List ℕ
+escaped text = flat_map escape_char (chars text)
+
+abbrev pub quoted : List ℕ → List ℕ
+quoted text = 34 ∷ (escaped text ++ 34 ∷ [])
+
+-- ---- keys of the metadata: bare where TOML allows it
+
+abbrev pub is_bare_byte : ℕ → Bool
+is_bare_byte b =
+    (nat_le 65 b && nat_le b 90) || (nat_le 97 b && nat_le b 122) || (nat_le 48 b && nat_le b 57)
+    || (b == 95) || (b == 45)
+
+abbrev pub is_nonempty_text : List ℕ → Bool
+is_nonempty_text [] = false
+is_nonempty_text (b ∷ bs) = true
+
+-- the key is nonempty and of such bytes alone
+abbrev pub is_bare_key : List ℕ → Bool
+is_bare_key key = is_nonempty_text key && list_all is_bare_byte key
+
+abbrev pub key_text : List ℕ → List ℕ
+key_text key = if is_bare_key key then key else quoted key
+
+-- ---- lines
+
+abbrev pub field : List ℕ → List ℕ → List ℕ
+field key text = key ++ (codes " = " ++ quoted text)
+
+abbrev pub source_line : MarkedSource → List ℕ
+source_line m = field (codes "source") (marked_text m)
+
+abbrev pub checksum_line : List ℕ → List ℕ
+checksum_line c = field (codes "checksum") (digest_text c)
+
+abbrev pub replace_line : Form → List ℕ
+replace_line f = field (codes "replace") (form_text f)
+
+abbrev pub dependency_line : Form → List ℕ
+dependency_line f = 32 ∷ (quoted (form_text f) ++ 44 ∷ [])
+
+-- the dependencies, or where there are none the replacement
+abbrev pub reference_lines : List Form → Option Form → List (List ℕ)
+reference_lines [] replace = option_to_list (option_map replace_line replace)
+reference_lines (f ∷ fs) replace =
+    codes "dependencies = [" ∷ (map dependency_line (f ∷ fs) ++ codes "]" ∷ [])
+
+-- an empty line, and a package
+abbrev pub entry_lines : EntryData → List (List ℕ)
+entry_lines e =
+    [] ∷ codes "[[package]]" ∷ field (codes "name") e.name ∷ field (codes "version") (parts_text e.version)
+    ∷ (option_to_list (option_map source_line e.source)
+    ++ (option_to_list (option_map checksum_line e.checksum) ++ reference_lines e.dependencies e.replace))
+
+-- an empty line, an unused patch, its source escaped or plain, and one more empty line
+abbrev pub patch_lines : Bool → Identity → List (List ℕ)
+patch_lines escaped i =
+    [] ∷ codes "[[patch.unused]]" ∷ field (codes "name") i.name ∷ field (codes "version") (parts_text i.version)
+    ∷ (option_to_list (option_map source_line (written_source escaped i.source)) ++ [] ∷ [])
+
+abbrev pub pair_line : List ℕ × List ℕ → List ℕ
+pair_line m = key_text m.0 ++ (codes " = " ++ quoted m.1)
+
+-- an empty line, and the metadata
+abbrev pub metadata_lines : List (List ℕ × List ℕ) → List (List ℕ)
+metadata_lines [] = []
+metadata_lines (m ∷ ms) = [] ∷ codes "[metadata]" ∷ map pair_line (m ∷ ms)
+
+-- the number stands in the file from V3 on
+abbrev pub version_lines : Option ℤ → List (List ℕ)
+version_lines None = []
+version_lines (Some (negsuc n)) = []
+version_lines (Some (pos n)) = if nat_le 3 n then (codes "version = " ++ decimal n) ∷ [] else []
+
+abbrev pub comment_lines : List (List ℕ)
+comment_lines =
+    codes "# This file is automatically @generated by Cargo."
+    ∷ codes "# It is not intended for manual editing." ∷ []
+
+-- the lines of the values of a table
+abbrev pub encoded_lines : EncodedData → List (List ℕ)
+encoded_lines e =
+    comment_lines ++ (version_lines e.version ++ (flat_map entry_lines e.entries
+    ++ (flat_map (patch_lines false) e.patch ++ metadata_lines (entries e.metadata))))
+
+-- the lines of a lockfile; the root is never printed
+abbrev pub lines_of : LockfileData → List (List ℕ)
+lines_of l = encoded_lines (encoded_of l)
+
+-- each line, and a newline after it
+abbrev pub joined : List (List ℕ) → List ℕ
+joined lines = flat_map (λ line. line ++ 10 ∷ []) lines

@@ -1,0 +1,30 @@
+//! Laws of references and of the metadata, each the contract of a function without a body.
+
+ghost use Rattle.cargo_lock_encoding.specs.Chosen.{ShortenedByPlaces, ShortenedTwice};
+ghost use Rattle.cargo_lock_encoding.specs.LeastKey.{ChecksumAtLeastKey};
+ghost use Rattle.cargo_lock_encoding.specs.WrittenMetadata.{ChecksumsAtKeys, NoChecksumKeys};
+
+/// A reference is shortened to its name exactly where one package has the name, and otherwise to
+/// name and version exactly where one package has both.
+pub fn references_are_shortened_by_places()
+    ensures { ShortenedByPlaces }
+{}
+
+/// A reference that was shortened is not shortened any further.
+pub fn shortened_references_stay()
+    ensures { ShortenedTwice }
+{}
+
+/// The checksum that the metadata holds for a package is the value at the least key that reads as
+/// the package's name and version, and there is none where no key reads so.
+pub fn checksums_stand_at_least_keys()
+    ensures { ChecksumAtLeastKey }
+{}
+
+/// In V1 the written metadata has, at the checksum key of packages with checksums, the text of the
+/// last one's checksum, and at every other key the old value. From V2 on it has nothing at the
+/// checksum key of a package, and at every other key the old value.
+pub fn written_metadata_key_by_key()
+    ensures v1 { ChecksumsAtKeys }
+    ensures later { NoChecksumKeys }
+{}

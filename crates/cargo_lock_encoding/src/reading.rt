@@ -1,0 +1,452 @@
+//! The values of a table.
+//!
+//! The values are read in the order in which the keys are named here, and the first fault is
+//! answered. A fault of `semver` is a `Parse` here, so that a table is refused with `Parse` alone.
+
+ghost use Rattle.std.specs.Prelude.{◌≡◌, ◌↔◌, ◌⊎◌, ◌++◌, IsOkUnless, IsTrue, OnOk, codes, option_map};
+ghost use Rattle.std.specs.FinMap.{insert};
+ghost use Rattle.semver.specs.Identifiers.{parts_of};
+ghost use Rattle.semver.specs.Parse.{memory_error};
+ghost use Rattle.toml.specs.Data.{get_member};
+ghost use Rattle.toml.specs.View.{items_view, table_view, view};
+ghost use Rattle.cargo_lock_parts.specs.Checksum.{digest_of};
+ghost use Rattle.cargo_lock_parts.specs.Error.{IsParse, IsParseOrMemory, ReadsUrls};
+ghost use Rattle.cargo_lock_parts.specs.declared.error.Error.TheVariants.{Memory};
+ghost use Rattle.cargo_lock_encoding.specs.Form.{form_of, plainly};
+ghost use Rattle.cargo_lock_encoding.specs.Records.{texts_of};
+ghost use Rattle.cargo_lock_encoding.specs.TableReading.{all_entries_at, checksum_from, entries_at, entry_at, entry_in, form_in, items_in, metadata_in, number_in, optional_by, optional_list, patch_at, patch_entry_at, patch_entry_in, patch_in, read_all, required_list, required_text, source_in, text_in, texts_at, version_of};
+
+use crate::metadata::{Metadata, MetadataKey, MetadataValue};
+use crate::{EncodableDependency, EncodablePackage, EncodableSourceId};
+use cargo_lock_parts::dependency::Dependency;
+use cargo_lock_parts::error::{Error, Result};
+use cargo_lock_parts::package::{Checksum, Name, SourceId, Version};
+use cargo_lock_parts::patch::Patch;
+use semver::Error as VersionError;
+use std::alloc::{AllocError, Global};
+use std::marker::Model;
+use toml::{Table, Value};
+
+/// The packages of a lockfile and its root.
+#[derive(Drop)]
+pub struct AllEntries {
+    /// The packages.
+    pub listed: Vec<EncodablePackage>,
+
+    /// The root package, which old lockfiles have apart from the others.
+    pub root: Option<EncodablePackage>,
+}
+
+impl Model for AllEntries {
+    ghost use Rattle.cargo_lock_encoding.specs.TableReading.{EntriesData};
+
+    ghost Value = { EntriesData };
+
+    ghost view = { λ e. record { listed = e.listed.items; root = e.root } };
+}
+
+/// The packages of a table, under `package`, and its root, under `root`. `Parse` says what is refused.
+#[tactic(auto, unfolding(crate::specs::TableReading::all_entries_at))]
+pub fn all_entries_at(alloc: Global, table: &Table) -> Result<AllEntries>
+    ensures { ReadsUrls (λ e. e) result (all_entries_at (table_view table.now)) }
+{
+    let listed = entries_at(alloc, table)?;
+    let root = entry_at_key(alloc, table, "root")?;
+    Ok(AllEntries { listed, root })
+}
+
+// ---- faults
+
+// The fault of a value or of an element of another type. The key is that of the list.
+fn wrong_type(alloc: Global, key: &str) -> Error
+    ensures kind { IsParseOrMemory result }
+    ensures text { (result ≡ Memory) ⊎ IsParse result (codes "wrong type: `" ++ key.now ++ codes "`") }
+{
+    match format!(in alloc; "wrong type: `{key}`") {
+        Ok(text) => Error::Parse(text),
+        Err(_) => Error::Memory,
+    }
+}
+
+// The fault of a required key that is missing.
+fn missing_key(alloc: Global, key: &str) -> Error
+    ensures kind { IsParseOrMemory result }
+    ensures text { (result ≡ Memory) ⊎ IsParse result (codes "missing key: `" ++ key.now ++ codes "`") }
+{
+    match format!(in alloc; "missing key: `{key}`") {
+        Ok(text) => Error::Parse(text),
+        Err(_) => Error::Memory,
+    }
+}
+
+// A fault of `semver`.
+fn refused_version(alloc: Global, fault: &VersionError) -> Error
+    ensures { IsParseOrMemory result }
+{
+    match format!(in alloc; "version error: {fault}") {
+        Ok(text) => Error::Parse(text),
+        Err(_) => Error::Memory,
+    }
+}
+
+// Whether `semver` found no memory.
+fn is_memory(fault: &VersionError) -> bool
+    ensures { IsTrue result ↔ (fault.now ≡ memory_error) }
+{
+    *fault == VersionError::from(AllocError)
+}
+
+// ---- values by their types
+
+// The value at a key.
+fn value_at<'a>(table: &'a Table, key: &str) -> Option<&'a Value>
+    ensures { option_map (λ v. view v.now) result ≡ get_member key.now (table_view table.now) }
+{
+    table.get(key)
+}
+
+// The text that a value is.
+fn text_in<'a>(alloc: Global, value: &'a Value, key: &str) -> Result<&'a str>
+    ensures { ReadsUrls (λ s. s.now) result (text_in (view value.now)) }
+{
+    match value.as_str() {
+        Some(text) => Ok(text),
+        None => Err(wrong_type(alloc, key)),
+    }
+}
+
+// The text at a key that may not be missing.
+fn required_text<'a>(alloc: Global, table: &'a Table, key: &str) -> Result<&'a str>
+    ensures { ReadsUrls (λ s. s.now) result (required_text (get_member key.now (table_view table.now))) }
+{
+    match value_at(table, key) {
+        Some(value) => text_in(alloc, value, key),
+        None => Err(missing_key(alloc, key)),
+    }
+}
+
+/// The whole number at a key, where the key is there. `Parse` says that the value is no number.
+pub fn number_at(alloc: Global, table: &Table, key: &str) -> Result<Option<i64>>
+    ensures { ReadsUrls (λ o. o) result (optional_by number_in (get_member key.now (table_view table.now))) }
+{
+    let Some(value) = value_at(table, key) else {
+        return Ok(None);
+    };
+    match value.as_integer() {
+        Some(number) => Ok(Some(number)),
+        None => Err(wrong_type(alloc, key)),
+    }
+}
+
+// The list that a value is.
+fn list_in<'a>(alloc: Global, value: &'a Value, key: &str) -> Result<&'a [Value]>
+    ensures { ReadsUrls (λ s. items_view s.now) result (items_in (view value.now)) }
+{
+    match value.as_array() {
+        Some(list) => Ok(list.as_slice()),
+        None => Err(wrong_type(alloc, key)),
+    }
+}
+
+// The list at a key, empty where it is missing.
+fn optional_list<'a>(alloc: Global, table: &'a Table, key: &str) -> Result<&'a [Value]>
+    ensures { ReadsUrls (λ s. items_view s.now) result (optional_list (get_member key.now (table_view table.now))) }
+{
+    match value_at(table, key) {
+        Some(value) => list_in(alloc, value, key),
+        None => Ok(&[]),
+    }
+}
+
+// The list at a key that may not be missing.
+fn required_list<'a>(alloc: Global, table: &'a Table, key: &str) -> Result<&'a [Value]>
+    ensures { ReadsUrls (λ s. items_view s.now) result (required_list (get_member key.now (table_view table.now))) }
+{
+    match value_at(table, key) {
+        Some(value) => list_in(alloc, value, key),
+        None => Err(missing_key(alloc, key)),
+    }
+}
+
+// ---- texts
+
+/// The version that a text is. A fault of `semver` is a `Parse` here.
+#[tactic(auto, unfolding(crate::specs::TableReading::version_of))]
+pub fn version_of(alloc: Global, text: &str) -> Result<Version>
+    ensures { ReadsUrls parts_of result (version_of text.now) }
+{
+    match Version::parse(alloc, text) {
+        Ok(version) => Ok(version),
+        Err(fault) if is_memory(&fault) => Err(Error::Memory),
+        Err(fault) => Err(refused_version(alloc, &fault)),
+    }
+}
+
+// The source that a value is the text of.
+fn source_in(alloc: Global, value: &Value, key: &str) -> Result<SourceId>
+    ensures { ReadsUrls (λ s. s) result (source_in (view value.now)) }
+{
+    let text = text_in(alloc, value, key)?;
+    let source = SourceId::from_url(alloc, text)?;
+    Ok(source)
+}
+
+// The source at a key that may be missing.
+fn source_at(alloc: Global, table: &Table, key: &str) -> Result<Option<SourceId>>
+    ensures { ReadsUrls (λ o. o) result (optional_by source_in (get_member key.now (table_view table.now))) }
+{
+    match value_at(table, key) {
+        Some(value) => Ok(Some(source_in(alloc, value, key)?)),
+        None => Ok(None),
+    }
+}
+
+// A source that was read.
+fn plainly(source: Option<SourceId>) -> Option<EncodableSourceId>
+    ensures { result ≡ option_map plainly source }
+{
+    match source {
+        Some(source) => Some(EncodableSourceId::without_url_encoded(source)),
+        None => None,
+    }
+}
+
+// The checksum that a value is the text of.
+fn checksum_from(alloc: Global, value: &Value, key: &str) -> Result<Checksum>
+    ensures { ReadsUrls digest_of result (checksum_from (view value.now)) }
+{
+    let text = text_in(alloc, value, key)?;
+    let checksum = Checksum::from_str(alloc, text)?;
+    Ok(checksum)
+}
+
+// The checksum at a key that may be missing.
+fn checksum_at(alloc: Global, table: &Table, key: &str) -> Result<Option<Checksum>>
+    ensures { ReadsUrls (option_map digest_of) result (optional_by checksum_from (get_member key.now (table_view table.now))) }
+{
+    match value_at(table, key) {
+        Some(value) => Ok(Some(checksum_from(alloc, value, key)?)),
+        None => Ok(None),
+    }
+}
+
+// The reference that a text is.
+fn form_of(alloc: Global, text: &str) -> Result<EncodableDependency>
+    ensures { ReadsUrls (λ f. f) result (form_of text.now) }
+{
+    match EncodableDependency::from_str(alloc, text) {
+        Err(Error::Version(fault)) => Err(refused_version(alloc, &fault)),
+        result => result,
+    }
+}
+
+// The reference that a value is the text of.
+fn form_in(alloc: Global, value: &Value, key: &str) -> Result<EncodableDependency>
+    ensures { ReadsUrls (λ f. f) result (form_in (view value.now)) }
+{
+    let text = text_in(alloc, value, key)?;
+    let reference = form_of(alloc, text)?;
+    Ok(reference)
+}
+
+// The reference at a key that may be missing.
+fn form_at(alloc: Global, table: &Table, key: &str) -> Result<Option<EncodableDependency>>
+    ensures { ReadsUrls (λ o. o) result (optional_by form_in (get_member key.now (table_view table.now))) }
+{
+    match value_at(table, key) {
+        Some(value) => Ok(Some(form_in(alloc, value, key)?)),
+        None => Ok(None),
+    }
+}
+
+// The references of a list.
+fn forms_of(alloc: Global, list: &[Value], key: &str) -> Result<Vec<EncodableDependency>>
+    ensures { ReadsUrls (λ v. v.items) result (read_all form_in (items_view list.now)) }
+{
+    let mut forms = Vec::new(alloc);
+    for value in list {
+        let form = form_in(alloc, value, key)?;
+        forms.push(form)?;
+    }
+    Ok(forms)
+}
+
+// ---- packages
+
+// The package of a table.
+#[tactic(auto, unfolding(crate::specs::TableReading::entry_at))]
+fn entry_at(alloc: Global, table: &Table) -> Result<EncodablePackage>
+    ensures { ReadsUrls (λ e. e) result (entry_at (table_view table.now)) }
+{
+    let written = required_text(alloc, table, "name")?;
+    let name = Name::from_str(alloc, written)?;
+    let version = required_text(alloc, table, "version")?;
+    let version = version_of(alloc, version)?;
+    let source = source_at(alloc, table, "source")?;
+    let checksum = checksum_at(alloc, table, "checksum")?;
+    let dependencies = optional_list(alloc, table, "dependencies")?;
+    let dependencies = forms_of(alloc, dependencies, "dependencies")?;
+    let replace = form_at(alloc, table, "replace")?;
+    Ok(EncodablePackage {
+        name,
+        version,
+        source: plainly(source),
+        checksum,
+        dependencies,
+        replace,
+    })
+}
+
+// The package that a value is.
+fn entry_in(alloc: Global, value: &Value, key: &str) -> Result<EncodablePackage>
+    ensures { ReadsUrls (λ e. e) result (entry_in (view value.now)) }
+{
+    match value.as_table() {
+        Some(table) => entry_at(alloc, table),
+        None => Err(wrong_type(alloc, key)),
+    }
+}
+
+// The packages of a list.
+fn entries_of(alloc: Global, list: &[Value], key: &str) -> Result<Vec<EncodablePackage>>
+    ensures { ReadsUrls (λ v. v.items) result (read_all entry_in (items_view list.now)) }
+{
+    let mut entries = Vec::new(alloc);
+    for value in list {
+        let entry = entry_in(alloc, value, key)?;
+        entries.push(entry)?;
+    }
+    Ok(entries)
+}
+
+// The packages of a table.
+#[tactic(auto, unfolding(crate::specs::TableReading::entries_at))]
+fn entries_at(alloc: Global, table: &Table) -> Result<Vec<EncodablePackage>>
+    ensures { ReadsUrls (λ v. v.items) result (entries_at (table_view table.now)) }
+{
+    let list = optional_list(alloc, table, "package")?;
+    entries_of(alloc, list, "package")
+}
+
+// The package at a key that may be missing.
+fn entry_at_key(alloc: Global, table: &Table, key: &str) -> Result<Option<EncodablePackage>>
+    ensures { ReadsUrls (λ o. o) result (optional_by entry_in (get_member key.now (table_view table.now))) }
+{
+    match value_at(table, key) {
+        Some(value) => Ok(Some(entry_in(alloc, value, key)?)),
+        None => Ok(None),
+    }
+}
+
+// ---- metadata
+
+// Sets a key to a value.
+pub(crate) fn set(
+    metadata: &mut Metadata,
+    key: MetadataKey,
+    value: MetadataValue,
+) -> std::result::Result<(), AllocError>
+    ensures { OnOk result (texts_of metadata.new.entries ≡ insert (texts_of metadata.old.entries) key value) }
+{
+    metadata.insert(key, value)?;
+    Ok(())
+}
+
+// Sets a key to a text.
+fn put_text(alloc: Global, metadata: &mut Metadata, key: &str, value: &str) -> Result<()>
+    ensures ok { OnOk result (texts_of metadata.new.entries ≡ insert (texts_of metadata.old.entries) key.now value.now) }
+    ensures err { IsOkUnless result Memory }
+{
+    let key = MetadataKey::from_str(alloc, key)?;
+    let value = MetadataValue::from_str(alloc, value)?;
+    set(metadata, key, value)?;
+    Ok(())
+}
+
+// The texts of a table, in the order of its keys.
+fn texts_at(alloc: Global, table: &Table) -> Result<Metadata>
+    ensures { ReadsUrls (λ m. texts_of m.entries) result (texts_at (table_view table.now)) }
+{
+    let mut metadata = Metadata::new(alloc);
+    for (key, value) in table {
+        let text = text_in(alloc, value, "metadata")?;
+        put_text(alloc, &mut metadata, key.as_str(), text)?;
+    }
+    Ok(metadata)
+}
+
+/// The metadata at a key, empty where it is missing. `Parse` says that the value is no table of texts.
+pub fn metadata_at(alloc: Global, table: &Table, key: &str) -> Result<Metadata>
+    ensures { ReadsUrls (λ m. texts_of m.entries) result (metadata_in (get_member key.now (table_view table.now))) }
+{
+    let Some(value) = value_at(table, key) else {
+        return Ok(Metadata::new(alloc));
+    };
+    match value.as_table() {
+        Some(table) => texts_at(alloc, table),
+        None => Err(wrong_type(alloc, key)),
+    }
+}
+
+// ---- patches
+
+// The unused patch of a table.
+#[tactic(auto, unfolding(crate::specs::TableReading::patch_entry_at))]
+fn patch_entry_at(alloc: Global, table: &Table) -> Result<Dependency>
+    ensures { ReadsUrls (λ e. e) result (patch_entry_at (table_view table.now)) }
+{
+    let name = required_text(alloc, table, "name")?;
+    let name = Name::from_str(alloc, name)?;
+    let version = required_text(alloc, table, "version")?;
+    let version = version_of(alloc, version)?;
+    let source = source_at(alloc, table, "source")?;
+    Ok(Dependency {
+        name,
+        version,
+        source,
+    })
+}
+
+// The unused patch that a value is.
+fn patch_entry_in(alloc: Global, value: &Value, key: &str) -> Result<Dependency>
+    ensures { ReadsUrls (λ e. e) result (patch_entry_in (view value.now)) }
+{
+    match value.as_table() {
+        Some(table) => patch_entry_at(alloc, table),
+        None => Err(wrong_type(alloc, key)),
+    }
+}
+
+// The unused patches of a list.
+fn patches_of(alloc: Global, list: &[Value], key: &str) -> Result<Vec<Dependency>>
+    ensures { ReadsUrls (λ v. v.items) result (read_all patch_entry_in (items_view list.now)) }
+{
+    let mut patches = Vec::new(alloc);
+    for value in list {
+        let patch = patch_entry_in(alloc, value, key)?;
+        patches.push(patch)?;
+    }
+    Ok(patches)
+}
+
+// The unused patches of a table.
+fn patch_at(alloc: Global, table: &Table) -> Result<Patch>
+    ensures { ReadsUrls (λ p. p) result (patch_at (table_view table.now)) }
+{
+    let list = required_list(alloc, table, "unused")?;
+    let unused = patches_of(alloc, list, "unused")?;
+    Ok(Patch { unused })
+}
+
+/// The unused patches at a key, none where it is missing. `Parse` says what is refused.
+pub fn patch_at_key(alloc: Global, table: &Table, key: &str) -> Result<Patch>
+    ensures { ReadsUrls (λ p. p) result (patch_in (get_member key.now (table_view table.now))) }
+{
+    let Some(value) = value_at(table, key) else {
+        return Ok(Patch::new(alloc));
+    };
+    match value.as_table() {
+        Some(table) => patch_at(alloc, table),
+        None => Err(wrong_type(alloc, key)),
+    }
+}

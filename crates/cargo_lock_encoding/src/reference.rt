@@ -1,0 +1,514 @@
+//! References: how a lockfile names the package that another one depends on.
+
+ghost use Rattle.std.specs.Prelude.{◌≡◌, ◌⊎◌, ◌∷◌, ◌++◌, [], IfOk, IsOkUnless, MatchOption, codes, count_by, map, option_copied, option_map};
+ghost use Rattle.std.specs.List.{find};
+ghost use Rattle.std.specs.Option.{option_cmp};
+ghost use Rattle.std.specs.Str.Iter.{split_whitespace_rest};
+ghost use Rattle.semver.specs.Identifiers.{parts_of};
+ghost use Rattle.cargo_lock_parts.specs.declared.error.Error.TheVariants.{Memory};
+ghost use Rattle.cargo_lock_parts.specs.Error.{IsParse, IsParseOrMemory, Reads, ReadsUrls};
+ghost use Rattle.cargo_lock_parts.specs.Identity.{identity_of};
+ghost use Rattle.cargo_lock_parts.specs.IdentityOrder.{version_cmp};
+ghost use Rattle.cargo_lock_encoding.specs.Words.{text_words};
+ghost use Rattle.cargo_lock_encoding.specs.Form as spec;
+ghost use Rattle.cargo_lock_encoding.specs.Records.{bare_source, entry_identity, is_escaped};
+ghost use Rattle.cargo_lock_encoding.specs.Said.{fits, itself, said, same_parts};
+ghost use Rattle.cargo_lock_encoding.specs.Chosen.{bears_both, bears_name, in_full, marked, one, written_source};
+
+use crate::version::ResolveVersion;
+use crate::{EncodablePackage, EncodableSourceId};
+use cargo_lock_parts::dependency::Dependency;
+use cargo_lock_parts::error::{Error, Result};
+use cargo_lock_parts::package::{Name, Package, SourceId, Version};
+use std::alloc::{AllocError, Global};
+use std::cmp::Ordering;
+use std::fmt;
+use std::hash::{Hash, Hasher};
+use std::marker::Model;
+use std::ops::Deref;
+use std::str::SplitWhitespace;
+
+/// A reference as a lockfile writes it: the name of a package, and its version and its source
+/// where the name alone does not tell it. Two are equal where the three are.
+#[derive(Debug, Drop)]
+pub struct EncodableDependency {
+    /// The name.
+    pub name: Name,
+
+    /// The version, where it is written.
+    pub version: Option<Version>,
+
+    /// The source, where it is written.
+    pub source: Option<EncodableSourceId>,
+}
+
+impl Model for EncodableDependency {
+    ghost use Rattle.std.specs.Prelude.{option_map};
+    ghost use Rattle.semver.specs.Identifiers.{parts_of};
+    ghost use Rattle.cargo_lock_encoding.specs.Form.{Form};
+
+    ghost Value = { Form };
+
+    ghost view = { λ d. record { name = d.name; version = option_map parts_of d.version; source = d.source } };
+}
+
+impl EncodableDependency {
+    ghost use Rattle.cargo_lock_encoding.specs.Form.{ReadsForm, form_of_words, form_or_refusal};
+
+    /// Reads one to three words with white space between: a name, a version, a source in round
+    /// brackets, as `foo 1.0.0 (registry+https://github.com/rust-lang/crates.io-index)`. A source
+    /// that was read is marked plain.
+    ///
+    /// The first word from the left that is refused decides: `Version` for the second one, else
+    /// `Parse`.
+    pub fn from_str(alloc: Global, text: &str) -> Result<EncodableDependency>
+        ensures { ReadsForm result (form_or_refusal text.now) }
+    {
+        EncodableDependency::read(alloc, text)
+    }
+
+    // Reads a reference word by word.
+    fn read(alloc: Global, text: &str) -> Result<EncodableDependency>
+        ensures { ReadsForm result (form_of_words (text_words text.now)) }
+    {
+        let mut words = text.split_whitespace();
+        let Some(name) = next_word(&mut words) else {
+            let message = String::from_str(alloc, "empty dependency string")?;
+            return Err(Error::Parse(message));
+        };
+        let name = Name::from_str(alloc, name)?;
+        let Some(version) = next_word(&mut words) else {
+            return Ok(EncodableDependency {
+                name,
+                version: None,
+                source: None,
+            });
+        };
+        let version = Version::parse(alloc, version)?;
+        let Some(source) = next_word(&mut words) else {
+            return Ok(EncodableDependency {
+                name,
+                version: Some(version),
+                source: None,
+            });
+        };
+        let source = bracketed_source(alloc, source)?;
+        if let Some(_) = next_word(&mut words) {
+            let message = format!(in alloc; "malformed dependency: {text}")?;
+            return Err(Error::Parse(message));
+        }
+        Ok(EncodableDependency {
+            name,
+            version: Some(version),
+            source: Some(EncodableSourceId::without_url_encoded(source)),
+        })
+    }
+}
+
+// The next word of a text.
+fn next_word<'a>(rest: &mut SplitWhitespace<'a>) -> Option<&'a str>
+    ensures { MatchOption result
+        ((text_words (split_whitespace_rest rest.old) ≡ []) × (text_words (split_whitespace_rest rest.new) ≡ []))
+        (λ word. text_words (split_whitespace_rest rest.old) ≡ word.now ∷ text_words (split_whitespace_rest rest.new)) }
+{
+    match rest.next() {
+        Some(word) => {
+            let _text = word.as_bytes();
+            Some(word)
+        }
+        None => None,
+    }
+}
+
+// The source between round brackets.
+#[tactic(auto, unfolding(crate::specs::Form::bracketed_source))]
+fn bracketed_source(alloc: Global, word: &str) -> Result<SourceId>
+    ensures { ReadsUrls (λ source. source) result (spec.bracketed_source word.now) }
+{
+    let bytes = word.as_bytes();
+    let length = bytes.len();
+    if length < 2 || bytes[0] != b'(' || bytes[length - 1] != b')' {
+        let message = format!(in alloc; "malformed source in dependency: {word}")?;
+        return Err(Error::Parse(message));
+    }
+    let source = SourceId::from_url(alloc, &word[1..length - 1])?;
+    Ok(source)
+}
+
+#[tactic(auto, unfolding(crate::specs::Form::form_text))]
+impl fmt::Display for EncodableDependency {
+    ghost use Rattle.std.specs.Prelude.{Some};
+    ghost use Rattle.cargo_lock_encoding.specs.Form.{form_text};
+
+    ghost output = { λ d. Some (form_text d) };
+
+    fn fmt<W: fmt::Write>(&self, f: &mut fmt::Formatter<W>) -> fmt::Result {
+        let name = &self.name;
+        match (&self.version, &self.source) {
+            (Some(version), Some(source)) => {
+                let source = source.as_url();
+                write!(f, "{name} {version} ({source})")
+            }
+            (Some(version), None) => write!(f, "{name} {version}"),
+            (None, Some(source)) => {
+                let source = source.as_url();
+                write!(f, "{name} ({source})")
+            }
+            (None, None) => write!(f, "{name}"),
+        }
+    }
+}
+
+impl EncodableDependency {
+    ghost use Rattle.cargo_lock_encoding.specs.Says.{Says};
+    ghost use Rattle.cargo_lock_encoding.specs.Chosen.{shortened};
+    ghost use Rattle.cargo_lock_encoding.specs.Finds.{Finds};
+
+    /// The package that the reference stands for among these: without a source, the first one that
+    /// has the name and the written version. Where there is none, and with a source, the reference
+    /// is taken as it stands.
+    ///
+    /// `Parse` says that the reference then has no version.
+    pub fn resolve(&self, alloc: Global, list: &[EncodablePackage]) -> Result<Dependency>
+        ensures { Finds (Says self.now (map entry_identity list.now)) result }
+    {
+        self.said(alloc, list)
+    }
+
+    /// The reference without the words that these packages make needless, as it is written from V2
+    /// on: its name alone, where exactly one of them has it, otherwise name and version, where
+    /// exactly one has both. It takes no memory.
+    #[tactic(auto, unfolding(crate::specs::Chosen::shortened))]
+    pub fn v2(self, list: &[Package]) -> EncodableDependency
+        ensures { result ≡ shortened (map identity_of list.now) self }
+    {
+        if self.name_is_unique(list) {
+            self.by_name()
+        } else if self.version_is_unique(list) {
+            self.without_source()
+        } else {
+            self
+        }
+    }
+
+    /// The reference to a dependency in full: its name, its version and its source, unless that is
+    /// absent or a path. The source is marked escaped for V4, and plain before.
+    pub fn from_dependency(
+        dependency: &Dependency,
+        format: ResolveVersion,
+    ) -> Result<EncodableDependency>
+        ensures ok { IfOk result (λ d. d ≡ in_full (is_escaped format) dependency.now) }
+        ensures err { IsOkUnless result Memory }
+    {
+        Ok(EncodableDependency {
+            name: dependency.name.clone()?,
+            version: Some(dependency.version.clone()?),
+            source: written_source(format, &dependency.source)?,
+        })
+    }
+}
+
+// ---- what a reference says
+
+/// Whether two versions are equal.
+pub fn same_version(a: &Version, b: &Version) -> bool
+    ensures { result ≡ same_parts (parts_of a.now) (parts_of b.now) }
+{
+    a == b
+}
+
+impl EncodableDependency {
+    // What the reference says, found by a search of the list.
+    pub(crate) fn said(&self, alloc: Global, list: &[EncodablePackage]) -> Result<Dependency>
+        ensures { Reads (λ d. d) result (said self.now (map entry_identity list.now)) }
+    {
+        if self.source.is_some() {
+            return self.itself(alloc);
+        }
+        match self.first_fit(list) {
+            Some(entry) => entry.identity(),
+            None => self.itself(alloc),
+        }
+    }
+
+    fn fits(&self, entry: &EncodablePackage) -> bool
+        ensures { result ≡ fits self.now (entry_identity entry.now) }
+    {
+        entry.name.as_str() == self.name.as_str()
+            && match &self.version {
+                Some(version) => same_version(&entry.version, version),
+                None => true,
+            }
+    }
+
+    fn first_fit<'a>(&self, list: &'a [EncodablePackage]) -> Option<&'a EncodablePackage>
+        ensures { option_copied result ≡ find (λ e. fits self.now (entry_identity e)) list.now }
+    {
+        list.iter().find(|entry| {
+            let entry: &EncodablePackage = entry;
+            self.fits(entry)
+        })
+    }
+
+    // The reference's own words as an identity.
+    fn itself(&self, alloc: Global) -> Result<Dependency>
+        ensures { Reads (λ d. d) result (itself self.now) }
+    {
+        let Some(version) = &self.version else {
+            return Err(unresolved(alloc, &self.name));
+        };
+        Ok(Dependency {
+            name: self.name.clone()?,
+            version: version.clone()?,
+            source: bare_source(&self.source)?,
+        })
+    }
+}
+
+impl EncodableDependency {
+    ghost use Rattle.std.specs.Prelude.{Ok};
+    ghost use Rattle.cargo_lock_encoding.specs.Form.{ReadsForm};
+    ghost use Rattle.cargo_lock_encoding.specs.Metadata.{own_identity};
+
+    // The reference's own words as an identity.
+    pub(crate) fn own_identity(&self, alloc: Global) -> Result<Dependency>
+        ensures { ReadsForm result (own_identity (Ok self.now)) }
+    {
+        let dependency = self.itself(alloc)?;
+        Ok(dependency)
+    }
+}
+
+// The refusal of a reference that needs a version.
+pub(crate) fn unresolved(alloc: Global, name: &Name) -> Error
+    ensures kind { IsParseOrMemory result }
+    ensures text { (result ≡ Memory) ⊎ IsParse result (codes "couldn't resolve dependency: " ++ name.now) }
+{
+    match format!(in alloc; "couldn't resolve dependency: {name}") {
+        Ok(text) => Error::Parse(text),
+        Err(_) => Error::Memory,
+    }
+}
+
+/// The source without its mark.
+pub fn bare_source(
+    source: &Option<EncodableSourceId>,
+) -> std::result::Result<Option<SourceId>, AllocError>
+    ensures { IfOk result (λ bare. bare ≡ bare_source source.now) }
+{
+    match source {
+        Some(source) => Ok(Some(source.deref().clone()?)),
+        None => Ok(None),
+    }
+}
+
+// ---- the form that is written
+
+impl EncodableDependency {
+    ghost use Rattle.cargo_lock_encoding.specs.Form.{of_one};
+    ghost use Rattle.cargo_lock_encoding.specs.Chosen.{is_version_unique, without_source};
+
+    // Whether exactly one package has the name.
+    fn name_is_unique(&self, list: &[Package]) -> bool
+        ensures { result ≡ one (bears_name self.now.name) (map identity_of list.now) }
+    {
+        count_named(&self.name, list) == 1
+    }
+
+    // Whether a version is written, and exactly one package has the name and the version.
+    fn version_is_unique(&self, list: &[Package]) -> bool
+        ensures { result ≡ is_version_unique (map identity_of list.now) self.now.name self.now.version }
+    {
+        match &self.version {
+            Some(version) => count_versions(&self.name, version, list) == 1,
+            None => false,
+        }
+    }
+
+    // The name alone.
+    fn by_name(self) -> EncodableDependency
+        ensures { result ≡ of_one self.name }
+    {
+        let EncodableDependency {
+            name,
+            version: _,
+            source: _,
+        } = self;
+        EncodableDependency {
+            name,
+            version: None,
+            source: None,
+        }
+    }
+
+    // The name and the version alone.
+    fn without_source(self) -> EncodableDependency
+        ensures { result ≡ without_source self }
+    {
+        let EncodableDependency {
+            name,
+            version,
+            source: _,
+        } = self;
+        EncodableDependency {
+            name,
+            version,
+            source: None,
+        }
+    }
+}
+
+// How many packages have the name.
+fn count_named(name: &Name, list: &[Package]) -> usize
+    ensures { result ≡ count_by (bears_name name.now) (map identity_of list.now) }
+{
+    list.iter()
+        .filter(|one| {
+            let one: &Package = one;
+            one.name.as_str() == name.as_str()
+        })
+        .count()
+}
+
+// How many packages have the name and the version.
+fn count_versions(name: &Name, version: &Version, list: &[Package]) -> usize
+    ensures { result ≡ count_by (bears_both name.now (parts_of version.now)) (map identity_of list.now) }
+{
+    list.iter()
+        .filter(|one| {
+            let one: &Package = one;
+            one.name.as_str() == name.as_str() && same_version(&one.version, version)
+        })
+        .count()
+}
+
+// A source as it is written in this format: a path source is not.
+pub(crate) fn written_source(
+    format: ResolveVersion,
+    source: &Option<SourceId>,
+) -> std::result::Result<Option<EncodableSourceId>, AllocError>
+    ensures { IfOk result (λ s. s ≡ written_source (is_escaped format) source.now) }
+{
+    match source {
+        None => Ok(None),
+        Some(source) if source.is_path() => Ok(None),
+        Some(source) => Ok(Some(marked(format, source.clone()?))),
+    }
+}
+
+fn marked(format: ResolveVersion, source: SourceId) -> EncodableSourceId
+    ensures { result ≡ marked (is_escaped format) source }
+{
+    match format {
+        ResolveVersion::V1 | ResolveVersion::V2 | ResolveVersion::V3 => {
+            EncodableSourceId::without_url_encoded(source)
+        }
+        ResolveVersion::V4 => EncodableSourceId::new(source),
+    }
+}
+
+// ---- copies and comparisons
+
+impl Clone for EncodableDependency {
+    ghost is_clone = { λ one copy. copy ≡ one };
+
+    fn clone(&self) -> std::result::Result<EncodableDependency, AllocError> {
+        Ok(EncodableDependency {
+            name: self.name.clone()?,
+            version: clone_version(&self.version)?,
+            source: self.source.clone()?,
+        })
+    }
+}
+
+fn clone_version(version: &Option<Version>) -> std::result::Result<Option<Version>, AllocError>
+    ensures { IfOk result (λ copy. option_map parts_of copy ≡ option_map parts_of version.now) }
+{
+    match version {
+        Some(version) => Ok(Some(version.clone()?)),
+        None => Ok(None),
+    }
+}
+
+impl PartialEq for EncodableDependency {
+    ghost use Rattle.std.specs.Cmp.{partial_equiv_from_equiv, eq_by_cmp_equiv};
+    ghost use Rattle.cargo_lock_encoding.specs.FormOrder.{is_same_form};
+    ghost use Rattle.cargo_lock_encoding.specs.FormLaws.{form_total};
+
+    ghost eq = { is_same_form };
+
+    ghost laws = { partial_equiv_from_equiv (eq_by_cmp_equiv form_total) };
+
+    fn eq(&self, other: &EncodableDependency) -> bool {
+        self.cmp(other) == Ordering::Equal
+    }
+}
+
+impl Eq for EncodableDependency {
+    ghost use Rattle.std.specs.Cmp.{eq_by_cmp_equiv};
+    ghost use Rattle.cargo_lock_encoding.specs.FormLaws.{form_total};
+
+    ghost laws = { eq_by_cmp_equiv form_total };
+}
+
+impl PartialOrd for EncodableDependency {
+    ghost use Rattle.std.specs.Ordering.{as_partial_cmp};
+    ghost use Rattle.std.specs.Cmp.{partial_order_from_total};
+    ghost use Rattle.cargo_lock_encoding.specs.FormOrder.{form_cmp};
+    ghost use Rattle.cargo_lock_encoding.specs.FormLaws.{form_total};
+
+    ghost partial_cmp = { as_partial_cmp form_cmp };
+
+    ghost laws = { partial_order_from_total form_total };
+
+    fn partial_cmp(&self, other: &EncodableDependency) -> Option<Ordering> {
+        Some(self.cmp(other))
+    }
+}
+
+impl Ord for EncodableDependency {
+    ghost use Rattle.std.specs.Prelude.{refl};
+    ghost use Rattle.cargo_lock_encoding.specs.FormOrder.{form_cmp};
+    ghost use Rattle.cargo_lock_encoding.specs.FormLaws.{form_total};
+
+    ghost cmp = { form_cmp };
+
+    ghost total = { form_total };
+
+    ghost matches_partial_cmp = { λ a b. refl };
+
+    ghost matches_eq = { λ a b. refl };
+
+    fn cmp(&self, other: &EncodableDependency) -> Ordering {
+        self.name
+            .cmp(&other.name)
+            .then(cmp_versions(&self.version, &other.version))
+            .then(self.source.cmp(&other.source))
+    }
+}
+
+// An absent version stands before a present one.
+fn cmp_versions(a: &Option<Version>, b: &Option<Version>) -> Ordering
+    ensures { result ≡ option_cmp version_cmp (option_map parts_of a.now) (option_map parts_of b.now) }
+{
+    match (a, b) {
+        (None, None) => Ordering::Equal,
+        (None, Some(_)) => Ordering::Less,
+        (Some(_), None) => Ordering::Greater,
+        (Some(a), Some(b)) => a.cmp(b),
+    }
+}
+
+impl Hash for EncodableDependency {
+    ghost use Rattle.cargo_lock_encoding.specs.FormOrder.{form_hash};
+    ghost use Rattle.cargo_lock_encoding.specs.FormLaws.{form_alike};
+
+    ghost hash_input = { form_hash };
+
+    ghost respects_eq = { form_alike };
+
+    fn hash<H: Hasher>(&self, state: &mut H) {
+        self.name.hash(state);
+        self.source.hash(state);
+    }
+}

@@ -1,0 +1,390 @@
+//! From entries to the values of a table.
+
+ghost use Rattle.std.specs.Prelude.{◌≡◌, ◌∷◌, [], Some, IfOk, IsOkUnless, OnOk, codes, map, option_map};
+ghost use Rattle.semver.specs.Identifiers.{parts_of, parts_text};
+ghost use Rattle.toml.specs.Data.{integer, string};
+ghost use Rattle.toml.specs.View.{table_view, view};
+ghost use Rattle.cargo_lock_parts.specs.declared.error.Error.TheVariants.{Memory};
+ghost use Rattle.cargo_lock_parts.specs.Checksum.{digest_of};
+ghost use Rattle.cargo_lock_encoding.specs.Chosen.{written_source};
+ghost use Rattle.cargo_lock_encoding.specs.Records.{texts_of};
+ghost use Rattle.cargo_lock_encoding.specs.Table.{checksum_value, entry_table, entry_value, form_value, metadata_value, packages_value, patch_entry_value, patch_table, present, put, put_present, source_value, text_members, unless_empty, unless_no_patch};
+
+use crate::checksums::ordered;
+use crate::metadata::{Metadata, MetadataKey, MetadataValue};
+use crate::{EncodableDependency, EncodablePackage, EncodableSourceId};
+use cargo_lock_parts::dependency::Dependency;
+use cargo_lock_parts::error::Result;
+use cargo_lock_parts::package::{Checksum, SourceId, Version};
+use cargo_lock_parts::patch::Patch;
+use std::alloc::{AllocError, Global};
+use toml::{Table, Value};
+
+/// The table of the values of a lockfile that are there.
+pub fn lockfile_members(
+    alloc: Global,
+    metadata: Option<Value>,
+    packages: Value,
+    patch: Option<Value>,
+    root: Option<Value>,
+    version: Option<Value>,
+) -> std::result::Result<Table, AllocError>
+    ensures { IfOk result (λ t. table_view t ≡ present (
+        (codes "metadata", option_map view metadata)
+        ∷ (codes "package", Some (view packages))
+        ∷ (codes "patch", option_map view patch)
+        ∷ (codes "root", option_map view root)
+        ∷ (codes "version", option_map view version) ∷ [])) }
+{
+    let mut table = Table::new(alloc);
+    put_present(alloc, &mut table, "metadata", metadata)?;
+    put(alloc, &mut table, "package", packages)?;
+    put_present(alloc, &mut table, "patch", patch)?;
+    put_present(alloc, &mut table, "root", root)?;
+    put_present(alloc, &mut table, "version", version)?;
+    Ok(table)
+}
+
+/// The value of the number of a format.
+pub fn version_number(version: Option<i64>) -> Option<Value>
+    ensures { option_map view result ≡ option_map integer version }
+{
+    match version {
+        Some(number) => Some(Value::from(number)),
+        None => None,
+    }
+}
+
+// ---- packages
+
+/// The list of the tables of these entries.
+pub fn packages_value(
+    alloc: Global,
+    list: &[EncodablePackage],
+) -> std::result::Result<Value, AllocError>
+    ensures { IfOk result (λ v. view v ≡ packages_value list.now) }
+{
+    let mut values = Vec::new(alloc);
+    for one in list {
+        let value = entry_value(alloc, one)?;
+        values.push(value)?;
+    }
+    Ok(Value::from(values))
+}
+
+/// The table of the root, where there is one.
+pub fn root_value(
+    alloc: Global,
+    root: &Option<EncodablePackage>,
+) -> std::result::Result<Option<Value>, AllocError>
+    ensures { IfOk result (λ v. option_map view v ≡ option_map entry_value root.now) }
+{
+    match root {
+        Some(one) => Ok(Some(entry_value(alloc, one)?)),
+        None => Ok(None),
+    }
+}
+
+fn entry_value(alloc: Global, one: &EncodablePackage) -> std::result::Result<Value, AllocError>
+    ensures { IfOk result (λ v. view v ≡ entry_value one.now) }
+{
+    let table = entry_table(alloc, one)?;
+    Ok(Value::from(table))
+}
+
+fn entry_table(alloc: Global, one: &EncodablePackage) -> std::result::Result<Table, AllocError>
+    ensures { IfOk result (λ t. table_view t ≡ entry_table one.now) }
+{
+    let checksum = checksum_value(alloc, &one.checksum)?;
+    let dependencies = form_values(alloc, one.dependencies.as_slice())?;
+    let dependencies = unless_empty(dependencies);
+    let name = Value::string(alloc, one.name.as_str())?;
+    let replace = replace_value(alloc, &one.replace)?;
+    let source = source_value(alloc, &one.source)?;
+    let version = version_value(alloc, &one.version)?;
+    entry_members(
+        alloc,
+        checksum,
+        dependencies,
+        name,
+        replace,
+        source,
+        version,
+    )
+}
+
+// A table of the values of a package that are there.
+fn entry_members(
+    alloc: Global,
+    checksum: Option<Value>,
+    dependencies: Option<Value>,
+    name: Value,
+    replace: Option<Value>,
+    source: Option<Value>,
+    version: Value,
+) -> std::result::Result<Table, AllocError>
+    ensures { IfOk result (λ t. table_view t ≡ present (
+        (codes "checksum", option_map view checksum)
+        ∷ (codes "dependencies", option_map view dependencies)
+        ∷ (codes "name", Some (view name))
+        ∷ (codes "replace", option_map view replace)
+        ∷ (codes "source", option_map view source)
+        ∷ (codes "version", Some (view version)) ∷ [])) }
+{
+    let mut table = Table::new(alloc);
+    put_present(alloc, &mut table, "checksum", checksum)?;
+    put_present(alloc, &mut table, "dependencies", dependencies)?;
+    put(alloc, &mut table, "name", name)?;
+    put_present(alloc, &mut table, "replace", replace)?;
+    put_present(alloc, &mut table, "source", source)?;
+    put(alloc, &mut table, "version", version)?;
+    Ok(table)
+}
+
+fn checksum_value(
+    alloc: Global,
+    checksum: &Option<Checksum>,
+) -> std::result::Result<Option<Value>, AllocError>
+    ensures { IfOk result (λ v. option_map view v ≡ option_map checksum_value (option_map digest_of checksum.now)) }
+{
+    match checksum {
+        Some(checksum) => {
+            let text = format!(in alloc; "{checksum}")?;
+            Ok(Some(Value::from(text)))
+        }
+        None => Ok(None),
+    }
+}
+
+// The references, as texts.
+fn form_values(
+    alloc: Global,
+    forms: &[EncodableDependency],
+) -> std::result::Result<Vec<Value>, AllocError>
+    ensures { IfOk result (λ v. map view v.items ≡ map form_value forms.now) }
+{
+    let mut values = Vec::new(alloc);
+    for form in forms {
+        let value = form_value(alloc, form)?;
+        values.push(value)?;
+    }
+    Ok(values)
+}
+
+fn form_value(alloc: Global, form: &EncodableDependency) -> std::result::Result<Value, AllocError>
+    ensures { IfOk result (λ v. view v ≡ form_value form.now) }
+{
+    let text = format!(in alloc; "{form}")?;
+    Ok(Value::from(text))
+}
+
+fn replace_value(
+    alloc: Global,
+    replace: &Option<EncodableDependency>,
+) -> std::result::Result<Option<Value>, AllocError>
+    ensures { IfOk result (λ v. option_map view v ≡ option_map form_value replace.now) }
+{
+    match replace {
+        Some(form) => Ok(Some(form_value(alloc, form)?)),
+        None => Ok(None),
+    }
+}
+
+fn source_value(
+    alloc: Global,
+    source: &Option<EncodableSourceId>,
+) -> std::result::Result<Option<Value>, AllocError>
+    ensures { IfOk result (λ v. option_map view v ≡ option_map source_value source.now) }
+{
+    match source {
+        Some(source) => {
+            let shown = source.as_url();
+            let text = format!(in alloc; "{shown}")?;
+            Ok(Some(Value::from(text)))
+        }
+        None => Ok(None),
+    }
+}
+
+fn version_value(alloc: Global, version: &Version) -> std::result::Result<Value, AllocError>
+    ensures { IfOk result (λ v. view v ≡ string (parts_text (parts_of version.now))) }
+{
+    let text = format!(in alloc; "{version}")?;
+    Ok(Value::from(text))
+}
+
+// ---- patches
+
+/// The table of the unused patches, their sources escaped or plain, unless there is none.
+pub fn patch_value(
+    alloc: Global,
+    escaped: bool,
+    patch: &Patch,
+) -> std::result::Result<Option<Value>, AllocError>
+    ensures { IfOk result (λ v. option_map view v ≡ unless_no_patch (map (patch_entry_value escaped) patch.now)) }
+{
+    let unused = patch_values(alloc, escaped, patch.unused.as_slice())?;
+    unused_value(alloc, unused)
+}
+
+// A table of unused patches, unless there is none.
+fn unused_value(alloc: Global, unused: Vec<Value>) -> std::result::Result<Option<Value>, AllocError>
+    ensures { IfOk result (λ v. option_map view v ≡ unless_no_patch (map view unused.items)) }
+{
+    let Some(value) = unless_empty(unused) else {
+        return Ok(None);
+    };
+    let mut table = Table::new(alloc);
+    put(alloc, &mut table, "unused", value)?;
+    Ok(Some(Value::from(table)))
+}
+
+fn patch_values(
+    alloc: Global,
+    escaped: bool,
+    unused: &[Dependency],
+) -> std::result::Result<Vec<Value>, AllocError>
+    ensures { IfOk result (λ v. map view v.items ≡ map (patch_entry_value escaped) unused.now) }
+{
+    let mut values = Vec::new(alloc);
+    for one in unused {
+        let table = patch_table(alloc, escaped, one)?;
+        values.push(Value::from(table))?;
+    }
+    Ok(values)
+}
+
+fn patch_table(
+    alloc: Global,
+    escaped: bool,
+    one: &Dependency,
+) -> std::result::Result<Table, AllocError>
+    ensures { IfOk result (λ t. table_view t ≡ patch_table escaped one.now) }
+{
+    let name = Value::string(alloc, one.name.as_str())?;
+    let source = patch_source(alloc, escaped, &one.source)?;
+    let version = version_value(alloc, &one.version)?;
+    patch_members(alloc, name, source, version)
+}
+
+// A table of the values of an unused patch that are there.
+fn patch_members(
+    alloc: Global,
+    name: Value,
+    source: Option<Value>,
+    version: Value,
+) -> std::result::Result<Table, AllocError>
+    ensures { IfOk result (λ t. table_view t ≡ present (
+        (codes "name", Some (view name))
+        ∷ (codes "source", option_map view source)
+        ∷ (codes "version", Some (view version)) ∷ [])) }
+{
+    let mut table = Table::new(alloc);
+    put(alloc, &mut table, "name", name)?;
+    put_present(alloc, &mut table, "source", source)?;
+    put(alloc, &mut table, "version", version)?;
+    Ok(table)
+}
+
+// A path source is not written.
+fn patch_source(
+    alloc: Global,
+    escaped: bool,
+    source: &Option<SourceId>,
+) -> std::result::Result<Option<Value>, AllocError>
+    ensures { IfOk result (λ v. option_map view v ≡ option_map source_value (written_source escaped source.now)) }
+{
+    match source {
+        None => Ok(None),
+        Some(source) if source.is_path() => Ok(None),
+        Some(source) => {
+            let shown = source.as_url(escaped);
+            let text = format!(in alloc; "{shown}")?;
+            Ok(Some(Value::from(text)))
+        }
+    }
+}
+
+// ---- metadata
+
+/// The table of the metadata, unless it is empty.
+pub fn metadata_value(
+    alloc: Global,
+    metadata: &Metadata,
+) -> std::result::Result<Option<Value>, AllocError>
+    ensures { IfOk result (λ v. option_map view v ≡ metadata_value (texts_of metadata.now.entries)) }
+{
+    ordered(metadata);
+    if metadata.is_empty() {
+        return Ok(None);
+    }
+    let table = text_table(alloc, metadata)?;
+    Ok(Some(Value::from(table)))
+}
+
+// A table of texts. `len` says that the keys ascend, so each text is put after those before it.
+fn text_table(alloc: Global, metadata: &Metadata) -> std::result::Result<Table, AllocError>
+    ensures { IfOk result (λ t. table_view t ≡ text_members metadata.now.entries) }
+{
+    let _length = metadata.len();
+    let mut table = Table::new(alloc);
+    for (key, value) in metadata {
+        put_text(alloc, &mut table, key, value)?;
+    }
+    Ok(table)
+}
+
+fn put_text(
+    alloc: Global,
+    table: &mut Table,
+    key: &MetadataKey,
+    value: &MetadataValue,
+) -> std::result::Result<(), AllocError>
+    ensures { OnOk result (table_view table.new ≡ put key.now (string value.now) (table_view table.old)) }
+{
+    let value = Value::string(alloc, value.as_str())?;
+    put(alloc, table, key.as_str(), value)?;
+    Ok(())
+}
+
+// ---- values
+
+// The values as a list, unless there is none.
+fn unless_empty(values: Vec<Value>) -> Option<Value>
+    ensures { option_map view result ≡ unless_empty (map view values.items) }
+{
+    if values.is_empty() {
+        None
+    } else {
+        Some(Value::from(values))
+    }
+}
+
+// Puts a value, where there is one, at a key.
+fn put_present(
+    alloc: Global,
+    table: &mut Table,
+    key: &str,
+    value: Option<Value>,
+) -> std::result::Result<(), AllocError>
+    ensures { OnOk result (table_view table.new ≡ put_present key.now (option_map view value) (table_view table.old)) }
+{
+    match value {
+        Some(value) => put(alloc, table, key, value),
+        None => Ok(()),
+    }
+}
+
+// Puts a value at a key.
+fn put(
+    alloc: Global,
+    table: &mut Table,
+    key: &str,
+    value: Value,
+) -> std::result::Result<(), AllocError>
+    ensures { OnOk result (table_view table.new ≡ put key.now (view value) (table_view table.old)) }
+{
+    let key = String::from_str(alloc, key)?;
+    table.insert(key, value)?;
+    Ok(())
+}

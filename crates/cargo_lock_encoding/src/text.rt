@@ -1,0 +1,375 @@
+//! The text of a lockfile, line by line.
+//!
+//! The empty line between two blocks is written with the second one, so the text does not end in
+//! an empty line that would have to be taken back.
+
+ghost use Rattle.std.specs.Prelude.{◌≡◌, ◌++◌, ◌∷◌, [], ◌<◌, IfOk, IsOkUnless, OnOk, codes, false, map, option_map, string_bytes};
+ghost use Rattle.std.specs.FinMap.{entries};
+ghost use Rattle.std.specs.List.{flat_map, list_all};
+ghost use Rattle.std.specs.Option.{option_to_list};
+ghost use Rattle.semver.specs.Identifiers.{parts_of, parts_text};
+ghost use Rattle.cargo_lock_parts.specs.Checksum.{digest_of};
+ghost use Rattle.cargo_lock_parts.specs.declared.error.Error.TheVariants.{Memory};
+ghost use Rattle.cargo_lock_encoding.specs.Chosen.{written_source};
+ghost use Rattle.cargo_lock_encoding.specs.Records.{texts_of};
+ghost use Rattle.cargo_lock_encoding.specs.Text.{checksum_line, comment_lines, dependency_line, entry_lines, escape_char, escaped, field, hex_digit, is_bare_byte, is_bare_key, joined, key_text, metadata_lines, pair_line, patch_lines, quoted, reference_lines, replace_line, short_escape, source_line, version_lines};
+
+use crate::checksums::ordered;
+use crate::metadata::{Metadata, MetadataKey, MetadataValue};
+use crate::{EncodableDependency, EncodablePackage, EncodableSourceId};
+use cargo_lock_parts::dependency::Dependency;
+use cargo_lock_parts::error::Result;
+use cargo_lock_parts::package::source::SourceIdAsUrl;
+use cargo_lock_parts::package::{Checksum, Name, SourceId, Version};
+use cargo_lock_parts::patch::Patch;
+use std::alloc::{AllocError, Global};
+
+/// What a function that adds to the text answers: memory may run out.
+pub type Put = std::result::Result<(), AllocError>;
+
+// ---- strings
+
+// The digit of a number below 16, in upper case.
+fn hex_digit(n: u32) -> char
+    requires { n < 16 }
+    ensures { result ≡ hex_digit n }
+{
+    if n < 10 {
+        char::from((48 + n) as u8)
+    } else {
+        char::from((55 + n) as u8)
+    }
+}
+
+// The letter after the backslash, where a character has one.
+fn short_escape(c: char) -> Option<char>
+    ensures { result ≡ short_escape c }
+{
+    match c {
+        '"' => Some('"'),
+        '\\' => Some('\\'),
+        '\u{8}' => Some('b'),
+        '\t' => Some('t'),
+        '\n' => Some('n'),
+        '\u{c}' => Some('f'),
+        '\r' => Some('r'),
+        _ => None,
+    }
+}
+
+// A character of a string.
+fn put_char(out: &mut String, c: char) -> Put
+    ensures { OnOk result (string_bytes out.new ≡ string_bytes out.old ++ escape_char c) }
+{
+    if let Some(letter) = short_escape(c) {
+        out.push('\\')?;
+        return out.push(letter);
+    }
+    if c < ' ' || c == '\u{7f}' {
+        let code = c as u32;
+        out.push_str("\\u00")?;
+        out.push(hex_digit(code / 16))?;
+        return out.push(hex_digit(code % 16));
+    }
+    out.push(c)
+}
+
+// The characters of a string.
+#[tactic(auto, unfolding(crate::specs::Text::escaped))]
+fn put_escaped(out: &mut String, text: &str) -> Put
+    ensures { OnOk result (string_bytes out.new ≡ string_bytes out.old ++ escaped text.now) }
+{
+    for c in text.chars() {
+        put_char(out, c)?;
+    }
+    Ok(())
+}
+
+// A string between quotation marks.
+fn put_quoted(out: &mut String, text: &str) -> Put
+    ensures { OnOk result (string_bytes out.new ≡ string_bytes out.old ++ quoted text.now) }
+{
+    out.push('"')?;
+    put_escaped(out, text)?;
+    out.push('"')
+}
+
+// ---- lines
+
+// The line `key = "text"`, of a key that is bare.
+fn put_field(out: &mut String, key: &str, text: &str) -> Put
+    ensures { OnOk result (string_bytes out.new ≡ string_bytes out.old ++ joined (field key.now text.now ∷ [])) }
+{
+    out.push_str(key)?;
+    out.push_str(" = ")?;
+    put_quoted(out, text)?;
+    out.push('\n')
+}
+
+fn put_name(out: &mut String, name: &Name) -> Put
+    ensures { OnOk result (string_bytes out.new ≡ string_bytes out.old ++ joined (field (codes "name") name.now ∷ [])) }
+{
+    put_field(out, "name", name.as_str())
+}
+
+fn put_version(alloc: Global, out: &mut String, version: &Version) -> Put
+    ensures { OnOk result (string_bytes out.new ≡ string_bytes out.old ++ joined (field (codes "version") (parts_text (parts_of version.now)) ∷ [])) }
+{
+    let text = format!(in alloc; "{version}")?;
+    put_field(out, "version", text.as_str())
+}
+
+// The line of a source that is written.
+fn put_source(alloc: Global, out: &mut String, source: &SourceIdAsUrl<'_>) -> Put
+    ensures { OnOk result (string_bytes out.new ≡ string_bytes out.old ++ joined (source_line source.now ∷ [])) }
+{
+    let text = format!(in alloc; "{source}")?;
+    put_field(out, "source", text.as_str())
+}
+
+// The source of a package.
+fn put_marked_source(alloc: Global, out: &mut String, source: &Option<EncodableSourceId>) -> Put
+    ensures { OnOk result (string_bytes out.new ≡ string_bytes out.old ++ joined (option_to_list (option_map source_line source.now))) }
+{
+    match source {
+        Some(source) => put_source(alloc, out, &source.as_url()),
+        None => Ok(()),
+    }
+}
+
+// The source of a patch, escaped or plain: a path source is left out.
+fn put_patch_source(
+    alloc: Global,
+    out: &mut String,
+    source: &Option<SourceId>,
+    escaped: bool,
+) -> Put
+    ensures { OnOk result (string_bytes out.new ≡ string_bytes out.old ++ joined (option_to_list (option_map source_line (written_source escaped source.now)))) }
+{
+    match source {
+        Some(source) if source.is_path() => Ok(()),
+        Some(source) => put_source(alloc, out, &source.as_url(escaped)),
+        None => Ok(()),
+    }
+}
+
+fn put_checksum(alloc: Global, out: &mut String, checksum: &Option<Checksum>) -> Put
+    ensures { OnOk result (string_bytes out.new ≡ string_bytes out.old ++ joined (option_to_list (option_map checksum_line (option_map digest_of checksum.now)))) }
+{
+    match checksum {
+        Some(checksum) => {
+            let text = format!(in alloc; "{checksum}")?;
+            put_field(out, "checksum", text.as_str())
+        }
+        None => Ok(()),
+    }
+}
+
+// ---- packages
+
+// The line of one dependency in the list of them.
+fn put_dependency(alloc: Global, out: &mut String, dependency: &EncodableDependency) -> Put
+    ensures { OnOk result (string_bytes out.new ≡ string_bytes out.old ++ joined (dependency_line dependency.now ∷ [])) }
+{
+    let text = format!(in alloc; "{dependency}")?;
+    out.push(' ')?;
+    put_quoted(out, text.as_str())?;
+    out.push_str(",\n")
+}
+
+fn put_each_dependency(alloc: Global, out: &mut String, dependencies: &[EncodableDependency]) -> Put
+    ensures { OnOk result (string_bytes out.new ≡ string_bytes out.old ++ joined (map dependency_line dependencies.now)) }
+{
+    for dependency in dependencies {
+        put_dependency(alloc, out, dependency)?;
+    }
+    Ok(())
+}
+
+// The list of the dependencies, of which there are some.
+fn put_dependencies(alloc: Global, out: &mut String, dependencies: &[EncodableDependency]) -> Put
+    ensures { OnOk result (string_bytes out.new ≡ string_bytes out.old ++ joined (codes "dependencies = [" ∷ (map dependency_line dependencies.now ++ codes "]" ∷ []))) }
+{
+    out.push_str("dependencies = [\n")?;
+    put_each_dependency(alloc, out, dependencies)?;
+    out.push_str("]\n")?;
+    Ok(())
+}
+
+fn put_replacement(alloc: Global, out: &mut String, replace: &Option<EncodableDependency>) -> Put
+    ensures { OnOk result (string_bytes out.new ≡ string_bytes out.old ++ joined (option_to_list (option_map replace_line replace.now))) }
+{
+    match replace {
+        Some(replace) => {
+            let text = format!(in alloc; "{replace}")?;
+            put_field(out, "replace", text.as_str())
+        }
+        None => Ok(()),
+    }
+}
+
+// The dependencies, or where there are none the replacement.
+fn put_references(
+    alloc: Global,
+    out: &mut String,
+    dependencies: &[EncodableDependency],
+    replace: &Option<EncodableDependency>,
+) -> Put
+    ensures { OnOk result (string_bytes out.new ≡ string_bytes out.old ++ joined (reference_lines dependencies.now replace.now)) }
+{
+    if dependencies.is_empty() {
+        put_replacement(alloc, out, replace)?;
+    } else {
+        put_dependencies(alloc, out, dependencies)?;
+    }
+    Ok(())
+}
+
+fn put_package(alloc: Global, out: &mut String, one: &EncodablePackage) -> Put
+    ensures { OnOk result (string_bytes out.new ≡ string_bytes out.old ++ joined (entry_lines one.now)) }
+{
+    out.push_str("\n[[package]]\n")?;
+    put_name(out, &one.name)?;
+    put_version(alloc, out, &one.version)?;
+    put_marked_source(alloc, out, &one.source)?;
+    put_checksum(alloc, out, &one.checksum)?;
+    put_references(alloc, out, one.dependencies.as_slice(), &one.replace)?;
+    Ok(())
+}
+
+/// Adds the packages, each after an empty line.
+pub fn put_packages(alloc: Global, out: &mut String, packages: &[EncodablePackage]) -> Put
+    ensures { OnOk result (string_bytes out.new ≡ string_bytes out.old ++ joined (flat_map entry_lines packages.now)) }
+{
+    for one in packages {
+        put_package(alloc, out, one)?;
+    }
+    Ok(())
+}
+
+// ---- unused patches
+
+// An unused patch, its source escaped or plain.
+fn put_patch(alloc: Global, out: &mut String, patch: &Dependency, escaped: bool) -> Put
+    ensures { OnOk result (string_bytes out.new ≡ string_bytes out.old ++ joined (patch_lines escaped patch.now)) }
+{
+    out.push_str("\n[[patch.unused]]\n")?;
+    put_name(out, &patch.name)?;
+    put_version(alloc, out, &patch.version)?;
+    put_patch_source(alloc, out, &patch.source, escaped)?;
+    out.push_str("\n")?;
+    Ok(())
+}
+
+fn put_each_patch(alloc: Global, out: &mut String, unused: &[Dependency], escaped: bool) -> Put
+    ensures { OnOk result (string_bytes out.new ≡ string_bytes out.old ++ joined (flat_map (patch_lines escaped) unused.now)) }
+{
+    for patch in unused {
+        put_patch(alloc, out, patch, escaped)?;
+    }
+    Ok(())
+}
+
+/// Adds the unused patches, whose sources are plain.
+pub fn put_patches(alloc: Global, out: &mut String, patch: &Patch) -> Put
+    ensures { OnOk result (string_bytes out.new ≡ string_bytes out.old ++ joined (flat_map (patch_lines false) patch.now)) }
+{
+    put_each_patch(alloc, out, patch.unused.as_slice(), false)?;
+    Ok(())
+}
+
+// ---- metadata
+
+// Whether a key of TOML may have the byte and stand without quotation marks.
+fn is_bare_byte(byte: u8) -> bool
+    ensures { result ≡ is_bare_byte byte }
+{
+    matches!(byte, b'A'..=b'Z' | b'a'..=b'z' | b'0'..=b'9' | b'_' | b'-')
+}
+
+fn has_bare_bytes(key: &str) -> bool
+    ensures { result ≡ list_all is_bare_byte key.now }
+{
+    key.as_bytes().iter().all(|byte| is_bare_byte(*byte))
+}
+
+// Whether a key stands without quotation marks.
+fn is_bare_key(key: &str) -> bool
+    ensures { result ≡ is_bare_key key.now }
+{
+    !key.is_empty() && has_bare_bytes(key)
+}
+
+fn put_key(out: &mut String, key: &str) -> Put
+    ensures { OnOk result (string_bytes out.new ≡ string_bytes out.old ++ key_text key.now) }
+{
+    if is_bare_key(key) {
+        out.push_str(key)
+    } else {
+        put_quoted(out, key)
+    }
+}
+
+fn put_pair(out: &mut String, key: &MetadataKey, value: &MetadataValue) -> Put
+    ensures { OnOk result (string_bytes out.new ≡ string_bytes out.old ++ joined (pair_line (key.now, value.now) ∷ [])) }
+{
+    put_key(out, key.as_str())?;
+    out.push_str(" = ")?;
+    put_quoted(out, value.as_str())?;
+    out.push('\n')
+}
+
+// The pairs, in the order of the keys.
+fn put_pairs(out: &mut String, metadata: &Metadata) -> Put
+    ensures { OnOk result (string_bytes out.new ≡ string_bytes out.old ++ joined (map pair_line metadata.now.entries)) }
+{
+    for (key, value) in metadata {
+        put_pair(out, key, value)?;
+    }
+    Ok(())
+}
+
+// The metadata as it is stored.
+fn put_stored(out: &mut String, metadata: &Metadata) -> Put
+    ensures { OnOk result (string_bytes out.new ≡ string_bytes out.old ++ joined (metadata_lines metadata.now.entries)) }
+{
+    if metadata.is_empty() {
+        return Ok(());
+    }
+    out.push_str("\n[metadata]\n")?;
+    put_pairs(out, metadata)?;
+    Ok(())
+}
+
+/// Adds the metadata, in the order of its keys, unless it is empty.
+pub fn put_metadata(out: &mut String, metadata: &Metadata) -> Put
+    ensures { OnOk result (string_bytes out.new ≡ string_bytes out.old ++ joined (metadata_lines (entries (texts_of metadata.now.entries)))) }
+{
+    ordered(metadata);
+    put_stored(out, metadata)?;
+    Ok(())
+}
+
+// ---- the whole
+
+/// Adds the comments at the head of the file.
+pub fn put_comments(out: &mut String) -> Put
+    ensures { OnOk result (string_bytes out.new ≡ string_bytes out.old ++ joined comment_lines) }
+{
+    out.push_str(
+        "# This file is automatically @generated by Cargo.\n# It is not intended for manual editing.\n",
+    )
+}
+
+/// Adds the number of the format, which stands in the file from the third on.
+pub fn put_format(alloc: Global, out: &mut String, version: &Option<i64>) -> Put
+    ensures { OnOk result (string_bytes out.new ≡ string_bytes out.old ++ joined (version_lines version.now)) }
+{
+    match version {
+        Some(number) if *number >= 3 => {
+            let text = format!(in alloc; "version = {number}\n")?;
+            out.push_str(text.as_str())
+        }
+        _ => Ok(()),
+    }
+}

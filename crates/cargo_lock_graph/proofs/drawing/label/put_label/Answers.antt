@@ -1,0 +1,20 @@
+use Rattle.std.proofs.Common.{ℕ, List, [], ◌++◌, codes, cond, Bool, refl, ap}
+use Rattle.semver.specs.Identifiers.{parts_text}
+use Rattle.cargo_lock_graph.specs.Labels.{exact_text}
+use Rattle.cargo_lock_graph.proofs.SinkWrites.{fault_of, written_of}
+use Rattle.cargo_lock_graph.proofs.drawing.label.put_label.Goals as goal
+
+pub returns-in_err-put_identity : goal.returns-in_err-put_identity
+returns-in_err-put_identity g c =
+    let one = c.args.one.now in
+    let name : List ℕ = one.name ++ (codes " " ++ parts_text one.version) in
+    let more : List ℕ = cond c.args.exact (codes " " ++ exact_text one.checksum one.source) [] in
+    fault_of c.from_residual.result _ _ (name ++ more) name more c.from_residual.ensures.0 refl c.in_err-put_identity.ensures
+
+pub returns-then-exact : goal.returns-then-exact
+returns-then-exact g c =
+    let one = c.args.one.now in
+    let name : List ℕ = one.name ++ (codes " " ++ parts_text one.version) in
+    let exactly : List ℕ = codes " " ++ exact_text one.checksum one.source in
+    written_of c.put_exactly.result _ _ _ (name ++ cond c.args.exact exactly []) name exactly
+    (ap (λ (b : Bool). name ++ cond b exactly []) c.if-exact.true) c.in_ok-put_identity.ensures.0 c.in_ok-put_identity.ensures.1 c.put_exactly.ensures

@@ -1,0 +1,9 @@
+use Rattle.std.proofs.Common.{◌≡◌, ℕ, false, replicate, ap, ◌∙◌, length, vec_capacity, arith}
+use Rattle.cargo_lock_graph.proofs.WalkSteps.{held_start}
+use Rattle.cargo_lock_graph.proofs.drawing.walk.Walk.new.Goals as goal
+
+pub enter-requires-clause-held : goal.enter-requires-clause-held
+enter-requires-clause-held c =
+    let graph = c.args.graph.now in
+    let none : c.in_ok-visited.visited.items ≡ replicate (length graph.packages) false = c.in_ok-visited.ensures.items_if_clones_equal (λ y e. e) ∙ ap (λ (k : ℕ). replicate k false) c.node_count-count.ensures in
+    held_start (length graph.packages) (length graph.edges) (vec_capacity c.in_ok-stack.stack) c.in_ok-visited.visited.items c.in_ok-stack.stack.items none c.in_ok-stack.ensures.items (omega (arith, c.node_count-count.ensures, c.in_ok-stack.ensures.capacity))

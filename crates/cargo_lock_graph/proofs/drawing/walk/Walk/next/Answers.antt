@@ -1,0 +1,29 @@
+use Rattle.std.proofs.Common.{◌≡◌, ℕ, Bool, List, [], ◌∷◌, ◌++◌, length, Option, sym, ap, subst, ◌∙◌, vec_capacity, arith}
+use Rattle.std.proofs.lemmas.List.{nil_from_length}
+use Rattle.cargo_lock_graph.specs.WalkState.{IsHeld, coming}
+use Rattle.cargo_lock_graph.proofs.WalkSteps.{coming_end, coming_done, held_pop}
+use Rattle.cargo_lock_graph.proofs.drawing.walk.Walk.next.Goals as goal
+
+pub loop-frame-preserved : goal.loop-frame-preserved
+loop-frame-preserved c =
+    let graph = c.args.graph.now in
+    let walk = c.loop-frame.self in
+    let marks : List Bool = walk.visited.items in
+    let fs : List (Option ℕ) = c.pop.new.self.items in
+    let f : Option ℕ = c.in-Some.frame in
+    let split : walk.stack.items ≡ fs ++ f ∷ [] = c.in-Some.ensures.items in
+    let popped = (held_pop _ _ marks walk.stack.items fs f (vec_capacity walk.stack) walk.most split c.loop-frame.invariant.on).0 in
+    record {
+      on = subst (λ (n : ℕ). IsHeld (length graph.packages) (length graph.edges) marks fs n walk.most) (sym c.in-Some.ensures.capacity) popped;
+      direction = c.loop-frame.invariant.direction;
+      most = c.loop-frame.invariant.most;
+      same = sym (coming_done walk.direction graph.edges marks walk.stack.items fs f split c.in_default-frame.is) ∙ c.loop-frame.invariant.same;
+    }
+
+pub returns-clause-entry : goal.returns-clause-entry
+returns-clause-entry c =
+    let walk = c.loop-frame.self in
+    let edges = c.args.graph.now.edges in
+    let marks : List Bool = walk.visited.items in
+    let empty : walk.stack.items ≡ [] = nil_from_length walk.stack.items (omega (arith, c.in_default.ensures.cases.0, walk.stack.ok.0)) in
+    sym c.loop-frame.invariant.same ∙ ap (coming walk.direction edges marks) empty ∙ coming_end walk.direction edges marks

@@ -1,0 +1,14 @@
+use Rattle.std.proofs.Common.{◌≡◌, ◌≤◌, vec_len}
+use Rattle.cargo_lock_graph.specs.WalkState.{IsOn, to_come}
+use Rattle.cargo_lock_graph.proofs.drawing.walk.Walk.next.Given as goal
+
+abbrev pub invariant-loop-frame : goal.invariant-loop-frame
+invariant-loop-frame l = record {
+  on : IsOn l.graph l.self;
+  direction : l.self.direction ≡ l.fn.self.direction;
+  most : l.fn.self.most ≤ l.self.most;
+  same : to_come l.graph l.self ≡ to_come l.graph l.fn.self;
+}
+
+abbrev pub decreases-loop-frame : goal.decreases-loop-frame
+decreases-loop-frame l = vec_len l.self.stack

@@ -1,0 +1,13 @@
+use Rattle.std.proofs.Common.{ℕ, ◌≤◌, suc, length, option_map, unwrap_or}
+use Rattle.cargo_lock_graph.specs.Candidates.{BestFrom, HasName}
+use Rattle.cargo_lock_graph.specs.Targets.{HoldsOf, IsLastBelow}
+use Rattle.cargo_lock_graph.proofs.targets.Candidates.find.Given as goal
+
+-- the best of the packages from a place on, and the next one before it with the name
+abbrev pub invariant-loop-next : goal.invariant-loop-next
+invariant-loop-next l = (bound : ℕ) × (bound ≤ length l.packages.items)
+    × IsLastBelow (HoldsOf (HasName l.dependency.name) l.packages.items) bound l.next
+    × BestFrom l.packages.items l.dependency bound l.best
+
+abbrev pub decreases-loop-next : goal.decreases-loop-next
+decreases-loop-next l = unwrap_or (option_map suc l.next) 0

@@ -1,0 +1,63 @@
+-- Laws of drawings, over every graph.
+use Rattle.std.specs.Prelude.{◌≡◌, ℕ, suc, ◌<◌, ◌↔◌, List, [], length}
+use Rattle.std.specs.List.{filter}
+use Rattle.cargo_lock_graph.specs.declared.graph.EdgeDirection.{EdgeDirection}
+use Rattle.cargo_lock_graph.specs.declared.drawing.entry.Entry.{Entry}
+use Rattle.cargo_lock_graph.specs.Chains.{AreBetween}
+use Rattle.cargo_lock_graph.specs.Edges.{GraphData, far_ends, near_end, Edge}
+use Rattle.cargo_lock_graph.specs.Drawing.{IsDrawing, IsFirst, Occurs, AreBelow, children, is_among, nodes_of}
+use Rattle.cargo_lock_graph.specs.DrawingSteps.{DrawsFrom}
+use Rattle.cargo_lock_graph.specs.DrawingPlaces.{EdgesMatchEntries}
+use Rattle.cargo_lock_graph.specs.Paths.{IsReachable}
+use Rattle.cargo_lock_graph.specs.DrawingText.{SymbolTexts, standard_symbols, drawn}
+use Rattle.cargo_lock_graph.specs.DrawingByLater.{drawn_by_later}
+use Rattle.cargo_lock_graph.specs.DrawingLines.{cut, AreLines, TellAll}
+
+-- the drawing in words is the drawing by recursion
+abbrev pub DrawingsAreOneForm : Type 0
+DrawingsAreOneForm = (far : ℕ → List ℕ) (start : ℕ) (es : List Entry) → (IsDrawing far start es ↔ DrawsFrom far start es)
+
+-- there is a drawing from each node
+abbrev pub DrawingExists : Type 0
+DrawingExists = (far : ℕ → List ℕ) (nodes start : ℕ) → AreBelow far nodes → start < nodes → (es : List Entry) × IsDrawing far start es
+
+-- and no second one
+abbrev pub DrawingIsUnique : Type 0
+DrawingIsUnique = (far : ℕ → List ℕ) (start : ℕ) (es fs : List Entry) → IsDrawing far start es → IsDrawing far start fs → es ≡ fs
+
+-- From each node of a graph there is exactly one drawing in each direction.
+abbrev pub GraphHasOneDrawing : Type 0
+GraphHasOneDrawing = (d : EdgeDirection) (graph : GraphData) (start : ℕ) → AreBetween (length graph.packages) graph.edges → start < length graph.packages
+    → (es : List Entry) × IsDrawing (far_ends d graph.edges) start es × ((fs : List Entry) → IsDrawing (far_ends d graph.edges) start fs → fs ≡ es)
+
+-- There are one plus as many entries as edges that leave a node that occurs.
+abbrev pub EntriesAreCounted : Type 0
+EntriesAreCounted = (d : EdgeDirection) (edges : List Edge) (start : ℕ) (es : List Entry) → IsDrawing (far_ends d edges) start es
+    → length es ≡ suc (length (filter (λ e. is_among (near_end d e) (nodes_of es)) edges))
+
+-- a node occurs exactly where it is reachable
+abbrev pub OccursWhereReachable : Type 0
+OccursWhereReachable = (far : ℕ → List ℕ) (start n : ℕ) (es : List Entry) → IsDrawing far start es → (Occurs n es ↔ IsReachable far start n)
+
+-- a reachable node has a first entry, whose children are the far ends of its edges
+abbrev pub ReachableIsExpanded : Type 0
+ReachableIsExpanded = (far : ℕ → List ℕ) (start n : ℕ) (es : List Entry) → IsDrawing far start es → IsReachable far start n
+    → (front : List Entry) × (e : Entry) × (later : List Entry) × IsFirst n es front e later × (children e.depth later ≡ far n)
+
+-- a node has at most one first entry
+abbrev pub FirstIsUnique : Type 0
+FirstIsUnique = (n : ℕ) (es f g : List Entry) (a b : Entry) (k l : List Entry) → IsFirst n es f a k → IsFirst n es g b l → f ≡ g
+
+-- the edges of reachable nodes and the entries after the first match one to one
+abbrev pub EdgesMatch : Type 0
+EdgesMatch = (far : ℕ → List ℕ) (start : ℕ) (es : List Entry) → IsDrawing far start es → EdgesMatchEntries far start es
+
+-- the text as it is defined is the text that looks at later entries
+abbrev pub TextByLater : Type 0
+TextByLater = (far : ℕ → List ℕ) (start : ℕ) (es : List Entry) (s : SymbolTexts) (label : ℕ → List ℕ) → IsDrawing far start es → drawn s label es ≡ drawn_by_later s label es
+
+-- Where no label holds a newline, the text is one line an entry: the first is the first entry's
+-- label, and each later one tells its entry's depth and label.
+abbrev pub TextTellsDrawing : Type 0
+TextTellsDrawing = (far : ℕ → List ℕ) (start : ℕ) (label : ℕ → List ℕ) (es : List Entry) → IsDrawing far start es → AreLines label es
+    → TellAll label es (cut [] (drawn standard_symbols label es))

@@ -1,0 +1,33 @@
+-- The drawing, made from the top. It is what a walk over a graph is held against.
+use Rattle.std.specs.Prelude.{ℕ, zero, suc, ◌+◌, Bool, true, false, cond, List, [], ◌∷◌, ◌++◌, get_or, set, replicate}
+use Rattle.cargo_lock_graph.specs.declared.drawing.entry.Entry.{Entry}
+
+-- entries of these nodes at this depth
+abbrev pub deeper : ℕ → List ℕ → List Entry
+deeper depth [] = []
+deeper depth (n ∷ ns) = record { node = n; depth = depth } ∷ deeper depth ns
+
+-- how many marks are not set
+abbrev pub unmarked : List Bool → ℕ
+unmarked [] = 0
+unmarked (b ∷ bs) = cond b 0 1 + unmarked bs
+
+-- draws what is to come up to a node without a mark, and goes on from there
+abbrev pub draw_seen : (ℕ → List ℕ) → (List Bool → List Entry → List Entry) → List Bool → List Entry → List Entry
+draw_seen far on marks [] = []
+draw_seen far on marks (e ∷ p) =
+    e ∷ cond (get_or marks e.node true) (draw_seen far on marks p)
+    (on (set marks e.node true) (deeper (suc e.depth) (far e.node) ++ p))
+
+-- what is drawn where these nodes have marks, p is to come, and at most `fuel` nodes have no mark
+abbrev pub draw : (ℕ → List ℕ) → ℕ → List Bool → List Entry → List Entry
+draw far zero = draw_seen far (λ marks p. [])
+draw far (suc fuel) = draw_seen far (draw far fuel)
+
+-- what is drawn where these nodes have marks and p is to come
+unfoldable pub rest_of : (ℕ → List ℕ) → List Bool → List Entry → List Entry
+rest_of far marks p = draw far (unmarked marks) marks p
+
+-- the drawing from a start
+abbrev pub drawing : (ℕ → List ℕ) → ℕ → ℕ → List Entry
+drawing far nodes start = rest_of far (replicate nodes false) (record { node = start; depth = 0 } ∷ [])

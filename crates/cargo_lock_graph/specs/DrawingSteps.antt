@@ -1,0 +1,26 @@
+-- What a drawing is, by recursion on its entries. A law says that `DrawsFrom` and `IsDrawing` are
+-- one.
+use Rattle.std.specs.Prelude.{◌≡◌, ℕ, suc, ◌<◌, ◌≤◌, cond, List, [], ◌∷◌}
+use Rattle.cargo_lock_graph.specs.declared.drawing.entry.Entry.{Entry}
+use Rattle.cargo_lock_graph.specs.Drawing.{children, is_among}
+
+-- each depth is at least 1 and at most one more than the one before
+abbrev pub AreSteps : ℕ → List Entry → Type 0
+AreSteps before [] = Unit {0}
+AreSteps before (e ∷ later) = (0 < e.depth) × (e.depth ≤ suc before) × AreSteps e.depth later
+
+-- what the children of an entry of this node are, after entries of these nodes
+abbrev pub expected : (ℕ → List ℕ) → List ℕ → ℕ → List ℕ
+expected far earlier node = cond (is_among node earlier) [] (far node)
+
+-- each entry has the children that are expected
+abbrev pub HaveChildren : (ℕ → List ℕ) → List ℕ → List Entry → Type 0
+HaveChildren far earlier [] = Unit {0}
+HaveChildren far earlier (e ∷ later) =
+    (children e.depth later ≡ expected far earlier e.node) × HaveChildren far (e.node ∷ earlier) later
+
+-- the entries are the drawing from a start
+abbrev pub DrawsFrom : (ℕ → List ℕ) → ℕ → List Entry → Type 0
+DrawsFrom far start [] = ⊥
+DrawsFrom far start (e ∷ later) =
+    (e.node ≡ start) × (e.depth ≡ 0) × AreSteps 0 later × HaveChildren far [] (e ∷ later)

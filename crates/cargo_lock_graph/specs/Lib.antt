@@ -1,0 +1,17 @@
+pub mod Drawing
+pub mod DrawingSteps
+pub mod Paths
+pub mod DrawingPlaces
+pub mod DrawingText
+pub mod DrawingByLater
+pub mod ReadLine
+pub mod DrawingLines
+pub mod DrawingMade
+pub mod DrawingLaws
+pub mod Edges
+pub mod Chains
+pub mod Sinks
+pub mod Labels
+pub mod WalkState
+pub mod Targets
+pub mod Candidates

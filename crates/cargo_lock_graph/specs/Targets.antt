@@ -1,0 +1,137 @@
+-- Which package a dependency stands for, and so the edges of a lockfile's graph.
+--
+-- A dependency has the name and the version of its package. Its source may differ from that of the
+-- package, as one on a branch from one at a commit: of the packages with its name and version those
+-- are meant whose source matches best, and of these the last.
+use Rattle.std.specs.Prelude.{◌≡◌, ℕ, ◌<◌, ◌≤◌, List, ◌∷◌, ◌++◌, length, map, slice_get, Option, Some, None, string_bytes, codes}
+use Rattle.std.specs.List.{All, AllZip, flat_map}
+use Rattle.cargo_lock_parts.specs.declared.error.Error.{Error}
+use Rattle.cargo_lock_parts.specs.declared.error.Error.TheVariants.{Io, Parse, Version, Resolution, Memory}
+use Rattle.cargo_lock_parts.specs.Identity.{HasNameAndVersion, Identity, PackageData, dependency_text, identity_key, identity_of}
+use Rattle.cargo_lock_parts.specs.Rank.{rank_of}
+use Rattle.cargo_lock_parts.specs.Source.{Source}
+use Rattle.cargo_lock_graph.specs.Edges.{Edge}
+
+-- ---- places
+
+-- P holds of the package at the place
+abbrev pub HoldsOf : (PackageData → Type 0) → List PackageData → ℕ → Type 0
+HoldsOf P packages place = (p : PackageData) × (slice_get packages place ≡ Some p) × P p
+
+-- the last of the places below a bound at which P holds, or none where it holds at none of them
+abbrev pub IsLastBelow : (ℕ → Type 0) → ℕ → Option ℕ → Type 0
+IsLastBelow P bound None = (k : ℕ) → k < bound → ¬ P k
+IsLastBelow P bound (Some place) = (place < bound) × P place × ((k : ℕ) → place < k → k < bound → ¬ P k)
+
+-- the package has the identity
+abbrev pub HasIdentity : Identity → PackageData → Type 0
+HasIdentity i p = identity_key (identity_of p) ≡ identity_key i
+
+-- the last place of the packages with the identity, if there is one
+abbrev pub IsLastWith : List PackageData → Identity → Option ℕ → Type 0
+IsLastWith packages i place = IsLastBelow (HoldsOf (HasIdentity i) packages) (length packages) place
+
+-- ---- targets
+
+-- how well sources match that may be absent: an absent one matches an absent one alone, and best
+abbrev pub rank_between : Option Source → Option Source → Option ℕ
+rank_between None None = Some 1
+rank_between None (Some b) = None
+rank_between (Some a) None = None
+rank_between (Some a) (Some b) = rank_of a b
+
+-- the package has the dependency's name and version, and a source that matches with this rank
+pub record Fits (d : Identity) (rank : ℕ) (p : PackageData) : Type 0 where
+  pub named : HasNameAndVersion d p
+  pub ranked : rank_between d.source p.source ≡ Some rank
+
+-- the package at the place does
+abbrev pub FitsAt : List PackageData → Identity → ℕ → ℕ → Type 0
+FitsAt packages d place rank = HoldsOf (Fits d rank) packages place
+
+-- the place of the package that a dependency stands for: none that fits has a lesser rank, and no
+-- later one has the same
+pub record IsTarget (packages : List PackageData) (d : Identity) (place : ℕ) : Type 0 where
+  pub rank : ℕ
+  pub fits : FitsAt packages d place rank
+  pub least : (k other : ℕ) → FitsAt packages d k other → rank ≤ other
+  pub last : (k : ℕ) → FitsAt packages d k rank → k ≤ place
+
+-- no package fits the dependency
+abbrev pub IsLost : List PackageData → Identity → Type 0
+IsLost packages d = (place rank : ℕ) → ¬ FitsAt packages d place rank
+
+-- ---- edges
+
+-- a package and one of its dependencies
+pub record Link : Type 0 where
+  pub from : PackageData
+  pub dependency : Identity
+
+-- the package with each of these dependencies
+abbrev pub links_to : PackageData → List Identity → List Link
+links_to p ds = map (λ d. record { from = p; dependency = d }) ds
+
+-- the package with each of its dependencies
+abbrev pub links_of : PackageData → List Link
+links_of p = links_to p p.dependencies
+
+-- each package with each of its dependencies, in order
+abbrev pub links : List PackageData → List Link
+links packages = flat_map links_of packages
+
+-- the edge of a package's dependency: from the last place with the package's identity to the place
+-- of the package that the dependency stands for
+pub record IsEdgeOf (packages : List PackageData) (link : Link) (e : Edge) : Type 0 where
+  pub from : IsLastWith packages (identity_of link.from) (Some e.from)
+  pub to : IsTarget packages link.dependency e.to
+  pub dependency : e.dependency ≡ link.dependency
+
+-- the edges of a lockfile's graph: one for each dependency of each package, in order
+abbrev pub AreEdgesOf : List PackageData → List Edge → Type 0
+AreEdgesOf packages edges = AllZip (IsEdgeOf packages) (links packages) edges
+
+-- ---- refusals
+
+-- some package fits the link's dependency
+abbrev pub HasTarget : List PackageData → Link → Type 0
+HasTarget packages link = (place : ℕ) × IsTarget packages link.dependency place
+
+-- the dependency is the first of these that no package fits
+pub record IsFirstLost (packages : List PackageData) (among : List Link) (d : Identity) : Type 0 where
+  pub front : List Link
+  pub from : PackageData
+  pub rest : List Link
+  pub split : among ≡ front ++ record { from = from; dependency = d } ∷ rest
+  pub found : All (HasTarget packages) front
+  pub none : IsLost packages d
+
+abbrev pub lost_text : Identity → List ℕ
+lost_text d = codes "failed to find dependency: " ++ dependency_text d
+
+-- memory ran out, or no package fits the dependency, and the text names it
+abbrev pub IsLostFault : List PackageData → Identity → Error → Type 0
+IsLostFault packages d (Io kind) = ⊥
+IsLostFault packages d (Parse said) = ⊥
+IsLostFault packages d (Version fault) = ⊥
+IsLostFault packages d (Resolution said) = IsLost packages d × (string_bytes said ≡ lost_text d)
+IsLostFault packages d Memory = Unit {0}
+
+-- memory ran out, or no package fits some dependency among these, and the text names the first such
+abbrev pub IsUnresolved : List PackageData → List Link → Error → Type 0
+IsUnresolved packages among (Io kind) = ⊥
+IsUnresolved packages among (Parse said) = ⊥
+IsUnresolved packages among (Version fault) = ⊥
+IsUnresolved packages among (Resolution said) = (d : Identity) × IsFirstLost packages among d × (string_bytes said ≡ lost_text d)
+IsUnresolved packages among Memory = Unit {0}
+
+-- ---- the laws of edges
+
+-- packages have one list of edges
+abbrev pub EdgesAreOne : Type 0
+EdgesAreOne = (packages : List PackageData) (a b : List Edge) → AreEdgesOf packages a → AreEdgesOf packages b → a ≡ b
+
+-- packages have none where some dependency has no package
+abbrev pub LostHaveNoEdges : Type 0
+LostHaveNoEdges = (packages : List PackageData) (d : Identity) (edges : List Edge)
+    → IsFirstLost packages (links packages) d → ¬ AreEdgesOf packages edges

@@ -1,0 +1,14 @@
+//! Drawings of graphs: the text of what is reachable from a node, put onto a sink or a writer.
+
+pub mod entry;
+mod label;
+pub mod laws;
+mod put;
+mod render;
+mod sink;
+mod symbols;
+mod walk;
+
+pub use crate::drawing::render::{render_into, render_onto};
+pub use crate::drawing::sink::{Sink, WriterSink};
+pub use crate::drawing::symbols::Symbols;

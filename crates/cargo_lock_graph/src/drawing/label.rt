@@ -1,0 +1,190 @@
+//! Labels of entries: a package's name and version, and what tells it exactly. They are put in
+//! pieces, which takes no memory.
+
+ghost use Rattle.std.specs.Prelude.{◌-◌, ◌^◌, ◌<◌, ◌≡◌, ◌++◌, ◌∷◌, codes, option_copied, option_map, false};
+ghost use Rattle.semver.specs.Identifiers.{marked, parts_of, parts_text};
+ghost use Rattle.std.specs.Prelude.{decimal};
+ghost use Rattle.cargo_lock_parts.specs.Checksum.{digest_of, digest_text};
+ghost use Rattle.cargo_lock_parts.specs.Source.{reference_of};
+ghost use Rattle.cargo_lock_parts.specs.SourceText.{fragment_text, query_text, text_of};
+ghost use Rattle.cargo_lock_graph.specs.Labels.{exact_text, label_of};
+ghost use Rattle.cargo_lock_graph.specs.Sinks.{IsWritten};
+
+use crate::drawing::put::{Put, Target, put_all, put_both, put_dotted, put_marked, put_number};
+use cargo_lock_parts::package::{
+    Checksum, GitReference, Name, Package, SourceId, SourceKind, Version,
+};
+
+// ---- versions
+
+// The pre-release and the build metadata, each after its mark.
+fn put_tags<T: Target>(out: &mut T, version: &Version) -> Put
+    requires { (T.state out.old).failures < 2 ^ 64 - 1 }
+    ensures { IsWritten (T.state out.old) (T.state out.new) (marked 45 (parts_of version.now).3 ++ marked 43 (parts_of version.now).4) result }
+{
+    put_marked(out, b'-', version.pre.as_str())?;
+    put_marked(out, b'+', version.build.as_str())
+}
+
+// The patch number and what follows it.
+fn put_patch<T: Target>(out: &mut T, version: &Version) -> Put
+    requires { (T.state out.old).failures < 2 ^ 64 - 1 }
+    ensures { IsWritten (T.state out.old) (T.state out.new) (46 ∷ (decimal version.now.patch ++ (marked 45 (parts_of version.now).3 ++ marked 43 (parts_of version.now).4))) result }
+{
+    put_dotted(out, version.patch)?;
+    put_tags(out, version)
+}
+
+// The minor number and what follows it.
+fn put_minor<T: Target>(out: &mut T, version: &Version) -> Put
+    requires { (T.state out.old).failures < 2 ^ 64 - 1 }
+    ensures { IsWritten (T.state out.old) (T.state out.new) (46 ∷ (decimal version.now.minor ++ (46 ∷ (decimal version.now.patch ++ (marked 45 (parts_of version.now).3 ++ marked 43 (parts_of version.now).4))))) result }
+{
+    put_dotted(out, version.minor)?;
+    put_patch(out, version)
+}
+
+fn put_version<T: Target>(out: &mut T, version: &Version) -> Put
+    requires { (T.state out.old).failures < 2 ^ 64 - 1 }
+    ensures { IsWritten (T.state out.old) (T.state out.new) (parts_text (parts_of version.now)) result }
+{
+    put_number(out, version.major)?;
+    put_minor(out, version)
+}
+
+// ---- what tells a package exactly
+
+// The bytes of a checksum.
+fn digest(checksum: &Checksum) -> [u8; 32]
+    ensures { result ≡ digest_of checksum.now }
+{
+    let Checksum::Sha256(digest) = *checksum;
+    digest
+}
+
+fn put_checksum<T: Target>(out: &mut T, checksum: &Checksum) -> Put
+    requires { (T.state out.old).failures < 2 ^ 64 - 1 }
+    ensures { IsWritten (T.state out.old) (T.state out.new) (codes "checksum:" ++ digest_text (digest_of checksum.now)) result }
+{
+    let digest = digest(checksum);
+    let mut digits = [0u8; 64];
+    match hex::encode_to_slice(digest.as_slice(), &mut digits) {
+        Ok(()) => put_both(out, b"checksum:", &digits),
+        Err(_) => unreachable!(),
+    }
+}
+
+// What is checked out of a repository, plain, as the query of its URL.
+fn put_query<T: Target>(out: &mut T, reference: &GitReference) -> Put
+    requires { (T.state out.old).failures < 2 ^ 64 - 1 }
+    ensures { IsWritten (T.state out.old) (T.state out.new) (query_text false (reference_of reference.now)) result }
+{
+    match reference {
+        GitReference::DefaultBranch => Ok(()),
+        GitReference::Tag(text) => put_both(out, b"?tag=", text.as_str().as_bytes()),
+        GitReference::Branch(text) => put_both(out, b"?branch=", text.as_str().as_bytes()),
+        GitReference::Rev(text) => put_both(out, b"?rev=", text.as_str().as_bytes()),
+    }
+}
+
+// The commit of a repository, as the fragment of its URL.
+fn put_fragment<T: Target>(out: &mut T, precise: Option<&str>) -> Put
+    requires { (T.state out.old).failures < 2 ^ 64 - 1 }
+    ensures { IsWritten (T.state out.old) (T.state out.new) (fragment_text (option_copied precise.entry)) result }
+{
+    match precise {
+        Some(text) => put_both(out, b"#", text.as_bytes()),
+        None => Ok(()),
+    }
+}
+
+// The query and the fragment of a git source.
+fn put_place<T: Target>(out: &mut T, reference: &GitReference, precise: Option<&str>) -> Put
+    requires { (T.state out.old).failures < 2 ^ 64 - 1 }
+    ensures { IsWritten (T.state out.old) (T.state out.new) (query_text false (reference_of reference.now) ++ fragment_text (option_copied precise.entry)) result }
+{
+    put_query(out, reference)?;
+    put_fragment(out, precise)
+}
+
+// A git source.
+fn put_git<T: Target>(
+    out: &mut T,
+    url: &str,
+    reference: &GitReference,
+    precise: Option<&str>,
+) -> Put
+    requires { (T.state out.old).failures < 2 ^ 64 - 1 }
+    ensures { IsWritten (T.state out.old) (T.state out.new) (codes "git+" ++ (url.now ++ (query_text false (reference_of reference.now) ++ fragment_text (option_copied precise.entry)))) result }
+{
+    put_both(out, b"git+", url.as_bytes())?;
+    put_place(out, reference, precise)
+}
+
+// The plain text of a source.
+#[tactic(auto, unfolding(cargo_lock_parts::specs::SourceText::text_of))]
+fn put_source<T: Target>(out: &mut T, source: &SourceId) -> Put
+    requires { (T.state out.old).failures < 2 ^ 64 - 1 }
+    ensures { IsWritten (T.state out.old) (T.state out.new) (text_of false source.now) result }
+{
+    let url = source.url().as_str();
+    match source.kind() {
+        SourceKind::Git(reference) => put_git(out, url, reference, source.precise()),
+        SourceKind::Path => put_both(out, b"path+", url.as_bytes()),
+        SourceKind::Registry => put_both(out, b"registry+", url.as_bytes()),
+        SourceKind::SparseRegistry => put_both(out, b"sparse+", url.as_bytes()),
+        SourceKind::LocalRegistry => put_both(out, b"local-registry+", url.as_bytes()),
+        SourceKind::Directory => put_both(out, b"directory+", url.as_bytes()),
+    }
+}
+
+fn put_exact_text<T: Target>(out: &mut T, one: &Package) -> Put
+    requires { (T.state out.old).failures < 2 ^ 64 - 1 }
+    ensures { IsWritten (T.state out.old) (T.state out.new) (exact_text one.now.checksum one.now.source) result }
+{
+    match (&one.checksum, &one.source) {
+        (Some(checksum), _) => put_checksum(out, checksum),
+        (None, Some(source)) => put_source(out, source),
+        (None, None) => put_all(out, b"inexact"),
+    }
+}
+
+// ---- the label
+
+// A space, and what tells the package exactly.
+fn put_exactly<T: Target>(out: &mut T, one: &Package) -> Put
+    requires { (T.state out.old).failures < 2 ^ 64 - 1 }
+    ensures { IsWritten (T.state out.old) (T.state out.new) (codes " " ++ exact_text one.now.checksum one.now.source) result }
+{
+    put_all(out, b" ")?;
+    put_exact_text(out, one)
+}
+
+// A name, a space and a version.
+fn put_name<T: Target>(out: &mut T, name: &Name, version: &Version) -> Put
+    requires { (T.state out.old).failures < 2 ^ 64 - 1 }
+    ensures { IsWritten (T.state out.old) (T.state out.new) (name.now ++ (codes " " ++ parts_text (parts_of version.now))) result }
+{
+    put_both(out, name.as_str().as_bytes(), b" ")?;
+    put_version(out, version)
+}
+
+// The name and the version of a package.
+fn put_identity<T: Target>(out: &mut T, one: &Package) -> Put
+    requires { (T.state out.old).failures < 2 ^ 64 - 1 }
+    ensures { IsWritten (T.state out.old) (T.state out.new) (one.now.name ++ (codes " " ++ parts_text one.now.version)) result }
+{
+    put_name(out, &one.name, &one.version)
+}
+
+// The label of a package.
+pub(crate) fn put_label<T: Target>(out: &mut T, one: &Package, exact: bool) -> Put
+    requires { (T.state out.old).failures < 2 ^ 64 - 1 }
+    ensures { IsWritten (T.state out.old) (T.state out.new) (label_of exact one.now) result }
+{
+    put_identity(out, one)?;
+    if exact {
+        return put_exactly(out, one);
+    }
+    Ok(())
+}

@@ -1,0 +1,58 @@
+//! Laws of drawings, each the contract of a function without a body. They hold over every graph.
+
+ghost use Rattle.cargo_lock_graph.specs.DrawingLaws.{DrawingExists, DrawingIsUnique, DrawingsAreOneForm, EdgesMatch, EntriesAreCounted, FirstIsUnique, GraphHasOneDrawing, OccursWhereReachable, ReachableIsExpanded, TextByLater, TextTellsDrawing};
+
+/// What a drawing is in words, place by place, is what it is by recursion on its entries.
+pub fn drawings_are_one_form()
+    ensures { DrawingsAreOneForm }
+{}
+
+/// There is a drawing from each node.
+pub fn drawing_exists()
+    ensures { DrawingExists }
+{}
+
+/// There is no second drawing.
+pub fn drawing_is_unique()
+    ensures { DrawingIsUnique }
+{}
+
+/// From each node of a graph there is exactly one drawing in each direction, with cycles, edges from
+/// a node to itself and several edges between two nodes too.
+pub fn graph_has_one_drawing()
+    ensures { GraphHasOneDrawing }
+{}
+
+/// A drawing has one plus as many entries as edges that leave a node that occurs.
+pub fn entries_are_counted()
+    ensures { EntriesAreCounted }
+{}
+
+/// A node occurs in a drawing exactly where it is reachable from the start.
+pub fn node_occurs_where_reachable()
+    ensures { OccursWhereReachable }
+{}
+
+/// A reachable node has one expanded entry, its first: its children are the far ends of the node's
+/// edges, newest first.
+pub fn reachable_node_is_expanded()
+    ensures some { ReachableIsExpanded }
+    ensures one { FirstIsUnique }
+{}
+
+/// The edges of reachable nodes and the entries after the first match one to one: the edge at a
+/// place of a node's list goes to the child at that place of the node's expanded entry.
+pub fn edges_match_entries()
+    ensures { EdgesMatch }
+{}
+
+/// The text of a drawing is told by the later entries alone.
+pub fn text_is_told_by_later_entries()
+    ensures { TextByLater }
+{}
+
+/// The text tells the drawing. Where no label holds a newline, the text is one line an entry, the
+/// first is the first entry's label, and each later one tells its entry's depth and label.
+pub fn text_tells_the_drawing()
+    ensures { TextTellsDrawing }
+{}

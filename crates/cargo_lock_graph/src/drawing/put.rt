@@ -1,0 +1,115 @@
+//! Texts in pieces onto a sink or a writer, which takes no memory.
+
+ghost use Rattle.std.specs.Prelude.{◌-◌, ◌^◌, ◌<◌, ◌++◌, ◌∷◌, decimal, length};
+ghost use Rattle.semver.specs.Identifiers.{marked};
+ghost use Rattle.cargo_lock_graph.specs.Sinks.{IsTaken, IsWritten, Taken};
+
+use crate::drawing::sink::Sink;
+use itoa::Buffer;
+use std::io::{ErrorKind, Write};
+
+// Where the pieces of a text go: a sink or a writer that is borrowed for the time. It is seen as what
+// it took, how often it failed, and which borrow it is.
+pub(crate) trait Target {
+    ghost state: { Self → Taken };
+
+    // As `Sink::put`.
+    fn put(&mut self, bytes: &[u8]) -> Result<usize, ErrorKind>
+        requires some { 0 < length bytes.now }
+        requires countable { (state self.old).failures < 2 ^ 64 - 1 }
+        ensures { IsTaken (state self.old) (state self.new) bytes.now result };
+}
+
+// A sink that is borrowed.
+#[derive(Drop)]
+pub(crate) struct OfSink<'a, S> {
+    pub(crate) sink: &'a mut S,
+}
+
+impl<S: Sink> Target for OfSink<'_, S> {
+    ghost state = { λ out. record { bytes = S.taken out.sink.now; failures = S.failures out.sink.now; borrow = out.sink.ghost_name } };
+
+    fn put(&mut self, bytes: &[u8]) -> Result<usize, ErrorKind> {
+        self.sink.put(bytes)
+    }
+}
+
+// A writer that is borrowed, with a count of its faults. An interrupted write is a fault, and so is
+// a write of no bytes.
+#[derive(Drop)]
+pub(crate) struct OfWriter<'a, W> {
+    pub(crate) writer: &'a mut W,
+    pub(crate) faults: u64,
+}
+
+impl<W: Write> Target for OfWriter<'_, W> {
+    ghost state = { λ out. record { bytes = W.contents out.writer.now; failures = out.faults; borrow = out.writer.ghost_name } };
+
+    fn put(&mut self, bytes: &[u8]) -> Result<usize, ErrorKind> {
+        match self.writer.write(bytes) {
+            Ok(0) => {
+                self.faults += 1;
+                Err(ErrorKind::WriteZero)
+            }
+            Ok(count) => Ok(count),
+            Err(error) => {
+                self.faults += 1;
+                Err(error.kind())
+            }
+        }
+    }
+}
+
+// What putting a text answers: the kind of the first fault.
+pub(crate) type Put = std::result::Result<(), ErrorKind>;
+
+// All the bytes, until a fault.
+pub(crate) fn put_all<T: Target>(out: &mut T, bytes: &[u8]) -> Put
+    requires { (T.state out.old).failures < 2 ^ 64 - 1 }
+    ensures { IsWritten (T.state out.old) (T.state out.new) bytes.now result }
+{
+    let mut at = 0;
+    while at < bytes.len() {
+        let count = out.put(&bytes[at..])?;
+        at += count;
+    }
+    Ok(())
+}
+
+// Two texts, one after the other.
+pub(crate) fn put_both<T: Target>(out: &mut T, first: &[u8], second: &[u8]) -> Put
+    requires { (T.state out.old).failures < 2 ^ 64 - 1 }
+    ensures { IsWritten (T.state out.old) (T.state out.new) (first.now ++ second.now) result }
+{
+    put_all(out, first)?;
+    put_all(out, second)
+}
+
+// A number in decimal digits.
+pub(crate) fn put_number<T: Target>(out: &mut T, number: u64) -> Put
+    requires { (T.state out.old).failures < 2 ^ 64 - 1 }
+    ensures { IsWritten (T.state out.old) (T.state out.new) (decimal number) result }
+{
+    let mut digits = Buffer::new();
+    put_all(out, digits.format(number).as_bytes())
+}
+
+// A dot and a number.
+pub(crate) fn put_dotted<T: Target>(out: &mut T, number: u64) -> Put
+    requires { (T.state out.old).failures < 2 ^ 64 - 1 }
+    ensures { IsWritten (T.state out.old) (T.state out.new) (46 ∷ decimal number) result }
+{
+    let mut digits = Buffer::new();
+    put_both(out, b".", digits.format(number).as_bytes())
+}
+
+// A byte and a text, or nothing where the text is empty.
+pub(crate) fn put_marked<T: Target>(out: &mut T, mark: u8, text: &str) -> Put
+    requires { (T.state out.old).failures < 2 ^ 64 - 1 }
+    ensures { IsWritten (T.state out.old) (T.state out.new) (marked mark text.now) result }
+{
+    if text.is_empty() {
+        return Ok(());
+    }
+    put_both(out, &[mark], text.as_bytes())
+}

@@ -1,0 +1,230 @@
+//! The text of a drawing, put onto a target line by line.
+
+ghost use Rattle.std.specs.Prelude.{◌≡◌, ◌-◌, ◌^◌, ◌<◌, ◌≤◌, ◌++◌, ◌∷◌, [], IfOk, List, length, vec_len};
+ghost use Rattle.cargo_lock_graph.specs.declared.drawing.entry.Entry.{Entry};
+ghost use Rattle.cargo_lock_graph.specs.Drawing.{IsDrawing};
+ghost use Rattle.cargo_lock_graph.specs.DrawingByLater.{drawn_by_later, levels_text, line_by_later, prefix_by_later};
+ghost use Rattle.cargo_lock_graph.specs.DrawingText.{branch_text, drawn, level_text, standard_symbols};
+ghost use Rattle.cargo_lock_graph.specs.Edges.{far_ends};
+ghost use Rattle.cargo_lock_graph.specs.Labels.{label_at};
+ghost use Rattle.cargo_lock_graph.specs.Sinks.{IsRendered, IsRenderedInto, IsRenderedTo, IsWritten};
+ghost use Rattle.cargo_lock_graph.specs.WalkState.{IsOn, to_come};
+
+use crate::drawing::entry::Entry;
+use crate::drawing::label::put_label;
+use crate::drawing::put::{OfSink, OfWriter, Put, Target, put_all, put_both};
+use crate::drawing::sink::Sink;
+use crate::drawing::symbols::Symbols;
+use crate::drawing::walk::Walk;
+use crate::graph::{EdgeDirection, Graph, NodeIndex};
+use cargo_lock_parts::error::{Error, Result};
+use std::alloc::Global;
+use std::io::Write;
+
+// What stands for a level above an entry.
+fn put_level<T: Target>(out: &mut T, symbols: &Symbols, more: bool) -> Put
+    requires { (T.state out.old).failures < 2 ^ 64 - 1 }
+    ensures { IsWritten (T.state out.old) (T.state out.new) (level_text standard_symbols more) result }
+{
+    let first = if more { symbols.down.as_bytes() } else { b" " };
+    put_both(out, first, b"   ")
+}
+
+// The levels above an entry, from the first on.
+fn put_levels<T: Target>(
+    out: &mut T,
+    symbols: &Symbols,
+    graph: &Graph,
+    walk: &Walk,
+    levels: usize,
+) -> Put
+    requires sound { (T.state out.old).failures < 2 ^ 64 - 1 }
+    requires on { IsOn graph.now walk.now }
+    requires levels { levels ≤ vec_len walk.now.stack }
+    ensures { IsWritten (T.state out.old) (T.state out.new) (levels_text standard_symbols levels (to_come graph.now walk.now)) result }
+{
+    for level in 0..levels {
+        put_level(out, symbols, walk.goes_on(graph, level))?;
+    }
+    Ok(())
+}
+
+// What stands before a label.
+fn put_branch<T: Target>(out: &mut T, symbols: &Symbols, more: bool) -> Put
+    requires { (T.state out.old).failures < 2 ^ 64 - 1 }
+    ensures { IsWritten (T.state out.old) (T.state out.new) (branch_text standard_symbols more) result }
+{
+    let first = if more { symbols.tee } else { symbols.ell };
+    put_both(out, first.as_bytes(), symbols.right.as_bytes())?;
+    put_both(out, symbols.right.as_bytes(), b" ")
+}
+
+// The prefix of an entry of this depth, which was the last that the walk gave.
+fn put_prefix<T: Target>(
+    out: &mut T,
+    symbols: &Symbols,
+    graph: &Graph,
+    walk: &Walk,
+    depth: usize,
+) -> Put
+    requires sound { (T.state out.old).failures < 2 ^ 64 - 1 }
+    requires on { IsOn graph.now walk.now }
+    requires depth { depth ≤ vec_len walk.now.stack }
+    ensures { IsWritten (T.state out.old) (T.state out.new) (prefix_by_later standard_symbols depth (to_come graph.now walk.now)) result }
+{
+    if depth == 0 {
+        return Ok(());
+    }
+    put_levels(out, symbols, graph, walk, depth - 1)?;
+    put_branch(out, symbols, walk.goes_on(graph, depth - 1))
+}
+
+// The label of a node, and a newline.
+fn put_node<T: Target>(out: &mut T, graph: &Graph, node: NodeIndex, exact: bool) -> Put
+    requires sound { (T.state out.old).failures < 2 ^ 64 - 1 }
+    requires node { node < length graph.now.packages }
+    ensures { IsWritten (T.state out.old) (T.state out.new) (label_at exact graph.now.packages node ++ (10 ∷ [])) result }
+{
+    put_label(out, &graph[node], exact)?;
+    put_all(out, b"\n")
+}
+
+// The line of an entry, which was the last that the walk gave.
+fn put_line<T: Target>(
+    out: &mut T,
+    symbols: &Symbols,
+    graph: &Graph,
+    walk: &Walk,
+    entry: Entry,
+    exact: bool,
+) -> Put
+    requires sound { (T.state out.old).failures < 2 ^ 64 - 1 }
+    requires on { IsOn graph.now walk.now }
+    requires depth { entry.depth ≤ vec_len walk.now.stack }
+    requires node { entry.node < length graph.now.packages }
+    ensures { IsWritten (T.state out.old) (T.state out.new) (line_by_later standard_symbols (label_at exact graph.now.packages) entry (to_come graph.now walk.now)) result }
+{
+    put_prefix(out, symbols, graph, walk, entry.depth)?;
+    put_node(out, graph, NodeIndex::new(entry.node), exact)
+}
+
+// The lines of all entries that the walk still gives.
+fn put_entries<T: Target>(
+    out: &mut T,
+    symbols: &Symbols,
+    graph: &Graph,
+    walk: &mut Walk,
+    exact: bool,
+) -> Put
+    requires sound { (T.state out.old).failures < 2 ^ 64 - 1 }
+    requires on { IsOn graph.now walk.old }
+    ensures on { IsOn graph.now walk.new }
+    ensures written { IsWritten (T.state out.old) (T.state out.new) (drawn_by_later standard_symbols (label_at exact graph.now.packages) (to_come graph.now walk.old)) result }
+{
+    while let Some(entry) = walk.next(graph) {
+        put_line(out, symbols, graph, walk, entry, exact)?;
+    }
+    Ok(())
+}
+
+// The line of the start, and those of all entries that the walk from it gives.
+fn put_drawing<T: Target>(
+    out: &mut T,
+    symbols: &Symbols,
+    graph: &Graph,
+    walk: &mut Walk,
+    start: NodeIndex,
+    exact: bool,
+) -> Put
+    requires sound { (T.state out.old).failures < 2 ^ 64 - 1 }
+    requires on { IsOn graph.now walk.old }
+    requires start { start < length graph.now.packages }
+    ensures on { IsOn graph.now walk.new }
+    ensures written { IsWritten (T.state out.old) (T.state out.new) (drawn_by_later standard_symbols (label_at exact graph.now.packages) (record { node = start; depth = 0 } ∷ to_come graph.now walk.old)) result }
+{
+    let first = Entry {
+        node: start.index(),
+        depth: 0,
+    };
+    put_line(out, symbols, graph, walk, first, exact)?;
+    put_entries(out, symbols, graph, walk, exact)
+}
+
+// Draws what is reachable from a start, and answers the greatest number of frames that the walk's
+// stack held. All memory is asked for before the first byte.
+fn draw<T: Target>(
+    alloc: Global,
+    out: &mut T,
+    graph: &Graph,
+    start: NodeIndex,
+    direction: EdgeDirection,
+    symbols: &Symbols,
+    exact: bool,
+) -> Result<usize>
+    requires sound { (T.state out.old).failures < 2 ^ 64 - 1 }
+    requires start { start < length graph.now.packages }
+    ensures drawn { (entries : List Entry) × IsDrawing (far_ends direction graph.now.edges) start entries × IsRendered (T.state out.old) (T.state out.new) (drawn standard_symbols (label_at exact graph.now.packages) entries) result }
+    ensures frames { IfOk result (λ most. most ≤ length graph.now.packages) }
+{
+    graph.has_both_ends();
+    let mut walk = Walk::new(alloc, graph, start, direction)?;
+    match put_drawing(out, symbols, graph, &mut walk, start, exact) {
+        Ok(()) => Ok(walk.most_frames(graph)),
+        Err(kind) => Err(Error::Io(kind)),
+    }
+}
+
+/// Draws what is reachable from a node into a sink, along the edges in a direction. Each line is an
+/// entry: the node itself, and below each entry of a node that no earlier line has, the far ends of
+/// the node's edges, newest first. A label is the name and the version, and where it is exact also
+/// the checksum, or else the source, or else `inexact`.
+///
+/// All memory is asked for before the first byte, so `Memory` means that nothing was taken. `Io`
+/// means that the sink failed once, and that a beginning of the text was taken. No other fault
+/// comes. The start is a node, and the sink's count of faults is below 2^64 - 1.
+pub fn render_into<S: Sink>(
+    alloc: Global,
+    sink: &mut S,
+    graph: &Graph,
+    start: NodeIndex,
+    direction: EdgeDirection,
+    symbols: &Symbols,
+    exact: bool,
+) -> Result<()>
+    requires sound { S.failures sink.old < 2 ^ 64 - 1 }
+    requires start { start < length graph.now.packages }
+    ensures { (entries : List Entry) × IsDrawing (far_ends direction graph.now.edges) start entries × IsRenderedInto (S.taken sink.old) (S.taken sink.new) (S.failures sink.old) (S.failures sink.new) (drawn standard_symbols (label_at exact graph.now.packages) entries) result }
+{
+    let mut out = OfSink { sink };
+    let drawn = draw(alloc, &mut out, graph, start, direction, symbols, exact);
+    let OfSink { sink } = out;
+    let _ = &*sink;
+    match drawn {
+        Ok(_) => Ok(()),
+        Err(fault) => Err(fault),
+    }
+}
+
+/// Draws what is reachable from a node onto a writer, as `render_into` does. A write that is
+/// interrupted and a write of no bytes are faults.
+pub fn render_onto<W: Write>(
+    alloc: Global,
+    writer: &mut W,
+    graph: &Graph,
+    start: NodeIndex,
+    direction: EdgeDirection,
+    symbols: &Symbols,
+    exact: bool,
+) -> Result<()>
+    requires { start < length graph.now.packages }
+    ensures { (entries : List Entry) × IsDrawing (far_ends direction graph.now.edges) start entries × IsRenderedTo (W.contents writer.old) (W.contents writer.new) (drawn standard_symbols (label_at exact graph.now.packages) entries) result }
+{
+    let mut out = OfWriter { writer, faults: 0 };
+    let drawn = draw(alloc, &mut out, graph, start, direction, symbols, exact);
+    let OfWriter { writer, .. } = out;
+    let _ = &*writer;
+    match drawn {
+        Ok(_) => Ok(()),
+        Err(fault) => Err(fault),
+    }
+}

@@ -1,0 +1,136 @@
+//! The walk over a graph from a start, entry by entry, by a stack of frames.
+
+ghost use Rattle.std.specs.Prelude.{◌≡◌, ℕ, ◌<◌, ◌≤◌, List, [], ◌∷◌, ◌++◌, Some, length, vec_len, vec_capacity, MatchOption, IfOk, IfSome};
+ghost use Rattle.cargo_lock_graph.specs.DrawingByLater.{goes_on};
+ghost use Rattle.cargo_lock_graph.specs.DrawingMade.{drawing, rest_of};
+ghost use Rattle.cargo_lock_graph.specs.Edges.{far_ends};
+ghost use Rattle.cargo_lock_graph.specs.WalkState.{IsHeld, IsOn, coming, to_come, waiting};
+
+use crate::drawing::entry::Entry;
+use crate::graph::{EdgeDirection, Graph, NodeIndex};
+use std::alloc::{AllocError, Global};
+
+// A walk from a start. For each level above the next entry the stack has a frame: the place of the
+// next edge that leads to an entry of the level below, or none where no edge is left. The nodes that
+// were drawn are marked.
+#[derive(Drop)]
+pub(crate) struct Walk {
+    direction: EdgeDirection,
+    visited: Vec<bool>,
+    stack: Vec<Option<usize>>,
+    most: usize,
+}
+
+// A frame onto a stack with room for it, which takes no memory.
+fn put_frame(stack: &mut Vec<Option<usize>>, frame: Option<usize>)
+    requires { vec_len stack.old < vec_capacity stack.old }
+    ensures items { stack.new.items ≡ stack.old.items ++ frame ∷ [] }
+    ensures capacity { vec_capacity stack.old ≤ vec_capacity stack.new }
+{
+    let _ = stack.push(frame);
+}
+
+impl Walk {
+    // A walk before its first entry, which is of the start at depth 0. All its memory is asked for
+    // here: room for as many frames as there are nodes.
+    pub(crate) fn new(
+        alloc: Global,
+        graph: &Graph,
+        start: NodeIndex,
+        direction: EdgeDirection,
+    ) -> Result<Self, AllocError>
+        requires { start < length graph.now.packages }
+        ensures on { IfOk result (λ walk. IsOn graph.now walk) }
+        ensures direction { IfOk result (λ walk. walk.direction ≡ direction) }
+        ensures all { IfOk result (λ walk. record { node = start; depth = 0 } ∷ to_come graph.now walk ≡ drawing (far_ends direction graph.now.edges) (length graph.now.packages) start) }
+    {
+        let count = graph.node_count();
+        let visited = vec![in alloc; false; count]?;
+        let stack = Vec::with_capacity(alloc, count)?;
+        let mut walk = Walk {
+            direction,
+            visited,
+            stack,
+            most: 0,
+        };
+        walk.enter(graph, start);
+        Ok(walk)
+    }
+
+    // Where the node was not drawn before, marks it and puts a frame for its edges.
+    fn enter(&mut self, graph: &Graph, node: NodeIndex)
+        requires held { IsOn graph.now self.old }
+        requires node { node < length graph.now.packages }
+        ensures on { IsOn graph.now self.new }
+        ensures direction { self.new.direction ≡ self.old.direction }
+        ensures longer { vec_len self.old.stack ≤ vec_len self.new.stack }
+        ensures most { self.old.most ≤ self.new.most }
+        ensures entry { (depth : ℕ) → depth ≡ vec_len self.old.stack
+            → rest_of (far_ends self.old.direction graph.now.edges) self.old.visited.items (record { node = node; depth = depth } ∷ waiting self.old.direction graph.now.edges 0 self.old.stack.items)
+            ≡ record { node = node; depth = depth } ∷ to_come graph.now self.new }
+    {
+        if !self.visited[node.index()] {
+            self.visited[node.index()] = true;
+            let newest = graph.newest(node, self.direction);
+            put_frame(&mut self.stack, newest);
+            self.most = self.most.max(self.stack.len());
+        }
+    }
+
+    // Draws the edge at a place, that of a frame which was taken off the stack.
+    fn follow(&mut self, graph: &Graph, edge: usize) -> Entry
+        requires { IsHeld (length graph.now.packages) (length graph.now.edges) self.old.visited.items (self.old.stack.items ++ Some edge ∷ []) (vec_capacity self.old.stack) self.old.most }
+        ensures on { IsOn graph.now self.new }
+        ensures direction { self.new.direction ≡ self.old.direction }
+        ensures most { self.old.most ≤ self.new.most }
+        ensures fits { (0 < result.depth) × (result.depth ≤ vec_len self.new.stack) × (result.node < length graph.now.packages) }
+        ensures entry { coming self.old.direction graph.now.edges self.old.visited.items (self.old.stack.items ++ Some edge ∷ []) ≡ result ∷ to_come graph.now self.new }
+    {
+        let node = graph.far_end(edge, self.direction);
+        let older = graph.older(edge, self.direction);
+        put_frame(&mut self.stack, older);
+        let depth = self.stack.len();
+        self.enter(graph, node);
+        Entry {
+            node: node.index(),
+            depth,
+        }
+    }
+
+    // The next entry. It takes no memory.
+    pub(crate) fn next(&mut self, graph: &Graph) -> Option<Entry>
+        requires { IsOn graph.now self.old }
+        ensures on { IsOn graph.now self.new }
+        ensures direction { self.new.direction ≡ self.old.direction }
+        ensures most { self.old.most ≤ self.new.most }
+        ensures fits { IfSome result (λ e. (0 < e.depth) × (e.depth ≤ vec_len self.new.stack) × (e.node < length graph.now.packages)) }
+        ensures entry { MatchOption result (to_come graph.now self.old ≡ []) (λ e. to_come graph.now self.old ≡ e ∷ to_come graph.now self.new) }
+    {
+        while let Some(frame) = self.stack.pop() {
+            if let Some(edge) = frame {
+                return Some(self.follow(graph, edge));
+            }
+        }
+        None
+    }
+
+    // Whether an entry one deeper than this depth follows, before one that is no deeper.
+    pub(crate) fn goes_on(&self, graph: &Graph, depth: usize) -> bool
+        requires on { IsOn graph.now self.now }
+        requires depth { depth < vec_len self.now.stack }
+        ensures { result ≡ goes_on depth (to_come graph.now self.now) }
+    {
+        let _ = graph;
+        self.stack[depth].is_some()
+    }
+
+    // The greatest number of frames that the stack has held.
+    pub(crate) fn most_frames(&self, graph: &Graph) -> usize
+        requires { IsOn graph.now self.now }
+        ensures held { vec_len self.now.stack ≤ result }
+        ensures bound { result ≤ length graph.now.packages }
+    {
+        let _ = graph;
+        self.most
+    }
+}

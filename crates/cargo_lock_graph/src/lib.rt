@@ -1,0 +1,10 @@
+//! Graphs of packages and their drawings.
+//!
+//! The crate `cargo_lock` gives what its users need of this under its own paths. Use that one.
+#![tactic(auto)]
+
+pub mod building;
+pub mod drawing;
+pub mod graph;
+pub mod laws;
+mod targets;
