@@ -5,12 +5,17 @@ use crate::texts::TWO_LOGS;
 use cargo_lock::{Dependency, Error, Lockfile, ResolveVersion, SourceId};
 use std::alloc::Global;
 
+// Whether a lockfile survives a format. It says nothing of the answer, so that it is cheap to call.
+fn is_kept(alloc: Global, lockfile: &Lockfile, format: ResolveVersion) -> Result<bool, Error> {
+    lockfile.survives(alloc, format)
+}
+
 // Whether a lockfile survives V1, V2, V3 and V4.
 fn formats_kept(alloc: Global, lockfile: &Lockfile) -> Result<String, Error> {
-    let first = lockfile.survives(alloc, ResolveVersion::V1)?;
-    let second = lockfile.survives(alloc, ResolveVersion::V2)?;
-    let third = lockfile.survives(alloc, ResolveVersion::V3)?;
-    let fourth = lockfile.survives(alloc, ResolveVersion::V4)?;
+    let first = is_kept(alloc, lockfile, ResolveVersion::V1)?;
+    let second = is_kept(alloc, lockfile, ResolveVersion::V2)?;
+    let third = is_kept(alloc, lockfile, ResolveVersion::V3)?;
+    let fourth = is_kept(alloc, lockfile, ResolveVersion::V4)?;
     Ok(format!(in alloc; "{first} {second} {third} {fourth}")?)
 }
 
