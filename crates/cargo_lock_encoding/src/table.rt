@@ -1,10 +1,9 @@
 //! From entries to the values of a table.
 
-ghost use Rattle.std.specs.Prelude.{◌≡◌, ◌∷◌, [], Some, IfOk, IsOkUnless, OnOk, codes, map, option_map};
+ghost use Rattle.std.specs.Prelude.{◌≡◌, ◌∷◌, [], Some, IfOk, OnOk, codes, map, option_map};
 ghost use Rattle.semver.specs.Identifiers.{parts_of, parts_text};
 ghost use Rattle.toml.specs.Data.{integer, string};
 ghost use Rattle.toml.specs.View.{table_view, view};
-ghost use Rattle.cargo_lock_parts.specs.declared.error.Error.TheVariants.{Memory};
 ghost use Rattle.cargo_lock_parts.specs.Checksum.{digest_of};
 ghost use Rattle.cargo_lock_encoding.specs.Chosen.{written_source};
 ghost use Rattle.cargo_lock_encoding.specs.Records.{texts_of};

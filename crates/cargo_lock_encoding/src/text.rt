@@ -3,13 +3,12 @@
 //! The empty line between two blocks is written with the second one, so the text does not end in
 //! an empty line that would have to be taken back.
 
-ghost use Rattle.std.specs.Prelude.{◌≡◌, ◌++◌, ◌∷◌, [], ◌<◌, IfOk, IsOkUnless, OnOk, codes, false, map, option_map, string_bytes};
+ghost use Rattle.std.specs.Prelude.{◌≡◌, ◌++◌, ◌∷◌, [], ◌<◌, OnOk, codes, false, map, option_map, string_bytes};
 ghost use Rattle.std.specs.FinMap.{entries};
 ghost use Rattle.std.specs.List.{flat_map, list_all};
 ghost use Rattle.std.specs.Option.{option_to_list};
 ghost use Rattle.semver.specs.Identifiers.{parts_of, parts_text};
 ghost use Rattle.cargo_lock_parts.specs.Checksum.{digest_of};
-ghost use Rattle.cargo_lock_parts.specs.declared.error.Error.TheVariants.{Memory};
 ghost use Rattle.cargo_lock_encoding.specs.Chosen.{written_source};
 ghost use Rattle.cargo_lock_encoding.specs.Records.{texts_of};
 ghost use Rattle.cargo_lock_encoding.specs.Text.{checksum_line, comment_lines, dependency_line, entry_lines, escape_char, escaped, field, hex_digit, is_bare_byte, is_bare_key, joined, key_text, metadata_lines, pair_line, patch_lines, quoted, reference_lines, replace_line, short_escape, source_line, version_lines};

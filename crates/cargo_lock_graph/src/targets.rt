@@ -1,16 +1,16 @@
 //! Which package a dependency stands for.
 
-ghost use Rattle.std.specs.Prelude.{◌≡◌, ◌<◌, ℕ, List, cond, IfOk, IfSome, MatchOption, OnOk, Some, None, length, map, option_map, unwrap_or, slice_get};
+ghost use Rattle.std.specs.Prelude.{◌≡◌, ◌<◌, ℕ, List, cond, IfOk, MatchOption, OnOk, Some, None, length, map, option_map};
 ghost use Rattle.std.specs.BTreeMap.{get, is_at};
 ghost use Rattle.cargo_lock_parts.specs.SourceKey.{text_cmp};
 ghost use Rattle.cargo_lock_graph.specs.Candidates.{AreCandidates};
 ghost use Rattle.cargo_lock_graph.specs.Candidates as spec;
-ghost use Rattle.cargo_lock_graph.specs.Targets.{Fits, HoldsOf, IsLastBelow, IsLost, IsTarget};
+ghost use Rattle.cargo_lock_graph.specs.Targets.{Fits, IsLost, IsTarget};
 ghost use Rattle.cargo_lock_graph.specs.Targets as targets;
 
 use cargo_lock_parts::dependency::Dependency;
 use cargo_lock_parts::package::{Name, Package, SourceId};
-use std::alloc::{AllocError, AllocFailed, Global};
+use std::alloc::{AllocError, Global};
 use std::collections::BTreeMap;
 
 // The places of the packages of each name: the last one, and from each place the one before it.

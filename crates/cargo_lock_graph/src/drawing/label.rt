@@ -1,7 +1,7 @@
 //! Labels of entries: a package's name and version, and what tells it exactly. They are put in
 //! pieces, which takes no memory.
 
-ghost use Rattle.std.specs.Prelude.{◌-◌, ◌^◌, ◌<◌, ◌≡◌, ◌++◌, ◌∷◌, codes, option_copied, option_map, false};
+ghost use Rattle.std.specs.Prelude.{◌-◌, ◌^◌, ◌<◌, ◌≡◌, ◌++◌, ◌∷◌, codes, option_copied, false};
 ghost use Rattle.semver.specs.Identifiers.{marked, parts_of, parts_text};
 ghost use Rattle.std.specs.Prelude.{decimal};
 ghost use Rattle.cargo_lock_parts.specs.Checksum.{digest_of, digest_text};

@@ -1,6 +1,6 @@
 //! The text of a drawing, put onto a target line by line.
 
-ghost use Rattle.std.specs.Prelude.{◌≡◌, ◌-◌, ◌^◌, ◌<◌, ◌≤◌, ◌++◌, ◌∷◌, [], IfOk, List, length, vec_len};
+ghost use Rattle.std.specs.Prelude.{◌-◌, ◌^◌, ◌<◌, ◌≤◌, ◌++◌, ◌∷◌, [], IfOk, List, length, vec_len};
 ghost use Rattle.cargo_lock_graph.specs.declared.drawing.entry.Entry.{Entry};
 ghost use Rattle.cargo_lock_graph.specs.Drawing.{IsDrawing};
 ghost use Rattle.cargo_lock_graph.specs.DrawingByLater.{drawn_by_later, levels_text, line_by_later, prefix_by_later};

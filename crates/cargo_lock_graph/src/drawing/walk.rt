@@ -1,6 +1,6 @@
 //! The walk over a graph from a start, entry by entry, by a stack of frames.
 
-ghost use Rattle.std.specs.Prelude.{◌≡◌, ℕ, ◌<◌, ◌≤◌, List, [], ◌∷◌, ◌++◌, Some, length, vec_len, vec_capacity, MatchOption, IfOk, IfSome};
+ghost use Rattle.std.specs.Prelude.{◌≡◌, ℕ, ◌<◌, ◌≤◌, [], ◌∷◌, ◌++◌, Some, length, vec_len, vec_capacity, MatchOption, IfOk, IfSome};
 ghost use Rattle.cargo_lock_graph.specs.DrawingByLater.{goes_on};
 ghost use Rattle.cargo_lock_graph.specs.DrawingMade.{drawing, rest_of};
 ghost use Rattle.cargo_lock_graph.specs.Edges.{far_ends};
