@@ -18,8 +18,8 @@ use cargo_lock_parts::package::Package;
 use std::alloc::Global;
 use std::collections::BTreeMap;
 
-/// The nodes of these packages by their identities. Of packages with one identity it is the last.
-pub fn nodes_of(alloc: Global, packages: &Vec<Package>) -> Result<Nodes>
+// The nodes of these packages by their identities. Of packages with one identity it is the last.
+fn nodes_of(alloc: Global, packages: &Vec<Package>) -> Result<Nodes>
     ensures ok { IfOk result (λ nodes. (i : Identity) → IsLastWith packages.now.items i (get identity_cmp nodes i)) }
     ensures err { IsOkUnless result Memory }
 {
@@ -41,13 +41,25 @@ fn put_node(nodes: &mut Nodes, one: &Package, node: NodeIndex) -> Result<()>
     Ok(())
 }
 
-/// The graph of these packages, whose nodes by their identities are at hand. Node k is that of
-/// package k, and each dependency of each package is an edge, in order. It leads to the package with
-/// its name and version whose source matches best, and to the last of those that match equally well.
-/// Of packages with one identity the last has the edges of all.
+/// The graph of these packages, and its nodes by their identities. Node k is that of package k, and
+/// each dependency of each package is an edge, in order. It leads to the package with its name and
+/// version whose source matches best, and to the last of those that match equally well. Of packages
+/// with one identity the last has the edges of all.
 ///
 /// `Resolution` names the first dependency that no package fits.
-pub fn graph_of(alloc: Global, packages: &Vec<Package>, nodes: &Nodes) -> Result<Graph>
+pub fn graph_of(alloc: Global, packages: &Vec<Package>) -> Result<(Graph, Nodes)>
+    ensures packages { IfOk result (λ made. made.0.packages ≡ packages.now.items) }
+    ensures edges { IfOk result (λ made. AreEdgesOf packages.now.items made.0.edges) }
+    ensures nodes { IfOk result (λ made. (i : Identity) → IsLastWith packages.now.items i (get identity_cmp made.1 i)) }
+    ensures err { IfErr result (λ e. IsUnresolved packages.now.items (links packages.now.items) e) }
+{
+    let nodes = nodes_of(alloc, packages)?;
+    let graph = graph_with(alloc, packages, &nodes)?;
+    Ok((graph, nodes))
+}
+
+// The graph of these packages, whose nodes by their identities are at hand.
+fn graph_with(alloc: Global, packages: &Vec<Package>, nodes: &Nodes) -> Result<Graph>
     requires { (i : Identity) → IsLastWith packages.now.items i (get identity_cmp nodes.now i) }
     ensures packages { IfOk result (λ graph. graph.packages ≡ packages.now.items) }
     ensures edges { IfOk result (λ graph. AreEdgesOf packages.now.items graph.edges) }

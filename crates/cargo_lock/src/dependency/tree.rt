@@ -16,7 +16,7 @@ ghost use Rattle.cargo_lock_graph.specs.Targets.{AreEdgesOf, IsLastWith, IsUnres
 
 use crate::error::Result;
 use crate::lockfile::Lockfile;
-use cargo_lock_graph::building::{graph_of, nodes_of};
+use cargo_lock_graph::building::graph_of;
 use cargo_lock_graph::drawing::{render_into, render_onto};
 pub use cargo_lock_graph::drawing::{Sink, Symbols, WriterSink, laws};
 use cargo_lock_graph::graph::{EdgeDirection, Graph, NodeIndex, Nodes};
@@ -62,8 +62,7 @@ impl Tree {
         ensures nodes { IfOk result (λ tree. (i : Identity) → IsLastWith lockfile.now.packages i (get identity_cmp tree.nodes i)) }
         ensures err { IfErr result (λ e. IsUnresolved lockfile.now.packages (links lockfile.now.packages) e) }
     {
-        let nodes = nodes_of(alloc, &lockfile.packages)?;
-        let graph = graph_of(alloc, &lockfile.packages, &nodes)?;
+        let (graph, nodes) = graph_of(alloc, &lockfile.packages)?;
         Ok(Tree { graph, nodes })
     }
 

@@ -2,7 +2,7 @@ use Rattle.std.proofs.Common.{List, sym, subst, length}
 use Rattle.cargo_lock_parts.specs.Identity.{PackageData}
 use Rattle.cargo_lock_graph.specs.Chains.{AreBetween}
 use Rattle.cargo_lock_graph.proofs.TreeEdges.{edges-between}
-use Rattle.cargo_lock_graph.proofs.building.graph_of.Goals as goal
+use Rattle.cargo_lock_graph.proofs.building.graph_with.Goals as goal
 
 pub new-requires : goal.new-requires
 new-requires c =
