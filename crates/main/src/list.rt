@@ -2,7 +2,7 @@
 use crate::fault::Fault;
 use crate::output::put;
 use crate::words;
-use cargo_lock::{Dependency, Lockfile, Name, Package, SourceId, Version};
+use cargo_lock::{Dependency, Name, Package, SourceId, Version};
 use clap::ArgMatches;
 use std::io::Write;
 use std::rt::Files;
@@ -14,6 +14,16 @@ struct Detail {
     sources: bool,
 }
 
+impl Detail {
+    /// The detail that the words ask for.
+    fn of(options: &ArgMatches<'_>) -> Detail {
+        Detail {
+            dependencies: options.get_flag("dependencies"),
+            sources: options.get_flag("sources"),
+        }
+    }
+}
+
 /// Prints each package of the lockfile in list order, or each that has the name that is asked for.
 /// Fails where the lockfile is not read or `out` fails; a beginning of the text was then written.
 pub fn run<R: Files + AllocGlobal, W: Write>(
@@ -21,12 +31,9 @@ pub fn run<R: Files + AllocGlobal, W: Write>(
     options: &ArgMatches<'_>,
     out: &mut W,
 ) -> Result<(), Fault> {
-    let lockfile = Lockfile::load(rt, rt.alloc(), words::lockfile_path(options))?;
+    let lockfile = words::lockfile(rt, options)?;
     let wanted = options.get_str("package");
-    let detail = Detail {
-        dependencies: options.get_flag("dependencies"),
-        sources: options.get_flag("sources"),
-    };
+    let detail = Detail::of(options);
     for package in lockfile.packages.as_slice() {
         if is_wanted(package, wanted) {
             print_package(out, package, detail)?;

@@ -22,7 +22,7 @@ pub fn run<R: Files + AllocGlobal, W: Write>(
     out: &mut W,
 ) -> Result<(), Fault> {
     let format = ResolveVersion::from_str(rt.alloc(), words::format(options))?;
-    let lockfile = Lockfile::load(rt, rt.alloc(), words::lockfile_path(options))?;
+    let lockfile = words::lockfile(rt, options)?;
     if options.get_flag("check") {
         check(rt.alloc(), &lockfile, format)?;
     }

@@ -17,6 +17,16 @@ struct Style {
     exact: bool,
 }
 
+impl Style {
+    /// The style that the words ask for.
+    fn of(options: &ArgMatches<'_>) -> Style {
+        Style {
+            direction: direction(options.get_flag("invert")),
+            exact: options.get_flag("exact"),
+        }
+    }
+}
+
 /// Prints the trees of the packages that the specifications name, or without any those of all
 /// roots, with an empty line between two trees. Fails where the lockfile is not read or has no tree,
 /// where a specification fits no package, or where `out` fails; a beginning of the text was then
@@ -26,15 +36,16 @@ pub fn run<R: Files + AllocGlobal, W: Write>(
     options: &ArgMatches<'_>,
     out: &mut W,
 ) -> Result<(), Fault> {
-    let alloc = rt.alloc();
-    let lockfile = Lockfile::load(rt, alloc, words::lockfile_path(options))?;
-    let tree = lockfile.dependency_tree(alloc)?;
-    let starts = starts(alloc, &lockfile, &tree, options)?;
-    let style = Style {
-        direction: direction(options.get_flag("invert")),
-        exact: options.get_flag("exact"),
-    };
-    print_trees(alloc, out, &tree, starts.as_slice(), style)
+    let lockfile = words::lockfile(rt, options)?;
+    let tree = tree_of(rt.alloc(), &lockfile)?;
+    let starts = starts(rt.alloc(), &lockfile, &tree, options)?;
+    let style = Style::of(options);
+    print_trees(rt.alloc(), out, &tree, starts.as_slice(), style)
+}
+
+/// The tree of the lockfile. Fails where a dependency has no package.
+fn tree_of(alloc: Global, lockfile: &Lockfile) -> Result<Tree, Error> {
+    lockfile.dependency_tree(alloc)
 }
 
 fn direction(inverted: bool) -> EdgeDirection {

@@ -1,8 +1,10 @@
 //! The words that the program is called with.
+use cargo_lock::{Error, Lockfile};
 use clap::{Arg, ArgAction, ArgMatches, Command};
 use std::alloc::{AllocError, Global};
 use std::convert::AsStr;
 use std::path::Path;
+use std::rt::Files;
 
 /// The lockfile that is read where the words name none.
 const DEFAULT_PATH: &str = "Cargo.lock";
@@ -32,9 +34,13 @@ pub fn with_command<'a, S: AsStr>(
     Ok(all)
 }
 
-/// The path of the lockfile that a command reads.
-pub fn lockfile_path<'a>(options: &ArgMatches<'a>) -> Path<'a> {
-    Path::new(options.get_str("file").unwrap_or(DEFAULT_PATH))
+/// The lockfile that a command reads. Fails where it is not read.
+pub fn lockfile<R: Files + AllocGlobal>(
+    rt: &R,
+    options: &ArgMatches<'_>,
+) -> Result<Lockfile, Error> {
+    let path = Path::new(options.get_str("file").unwrap_or(DEFAULT_PATH));
+    Lockfile::load(rt, rt.alloc(), path)
 }
 
 /// The text of the format that a command writes.

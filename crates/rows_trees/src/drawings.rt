@@ -1,9 +1,10 @@
 //! Drawings of trees: which lines they have, and what the lines hold.
 
+use crate::graphs::tree_of;
+use cargo_lock::Error;
 use cargo_lock::dependency::Tree;
 use cargo_lock::dependency::graph::{EdgeDirection, NodeIndex};
 use cargo_lock::dependency::tree::Symbols;
-use cargo_lock::{Error, Lockfile};
 use questions::shown::{PairQuestion, first_wrong_pair};
 use questions::texts::{REGISTRY_AND_GIT, TWO_GIT_CHILDREN};
 use std::alloc::Global;
@@ -14,8 +15,7 @@ struct Drawing;
 
 impl PairQuestion for Drawing {
     fn ask(alloc: Global, one: &str, other: &str) -> Result<String, Error> {
-        let lockfile = Lockfile::from_str(alloc, one)?;
-        let tree = Tree::new(alloc, &lockfile)?;
+        let tree = tree_of(alloc, one)?;
         drawn(alloc, &tree, other)
     }
 }
@@ -254,8 +254,7 @@ struct WithSymbols;
 
 impl PairQuestion for WithSymbols {
     fn ask(alloc: Global, one: &str, other: &str) -> Result<String, Error> {
-        let lockfile = Lockfile::from_str(alloc, one)?;
-        let tree = Tree::new(alloc, &lockfile)?;
+        let tree = tree_of(alloc, one)?;
         drawn_with_symbols(alloc, &tree, other)
     }
 }

@@ -7,7 +7,8 @@ use questions::shown::{Question, first_wrong, or_fault};
 use questions::texts::{REGISTRY_AND_GIT, TWO_GIT_CHILDREN};
 use std::alloc::Global;
 
-fn tree_of(alloc: Global, text: &str) -> Result<Tree, Error> {
+// The tree of the lockfile that a text means.
+pub(crate) fn tree_of(alloc: Global, text: &str) -> Result<Tree, Error> {
     let lockfile = Lockfile::from_str(alloc, text)?;
     lockfile.dependency_tree(alloc)
 }

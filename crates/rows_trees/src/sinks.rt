@@ -2,10 +2,11 @@
 
 ghost use Rattle.std.specs.Prelude.{◌≡◌, ◌<◌, Some};
 
+use crate::graphs::tree_of;
+use cargo_lock::Error;
 use cargo_lock::dependency::Tree;
 use cargo_lock::dependency::graph::{EdgeDirection, NodeIndex};
 use cargo_lock::dependency::tree::{Sink, Symbols, WriterSink};
-use cargo_lock::{Error, Lockfile};
 use questions::shown::or_fault;
 use questions::texts::REGISTRY_AND_GIT;
 use std::alloc::Global;
@@ -52,8 +53,7 @@ impl Sink for Failing {
 // The drawing into a sink that takes this many bytes a call, one at least, and fails after so many
 // calls: the answer, the count of faults and the bytes that were taken.
 fn into_failing(alloc: Global, step: usize, calls: usize) -> Result<String, Error> {
-    let lockfile = Lockfile::from_str(alloc, REGISTRY_AND_GIT)?;
-    let tree = Tree::new(alloc, &lockfile)?;
+    let tree = tree_of(alloc, REGISTRY_AND_GIT)?;
     let mut sink = Failing {
         taken: Vec::new(alloc),
         step: step.max(1),
@@ -132,8 +132,7 @@ fn first_not_cut_off(alloc: Global, tree: &Tree) -> Option<usize> {
 }
 
 fn each_cut_off(alloc: Global) -> Result<String, Error> {
-    let lockfile = Lockfile::from_str(alloc, REGISTRY_AND_GIT)?;
-    let tree = Tree::new(alloc, &lockfile)?;
+    let tree = tree_of(alloc, REGISTRY_AND_GIT)?;
     match first_not_cut_off(alloc, &tree) {
         Some(calls) => Ok(format!(in alloc; "not after {calls} calls")?),
         None => Ok(String::from_str(alloc, "each")?),
@@ -167,8 +166,7 @@ impl Write for Broken {
 
 // The kind of the fault of a drawing onto such a writer.
 fn onto_broken(alloc: Global, answer: Option<ErrorKind>) -> Result<Option<ErrorKind>, Error> {
-    let lockfile = Lockfile::from_str(alloc, REGISTRY_AND_GIT)?;
-    let tree = Tree::new(alloc, &lockfile)?;
+    let tree = tree_of(alloc, REGISTRY_AND_GIT)?;
     let mut out = Broken { answer };
     match render(alloc, &tree, &mut out) {
         Ok(()) => Ok(None),
@@ -206,8 +204,7 @@ fn writer_that_takes_no_bytes(rt: HostRuntime) {
 
 // The drawing into a sink that is made of a writer, and the sink's count of faults.
 fn into_writer(alloc: Global) -> Result<String, Error> {
-    let lockfile = Lockfile::from_str(alloc, REGISTRY_AND_GIT)?;
-    let tree = Tree::new(alloc, &lockfile)?;
+    let tree = tree_of(alloc, REGISTRY_AND_GIT)?;
     let mut out: Vec<u8> = Vec::new(alloc);
     let faults = draw_onto(alloc, &tree, &mut out)?;
     told(alloc, Ok(()), faults, out.as_slice())

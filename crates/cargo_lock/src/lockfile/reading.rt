@@ -1,6 +1,7 @@
 //! Reading a lockfile.
 
-ghost use Rattle.std.specs.Prelude.{◌≡◌, ◌⊎◌};
+ghost use Rattle.std.specs.Prelude.{◌≡◌, ◌≢◌, IfErr, IfOk};
+ghost use Rattle.std.specs.declared.io.ErrorKind.TheVariants.{OutOfMemory};
 ghost use Rattle.toml.specs.Errors.{IsMemory};
 ghost use Rattle.toml.specs.View.{table_view};
 ghost use Rattle.cargo_lock_parts.specs.declared.error.Error.TheVariants.{Io, Memory};
@@ -8,6 +9,7 @@ ghost use Rattle.cargo_lock_parts.specs.Error.{ReadsUrls, Refuses};
 ghost use Rattle.cargo_lock_encoding.specs.Finds.{FindsUrls};
 ghost use Rattle.cargo_lock_encoding.specs.Means.{Means, TextMeans};
 ghost use Rattle.cargo_lock_encoding.specs.Meaning.{meaning};
+ghost use Rattle.cargo_lock.specs.Loads.{IsMeant, IsOfFile};
 
 use crate::error::{Error, Result};
 use crate::lockfile::Lockfile;
@@ -23,7 +25,10 @@ use toml::de::Error as TomlError;
 impl Lockfile {
     /// Reads a file, whose text is read as `from_str` reads it. A file that is missing, is no file
     /// or is not UTF-8 is refused with `Io`.
-    pub fn load<R: Files>(files: &R, alloc: Global, path: Path<'_>) -> Result<Lockfile> {
+    pub fn load<R: Files>(files: &R, alloc: Global, path: Path<'_>) -> Result<Lockfile>
+        ensures ok { IfOk result IsMeant }
+        ensures err { IfErr result IsOfFile }
+    {
         let text = match fs::read_to_string(&(files, alloc), path) {
             Ok(text) => text,
             Err(fault) => return Err(of_file(fault.kind())),
@@ -63,7 +68,8 @@ pub(super) fn read(alloc: Global, table: &Table) -> Result<Lockfile>
 
 // The fault of a file. Want of memory is told as that.
 fn of_file(kind: ErrorKind) -> Error
-    ensures { (result ≡ Memory) ⊎ (result ≡ Io kind) }
+    ensures memory { kind ≡ OutOfMemory → result ≡ Memory }
+    ensures other { kind ≢ OutOfMemory → result ≡ Io kind }
 {
     match kind {
         ErrorKind::OutOfMemory => Error::Memory,

@@ -1,0 +1,18 @@
+-- What loading a file answers. What the file holds is no part of it: no contract can say that.
+use Rattle.std.specs.Prelude.{ℕ, List}
+use Rattle.cargo_lock_parts.specs.declared.error.Error.{Error}
+use Rattle.cargo_lock_parts.specs.declared.error.Error.TheVariants.{Io, Parse, Version, Resolution, Memory}
+use Rattle.cargo_lock_encoding.specs.Means.{TextMeans}
+use Rattle.cargo_lock_encoding.specs.Records.{LockfileData}
+
+-- some text means the lockfile
+abbrev pub IsMeant : LockfileData → Type 0
+IsMeant l = (text : List ℕ) × TextMeans text l
+
+-- the fault of a file or of its text, or want of memory
+abbrev pub IsOfFile : Error → Type 0
+IsOfFile (Io kind) = Unit {0}
+IsOfFile (Parse said) = Unit {0}
+IsOfFile (Version fault) = ⊥
+IsOfFile (Resolution said) = ⊥
+IsOfFile Memory = Unit {0}
