@@ -3,6 +3,8 @@
 #![tactic(auto)]
 
 #[cfg(test)]
+mod cargo;
+#[cfg(test)]
 mod every;
 #[cfg(test)]
 mod formats;

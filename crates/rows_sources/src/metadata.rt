@@ -29,7 +29,8 @@ fn first_checksum(alloc: Global, text: &str) -> Result<String, Error> {
     }
 }
 
-fn found_for(alloc: Global, encodable: &EncodableLockfile, one: &Package) -> Result<String, Error> {
+fn found_for(alloc: Global, lockfile: &Lockfile, one: &Package) -> Result<String, Error> {
+    let encodable = EncodableLockfile::of(alloc, lockfile)?;
     let checksum = encodable.find_checksum(alloc, one)?;
     checksum_text(alloc, &checksum)
 }
@@ -76,9 +77,8 @@ fn places_of_checksums(rt: HostRuntime) {
 // The checksum that the metadata of a lockfile holds for its first package.
 fn found_checksum(alloc: Global, text: &str) -> Result<String, Error> {
     let lockfile = Lockfile::from_str(alloc, text)?;
-    let encodable = EncodableLockfile::of(alloc, &lockfile)?;
     match lockfile.packages.first() {
-        Some(one) => found_for(alloc, &encodable, one),
+        Some(one) => found_for(alloc, &lockfile, one),
         None => Ok(String::from_str(alloc, "no package")?),
     }
 }

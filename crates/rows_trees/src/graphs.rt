@@ -145,7 +145,23 @@ version = \"2.0.0\"
 source = \"git+https://e.org/x?branch=m\"
 ";
 
-const GRAPHS: [(&str, &str); 8] = [
+// The revision is the commit of both, and the last is meant.
+const REVISION: &str = "version = 3
+[[package]]
+name = \"top\"
+version = \"1.0.0\"
+dependencies = [\"foo 1.0.0 (git+https://e.org/x?rev=f00)\"]
+[[package]]
+name = \"foo\"
+version = \"1.0.0\"
+source = \"git+https://e.org/x?rev=f00#f00\"
+[[package]]
+name = \"foo\"
+version = \"1.0.0\"
+source = \"git+https://e.org/x?tag=v#f00\"
+";
+
+const GRAPHS: [(&str, &str); 9] = [
     (
         REGISTRY_AND_GIT,
         "4 nodes, 3 edges
@@ -200,6 +216,14 @@ const GRAPHS: [(&str, &str); 8] = [
 2 foo 1.0.0, to, from 0
 3 foo 1.0.0, to, from
 4 foo 2.0.0, to, from
+",
+    ),
+    (
+        REVISION,
+        "3 nodes, 1 edges
+0 top 1.0.0, to 2, from
+1 foo 1.0.0, to, from
+2 foo 1.0.0, to, from 0
 ",
     ),
     ("version = 3\n", "0 nodes, 0 edges\n"),
