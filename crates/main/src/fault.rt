@@ -11,28 +11,29 @@ use std::alloc::{AllocError, AllocFailed, Global};
 use std::io;
 use thiserror::Error as DeriveError;
 
-/// Why a command failed. Displayed, it is a text of whole lines.
+/// Why a command failed. Displayed, it is a text of whole lines that begins `error: `.
 #[derive(Debug, Drop, DeriveError)]
 pub enum Fault {
     /// A call of the library failed, or the program itself did in one of the library's ways: a
     /// stream failed, or memory was refused.
-    #[error("{0}\n")]
+    #[error("error: {0}\n")]
     Library(Error),
 
-    /// The words are none that the program takes. The parser's text ends its last line.
+    /// The words are none that the program takes. The parser's text begins so too, and ends its last
+    /// line.
     #[error("{0}")]
     Words(clap::Error),
 
     /// The lockfile does not survive the format of this number.
-    #[error("lockfile does not survive format `{0}`\n")]
+    #[error("error: lockfile does not survive format `{0}`\n")]
     Lost(u32),
 
     /// A specification fits no package.
-    #[error("invalid dependency name: `{0}`\n")]
+    #[error("error: invalid dependency name: `{0}`\n")]
     Spec(String),
 
     /// The words name no command.
-    #[error("no command\n")]
+    #[error("error: no command\n")]
     NoCommand,
 }
 

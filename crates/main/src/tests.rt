@@ -166,6 +166,7 @@ fn words_refused(rt: HostRuntime) {
     for word in ["frob", "", "-f"] {
         let outcome = outcome_of(&rt, &[word]);
         assert!(rt; outcome.err().starts_with("*** error: "), "at {word:?}");
+        assert!(rt; !outcome.err().contains("error: error"), "at {word:?}");
         assert!(rt; outcome.err().ends_with('\n'), "at {word:?}");
         assert_eq!(rt; outcome.out(), "", "at {word:?}");
         assert_eq!(rt; outcome.status, ExitCode::FAILURE, "at {word:?}");
@@ -177,7 +178,9 @@ fn help_words(rt: HostRuntime) {
     for word in ["-h", "--help", "help"] {
         let outcome = outcome_of(&rt, &[word]);
         assert_eq!(rt; outcome.err(), "", "at {word:?}");
-        assert!(rt; !outcome.out().is_empty(), "at {word:?}");
+        for command in ["list", "translate", "tree"] {
+            assert!(rt; outcome.out().contains(command), "{command} at {word:?}");
+        }
         assert_eq!(rt; outcome.status, ExitCode::SUCCESS, "at {word:?}");
     }
 }

@@ -13,7 +13,8 @@ const DEFAULT_PATH: &str = "Cargo.lock";
 const DEFAULT_FORMAT: &str = "3";
 
 /// The words as the parser reads them, the program's name first. A leading `lock` is left out, and
-/// `list` stands before the first option where no command does. Fails for want of memory.
+/// `list` stands before the first option where no command does, unless it asks for help. Fails for
+/// want of memory.
 pub fn with_command<'a, S: AsStr>(
     alloc: Global,
     words: &'a [S],
@@ -25,13 +26,18 @@ pub fn with_command<'a, S: AsStr>(
         _ => words,
     };
     match words.first() {
-        Some(first) if !first.as_str().starts_with('-') => {}
+        Some(first) if !is_option(first.as_str()) => {}
         _ => all.push("list")?,
     }
     for word in words {
         all.push(word.as_str())?;
     }
     Ok(all)
+}
+
+/// Whether a first word is an option of a command. Those that ask for help are the program's own.
+fn is_option(word: &str) -> bool {
+    word.starts_with('-') && word != "-h" && word != "--help"
 }
 
 /// The lockfile that a command reads. Fails where it is not read.
