@@ -1,5 +1,5 @@
 -- What the tests of survival answer.
-use Rattle.std.proofs.Common.{◌≡◌, ◌↔◌, ◌<◌, ◌≤◌, ◌+◌, ℕ, zero, suc, Bool, true, false, List, [], ◌∷◌, drop, get_or, length, Option, Some, None, IsTrue, option_map, refl, sym, subst, ◌∙◌, ap, arith, true≢false}
+use Rattle.std.proofs.Common.{◌≡◌, ◌↔◌, ◌⊎◌, inl, inr, ◌<◌, ◌≤◌, ◌+◌, ℕ, zero, suc, Bool, true, false, List, [], ◌∷◌, drop, get_or, length, Option, Some, None, IsTrue, option_map, refl, sym, subst, ◌∙◌, ap, arith, true≢false}
 use Rattle.std.specs.List.{AllByRecursion}
 use Rattle.std.proofs.Math.Seq.{drop-cons, drop-nil}
 use Rattle.std.proofs.lemmas.Option.{same_Some, none-some}
@@ -10,7 +10,10 @@ use Rattle.cargo_lock_parts.specs.IdentityOrder.{is_same_identity}
 use Rattle.cargo_lock_parts.specs.Source.{Source}
 use Rattle.cargo_lock_parts.specs.SourceKey.{is_same_source, key_of}
 use Rattle.cargo_lock_parts.specs.SourceLaws.{is_same_source-Decides}
+use Rattle.cargo_lock_encoding.specs.declared.version.ResolveVersion.{ResolveVersion}
+use Rattle.cargo_lock_encoding.specs.declared.version.ResolveVersion.TheVariants.{V2, V3, V4}
 use Rattle.cargo_lock_encoding.specs.Form.{Form}
+use Rattle.cargo_lock_encoding.specs.Means.{reading_list}
 use Rattle.cargo_lock_encoding.specs.Said.{said, same_parts}
 use Rattle.cargo_lock.specs.Survives.{ReferenceSurvives, SaysEqual}
 use Rattle.cargo_lock.proofs.SaidKeys.{says-equal}
@@ -44,6 +47,12 @@ pub survives-by : (b : Bool) (f g : Form) (list other : List Identity) (d : Iden
     → IsTrue b ↔ ReferenceSurvives f list d → IsTrue b ↔ ReferenceSurvives g other d
 survives-by b f g list other d e s h =
     subst (λ (x : Form). IsTrue b ↔ ReferenceSurvives x other d) e (subst (λ (l : List Identity). IsTrue b ↔ ReferenceSurvives f l d) s h)
+
+-- from V2 on references are looked up in the list
+pub reads-in-list : (format : ResolveVersion) (list : List Identity) → (format ≡ V2) ⊎ ((format ≡ V3) ⊎ (format ≡ V4)) → list ≡ reading_list format list
+reads-in-list format list (inl e) = ap (λ f. reading_list f list) (sym e)
+reads-in-list format list (inr (inl e)) = ap (λ f. reading_list f list) (sym e)
+reads-in-list format list (inr (inr e)) = ap (λ f. reading_list f list) (sym e)
 
 -- ---- walks
 

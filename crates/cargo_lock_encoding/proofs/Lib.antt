@@ -2,7 +2,10 @@ pub mod ChecksumKeys
 pub mod ChosenLemmas
 pub mod LeastKeys
 pub mod Lines
+pub mod Places
 pub mod Puts
+pub mod ReadKeys
+pub mod ReadSources
 pub mod SaysLemmas
 pub mod TextPuts
 pub mod Texts

@@ -5,12 +5,15 @@ pub mod Records
 pub mod Says
 pub mod Said
 pub mod Chosen
+pub mod Index
 pub mod FormOrder
 pub mod FormLaws
 pub mod Finds
 pub mod TableReading
 pub mod Metadata
 pub mod LeastKey
+pub mod ReadKeys
+pub mod ReadSources
 pub mod WrittenMetadata
 pub mod Format
 pub mod Means

@@ -76,7 +76,7 @@ fn reads_as(
 }
 
 // The checksum that a value is, if it is one.
-fn checksum_in(
+pub(crate) fn checksum_in(
     alloc: Global,
     value: &MetadataValue,
 ) -> std::result::Result<Option<Checksum>, AllocError>

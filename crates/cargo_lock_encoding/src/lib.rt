@@ -6,9 +6,12 @@
 
 pub mod checksums;
 pub mod entry;
+pub mod index;
 pub mod laws;
 pub mod meaning;
 pub mod metadata;
+pub mod read_keys;
+mod read_sources;
 pub mod reading;
 pub mod reference;
 mod serialization;

@@ -1,15 +1,16 @@
 //! From entries to packages: the references are looked up.
 
-ghost use Rattle.std.specs.Prelude.{◌≡◌, [], Some, map, option_map};
+ghost use Rattle.std.specs.Prelude.{◌≡◌, [], map, option_map};
 ghost use Rattle.cargo_lock_parts.specs.Checksum.{digest_of};
 ghost use Rattle.cargo_lock_parts.specs.Error.{Reads};
-ghost use Rattle.cargo_lock_encoding.specs.Means.{entry_checksum, reading_list};
+ghost use Rattle.cargo_lock_encoding.specs.declared.version.ResolveVersion.TheVariants.{V1};
 ghost use Rattle.cargo_lock_encoding.specs.Meaning.{all_packages, entry_package, package_of, root_package};
 ghost use Rattle.cargo_lock_encoding.specs.Optional.{map_all, map_some};
 ghost use Rattle.cargo_lock_encoding.specs.Records.{entry_identity, texts_of};
 ghost use Rattle.cargo_lock_encoding.specs.Said.{said};
 
-use crate::checksums::find_checksum;
+use crate::index::Indexed;
+use crate::read_keys::ReadMetadata;
 use crate::reference::bare_source;
 use crate::{EncodableDependency, EncodablePackage, Metadata, ResolveVersion};
 use cargo_lock_parts::dependency::Dependency;
@@ -30,58 +31,82 @@ pub fn all_packages(
 ) -> Result<Vec<Package>>
     ensures { Reads (λ v. v.items) result (all_packages format (texts_of metadata.now.entries) entries.now) }
 {
-    let list = reading_list(format, entries);
-    packages_of(alloc, format, metadata, entries, list)
-}
-
-// The list in which references are looked up.
-fn reading_list(format: ResolveVersion, list: &[EncodablePackage]) -> &[EncodablePackage]
-    ensures { map entry_identity result.now ≡ reading_list format (map entry_identity list.now) }
-{
     match format {
-        ResolveVersion::V1 => &[],
-        ResolveVersion::V2 | ResolveVersion::V3 | ResolveVersion::V4 => list,
+        ResolveVersion::V1 => packages_in_full(alloc, metadata, entries),
+        ResolveVersion::V2 | ResolveVersion::V3 | ResolveVersion::V4 => {
+            packages_by_name(alloc, entries)
+        }
     }
 }
 
-fn packages_of(
+// The packages of V1: their references are in full, and the metadata has their checksums.
+fn packages_in_full(
     alloc: Global,
-    format: ResolveVersion,
     metadata: &Metadata,
     entries: &[EncodablePackage],
-    list: &[EncodablePackage],
+) -> Result<Vec<Package>>
+    ensures { Reads (λ v. v.items) result (map_all (entry_package V1 [] (texts_of metadata.now.entries)) entries.now) }
+{
+    let read = ReadMetadata::of(alloc, metadata)?;
+    each_in_full(alloc, &read, entries)
+}
+
+fn each_in_full(
+    alloc: Global,
+    metadata: &ReadMetadata<'_>,
+    entries: &[EncodablePackage],
+) -> Result<Vec<Package>>
+    ensures { Reads (λ v. v.items) result (map_all (entry_package V1 [] metadata.now) entries.now) }
+{
+    let mut found = Vec::with_capacity(alloc, entries.len())?;
+    for entry in entries {
+        let one = package_in_full(alloc, metadata, entry)?;
+        found.push(one)?;
+    }
+    Ok(found)
+}
+
+fn package_in_full(
+    alloc: Global,
+    metadata: &ReadMetadata<'_>,
+    entry: &EncodablePackage,
+) -> Result<Package>
+    ensures { Reads (λ p. p) result (entry_package V1 [] metadata.now entry.now) }
+{
+    let checksum = metadata.checksum(&entry.name, &entry.version)?;
+    entry.with_references(alloc, checksum, &Indexed::none(alloc))
+}
+
+// The packages from V2 on: their references are looked up by name, and they have their checksums.
+fn packages_by_name(alloc: Global, entries: &[EncodablePackage]) -> Result<Vec<Package>>
+    ensures { Reads (λ v. v.items) result
+        (map_all (λ e. package_of (map entry_identity entries.now) e.checksum e) entries.now) }
+{
+    let list = Indexed::of(alloc, entries)?;
+    each_by_name(alloc, entries, &list)
+}
+
+fn each_by_name(
+    alloc: Global,
+    entries: &[EncodablePackage],
+    list: &Indexed<'_, EncodablePackage>,
 ) -> Result<Vec<Package>>
     ensures { Reads (λ v. v.items) result
-        (map_all (entry_package format (map entry_identity list.now) (texts_of metadata.now.entries)) entries.now) }
+        (map_all (λ e. package_of (map entry_identity list.now) e.checksum e) entries.now) }
 {
-    let mut packages = Vec::new(alloc);
+    let mut packages = Vec::with_capacity(alloc, entries.len())?;
     for entry in entries {
-        let one = entry_package(alloc, format, metadata, entry, list)?;
+        let one = entry.with_references(alloc, entry.own_checksum(), list)?;
         packages.push(one)?;
     }
     Ok(packages)
-}
-
-fn entry_package(
-    alloc: Global,
-    format: ResolveVersion,
-    metadata: &Metadata,
-    entry: &EncodablePackage,
-    list: &[EncodablePackage],
-) -> Result<Package>
-    ensures { Reads (λ p. p) result
-        (entry_package format (map entry_identity list.now) (texts_of metadata.now.entries) entry.now) }
-{
-    let checksum = entry.checksum_in(alloc, format, metadata)?;
-    entry.with_references(alloc, checksum, list)
 }
 
 /// The package of the root, whose references are in full in every format.
 pub fn root_package(alloc: Global, entry: &EncodablePackage) -> Result<Package>
     ensures { Reads (λ p. p) result (root_package entry.now) }
 {
-    let checksum = entry.own_checksum();
-    entry.with_references(alloc, checksum, &[])
+    entry.with_references(alloc, entry.own_checksum(), &Indexed::none(alloc))
 }
 
 impl EncodablePackage {
@@ -91,31 +116,12 @@ impl EncodablePackage {
         self.checksum
     }
 
-    // The checksum: in V1 the metadata has it.
-    fn checksum_in(
-        &self,
-        alloc: Global,
-        format: ResolveVersion,
-        metadata: &Metadata,
-    ) -> Result<Option<Checksum>>
-        ensures { Reads (option_map digest_of) result
-            (Some (entry_checksum format (texts_of metadata.now.entries) self.now)) }
-    {
-        match format {
-            ResolveVersion::V1 => {
-                let found = find_checksum(alloc, metadata, &self.name, &self.version)?;
-                Ok(found)
-            }
-            ResolveVersion::V2 | ResolveVersion::V3 | ResolveVersion::V4 => Ok(self.own_checksum()),
-        }
-    }
-
     // The package, its references looked up in this list.
     fn with_references(
         &self,
         alloc: Global,
         checksum: Option<Checksum>,
-        list: &[EncodablePackage],
+        list: &Indexed<'_, EncodablePackage>,
     ) -> Result<Package>
         ensures { Reads (λ p. p) result
             (package_of (map entry_identity list.now) (option_map digest_of checksum) self.now) }
@@ -136,13 +142,13 @@ impl EncodablePackage {
 fn resolve_all(
     alloc: Global,
     forms: &[EncodableDependency],
-    list: &[EncodablePackage],
+    list: &Indexed<'_, EncodablePackage>,
 ) -> Result<Vec<Dependency>>
     ensures { Reads (λ v. v.items) result (map_all (λ f. said f (map entry_identity list.now)) forms.now) }
 {
-    let mut dependencies = Vec::new(alloc);
+    let mut dependencies = Vec::with_capacity(alloc, forms.len())?;
     for form in forms {
-        let dependency = form.said(alloc, list)?;
+        let dependency = form.said_among(alloc, list)?;
         dependencies.push(dependency)?;
     }
     Ok(dependencies)

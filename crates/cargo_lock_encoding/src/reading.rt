@@ -17,6 +17,7 @@ ghost use Rattle.cargo_lock_encoding.specs.Records.{texts_of};
 ghost use Rattle.cargo_lock_encoding.specs.TableReading.{all_entries_at, checksum_from, entries_at, entry_at, entry_in, form_in, items_in, metadata_in, number_in, optional_by, optional_list, patch_at, patch_entry_at, patch_entry_in, patch_in, read_all, required_list, required_text, source_in, text_in, texts_at, version_of};
 
 use crate::metadata::{Metadata, MetadataKey, MetadataValue};
+use crate::read_sources::ReadSources;
 use crate::{EncodableDependency, EncodablePackage, EncodableSourceId};
 use cargo_lock_parts::dependency::Dependency;
 use cargo_lock_parts::error::{Error, Result};
@@ -50,8 +51,9 @@ impl Model for AllEntries {
 pub fn all_entries_at(alloc: Global, table: &Table) -> Result<AllEntries>
     ensures { ReadsUrls (λ e. e) result (all_entries_at (table_view table.now)) }
 {
-    let listed = entries_at(alloc, table)?;
-    let root = entry_at_key(alloc, table, "root")?;
+    let mut sources = ReadSources::new(alloc);
+    let listed = entries_at(alloc, &mut sources, table)?;
+    let root = entry_at_key(alloc, &mut sources, table, "root")?;
     Ok(AllEntries { listed, root })
 }
 
@@ -183,20 +185,25 @@ pub fn version_of(alloc: Global, text: &str) -> Result<Version>
 }
 
 // The source that a value is the text of.
-fn source_in(alloc: Global, value: &Value, key: &str) -> Result<SourceId>
+fn source_in(alloc: Global, sources: &mut ReadSources, value: &Value, key: &str) -> Result<SourceId>
     ensures { ReadsUrls (λ s. s) result (source_in (view value.now)) }
 {
     let text = text_in(alloc, value, key)?;
-    let source = SourceId::from_url(alloc, text)?;
+    let source = sources.read(alloc, text)?;
     Ok(source)
 }
 
 // The source at a key that may be missing.
-fn source_at(alloc: Global, table: &Table, key: &str) -> Result<Option<SourceId>>
+fn source_at(
+    alloc: Global,
+    sources: &mut ReadSources,
+    table: &Table,
+    key: &str,
+) -> Result<Option<SourceId>>
     ensures { ReadsUrls (λ o. o) result (optional_by source_in (get_member key.now (table_view table.now))) }
 {
     match value_at(table, key) {
-        Some(value) => Ok(Some(source_in(alloc, value, key)?)),
+        Some(value) => Ok(Some(source_in(alloc, sources, value, key)?)),
         None => Ok(None),
     }
 }
@@ -263,7 +270,7 @@ fn form_at(alloc: Global, table: &Table, key: &str) -> Result<Option<EncodableDe
 fn forms_of(alloc: Global, list: &[Value], key: &str) -> Result<Vec<EncodableDependency>>
     ensures { ReadsUrls (λ v. v.items) result (read_all form_in (items_view list.now)) }
 {
-    let mut forms = Vec::new(alloc);
+    let mut forms = Vec::with_capacity(alloc, list.len())?;
     for value in list {
         let form = form_in(alloc, value, key)?;
         forms.push(form)?;
@@ -275,14 +282,14 @@ fn forms_of(alloc: Global, list: &[Value], key: &str) -> Result<Vec<EncodableDep
 
 // The package of a table.
 #[tactic(auto, unfolding(crate::specs::TableReading::entry_at))]
-fn entry_at(alloc: Global, table: &Table) -> Result<EncodablePackage>
+fn entry_at(alloc: Global, sources: &mut ReadSources, table: &Table) -> Result<EncodablePackage>
     ensures { ReadsUrls (λ e. e) result (entry_at (table_view table.now)) }
 {
     let written = required_text(alloc, table, "name")?;
     let name = Name::from_str(alloc, written)?;
     let version = required_text(alloc, table, "version")?;
     let version = version_of(alloc, version)?;
-    let source = source_at(alloc, table, "source")?;
+    let source = source_at(alloc, sources, table, "source")?;
     let checksum = checksum_at(alloc, table, "checksum")?;
     let dependencies = optional_list(alloc, table, "dependencies")?;
     let dependencies = forms_of(alloc, dependencies, "dependencies")?;
@@ -298,22 +305,32 @@ fn entry_at(alloc: Global, table: &Table) -> Result<EncodablePackage>
 }
 
 // The package that a value is.
-fn entry_in(alloc: Global, value: &Value, key: &str) -> Result<EncodablePackage>
+fn entry_in(
+    alloc: Global,
+    sources: &mut ReadSources,
+    value: &Value,
+    key: &str,
+) -> Result<EncodablePackage>
     ensures { ReadsUrls (λ e. e) result (entry_in (view value.now)) }
 {
     match value.as_table() {
-        Some(table) => entry_at(alloc, table),
+        Some(table) => entry_at(alloc, sources, table),
         None => Err(wrong_type(alloc, key)),
     }
 }
 
 // The packages of a list.
-fn entries_of(alloc: Global, list: &[Value], key: &str) -> Result<Vec<EncodablePackage>>
+fn entries_of(
+    alloc: Global,
+    sources: &mut ReadSources,
+    list: &[Value],
+    key: &str,
+) -> Result<Vec<EncodablePackage>>
     ensures { ReadsUrls (λ v. v.items) result (read_all entry_in (items_view list.now)) }
 {
-    let mut entries = Vec::new(alloc);
+    let mut entries = Vec::with_capacity(alloc, list.len())?;
     for value in list {
-        let entry = entry_in(alloc, value, key)?;
+        let entry = entry_in(alloc, sources, value, key)?;
         entries.push(entry)?;
     }
     Ok(entries)
@@ -321,19 +338,28 @@ fn entries_of(alloc: Global, list: &[Value], key: &str) -> Result<Vec<EncodableP
 
 // The packages of a table.
 #[tactic(auto, unfolding(crate::specs::TableReading::entries_at))]
-fn entries_at(alloc: Global, table: &Table) -> Result<Vec<EncodablePackage>>
+fn entries_at(
+    alloc: Global,
+    sources: &mut ReadSources,
+    table: &Table,
+) -> Result<Vec<EncodablePackage>>
     ensures { ReadsUrls (λ v. v.items) result (entries_at (table_view table.now)) }
 {
     let list = optional_list(alloc, table, "package")?;
-    entries_of(alloc, list, "package")
+    entries_of(alloc, sources, list, "package")
 }
 
 // The package at a key that may be missing.
-fn entry_at_key(alloc: Global, table: &Table, key: &str) -> Result<Option<EncodablePackage>>
+fn entry_at_key(
+    alloc: Global,
+    sources: &mut ReadSources,
+    table: &Table,
+    key: &str,
+) -> Result<Option<EncodablePackage>>
     ensures { ReadsUrls (λ o. o) result (optional_by entry_in (get_member key.now (table_view table.now))) }
 {
     match value_at(table, key) {
-        Some(value) => Ok(Some(entry_in(alloc, value, key)?)),
+        Some(value) => Ok(Some(entry_in(alloc, sources, value, key)?)),
         None => Ok(None),
     }
 }
@@ -392,14 +418,14 @@ pub fn metadata_at(alloc: Global, table: &Table, key: &str) -> Result<Metadata>
 
 // The unused patch of a table.
 #[tactic(auto, unfolding(crate::specs::TableReading::patch_entry_at))]
-fn patch_entry_at(alloc: Global, table: &Table) -> Result<Dependency>
+fn patch_entry_at(alloc: Global, sources: &mut ReadSources, table: &Table) -> Result<Dependency>
     ensures { ReadsUrls (λ e. e) result (patch_entry_at (table_view table.now)) }
 {
     let name = required_text(alloc, table, "name")?;
     let name = Name::from_str(alloc, name)?;
     let version = required_text(alloc, table, "version")?;
     let version = version_of(alloc, version)?;
-    let source = source_at(alloc, table, "source")?;
+    let source = source_at(alloc, sources, table, "source")?;
     Ok(Dependency {
         name,
         version,
@@ -408,22 +434,32 @@ fn patch_entry_at(alloc: Global, table: &Table) -> Result<Dependency>
 }
 
 // The unused patch that a value is.
-fn patch_entry_in(alloc: Global, value: &Value, key: &str) -> Result<Dependency>
+fn patch_entry_in(
+    alloc: Global,
+    sources: &mut ReadSources,
+    value: &Value,
+    key: &str,
+) -> Result<Dependency>
     ensures { ReadsUrls (λ e. e) result (patch_entry_in (view value.now)) }
 {
     match value.as_table() {
-        Some(table) => patch_entry_at(alloc, table),
+        Some(table) => patch_entry_at(alloc, sources, table),
         None => Err(wrong_type(alloc, key)),
     }
 }
 
 // The unused patches of a list.
-fn patches_of(alloc: Global, list: &[Value], key: &str) -> Result<Vec<Dependency>>
+fn patches_of(
+    alloc: Global,
+    sources: &mut ReadSources,
+    list: &[Value],
+    key: &str,
+) -> Result<Vec<Dependency>>
     ensures { ReadsUrls (λ v. v.items) result (read_all patch_entry_in (items_view list.now)) }
 {
-    let mut patches = Vec::new(alloc);
+    let mut patches = Vec::with_capacity(alloc, list.len())?;
     for value in list {
-        let patch = patch_entry_in(alloc, value, key)?;
+        let patch = patch_entry_in(alloc, sources, value, key)?;
         patches.push(patch)?;
     }
     Ok(patches)
@@ -434,7 +470,8 @@ fn patch_at(alloc: Global, table: &Table) -> Result<Patch>
     ensures { ReadsUrls (λ p. p) result (patch_at (table_view table.now)) }
 {
     let list = required_list(alloc, table, "unused")?;
-    let unused = patches_of(alloc, list, "unused")?;
+    let mut sources = ReadSources::new(alloc);
+    let unused = patches_of(alloc, &mut sources, list, "unused")?;
     Ok(Patch { unused })
 }
 

@@ -15,6 +15,7 @@ ghost use Rattle.cargo_lock_encoding.specs.Records.{bare_source, entry_identity,
 ghost use Rattle.cargo_lock_encoding.specs.Said.{fits, itself, said, same_parts};
 ghost use Rattle.cargo_lock_encoding.specs.Chosen.{bears_both, bears_name, in_full, marked, one, written_source};
 
+use crate::index::Indexed;
 use crate::version::ResolveVersion;
 use crate::{EncodablePackage, EncodableSourceId};
 use cargo_lock_parts::dependency::Dependency;
@@ -248,6 +249,23 @@ impl EncodableDependency {
             let entry: &EncodablePackage = entry;
             self.fits(entry)
         })
+    }
+
+    // The same, found by an index of the list.
+    pub(crate) fn said_among(
+        &self,
+        alloc: Global,
+        list: &Indexed<'_, EncodablePackage>,
+    ) -> Result<Dependency>
+        ensures { Reads (λ d. d) result (said self.now (map entry_identity list.now)) }
+    {
+        if self.source.is_some() {
+            return self.itself(alloc);
+        }
+        match list.first_fit(self) {
+            Some(entry) => entry.identity(),
+            None => self.itself(alloc),
+        }
     }
 
     // The reference's own words as an identity.

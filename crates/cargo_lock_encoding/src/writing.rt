@@ -1,19 +1,22 @@
 //! From packages to their entries.
 
 ghost use Rattle.std.specs.Prelude.{◌≡◌, IfOk, IsOkUnless, map, option_map};
+ghost use Rattle.semver.specs.Identifiers.{parts_of};
 ghost use Rattle.cargo_lock_parts.specs.declared.error.Error.TheVariants.{Memory};
 ghost use Rattle.cargo_lock_parts.specs.Checksum.{digest_of};
 ghost use Rattle.cargo_lock_parts.specs.Identity.{identity_of};
-ghost use Rattle.cargo_lock_encoding.specs.Chosen.{chosen_form, in_full};
+ghost use Rattle.cargo_lock_encoding.specs.Chosen.{chosen_form, in_full, shortened};
+ghost use Rattle.cargo_lock_encoding.specs.Form.{of_one, of_two};
 ghost use Rattle.cargo_lock_encoding.specs.Records.{is_escaped};
 ghost use Rattle.cargo_lock_encoding.specs.Table.{entry_of, root_entry, written_checksum, written_version};
 
+use crate::index::Indexed;
 use crate::reference::written_source;
 use crate::version::ResolveVersion;
 use crate::{EncodableDependency, EncodablePackage};
 use cargo_lock_parts::dependency::Dependency;
 use cargo_lock_parts::error::Result;
-use cargo_lock_parts::package::{Checksum, Package};
+use cargo_lock_parts::package::{Checksum, Name, Package, Version};
 use std::alloc::Global;
 
 /// The number that is written: from the third format on.
@@ -39,9 +42,10 @@ pub fn all_entries(
     ensures ok { IfOk result (λ v. v.items ≡ map (entry_of format (map identity_of list.now)) list.now) }
     ensures err { IsOkUnless result Memory }
 {
-    let mut entries = Vec::new(alloc);
+    let packages = Indexed::of(alloc, list)?;
+    let mut entries = Vec::with_capacity(alloc, list.len())?;
     for one in list {
-        let entry = entry_of(alloc, format, list, one)?;
+        let entry = entry_of(alloc, format, &packages, one)?;
         entries.push(entry)?;
     }
     Ok(entries)
@@ -51,7 +55,7 @@ pub fn all_entries(
 fn entry_of(
     alloc: Global,
     format: ResolveVersion,
-    list: &[Package],
+    list: &Indexed<'_, Package>,
     one: &Package,
 ) -> Result<EncodablePackage>
     ensures ok { IfOk result (λ e. e ≡ entry_of format (map identity_of list.now) one.now) }
@@ -114,29 +118,72 @@ fn written_checksum(format: ResolveVersion, checksum: &Option<Checksum>) -> Opti
 #[tactic(auto, unfolding(crate::specs::Chosen::chosen_form))]
 pub fn chosen_form(
     format: ResolveVersion,
-    list: &[Package],
+    list: &Indexed<'_, Package>,
     dependency: &Dependency,
 ) -> Result<EncodableDependency>
     ensures ok { IfOk result (λ f. f ≡ chosen_form format (map identity_of list.now) dependency.now) }
     ensures err { IsOkUnless result Memory }
 {
-    let full = EncodableDependency::from_dependency(dependency, format)?;
     match format {
-        ResolveVersion::V1 => Ok(full),
-        ResolveVersion::V2 | ResolveVersion::V3 | ResolveVersion::V4 => Ok(full.v2(list)),
+        ResolveVersion::V1 => EncodableDependency::from_dependency(dependency, format),
+        ResolveVersion::V2 | ResolveVersion::V3 | ResolveVersion::V4 => {
+            let form = shortest_form(format, list, dependency)?;
+            Ok(form)
+        }
     }
+}
+
+// A dependency without needless words, which are not copied.
+#[tactic(auto, unfolding(crate::specs::Chosen::shortened))]
+fn shortest_form(
+    format: ResolveVersion,
+    list: &Indexed<'_, Package>,
+    dependency: &Dependency,
+) -> Result<EncodableDependency>
+    ensures ok { IfOk result (λ f. f ≡ shortened (map identity_of list.now) (in_full (is_escaped format) dependency.now)) }
+    ensures err { IsOkUnless result Memory }
+{
+    if list.count_named(&dependency.name) == 1 {
+        return by_name(&dependency.name);
+    }
+    if list.count_versions(&dependency.name, &dependency.version) == 1 {
+        return by_version(&dependency.name, &dependency.version);
+    }
+    EncodableDependency::from_dependency(dependency, format)
+}
+
+fn by_name(name: &Name) -> Result<EncodableDependency>
+    ensures ok { IfOk result (λ f. f ≡ of_one name.now) }
+    ensures err { IsOkUnless result Memory }
+{
+    Ok(EncodableDependency {
+        name: name.clone()?,
+        version: None,
+        source: None,
+    })
+}
+
+fn by_version(name: &Name, version: &Version) -> Result<EncodableDependency>
+    ensures ok { IfOk result (λ f. f ≡ of_two name.now (parts_of version.now)) }
+    ensures err { IsOkUnless result Memory }
+{
+    Ok(EncodableDependency {
+        name: name.clone()?,
+        version: Some(version.clone()?),
+        source: None,
+    })
 }
 
 fn all_chosen(
     alloc: Global,
     format: ResolveVersion,
-    list: &[Package],
+    list: &Indexed<'_, Package>,
     dependencies: &[Dependency],
 ) -> Result<Vec<EncodableDependency>>
     ensures ok { IfOk result (λ v. v.items ≡ map (chosen_form format (map identity_of list.now)) dependencies.now) }
     ensures err { IsOkUnless result Memory }
 {
-    let mut forms = Vec::new(alloc);
+    let mut forms = Vec::with_capacity(alloc, dependencies.len())?;
     for dependency in dependencies {
         let form = chosen_form(format, list, dependency)?;
         forms.push(form)?;
@@ -152,7 +199,7 @@ fn all_in_full(
     ensures ok { IfOk result (λ v. v.items ≡ map (in_full (is_escaped format)) dependencies.now) }
     ensures err { IsOkUnless result Memory }
 {
-    let mut forms = Vec::new(alloc);
+    let mut forms = Vec::with_capacity(alloc, dependencies.len())?;
     for dependency in dependencies {
         let form = EncodableDependency::from_dependency(dependency, format)?;
         forms.push(form)?;

@@ -7,11 +7,13 @@ ghost use Rattle.cargo_lock_parts.specs.SourceKey.{text_cmp};
 
 pub mod checksum;
 pub mod name;
+pub mod partial_identity;
 pub mod source;
 
 use crate::dependency::Dependency;
 pub use crate::package::checksum::Checksum;
 pub use crate::package::name::Name;
+pub use crate::package::partial_identity::PartialIdentity;
 pub use crate::package::source::{GitReference, SourceId, SourceKind};
 pub use semver::Version;
 use serde::{Deserialize, Serialize};

@@ -5,26 +5,31 @@ ghost use Rattle.std.specs.List.{AllByRecursion};
 ghost use Rattle.cargo_lock_parts.specs.declared.error.Error.TheVariants.{Memory};
 ghost use Rattle.cargo_lock_parts.specs.Checksum.{digest_of};
 ghost use Rattle.cargo_lock_parts.specs.Identity.{identity_of};
+ghost use Rattle.cargo_lock_encoding.specs.declared.version.ResolveVersion.TheVariants.{V1};
 ghost use Rattle.cargo_lock_encoding.specs.Chosen.{chosen_form, in_full};
 ghost use Rattle.cargo_lock_encoding.specs.Means.{reading_list};
 ghost use Rattle.cargo_lock_encoding.specs.Records.{is_escaped, texts_of};
-ghost use Rattle.cargo_lock.specs.Survives.{ChecksumSurvives, DigestReadsBack, EntrySurvives, FormatSurvives, OwnPartsSurvive, PatchSurvives, ReadsBack, ReferenceSurvives, RootSurvives, Survives};
+ghost use Rattle.cargo_lock.specs.Survives.{ChecksumSurvives, DigestReadsBack, EntrySurvives, FormatSurvives, OwnPartsSurvive, PackageSurvives, PatchSurvives, ReadsBack, ReferenceSurvives, RootSurvives, Survives};
 
 mod texts;
 
 use crate::error::Result;
 use crate::lockfile::Lockfile;
 use crate::lockfile::encoding::EncodableDependency;
-use crate::lockfile::survival::texts::{reference_survives, source_survives, version_survives};
+use crate::lockfile::survival::texts::{
+    reference_survives, reference_survives_alone, source_survives, version_survives,
+};
 use crate::metadata::Metadata;
 use cargo_lock_encoding::ResolveVersion;
-use cargo_lock_encoding::checksums::{find_checksum, has_checksum_key};
+use cargo_lock_encoding::checksums::has_checksum_key;
+use cargo_lock_encoding::index::Indexed;
+use cargo_lock_encoding::read_keys::ReadMetadata;
 use cargo_lock_encoding::writing::chosen_form;
 use cargo_lock_encoding::written::metadata_of;
 use cargo_lock_parts::dependency::Dependency;
 use cargo_lock_parts::laws::checksums_read_back;
 use cargo_lock_parts::package::{Checksum, Package};
-use std::alloc::Global;
+use std::alloc::{AllocError, Global};
 
 impl Lockfile {
     /// Whether the lockfile survives a format: whether its table, written in this format, is read
@@ -120,28 +125,116 @@ fn packages_survive(
         ↔ AllByRecursion (EntrySurvives format (map identity_of list.now) (texts_of metadata.now.entries)) list.now) }
     ensures err { IsOkUnless result Memory }
 {
+    match format {
+        ResolveVersion::V1 => first_format_survives(alloc, metadata, list),
+        ResolveVersion::V2 | ResolveVersion::V3 | ResolveVersion::V4 => {
+            let survives = later_format_survives(alloc, format, list)?;
+            Ok(survives)
+        }
+    }
+}
+
+// In V1 the checksums are found again in the written metadata.
+fn first_format_survives(alloc: Global, metadata: &Metadata, list: &[Package]) -> Result<bool>
+    ensures ok { IfOk result (λ b. IsTrue b
+        ↔ AllByRecursion (EntrySurvives V1 (map identity_of list.now) (texts_of metadata.now.entries)) list.now) }
+    ensures err { IsOkUnless result Memory }
+{
+    let packages = Indexed::of(alloc, list)?;
+    let read = ReadMetadata::of(alloc, metadata)?;
+    let survive = first_entries_survive(alloc, &read, &packages, list)?;
+    Ok(survive)
+}
+
+fn first_entries_survive(
+    alloc: Global,
+    metadata: &ReadMetadata<'_>,
+    packages: &Indexed<'_, Package>,
+    list: &[Package],
+) -> Result<bool>
+    ensures ok { IfOk result (λ b. IsTrue b
+        ↔ AllByRecursion (EntrySurvives V1 (map identity_of packages.now) metadata.now) list.now) }
+    ensures err { IsOkUnless result Memory }
+{
     for one in list {
-        if !entry_survives(alloc, format, metadata, list, one)? {
+        if !first_entry_survives(alloc, metadata, packages, one)? {
             return Ok(false);
         }
     }
     Ok(true)
 }
 
-fn entry_survives(
+fn first_entry_survives(
+    alloc: Global,
+    metadata: &ReadMetadata<'_>,
+    list: &Indexed<'_, Package>,
+    one: &Package,
+) -> Result<bool>
+    ensures ok { IfOk result (λ b. IsTrue b ↔ EntrySurvives V1 (map identity_of list.now) metadata.now one.now) }
+    ensures err { IsOkUnless result Memory }
+{
+    Ok(package_survives(alloc, ResolveVersion::V1, list, one)? && checksum_survives(metadata, one)?)
+}
+
+// From V2 on every checksum survives.
+fn later_format_survives(alloc: Global, format: ResolveVersion, list: &[Package]) -> Result<bool>
+    ensures ok { IfOk result (λ b. IsTrue b
+        ↔ AllByRecursion (λ p. PackageSurvives format (chosen_form format (map identity_of list.now)) (reading_list format (map identity_of list.now)) p
+        × IfSome p.checksum DigestReadsBack) list.now) }
+    ensures err { IsOkUnless result Memory }
+{
+    let packages = Indexed::of(alloc, list)?;
+    let survive = later_entries_survive(alloc, format, &packages, list)?;
+    Ok(survive)
+}
+
+fn later_entries_survive(
     alloc: Global,
     format: ResolveVersion,
-    metadata: &Metadata,
+    packages: &Indexed<'_, Package>,
     list: &[Package],
+) -> Result<bool>
+    ensures ok { IfOk result (λ b. IsTrue b
+        ↔ AllByRecursion (λ p. PackageSurvives format (chosen_form format (map identity_of packages.now)) (reading_list format (map identity_of packages.now)) p
+        × IfSome p.checksum DigestReadsBack) list.now) }
+    ensures err { IsOkUnless result Memory }
+{
+    for one in list {
+        if !later_entry_survives(alloc, format, packages, one)? {
+            return Ok(false);
+        }
+    }
+    Ok(true)
+}
+
+fn later_entry_survives(
+    alloc: Global,
+    format: ResolveVersion,
+    list: &Indexed<'_, Package>,
     one: &Package,
 ) -> Result<bool>
     ensures ok { IfOk result (λ b. IsTrue b
-        ↔ EntrySurvives format (map identity_of list.now) (texts_of metadata.now.entries) one.now) }
+        ↔ (PackageSurvives format (chosen_form format (map identity_of list.now)) (reading_list format (map identity_of list.now)) one.now
+        × IfSome one.now.checksum DigestReadsBack)) }
+    ensures err { IsOkUnless result Memory }
+{
+    digest_reads_back(&one.checksum);
+    package_survives(alloc, format, list, one)
+}
+
+// Whether the parts of a package and its references survive.
+fn package_survives(
+    alloc: Global,
+    format: ResolveVersion,
+    list: &Indexed<'_, Package>,
+    one: &Package,
+) -> Result<bool>
+    ensures ok { IfOk result (λ b. IsTrue b
+        ↔ PackageSurvives format (chosen_form format (map identity_of list.now)) (reading_list format (map identity_of list.now)) one.now) }
     ensures err { IsOkUnless result Memory }
 {
     Ok(
         own_parts_survive(alloc, format, one)?
-            && checksum_survives(alloc, format, metadata, one)?
             && references_survive(alloc, format, list, one.dependencies.as_slice())?,
     )
 }
@@ -185,27 +278,13 @@ fn replace_survives(
 
 // ---- checksums
 
-// Whether the checksum is found again: in V1 in the written metadata.
-fn checksum_survives(
-    alloc: Global,
-    format: ResolveVersion,
-    metadata: &Metadata,
-    one: &Package,
-) -> Result<bool>
-    ensures ok { IfOk result (λ b. IsTrue b
-        ↔ ChecksumSurvives format (texts_of metadata.now.entries) one.now) }
+// Whether the checksum is found again in the written metadata.
+fn checksum_survives(metadata: &ReadMetadata<'_>, one: &Package) -> Result<bool>
+    ensures ok { IfOk result (λ b. IsTrue b ↔ ChecksumSurvives V1 metadata.now one.now) }
     ensures err { IsOkUnless result Memory }
 {
-    match format {
-        ResolveVersion::V1 => {
-            let found = find_checksum(alloc, metadata, &one.name, &one.version)?;
-            Ok(same_checksum(&found, &one.checksum))
-        }
-        ResolveVersion::V2 | ResolveVersion::V3 | ResolveVersion::V4 => {
-            digest_reads_back(&one.checksum);
-            Ok(true)
-        }
-    }
+    let found = metadata.checksum(&one.name, &one.version)?;
+    Ok(same_checksum(&found, &one.checksum))
 }
 
 fn same_checksum(a: &Option<Checksum>, b: &Option<Checksum>) -> bool
@@ -238,7 +317,7 @@ fn bytes_read_back(digest: &[u8; 32])
 fn references_survive(
     alloc: Global,
     format: ResolveVersion,
-    list: &[Package],
+    list: &Indexed<'_, Package>,
     dependencies: &[Dependency],
 ) -> Result<bool>
     ensures ok { IfOk result (λ b. IsTrue b
@@ -256,7 +335,7 @@ fn references_survive(
 fn chosen_reference_survives(
     alloc: Global,
     format: ResolveVersion,
-    list: &[Package],
+    list: &Indexed<'_, Package>,
     dependency: &Dependency,
 ) -> Result<bool>
     ensures ok { IfOk result (λ b. IsTrue b
@@ -264,17 +343,27 @@ fn chosen_reference_survives(
     ensures err { IsOkUnless result Memory }
 {
     let form = chosen_form(format, list, dependency)?;
-    let survives = reference_survives(alloc, &form, reading_list(format, list), dependency)?;
+    let survives = survives_among(alloc, format, &form, list, dependency)?;
     Ok(survives)
 }
 
-// The list in which references are looked up: in V1 they are in full.
-fn reading_list(format: ResolveVersion, list: &[Package]) -> &[Package]
-    ensures { map identity_of result.now ≡ reading_list format (map identity_of list.now) }
+// Whether the reference survives where it is looked up: in V1 by itself.
+fn survives_among(
+    alloc: Global,
+    format: ResolveVersion,
+    form: &EncodableDependency,
+    list: &Indexed<'_, Package>,
+    dependency: &Dependency,
+) -> std::result::Result<bool, AllocError>
+    ensures { IfOk result (λ b. IsTrue b
+        ↔ ReferenceSurvives form.now (reading_list format (map identity_of list.now)) dependency.now) }
 {
     match format {
-        ResolveVersion::V1 => &[],
-        ResolveVersion::V2 | ResolveVersion::V3 | ResolveVersion::V4 => list,
+        ResolveVersion::V1 => reference_survives_alone(alloc, form, dependency),
+        ResolveVersion::V2 | ResolveVersion::V3 | ResolveVersion::V4 => {
+            let survives = reference_survives(alloc, form, list, dependency)?;
+            Ok(survives)
+        }
     }
 }
 
@@ -305,6 +394,6 @@ fn full_reference_survives(
     ensures err { IsOkUnless result Memory }
 {
     let form = EncodableDependency::from_dependency(dependency, format)?;
-    let survives = reference_survives(alloc, &form, &[], dependency)?;
+    let survives = reference_survives_alone(alloc, &form, dependency)?;
     Ok(survives)
 }

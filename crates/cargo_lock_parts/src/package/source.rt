@@ -23,6 +23,7 @@ use std::cmp::Ordering;
 use std::fmt;
 use std::hash::{Hash, Hasher};
 use std::marker::Model;
+use std::sync::Arc;
 use url::Url;
 
 /// The index of crates.io, as a git repository.
@@ -58,15 +59,32 @@ pub enum SourceKind {
 ///
 /// Two sources are equal where their URLs, kinds and, for git, their precise texts are. So a
 /// registry that was read from a lockfile equals one that was made by a call.
-#[derive(Debug, Drop)]
+///
+/// A clone shares the parts with its original, so it takes no more memory than a count.
+#[derive(Drop)]
 pub struct SourceId {
+    parts: Arc<SourceParts>,
+}
+
+impl Model for SourceId {
+    ghost use Rattle.std.specs.Arc.{arc_value};
+    ghost use Rattle.cargo_lock_parts.specs.Source.{Source};
+
+    ghost Value = { Source };
+
+    ghost view = { λ s. arc_value s.parts };
+}
+
+// The parts of a source, which its clones share.
+#[derive(Drop)]
+struct SourceParts {
     url: Url,
     kind: SourceKind,
     precise: Option<String>,
     name: Option<String>,
 }
 
-impl Model for SourceId {
+impl Model for SourceParts {
     ghost use Rattle.std.specs.Prelude.{option_map, string_bytes};
     ghost use Rattle.cargo_lock_parts.specs.Source.{Source, kind_of};
 
@@ -90,21 +108,21 @@ impl SourceId {
     pub fn url(&self) -> &Url
         ensures { result.now ≡ self.now.url }
     {
-        &self.url
+        &self.parts.url
     }
 
     /// The kind.
     pub fn kind(&self) -> &SourceKind
         ensures { kind_of result.now ≡ self.now.kind }
     {
-        &self.kind
+        &self.parts.kind
     }
 
     /// The text that pins the source, if there is one: a commit, or `locked`.
     pub fn precise(&self) -> Option<&str>
         ensures { option_copied result ≡ self.now.precise }
     {
-        match &self.precise {
+        match &self.parts.precise {
             Some(text) => Some(text.as_str()),
             None => None,
         }
@@ -114,7 +132,7 @@ impl SourceId {
     pub fn git_reference(&self) -> Option<&GitReference>
         ensures { option_map (λ reference. reference_of reference.now) result ≡ git_reference self.now.kind }
     {
-        match &self.kind {
+        match self.kind() {
             SourceKind::Git(reference) => Some(reference),
             _ => None,
         }
@@ -141,11 +159,35 @@ impl SourceId {
         ensures ok { IfOk result (λ source. source ≡ record self.now { precise = option_map string_bytes precise }) }
         ensures err { IsOkUnless result Memory }
     {
-        Ok(SourceId {
-            url: self.url.clone()?,
-            kind: self.kind.clone()?,
+        let alloc = allocator_of(self.url())?;
+        let parts = SourceParts {
+            url: self.url().clone()?,
+            kind: self.kind().clone()?,
             precise,
-            name: clone_text(&self.name)?,
+            name: clone_text(&self.parts.name)?,
+        };
+        Ok(SourceId {
+            parts: Arc::new(alloc, parts)?,
+        })
+    }
+
+    // A source of these parts, with no name.
+    fn from_parts(
+        alloc: Global,
+        url: Url,
+        kind: SourceKind,
+        precise: Option<String>,
+    ) -> std::result::Result<SourceId, AllocError>
+        ensures { IfOk result (λ source. source ≡ plain_source (kind_of kind) (option_map string_bytes precise) url) }
+    {
+        let parts = SourceParts {
+            url,
+            kind,
+            precise,
+            name: None,
+        };
+        Ok(SourceId {
+            parts: Arc::new(alloc, parts)?,
         })
     }
 
@@ -154,12 +196,8 @@ impl SourceId {
         ensures ok { IfOk result (λ source. source ≡ plain_source (kind_of kind) None url.now) }
         ensures err { IsOkUnless result Memory }
     {
-        Ok(SourceId {
-            url: url.clone()?,
-            kind,
-            precise: None,
-            name: None,
-        })
+        let alloc = allocator_of(url)?;
+        Ok(SourceId::from_parts(alloc, url.clone()?, kind, None)?)
     }
 }
 
@@ -170,7 +208,7 @@ impl SourceId {
     fn name(&self) -> Option<&str>
         ensures { option_copied result ≡ self.now.name }
     {
-        match &self.name {
+        match &self.parts.name {
             Some(text) => Some(text.as_str()),
             None => None,
         }
@@ -179,7 +217,7 @@ impl SourceId {
     fn precise_if_git(&self) -> Option<&str>
         ensures { option_copied result ≡ precise_if_git self.now.kind self.now.precise }
     {
-        match &self.kind {
+        match self.kind() {
             SourceKind::Git(_) => self.precise(),
             _ => None,
         }
@@ -246,16 +284,30 @@ fn clone_text(text: &Option<String>) -> std::result::Result<Option<String>, Allo
     }
 }
 
+// The allocator that the text of a URL stands in.
+fn allocator_of(url: &Url) -> std::result::Result<Global, AllocError> {
+    let text = String::from(url.clone()?);
+    Ok(*text.allocator())
+}
+
 impl Clone for SourceId {
     ghost is_clone = { λ source copy. copy ≡ source };
 
     fn clone(&self) -> std::result::Result<SourceId, AllocError> {
         Ok(SourceId {
-            url: self.url.clone()?,
-            kind: self.kind.clone()?,
-            precise: clone_text(&self.precise)?,
-            name: clone_text(&self.name)?,
+            parts: self.parts.clone()?,
         })
+    }
+}
+
+impl fmt::Debug for SourceId {
+    fn fmt<W: fmt::Write>(&self, f: &mut fmt::Formatter<W>) -> fmt::Result {
+        f.debug_struct("SourceId")
+            .field("url", self.url())
+            .field("kind", self.kind())
+            .field("precise", &self.parts.precise)
+            .field("name", &self.parts.name)
+            .finish()
     }
 }
 
@@ -309,11 +361,15 @@ impl Ord for SourceId {
     ghost matches_eq = { λ a b. refl };
 
     fn cmp(&self, other: &SourceId) -> Ordering {
-        self.url
-            .cmp(&other.url)
+        self.url()
+            .cmp(other.url())
             .then(cmp_texts(self.name(), other.name()))
-            .then(self.kind.place().cmp(&other.kind.place()))
-            .then(self.kind.reference_text().cmp(other.kind.reference_text()))
+            .then(self.kind().place().cmp(&other.kind().place()))
+            .then(
+                self.kind()
+                    .reference_text()
+                    .cmp(other.kind().reference_text()),
+            )
             .then(cmp_texts(self.precise_if_git(), other.precise_if_git()))
     }
 }
@@ -339,10 +395,10 @@ impl Hash for SourceId {
     ghost respects_eq = { source_alike };
 
     fn hash<H: Hasher>(&self, state: &mut H) {
-        self.url.hash(state);
+        self.url().hash(state);
         self.name().unwrap_or("").hash(state);
-        self.kind.place().hash(state);
-        self.kind.reference_text().hash(state);
+        self.kind().place().hash(state);
+        self.kind().reference_text().hash(state);
         self.precise_if_git().unwrap_or("").hash(state);
     }
 }

@@ -2,21 +2,21 @@
 //!
 //! Each test writes the text and reads it. A URL that comes to 4 GB is told as want of memory.
 
-ghost use Rattle.std.specs.Prelude.{◌≡◌, ◌↔◌, IfOk, IfSome, IsTrue, Some, map, option_copied, option_map};
-ghost use Rattle.std.specs.List.{find};
+ghost use Rattle.std.specs.Prelude.{◌≡◌, ◌↔◌, [], IfOk, IfSome, IsTrue, Some, map, option_map};
 ghost use Rattle.semver.specs.Identifiers.{parts_of, parts_text};
 ghost use Rattle.cargo_lock_parts.specs.Identity.{identity_of};
 ghost use Rattle.cargo_lock_parts.specs.SourceKey.{key_of};
 ghost use Rattle.cargo_lock_parts.specs.SourceReading.{source_of};
 ghost use Rattle.cargo_lock_parts.specs.SourceText.{marked_text};
 ghost use Rattle.cargo_lock_encoding.specs.Chosen.{marked};
-ghost use Rattle.cargo_lock_encoding.specs.Said.{fits, itself, said};
+ghost use Rattle.cargo_lock_encoding.specs.Said.{itself, said};
 ghost use Rattle.cargo_lock.specs.Survives.{FormSurvives, ReferenceSurvives, SaysEqual, SourceSurvives, TextReadsBack, VersionSurvives};
 ghost use Rattle.cargo_lock_encoding.specs.TableReading.{version_of};
 ghost use Rattle.cargo_lock_encoding.specs.Words.{IsDense, IsWord};
 
 use crate::error::Error;
 use crate::lockfile::encoding::{EncodableDependency, EncodableSourceId};
+use cargo_lock_encoding::index::Indexed;
 use cargo_lock_encoding::reading::version_of;
 use cargo_lock_encoding::reference::{bare_source, same_version};
 use cargo_lock_parts::dependency::Dependency;
@@ -138,12 +138,25 @@ fn source_word_survives(alloc: Global, source: &EncodableSourceId) -> Result<boo
 pub(super) fn reference_survives(
     alloc: Global,
     form: &EncodableDependency,
-    list: &[Package],
+    list: &Indexed<'_, Package>,
     dependency: &Dependency,
 ) -> Result<bool, AllocError>
     ensures { IfOk result (λ b. IsTrue b ↔ ReferenceSurvives form.now (map identity_of list.now) dependency.now) }
 {
     Ok(form_survives(alloc, form)? && says_equal(alloc, form, list, dependency)?)
+}
+
+// Whether a reference reads back, and says this dependency by itself.
+pub(super) fn reference_survives_alone(
+    alloc: Global,
+    form: &EncodableDependency,
+    dependency: &Dependency,
+) -> Result<bool, AllocError>
+    ensures { IfOk result (λ b. IsTrue b ↔ ReferenceSurvives form.now [] dependency.now) }
+{
+    let empty = Indexed::none(alloc);
+    let survives = reference_survives(alloc, form, &empty, dependency)?;
+    Ok(survives)
 }
 
 // Whether each part of the reference is one word that reads back.
@@ -184,7 +197,7 @@ fn written_source_survives(
 fn says_equal(
     alloc: Global,
     form: &EncodableDependency,
-    list: &[Package],
+    list: &Indexed<'_, Package>,
     dependency: &Dependency,
 ) -> Result<bool, AllocError>
     ensures { IfOk result (λ b. IsTrue b ↔ SaysEqual form.now (map identity_of list.now) dependency.now) }
@@ -196,35 +209,19 @@ fn says_equal(
 }
 
 // What the reference says among these packages.
-fn said(form: &EncodableDependency, list: &[Package]) -> Result<Option<Dependency>, AllocError>
+fn said(
+    form: &EncodableDependency,
+    list: &Indexed<'_, Package>,
+) -> Result<Option<Dependency>, AllocError>
     ensures { IfOk result (λ o. o ≡ said form.now (map identity_of list.now)) }
 {
     if form.source.is_some() {
         return itself(form);
     }
-    match first_fit(form, list) {
+    match list.first_fit(form) {
         Some(one) => Ok(Some(identity(one)?)),
         None => itself(form),
     }
-}
-
-fn fits(form: &EncodableDependency, one: &Package) -> bool
-    ensures { result ≡ fits form.now (identity_of one.now) }
-{
-    one.name.as_str() == form.name.as_str()
-        && match &form.version {
-            Some(version) => same_version(&one.version, version),
-            None => true,
-        }
-}
-
-fn first_fit<'a>(form: &EncodableDependency, list: &'a [Package]) -> Option<&'a Package>
-    ensures { option_copied result ≡ find (λ one. fits form.now (identity_of one)) list.now }
-{
-    list.iter().find(|one| {
-        let one: &Package = one;
-        fits(form, one)
-    })
 }
 
 fn identity(one: &Package) -> Result<Dependency, AllocError>

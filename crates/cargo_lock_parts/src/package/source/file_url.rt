@@ -95,12 +95,7 @@ fn at_path(alloc: Global, path: Path<'_>, kind: SourceKind) -> Result<SourceId>
     }
     let text = file_url_text(alloc, path)?;
     let url = parse_url(alloc, text.as_str())?;
-    Ok(SourceId {
-        url,
-        kind,
-        precise: None,
-        name: None,
-    })
+    Ok(SourceId::from_parts(alloc, url, kind, None)?)
 }
 
 // Whether the path is one from the root.

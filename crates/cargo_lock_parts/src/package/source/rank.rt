@@ -49,7 +49,7 @@ impl SourceId {
     {
         self.same_url_and_name(other)
             && self.both_git(other)
-            && same_kind(&self.kind, &other.kind)
+            && same_kind(self.kind(), other.kind())
             && (self.precise().is_none() || other.precise().is_none())
     }
 
@@ -58,7 +58,7 @@ impl SourceId {
         ensures { result ≡ has_rank_4 self.now other.now }
     {
         self.same_url_and_name(other)
-            && (self.is_open_git(other) || is_same_other_kind(&self.kind, &other.kind))
+            && (self.is_open_git(other) || is_same_other_kind(self.kind(), other.kind()))
     }
 
     // Repositories without two different precise texts.
@@ -72,7 +72,7 @@ impl SourceId {
     fn same_url_and_name(&self, other: &SourceId) -> bool
         ensures { result ≡ same_url_and_name self.now other.now }
     {
-        self.url.as_str() == other.url.as_str() && same_texts(self.name(), other.name())
+        self.url().as_str() == other.url().as_str() && same_texts(self.name(), other.name())
     }
 
     // Both are repositories.
@@ -88,7 +88,7 @@ impl SourceId {
     {
         match self.precise() {
             Some(precise) => Some(precise),
-            None => self.kind.revision(),
+            None => self.kind().revision(),
         }
     }
 }

@@ -94,12 +94,7 @@ fn source_by(alloc: Global, protocol: Protocol, url: Url) -> Result<SourceId>
         Protocol::Git => git_source(alloc, url),
         Protocol::Registry => locked_source(alloc, url, SourceKind::Registry),
         Protocol::Sparse => locked_source(alloc, url, SourceKind::SparseRegistry),
-        Protocol::Path => Ok(SourceId {
-            url,
-            kind: SourceKind::Path,
-            precise: None,
-            name: None,
-        }),
+        Protocol::Path => Ok(SourceId::from_parts(alloc, url, SourceKind::Path, None)?),
     }
 }
 
@@ -108,12 +103,8 @@ fn locked_source(alloc: Global, url: Url, kind: SourceKind) -> Result<SourceId>
     ensures ok { IfOk result (λ source. source ≡ spec.plain_source (kind_of kind) (Some (codes "locked")) url) }
     ensures err { IfErr result OnlyTooLong }
 {
-    Ok(SourceId {
-        url,
-        kind,
-        precise: Some(String::from_str(alloc, "locked")?),
-        name: None,
-    })
+    let precise = Some(String::from_str(alloc, "locked")?);
+    Ok(SourceId::from_parts(alloc, url, kind, precise)?)
 }
 
 // A git source.
@@ -127,12 +118,7 @@ fn git_source(alloc: Global, url: Url) -> Result<SourceId>
         None => None,
     };
     let url = without_tail(alloc, url)?;
-    Ok(SourceId {
-        url,
-        kind: SourceKind::Git(reference),
-        precise,
-        name: None,
-    })
+    Ok(SourceId::from_parts(alloc, url, SourceKind::Git(reference), precise)?)
 }
 
 // The reference of the last pair of the query that names one.

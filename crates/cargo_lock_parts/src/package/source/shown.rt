@@ -31,14 +31,14 @@ impl SourceId {
     pub fn is_path(&self) -> bool
         ensures { result ≡ is_path self.now.kind }
     {
-        matches!(self.kind, SourceKind::Path)
+        matches!(self.kind(), SourceKind::Path)
     }
 
     /// Whether the source is a git repository.
     pub fn is_git(&self) -> bool
         ensures { result ≡ is_git self.now.kind }
     {
-        self.kind.is_git()
+        self.kind().is_git()
     }
 
     /// Whether the source is a registry, remote or on this machine. A folder of packages is none.
@@ -46,7 +46,7 @@ impl SourceId {
         ensures { result ≡ is_registry self.now.kind }
     {
         matches!(
-            self.kind,
+            self.kind(),
             SourceKind::Registry | SourceKind::SparseRegistry | SourceKind::LocalRegistry
         )
     }
@@ -55,7 +55,10 @@ impl SourceId {
     pub fn is_remote_registry(&self) -> bool
         ensures { result ≡ is_remote_registry self.now.kind }
     {
-        matches!(self.kind, SourceKind::Registry | SourceKind::SparseRegistry)
+        matches!(
+            self.kind(),
+            SourceKind::Registry | SourceKind::SparseRegistry
+        )
     }
 
     /// Whether the source is the registry of crates.io, by either of its two indexes. The URL
@@ -63,9 +66,9 @@ impl SourceId {
     pub fn is_default_registry(&self) -> bool
         ensures { result ≡ is_default_registry self.now }
     {
-        match &self.kind {
-            SourceKind::Registry => self.url.as_str() == CRATES_IO_INDEX,
-            SourceKind::SparseRegistry => self.url.as_str() == CRATES_IO_SPARSE_URL,
+        match self.kind() {
+            SourceKind::Registry => self.url().as_str() == CRATES_IO_INDEX,
+            SourceKind::SparseRegistry => self.url().as_str() == CRATES_IO_SPARSE_URL,
             _ => false,
         }
     }
@@ -83,12 +86,7 @@ impl SourceId {
         ensures err { IsOkUnless result Memory }
     {
         match Url::parse(alloc, CRATES_IO_INDEX) {
-            Ok(url) => Ok(SourceId {
-                url,
-                kind: SourceKind::Registry,
-                precise: None,
-                name: None,
-            }),
+            Ok(url) => Ok(SourceId::from_parts(alloc, url, SourceKind::Registry, None)?),
             Err(_) => Err(Error::Memory),
         }
     }
@@ -104,7 +102,7 @@ impl SourceId {
         if self.is_default_registry() {
             Ok(String::from_str(alloc, "crates.io index")?)
         } else {
-            let url = self.url.as_str();
+            let url = self.url().as_str();
             Ok(format!(in alloc; "`{url}` index")?)
         }
     }
@@ -120,7 +118,7 @@ impl SourceId {
         if self.is_default_registry() {
             Ok(String::from_str(alloc, "crates.io")?)
         } else {
-            let name = self.name().unwrap_or(self.url.as_str());
+            let name = self.name().unwrap_or(self.url().as_str());
             Ok(String::from_str(alloc, name)?)
         }
     }

@@ -68,8 +68,8 @@ impl fmt::Display for SourceIdAsUrl<'_> {
 
     fn fmt<W: fmt::Write>(&self, f: &mut fmt::Formatter<W>) -> fmt::Result {
         let id = self.id;
-        let url = id.url.as_str();
-        match &id.kind {
+        let url = id.url().as_str();
+        match id.kind() {
             SourceKind::Git(reference) => {
                 write!(f, "git+{url}")?;
                 write_query(reference, self.escaped, f)?;

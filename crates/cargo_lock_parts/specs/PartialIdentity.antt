@@ -1,0 +1,94 @@
+-- A name and, where they are meant, a version and a source: what packages are looked up by.
+use Rattle.std.specs.Prelude.{◌≡◌, ℕ, Bool, List, Option, Some, None, option_map, refl}
+use Rattle.std.specs.Option.{option_cmp}
+use Rattle.std.specs.declared.cmp.Ordering.{Ordering}
+use Rattle.std.specs.declared.cmp.Ordering.TheVariants.{Equal}
+use Rattle.std.specs.Ordering.{on, then_cmp, ordering_then, eq_by_cmp, is_eq}
+use Rattle.std.specs.Bool.{Decides}
+use Rattle.std.specs.Cmp.{Equal-is, IsTotalOrder, on_total, then_total}
+use Rattle.std.specs.Cmp.Lexicographic.{nat_list_cmp_total, options_total}
+use Rattle.std.specs.FinMap.{IsAntisymmetric}
+use Rattle.std.proofs.Common.{sym, ◌∙◌, ap, subst}
+use Rattle.std.proofs.lemmas.Cmp.{tied_itself}
+use Rattle.semver.specs.Parse.{Parts}
+use Rattle.cargo_lock_parts.specs.IdentityLaws.{version_total, version_cmp-anti, text_cmp-anti, key_cmp-anti, option_cmp-anti, option_cmp-by, tied-first, tied-second}
+use Rattle.cargo_lock_parts.specs.IdentityOrder.{version_cmp}
+use Rattle.cargo_lock_parts.specs.Source.{Source}
+use Rattle.cargo_lock_parts.specs.SourceKey.{Key, key_cmp, key_of, source_cmp, text_cmp}
+use Rattle.cargo_lock_parts.specs.SourceLaws.{key_total, source_total}
+
+pub record PartialIdentity : Type 0 where
+  pub name : List ℕ
+  pub version : Option Parts
+  pub source : Option Source
+
+-- a name alone
+abbrev pub name_alone : List ℕ → PartialIdentity
+name_alone name = record { name = name; version = None; source = None }
+
+-- a name and a version
+abbrev pub name_and_version : List ℕ → Parts → PartialIdentity
+name_and_version name version = record { name = name; version = Some version; source = None }
+
+-- they compare part by part, sources by their keys, and an absent part stands before a present one
+abbrev pub partial_identity_cmp : PartialIdentity → PartialIdentity → Ordering
+partial_identity_cmp = then_cmp (then_cmp
+    (on (λ i. i.name) text_cmp)
+    (on (λ i. i.version) (option_cmp version_cmp)))
+    (on (λ i. i.source) (option_cmp source_cmp))
+
+abbrev pub is_same_partial_identity : PartialIdentity → PartialIdentity → Bool
+is_same_partial_identity = eq_by_cmp partial_identity_cmp
+
+pub partial_identity_total : IsTotalOrder partial_identity_cmp
+partial_identity_total = then_total (then_total
+    (on_total (λ (i : PartialIdentity). i.name) nat_list_cmp_total)
+    (on_total (λ (i : PartialIdentity). i.version) (options_total version_total)))
+    (on_total (λ (i : PartialIdentity). i.source) (options_total source_total))
+
+-- ---- keys
+
+pub record PartialKey : Type 0 where
+  pub name : List ℕ
+  pub version : Option Parts
+  pub source : Option Key
+
+-- what equality looks at
+abbrev pub partial_key : PartialIdentity → PartialKey
+partial_key i = record { name = i.name; version = i.version; source = option_map key_of i.source }
+
+partial_key_cmp : PartialKey → PartialKey → Ordering
+partial_key_cmp = then_cmp (then_cmp
+    (on (λ k. k.name) text_cmp)
+    (on (λ k. k.version) (option_cmp version_cmp)))
+    (on (λ k. k.source) (option_cmp key_cmp))
+
+partial_key-total : IsTotalOrder partial_key_cmp
+unfolding partial_key_cmp
+partial_key-total = then_total (then_total
+    (on_total (λ (k : PartialKey). k.name) nat_list_cmp_total)
+    (on_total (λ (k : PartialKey). k.version) (options_total version_total)))
+    (on_total (λ (k : PartialKey). k.source) (options_total key_total))
+
+partial_key-anti : IsAntisymmetric partial_key_cmp
+unfolding partial_key_cmp
+partial_key-anti j k e =
+    let front = tied-first _ _ e in
+    let name = text_cmp-anti j.name k.name (tied-first _ _ front) in
+    let version = option_cmp-anti version_cmp-anti j.version k.version (tied-second _ _ front) in
+    let source = option_cmp-anti key_cmp-anti j.source k.source (tied-second _ _ e) in
+    λ i. record { name = name i; version = version i; source = source i }
+
+partial_identity_cmp-key : (a b : PartialIdentity) → partial_identity_cmp a b ≡ partial_key_cmp (partial_key a) (partial_key b)
+unfolding partial_key_cmp
+partial_identity_cmp-key a b =
+    ap (ordering_then (ordering_then (text_cmp a.name b.name) (option_cmp version_cmp a.version b.version)))
+    (option_cmp-by key_of source_cmp key_cmp (λ x y. refl) a.source b.source)
+
+-- two are the same exactly where their keys are
+pub is_same_partial_identity-Decides : (a b : PartialIdentity) → Decides (is_same_partial_identity a b) (partial_key a ≡ partial_key b)
+is_same_partial_identity-Decides a b = (
+  λ h. partial_key-anti _ _ (sym (partial_identity_cmp-key a b) ∙ (Equal-is (partial_identity_cmp a b)).0 h),
+  λ e. ap is_eq (partial_identity_cmp-key a b
+      ∙ subst (λ k. partial_key_cmp (partial_key a) k ≡ Equal) e (tied_itself partial_key-total (partial_key a))),
+)

@@ -1,0 +1,146 @@
+//! What packages are looked up by.
+
+ghost use Rattle.std.specs.Prelude.{◌≡◌, option_map};
+ghost use Rattle.std.specs.Option.{option_cmp};
+ghost use Rattle.semver.specs.Identifiers.{parts_of};
+ghost use Rattle.cargo_lock_parts.specs.IdentityOrder.{version_cmp};
+ghost use Rattle.cargo_lock_parts.specs.SourceKey.{source_cmp};
+
+use crate::package::{Name, SourceId, Version};
+use std::cmp::Ordering;
+use std::marker::Model;
+
+/// A name and, where they are meant, a version and a source: a key of maps over packages. It borrows
+/// its parts, so that a look-up copies none. Two compare part by part, and an absent part stands
+/// before a present one.
+#[derive(Drop)]
+pub struct PartialIdentity<'a> {
+    /// The name.
+    pub name: &'a Name,
+
+    /// The version, where one is meant.
+    pub version: Option<&'a Version>,
+
+    /// The source, where one is meant.
+    pub source: Option<&'a SourceId>,
+}
+
+impl<'a> Model for PartialIdentity<'a> {
+    ghost use Rattle.std.specs.Prelude.{option_map};
+    ghost use Rattle.semver.specs.Identifiers.{parts_of};
+    ghost use Rattle.cargo_lock_parts.specs.PartialIdentity.{PartialIdentity};
+
+    ghost Value = { PartialIdentity };
+
+    ghost view = { λ i. record {
+      name = i.name.now;
+      version = option_map (λ v. parts_of v.now) i.version;
+      source = option_map (λ s. s.now) i.source;
+    } };
+}
+
+impl<'a> PartialIdentity<'a> {
+    ghost use Rattle.cargo_lock_parts.specs.PartialIdentity.{name_alone, name_and_version};
+
+    /// A name alone.
+    pub fn name_alone(name: &'a Name) -> PartialIdentity<'a>
+        ensures { result ≡ name_alone name.now }
+    {
+        PartialIdentity {
+            name,
+            version: None,
+            source: None,
+        }
+    }
+
+    /// A name and a version.
+    pub fn name_and_version(name: &'a Name, version: &'a Version) -> PartialIdentity<'a>
+        ensures { result ≡ name_and_version name.now (parts_of version.now) }
+    {
+        PartialIdentity {
+            name,
+            version: Some(version),
+            source: None,
+        }
+    }
+}
+
+impl<'a> PartialEq for PartialIdentity<'a> {
+    ghost use Rattle.std.specs.Cmp.{partial_equiv_from_equiv, eq_by_cmp_equiv};
+    ghost use Rattle.cargo_lock_parts.specs.PartialIdentity.{is_same_partial_identity, partial_identity_total};
+
+    ghost eq = { is_same_partial_identity };
+
+    ghost laws = { partial_equiv_from_equiv (eq_by_cmp_equiv partial_identity_total) };
+
+    fn eq(&self, other: &PartialIdentity<'a>) -> bool {
+        self.cmp(other) == Ordering::Equal
+    }
+}
+
+impl<'a> Eq for PartialIdentity<'a> {
+    ghost use Rattle.std.specs.Cmp.{eq_by_cmp_equiv};
+    ghost use Rattle.cargo_lock_parts.specs.PartialIdentity.{partial_identity_total};
+
+    ghost laws = { eq_by_cmp_equiv partial_identity_total };
+}
+
+impl<'a> PartialOrd for PartialIdentity<'a> {
+    ghost use Rattle.std.specs.Ordering.{as_partial_cmp};
+    ghost use Rattle.std.specs.Cmp.{partial_order_from_total};
+    ghost use Rattle.cargo_lock_parts.specs.PartialIdentity.{partial_identity_cmp, partial_identity_total};
+
+    ghost partial_cmp = { as_partial_cmp partial_identity_cmp };
+
+    ghost laws = { partial_order_from_total partial_identity_total };
+
+    fn partial_cmp(&self, other: &PartialIdentity<'a>) -> Option<Ordering> {
+        Some(self.cmp(other))
+    }
+}
+
+impl<'a> Ord for PartialIdentity<'a> {
+    ghost use Rattle.std.specs.Prelude.{refl};
+    ghost use Rattle.cargo_lock_parts.specs.PartialIdentity.{partial_identity_cmp, partial_identity_total};
+
+    ghost cmp = { partial_identity_cmp };
+
+    ghost total = { partial_identity_total };
+
+    ghost matches_partial_cmp = { λ a b. refl };
+
+    ghost matches_eq = { λ a b. refl };
+
+    fn cmp(&self, other: &PartialIdentity<'a>) -> Ordering {
+        self.name
+            .cmp(other.name)
+            .then(cmp_versions(self.version, other.version))
+            .then(cmp_sources(self.source, other.source))
+    }
+}
+
+// An absent version stands before a present one.
+fn cmp_versions(a: Option<&Version>, b: Option<&Version>) -> Ordering
+    ensures { result ≡ option_cmp version_cmp
+        (option_map (λ v. parts_of v.now) a.entry) (option_map (λ v. parts_of v.now) b.entry) }
+{
+    match (a, b) {
+        (None, None) => Ordering::Equal,
+        (None, Some(_)) => Ordering::Less,
+        (Some(_), None) => Ordering::Greater,
+        (Some(a), Some(b)) => a.cmp(b),
+    }
+}
+
+// An absent source stands before a present one.
+fn cmp_sources(a: Option<&SourceId>, b: Option<&SourceId>) -> Ordering
+    ensures { result ≡ option_cmp source_cmp
+        (option_map (λ s. s.now) a.entry) (option_map (λ s. s.now) b.entry) }
+{
+    match (a, b) {
+        (None, None) => Ordering::Equal,
+        (None, Some(_)) => Ordering::Less,
+        (Some(_), None) => Ordering::Greater,
+        (Some(a), Some(b)) => a.cmp(b),
+    }
+}
