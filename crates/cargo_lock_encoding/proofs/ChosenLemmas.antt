@@ -6,7 +6,8 @@ use Rattle.std.proofs.lemmas.List.Sums.{sum_by-cons}
 use Rattle.std.proofs.lemmas.Option.{same_Some, none-some}
 use Rattle.semver.specs.Parse.{Parts}
 use Rattle.cargo_lock_parts.specs.Identity.{Identity}
-use Rattle.cargo_lock_encoding.specs.Chosen.{BearsBoth, BearsName, IsUnique, ShortenedByPlaces, ShortenedTwice, bears_both, bears_name, is_version_unique, one, shortened}
+use Rattle.cargo_lock_encoding.specs.Chosen.{BearsBoth, BearsName, IsUnique, ShortenedByPlaces, ShortenedTwice, bears_both, bears_name, in_full, is_version_unique, one, shortened}
+use Rattle.cargo_lock_encoding.specs.Form.{of_one, of_two}
 use Rattle.cargo_lock_encoding.proofs.SaysLemmas.{same_parts-refl, same_parts-yes, same_text-refl, same_text-yes}
 
 -- ---- counting
@@ -141,3 +142,31 @@ shortened-twice list f = elim (cases_Bool (one (bears_name f.name) list)) [
     | inr several ↦ rw (miss, several, miss, several)
   ]
 ]
+
+-- ---- the form that is written, told by two tests
+
+pub shortened-to_one : (list : List Identity) (escaped : Bool) (d : Identity) (name : List ℕ) (a : Bool)
+    → name ≡ d.name → a ≡ one (bears_name name) list → a ≡ true
+    → shortened list (in_full escaped d) ≡ of_one name
+unfolding shortened
+shortened-to_one list escaped d name a named by_name is_one =
+    let x : one (bears_name d.name) list ≡ true = ap (λ n. one (bears_name n) list) (sym named) ∙ sym by_name ∙ is_one in
+    rw x (ap of_one (sym named))
+
+pub shortened-to_two : (list : List Identity) (escaped : Bool) (d : Identity) (name : List ℕ) (version : Parts) (a b : Bool)
+    → name ≡ d.name → version ≡ d.version → a ≡ one (bears_name name) list → a ≡ false → b ≡ one (bears_both name version) list → b ≡ true
+    → shortened list (in_full escaped d) ≡ of_two name version
+unfolding shortened
+shortened-to_two list escaped d name version a b named versioned by_name unnamed by_both is_one =
+    let x : one (bears_name d.name) list ≡ false = ap (λ n. one (bears_name n) list) (sym named) ∙ sym by_name ∙ unnamed in
+    let y : one (bears_both d.name d.version) list ≡ true = sym (λ i. one (bears_both (named i) (versioned i)) list) ∙ sym by_both ∙ is_one in
+    rw (x, y) (λ i. of_two (sym named i) (sym versioned i))
+
+pub shortened-to_full : (list : List Identity) (escaped : Bool) (d : Identity) (name : List ℕ) (version : Parts) (a b : Bool)
+    → name ≡ d.name → version ≡ d.version → a ≡ one (bears_name name) list → a ≡ false → b ≡ one (bears_both name version) list → b ≡ false
+    → shortened list (in_full escaped d) ≡ in_full escaped d
+unfolding shortened
+shortened-to_full list escaped d name version a b named versioned by_name unnamed by_both miss =
+    let x : one (bears_name d.name) list ≡ false = ap (λ n. one (bears_name n) list) (sym named) ∙ sym by_name ∙ unnamed in
+    let y : one (bears_both d.name d.version) list ≡ false = sym (λ i. one (bears_both (named i) (versioned i)) list) ∙ sym by_both ∙ miss in
+    rw (x, y) refl

@@ -2,7 +2,7 @@ pub mod ChecksumKeys
 pub mod ChosenLemmas
 pub mod LeastKeys
 pub mod Lines
-pub mod Places
+pub mod Occurrences
 pub mod Puts
 pub mod ReadKeys
 pub mod ReadSources

@@ -1,5 +1,5 @@
 -- The sources of texts: what one more text changes.
-use Rattle.std.proofs.Common.{◌≡◌, ℕ, List, Bool, true, false, cond, Option, Some, refl, sym, ap, subst, ◌∙◌, String, string_bytes, bytes_eq}
+use Rattle.std.proofs.Common.{◌≡◌, ℕ, List, true, false, cond, Some, refl, sym, ap, ◌∙◌, String, bytes_eq}
 use Rattle.std.specs.BTreeMap.{BTreeMap, get_by_text}
 use Rattle.std.specs.Map.{update}
 use Rattle.std.proofs.lemmas.Slice.Eq.{bytes_eq-Decides}

@@ -1,48 +1,57 @@
--- An index of a list by name: the places of each name, ascending.
-use Rattle.std.specs.Prelude.{◌≡◌, ◌+◌, if◌then◌else◌, Bool, false, ℕ, List, [], ◌∷◌, Option, Some, None, slice_get}
+-- An index of a list by name, and by name and version: where the items of each stand.
+use Rattle.std.specs.Prelude.{◌≡◌, ◌+◌, ◌&&◌, if◌then◌else◌, Bool, true, false, ℕ, List, [], ◌∷◌, Option, Some, None, slice_get}
 use Rattle.std.specs.BTreeMap.{BTreeMap, get}
-use Rattle.std.specs.Global.{Vec}
-use Rattle.std.specs.Option.{option_map_or}
+use Rattle.std.specs.List.{list_any}
+use Rattle.semver.specs.Parse.{Parts}
 use Rattle.cargo_lock_parts.specs.Identity.{Identity}
-use Rattle.cargo_lock_parts.specs.SourceKey.{text_cmp}
-use Rattle.cargo_lock_encoding.specs.Chosen.{bears_name}
+use Rattle.cargo_lock_parts.specs.PartialIdentity.{PartialIdentity, partial_identity_cmp}
+use Rattle.cargo_lock_encoding.specs.declared.index.Occurrence.{Occurrence}
+use Rattle.cargo_lock_encoding.specs.declared.index.Occurrence.TheVariants.{Only, First}
+use Rattle.cargo_lock_encoding.specs.Said.{has_version, same_text}
 
--- the places from a number on at which the test holds
-abbrev pub places_from : {X : Type 0} → (X → Bool) → ℕ → List X → List ℕ
-places_from p i [] = []
-places_from p i (x ∷ xs) = if p x then i ∷ places_from p (i + 1) xs else places_from p (i + 1) xs
+-- the place of the only item, or of the first of several
+abbrev pub first_place : Occurrence → ℕ
+first_place (Only place) = place
+first_place (First place) = place
 
--- the places at which the test holds, ascending
-abbrev pub places : {X : Type 0} → (X → Bool) → List X → List ℕ
-places p xs = places_from p 0 xs
+-- there is one item alone
+abbrev pub is_only : Option Occurrence → Bool
+is_only None = false
+is_only (Some (Only place)) = true
+is_only (Some (First place)) = false
 
-abbrev pub before_some : {X : Type 0} → Option X → List X → List X
-before_some None xs = xs
-before_some (Some x) xs = x ∷ xs
+-- the item that stands first
+abbrev pub first_item : {X : Type 0} → List X → Option Occurrence → Option X
+first_item xs None = None
+first_item xs (Some found) = slice_get xs (first_place found)
 
--- the items at these places
-abbrev pub listed : {X : Type 0} → List ℕ → List X → List X
-listed [] xs = []
-listed (k ∷ ks) xs = before_some (slice_get xs k) (listed ks xs)
+-- where the items stand that pass, counted from a number on: the only one, or the first of several
+abbrev pub occurrence_from : {X : Type 0} → (X → Bool) → ℕ → List X → Option Occurrence
+occurrence_from p place [] = None
+occurrence_from p place (x ∷ xs) =
+    if p x then Some (if list_any p xs then First place else Only place)
+    else occurrence_from p (place + 1) xs
 
--- the item, if it is there and passes
-abbrev pub passing : {X : Type 0} → (X → Bool) → Option X → Option X
-passing r None = None
-passing r (Some x) = if r x then Some x else None
+-- where the items of a list stand that pass
+abbrev pub occurrence : {X : Type 0} → (X → Bool) → List X → Option Occurrence
+occurrence p xs = occurrence_from p 0 xs
 
--- whether the item is there and passes
-abbrev pub passes : {X : Type 0} → (X → Bool) → Option X → Bool
-passes r None = false
-passes r (Some x) = r x
+-- where they stand once one more item passes, at a place after all others
+abbrev pub with_one_more : ℕ → Option Occurrence → Occurrence
+with_one_more place None = Only place
+with_one_more place (Some (Only first)) = First first
+with_one_more place (Some (First first)) = First first
 
--- the places that the map has for a name
-abbrev pub places_at : BTreeMap (List ℕ) (Vec ℕ) → List ℕ → List ℕ
-places_at m name = option_map_or (λ g. g.items) (get text_cmp m name) []
+-- the identity has the name and, where one is meant, the version
+abbrev pub is_of : List ℕ → Option Parts → Identity → Bool
+is_of name version i = same_text i.name name && has_version version i.version
 
--- whether an item of this identity has the name
-abbrev pub is_of_name : {X : Type 0} → (X → Identity) → List ℕ → X → Bool
-is_of_name identity name x = bears_name name (identity x)
+-- what the map has for a name and, where one is meant, a version
+abbrev pub occurrence_at : BTreeMap PartialIdentity Occurrence → List ℕ → Option Parts → Option Occurrence
+occurrence_at m name version =
+    get partial_identity_cmp m record { name = name; version = version; source = None }
 
--- the map has, for each name, the places of the items with it
-abbrev pub ArePlaces : {X : Type 0} → (X → Identity) → List X → BTreeMap (List ℕ) (Vec ℕ) → Type 0
-ArePlaces identity xs m = (name : List ℕ) → places_at m name ≡ places (is_of_name identity name) xs
+-- the map has, for each name and each name with a version, where the items of it stand
+abbrev pub AreOccurrences : {X : Type 0} → (X → Identity) → List X → BTreeMap PartialIdentity Occurrence → Type 0
+AreOccurrences identity xs m = (name : List ℕ) (version : Option Parts)
+    → occurrence_at m name version ≡ occurrence (λ x. is_of name version (identity x)) xs

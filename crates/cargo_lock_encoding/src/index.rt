@@ -1,19 +1,19 @@
-//! A list of packages and the places of each name in it, so that references are looked up and
-//! shortened without a walk over the list.
+//! A list of packages with an index, so that references are looked up and shortened without a walk
+//! over the list.
 
-ghost use Rattle.std.specs.Prelude.{◌≡◌, ◌∷◌, ◌++◌, [], cond, ℕ, List, IfOk, OnOk, count_by, map, option_copied, option_map, slice_get};
-ghost use Rattle.std.specs.BTreeMap.{is_at};
+ghost use Rattle.std.specs.Prelude.{◌≡◌, ◌&&◌, [], cond, if◌then◌else◌, ℕ, List, Option, Some, None, IfOk, OnOk, map, option_copied, option_map};
+ghost use Rattle.std.specs.BTreeMap.{get, is_at};
 ghost use Rattle.std.specs.List.{find};
 ghost use Rattle.semver.specs.Identifiers.{parts_of};
-ghost use Rattle.cargo_lock_parts.specs.SourceKey.{text_cmp};
-ghost use Rattle.cargo_lock_encoding.specs.Chosen.{bears_both, bears_name};
-ghost use Rattle.cargo_lock_encoding.specs.Index.{ArePlaces, listed, passes, passing, places_at};
+ghost use Rattle.semver.specs.Parse.{Parts};
+ghost use Rattle.cargo_lock_parts.specs.PartialIdentity.{PartialIdentity, partial_identity_cmp};
+ghost use Rattle.cargo_lock_encoding.specs.Chosen.{bears_both, bears_name, one};
+ghost use Rattle.cargo_lock_encoding.specs.Index.{AreOccurrences, is_of, occurrence_at};
 ghost use Rattle.cargo_lock_encoding.specs.Index as spec;
-ghost use Rattle.cargo_lock_encoding.specs.Said.{fits, has_version, same_parts};
+ghost use Rattle.cargo_lock_encoding.specs.Said.{fits, has_version, same_text};
 
-use crate::reference::same_version;
-use crate::{EncodableDependency, EncodablePackage};
-use cargo_lock_parts::package::{Name, Package, Version};
+use crate::{EncodableDependencyRef, EncodablePackage};
+use cargo_lock_parts::package::{Name, Package, PartialIdentity, Version};
 use std::alloc::{AllocError, Global};
 use std::collections::BTreeMap;
 use std::marker::Model;
@@ -63,59 +63,124 @@ impl Identified for EncodablePackage {
     }
 }
 
-/// A list, with the ascending places of each name.
+// Where the items of a name stand, or those of a name and a version.
+#[derive(Clone, Copy)]
+enum Occurrence {
+    // There is one item, at this place.
+    Only(usize),
+
+    // There are several, and the first one is at this place.
+    First(usize),
+}
+
+impl Occurrence {
+    // The place of the first item.
+    fn first_place(self) -> usize
+        ensures { result ≡ spec.first_place self }
+    {
+        match self {
+            Occurrence::Only(place) | Occurrence::First(place) => place,
+        }
+    }
+
+    // Where the items stand once there is one more, at a place after all others.
+    fn with_one_more(before: Option<Occurrence>, place: usize) -> Occurrence
+        ensures { result ≡ spec.with_one_more place before }
+    {
+        match before {
+            None => Occurrence::Only(place),
+            Some(before) => Occurrence::First(before.first_place()),
+        }
+    }
+}
+
+// Whether there is one item alone.
+fn is_only(found: Option<Occurrence>) -> bool
+    ensures { result ≡ spec.is_only found }
+{
+    matches!(found, Some(Occurrence::Only(_)))
+}
+
+// Where the items stand, by their names, and by their names and versions.
+type Occurrences<'a> = BTreeMap<PartialIdentity<'a>, Occurrence>;
+
+/// A list, and where the items of each name, and of each name and version, stand in it.
 #[derive(Drop)]
 pub struct Indexed<'a, T: Identified> {
     list: &'a [T],
-    places: BTreeMap<Name, Vec<usize>>,
+    occurrences: Occurrences<'a>,
 }
 
 impl<'a, T: Identified> Model for Indexed<'a, T> {
     ghost use Rattle.std.specs.Prelude.{List};
-    ghost use Rattle.cargo_lock_encoding.specs.Index.{ArePlaces};
+    ghost use Rattle.cargo_lock_encoding.specs.Index.{AreOccurrences};
 
     ghost Value = { List T };
 
     ghost view = { λ x. x.list.now };
 
-    ghost invariant = { λ x. ArePlaces T.identity x.list.now x.places };
+    ghost invariant = { λ x. AreOccurrences T.identity x.list.now x.occurrences };
 }
 
-// The places of each name in this list.
-fn places_of<T: Identified>(
+// Where the items of this list stand.
+fn occurrences_of<'a, T: Identified>(
     alloc: Global,
-    list: &[T],
-) -> Result<BTreeMap<Name, Vec<usize>>, AllocError>
-    ensures { IfOk result (λ places. ArePlaces T.identity list.now places) }
+    list: &'a [T],
+) -> Result<Occurrences<'a>, AllocError>
+    ensures { IfOk result (λ occurrences. AreOccurrences T.identity list.now occurrences) }
 {
-    let mut places = BTreeMap::new(alloc);
+    let mut occurrences = BTreeMap::new(alloc);
     for place in 0..list.len() {
-        let one = &list[place];
-        push_place(&mut places, one.name(), place)?;
+        let item = &list[place];
+        add_item(&mut occurrences, item.name(), item.version(), place)?;
     }
-    Ok(places)
+    Ok(occurrences)
 }
 
-// Adds a place to those of a name.
-fn push_place(
-    places: &mut BTreeMap<Name, Vec<usize>>,
-    name: &Name,
+// Adds an item at a place after all others.
+fn add_item<'a>(
+    occurrences: &mut Occurrences<'a>,
+    name: &'a Name,
+    version: &'a Version,
     place: usize,
 ) -> Result<(), AllocError>
-    ensures { OnOk result ((q : List ℕ) → places_at places.new q
-        ≡ cond (is_at (text_cmp name.now) q) (places_at places.old name.now ++ place ∷ []) (places_at places.old q)) }
+    ensures { OnOk result ((n : List ℕ) (v : Option Parts) → occurrence_at occurrences.new n v
+        ≡ (if same_text name.now n && has_version v (parts_of version.now)
+            then Some (spec.with_one_more place (occurrence_at occurrences.old n v))
+            else occurrence_at occurrences.old n v)) }
 {
-    places.entry(name.clone()?)?.or_default().push(place)?;
+    add_under(occurrences, PartialIdentity::name_alone(name), place)?;
+    add_under(
+        occurrences,
+        PartialIdentity::name_and_version(name, version),
+        place,
+    )?;
+    Ok(())
+}
+
+// Adds an item under a key.
+fn add_under<'a>(
+    occurrences: &mut Occurrences<'a>,
+    key: PartialIdentity<'a>,
+    place: usize,
+) -> Result<(), AllocError>
+    ensures { OnOk result ((q : PartialIdentity) → get partial_identity_cmp occurrences.new q
+        ≡ cond (is_at (partial_identity_cmp key.entry) q)
+            (Some (spec.with_one_more place (get partial_identity_cmp occurrences.old key.entry)))
+            (get partial_identity_cmp occurrences.old q)) }
+{
+    let before = occurrences.get(&key).copied();
+    occurrences.insert(key, Occurrence::with_one_more(before, place))?;
     Ok(())
 }
 
 impl<'a, T: Identified> Indexed<'a, T> {
-    /// The list, with the places of each name.
+    /// The list with its index.
     pub fn of(alloc: Global, list: &'a [T]) -> Result<Indexed<'a, T>, AllocError>
         ensures { IfOk result (λ indexed. indexed ≡ list.now) }
     {
-        let places = places_of(alloc, list)?;
-        Ok(Indexed { list, places })
+        let occurrences = occurrences_of(alloc, list)?;
+        Ok(Indexed { list, occurrences })
     }
 
     /// The empty list.
@@ -124,113 +189,51 @@ impl<'a, T: Identified> Indexed<'a, T> {
     {
         Indexed {
             list: &[],
-            places: BTreeMap::new(alloc),
+            occurrences: BTreeMap::new(alloc),
         }
     }
 
-    // The places of a name.
-    fn at(&self, name: &Name) -> &[usize]
-        ensures { result.now ≡ spec.places (spec.is_of_name T.identity name.now) self.now }
+    // Where the items of a name and, where one is meant, a version stand.
+    fn occurrence(&self, name: &'a Name, version: Option<&'a Version>) -> Option<Occurrence>
+        ensures { result ≡ spec.occurrence
+            (λ x. is_of name.now (option_map (λ v. parts_of v.now) version.entry) (T.identity x)) self.now }
     {
-        match self.places.get(name) {
-            Some(found) => found.as_slice(),
-            None => &[],
-        }
+        let key = PartialIdentity {
+            name,
+            version,
+            source: None,
+        };
+        self.occurrences.get(&key).copied()
     }
 
-    // The list itself.
-    fn items(&self) -> &'a [T]
-        ensures { result.now ≡ self.now }
+    /// Whether exactly one item has the name.
+    pub fn is_name_unique(&self, name: &'a Name) -> bool
+        ensures { result ≡ one (bears_name name.now) (map T.identity self.now) }
     {
-        self.list
+        is_only(self.occurrence(name, None))
     }
 
-    /// How many items have the name.
-    pub fn count_named(&self, name: &Name) -> usize
-        ensures { result ≡ count_by (bears_name name.now) (map T.identity self.now) }
+    /// Whether exactly one item has the name and the version.
+    pub fn is_version_unique(&self, name: &'a Name, version: &'a Version) -> bool
+        ensures { result ≡ one (bears_both name.now (parts_of version.now)) (map T.identity self.now) }
     {
-        self.at(name).len()
-    }
-
-    /// How many items have the name and the version.
-    pub fn count_versions(&self, name: &Name, version: &Version) -> usize
-        ensures { result ≡ count_by (bears_both name.now (parts_of version.now)) (map T.identity self.now) }
-    {
-        count_at(self.at(name), self.items(), version)
+        is_only(self.occurrence(name, Some(version)))
     }
 
     /// The first item that a reference fits.
-    pub fn first_fit(&self, form: &EncodableDependency) -> Option<&'a T>
+    pub fn first_fit(&self, form: &EncodableDependencyRef<'a>) -> Option<&'a T>
         ensures { option_copied result ≡ find (λ x. fits form.now (T.identity x)) self.now }
     {
-        let EncodableDependency {
-            name,
-            version,
-            source: _,
-        } = form;
-        first_at(self.at(name), self.items(), version)
+        self.first_item(self.occurrence(form.name, form.version))
     }
-}
 
-// How many of the items at these places have the version.
-fn count_at<T: Identified>(found: &[usize], list: &[T], version: &Version) -> usize
-    ensures { result ≡ count_by (λ k. passes (λ x. same_parts (T.identity x).version (parts_of version.now)) (slice_get list.now k)) found.now }
-{
-    found
-        .iter()
-        .filter(|place| {
-            let place: usize = **place;
-            is_version_at(place, list, version)
-        })
-        .count()
-}
-
-// Whether the item at a place has the version.
-fn is_version_at<T: Identified>(place: usize, list: &[T], version: &Version) -> bool
-    ensures { result ≡ passes (λ x. same_parts (T.identity x).version (parts_of version.now)) (slice_get list.now place) }
-{
-    match list.get(place) {
-        Some(one) => same_version(one.version(), version),
-        None => false,
-    }
-}
-
-// The first item at these places with the version, where one is written.
-fn first_at<'a, T: Identified>(
-    found: &[usize],
-    list: &'a [T],
-    version: &Option<Version>,
-) -> Option<&'a T>
-    ensures { option_copied result ≡ find (λ x. has_version (option_map parts_of version.now) (T.identity x).version) (listed found.now list.now) }
-{
-    for place in found {
-        if let Some(one) = at_place(*place, list, version) {
-            return Some(one);
+    // The item that stands first.
+    fn first_item(&self, found: Option<Occurrence>) -> Option<&'a T>
+        ensures { option_copied result ≡ spec.first_item self.now found }
+    {
+        match found {
+            Some(found) => self.list.get(found.first_place()),
+            None => None,
         }
-    }
-    None
-}
-
-// The item at a place, if it has the version that is written.
-fn at_place<'a, T: Identified>(
-    place: usize,
-    list: &'a [T],
-    version: &Option<Version>,
-) -> Option<&'a T>
-    ensures { option_copied result ≡ passing (λ x. has_version (option_map parts_of version.now) (T.identity x).version) (slice_get list.now place) }
-{
-    match list.get(place) {
-        Some(one) if has_version(one, version) => Some(one),
-        _ => None,
-    }
-}
-
-// Whether an item has the version that is written.
-fn has_version<T: Identified>(one: &T, version: &Option<Version>) -> bool
-    ensures { result ≡ has_version (option_map parts_of version.now) (T.identity one.now).version }
-{
-    match version {
-        Some(version) => same_version(one.version(), version),
-        None => true,
     }
 }

@@ -4,6 +4,7 @@
 //! The crate `cargo_lock` gives what its users need of this under its own paths. Use that one.
 #![tactic(auto)]
 
+pub mod borrowed;
 pub mod checksums;
 pub mod entry;
 pub mod index;
@@ -22,6 +23,7 @@ pub mod version;
 pub mod writing;
 pub mod written;
 
+pub use crate::borrowed::EncodableDependencyRef;
 pub use crate::entry::EncodablePackage;
 pub use crate::metadata::{Metadata, MetadataKey, MetadataValue};
 pub use crate::reference::EncodableDependency;

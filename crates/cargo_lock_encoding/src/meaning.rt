@@ -86,10 +86,10 @@ fn packages_by_name(alloc: Global, entries: &[EncodablePackage]) -> Result<Vec<P
     each_by_name(alloc, entries, &list)
 }
 
-fn each_by_name(
+fn each_by_name<'a>(
     alloc: Global,
-    entries: &[EncodablePackage],
-    list: &Indexed<'_, EncodablePackage>,
+    entries: &'a [EncodablePackage],
+    list: &Indexed<'a, EncodablePackage>,
 ) -> Result<Vec<Package>>
     ensures { Reads (λ v. v.items) result
         (map_all (λ e. package_of (map entry_identity list.now) e.checksum e) entries.now) }
@@ -117,11 +117,11 @@ impl EncodablePackage {
     }
 
     // The package, its references looked up in this list.
-    fn with_references(
-        &self,
+    fn with_references<'a>(
+        &'a self,
         alloc: Global,
         checksum: Option<Checksum>,
-        list: &Indexed<'_, EncodablePackage>,
+        list: &Indexed<'a, EncodablePackage>,
     ) -> Result<Package>
         ensures { Reads (λ p. p) result
             (package_of (map entry_identity list.now) (option_map digest_of checksum) self.now) }
@@ -139,10 +139,10 @@ impl EncodablePackage {
     }
 }
 
-fn resolve_all(
+fn resolve_all<'a>(
     alloc: Global,
-    forms: &[EncodableDependency],
-    list: &Indexed<'_, EncodablePackage>,
+    forms: &'a [EncodableDependency],
+    list: &Indexed<'a, EncodablePackage>,
 ) -> Result<Vec<Dependency>>
     ensures { Reads (λ v. v.items) result (map_all (λ f. said f (map entry_identity list.now)) forms.now) }
 {

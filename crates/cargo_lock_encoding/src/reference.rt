@@ -13,8 +13,9 @@ ghost use Rattle.cargo_lock_encoding.specs.Words.{text_words};
 ghost use Rattle.cargo_lock_encoding.specs.Form as spec;
 ghost use Rattle.cargo_lock_encoding.specs.Records.{bare_source, entry_identity, is_escaped};
 ghost use Rattle.cargo_lock_encoding.specs.Said.{fits, itself, said, same_parts};
-ghost use Rattle.cargo_lock_encoding.specs.Chosen.{bears_both, bears_name, in_full, marked, one, written_source};
+ghost use Rattle.cargo_lock_encoding.specs.Chosen.{bears_both, bears_name, in_full, one};
 
+use crate::borrowed::EncodableDependencyRef;
 use crate::index::Indexed;
 use crate::version::ResolveVersion;
 use crate::{EncodablePackage, EncodableSourceId};
@@ -136,7 +137,6 @@ fn bracketed_source(alloc: Global, word: &str) -> Result<SourceId>
     Ok(source)
 }
 
-#[tactic(auto, unfolding(crate::specs::Form::form_text))]
 impl fmt::Display for EncodableDependency {
     ghost use Rattle.std.specs.Prelude.{Some};
     ghost use Rattle.cargo_lock_encoding.specs.Form.{form_text};
@@ -144,19 +144,7 @@ impl fmt::Display for EncodableDependency {
     ghost output = { λ d. Some (form_text d) };
 
     fn fmt<W: fmt::Write>(&self, f: &mut fmt::Formatter<W>) -> fmt::Result {
-        let name = &self.name;
-        match (&self.version, &self.source) {
-            (Some(version), Some(source)) => {
-                let source = source.as_url();
-                write!(f, "{name} {version} ({source})")
-            }
-            (Some(version), None) => write!(f, "{name} {version}"),
-            (None, Some(source)) => {
-                let source = source.as_url();
-                write!(f, "{name} ({source})")
-            }
-            (None, None) => write!(f, "{name}"),
-        }
+        fmt::Display::fmt(&self.by_ref(), f)
     }
 }
 
@@ -201,11 +189,8 @@ impl EncodableDependency {
         ensures ok { IfOk result (λ d. d ≡ in_full (is_escaped format) dependency.now) }
         ensures err { IsOkUnless result Memory }
     {
-        Ok(EncodableDependency {
-            name: dependency.name.clone()?,
-            version: Some(dependency.version.clone()?),
-            source: written_source(format, &dependency.source)?,
-        })
+        let form = EncodableDependencyRef::from_dependency(dependency, format);
+        Ok(form.to_owned()?)
     }
 }
 
@@ -252,20 +237,29 @@ impl EncodableDependency {
     }
 
     // The same, found by an index of the list.
-    pub(crate) fn said_among(
-        &self,
+    pub(crate) fn said_among<'a>(
+        &'a self,
         alloc: Global,
-        list: &Indexed<'_, EncodablePackage>,
+        list: &Indexed<'a, EncodablePackage>,
     ) -> Result<Dependency>
         ensures { Reads (λ d. d) result (said self.now (map entry_identity list.now)) }
     {
         if self.source.is_some() {
             return self.itself(alloc);
         }
-        match list.first_fit(self) {
+        match self.first_among(list) {
             Some(entry) => entry.identity(),
             None => self.itself(alloc),
         }
+    }
+
+    fn first_among<'a>(
+        &'a self,
+        list: &Indexed<'a, EncodablePackage>,
+    ) -> Option<&'a EncodablePackage>
+        ensures { option_copied result ≡ find (λ e. fits self.now (entry_identity e)) list.now }
+    {
+        list.first_fit(&self.by_ref())
     }
 
     // The reference's own words as an identity.
@@ -398,31 +392,6 @@ fn count_versions(name: &Name, version: &Version, list: &[Package]) -> usize
             one.name.as_str() == name.as_str() && same_version(&one.version, version)
         })
         .count()
-}
-
-// A source as it is written in this format: a path source is not.
-pub(crate) fn written_source(
-    format: ResolveVersion,
-    source: &Option<SourceId>,
-) -> std::result::Result<Option<EncodableSourceId>, AllocError>
-    ensures { IfOk result (λ s. s ≡ written_source (is_escaped format) source.now) }
-{
-    match source {
-        None => Ok(None),
-        Some(source) if source.is_path() => Ok(None),
-        Some(source) => Ok(Some(marked(format, source.clone()?))),
-    }
-}
-
-fn marked(format: ResolveVersion, source: SourceId) -> EncodableSourceId
-    ensures { result ≡ marked (is_escaped format) source }
-{
-    match format {
-        ResolveVersion::V1 | ResolveVersion::V2 | ResolveVersion::V3 => {
-            EncodableSourceId::without_url_encoded(source)
-        }
-        ResolveVersion::V4 => EncodableSourceId::new(source),
-    }
 }
 
 // ---- copies and comparisons

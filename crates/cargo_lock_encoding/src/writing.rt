@@ -10,10 +10,10 @@ ghost use Rattle.cargo_lock_encoding.specs.Form.{of_one, of_two};
 ghost use Rattle.cargo_lock_encoding.specs.Records.{is_escaped};
 ghost use Rattle.cargo_lock_encoding.specs.Table.{entry_of, root_entry, written_checksum, written_version};
 
+use crate::borrowed::{own_source, written_source};
 use crate::index::Indexed;
-use crate::reference::written_source;
 use crate::version::ResolveVersion;
-use crate::{EncodableDependency, EncodablePackage};
+use crate::{EncodableDependency, EncodableDependencyRef, EncodablePackage};
 use cargo_lock_parts::dependency::Dependency;
 use cargo_lock_parts::error::Result;
 use cargo_lock_parts::package::{Checksum, Name, Package, Version};
@@ -52,11 +52,11 @@ pub fn all_entries(
 }
 
 // A package among those of the lockfile, as it is written.
-fn entry_of(
+fn entry_of<'a>(
     alloc: Global,
     format: ResolveVersion,
-    list: &Indexed<'_, Package>,
-    one: &Package,
+    list: &Indexed<'a, Package>,
+    one: &'a Package,
 ) -> Result<EncodablePackage>
     ensures ok { IfOk result (λ e. e ≡ entry_of format (map identity_of list.now) one.now) }
     ensures err { IsOkUnless result Memory }
@@ -65,7 +65,7 @@ fn entry_of(
     Ok(EncodablePackage {
         name: one.name.clone()?,
         version: one.version.clone()?,
-        source: written_source(format, &one.source)?,
+        source: own_source(&written_source(format, &one.source))?,
         checksum: written_checksum(format, &one.checksum),
         dependencies,
         replace: full_replace(format, &one.replace)?,
@@ -95,7 +95,7 @@ fn root_entry(alloc: Global, format: ResolveVersion, one: &Package) -> Result<En
     Ok(EncodablePackage {
         name: one.name.clone()?,
         version: one.version.clone()?,
-        source: written_source(format, &one.source)?,
+        source: own_source(&written_source(format, &one.source))?,
         checksum: one.checksum,
         dependencies,
         replace: full_replace(format, &one.replace)?,
@@ -114,78 +114,54 @@ fn written_checksum(format: ResolveVersion, checksum: &Option<Checksum>) -> Opti
 
 // ---- references
 
-/// A dependency as it is written among these packages. Only want of memory is refused.
+/// A dependency as it is written among these packages.
 #[tactic(auto, unfolding(crate::specs::Chosen::chosen_form))]
-pub fn chosen_form(
+pub fn chosen_form<'a>(
     format: ResolveVersion,
-    list: &Indexed<'_, Package>,
-    dependency: &Dependency,
-) -> Result<EncodableDependency>
-    ensures ok { IfOk result (λ f. f ≡ chosen_form format (map identity_of list.now) dependency.now) }
-    ensures err { IsOkUnless result Memory }
+    list: &Indexed<'a, Package>,
+    dependency: &'a Dependency,
+) -> EncodableDependencyRef<'a>
+    ensures { result ≡ chosen_form format (map identity_of list.now) dependency.now }
 {
     match format {
-        ResolveVersion::V1 => EncodableDependency::from_dependency(dependency, format),
+        ResolveVersion::V1 => EncodableDependencyRef::from_dependency(dependency, format),
         ResolveVersion::V2 | ResolveVersion::V3 | ResolveVersion::V4 => {
-            let form = shortest_form(format, list, dependency)?;
-            Ok(form)
+            shortest_form(format, list, dependency)
         }
     }
 }
 
-// A dependency without needless words, which are not copied.
-#[tactic(auto, unfolding(crate::specs::Chosen::shortened))]
-fn shortest_form(
+// A dependency without needless words.
+fn shortest_form<'a>(
     format: ResolveVersion,
-    list: &Indexed<'_, Package>,
-    dependency: &Dependency,
-) -> Result<EncodableDependency>
-    ensures ok { IfOk result (λ f. f ≡ shortened (map identity_of list.now) (in_full (is_escaped format) dependency.now)) }
-    ensures err { IsOkUnless result Memory }
+    list: &Indexed<'a, Package>,
+    dependency: &'a Dependency,
+) -> EncodableDependencyRef<'a>
+    ensures { result ≡ shortened (map identity_of list.now) (in_full (is_escaped format) dependency.now) }
 {
-    if list.count_named(&dependency.name) == 1 {
-        return by_name(&dependency.name);
+    let name = &dependency.name;
+    let version = &dependency.version;
+    if list.is_name_unique(name) {
+        EncodableDependencyRef::of_name(name)
+    } else if list.is_version_unique(name, version) {
+        EncodableDependencyRef::of_name_and_version(name, version)
+    } else {
+        EncodableDependencyRef::from_dependency(dependency, format)
     }
-    if list.count_versions(&dependency.name, &dependency.version) == 1 {
-        return by_version(&dependency.name, &dependency.version);
-    }
-    EncodableDependency::from_dependency(dependency, format)
 }
 
-fn by_name(name: &Name) -> Result<EncodableDependency>
-    ensures ok { IfOk result (λ f. f ≡ of_one name.now) }
-    ensures err { IsOkUnless result Memory }
-{
-    Ok(EncodableDependency {
-        name: name.clone()?,
-        version: None,
-        source: None,
-    })
-}
-
-fn by_version(name: &Name, version: &Version) -> Result<EncodableDependency>
-    ensures ok { IfOk result (λ f. f ≡ of_two name.now (parts_of version.now)) }
-    ensures err { IsOkUnless result Memory }
-{
-    Ok(EncodableDependency {
-        name: name.clone()?,
-        version: Some(version.clone()?),
-        source: None,
-    })
-}
-
-fn all_chosen(
+fn all_chosen<'a>(
     alloc: Global,
     format: ResolveVersion,
-    list: &Indexed<'_, Package>,
-    dependencies: &[Dependency],
+    list: &Indexed<'a, Package>,
+    dependencies: &'a [Dependency],
 ) -> Result<Vec<EncodableDependency>>
     ensures ok { IfOk result (λ v. v.items ≡ map (chosen_form format (map identity_of list.now)) dependencies.now) }
     ensures err { IsOkUnless result Memory }
 {
     let mut forms = Vec::with_capacity(alloc, dependencies.len())?;
     for dependency in dependencies {
-        let form = chosen_form(format, list, dependency)?;
+        let form = chosen_form(format, list, dependency).to_owned()?;
         forms.push(form)?;
     }
     Ok(forms)

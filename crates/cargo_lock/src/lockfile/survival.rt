@@ -15,17 +15,17 @@ mod texts;
 
 use crate::error::Result;
 use crate::lockfile::Lockfile;
-use crate::lockfile::encoding::EncodableDependency;
 use crate::lockfile::survival::texts::{
     reference_survives, reference_survives_alone, source_survives, version_survives,
 };
 use crate::metadata::Metadata;
-use cargo_lock_encoding::ResolveVersion;
+use cargo_lock_encoding::borrowed::is_escaped;
 use cargo_lock_encoding::checksums::has_checksum_key;
 use cargo_lock_encoding::index::Indexed;
 use cargo_lock_encoding::read_keys::ReadMetadata;
 use cargo_lock_encoding::writing::chosen_form;
 use cargo_lock_encoding::written::metadata_of;
+use cargo_lock_encoding::{EncodableDependencyRef, ResolveVersion};
 use cargo_lock_parts::dependency::Dependency;
 use cargo_lock_parts::laws::checksums_read_back;
 use cargo_lock_parts::package::{Checksum, Package};
@@ -146,11 +146,11 @@ fn first_format_survives(alloc: Global, metadata: &Metadata, list: &[Package]) -
     Ok(survive)
 }
 
-fn first_entries_survive(
+fn first_entries_survive<'a>(
     alloc: Global,
     metadata: &ReadMetadata<'_>,
-    packages: &Indexed<'_, Package>,
-    list: &[Package],
+    packages: &Indexed<'a, Package>,
+    list: &'a [Package],
 ) -> Result<bool>
     ensures ok { IfOk result (λ b. IsTrue b
         ↔ AllByRecursion (EntrySurvives V1 (map identity_of packages.now) metadata.now) list.now) }
@@ -164,11 +164,11 @@ fn first_entries_survive(
     Ok(true)
 }
 
-fn first_entry_survives(
+fn first_entry_survives<'a>(
     alloc: Global,
     metadata: &ReadMetadata<'_>,
-    list: &Indexed<'_, Package>,
-    one: &Package,
+    list: &Indexed<'a, Package>,
+    one: &'a Package,
 ) -> Result<bool>
     ensures ok { IfOk result (λ b. IsTrue b ↔ EntrySurvives V1 (map identity_of list.now) metadata.now one.now) }
     ensures err { IsOkUnless result Memory }
@@ -188,11 +188,11 @@ fn later_format_survives(alloc: Global, format: ResolveVersion, list: &[Package]
     Ok(survive)
 }
 
-fn later_entries_survive(
+fn later_entries_survive<'a>(
     alloc: Global,
     format: ResolveVersion,
-    packages: &Indexed<'_, Package>,
-    list: &[Package],
+    packages: &Indexed<'a, Package>,
+    list: &'a [Package],
 ) -> Result<bool>
     ensures ok { IfOk result (λ b. IsTrue b
         ↔ AllByRecursion (λ p. PackageSurvives format (chosen_form format (map identity_of packages.now)) (reading_list format (map identity_of packages.now)) p
@@ -207,11 +207,11 @@ fn later_entries_survive(
     Ok(true)
 }
 
-fn later_entry_survives(
+fn later_entry_survives<'a>(
     alloc: Global,
     format: ResolveVersion,
-    list: &Indexed<'_, Package>,
-    one: &Package,
+    list: &Indexed<'a, Package>,
+    one: &'a Package,
 ) -> Result<bool>
     ensures ok { IfOk result (λ b. IsTrue b
         ↔ (PackageSurvives format (chosen_form format (map identity_of list.now)) (reading_list format (map identity_of list.now)) one.now
@@ -223,11 +223,11 @@ fn later_entry_survives(
 }
 
 // Whether the parts of a package and its references survive.
-fn package_survives(
+fn package_survives<'a>(
     alloc: Global,
     format: ResolveVersion,
-    list: &Indexed<'_, Package>,
-    one: &Package,
+    list: &Indexed<'a, Package>,
+    one: &'a Package,
 ) -> Result<bool>
     ensures ok { IfOk result (λ b. IsTrue b
         ↔ PackageSurvives format (chosen_form format (map identity_of list.now)) (reading_list format (map identity_of list.now)) one.now) }
@@ -249,15 +249,6 @@ fn own_parts_survive(alloc: Global, format: ResolveVersion, one: &Package) -> Re
             && source_survives(alloc, is_escaped(format), &one.source)?
             && replace_survives(alloc, format, &one.replace)?,
     )
-}
-
-fn is_escaped(format: ResolveVersion) -> bool
-    ensures { result ≡ is_escaped format }
-{
-    match format {
-        ResolveVersion::V1 | ResolveVersion::V2 | ResolveVersion::V3 => false,
-        ResolveVersion::V4 => true,
-    }
 }
 
 // A replacement is in full, and looked up by itself.
@@ -314,11 +305,11 @@ fn bytes_read_back(digest: &[u8; 32])
 
 // ---- references
 
-fn references_survive(
+fn references_survive<'a>(
     alloc: Global,
     format: ResolveVersion,
-    list: &Indexed<'_, Package>,
-    dependencies: &[Dependency],
+    list: &Indexed<'a, Package>,
+    dependencies: &'a [Dependency],
 ) -> Result<bool>
     ensures ok { IfOk result (λ b. IsTrue b
         ↔ AllByRecursion (λ d. ReferenceSurvives (chosen_form format (map identity_of list.now) d) (reading_list format (map identity_of list.now)) d) dependencies.now) }
@@ -332,27 +323,27 @@ fn references_survive(
     Ok(true)
 }
 
-fn chosen_reference_survives(
+fn chosen_reference_survives<'a>(
     alloc: Global,
     format: ResolveVersion,
-    list: &Indexed<'_, Package>,
-    dependency: &Dependency,
+    list: &Indexed<'a, Package>,
+    dependency: &'a Dependency,
 ) -> Result<bool>
     ensures ok { IfOk result (λ b. IsTrue b
         ↔ ReferenceSurvives (chosen_form format (map identity_of list.now) dependency.now) (reading_list format (map identity_of list.now)) dependency.now) }
     ensures err { IsOkUnless result Memory }
 {
-    let form = chosen_form(format, list, dependency)?;
+    let form = chosen_form(format, list, dependency);
     let survives = survives_among(alloc, format, &form, list, dependency)?;
     Ok(survives)
 }
 
 // Whether the reference survives where it is looked up: in V1 by itself.
-fn survives_among(
+fn survives_among<'a>(
     alloc: Global,
     format: ResolveVersion,
-    form: &EncodableDependency,
-    list: &Indexed<'_, Package>,
+    form: &EncodableDependencyRef<'a>,
+    list: &Indexed<'a, Package>,
     dependency: &Dependency,
 ) -> std::result::Result<bool, AllocError>
     ensures { IfOk result (λ b. IsTrue b
@@ -393,7 +384,7 @@ fn full_reference_survives(
         ↔ ReferenceSurvives (in_full (is_escaped format) dependency.now) [] dependency.now) }
     ensures err { IsOkUnless result Memory }
 {
-    let form = EncodableDependency::from_dependency(dependency, format)?;
+    let form = EncodableDependencyRef::from_dependency(dependency, format);
     let survives = reference_survives_alone(alloc, &form, dependency)?;
     Ok(survives)
 }

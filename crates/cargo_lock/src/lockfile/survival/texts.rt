@@ -8,21 +8,21 @@ ghost use Rattle.cargo_lock_parts.specs.Identity.{identity_of};
 ghost use Rattle.cargo_lock_parts.specs.SourceKey.{key_of};
 ghost use Rattle.cargo_lock_parts.specs.SourceReading.{source_of};
 ghost use Rattle.cargo_lock_parts.specs.SourceText.{marked_text};
-ghost use Rattle.cargo_lock_encoding.specs.Chosen.{marked};
+ghost use Rattle.cargo_lock_encoding.specs.Records.{bare_source};
 ghost use Rattle.cargo_lock_encoding.specs.Said.{itself, said};
 ghost use Rattle.cargo_lock.specs.Survives.{FormSurvives, ReferenceSurvives, SaysEqual, SourceSurvives, TextReadsBack, VersionSurvives};
 ghost use Rattle.cargo_lock_encoding.specs.TableReading.{version_of};
 ghost use Rattle.cargo_lock_encoding.specs.Words.{IsDense, IsWord};
 
 use crate::error::Error;
-use crate::lockfile::encoding::{EncodableDependency, EncodableSourceId};
+use cargo_lock_encoding::EncodableDependencyRef;
 use cargo_lock_encoding::index::Indexed;
 use cargo_lock_encoding::reading::version_of;
-use cargo_lock_encoding::reference::{bare_source, same_version};
+use cargo_lock_encoding::reference::same_version;
 use cargo_lock_parts::dependency::Dependency;
+use cargo_lock_parts::package::source::SourceIdAsUrl;
 use cargo_lock_parts::package::{Package, SourceId, Version};
 use std::alloc::{AllocError, Global};
-use std::ops::Deref;
 
 // ---- words
 
@@ -89,27 +89,16 @@ pub(super) fn source_survives(
     match source {
         None => Ok(true),
         Some(source) if source.is_path() => Ok(false),
-        Some(source) => text_reads_back(alloc, &marked(escaped, source)?),
-    }
-}
-
-fn marked(escaped: bool, source: &SourceId) -> Result<EncodableSourceId, AllocError>
-    ensures { IfOk result (λ s. s ≡ marked escaped source.now) }
-{
-    let copy = source.clone()?;
-    if escaped {
-        Ok(EncodableSourceId::new(copy))
-    } else {
-        Ok(EncodableSourceId::without_url_encoded(copy))
+        Some(source) => text_reads_back(alloc, &source.as_url(escaped)),
     }
 }
 
 // Whether the text of the source, as it is marked, reads as an equal source.
-fn text_reads_back(alloc: Global, source: &EncodableSourceId) -> Result<bool, AllocError>
+fn text_reads_back(alloc: Global, source: &SourceIdAsUrl<'_>) -> Result<bool, AllocError>
     ensures { IfOk result (λ b. IsTrue b ↔ TextReadsBack source.now) }
 {
-    let text = source.as_url().to_string(alloc)?;
-    source_reads_as(alloc, text.as_str(), source.deref())
+    let text = source.to_string(alloc)?;
+    source_reads_as(alloc, text.as_str(), source.source())
 }
 
 // Whether the text reads as a source that is equal to this one.
@@ -125,31 +114,31 @@ fn source_reads_as(alloc: Global, text: &str, source: &SourceId) -> Result<bool,
 }
 
 // Whether the source is written without white space and reads back.
-fn source_word_survives(alloc: Global, source: &EncodableSourceId) -> Result<bool, AllocError>
+fn source_word_survives(alloc: Global, source: &SourceIdAsUrl<'_>) -> Result<bool, AllocError>
     ensures { IfOk result (λ b. IsTrue b ↔ (IsDense (marked_text source.now) × TextReadsBack source.now)) }
 {
-    let text = source.as_url().to_string(alloc)?;
-    Ok(is_dense(text.as_str()) && source_reads_as(alloc, text.as_str(), source.deref())?)
+    let text = source.to_string(alloc)?;
+    Ok(is_dense(text.as_str()) && source_reads_as(alloc, text.as_str(), source.source())?)
 }
 
 // ---- references
 
 // Whether a reference reads back, and says this dependency among these packages.
-pub(super) fn reference_survives(
+pub(super) fn reference_survives<'a>(
     alloc: Global,
-    form: &EncodableDependency,
-    list: &Indexed<'_, Package>,
+    form: &EncodableDependencyRef<'a>,
+    list: &Indexed<'a, Package>,
     dependency: &Dependency,
 ) -> Result<bool, AllocError>
     ensures { IfOk result (λ b. IsTrue b ↔ ReferenceSurvives form.now (map identity_of list.now) dependency.now) }
 {
-    Ok(form_survives(alloc, form)? && says_equal(alloc, form, list, dependency)?)
+    Ok(form_survives(alloc, form)? && says_equal(form, list, dependency)?)
 }
 
 // Whether a reference reads back, and says this dependency by itself.
 pub(super) fn reference_survives_alone(
     alloc: Global,
-    form: &EncodableDependency,
+    form: &EncodableDependencyRef<'_>,
     dependency: &Dependency,
 ) -> Result<bool, AllocError>
     ensures { IfOk result (λ b. IsTrue b ↔ ReferenceSurvives form.now [] dependency.now) }
@@ -160,19 +149,19 @@ pub(super) fn reference_survives_alone(
 }
 
 // Whether each part of the reference is one word that reads back.
-fn form_survives(alloc: Global, form: &EncodableDependency) -> Result<bool, AllocError>
+fn form_survives(alloc: Global, form: &EncodableDependencyRef<'_>) -> Result<bool, AllocError>
     ensures { IfOk result (λ b. IsTrue b ↔ FormSurvives form.now) }
 {
     Ok(
         is_word(form.name.as_str())
-            && written_version_survives(alloc, &form.version)?
+            && written_version_survives(alloc, form.version)?
             && written_source_survives(alloc, &form.source)?,
     )
 }
 
-fn written_version_survives(alloc: Global, version: &Option<Version>) -> Result<bool, AllocError>
+fn written_version_survives(alloc: Global, version: Option<&Version>) -> Result<bool, AllocError>
     ensures { IfOk result (λ b. IsTrue b
-        ↔ IfSome (option_map parts_of version.now) (λ v. IsWord (parts_text v) × VersionSurvives v)) }
+        ↔ IfSome (option_map (λ v. parts_of v.now) version.entry) (λ v. IsWord (parts_text v) × VersionSurvives v)) }
 {
     match version {
         Some(version) => version_word_survives(alloc, version),
@@ -182,7 +171,7 @@ fn written_version_survives(alloc: Global, version: &Option<Version>) -> Result<
 
 fn written_source_survives(
     alloc: Global,
-    source: &Option<EncodableSourceId>,
+    source: &Option<SourceIdAsUrl<'_>>,
 ) -> Result<bool, AllocError>
     ensures { IfOk result (λ b. IsTrue b
         ↔ IfSome source.now (λ m. IsDense (marked_text m) × TextReadsBack m)) }
@@ -194,10 +183,9 @@ fn written_source_survives(
 }
 
 // Whether the reference says a dependency that is equal to this one.
-fn says_equal(
-    alloc: Global,
-    form: &EncodableDependency,
-    list: &Indexed<'_, Package>,
+fn says_equal<'a>(
+    form: &EncodableDependencyRef<'a>,
+    list: &Indexed<'a, Package>,
     dependency: &Dependency,
 ) -> Result<bool, AllocError>
     ensures { IfOk result (λ b. IsTrue b ↔ SaysEqual form.now (map identity_of list.now) dependency.now) }
@@ -209,9 +197,9 @@ fn says_equal(
 }
 
 // What the reference says among these packages.
-fn said(
-    form: &EncodableDependency,
-    list: &Indexed<'_, Package>,
+fn said<'a>(
+    form: &EncodableDependencyRef<'a>,
+    list: &Indexed<'a, Package>,
 ) -> Result<Option<Dependency>, AllocError>
     ensures { IfOk result (λ o. o ≡ said form.now (map identity_of list.now)) }
 {
@@ -235,15 +223,24 @@ fn identity(one: &Package) -> Result<Dependency, AllocError>
 }
 
 // The reference's own words as a dependency, where a version is written.
-fn itself(form: &EncodableDependency) -> Result<Option<Dependency>, AllocError>
+fn itself(form: &EncodableDependencyRef<'_>) -> Result<Option<Dependency>, AllocError>
     ensures { IfOk result (λ o. o ≡ itself form.now) }
 {
-    match &form.version {
+    match form.version {
         Some(version) => Ok(Some(Dependency {
             name: form.name.clone()?,
             version: version.clone()?,
-            source: bare_source(&form.source)?,
+            source: own_source(&form.source)?,
         })),
+        None => Ok(None),
+    }
+}
+
+fn own_source(source: &Option<SourceIdAsUrl<'_>>) -> Result<Option<SourceId>, AllocError>
+    ensures { IfOk result (λ copy. copy ≡ bare_source source.now) }
+{
+    match source {
+        Some(source) => Ok(Some(source.source().clone()?)),
         None => Ok(None),
     }
 }

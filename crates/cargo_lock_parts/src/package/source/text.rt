@@ -28,6 +28,22 @@ impl<'a> Model for SourceIdAsUrl<'a> {
     ghost view = { λ shown. record { source = shown.id.now; escaped = shown.escaped } };
 }
 
+impl<'a> SourceIdAsUrl<'a> {
+    /// The source.
+    pub fn source(&self) -> &'a SourceId
+        ensures { result.now ≡ self.now.source }
+    {
+        self.id
+    }
+
+    /// Whether the value of a git reference is escaped.
+    pub fn is_escaped(&self) -> bool
+        ensures { result ≡ self.now.escaped }
+    {
+        self.escaped
+    }
+}
+
 impl SourceId {
     /// The source as a text that can be displayed: its word, `+` and its URL, as
     /// `registry+https://github.com/rust-lang/crates.io-index`, and for git the reference and the
