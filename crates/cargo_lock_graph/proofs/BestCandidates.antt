@@ -1,17 +1,18 @@
--- How the package of a dependency is found among the packages of its name.
-use Rattle.std.proofs.Common.{◌≡◌, ◌<◌, ◌≤◌, ◌+◌, ◌⊎◌, inl, inr, ℕ, suc, Bool, true, false, cond, nat_lt, List, [], ◌∷◌, ◌++◌, length, get_or, slice_get, unwrap_or, Option, Some, None, option_map, MatchOption, refl, sym, ap, subst, ◌∙◌, arith, length-append}
+-- How the package of a dependency is found among the packages of its name and version.
+use Rattle.std.proofs.Common.{◌≡◌, ◌<◌, ◌≤◌, ◌+◌, ◌⊎◌, inl, inr, ℕ, suc, Bool, true, false, cond, nat_lt, List, [], ◌∷◌, ◌++◌, length, get_or, slice_get, unwrap_or, Option, Some, None, IsSome, IfSome, ◌↔◌, option_map, MatchOption, refl, sym, ap, subst, ◌∙◌, arith, length-append}
+use Rattle.std.specs.Bool.{Decides}
 use Rattle.std.specs.BTreeMap.{BTreeMap, get, is_at}
-use Rattle.std.specs.Cmp.{Equal-is}
-use Rattle.std.specs.Cmp.Lexicographic.{nat_list_cmp_total}
 use Rattle.std.proofs.lemmas.Bool.{cases_Bool, false≢true, ltb-true, ltb-false}
-use Rattle.std.proofs.lemmas.Cmp.{tied_itself}
 use Rattle.std.proofs.lemmas.Option.{slice_get_read, slice_get_within, same_Some}
-use Rattle.cargo_lock_parts.specs.Identity.{Identity, PackageData}
-use Rattle.cargo_lock_parts.specs.IdentityLaws.{text_cmp-anti}
-use Rattle.cargo_lock_parts.specs.SourceKey.{text_cmp}
+use Rattle.cargo_lock_parts.specs.Identity.{HasNameAndVersion, Identity, IdentityKey, PackageData, identity_key, identity_of}
+use Rattle.cargo_lock_parts.specs.PartialIdentity.{PartialIdentity, PartialKey, is_same_partial_identity-Decides, name_and_version, partial_identity_cmp}
+use Rattle.cargo_lock_parts.specs.Rank.{has_rank_1, has_rank_2, has_rank_3, has_rank_4, least_rank}
+use Rattle.cargo_lock_parts.specs.Source.{Source}
+use Rattle.cargo_lock_parts.specs.SourceKey.{key_of}
+use Rattle.cargo_lock_parts.proofs.RankLemmas.{rank_one_is_equal_keys}
 use Rattle.cargo_lock_graph.specs.declared.targets.Best.{Best}
-use Rattle.cargo_lock_graph.specs.Candidates.{AreCandidates, BestFrom, HasName, better}
-use Rattle.cargo_lock_graph.specs.Targets.{Fits, FitsAt, HoldsOf, IsLastBelow, IsLost, IsTarget}
+use Rattle.cargo_lock_graph.specs.Candidates.{AreLastPlaces, AreVersions, BestFrom, better, identity_as_key}
+use Rattle.cargo_lock_graph.specs.Targets.{Fits, FitsAt, HasIdentity, HoldsOf, IsLastBelow, IsLastWith, IsLost, IsTarget, rank_between}
 use Rattle.cargo_lock_graph.proofs.MadeChains.{in_or_last}
 
 -- ---- the last place
@@ -39,49 +40,166 @@ last-same P n (Some place) h miss = (
 pub last-new : (P : ℕ → Type 0) (n : ℕ) → P n → IsLastBelow P (n + 1) (Some n)
 last-new P n p = (omega arith, p, λ k after low _. absurd (omega (arith, after, low)))
 
--- ---- places by name
+-- one more package, which is the last at which P holds if P holds of it
+pub last-step : (P : PackageData → Type 0) (packages : List PackageData) (place : ℕ) (p : PackageData) (b : Bool) (found : Option ℕ)
+    → slice_get packages place ≡ Some p → Decides b (P p) → IsLastBelow (HoldsOf P packages) place found
+    → IsLastBelow (HoldsOf P packages) (place + 1) (cond b (Some place) found)
+last-step P packages place p true found here tells so_far = last-new (HoldsOf P packages) place (p, here, tells.0 refl)
+last-step P packages place p false found here tells so_far =
+    last-same (HoldsOf P packages) place found so_far (λ h.
+    false≢true (tells.1 (subst P (same_Some h.0 p (sym h.1 ∙ here)) h.2)))
 
-name-here : (a b : List ℕ) → is_at (text_cmp a) b ≡ true → a ≡ b
-name-here a b h = text_cmp-anti a b ((Equal-is (text_cmp a b)).0 h)
+-- the place is the same for a predicate that holds at the same places
+last-alike : (P Q : ℕ → Type 0) (bound : ℕ) (o : Option ℕ) → ((k : ℕ) → P k → Q k) → ((k : ℕ) → Q k → P k) → IsLastBelow P bound o → IsLastBelow Q bound o
+last-alike P Q bound None to from h = λ k low q. h k low (from k q)
+last-alike P Q bound (Some place) to from h = (h.0, to place h.1, λ k after low q. h.2 k after low (from k q))
 
-name-itself : (a : List ℕ) → is_at (text_cmp a) a ≡ true
-name-itself a = (Equal-is (text_cmp a a)).1 (tied_itself nat_list_cmp_total a)
+-- ---- places by identity
 
-pub candidates-more : (packages : List PackageData) (bound : ℕ) (last grown : BTreeMap (List ℕ) ℕ) (earlier pushed : List (Option ℕ)) (p : PackageData) (o : Option ℕ)
-    → slice_get packages bound ≡ Some p → o ≡ get text_cmp last p.name → pushed ≡ earlier ++ o ∷ []
-    → ((q : List ℕ) → get text_cmp grown q ≡ cond (is_at (text_cmp p.name) q) (Some bound) (get text_cmp last q))
-    → AreCandidates packages bound last earlier → AreCandidates packages (bound + 1) grown pushed
-candidates-more packages bound last grown earlier pushed p o here is more grows so_far =
-    let P : List ℕ → ℕ → Type 0 = λ name. HoldsOf (HasName name) packages in
+partial_of_key : IdentityKey → PartialKey
+partial_of_key k = record { name = k.name; version = Some k.version; source = k.source }
+
+same-identity : (a b : Identity) → Decides (is_at (partial_identity_cmp (identity_as_key a)) (identity_as_key b)) (identity_key a ≡ identity_key b)
+unfolding partial_of_key
+same-identity a b =
+    let tells = is_same_partial_identity-Decides (identity_as_key a) (identity_as_key b) in (
+      λ h.
+          let e = tells.0 h in
+          let name = ap (λ (k : PartialKey). k.name) e in
+          let version = same_Some a.version b.version (ap (λ (k : PartialKey). k.version) e) in
+          let source = ap (λ (k : PartialKey). k.source) e in
+          λ i. record { name = name i; version = version i; source = source i },
+      λ e. tells.1 (ap partial_of_key e),
+    )
+
+pub places-step : (packages : List PackageData) (place : ℕ) (places grown : BTreeMap PartialIdentity ℕ) (p : PackageData)
+    → place < length packages → p ≡ get_or packages place p
+    → ((q : PartialIdentity) → get partial_identity_cmp grown q
+    ≡ cond (is_at (partial_identity_cmp (identity_as_key (identity_of p))) q) (Some place) (get partial_identity_cmp places q))
+    → AreLastPlaces packages place places → AreLastPlaces packages (place + 1) grown
+places-step packages place places grown p low is grows so_far i =
+    let key = identity_as_key i in
+    subst (λ o. IsLastBelow (HoldsOf (HasIdentity i) packages) (place + 1) o) (sym (grows key))
+    (last-step (HasIdentity i) packages place p (is_at (partial_identity_cmp (identity_as_key (identity_of p))) key) (get partial_identity_cmp places key)
+    (slice_get_read packages (length packages) place p refl low is) (same-identity (identity_of p) i) (so_far i))
+
+some-place : (P : ℕ → Type 0) (count k : ℕ) (o : Option ℕ) → k < count → P k → IsLastBelow P count o → IsSome o
+some-place P count k None low here none = absurd (none k low here)
+some-place P count k (Some place) low here last = refl
+
+-- each package of the list has a last place
+pub place-there : (packages : List PackageData) (places : BTreeMap PartialIdentity ℕ) (k : ℕ) (p : PackageData)
+    → AreLastPlaces packages (length packages) places → k < length packages → p ≡ get_or packages k p
+    → IsSome (get partial_identity_cmp places (identity_as_key (identity_of p)))
+place-there packages places k p are low is =
+    let i = identity_of p in
+    some-place (HoldsOf (HasIdentity i) packages) (length packages) k (get partial_identity_cmp places (identity_as_key i)) low
+    (p, slice_get_read packages (length packages) k p refl low is, refl) (are i)
+
+pub place-told : (packages : List PackageData) (places : BTreeMap PartialIdentity ℕ) (k : ℕ) (p : PackageData) (place : ℕ)
+    → AreLastPlaces packages (length packages) places → k < length packages → p ≡ get_or packages k p
+    → get partial_identity_cmp places (identity_as_key (identity_of p)) ≡ Some place
+    → IfSome (slice_get packages k) (λ q. IsLastWith packages (identity_of q) (Some place))
+place-told packages places k p place are low is found =
+    subst (λ o. IfSome o (λ q. IsLastWith packages (identity_of q) (Some place))) (sym (slice_get_read packages (length packages) k p refl low is))
+    (subst (λ o. IsLastWith packages (identity_of p) o) found (are (identity_of p)))
+
+-- ---- the last package with the identity is the target
+
+rank_between-one : (a b : Option Source) → (rank_between a b ≡ Some 1) ↔ (option_map key_of a ≡ option_map key_of b)
+rank_between-one None None = (λ h. refl, λ e. refl)
+rank_between-one None (Some b) = (λ h. cc h, λ e. cc e)
+rank_between-one (Some a) None = (λ h. cc h, λ e. cc e)
+rank_between-one (Some a) (Some b) = (
+  λ h. ap Some ((rank_one_is_equal_keys a b).0 h),
+  λ e. (rank_one_is_equal_keys a b).1 (same_Some (key_of a) (key_of b) e),
+)
+
+least_rank-positive : (first second third fourth : Bool) (rank : ℕ) → least_rank first second third fourth ≡ Some rank → 1 ≤ rank
+least_rank-positive true second third fourth rank h = let e = same_Some 1 rank h in omega (arith, e)
+least_rank-positive false true third fourth rank h = let e = same_Some 2 rank h in omega (arith, e)
+least_rank-positive false false true fourth rank h = let e = same_Some 3 rank h in omega (arith, e)
+least_rank-positive false false false true rank h = let e = same_Some 4 rank h in omega (arith, e)
+least_rank-positive false false false false rank h = cc h
+
+rank_between-positive : (a b : Option Source) (rank : ℕ) → rank_between a b ≡ Some rank → 1 ≤ rank
+rank_between-positive None None rank h = let e = same_Some 1 rank h in omega (arith, e)
+rank_between-positive None (Some b) rank h = cc h
+rank_between-positive (Some a) None rank h = cc h
+rank_between-positive (Some a) (Some b) rank h =
+    least_rank-positive (has_rank_1 a b) (has_rank_2 a b) (has_rank_3 a b) (has_rank_4 a b) rank h
+
+-- a package with the dependency's identity fits with rank 1, and no other package does
+fits-first : (d : Identity) (p : PackageData) → HasIdentity d p → Fits d 1 p
+fits-first d p same = record {
+  named = record { name = sym (ap (λ (k : IdentityKey). k.name) same); version = sym (ap (λ (k : IdentityKey). k.version) same) };
+  ranked = (rank_between-one d.source p.source).1 (sym (ap (λ (k : IdentityKey). k.source) same));
+}
+
+first-fits : (d : Identity) (p : PackageData) → Fits d 1 p → HasIdentity d p
+first-fits d p f =
+    let source = (rank_between-one d.source p.source).0 f.ranked in
+    λ i. record { name = sym f.named.name i; version = sym f.named.version i; source = sym source i }
+
+pub exact-target : (packages : List PackageData) (d : Identity) (place : ℕ) → IsLastWith packages d (Some place) → IsTarget packages d place
+exact-target packages d place last =
+    let p : PackageData = last.1.0 in
+    record {
+      rank = 1;
+      fits = (p, last.1.1, fits-first d p last.1.2);
+      least = λ k other f. let q : PackageData = f.0 in rank_between-positive d.source q.source other f.2.ranked;
+      last = λ k f. elim (cases_Bool (nat_lt place k)) [
+        | inl after ↦ absurd (last.2 k (ltb-true place k after) (slice_get_within packages k f.0 f.1) (f.0, f.1, first-fits d f.0 f.2))
+        | inr miss ↦ ltb-false place k miss
+      ];
+    }
+
+-- ---- places by name and version
+
+same-version : (a d : Identity) → Decides (is_at (partial_identity_cmp (name_and_version a.name a.version)) (name_and_version d.name d.version)) ((d.name ≡ a.name) × (d.version ≡ a.version))
+same-version a d =
+    let tells = is_same_partial_identity-Decides (name_and_version a.name a.version) (name_and_version d.name d.version) in (
+      λ h.
+          let e = tells.0 h in
+          (sym (ap (λ (k : PartialKey). k.name) e), sym (same_Some a.version d.version (ap (λ (k : PartialKey). k.version) e))),
+      λ e. tells.1 (λ i. record { name = sym e.0 i; version = Some (sym e.1 i); source = None }),
+    )
+
+has-both : (p : PackageData) (d : Identity)
+    → Decides (is_at (partial_identity_cmp (name_and_version p.name p.version)) (name_and_version d.name d.version)) (HasNameAndVersion d p)
+has-both p d =
+    let tells = same-version (identity_of p) d in
+    (λ h. record { name = (tells.0 h).0; version = (tells.0 h).1 }, λ e. tells.1 (e.name, e.version))
+
+pub versions-more : (packages : List PackageData) (bound : ℕ) (last grown : BTreeMap PartialIdentity ℕ) (earlier pushed : List (Option ℕ)) (p : PackageData) (o : Option ℕ)
+    → slice_get packages bound ≡ Some p → o ≡ get partial_identity_cmp last (name_and_version p.name p.version) → pushed ≡ earlier ++ o ∷ []
+    → ((q : PartialIdentity) → get partial_identity_cmp grown q
+    ≡ cond (is_at (partial_identity_cmp (name_and_version p.name p.version)) q) (Some bound) (get partial_identity_cmp last q))
+    → AreVersions packages bound last earlier → AreVersions packages (bound + 1) grown pushed
+versions-more packages bound last grown earlier pushed p o here is more grows so_far =
     let even = so_far.count in
-    let two : (name : List ℕ) (b : Bool) → is_at (text_cmp p.name) name ≡ b → IsLastBelow (P name) (bound + 1) (cond b (Some bound) (get text_cmp last name)) =
-    λ name b e. (elim b as (λ b. is_at (text_cmp p.name) name ≡ b → IsLastBelow (P name) (bound + 1) (cond b (Some bound) (get text_cmp last name))) [
-      | true ↦ λ e. last-new (P name) bound (p, here, name-here p.name name e)
-      | false ↦ λ e. last-same (P name) bound (get text_cmp last name) (so_far.newest name)
-          (λ h.
-          let same : h.0 ≡ p = same_Some h.0 p (sym h.1 ∙ here) in
-          let n : p.name ≡ name = ap (λ (q : PackageData). q.name) (sym same) ∙ h.2 in
-          false≢true (sym e ∙ subst (λ m. is_at (text_cmp p.name) m ≡ true) n (name-itself p.name)))
-    ]) e in
     record {
       count = ap length more ∙ (let l = length-append earlier (o ∷ []) in omega (arith, l, even));
-      newest = λ name. subst (λ found. IsLastBelow (P name) (bound + 1) found) (sym (grows name)) (two name (is_at (text_cmp p.name) name) refl);
+      newest = λ i.
+          let key = name_and_version i.name i.version in
+          subst (λ found. IsLastBelow (HoldsOf (HasNameAndVersion i) packages) (bound + 1) found) (sym (grows key))
+          (last-step (HasNameAndVersion i) packages bound p (is_at (partial_identity_cmp (name_and_version p.name p.version)) key) (get partial_identity_cmp last key) here (has-both p i) (so_far.newest i));
       before = λ k q place there at. elim (in_or_last earlier o k place (ap (λ xs. slice_get xs k) (sym more) ∙ at)) [
         | inl (low, old) ↦ so_far.before k q place there old
         | inr (end, found) ↦
             let place_is : k ≡ bound = end ∙ even in
             let same : p ≡ q = same_Some p q (sym here ∙ ap (slice_get packages) (sym place_is) ∙ there) in
-            let Q : List ℕ → ℕ → Option ℕ → Type 0 = λ name bound found. IsLastBelow (P name) bound found in
-            subst (λ name. Q name k place) (ap (λ (r : PackageData). r.name) same)
-            (subst (λ n. Q p.name n place) (sym place_is)
-            (subst (λ f. Q p.name bound f) (sym is ∙ found) (so_far.newest p.name)))
+            let Q : PackageData → ℕ → Option ℕ → Type 0 = λ r bound found. IsLastBelow (HoldsOf (HasNameAndVersion (identity_of r)) packages) bound found in
+            subst (λ r. Q r k place) same
+            (subst (λ n. Q p n place) (sym place_is)
+            (subst (λ f. Q p bound f) (sym is ∙ found) (so_far.newest (identity_of p))))
       ];
     }
 
 -- ---- the best so far
 
-fits-name : (packages : List PackageData) (d : Identity) (k rank : ℕ) → FitsAt packages d k rank → HoldsOf (HasName d.name) packages k
-fits-name packages d k rank h = (h.0, h.1, sym h.2.named.name)
+fits-named : (packages : List PackageData) (d : Identity) (k rank : ℕ) → FitsAt packages d k rank → HoldsOf (HasNameAndVersion d) packages k
+fits-named packages d k rank h = (h.0, h.1, h.2.named)
 
 fits-same : (packages : List PackageData) (d : Identity) (k rank other : ℕ) → FitsAt packages d k rank → FitsAt packages d k other → rank ≡ other
 fits-same packages d k rank other f g =
@@ -95,18 +213,18 @@ fits-of packages d k rank p at f = subst (λ (q : PackageData). Fits d rank q) (
 pub best-start : (packages : List PackageData) (d : Identity) → BestFrom packages d (length packages) None
 best-start packages d k rank past f = let low = slice_get_within packages k f.0 f.1 in absurd (omega (arith, past, low))
 
-here-or-past : (packages : List PackageData) (d : Identity) (bound place : ℕ) → IsLastBelow (HoldsOf (HasName d.name) packages) bound (Some place)
+here-or-past : (packages : List PackageData) (d : Identity) (bound place : ℕ) → IsLastBelow (HoldsOf (HasNameAndVersion d) packages) bound (Some place)
     → (k rank : ℕ) → place ≤ k → FitsAt packages d k rank → (k ≡ place) ⊎ (bound ≤ k)
 here-or-past packages d bound place is k rank from f = elim (cases_Bool (nat_lt place k)) [
   | inl after ↦ elim (cases_Bool (nat_lt k bound)) [
-    | inl below ↦ absurd (is.2 k (ltb-true place k after) (ltb-true k bound below) (fits-name packages d k rank f))
+    | inl below ↦ absurd (is.2 k (ltb-true place k after) (ltb-true k bound below) (fits-named packages d k rank f))
     | inr past ↦ inr (ltb-false k bound past)
   ]
   | inr miss ↦ let h = ltb-false place k miss in inl (omega (arith, h, from))
 ]
 
 best-kept : (packages : List PackageData) (d : Identity) (bound place : ℕ) (p : PackageData) (best : Option Best)
-    → IsLastBelow (HoldsOf (HasName d.name) packages) bound (Some place) → slice_get packages place ≡ Some p
+    → IsLastBelow (HoldsOf (HasNameAndVersion d) packages) bound (Some place) → slice_get packages place ≡ Some p
     → ((rank : ℕ) → ¬ Fits d rank p) → BestFrom packages d bound best → BestFrom packages d place best
 best-kept packages d bound place p None is at miss so_far = λ k rank from f. elim (here-or-past packages d bound place is k rank from f) [
   | inl same ↦ miss rank (fits-of packages d k rank p (ap (slice_get packages) same ∙ at) f)
@@ -124,7 +242,7 @@ best-kept packages d bound place p (Some best) is at miss so_far =
     )
 
 best-new : (packages : List PackageData) (d : Identity) (bound place rank : ℕ)
-    → IsLastBelow (HoldsOf (HasName d.name) packages) bound (Some place) → FitsAt packages d place rank
+    → IsLastBelow (HoldsOf (HasNameAndVersion d) packages) bound (Some place) → FitsAt packages d place rank
     → ((k other : ℕ) → bound ≤ k → FitsAt packages d k other → rank < other)
     → BestFrom packages d place (Some record { rank = rank; place = place })
 best-new packages d bound place rank is fits less = (
@@ -139,7 +257,7 @@ best-new packages d bound place rank is fits less = (
 )
 
 best-better : (packages : List PackageData) (d : Identity) (bound place rank : ℕ) (best : Best)
-    → IsLastBelow (HoldsOf (HasName d.name) packages) bound (Some place) → FitsAt packages d place rank
+    → IsLastBelow (HoldsOf (HasNameAndVersion d) packages) bound (Some place) → FitsAt packages d place rank
     → BestFrom packages d bound (Some best) → (b : Bool) → nat_lt rank best.rank ≡ b
     → BestFrom packages d place (cond b (Some record { rank = rank; place = place }) (Some best))
 best-better packages d bound place rank best is fits so_far true less =
@@ -160,7 +278,7 @@ best-better packages d bound place rank best is fits so_far false more =
     )
 
 pub best-step : (packages : List PackageData) (d : Identity) (bound place : ℕ) (p : PackageData) (best : Option Best) (rank : Option ℕ)
-    → IsLastBelow (HoldsOf (HasName d.name) packages) bound (Some place) → slice_get packages place ≡ Some p
+    → IsLastBelow (HoldsOf (HasNameAndVersion d) packages) bound (Some place) → slice_get packages place ≡ Some p
     → MatchOption rank ((r : ℕ) → ¬ Fits d r p) (λ r. Fits d r p)
     → BestFrom packages d bound best → BestFrom packages d place (better best rank place)
 best-step packages d bound place p best None is at miss so_far = best-kept packages d bound place p best is at miss so_far
@@ -170,16 +288,16 @@ best-step packages d bound place p (Some best) (Some rank) is at fits so_far =
     best-better packages d bound place rank best is (p, at, fits) so_far (nat_lt rank best.rank) refl
 
 pub best-end : (packages : List PackageData) (d : Identity) (bound : ℕ) (best : Option Best)
-    → IsLastBelow (HoldsOf (HasName d.name) packages) bound None → BestFrom packages d bound best
+    → IsLastBelow (HoldsOf (HasNameAndVersion d) packages) bound None → BestFrom packages d bound best
     → MatchOption (option_map (λ (b : Best). b.place) best) (IsLost packages d) (λ place. IsTarget packages d place)
 best-end packages d bound None none so_far = λ place rank f. elim (cases_Bool (nat_lt place bound)) [
-  | inl below ↦ none place (ltb-true place bound below) (fits-name packages d place rank f)
+  | inl below ↦ none place (ltb-true place bound below) (fits-named packages d place rank f)
   | inr past ↦ so_far place rank (ltb-false place bound past) f
 ]
 best-end packages d bound (Some best) none so_far =
     let from = so_far.0 in
     let past : (k rank : ℕ) → FitsAt packages d k rank → bound ≤ k = λ k rank f. elim (cases_Bool (nat_lt k bound)) [
-      | inl below ↦ absurd (none k (ltb-true k bound below) (fits-name packages d k rank f))
+      | inl below ↦ absurd (none k (ltb-true k bound below) (fits-named packages d k rank f))
       | inr past ↦ ltb-false k bound past
     ] in
     record {
@@ -194,35 +312,45 @@ best-end packages d bound (Some best) none so_far =
 
 -- ---- the steps of the search
 
-pub find-start : (packages : List PackageData) (d : Identity) (last : BTreeMap (List ℕ) ℕ) (earlier : List (Option ℕ)) (next : Option ℕ)
-    → AreCandidates packages (length packages) last earlier → next ≡ get text_cmp last d.name
-    → IsLastBelow (HoldsOf (HasName d.name) packages) (length packages) next
-find-start packages d last earlier next candidates is =
-    subst (λ o. IsLastBelow (HoldsOf (HasName d.name) packages) (length packages) o) (sym is) (candidates.newest d.name)
+pub find-start : (packages : List PackageData) (d : Identity) (last : BTreeMap PartialIdentity ℕ) (earlier : List (Option ℕ)) (next : Option ℕ)
+    → AreVersions packages (length packages) last earlier → next ≡ get partial_identity_cmp last (name_and_version d.name d.version)
+    → IsLastBelow (HoldsOf (HasNameAndVersion d) packages) (length packages) next
+find-start packages d last earlier next versions is =
+    subst (λ o. IsLastBelow (HoldsOf (HasNameAndVersion d) packages) (length packages) o) (sym is) (versions.newest d)
 
-pub find-next : (packages : List PackageData) (d : Identity) (last : BTreeMap (List ℕ) ℕ) (earlier : List (Option ℕ)) (bound place : ℕ) (next : Option ℕ)
-    → AreCandidates packages (length packages) last earlier
-    → bound ≤ length packages → IsLastBelow (HoldsOf (HasName d.name) packages) bound (Some place)
+pub find-next : (packages : List PackageData) (d : Identity) (last : BTreeMap PartialIdentity ℕ) (earlier : List (Option ℕ)) (bound place : ℕ) (next : Option ℕ)
+    → AreVersions packages (length packages) last earlier
+    → bound ≤ length packages → IsLastBelow (HoldsOf (HasNameAndVersion d) packages) bound (Some place)
     → next ≡ get_or earlier place next
-    → IsLastBelow (HoldsOf (HasName d.name) packages) place next
-find-next packages d last earlier bound place next candidates within is next_is =
+    → IsLastBelow (HoldsOf (HasNameAndVersion d) packages) place next
+find-next packages d last earlier bound place next versions within is next_is =
     let low = is.0 in
-    let long = candidates.count in
-    let p = is.1.0 in
+    let long = versions.count in
+    let p : PackageData = is.1.0 in
+    let named : HasNameAndVersion d p = is.1.2 in
     let stored : slice_get earlier place ≡ Some next = slice_get_read earlier (length earlier) place next refl (omega (arith, low, within, long)) next_is in
-    let q : PackageData = p in
-    subst (λ name. IsLastBelow (HoldsOf (HasName name) packages) place next) is.1.2 (candidates.before place q next is.1.1 stored)
+    last-alike (HoldsOf (HasNameAndVersion (identity_of p)) packages) (HoldsOf (HasNameAndVersion d) packages) place next
+    (λ k h. (h.0, h.1, record { name = named.name ∙ h.2.name; version = named.version ∙ h.2.version }))
+    (λ k h. (h.0, h.1, record { name = sym named.name ∙ h.2.name; version = sym named.version ∙ h.2.version }))
+    (versions.before place p next is.1.1 stored)
+
+-- a package with the dependency's name and version fits with the rank of the sources
+ranked-one : (d : Identity) (p : PackageData) (rank : Option ℕ) → HasNameAndVersion d p → rank ≡ rank_between d.source p.source
+    → MatchOption rank ((r : ℕ) → ¬ Fits d r p) (λ r. Fits d r p)
+ranked-one d p None named is = λ r f. let e = f.ranked in cc
+ranked-one d p (Some rank) named is = record { named = named; ranked = sym is }
 
 pub find-better : (packages : List PackageData) (d : Identity) (bound place : ℕ) (p : PackageData) (best grown : Option Best) (rank : Option ℕ)
-    → bound ≤ length packages → IsLastBelow (HoldsOf (HasName d.name) packages) bound (Some place)
+    → bound ≤ length packages → IsLastBelow (HoldsOf (HasNameAndVersion d) packages) bound (Some place)
     → BestFrom packages d bound best → p ≡ get_or packages place p
-    → MatchOption rank ((r : ℕ) → ¬ Fits d r p) (λ r. Fits d r p)
-    → grown ≡ better best rank place
+    → rank ≡ rank_between d.source p.source → grown ≡ better best rank place
     → BestFrom packages d place grown
-find-better packages d bound place p best grown rank within is so_far p_is fits grows =
+find-better packages d bound place p best grown rank within is so_far p_is ranks grows =
     let low = is.0 in
+    let q : PackageData = is.1.0 in
     let at : slice_get packages place ≡ Some p = slice_get_read packages (length packages) place p refl (omega (arith, low, within)) p_is in
-    subst (λ b. BestFrom packages d place b) (sym grows) (best-step packages d bound place p best rank is at fits so_far)
+    let named = subst (λ (r : PackageData). HasNameAndVersion d r) (same_Some q p (sym is.1.1 ∙ at)) is.1.2 in
+    subst (λ b. BestFrom packages d place b) (sym grows) (best-step packages d bound place p best rank is at (ranked-one d p rank named ranks) so_far)
 
 pub find-smaller : (P : ℕ → Type 0) (place : ℕ) (next after : Option ℕ) → next ≡ Some place → IsLastBelow P place after
     → unwrap_or (option_map suc after) 0 < unwrap_or (option_map suc next) 0
@@ -232,16 +360,17 @@ find-smaller P place next (Some k) is h =
     subst (λ o. suc k < unwrap_or (option_map suc o) 0) (sym is) (omega (arith, low))
 
 pub find-end : (packages : List PackageData) (d : Identity) (bound : ℕ) (best : Option Best) (next found : Option ℕ)
-    → next ≡ None → IsLastBelow (HoldsOf (HasName d.name) packages) bound next → BestFrom packages d bound best
+    → next ≡ None → IsLastBelow (HoldsOf (HasNameAndVersion d) packages) bound next → BestFrom packages d bound best
     → found ≡ option_map (λ (b : Best). b.place) best
     → MatchOption found (IsLost packages d) (λ place. IsTarget packages d place)
 find-end packages d bound best next found none is so_far found_is =
     subst (λ o. MatchOption o (IsLost packages d) (λ place. IsTarget packages d place)) (sym found_is)
-    (best-end packages d bound best (subst (λ o. IsLastBelow (HoldsOf (HasName d.name) packages) bound o) none is) so_far)
+    (best-end packages d bound best (subst (λ o. IsLastBelow (HoldsOf (HasNameAndVersion d) packages) bound o) none is) so_far)
 
-pub candidates-step : (packages : List PackageData) (place : ℕ) (last grown : BTreeMap (List ℕ) ℕ) (earlier pushed : List (Option ℕ)) (p : PackageData) (o : Option ℕ)
-    → place < length packages → p ≡ get_or packages place p → o ≡ get text_cmp last p.name → pushed ≡ earlier ++ o ∷ []
-    → ((q : List ℕ) → get text_cmp grown q ≡ cond (is_at (text_cmp p.name) q) (Some place) (get text_cmp last q))
-    → AreCandidates packages place last earlier → AreCandidates packages (place + 1) grown pushed
-candidates-step packages place last grown earlier pushed p o low p_is =
-    candidates-more packages place last grown earlier pushed p o (slice_get_read packages (length packages) place p refl low p_is)
+pub versions-step : (packages : List PackageData) (place : ℕ) (last grown : BTreeMap PartialIdentity ℕ) (earlier pushed : List (Option ℕ)) (p : PackageData) (o : Option ℕ)
+    → place < length packages → p ≡ get_or packages place p → o ≡ get partial_identity_cmp last (name_and_version p.name p.version) → pushed ≡ earlier ++ o ∷ []
+    → ((q : PartialIdentity) → get partial_identity_cmp grown q
+    ≡ cond (is_at (partial_identity_cmp (name_and_version p.name p.version)) q) (Some place) (get partial_identity_cmp last q))
+    → AreVersions packages place last earlier → AreVersions packages (place + 1) grown pushed
+versions-step packages place last grown earlier pushed p o low p_is =
+    versions-more packages place last grown earlier pushed p o (slice_get_read packages (length packages) place p refl low p_is)

@@ -7,7 +7,7 @@ use Rattle.std.proofs.lemmas.List.Elements.{recursion_from_All}
 use Rattle.cargo_lock_graph.specs.Drawing.{is_among, children, AreBelow}
 use Rattle.cargo_lock_graph.specs.DrawingSteps.{expected, HaveChildren, DrawsFrom}
 use Rattle.cargo_lock_graph.specs.declared.drawing.entry.Entry.{Entry}
-use Rattle.cargo_lock_graph.specs.DrawingMade.{deeper, unmarked, draw, rest_of, drawing}
+use Rattle.cargo_lock_graph.specs.DrawingMade.{AreMarked, deeper, unmarked, draw, rest_of, drawing}
 use Rattle.cargo_lock_graph.proofs.DrawingRest.{at_level, Falls, Rest, same_entry, deep, deeper-falls, level-same, level-other, back, falls_on, one_rest}
 
 -- ---- how many are left
@@ -35,12 +35,8 @@ pub rest-end : (far : ℕ → List ℕ) (marks : List Bool) → rest_of far mark
 unfolding rest_of
 rest-end far marks = elim (unmarked marks) as (λ n. draw far n marks [] ≡ []) [ zero ↦ refl | suc n ↦ refl ]
 
--- the marks stand at these nodes
-abbrev pub Agree : List Bool → List ℕ → Type 0
-Agree marks earlier = (k : ℕ) → k < length marks → get_or marks k true ≡ is_among k earlier
-
-agree-more : (marks : List Bool) (earlier : List ℕ) (m : ℕ) → Agree marks earlier → Agree (set marks m true) (m ∷ earlier)
-agree-more marks earlier m h k lt =
+pub marked-more : (marks : List Bool) (earlier : List ℕ) (m : ℕ) → AreMarked marks earlier → AreMarked (set marks m true) (m ∷ earlier)
+marked-more marks earlier m h k lt =
     let in_range : k < length marks = subst (λ (n : ℕ). k < n) (length-set marks m true) lt in
     elim (cases_eq k m) [
       | inl same ↦ rw (eq-eqb k m same) (subst (λ (j : ℕ). get_or (set marks m true) j true ≡ true) (sym same) (get_or-set_same marks m true true (omega arith)))
@@ -48,8 +44,8 @@ agree-more marks earlier m h k lt =
     ]
 
 -- one more entry of a node that has a mark
-agree-again : (marks : List Bool) (earlier : List ℕ) (m : ℕ) → m < length marks → get_or marks m true ≡ true → Agree marks earlier → Agree marks (m ∷ earlier)
-agree-again marks earlier m m_in t h k lt =
+pub marked-again : (marks : List Bool) (earlier : List ℕ) (m : ℕ) → m < length marks → get_or marks m true ≡ true → AreMarked marks earlier → AreMarked marks (m ∷ earlier)
+marked-again marks earlier m m_in t h k lt =
     elim (cases_eq k m) [
       | inl same ↦ rw (eq-eqb k m same) (ap (λ (j : ℕ). get_or marks j true) same ∙ t)
       | inr other ↦ rw (ne_eqb k m other) (h k lt)
@@ -81,19 +77,19 @@ below_on far nodes earlier e p far_below h = below-append nodes (deeper (suc e.d
 pub record Step (far : ℕ → List ℕ) (marks : List Bool) (earlier : List ℕ) (e : Entry) (p : List Entry) : Type 0 where
   pub marks' : List Bool
   pub long : length marks' ≡ length marks
-  pub agree : Agree marks' (e.node ∷ earlier)
+  pub agree : AreMarked marks' (e.node ∷ earlier)
   pub is : rest_of far marks (e ∷ p) ≡ e ∷ rest_of far marks' (deeper (suc e.depth) (expected far earlier e.node) ++ p)
 
-pub rest-step : (far : ℕ → List ℕ) (marks : List Bool) (earlier : List ℕ) (e : Entry) (p : List Entry) → Agree marks earlier → e.node < length marks → Step far marks earlier e p
+pub rest-step : (far : ℕ → List ℕ) (marks : List Bool) (earlier : List ℕ) (e : Entry) (p : List Entry) → AreMarked marks earlier → e.node < length marks → Step far marks earlier e p
 rest-step far marks earlier e p h lt =
     elim (cases_Bool (get_or marks e.node true)) [
       | inl t ↦ (let among : is_among e.node earlier ≡ true = sym (h e.node lt) ∙ t in
-          record { marks' = marks; long = refl; agree = agree-again marks earlier e.node lt t h; is = rest-seen far marks e p t ∙ rw among refl })
+          record { marks' = marks; long = refl; agree = marked-again marks earlier e.node lt t h; is = rest-seen far marks e p t ∙ rw among refl })
       | inr f ↦ (let among : is_among e.node earlier ≡ false = sym (h e.node lt) ∙ f in
-          record { marks' = set marks e.node true; long = length-set marks e.node true; agree = agree-more marks earlier e.node h; is = rest-new far marks e p f ∙ rw among refl })
+          record { marks' = set marks e.node true; long = length-set marks e.node true; agree = marked-more marks earlier e.node h; is = rest-new far marks e p f ∙ rw among refl })
     ]
 
-made_rest : (far : ℕ → List ℕ) (nodes : ℕ) → AreBelow far nodes → (es : List Entry) (marks : List Bool) (earlier : List ℕ) (before : ℕ) (p : List Entry) → length marks ≡ nodes → Agree marks earlier → Falls (suc before) p → Below nodes p → rest_of far marks p ≡ es → Rest far earlier before p es
+made_rest : (far : ℕ → List ℕ) (nodes : ℕ) → AreBelow far nodes → (es : List Entry) (marks : List Bool) (earlier : List ℕ) (before : ℕ) (p : List Entry) → length marks ≡ nodes → AreMarked marks earlier → Falls (suc before) p → Below nodes p → rest_of far marks p ≡ es → Rest far earlier before p es
 made_rest far nodes far_below [] marks earlier before [] long agree falls below made = record { steps = tt; waits = λ d. refl; have = tt }
 made_rest far nodes far_below [] marks earlier before (e ∷ p) long agree falls below made =
     let s = rest-step far marks earlier e p agree (subst (λ (n : ℕ). e.node < n) (sym long) below.0) in
@@ -131,7 +127,7 @@ pub is_drawing : (far : ℕ → List ℕ) (nodes start : ℕ) → AreBelow far n
 is_drawing far nodes start far_below lt =
     let root : Entry = record { node = start; depth = 0 } in
     let none : List Bool = replicate nodes false in
-    let agree : Agree none [] = λ k k_in. get_or-replicate nodes k false true (subst (λ (n : ℕ). k < n) (length-replicate nodes false) k_in) in
+    let agree : AreMarked none [] = λ k k_in. get_or-replicate nodes k false true (subst (λ (n : ℕ). k < n) (length-replicate nodes false) k_in) in
     let long : length none ≡ nodes = length-replicate nodes false in
     let s = rest-step far none [] root [] agree (subst (λ (n : ℕ). start < n) (sym long) lt) in
     let kids : List Entry = deeper 1 (far start) in

@@ -1,21 +1,20 @@
 -- How the nodes and the edges of a lockfile's packages are built up, package by package.
-use Rattle.std.proofs.Common.{◌≡◌, ◌<◌, ◌+◌, ℕ, Bool, true, false, cond, List, [], ◌∷◌, ◌++◌, length, get_or, map, take, drop, slice_get, Option, Some, None, IsSome, refl, sym, ap, subst, ◌∙◌, append_assoc, append-nil}
+use Rattle.std.proofs.Common.{◌≡◌, ◌<◌, ◌+◌, ℕ, cond, List, [], ◌∷◌, ◌++◌, length, get_or, map, take, drop, slice_get, Some, IfSome, refl, sym, ap, subst, ◌∙◌, append_assoc, append-nil}
 use Rattle.std.specs.BTreeMap.{BTreeMap, get, is_at}
 use Rattle.std.specs.List.{All, AllZip}
-use Rattle.std.proofs.lemmas.Bool.{false≢true}
 use Rattle.std.proofs.lemmas.List.{drop_more, map-append, take_more, take-append-drop}
 use Rattle.std.proofs.lemmas.List.Concat.{flat_map-append}
 use Rattle.std.proofs.lemmas.List.Elements.{All-append, All-cons, All-nil}
-use Rattle.std.proofs.lemmas.Option.{slice_get_read, slice_get_within, same_Some}
+use Rattle.std.proofs.lemmas.Option.{slice_get_read, slice_get_within}
 use Rattle.cargo_lock_parts.specs.declared.error.Error.{Error}
 use Rattle.cargo_lock_parts.specs.declared.error.Error.TheVariants.{Io, Parse, Version, Resolution, Memory}
-use Rattle.cargo_lock_parts.specs.Identity.{Identity, PackageData, identity_key, identity_of}
+use Rattle.cargo_lock_parts.specs.Identity.{Identity, PackageData, identity_of}
 use Rattle.cargo_lock_parts.specs.IdentityLaws.{is_same_identity-Decides}
 use Rattle.cargo_lock_parts.specs.IdentityOrder.{identity_cmp}
 use Rattle.cargo_lock_graph.specs.Chains.{AreBetween}
 use Rattle.cargo_lock_graph.specs.Edges.{Edge}
 use Rattle.cargo_lock_graph.specs.Targets.{AreEdgesOf, HasIdentity, HasTarget, HoldsOf, IsEdgeOf, IsFirstLost, IsLastBelow, IsLastWith, IsLost, IsLostFault, IsTarget, IsUnresolved, Link, links, links_of, links_to}
-use Rattle.cargo_lock_graph.proofs.BestCandidates.{last-new, last-same}
+use Rattle.cargo_lock_graph.proofs.BestCandidates.{last-step}
 
 -- ---- nodes
 
@@ -25,32 +24,18 @@ pub nodes-step : (packages : List PackageData) (place : ℕ) (nodes grown : BTre
     → ((i : Identity) → IsLastBelow (HoldsOf (HasIdentity i) packages) place (get identity_cmp nodes i))
     → (i : Identity) → IsLastBelow (HoldsOf (HasIdentity i) packages) (place + 1) (get identity_cmp grown i)
 nodes-step packages place nodes grown p low is grows so_far i =
-    let P = HoldsOf (HasIdentity i) packages in
-    let here : slice_get packages place ≡ Some p = slice_get_read packages (length packages) place p refl low is in
-    let tells = is_same_identity-Decides (identity_of p) i in
-    let found = get identity_cmp nodes i in
-    let two : (b : Bool) → is_at (identity_cmp (identity_of p)) i ≡ b → IsLastBelow P (place + 1) (cond b (Some place) found) =
-    λ b. elim b as (λ b. is_at (identity_cmp (identity_of p)) i ≡ b → IsLastBelow P (place + 1) (cond b (Some place) found)) [
-      | true ↦ λ e. last-new P place (p, here, tells.0 e)
-      | false ↦ λ e. last-same P place found (so_far i) (λ h.
-          let same : h.0 ≡ p = same_Some h.0 p (sym h.1 ∙ here) in
-          let key = subst (λ (q : PackageData). identity_key (identity_of q) ≡ identity_key i) same h.2 in
-          false≢true (sym e ∙ tells.1 key))
-    ] in
-    subst (λ o. IsLastBelow P (place + 1) o) (sym (grows i)) (two (is_at (identity_cmp (identity_of p)) i) refl)
+    subst (λ o. IsLastBelow (HoldsOf (HasIdentity i) packages) (place + 1) o) (sym (grows i))
+    (last-step (HasIdentity i) packages place p (is_at (identity_cmp (identity_of p)) i) (get identity_cmp nodes i)
+    (slice_get_read packages (length packages) place p refl low is) (is_same_identity-Decides (identity_of p) i) (so_far i))
 
-some-node : (P : ℕ → Type 0) (count k : ℕ) (o : Option ℕ) → k < count → P k → IsLastBelow P count o → IsSome o
-some-node P count k None low here none = absurd (none k low here)
-some-node P count k (Some place) low here last = refl
-
--- each package of the list has a node
-pub node-there : (packages : List PackageData) (nodes : BTreeMap Identity ℕ) (k : ℕ) (p : PackageData)
-    → ((i : Identity) → IsLastWith packages i (get identity_cmp nodes i)) → k < length packages → p ≡ get_or packages k p
-    → IsSome (get identity_cmp nodes (identity_of p))
-node-there packages nodes k p are low is =
-    let i = identity_of p in
-    some-node (HoldsOf (HasIdentity i) packages) (length packages) k (get identity_cmp nodes i) low
-    (p, slice_get_read packages (length packages) k p refl low is, refl) (are i)
+-- the node of a package of the list
+pub node-here : (packages candidates : List PackageData) (k source : ℕ) (p : PackageData)
+    → candidates ≡ packages → k < length packages → p ≡ get_or packages k p
+    → IfSome (slice_get candidates k) (λ q. IsLastWith candidates (identity_of q) (Some source))
+    → IsLastWith candidates (identity_of p) (Some source)
+node-here packages candidates k source p same low is told =
+    subst (λ o. IfSome o (λ q. IsLastWith candidates (identity_of q) (Some source)))
+    (ap (λ (cs : List PackageData). slice_get cs k) same ∙ slice_get_read packages (length packages) k p refl low is) told
 
 -- ---- links
 

@@ -1,23 +1,29 @@
--- How the package of a dependency is found: among the packages of its name, from the last to the
--- first.
+-- How the package of a dependency is found: as the last one with its identity, or else among the
+-- packages of its name and version, from the last to the first.
 use Rattle.std.specs.Prelude.{◌≡◌, ℕ, ◌<◌, ◌≤◌, nat_lt, cond, List, Option, Some, None, length, slice_get}
 use Rattle.std.specs.BTreeMap.{BTreeMap, get}
-use Rattle.cargo_lock_parts.specs.Identity.{Identity, PackageData}
-use Rattle.cargo_lock_parts.specs.SourceKey.{text_cmp}
+use Rattle.cargo_lock_parts.specs.Identity.{HasNameAndVersion, Identity, PackageData, identity_of}
+use Rattle.cargo_lock_parts.specs.PartialIdentity.{PartialIdentity, name_and_version, partial_identity_cmp}
 use Rattle.cargo_lock_graph.specs.declared.targets.Best.{Best}
-use Rattle.cargo_lock_graph.specs.Targets.{FitsAt, HoldsOf, IsLastBelow}
+use Rattle.cargo_lock_graph.specs.Targets.{FitsAt, HasIdentity, HoldsOf, IsLastBelow}
 
--- the package has the name
-abbrev pub HasName : List ℕ → PackageData → Type 0
-HasName name p = p.name ≡ name
+-- the key of an identity: a package without a source has a key without one
+abbrev pub identity_as_key : Identity → PartialIdentity
+identity_as_key i = record { name = i.name; version = Some i.version; source = i.source }
 
--- For the packages below a bound, `last` has for each name the last place of those with it, and
--- `earlier` has for each place the last place before it of those with the same name.
-pub record AreCandidates (packages : List PackageData) (bound : ℕ) (last : BTreeMap (List ℕ) ℕ) (earlier : List (Option ℕ)) : Type 0 where
+-- for the packages below a bound, the last place of those with each identity
+abbrev pub AreLastPlaces : List PackageData → ℕ → BTreeMap PartialIdentity ℕ → Type 0
+AreLastPlaces packages bound places = (i : Identity)
+    → IsLastBelow (HoldsOf (HasIdentity i) packages) bound (get partial_identity_cmp places (identity_as_key i))
+
+-- For the packages below a bound, `last` has for each name and version the last place of those with
+-- both, and `earlier` has for each place the last place before it of those with the same ones.
+pub record AreVersions (packages : List PackageData) (bound : ℕ) (last : BTreeMap PartialIdentity ℕ) (earlier : List (Option ℕ)) : Type 0 where
   pub count : length earlier ≡ bound
-  pub newest : (name : List ℕ) → IsLastBelow (HoldsOf (HasName name) packages) bound (get text_cmp last name)
+  pub newest : (i : Identity)
+      → IsLastBelow (HoldsOf (HasNameAndVersion i) packages) bound (get partial_identity_cmp last (name_and_version i.name i.version))
   pub before : (k : ℕ) (p : PackageData) (place : Option ℕ) → slice_get packages k ≡ Some p → slice_get earlier k ≡ Some place
-      → IsLastBelow (HoldsOf (HasName p.name) packages) k place
+      → IsLastBelow (HoldsOf (HasNameAndVersion (identity_of p)) packages) k place
 
 -- the best of the places from a bound on: none of them has a lesser rank, and no later one the same
 abbrev pub BestFrom : List PackageData → Identity → ℕ → Option Best → Type 0

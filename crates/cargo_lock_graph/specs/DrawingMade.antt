@@ -1,6 +1,7 @@
 -- The drawing, made from the top. It is what a walk over a graph is held against.
-use Rattle.std.specs.Prelude.{ℕ, zero, suc, ◌+◌, Bool, true, false, cond, List, [], ◌∷◌, ◌++◌, get_or, set, replicate}
+use Rattle.std.specs.Prelude.{◌≡◌, ℕ, zero, suc, ◌+◌, ◌<◌, Bool, true, false, cond, List, [], ◌∷◌, ◌++◌, length, get_or, set, replicate}
 use Rattle.cargo_lock_graph.specs.declared.drawing.entry.Entry.{Entry}
+use Rattle.cargo_lock_graph.specs.Drawing.{is_among}
 
 -- entries of these nodes at this depth
 abbrev pub deeper : ℕ → List ℕ → List Entry
@@ -31,3 +32,7 @@ rest_of far marks p = draw far (unmarked marks) marks p
 -- the drawing from a start
 abbrev pub drawing : (ℕ → List ℕ) → ℕ → ℕ → List Entry
 drawing far nodes start = rest_of far (replicate nodes false) (record { node = start; depth = 0 } ∷ [])
+
+-- among so many nodes, those with a mark are these
+abbrev pub AreMarked : List Bool → List ℕ → Type 0
+AreMarked marks nodes = (k : ℕ) → k < length marks → get_or marks k true ≡ is_among k nodes

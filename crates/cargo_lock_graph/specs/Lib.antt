@@ -7,6 +7,7 @@ pub mod DrawingByLater
 pub mod ReadLine
 pub mod DrawingLines
 pub mod DrawingMade
+pub mod DrawingLevels
 pub mod DrawingLaws
 pub mod Edges
 pub mod Chains

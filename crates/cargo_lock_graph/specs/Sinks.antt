@@ -11,6 +11,11 @@ abbrev pub IsPut : {E : Type 0} → Option (List ℕ) → Option (List ℕ) → 
 IsPut old new before after bytes (Ok n) = (0 < n) × (n ≤ length bytes) × Appends old new (take n bytes) × (after ≡ before)
 IsPut old new before after bytes (Err e) = Keeps old new × (after ≡ before + 1)
 
+-- the bytes that a sink took, where they are known, and how often it failed
+pub record SinkState : Type 0 where
+  pub bytes : Option (List ℕ)
+  pub faults : ℕ
+
 -- what a sink or a writer took, how often it failed, and which borrow of it is meant
 pub record Taken : Type 0 where
   pub bytes : Option (List ℕ)

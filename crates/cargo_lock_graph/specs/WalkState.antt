@@ -1,9 +1,10 @@
 -- What a walk over a graph has still to draw, and what it holds.
-use Rattle.std.specs.Prelude.{◌≡◌, ℕ, suc, ◌+◌, ◌≤◌, ◌<◌, Bool, List, [], ◌∷◌, ◌++◌, length, IfSome, All, Option, vec_capacity}
+use Rattle.std.specs.Prelude.{◌≡◌, ℕ, suc, ◌+◌, ◌≤◌, ◌<◌, Bool, List, [], ◌∷◌, ◌++◌, length, IfSome, All, Option, max, vec_capacity}
 use Rattle.cargo_lock_graph.specs.declared.graph.EdgeDirection.{EdgeDirection}
 use Rattle.cargo_lock_graph.specs.declared.drawing.entry.Entry.{Entry}
 use Rattle.cargo_lock_graph.specs.declared.drawing.walk.Walk.{Walk}
-use Rattle.cargo_lock_graph.specs.DrawingMade.{deeper, unmarked, rest_of}
+use Rattle.cargo_lock_graph.specs.DrawingMade.{AreMarked, deeper, unmarked, rest_of}
+use Rattle.cargo_lock_graph.specs.DrawingLevels.{levels_with}
 use Rattle.cargo_lock_graph.specs.Edges.{Edge, GraphData, far_ends, far_ends_from}
 
 -- What the frames hold, where the first of them stands at this depth: a frame is the place of the
@@ -35,3 +36,9 @@ pub record IsHeld (nodes edges : ℕ) (marks : List Bool) (frames : List (Option
 abbrev pub IsOn : GraphData → Walk → Type 0
 IsOn graph walk =
     IsHeld (length graph.packages) (length graph.edges) walk.visited.items walk.stack.items (vec_capacity walk.stack) walk.most
+
+-- The walk drew an entry: its node has a mark, and `most` counts the levels that the entry opens.
+-- This is said of the nodes that had a mark before.
+abbrev pub HasDrawn : Walk → Walk → Entry → Type 0
+HasDrawn old new e = (earlier : List ℕ) → AreMarked old.visited.items earlier
+    → AreMarked new.visited.items (e.node ∷ earlier) × (new.most ≡ max old.most (levels_with earlier e))

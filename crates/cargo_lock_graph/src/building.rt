@@ -1,12 +1,11 @@
 //! The graph of packages: their nodes and their edges.
 
-ghost use Rattle.std.specs.Prelude.{◌≡◌, ◌++◌, cond, List, length, Some, IfErr, IfOk, IsOkUnless, IsSome, MatchResult, OnOk};
+ghost use Rattle.std.specs.Prelude.{◌≡◌, ◌++◌, cond, List, Some, IfErr, IfOk, IsOkUnless, MatchResult, OnOk};
 ghost use Rattle.std.specs.BTreeMap.{get, is_at};
 ghost use Rattle.std.specs.List.{AllZip};
 ghost use Rattle.cargo_lock_parts.specs.declared.error.Error.TheVariants.{Memory};
 ghost use Rattle.cargo_lock_parts.specs.Identity.{Identity, identity_of};
 ghost use Rattle.cargo_lock_parts.specs.IdentityOrder.{identity_cmp};
-ghost use Rattle.cargo_lock_graph.specs.Candidates.{AreCandidates};
 ghost use Rattle.cargo_lock_graph.specs.Edges.{Edge};
 ghost use Rattle.cargo_lock_graph.specs.Targets.{AreEdgesOf, IsEdgeOf, IsLastWith, IsLost, IsLostFault, IsTarget, IsUnresolved, links, links_of};
 
@@ -54,84 +53,68 @@ pub fn graph_of(alloc: Global, packages: &Vec<Package>) -> Result<(Graph, Nodes)
     ensures err { IfErr result (λ e. IsUnresolved packages.now.items (links packages.now.items) e) }
 {
     let nodes = nodes_of(alloc, packages)?;
-    let graph = graph_with(alloc, packages, &nodes)?;
+    let graph = graph_with(alloc, packages)?;
     Ok((graph, nodes))
 }
 
-// The graph of these packages, whose nodes by their identities are at hand.
-fn graph_with(alloc: Global, packages: &Vec<Package>, nodes: &Nodes) -> Result<Graph>
-    requires { (i : Identity) → IsLastWith packages.now.items i (get identity_cmp nodes.now i) }
+// The graph of these packages.
+fn graph_with(alloc: Global, packages: &Vec<Package>) -> Result<Graph>
     ensures packages { IfOk result (λ graph. graph.packages ≡ packages.now.items) }
     ensures edges { IfOk result (λ graph. AreEdgesOf packages.now.items graph.edges) }
     ensures err { IfErr result (λ e. IsUnresolved packages.now.items (links packages.now.items) e) }
 {
-    let edges = edges_of(alloc, packages, nodes)?;
+    let edges = edges_of(alloc, packages)?;
     let packages = clone_packages(packages)?;
     Ok(Graph::new(alloc, packages, edges)?)
 }
 
 // The edges of these packages.
-fn edges_of(alloc: Global, packages: &Vec<Package>, nodes: &Nodes) -> Result<Vec<StoredEdge>>
-    requires { (i : Identity) → IsLastWith packages.now.items i (get identity_cmp nodes.now i) }
+fn edges_of(alloc: Global, packages: &[Package]) -> Result<Vec<StoredEdge>>
     ensures { MatchResult result
-        (λ edges. AreEdgesOf packages.now.items edges.items)
-        (λ e. IsUnresolved packages.now.items (links packages.now.items) e) }
+        (λ edges. AreEdgesOf packages.now edges.items)
+        (λ e. IsUnresolved packages.now (links packages.now) e) }
 {
     let candidates = Candidates::of(alloc, packages)?;
     let mut edges = Vec::new(alloc);
-    for one in packages {
-        let source = node_of(nodes, one)?;
-        put_edges(alloc, &mut edges, packages, &candidates, source, one)?;
+    for (place, one) in packages.iter().enumerate() {
+        let source = candidates.node_of(place);
+        put_edges(alloc, &mut edges, &candidates, source, one)?;
     }
     Ok(edges)
 }
 
-// The node at the identity of a package.
-fn node_of(nodes: &Nodes, one: &Package) -> Result<NodeIndex>
-    requires { IsSome (get identity_cmp nodes.now (identity_of one.now)) }
-    ensures ok { IfOk result (λ node. get identity_cmp nodes.now (identity_of one.now) ≡ Some node) }
-    ensures err { IsOkUnless result Memory }
-{
-    let identity = Dependency::of(one)?;
-    Ok(nodes[&identity])
-}
-
 // Adds the edges of a package's dependencies.
-fn put_edges(
+fn put_edges<'a>(
     alloc: Global,
     edges: &mut Vec<StoredEdge>,
-    packages: &Vec<Package>,
-    candidates: &Candidates,
+    candidates: &Candidates<'a>,
     source: NodeIndex,
-    one: &Package,
+    one: &'a Package,
 ) -> Result<()>
-    requires candidates { AreCandidates packages.now.items (length packages.now.items) candidates.now.last candidates.now.earlier.items }
-    requires source { IsLastWith packages.now.items (identity_of one.now) (Some source) }
+    requires { IsLastWith candidates.now (identity_of one.now) (Some source) }
     ensures { MatchResult result
-        (λ _. (added : List Edge) × (edges.new.items ≡ edges.old.items ++ added) × AllZip (IsEdgeOf packages.now.items) (links_of one.now) added)
-        (λ e. IsUnresolved packages.now.items (links_of one.now) e) }
+        (λ _. (added : List Edge) × (edges.new.items ≡ edges.old.items ++ added) × AllZip (IsEdgeOf candidates.now) (links_of one.now) added)
+        (λ e. IsUnresolved candidates.now (links_of one.now) e) }
 {
     for dependency in &one.dependencies {
-        let edge = edge_of(alloc, packages, candidates, source, dependency)?;
+        let edge = edge_of(alloc, candidates, source, dependency)?;
         edges.push(edge)?;
     }
     Ok(())
 }
 
 // The edge of a dependency.
-fn edge_of(
+fn edge_of<'a>(
     alloc: Global,
-    packages: &Vec<Package>,
-    candidates: &Candidates,
+    candidates: &Candidates<'a>,
     source: NodeIndex,
-    dependency: &Dependency,
+    dependency: &'a Dependency,
 ) -> Result<StoredEdge>
-    requires { AreCandidates packages.now.items (length packages.now.items) candidates.now.last candidates.now.earlier.items }
     ensures { MatchResult result
-        (λ e. (e.from ≡ source) × IsTarget packages.now.items dependency.now e.to × (e.dependency ≡ dependency.now))
-        (λ e. IsLostFault packages.now.items dependency.now e) }
+        (λ e. (e.from ≡ source) × IsTarget candidates.now dependency.now e.to × (e.dependency ≡ dependency.now))
+        (λ e. IsLostFault candidates.now dependency.now e) }
 {
-    let target = target_of(alloc, packages, candidates, dependency)?;
+    let target = target_of(alloc, candidates, dependency)?;
     let dependency = dependency.clone()?;
     Ok(StoredEdge {
         source,
@@ -141,27 +124,25 @@ fn edge_of(
 }
 
 // The node of the package that a dependency stands for.
-fn target_of(
+fn target_of<'a>(
     alloc: Global,
-    packages: &Vec<Package>,
-    candidates: &Candidates,
-    dependency: &Dependency,
+    candidates: &Candidates<'a>,
+    dependency: &'a Dependency,
 ) -> Result<NodeIndex>
-    requires { AreCandidates packages.now.items (length packages.now.items) candidates.now.last candidates.now.earlier.items }
     ensures { MatchResult result
-        (λ node. IsTarget packages.now.items dependency.now node)
-        (λ e. IsLostFault packages.now.items dependency.now e) }
+        (λ node. IsTarget candidates.now dependency.now node)
+        (λ e. IsLostFault candidates.now dependency.now e) }
 {
-    match candidates.find(packages, dependency) {
+    match candidates.find(dependency) {
         Some(place) => Ok(NodeIndex::new(place)),
-        None => Err(lost(alloc, packages, dependency)),
+        None => Err(lost(alloc, candidates, dependency)),
     }
 }
 
 // The fault of a dependency that no package fits.
-fn lost(alloc: Global, packages: &Vec<Package>, dependency: &Dependency) -> Error
-    requires { IsLost packages.now.items dependency.now }
-    ensures { IsLostFault packages.now.items dependency.now result }
+fn lost(alloc: Global, candidates: &Candidates<'_>, dependency: &Dependency) -> Error
+    requires { IsLost candidates.now dependency.now }
+    ensures { IsLostFault candidates.now dependency.now result }
 {
     match format!(in alloc; "failed to find dependency: {dependency}") {
         Ok(text) => Error::Resolution(text),

@@ -4,7 +4,7 @@ ghost use Rattle.std.specs.Prelude.{◌-◌, ◌^◌, ◌<◌, ◌++◌, ◌∷�
 ghost use Rattle.semver.specs.Identifiers.{marked};
 ghost use Rattle.cargo_lock_graph.specs.Sinks.{IsTaken, IsWritten, Taken};
 
-use crate::drawing::sink::Sink;
+use crate::drawing::sink::{Sink, write_some};
 use itoa::Buffer;
 use std::io::{ErrorKind, Write};
 
@@ -34,8 +34,7 @@ impl<S: Sink> Target for OfSink<'_, S> {
     }
 }
 
-// A writer that is borrowed, with a count of its faults. An interrupted write is a fault, and so is
-// a write of no bytes.
+// A writer that is borrowed, with a count of its faults. It is written to as `WriterSink` does.
 #[derive(Drop)]
 pub(crate) struct OfWriter<'a, W> {
     pub(crate) writer: &'a mut W,
@@ -46,17 +45,7 @@ impl<W: Write> Target for OfWriter<'_, W> {
     ghost state = { λ out. record { bytes = W.contents out.writer.now; failures = out.faults; borrow = out.writer.ghost_name } };
 
     fn put(&mut self, bytes: &[u8]) -> Result<usize, ErrorKind> {
-        match self.writer.write(bytes) {
-            Ok(0) => {
-                self.faults += 1;
-                Err(ErrorKind::WriteZero)
-            }
-            Ok(count) => Ok(count),
-            Err(error) => {
-                self.faults += 1;
-                Err(error.kind())
-            }
-        }
+        write_some(&mut *self.writer, &mut self.faults, bytes)
     }
 }
 

@@ -1,9 +1,11 @@
 //! The text of a drawing, put onto a target line by line.
 
-ghost use Rattle.std.specs.Prelude.{◌-◌, ◌^◌, ◌<◌, ◌≤◌, ◌++◌, ◌∷◌, [], IfOk, List, length, vec_len};
+ghost use Rattle.std.specs.Prelude.{◌-◌, ◌^◌, ◌<◌, ◌≤◌, ◌++◌, ◌∷◌, [], IfOk, List, ℕ, ◌≡◌, OnOk, length, max, vec_len};
 ghost use Rattle.cargo_lock_graph.specs.declared.drawing.entry.Entry.{Entry};
 ghost use Rattle.cargo_lock_graph.specs.Drawing.{IsDrawing};
 ghost use Rattle.cargo_lock_graph.specs.DrawingByLater.{drawn_by_later, levels_text, line_by_later, prefix_by_later};
+ghost use Rattle.cargo_lock_graph.specs.DrawingLevels.{most_levels};
+ghost use Rattle.cargo_lock_graph.specs.DrawingMade.{AreMarked};
 ghost use Rattle.cargo_lock_graph.specs.DrawingText.{branch_text, drawn, level_text, standard_symbols};
 ghost use Rattle.cargo_lock_graph.specs.Edges.{far_ends};
 ghost use Rattle.cargo_lock_graph.specs.Labels.{label_at};
@@ -119,6 +121,8 @@ fn put_entries<T: Target>(
     requires sound { (T.state out.old).failures < 2 ^ 64 - 1 }
     requires on { IsOn graph.now walk.old }
     ensures on { IsOn graph.now walk.new }
+    ensures levels { OnOk result ((earlier : List ℕ) → AreMarked walk.old.visited.items earlier
+        → walk.new.most ≡ max walk.old.most (most_levels earlier (to_come graph.now walk.old))) }
     ensures written { IsWritten (T.state out.old) (T.state out.new) (drawn_by_later standard_symbols (label_at exact graph.now.packages) (to_come graph.now walk.old)) result }
 {
     while let Some(entry) = walk.next(graph) {
@@ -140,6 +144,8 @@ fn put_drawing<T: Target>(
     requires on { IsOn graph.now walk.old }
     requires start { start < length graph.now.packages }
     ensures on { IsOn graph.now walk.new }
+    ensures levels { OnOk result ((earlier : List ℕ) → AreMarked walk.old.visited.items earlier
+        → walk.new.most ≡ max walk.old.most (most_levels earlier (to_come graph.now walk.old))) }
     ensures written { IsWritten (T.state out.old) (T.state out.new) (drawn_by_later standard_symbols (label_at exact graph.now.packages) (record { node = start; depth = 0 } ∷ to_come graph.now walk.old)) result }
 {
     let first = Entry {
@@ -151,7 +157,7 @@ fn put_drawing<T: Target>(
 }
 
 // Draws what is reachable from a start, and answers the greatest number of frames that the walk's
-// stack held. All memory is asked for before the first byte.
+// stack held: one for each level that was open. All memory is asked for before the first byte.
 fn draw<T: Target>(
     alloc: Global,
     out: &mut T,
@@ -163,7 +169,7 @@ fn draw<T: Target>(
 ) -> Result<usize>
     requires sound { (T.state out.old).failures < 2 ^ 64 - 1 }
     requires start { start < length graph.now.packages }
-    ensures drawn { (entries : List Entry) × IsDrawing (far_ends direction graph.now.edges) start entries × IsRendered (T.state out.old) (T.state out.new) (drawn standard_symbols (label_at exact graph.now.packages) entries) result }
+    ensures drawn { (entries : List Entry) × IsDrawing (far_ends direction graph.now.edges) start entries × IsRendered (T.state out.old) (T.state out.new) (drawn standard_symbols (label_at exact graph.now.packages) entries) result × IfOk result (λ most. most ≡ most_levels [] entries) }
     ensures frames { IfOk result (λ most. most ≤ length graph.now.packages) }
 {
     graph.has_both_ends();

@@ -4,6 +4,7 @@ ghost use Rattle.std.specs.Prelude.{◌≡◌, ℕ, ◌-◌, ◌^◌, ◌<◌, L
 ghost use Rattle.cargo_lock_graph.specs.Sinks.{IsPut};
 
 use std::io::{ErrorKind, Write};
+use std::marker::Model;
 
 /// Takes the bytes of a text, some at a time, and counts how often it failed.
 pub trait Sink {
@@ -27,41 +28,62 @@ pub trait Sink {
         ensures { result ≡ failures self.now };
 }
 
+// Writes some of the bytes from their front, one at least, and answers how many. An interrupted write
+// is a fault, and so is a write of no bytes. A fault is counted.
+pub(crate) fn write_some<W: Write>(
+    writer: &mut W,
+    faults: &mut u64,
+    bytes: &[u8],
+) -> Result<usize, ErrorKind>
+    requires some { 0 < length bytes.now }
+    requires countable { faults.old < 2 ^ 64 - 1 }
+    ensures { IsPut (W.contents writer.old) (W.contents writer.new) faults.old faults.new bytes.now result }
+{
+    match writer.write(bytes) {
+        Ok(0) => {
+            *faults += 1;
+            Err(ErrorKind::WriteZero)
+        }
+        Ok(count) => Ok(count),
+        Err(error) => {
+            *faults += 1;
+            Err(error.kind())
+        }
+    }
+}
+
 /// A writer as a sink. An interrupted write is a fault, and a write of no bytes is the fault
 /// `WriteZero`.
 #[derive(Drop)]
-pub struct WriterSink<W> {
+pub struct WriterSink<W: Write> {
     writer: W,
     faults: u64,
+}
+
+impl<W: Write> Model for WriterSink<W> {
+    ghost use Rattle.cargo_lock_graph.specs.Sinks.{SinkState};
+
+    ghost Value = { SinkState };
+
+    ghost view = { λ sink. record { bytes = W.contents sink.writer; faults = sink.faults } };
 }
 
 impl<W: Write> WriterSink<W> {
     /// The writer as a sink that has not failed yet.
     pub fn new(writer: W) -> Self
-        ensures writer { result.writer ≡ writer }
-        ensures faults { result.faults ≡ 0 }
+        ensures { result ≡ record { bytes = W.contents writer; faults = 0 } }
     {
         WriterSink { writer, faults: 0 }
     }
 }
 
 impl<W: Write> Sink for WriterSink<W> {
-    ghost taken = { λ sink. W.contents sink.writer };
+    ghost taken = { λ sink. sink.bytes };
 
     ghost failures = { λ sink. sink.faults };
 
     fn put(&mut self, bytes: &[u8]) -> Result<usize, ErrorKind> {
-        match self.writer.write(bytes) {
-            Ok(0) => {
-                self.faults += 1;
-                Err(ErrorKind::WriteZero)
-            }
-            Ok(count) => Ok(count),
-            Err(error) => {
-                self.faults += 1;
-                Err(error.kind())
-            }
-        }
+        write_some(&mut self.writer, &mut self.faults, bytes)
     }
 
     fn faults(&self) -> u64 {

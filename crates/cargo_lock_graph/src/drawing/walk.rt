@@ -2,9 +2,9 @@
 
 ghost use Rattle.std.specs.Prelude.{◌≡◌, ℕ, ◌<◌, ◌≤◌, [], ◌∷◌, ◌++◌, Some, length, vec_len, vec_capacity, MatchOption, IfOk, IfSome};
 ghost use Rattle.cargo_lock_graph.specs.DrawingByLater.{goes_on};
-ghost use Rattle.cargo_lock_graph.specs.DrawingMade.{drawing, rest_of};
+ghost use Rattle.cargo_lock_graph.specs.DrawingMade.{AreMarked, drawing, rest_of};
 ghost use Rattle.cargo_lock_graph.specs.Edges.{far_ends};
-ghost use Rattle.cargo_lock_graph.specs.WalkState.{IsHeld, IsOn, coming, to_come, waiting};
+ghost use Rattle.cargo_lock_graph.specs.WalkState.{HasDrawn, IsHeld, IsOn, coming, to_come, waiting};
 
 use crate::drawing::entry::Entry;
 use crate::graph::{EdgeDirection, Graph, NodeIndex};
@@ -42,6 +42,7 @@ impl Walk {
         requires { start < length graph.now.packages }
         ensures on { IfOk result (λ walk. IsOn graph.now walk) }
         ensures direction { IfOk result (λ walk. walk.direction ≡ direction) }
+        ensures first { IfOk result (λ walk. AreMarked walk.visited.items (start ∷ []) × (walk.most ≡ 1)) }
         ensures all { IfOk result (λ walk. record { node = start; depth = 0 } ∷ to_come graph.now walk ≡ drawing (far_ends direction graph.now.edges) (length graph.now.packages) start) }
     {
         let count = graph.node_count();
@@ -64,7 +65,7 @@ impl Walk {
         ensures on { IsOn graph.now self.new }
         ensures direction { self.new.direction ≡ self.old.direction }
         ensures longer { vec_len self.old.stack ≤ vec_len self.new.stack }
-        ensures most { self.old.most ≤ self.new.most }
+        ensures drawn { (depth : ℕ) → depth ≡ vec_len self.old.stack → HasDrawn self.old self.new (record { node = node; depth = depth }) }
         ensures entry { (depth : ℕ) → depth ≡ vec_len self.old.stack
             → rest_of (far_ends self.old.direction graph.now.edges) self.old.visited.items (record { node = node; depth = depth } ∷ waiting self.old.direction graph.now.edges 0 self.old.stack.items)
             ≡ record { node = node; depth = depth } ∷ to_come graph.now self.new }
@@ -82,7 +83,7 @@ impl Walk {
         requires { IsHeld (length graph.now.packages) (length graph.now.edges) self.old.visited.items (self.old.stack.items ++ Some edge ∷ []) (vec_capacity self.old.stack) self.old.most }
         ensures on { IsOn graph.now self.new }
         ensures direction { self.new.direction ≡ self.old.direction }
-        ensures most { self.old.most ≤ self.new.most }
+        ensures drawn { HasDrawn self.old self.new result }
         ensures fits { (0 < result.depth) × (result.depth ≤ vec_len self.new.stack) × (result.node < length graph.now.packages) }
         ensures entry { coming self.old.direction graph.now.edges self.old.visited.items (self.old.stack.items ++ Some edge ∷ []) ≡ result ∷ to_come graph.now self.new }
     {
@@ -102,7 +103,7 @@ impl Walk {
         requires { IsOn graph.now self.old }
         ensures on { IsOn graph.now self.new }
         ensures direction { self.new.direction ≡ self.old.direction }
-        ensures most { self.old.most ≤ self.new.most }
+        ensures drawn { MatchOption result (self.new.most ≡ self.old.most) (λ e. HasDrawn self.old self.new e) }
         ensures fits { IfSome result (λ e. (0 < e.depth) × (e.depth ≤ vec_len self.new.stack) × (e.node < length graph.now.packages)) }
         ensures entry { MatchOption result (to_come graph.now self.old ≡ []) (λ e. to_come graph.now self.old ≡ e ∷ to_come graph.now self.new) }
     {
@@ -127,7 +128,7 @@ impl Walk {
     // The greatest number of frames that the stack has held.
     pub(crate) fn most_frames(&self, graph: &Graph) -> usize
         requires { IsOn graph.now self.now }
-        ensures held { vec_len self.now.stack ≤ result }
+        ensures most { result ≡ self.now.most }
         ensures bound { result ≤ length graph.now.packages }
     {
         let _ = graph;

@@ -1,47 +1,27 @@
-use Rattle.std.proofs.Common.{◌≡◌, ◌<◌, ◌+◌, ◌∙◌, List, length, get_or, take, sym, ap, subst}
+use Rattle.std.proofs.Common.{List, subst}
 use Rattle.std.proofs.lemmas.Result.{err_from_is_err_and}
-use Rattle.std.specs.List.{AllZip}
-use Rattle.cargo_lock_parts.specs.Identity.{PackageData, identity_of}
-use Rattle.cargo_lock_graph.specs.Targets.{IsEdgeOf, IsLastWith, links}
-use Rattle.cargo_lock_graph.proofs.TreeEdges.{node-there, edges-more, unresolved-later}
+use Rattle.cargo_lock_parts.specs.Identity.{PackageData}
+use Rattle.cargo_lock_graph.specs.Targets.{IsUnresolved, links_of}
+use Rattle.cargo_lock_graph.proofs.TreeEdges.{HasAdded, edges-more, node-here, unresolved-later}
 use Rattle.cargo_lock_graph.proofs.building.edges_of.Goals as goal
 
-pub node_of-requires : goal.node_of-requires
-node_of-requires c =
-    let packages : List PackageData = c.args.packages.now.items in
-    let same = c.deref-one-items.ensures.value in
-    let p : PackageData = c.one-item.result in
-    let index = c.loop-one.one-index in
-    let low : index < length packages = subst (λ (ps : List PackageData). index < length ps) same c.loop-one-test.true in
-    let at : p ≡ get_or packages index p = c.one-item.is ∙ ap (λ (ps : List PackageData). get_or ps index p) same in
-    node-there packages c.args.nodes.now index p c.requires low at
-
-pub put_edges-requires-clause-source : goal.put_edges-requires-clause-source
-put_edges-requires-clause-source c =
-    let packages : List PackageData = c.args.packages.now.items in
-    let p : PackageData = c.one-item.result in
-    subst (λ o. IsLastWith packages (identity_of p) o) c.in_ok-source.ensures.ok (c.requires (identity_of p))
+pub put_edges-requires : goal.put_edges-requires
+put_edges-requires c =
+    node-here c.args.packages.now c.in_ok-candidates.candidates c.loop-place.place c.node_of-source.result c.index-packages-place.result
+    c.in_ok-candidates.ensures c.loop-place-test.true c.index-packages-place.is c.node_of-source.ensures
 
 pub returns-in_err-put_edges : goal.returns-in_err-put_edges
 returns-in_err-put_edges c =
-    let packages : List PackageData = c.args.packages.now.items in
-    let same = c.deref-one-items.ensures.value in
-    let p : PackageData = c.one-item.result in
-    let index = c.loop-one.one-index in
-    let low : index < length packages = subst (λ (ps : List PackageData). index < length ps) same c.loop-one-test.true in
-    let at : p ≡ get_or packages index p = c.one-item.is ∙ ap (λ (ps : List PackageData). get_or ps index p) same in
-    let so_far = subst (λ (ps : List PackageData). AllZip (IsEdgeOf packages) (links (take index ps)) c.loop-one.edges.items) same c.loop-one.invariant in
+    let packages : List PackageData = c.args.packages.now in
+    let p : PackageData = c.index-packages-place.result in
+    let fault = c.in_err-put_edges.field-0.0 in
     let e = err_from_is_err_and c.from_residual-in_err-put_edges.result c.from_residual-in_err-put_edges.ensures.1 in
-    rw (e.1, e.2) (unresolved-later packages index p c.loop-one.edges.items c.in_err-put_edges.field-0.0 low at so_far c.in_err-put_edges.ensures)
+    let here = subst (λ (ps : List PackageData). IsUnresolved ps (links_of p) fault) c.in_ok-candidates.ensures c.in_err-put_edges.ensures in
+    rw (e.1, e.2) (unresolved-later packages c.loop-place.place p c.loop-place.edges.items fault c.loop-place-test.true c.index-packages-place.is c.loop-place.invariant here)
 
-pub loop-one-preserved : goal.loop-one-preserved
-loop-one-preserved c =
-    let packages : List PackageData = c.args.packages.now.items in
-    let same = c.deref-one-items.ensures.value in
-    let p : PackageData = c.one-item.result in
-    let index = c.loop-one.one-index in
-    let low : index < length packages = subst (λ (ps : List PackageData). index < length ps) same c.loop-one-test.true in
-    let at : p ≡ get_or packages index p = c.one-item.is ∙ ap (λ (ps : List PackageData). get_or ps index p) same in
-    let so_far = subst (λ (ps : List PackageData). AllZip (IsEdgeOf packages) (links (take index ps)) c.loop-one.edges.items) same c.loop-one.invariant in
-    subst (λ (ps : List PackageData). AllZip (IsEdgeOf packages) (links (take (index + 1) ps)) c.put_edges.new.edges.items) (sym same)
-    (edges-more packages index p c.loop-one.edges.items c.put_edges.new.edges.items low at so_far c.in_ok-put_edges.ensures)
+pub loop-place-preserved : goal.loop-place-preserved
+loop-place-preserved c =
+    let packages : List PackageData = c.args.packages.now in
+    let p : PackageData = c.index-packages-place.result in
+    edges-more packages c.loop-place.place p c.loop-place.edges.items c.put_edges.new.edges.items c.loop-place-test.true c.index-packages-place.is c.loop-place.invariant
+    (subst (λ (ps : List PackageData). HasAdded ps (links_of p) c.loop-place.edges.items c.put_edges.new.edges.items) c.in_ok-candidates.ensures c.in_ok-put_edges.ensures)

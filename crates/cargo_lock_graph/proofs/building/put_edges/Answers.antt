@@ -7,7 +7,7 @@ use Rattle.cargo_lock_graph.proofs.building.put_edges.Goals as goal
 
 pub returns-in_err-edge : goal.returns-in_err-edge
 returns-in_err-edge c =
-    let packages : List PackageData = c.args.packages.now.items in
+    let packages : List PackageData = c.args.candidates.now in
     let p : PackageData = c.args.one.now in
     let ds : List Identity = c.deref-dependency-items.result.now in
     let whole : ds ≡ p.dependencies = c.deref-dependency-items.ensures.value ∙ ap (λ (q : PackageData). q.dependencies) c.one.view_is in
@@ -18,7 +18,7 @@ returns-in_err-edge c =
 
 pub loop-dependency-preserved : goal.loop-dependency-preserved
 loop-dependency-preserved c =
-    let packages : List PackageData = c.args.packages.now.items in
+    let packages : List PackageData = c.args.candidates.now in
     added-more packages c.args.one.now c.deref-dependency-items.result.now c.loop-dependency.dependency-index c.dependency-item.result c.args.source c.in_ok-edge.edge
     c.args.edges.now.items c.loop-dependency.edges.items c.push.new.self.items
-    c.loop-dependency-test.true c.dependency-item.is c.requires.source c.in_ok-edge.ensures c.loop-dependency.invariant c.in_ok-push.ensures.items
+    c.loop-dependency-test.true c.dependency-item.is c.requires c.in_ok-edge.ensures c.loop-dependency.invariant c.in_ok-push.ensures.items

@@ -1,7 +1,8 @@
-use Rattle.std.proofs.Common.{ℕ, List, ◌∷◌, Err, refl, sym, ap, subst, ◌∙◌, length}
+use Rattle.std.proofs.Common.{ℕ, List, [], ◌∷◌, max, Err, refl, sym, ap, subst, ◌∙◌, length}
 use Rattle.std.specs.Io.KnownBytes.{Appends}
 use Rattle.std.proofs.lemmas.Result.{err_from_is_err_and}
 use Rattle.cargo_lock_graph.specs.declared.drawing.entry.Entry.{Entry}
+use Rattle.cargo_lock_graph.specs.DrawingLevels.{most_levels}
 use Rattle.cargo_lock_graph.specs.DrawingMade.{drawing}
 use Rattle.cargo_lock_graph.specs.DrawingText.{drawn, standard_symbols}
 use Rattle.cargo_lock_graph.specs.Edges.{far_ends}
@@ -20,6 +21,7 @@ returns-in_err-walk-clause-drawn g c =
       es,
       drawing_of c.args.direction graph c.args.start es c.has_both_ends.ensures c.requires.start refl,
       rendered_memory c.from_residual.result _ (drawn standard_symbols (label_at c.args.exact graph.packages) es) (p.1 ∙ ap (λ x. Err x) p.2),
+      rw (p.1) tt,
     )
 
 pub returns-in-Ok-clause-drawn : goal.returns-in-Ok-clause-drawn
@@ -31,7 +33,10 @@ returns-in-Ok-clause-drawn g c =
     let text = text_of_drawing far c.args.start es standard_symbols (label_at c.args.exact graph.packages) d in
     let old = g.T.Target.state c.args.out.now in
     let new = g.T.Target.state c.put_drawing.new.out in
-    (es, d, (subst (λ (t : List ℕ). Appends old.bytes new.bytes t) (sym text) c.in-Ok.ensures.written.0, c.in-Ok.ensures.written.1))
+    let first = c.in_ok-walk.ensures.first in
+    let rest = most_levels (c.args.start ∷ []) (to_come graph c.in_ok-walk.walk) in
+    let levels = c.most_frames.ensures.most ∙ c.in-Ok.ensures.levels (c.args.start ∷ []) first.0 ∙ ap (λ (n : ℕ). max n rest) first.1 in
+    (es, d, (subst (λ (t : List ℕ). Appends old.bytes new.bytes t) (sym text) c.in-Ok.ensures.written.0, c.in-Ok.ensures.written.1), levels)
 
 pub returns-clause-drawn : goal.returns-clause-drawn
 returns-clause-drawn g c =
@@ -42,4 +47,4 @@ returns-clause-drawn g c =
     let text = text_of_drawing far c.args.start es standard_symbols (label_at c.args.exact graph.packages) d in
     let old = g.T.Target.state c.args.out.now in
     let new = g.T.Target.state c.put_drawing.new.out in
-    (es, d, subst (λ (t : List ℕ). HasFailed old new t) (sym text) c.in-Err.ensures.written)
+    (es, d, subst (λ (t : List ℕ). HasFailed old new t) (sym text) c.in-Err.ensures.written, tt)

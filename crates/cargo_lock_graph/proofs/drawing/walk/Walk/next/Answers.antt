@@ -16,6 +16,7 @@ loop-frame-preserved c =
     record {
       on = subst (λ (n : ℕ). IsHeld (length graph.packages) (length graph.edges) marks fs n walk.most) (sym c.in-Some.ensures.capacity) popped;
       direction = c.loop-frame.invariant.direction;
+      marks = c.loop-frame.invariant.marks;
       most = c.loop-frame.invariant.most;
       same = sym (coming_done walk.direction graph.edges marks walk.stack.items fs f split c.in_default-frame.is) ∙ c.loop-frame.invariant.same;
     }

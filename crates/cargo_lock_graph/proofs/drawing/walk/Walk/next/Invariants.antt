@@ -1,4 +1,4 @@
-use Rattle.std.proofs.Common.{◌≡◌, ◌≤◌, vec_len}
+use Rattle.std.proofs.Common.{◌≡◌, vec_len}
 use Rattle.cargo_lock_graph.specs.WalkState.{IsOn, to_come}
 use Rattle.cargo_lock_graph.proofs.drawing.walk.Walk.next.Given as goal
 
@@ -6,7 +6,8 @@ abbrev pub invariant-loop-frame : goal.invariant-loop-frame
 invariant-loop-frame l = record {
   on : IsOn l.graph l.self;
   direction : l.self.direction ≡ l.fn.self.direction;
-  most : l.fn.self.most ≤ l.self.most;
+  marks : l.self.visited.items ≡ l.fn.self.visited.items;
+  most : l.self.most ≡ l.fn.self.most;
   same : to_come l.graph l.self ≡ to_come l.graph l.fn.self;
 }
 
