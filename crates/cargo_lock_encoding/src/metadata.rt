@@ -11,8 +11,8 @@ ghost use Rattle.std.specs.Hash as fed;
 ghost use Rattle.std.specs.Ordering.{nat_cmp};
 ghost use Rattle.cargo_lock_parts.specs.declared.error.Error.TheVariants.{Memory};
 ghost use Rattle.cargo_lock_parts.specs.Checksum.{IsDigestText, checksum_refusal, digest_in, digest_of};
-ghost use Rattle.cargo_lock_parts.specs.Error.{Reads, RefusesWith};
-ghost use Rattle.cargo_lock_encoding.specs.Form.{ReadsForm};
+ghost use Rattle.cargo_lock_parts.specs.Error.{IsShort, Reads, RefusesWith};
+ghost use Rattle.cargo_lock_encoding.specs.Form.{ReadsForm, ReadsFormExactly};
 ghost use Rattle.cargo_lock_encoding.specs.Metadata.{checksum_key, is_checksum, key_or_refusal};
 
 use crate::EncodableDependency;
@@ -80,10 +80,12 @@ impl MetadataKey {
     }
 
     /// The package whose checksum stands at the key: what follows `checksum `, read as a reference
-    /// with a version. `Parse` and `Version` say what is refused.
+    /// with a version. `Parse` and `Version` say what is refused. A URL that comes to 4 GB is refused
+    /// too, which is never so where the key is shorter than 2^24 bytes.
     #[tactic(auto, unfolding(crate::specs::Metadata::key_or_refusal, crate::specs::Metadata::is_checksum))]
     pub fn checksum_dependency(&self, alloc: Global) -> Result<Dependency>
-        ensures { ReadsForm result (key_or_refusal self.now) }
+        ensures read { ReadsForm result (key_or_refusal self.now) }
+        ensures short { IsShort self.now → ReadsFormExactly result (key_or_refusal self.now) }
     {
         let Some(text) = self.as_str().strip_prefix("checksum ") else {
             let message = String::from_str(
