@@ -88,6 +88,19 @@ abbrev pub ReadsForm : {X : Type 0} → Result X Error → Result X Refusal → 
 ReadsForm (Ok f) expected = expected ≡ Ok f
 ReadsForm (Err e) expected = IsFormFault e expected
 
+-- a fault for this reason alone
+abbrev pub IsExactFormFault : {X : Type 0} → Error → Result X Refusal → Type 0
+IsExactFormFault (Version fault) expected = expected ≡ Err (NoVersion fault)
+IsExactFormFault (Io kind) expected = ⊥
+IsExactFormFault (Parse said) expected = expected ≡ Err NoForm
+IsExactFormFault (Resolution said) expected = ⊥
+IsExactFormFault Memory expected = Unit {0}
+
+-- what the reader of a reference answers where no URL can come to 4 GB
+abbrev pub ReadsFormExactly : {X : Type 0} → Result X Error → Result X Refusal → Type 0
+ReadsFormExactly (Ok f) expected = expected ≡ Ok f
+ReadsFormExactly (Err e) expected = IsExactFormFault e expected
+
 -- ---- writing
 
 abbrev pub version_part : Option Parts → List ℕ

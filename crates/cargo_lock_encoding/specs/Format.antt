@@ -1,6 +1,6 @@
 -- The format of a lockfile: the number under `version`, or where there is none, what the checksums
 -- tell.
-use Rattle.std.specs.Prelude.{◌≡◌, ◌==◌, if◌then◌else◌, Bool, true, false, is_some, ℕ, ℤ, pos, negsuc, List, Option, Some, None}
+use Rattle.std.specs.Prelude.{◌≡◌, ◌==◌, ◌<◌, ◌^◌, ◌++◌, codes, if◌then◌else◌, Bool, true, false, is_some, ℕ, ℤ, pos, negsuc, List, Option, Some, None}
 use Rattle.std.specs.List.{list_any}
 use Rattle.std.specs.Str.Parse.{IsNumeral, digits_value, without_leading_plus}
 use Rattle.cargo_lock_encoding.specs.declared.version.ResolveVersion.{ResolveVersion}
@@ -34,6 +34,15 @@ numbered_int (negsuc n) = None
 pub record IsFormatText (text : List ℕ) (v : ResolveVersion) : Type 0 where
   pub digits : IsNumeral 10 (without_leading_plus text)
   pub number : numbered (digits_value 10 (without_leading_plus text)) ≡ Some v
+
+-- the text is a whole number of 32 bits as Rust reads one, perhaps after a plus sign
+abbrev pub IsNumberText : List ℕ → Type 0
+IsNumberText text =
+    IsNumeral 10 (without_leading_plus text) × (digits_value 10 (without_leading_plus text) < 2 ^ 32)
+
+-- why what is quoted is no number of a format
+abbrev pub format_refusal : List ℕ → List ℕ
+format_refusal quoted = codes "invalid Cargo.lock format version: `" ++ quoted ++ codes "`"
 
 -- some package has a checksum
 abbrev pub has_checksum : List EntryData → Bool

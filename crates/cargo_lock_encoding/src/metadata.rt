@@ -2,7 +2,7 @@
 //!
 //! Lockfiles of the first format have the checksums of their packages here.
 
-ghost use Rattle.std.specs.Prelude.{◌≡◌, IfOk, IsOkUnless, Some, nat_eq};
+ghost use Rattle.std.specs.Prelude.{◌≡◌, ◌↔◌, IfOk, IsOk, IsOkUnless, Some, nat_eq};
 ghost use Rattle.std.proofs.Common.{rules};
 ghost use Rattle.std.specs.Cmp.{partial_equiv_from_equiv};
 ghost use Rattle.std.specs.Cmp.Lexicographic.{pointwise, slice_cmp, nat_list_eq_equiv, nat_list_cmp_total, texts_ties, texts_po};
@@ -10,9 +10,9 @@ ghost use Rattle.std.specs.Cmp.Rules.{hashing};
 ghost use Rattle.std.specs.Hash as fed;
 ghost use Rattle.std.specs.Ordering.{nat_cmp};
 ghost use Rattle.cargo_lock_parts.specs.declared.error.Error.TheVariants.{Memory};
-ghost use Rattle.cargo_lock_parts.specs.Checksum.{digest_in, digest_of};
-ghost use Rattle.cargo_lock_parts.specs.Error.{Reads};
-ghost use Rattle.cargo_lock_encoding.specs.Form.{ReadsForm};
+ghost use Rattle.cargo_lock_parts.specs.Checksum.{IsDigestText, checksum_refusal, digest_in, digest_of};
+ghost use Rattle.cargo_lock_parts.specs.Error.{IsShort, Reads, RefusesWith};
+ghost use Rattle.cargo_lock_encoding.specs.Form.{ReadsForm, ReadsFormExactly};
 ghost use Rattle.cargo_lock_encoding.specs.Metadata.{checksum_key, is_checksum, key_or_refusal};
 
 use crate::EncodableDependency;
@@ -80,10 +80,12 @@ impl MetadataKey {
     }
 
     /// The package whose checksum stands at the key: what follows `checksum `, read as a reference
-    /// with a version. `Parse` and `Version` say what is refused.
+    /// with a version. `Parse` and `Version` say what is refused. A URL that comes to 4 GB is refused
+    /// too, which is never so where the key is shorter than 2^24 bytes.
     #[tactic(auto, unfolding(crate::specs::Metadata::key_or_refusal, crate::specs::Metadata::is_checksum))]
     pub fn checksum_dependency(&self, alloc: Global) -> Result<Dependency>
-        ensures { ReadsForm result (key_or_refusal self.now) }
+        ensures read { ReadsForm result (key_or_refusal self.now) }
+        ensures short { IsShort self.now → ReadsFormExactly result (key_or_refusal self.now) }
     {
         let Some(text) = self.as_str().strip_prefix("checksum ") else {
             let message = String::from_str(
@@ -225,9 +227,12 @@ impl MetadataValue {
         Ok(MetadataValue(String::from_str(alloc, text)?))
     }
 
-    /// The value as a checksum, read as `Checksum::from_str` reads it.
+    /// The value as a checksum, read as `Checksum::from_str` reads it: 64 hex digits take no memory,
+    /// and `Parse` refuses anything else.
     pub fn checksum(&self, alloc: Global) -> Result<Checksum>
-        ensures { Reads digest_of result (digest_in self.now) }
+        ensures read { Reads digest_of result (digest_in self.now) }
+        ensures accepted { IsOk result ↔ IsDigestText self.now }
+        ensures refused { RefusesWith result (checksum_refusal self.now) }
     {
         Checksum::from_str(alloc, self.as_str())
     }

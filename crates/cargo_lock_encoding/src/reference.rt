@@ -1,12 +1,12 @@
 //! References: how a lockfile names the package that another one depends on.
 
-ghost use Rattle.std.specs.Prelude.{◌≡◌, ◌⊎◌, ◌∷◌, ◌++◌, [], IfOk, IsOkUnless, MatchOption, codes, count_by, map, option_copied, option_map};
+ghost use Rattle.std.specs.Prelude.{◌≡◌, ◌≤◌, ◌+◌, ◌⊎◌, ◌∷◌, ◌++◌, [], IfOk, IfSome, IsOkUnless, MatchOption, length, codes, count_by, map, option_copied, option_map};
 ghost use Rattle.std.specs.List.{find};
 ghost use Rattle.std.specs.Option.{option_cmp};
 ghost use Rattle.std.specs.Str.Iter.{split_whitespace_rest};
 ghost use Rattle.semver.specs.Identifiers.{parts_of};
 ghost use Rattle.cargo_lock_parts.specs.declared.error.Error.TheVariants.{Memory};
-ghost use Rattle.cargo_lock_parts.specs.Error.{IsParse, IsParseOrMemory, Reads, ReadsUrls};
+ghost use Rattle.cargo_lock_parts.specs.Error.{IsParse, IsParseOrMemory, IsShort, Reads, ReadsUrls};
 ghost use Rattle.cargo_lock_parts.specs.Identity.{identity_of};
 ghost use Rattle.cargo_lock_parts.specs.IdentityOrder.{version_cmp};
 ghost use Rattle.cargo_lock_encoding.specs.Words.{text_words};
@@ -55,23 +55,26 @@ impl Model for EncodableDependency {
 }
 
 impl EncodableDependency {
-    ghost use Rattle.cargo_lock_encoding.specs.Form.{ReadsForm, form_of_words, form_or_refusal};
+    ghost use Rattle.cargo_lock_encoding.specs.Form.{ReadsForm, ReadsFormExactly, form_of_words, form_or_refusal};
 
     /// Reads one to three words with white space between: a name, a version, a source in round
     /// brackets, as `foo 1.0.0 (registry+https://github.com/rust-lang/crates.io-index)`. A source
     /// that was read is marked plain.
     ///
     /// The first word from the left that is refused decides: `Version` for the second one, else
-    /// `Parse`.
+    /// `Parse`. A URL that comes to 4 GB is refused too, which is never so where the text is shorter
+    /// than 2^24 bytes.
     pub fn from_str(alloc: Global, text: &str) -> Result<EncodableDependency>
-        ensures { ReadsForm result (form_or_refusal text.now) }
+        ensures read { ReadsForm result (form_or_refusal text.now) }
+        ensures short { IsShort text.now → ReadsFormExactly result (form_or_refusal text.now) }
     {
         EncodableDependency::read(alloc, text)
     }
 
     // Reads a reference word by word.
     fn read(alloc: Global, text: &str) -> Result<EncodableDependency>
-        ensures { ReadsForm result (form_of_words (text_words text.now)) }
+        ensures read { ReadsForm result (form_of_words (text_words text.now)) }
+        ensures short { IsShort text.now → ReadsFormExactly result (form_of_words (text_words text.now)) }
     {
         let mut words = text.split_whitespace();
         let Some(name) = next_word(&mut words) else {
@@ -109,9 +112,11 @@ impl EncodableDependency {
 
 // The next word of a text.
 fn next_word<'a>(rest: &mut SplitWhitespace<'a>) -> Option<&'a str>
-    ensures { MatchOption result
+    ensures words { MatchOption result
         ((text_words (split_whitespace_rest rest.old) ≡ []) × (text_words (split_whitespace_rest rest.new) ≡ []))
         (λ word. text_words (split_whitespace_rest rest.old) ≡ word.now ∷ text_words (split_whitespace_rest rest.new)) }
+    ensures shorter { IfSome result (λ word. length word.now + length (split_whitespace_rest rest.new)
+        ≤ length (split_whitespace_rest rest.old)) }
 {
     match rest.next() {
         Some(word) => {
@@ -125,7 +130,8 @@ fn next_word<'a>(rest: &mut SplitWhitespace<'a>) -> Option<&'a str>
 // The source between round brackets.
 #[tactic(auto, unfolding(crate::specs::Form::bracketed_source))]
 fn bracketed_source(alloc: Global, word: &str) -> Result<SourceId>
-    ensures { ReadsUrls (λ source. source) result (spec.bracketed_source word.now) }
+    ensures read { ReadsUrls (λ source. source) result (spec.bracketed_source word.now) }
+    ensures short { IsShort word.now → Reads (λ source. source) result (spec.bracketed_source word.now) }
 {
     let bytes = word.as_bytes();
     let length = bytes.len();
@@ -279,12 +285,13 @@ impl EncodableDependency {
 
 impl EncodableDependency {
     ghost use Rattle.std.specs.Prelude.{Ok};
-    ghost use Rattle.cargo_lock_encoding.specs.Form.{ReadsForm};
+    ghost use Rattle.cargo_lock_encoding.specs.Form.{ReadsForm, ReadsFormExactly};
     ghost use Rattle.cargo_lock_encoding.specs.Metadata.{own_identity};
 
     // The reference's own words as an identity.
     pub(crate) fn own_identity(&self, alloc: Global) -> Result<Dependency>
-        ensures { ReadsForm result (own_identity (Ok self.now)) }
+        ensures read { ReadsForm result (own_identity (Ok self.now)) }
+        ensures exact { ReadsFormExactly result (own_identity (Ok self.now)) }
     {
         let dependency = self.itself(alloc)?;
         Ok(dependency)

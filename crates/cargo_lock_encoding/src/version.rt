@@ -1,10 +1,11 @@
 //! The formats of lockfiles.
 
-ghost use Rattle.std.specs.Prelude.{◌≡◌, ◌⊎◌, ◌++◌, ℕ, List, Some, codes};
+ghost use Rattle.std.specs.Prelude.{◌≡◌, ◌≤◌, ◌↔◌, ◌⊎◌, IfSome, IsOk, decimal};
+ghost use Rattle.std.specs.Str.Parse.{digits_value, without_leading_plus};
 ghost use Rattle.cargo_lock_parts.specs.declared.error.Error.TheVariants.{Memory};
-ghost use Rattle.cargo_lock_parts.specs.Error.{IsParse, IsParseOrMemory, Reads};
+ghost use Rattle.cargo_lock_parts.specs.Error.{IsParse, IsParseOrMemory, Reads, RefusesWith};
 ghost use Rattle.cargo_lock_encoding.specs.Finds.{Finds};
-ghost use Rattle.cargo_lock_encoding.specs.Format.{IsFormatText, format_by, format_without_number, has_checksum, numbered, numbered_int};
+ghost use Rattle.cargo_lock_encoding.specs.Format.{IsFormatText, IsNumberText, format_by, format_refusal, format_without_number, has_checksum, numbered, numbered_int};
 ghost use Rattle.cargo_lock_encoding.specs.Records.{texts_of};
 
 use crate::EncodablePackage;
@@ -59,10 +60,12 @@ impl From<ResolveVersion> for u32 {
 }
 
 impl ResolveVersion {
-    /// The format with this number. `Parse` refuses a number outside 1 to 4, which is the one case
-    /// that takes memory.
+    /// The format with this number. `Parse` refuses a number outside 1 to 4 and quotes it, which is
+    /// the one case that takes memory.
     pub fn from_number(alloc: Global, number: u32) -> Result<ResolveVersion>
-        ensures { Reads (λ version. version) result (numbered number) }
+        ensures read { Reads (λ version. version) result (numbered number) }
+        ensures accepted { IsOk result ↔ ((1 ≤ number) × (number ≤ 4)) }
+        ensures refused { RefusesWith result (format_refusal (decimal number)) }
     {
         match numbered(number) {
             Some(version) => Ok(version),
@@ -71,15 +74,17 @@ impl ResolveVersion {
     }
 
     /// The format whose number the text is, as Rust reads a `u32`: `3`, `+3` and `03` are V3.
-    /// `Parse` refuses any other text.
+    ///
+    /// `Parse` refuses any other text. It quotes the number of a text that is one, so `5` for `05`,
+    /// and a text that is no number as it stands.
     pub fn from_str(alloc: Global, text: &str) -> Result<ResolveVersion>
-        ensures { Finds (IsFormatText text.now) result }
+        ensures read { Finds (IsFormatText text.now) result }
+        ensures number { IsNumberText text.now → RefusesWith result (format_refusal
+            (decimal (digits_value 10 (without_leading_plus text.now)))) }
+        ensures other { ¬ IsNumberText text.now → RefusesWith result (format_refusal text.now) }
     {
         match text.parse::<u32>() {
-            Ok(number) => match numbered(number) {
-                Some(version) => Ok(version),
-                None => Err(invalid_format(alloc, text)),
-            },
+            Ok(number) => ResolveVersion::from_number(alloc, number),
             Err(_) => Err(invalid_format(alloc, text)),
         }
     }
@@ -153,8 +158,8 @@ fn numbered(number: u32) -> Option<ResolveVersion>
 // The refusal of what is no number of a format.
 fn invalid_format<T: fmt::Display + Drop>(alloc: Global, number: T) -> Error
     ensures kind { IsParseOrMemory result }
-    ensures text { (shown : List ℕ) → T.output number ≡ Some shown
-        → (result ≡ Memory) ⊎ IsParse result (codes "invalid Cargo.lock format version: `" ++ shown ++ codes "`") }
+    ensures text { IfSome (T.output number)
+        (λ shown. (result ≡ Memory) ⊎ IsParse result (format_refusal shown)) }
 {
     match format!(in alloc; "invalid Cargo.lock format version: `{number}`") {
         Ok(text) => Error::Parse(text),

@@ -1,5 +1,5 @@
 -- What a fault says, without the room that its text keeps.
-use Rattle.std.specs.Prelude.{◌≡◌, ℕ, ◌⊎◌, List, Result, Ok, Err, Option, Some, None, IfErr, string_bytes, codes}
+use Rattle.std.specs.Prelude.{◌≡◌, ℕ, ◌⊎◌, List, Result, Ok, Err, Option, Some, None, IfErr, ◌<◌, length, string_bytes, codes}
 use Rattle.semver.specs.Parse.{memory_error}
 use Rattle.semver.specs.declared.error.Error.{Error as VersionError}
 use Rattle.cargo_lock_parts.specs.declared.error.Error.{Error}
@@ -35,6 +35,10 @@ RefusesWith result text = IfErr result (λ e. (e ≡ Memory) ⊎ IsParse e text)
 abbrev pub too_long : List ℕ
 too_long = codes "invalid url: more than 4 GB"
 
+-- the text is shorter than 2^24 bytes: no URL in it comes to 4 GB, so it is never refused so
+abbrev pub IsShort : List ℕ → Type 0
+IsShort text = length text < 16777216
+
 -- the fault is that of a URL that came to 4 GB
 abbrev pub IsTooLong : Error → Type 0
 IsTooLong e = IsParse e too_long
@@ -67,7 +71,3 @@ RefusesUrls Memory P = Unit {0}
 abbrev pub ReadsUrls : {X Y : Type 0} → (X → Y) → Result X Error → Option Y → Type 0
 ReadsUrls view (Ok x) meaning = meaning ≡ Some (view x)
 ReadsUrls view (Err e) meaning = RefusesUrls e (meaning ≡ None)
-
--- memory ran out, or a URL came to 4 GB
-abbrev pub OnlyTooLong : Error → Type 0
-OnlyTooLong e = RefusesUrls e ⊥

@@ -102,7 +102,6 @@ impl SourceId {
     ghost use Rattle.std.specs.Prelude.{codes};
     ghost use Rattle.cargo_lock_parts.specs.Source.{Source, Git, Registry, git_reference};
     ghost use Rattle.cargo_lock_parts.specs.SourceReading.{plain_source, url_of};
-    ghost use Rattle.cargo_lock_parts.specs.Error.{IsTooLong, OnlyTooLong};
 
     /// The URL. That of a git source has no query and no fragment.
     pub fn url(&self) -> &Url

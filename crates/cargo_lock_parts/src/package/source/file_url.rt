@@ -3,7 +3,7 @@
 ghost use Rattle.std.specs.Prelude.{◌≡◌, ◌++◌, Some, OnOk, IfOk, IsOkUnless, false, string_bytes};
 ghost use Rattle.std.specs.Path.{path_bytes};
 ghost use Rattle.cargo_lock_parts.specs.declared.error.Error.TheVariants.{Memory};
-ghost use Rattle.cargo_lock_parts.specs.Error.{ReadsUrls, RefusesWith};
+ghost use Rattle.cargo_lock_parts.specs.Error.{IsShort, Reads, ReadsUrls, RefusesWith};
 ghost use Rattle.cargo_lock_parts.specs.Source.{kind_of};
 ghost use Rattle.cargo_lock_parts.specs.FileUrl.{begins_with_slash, invalid_path, kept_text, parts_of, parts_text, text_of_parts, source_at};
 
@@ -42,9 +42,12 @@ impl SourceId {
     /// The folder at this path, as a path dependency has it, with no precise text.
     ///
     /// The path is from the root, and becomes a `file` URL: `/a b/./c/` is `file:///a%20b/c`.
-    /// `Parse` says that the path does not begin with `/`. A URL that comes to 4 GB is refused too.
+    /// `Parse` says that the path does not begin with `/`. A URL that comes to 4 GB is
+    /// refused too, which is never so where the path is shorter than 2^24 bytes.
     pub fn for_path(alloc: Global, path: Path<'_>) -> Result<SourceId>
         ensures reads { ReadsUrls (λ source. source) result
+            (source_at seen.Path (path_bytes path.entry)) }
+        ensures short { IsShort (path_bytes path.entry) → Reads (λ source. source) result
             (source_at seen.Path (path_bytes path.entry)) }
         ensures refused { begins_with_slash (path_bytes path.entry) ≡ false
             → RefusesWith result (invalid_path (path_bytes path.entry)) }
@@ -59,6 +62,8 @@ impl SourceId {
     pub fn for_local_registry(alloc: Global, path: Path<'_>) -> Result<SourceId>
         ensures reads { ReadsUrls (λ source. source) result
             (source_at seen.LocalRegistry (path_bytes path.entry)) }
+        ensures short { IsShort (path_bytes path.entry) → Reads (λ source. source) result
+            (source_at seen.LocalRegistry (path_bytes path.entry)) }
         ensures refused { begins_with_slash (path_bytes path.entry) ≡ false
             → RefusesWith result (invalid_path (path_bytes path.entry)) }
     {
@@ -71,6 +76,8 @@ impl SourceId {
     /// The path and the errors are those of `for_path`.
     pub fn for_directory(alloc: Global, path: Path<'_>) -> Result<SourceId>
         ensures reads { ReadsUrls (λ source. source) result
+            (source_at seen.Directory (path_bytes path.entry)) }
+        ensures short { IsShort (path_bytes path.entry) → Reads (λ source. source) result
             (source_at seen.Directory (path_bytes path.entry)) }
         ensures refused { begins_with_slash (path_bytes path.entry) ≡ false
             → RefusesWith result (invalid_path (path_bytes path.entry)) }
@@ -85,6 +92,8 @@ impl SourceId {
 fn at_path(alloc: Global, path: Path<'_>, kind: SourceKind) -> Result<SourceId>
     ensures reads { ReadsUrls (λ source. source) result
         (source_at (kind_of kind) (path_bytes path.entry)) }
+    ensures short { IsShort (path_bytes path.entry) → Reads (λ source. source) result
+        (source_at (kind_of kind) (path_bytes path.entry)) }
     ensures refused { begins_with_slash (path_bytes path.entry) ≡ false
         → RefusesWith result (invalid_path (path_bytes path.entry)) }
 {
@@ -94,7 +103,7 @@ fn at_path(alloc: Global, path: Path<'_>, kind: SourceKind) -> Result<SourceId>
         return Err(Error::Parse(message));
     }
     let text = file_url_text(alloc, path)?;
-    let url = parse_url(alloc, text.as_str())?;
+    let url = parse_url(alloc, text.as_str(), path.len())?;
     Ok(SourceId::from_parts(alloc, url, kind, None)?)
 }
 

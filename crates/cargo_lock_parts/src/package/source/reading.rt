@@ -1,14 +1,14 @@
 //! The source that a text reads as.
 
-ghost use Rattle.std.specs.Prelude.{◌≡◌, ◌⊎◌, [], Some, None, IfOk, IfErr, IsOkUnless, codes, unwrap_or, if◌then◌else◌};
+ghost use Rattle.std.specs.Prelude.{◌≡◌, ◌<◌, ◌⊎◌, [], Some, None, IfOk, IsOkUnless, codes, unwrap_or, if◌then◌else◌};
 ghost use Rattle.url.specs.Head.{without_tail};
 ghost use Rattle.cargo_lock_parts.specs.declared.error.Error.TheVariants.{Memory};
-ghost use Rattle.cargo_lock_parts.specs.Error.{IsTooLong, OnlyTooLong, ReadsUrls};
+ghost use Rattle.cargo_lock_parts.specs.Error.{IsShort, IsTooLong, Reads, ReadsUrls};
 ghost use Rattle.cargo_lock_parts.specs.Source.{kind_of, reference_of};
 ghost use Rattle.cargo_lock_parts.specs.SourceReading as spec;
 ghost use Rattle.cargo_lock_parts.specs.SourceReading.{reference_named};
 
-use crate::error::{Error, Result, TOO_LONG};
+use crate::error::{Error, Result, SHORT_LENGTH, TOO_LONG};
 use crate::package::source::{GitReference, SourceId, SourceKind};
 use std::alloc::Global;
 use url::{ParseError, Url};
@@ -22,10 +22,12 @@ impl SourceId {
     /// A registry has the precise text `locked`. Of a git source the fragment is the precise text,
     /// and the last pair of the query whose key is `branch`, `ref`, `rev` or `tag` the reference.
     ///
-    /// `Parse` says which part is refused. A URL that comes to 4 GB is refused too.
+    /// `Parse` says which part is refused. A URL that comes to 4 GB is refused too, which is never
+    /// so where the text is shorter than 2^24 bytes.
     #[tactic(auto, unfolding(crate::specs::SourceReading::source_of))]
     pub fn from_url(alloc: Global, text: &str) -> Result<SourceId>
-        ensures { ReadsUrls (λ source. source) result (source_of text.now) }
+        ensures read { ReadsUrls (λ source. source) result (source_of text.now) }
+        ensures short { IsShort text.now → Reads (λ source. source) result (source_of text.now) }
     {
         let Some((word, url)) = text.split_once('+') else {
             let message = format!(in alloc; "invalid source `{text}`")?;
@@ -35,14 +37,15 @@ impl SourceId {
             let message = format!(in alloc; "unsupported source protocol: `{word}` from `{text}`")?;
             return Err(Error::Parse(message));
         };
-        let url = parse_url(alloc, url)?;
+        let url = parse_url(alloc, url, text.len())?;
         let source = source_by(alloc, protocol, url)?;
         Ok(source)
     }
 
     /// Reads a text as `from_url` does.
     pub fn from_str(alloc: Global, text: &str) -> Result<SourceId>
-        ensures { ReadsUrls (λ source. source) result (source_of text.now) }
+        ensures read { ReadsUrls (λ source. source) result (source_of text.now) }
+        ensures short { IsShort text.now → Reads (λ source. source) result (source_of text.now) }
     {
         SourceId::from_url(alloc, text)
     }
@@ -70,25 +73,40 @@ fn protocol_of(word: &str) -> Option<Protocol>
     }
 }
 
-// Reads a URL.
-pub(super) fn parse_url(alloc: Global, text: &str) -> Result<Url>
-    ensures { ReadsUrls (λ url. url) result (spec.url_of text.now) }
+// Reads the URL in a text of `size` bytes.
+pub(super) fn parse_url(alloc: Global, url: &str, size: usize) -> Result<Url>
+    ensures read { ReadsUrls (λ url. url) result (spec.url_of url.now) }
+    ensures short { size < 16777216 → Reads (λ url. url) result (spec.url_of url.now) }
 {
-    match Url::parse(alloc, text) {
+    match Url::parse(alloc, url) {
         Ok(url) => Ok(url),
         Err(ParseError::OutOfMemory) => Err(Error::Memory),
-        Err(ParseError::Overflow) => Err(Error::Parse(String::from_str(alloc, TOO_LONG)?)),
+        Err(ParseError::Overflow) => Err(too_long(alloc, size)),
         Err(fault) => {
-            let message = format!(in alloc; "invalid url `{text}`: {fault}")?;
+            let message = format!(in alloc; "invalid url `{url}`: {fault}")?;
             Err(Error::Parse(message))
         }
+    }
+}
+
+// The refusal of a URL that comes to 4 GB, in a text of `size` bytes. Short texts have no such URL.
+fn too_long(alloc: Global, size: usize) -> Error
+    ensures kind { (result ≡ Memory) ⊎ IsTooLong result }
+    ensures short { size < 16777216 → result ≡ Memory }
+{
+    if size < SHORT_LENGTH {
+        return Error::Memory;
+    }
+    match String::from_str(alloc, TOO_LONG) {
+        Ok(message) => Error::Parse(message),
+        Err(_) => Error::Memory,
     }
 }
 
 // The source of a protocol and a URL.
 fn source_by(alloc: Global, protocol: Protocol, url: Url) -> Result<SourceId>
     ensures ok { IfOk result (λ source. source ≡ spec.source_by protocol url) }
-    ensures err { IfErr result OnlyTooLong }
+    ensures err { IsOkUnless result Memory }
 {
     match protocol {
         Protocol::Git => git_source(alloc, url),
@@ -101,7 +119,7 @@ fn source_by(alloc: Global, protocol: Protocol, url: Url) -> Result<SourceId>
 // A registry that stood in a lockfile.
 fn locked_source(alloc: Global, url: Url, kind: SourceKind) -> Result<SourceId>
     ensures ok { IfOk result (λ source. source ≡ spec.plain_source (kind_of kind) (Some (codes "locked")) url) }
-    ensures err { IfErr result OnlyTooLong }
+    ensures err { IsOkUnless result Memory }
 {
     let precise = Some(String::from_str(alloc, "locked")?);
     Ok(SourceId::from_parts(alloc, url, kind, precise)?)
@@ -110,7 +128,7 @@ fn locked_source(alloc: Global, url: Url, kind: SourceKind) -> Result<SourceId>
 // A git source.
 fn git_source(alloc: Global, url: Url) -> Result<SourceId>
     ensures ok { IfOk result (λ source. source ≡ spec.git_source url) }
-    ensures err { IfErr result OnlyTooLong }
+    ensures err { IsOkUnless result Memory }
 {
     let reference = reference_in(alloc, &url)?;
     let precise = match url.fragment() {
@@ -151,27 +169,11 @@ fn reference_by(alloc: Global, key: &str, value: &str, other: GitReference) -> R
 // The URL without its query and fragment.
 fn without_tail(alloc: Global, mut url: Url) -> Result<Url>
     ensures ok { IfOk result (λ bare. bare ≡ without_tail url) }
-    ensures err { IfErr result OnlyTooLong }
+    ensures err { IsOkUnless result Memory }
 {
-    if let Err(fault) = url.set_fragment(None) {
-        return Err(no_room(alloc, fault));
-    }
-    if let Err(fault) = url.set_query(None) {
-        return Err(no_room(alloc, fault));
+    // A URL that loses a part comes to no 4 GB.
+    if url.set_fragment(None).is_err() || url.set_query(None).is_err() {
+        return Err(Error::Memory);
     }
     Ok(url)
-}
-
-// What an error of a setter comes to.
-fn no_room(alloc: Global, fault: ParseError) -> Error
-    ensures { OnlyTooLong result }
-{
-    if fault == ParseError::Overflow {
-        match String::from_str(alloc, TOO_LONG) {
-            Ok(message) => Error::Parse(message),
-            Err(_) => Error::Memory,
-        }
-    } else {
-        Error::Memory
-    }
 }
