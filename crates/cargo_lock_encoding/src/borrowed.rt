@@ -1,4 +1,5 @@
-//! References that borrow their parts, so that what is only printed or looked up is not copied.
+//! References and packages that borrow their parts, so that what is only printed or looked up is not
+//! copied.
 
 ghost use Rattle.std.specs.Prelude.{◌≡◌, IfOk, option_map};
 ghost use Rattle.semver.specs.Identifiers.{parts_of};
@@ -6,11 +7,11 @@ ghost use Rattle.cargo_lock_encoding.specs.Chosen.{written_source};
 ghost use Rattle.cargo_lock_encoding.specs.Records.{is_escaped};
 
 use crate::version::ResolveVersion;
-use crate::{EncodableDependency, EncodableSourceId};
+use crate::{EncodableDependency, EncodablePackage, EncodableSourceId};
 use cargo_lock_parts::dependency::Dependency;
 use cargo_lock_parts::package::source::SourceIdAsUrl;
-use cargo_lock_parts::package::{Name, SourceId, Version};
-use std::alloc::AllocError;
+use cargo_lock_parts::package::{Checksum, Name, SourceId, Version};
+use std::alloc::{AllocError, Global};
 use std::fmt;
 use std::marker::Model;
 
@@ -95,6 +96,88 @@ impl<'a> EncodableDependencyRef<'a> {
     }
 }
 
+/// A package as its table has it, which borrows its parts: an `EncodablePackage` without a copy.
+#[derive(Drop)]
+pub struct EncodablePackageRef<'a> {
+    /// The name.
+    pub name: &'a Name,
+
+    /// The version.
+    pub version: &'a Version,
+
+    /// Where the package comes from, marked for its text.
+    pub source: Option<SourceIdAsUrl<'a>>,
+
+    /// The checksum. A lockfile of V1 has it in the metadata.
+    pub checksum: Option<Checksum>,
+
+    /// What the package depends on.
+    pub dependencies: Vec<EncodableDependencyRef<'a>>,
+
+    /// What stands in for the package.
+    pub replace: Option<EncodableDependencyRef<'a>>,
+}
+
+impl<'a> Model for EncodablePackageRef<'a> {
+    ghost use Rattle.std.specs.Prelude.{option_map};
+    ghost use Rattle.semver.specs.Identifiers.{parts_of};
+    ghost use Rattle.cargo_lock_parts.specs.Checksum.{digest_of};
+    ghost use Rattle.cargo_lock_encoding.specs.Records.{EntryData};
+
+    ghost Value = { EntryData };
+
+    ghost view = { λ e. record {
+      name = e.name.now;
+      version = parts_of e.version.now;
+      source = e.source;
+      checksum = option_map digest_of e.checksum;
+      dependencies = e.dependencies.items;
+      replace = e.replace;
+    } };
+}
+
+impl<'a> EncodablePackageRef<'a> {
+    /// A copy that owns its parts.
+    pub fn to_owned(&self, alloc: Global) -> std::result::Result<EncodablePackage, AllocError>
+        ensures { IfOk result (λ copy. copy ≡ self.now) }
+    {
+        let dependencies = own_forms(alloc, self.dependencies.as_slice())?;
+        Ok(EncodablePackage {
+            name: self.name.clone()?,
+            version: self.version.clone()?,
+            source: own_source(&self.source)?,
+            checksum: self.checksum,
+            dependencies,
+            replace: own_form(&self.replace)?,
+        })
+    }
+}
+
+fn own_form(
+    form: &Option<EncodableDependencyRef<'_>>,
+) -> std::result::Result<Option<EncodableDependency>, AllocError>
+    ensures { IfOk result (λ copy. copy ≡ form.now) }
+{
+    match form {
+        Some(form) => Ok(Some(form.to_owned()?)),
+        None => Ok(None),
+    }
+}
+
+fn own_forms(
+    alloc: Global,
+    forms: &[EncodableDependencyRef<'_>],
+) -> std::result::Result<Vec<EncodableDependency>, AllocError>
+    ensures { IfOk result (λ copies. copies.items ≡ forms.now) }
+{
+    let mut copies = Vec::with_capacity(alloc, forms.len())?;
+    for form in forms {
+        let copy = form.to_owned()?;
+        copies.push(copy)?;
+    }
+    Ok(copies)
+}
+
 fn own_version(version: Option<&Version>) -> std::result::Result<Option<Version>, AllocError>
     ensures { IfOk result (λ copy. option_map parts_of copy ≡ option_map (λ v. parts_of v.now) version.entry) }
 {
@@ -166,6 +249,45 @@ impl fmt::Display for EncodableDependencyRef<'_> {
             (None, None) => write!(f, "{name}"),
         }
     }
+}
+
+impl EncodablePackage {
+    /// The package with its parts borrowed.
+    pub fn by_ref(&self, alloc: Global) -> std::result::Result<EncodablePackageRef<'_>, AllocError>
+        ensures { IfOk result (λ borrowed. borrowed ≡ self.now) }
+    {
+        let dependencies = by_refs(alloc, self.dependencies.as_slice())?;
+        Ok(EncodablePackageRef {
+            name: &self.name,
+            version: &self.version,
+            source: as_url(&self.source),
+            checksum: self.checksum,
+            dependencies,
+            replace: by_ref(&self.replace),
+        })
+    }
+}
+
+fn by_ref(form: &Option<EncodableDependency>) -> Option<EncodableDependencyRef<'_>>
+    ensures { result ≡ form.now }
+{
+    match form {
+        Some(form) => Some(form.by_ref()),
+        None => None,
+    }
+}
+
+fn by_refs(
+    alloc: Global,
+    forms: &[EncodableDependency],
+) -> std::result::Result<Vec<EncodableDependencyRef<'_>>, AllocError>
+    ensures { IfOk result (λ borrowed. borrowed.items ≡ forms.now) }
+{
+    let mut borrowed = Vec::with_capacity(alloc, forms.len())?;
+    for form in forms {
+        borrowed.push(form.by_ref())?;
+    }
+    Ok(borrowed)
 }
 
 impl EncodableDependency {

@@ -23,7 +23,7 @@ pub mod version;
 pub mod writing;
 pub mod written;
 
-pub use crate::borrowed::EncodableDependencyRef;
+pub use crate::borrowed::{EncodableDependencyRef, EncodablePackageRef};
 pub use crate::entry::EncodablePackage;
 pub use crate::metadata::{Metadata, MetadataKey, MetadataValue};
 pub use crate::reference::EncodableDependency;

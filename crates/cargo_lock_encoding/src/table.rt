@@ -6,15 +6,19 @@ ghost use Rattle.toml.specs.Data.{integer, string};
 ghost use Rattle.toml.specs.View.{table_view, view};
 ghost use Rattle.cargo_lock_parts.specs.Checksum.{digest_of};
 ghost use Rattle.cargo_lock_encoding.specs.Chosen.{written_source};
+ghost use Rattle.cargo_lock_parts.specs.Identity.{identity_of};
 ghost use Rattle.cargo_lock_encoding.specs.Records.{texts_of};
-ghost use Rattle.cargo_lock_encoding.specs.Table.{checksum_value, entry_table, entry_value, form_value, metadata_value, packages_value, patch_entry_value, patch_table, present, put, put_present, source_value, text_members, unless_empty, unless_no_patch};
+ghost use Rattle.cargo_lock_encoding.specs.Table.{checksum_value, entry_of, entry_table, entry_value, form_value, metadata_value, packages_value, patch_entry_value, patch_table, present, put, put_present, root_entry, source_value, text_members, unless_empty, unless_no_patch};
 
 use crate::checksums::ordered;
 use crate::metadata::{Metadata, MetadataKey, MetadataValue};
-use crate::{EncodableDependency, EncodablePackage, EncodableSourceId};
+use crate::index::Indexed;
+use crate::writing::{entry_of, root_entry};
+use crate::{EncodableDependencyRef, EncodablePackage, EncodablePackageRef, ResolveVersion};
 use cargo_lock_parts::dependency::Dependency;
 use cargo_lock_parts::error::Result;
-use cargo_lock_parts::package::{Checksum, SourceId, Version};
+use cargo_lock_parts::package::source::SourceIdAsUrl;
+use cargo_lock_parts::package::{Checksum, Package, SourceId, Version};
 use cargo_lock_parts::patch::Patch;
 use std::alloc::{AllocError, Global};
 use toml::{Table, Value};
@@ -63,12 +67,52 @@ pub fn packages_value(
 ) -> std::result::Result<Value, AllocError>
     ensures { IfOk result (λ v. view v ≡ packages_value list.now) }
 {
-    let mut values = Vec::new(alloc);
+    let mut values = Vec::with_capacity(alloc, list.len())?;
     for one in list {
-        let value = entry_value(alloc, one)?;
+        let value = encoded_value(alloc, one)?;
         values.push(value)?;
     }
     Ok(Value::from(values))
+}
+
+/// The list of the tables of the packages of a lockfile, as they are written in a format.
+pub fn written_packages_value(
+    alloc: Global,
+    format: ResolveVersion,
+    list: &[Package],
+) -> std::result::Result<Value, AllocError>
+    ensures { IfOk result (λ v. view v ≡ packages_value (map (entry_of format (map identity_of list.now)) list.now)) }
+{
+    let packages = Indexed::of(alloc, list)?;
+    each_written_value(alloc, format, &packages, list)
+}
+
+fn each_written_value<'a>(
+    alloc: Global,
+    format: ResolveVersion,
+    packages: &Indexed<'a, Package>,
+    list: &'a [Package],
+) -> std::result::Result<Value, AllocError>
+    ensures { IfOk result (λ v. view v ≡ packages_value (map (entry_of format (map identity_of packages.now)) list.now)) }
+{
+    let mut values = Vec::with_capacity(alloc, list.len())?;
+    for one in list {
+        let value = written_value(alloc, format, packages, one)?;
+        values.push(value)?;
+    }
+    Ok(Value::from(values))
+}
+
+fn written_value<'a>(
+    alloc: Global,
+    format: ResolveVersion,
+    packages: &Indexed<'a, Package>,
+    one: &'a Package,
+) -> std::result::Result<Value, AllocError>
+    ensures { IfOk result (λ v. view v ≡ entry_value (entry_of format (map identity_of packages.now) one.now)) }
+{
+    let entry = entry_of(alloc, format, packages, one)?;
+    entry_value(alloc, &entry)
 }
 
 /// The table of the root, where there is one.
@@ -79,19 +123,49 @@ pub fn root_value(
     ensures { IfOk result (λ v. option_map view v ≡ option_map entry_value root.now) }
 {
     match root {
-        Some(one) => Ok(Some(entry_value(alloc, one)?)),
+        Some(one) => Ok(Some(encoded_value(alloc, one)?)),
         None => Ok(None),
     }
 }
 
-fn entry_value(alloc: Global, one: &EncodablePackage) -> std::result::Result<Value, AllocError>
+/// The table of the root of a lockfile, as it is written in a format, where there is one.
+pub fn written_root_value(
+    alloc: Global,
+    format: ResolveVersion,
+    root: &Option<Package>,
+) -> std::result::Result<Option<Value>, AllocError>
+    ensures { IfOk result (λ v. option_map view v ≡ option_map entry_value (option_map (root_entry format) root.now)) }
+{
+    match root {
+        Some(one) => {
+            let entry = root_entry(alloc, format, one)?;
+            Ok(Some(entry_value(alloc, &entry)?))
+        }
+        None => Ok(None),
+    }
+}
+
+fn encoded_value(alloc: Global, one: &EncodablePackage) -> std::result::Result<Value, AllocError>
+    ensures { IfOk result (λ v. view v ≡ entry_value one.now) }
+{
+    let entry = one.by_ref(alloc)?;
+    entry_value(alloc, &entry)
+}
+
+fn entry_value(
+    alloc: Global,
+    one: &EncodablePackageRef<'_>,
+) -> std::result::Result<Value, AllocError>
     ensures { IfOk result (λ v. view v ≡ entry_value one.now) }
 {
     let table = entry_table(alloc, one)?;
     Ok(Value::from(table))
 }
 
-fn entry_table(alloc: Global, one: &EncodablePackage) -> std::result::Result<Table, AllocError>
+fn entry_table(
+    alloc: Global,
+    one: &EncodablePackageRef<'_>,
+) -> std::result::Result<Table, AllocError>
     ensures { IfOk result (λ t. table_view t ≡ entry_table one.now) }
 {
     let checksum = checksum_value(alloc, &one.checksum)?;
@@ -100,7 +174,7 @@ fn entry_table(alloc: Global, one: &EncodablePackage) -> std::result::Result<Tab
     let name = Value::string(alloc, one.name.as_str())?;
     let replace = replace_value(alloc, &one.replace)?;
     let source = source_value(alloc, &one.source)?;
-    let version = version_value(alloc, &one.version)?;
+    let version = version_value(alloc, one.version)?;
     entry_members(
         alloc,
         checksum,
@@ -158,7 +232,7 @@ fn checksum_value(
 // The references, as texts.
 fn form_values(
     alloc: Global,
-    forms: &[EncodableDependency],
+    forms: &[EncodableDependencyRef<'_>],
 ) -> std::result::Result<Vec<Value>, AllocError>
     ensures { IfOk result (λ v. map view v.items ≡ map form_value forms.now) }
 {
@@ -170,7 +244,10 @@ fn form_values(
     Ok(values)
 }
 
-fn form_value(alloc: Global, form: &EncodableDependency) -> std::result::Result<Value, AllocError>
+fn form_value(
+    alloc: Global,
+    form: &EncodableDependencyRef<'_>,
+) -> std::result::Result<Value, AllocError>
     ensures { IfOk result (λ v. view v ≡ form_value form.now) }
 {
     let text = format!(in alloc; "{form}")?;
@@ -179,7 +256,7 @@ fn form_value(alloc: Global, form: &EncodableDependency) -> std::result::Result<
 
 fn replace_value(
     alloc: Global,
-    replace: &Option<EncodableDependency>,
+    replace: &Option<EncodableDependencyRef<'_>>,
 ) -> std::result::Result<Option<Value>, AllocError>
     ensures { IfOk result (λ v. option_map view v ≡ option_map form_value replace.now) }
 {
@@ -191,14 +268,13 @@ fn replace_value(
 
 fn source_value(
     alloc: Global,
-    source: &Option<EncodableSourceId>,
+    source: &Option<SourceIdAsUrl<'_>>,
 ) -> std::result::Result<Option<Value>, AllocError>
     ensures { IfOk result (λ v. option_map view v ≡ option_map source_value source.now) }
 {
     match source {
         Some(source) => {
-            let shown = source.as_url();
-            let text = format!(in alloc; "{shown}")?;
+            let text = format!(in alloc; "{source}")?;
             Ok(Some(Value::from(text)))
         }
         None => Ok(None),

@@ -10,16 +10,20 @@ ghost use Rattle.std.specs.Option.{option_to_list};
 ghost use Rattle.semver.specs.Identifiers.{parts_of, parts_text};
 ghost use Rattle.cargo_lock_parts.specs.Checksum.{digest_of};
 ghost use Rattle.cargo_lock_encoding.specs.Chosen.{written_source};
+ghost use Rattle.cargo_lock_parts.specs.Identity.{identity_of};
 ghost use Rattle.cargo_lock_encoding.specs.Records.{texts_of};
+ghost use Rattle.cargo_lock_encoding.specs.Table.{entry_of};
 ghost use Rattle.cargo_lock_encoding.specs.Text.{checksum_line, comment_lines, dependency_line, entry_lines, escape_char, escaped, field, hex_digit, is_bare_byte, is_bare_key, joined, key_text, metadata_lines, pair_line, patch_lines, quoted, reference_lines, replace_line, short_escape, source_line, version_lines};
 
 use crate::checksums::ordered;
 use crate::metadata::{Metadata, MetadataKey, MetadataValue};
-use crate::{EncodableDependency, EncodablePackage, EncodableSourceId};
+use crate::index::Indexed;
+use crate::writing::entry_of;
+use crate::{EncodableDependencyRef, EncodablePackage, EncodablePackageRef, ResolveVersion};
 use cargo_lock_parts::dependency::Dependency;
 use cargo_lock_parts::error::Result;
 use cargo_lock_parts::package::source::SourceIdAsUrl;
-use cargo_lock_parts::package::{Checksum, Name, SourceId, Version};
+use cargo_lock_parts::package::{Checksum, Name, Package, SourceId, Version};
 use cargo_lock_parts::patch::Patch;
 use std::alloc::{AllocError, Global};
 
@@ -127,11 +131,11 @@ fn put_source(alloc: Global, out: &mut String, source: &SourceIdAsUrl<'_>) -> Pu
 }
 
 // The source of a package.
-fn put_marked_source(alloc: Global, out: &mut String, source: &Option<EncodableSourceId>) -> Put
+fn put_marked_source(alloc: Global, out: &mut String, source: &Option<SourceIdAsUrl<'_>>) -> Put
     ensures { OnOk result (string_bytes out.new ≡ string_bytes out.old ++ joined (option_to_list (option_map source_line source.now))) }
 {
     match source {
-        Some(source) => put_source(alloc, out, &source.as_url()),
+        Some(source) => put_source(alloc, out, source),
         None => Ok(()),
     }
 }
@@ -167,7 +171,7 @@ fn put_checksum(alloc: Global, out: &mut String, checksum: &Option<Checksum>) ->
 // ---- packages
 
 // The line of one dependency in the list of them.
-fn put_dependency(alloc: Global, out: &mut String, dependency: &EncodableDependency) -> Put
+fn put_dependency(alloc: Global, out: &mut String, dependency: &EncodableDependencyRef<'_>) -> Put
     ensures { OnOk result (string_bytes out.new ≡ string_bytes out.old ++ joined (dependency_line dependency.now ∷ [])) }
 {
     let text = format!(in alloc; "{dependency}")?;
@@ -176,7 +180,11 @@ fn put_dependency(alloc: Global, out: &mut String, dependency: &EncodableDepende
     out.push_str(",\n")
 }
 
-fn put_each_dependency(alloc: Global, out: &mut String, dependencies: &[EncodableDependency]) -> Put
+fn put_each_dependency(
+    alloc: Global,
+    out: &mut String,
+    dependencies: &[EncodableDependencyRef<'_>],
+) -> Put
     ensures { OnOk result (string_bytes out.new ≡ string_bytes out.old ++ joined (map dependency_line dependencies.now)) }
 {
     for dependency in dependencies {
@@ -186,7 +194,11 @@ fn put_each_dependency(alloc: Global, out: &mut String, dependencies: &[Encodabl
 }
 
 // The list of the dependencies, of which there are some.
-fn put_dependencies(alloc: Global, out: &mut String, dependencies: &[EncodableDependency]) -> Put
+fn put_dependencies(
+    alloc: Global,
+    out: &mut String,
+    dependencies: &[EncodableDependencyRef<'_>],
+) -> Put
     ensures { OnOk result (string_bytes out.new ≡ string_bytes out.old ++ joined (codes "dependencies = [" ∷ (map dependency_line dependencies.now ++ codes "]" ∷ []))) }
 {
     out.push_str("dependencies = [\n")?;
@@ -195,7 +207,11 @@ fn put_dependencies(alloc: Global, out: &mut String, dependencies: &[EncodableDe
     Ok(())
 }
 
-fn put_replacement(alloc: Global, out: &mut String, replace: &Option<EncodableDependency>) -> Put
+fn put_replacement(
+    alloc: Global,
+    out: &mut String,
+    replace: &Option<EncodableDependencyRef<'_>>,
+) -> Put
     ensures { OnOk result (string_bytes out.new ≡ string_bytes out.old ++ joined (option_to_list (option_map replace_line replace.now))) }
 {
     match replace {
@@ -211,8 +227,8 @@ fn put_replacement(alloc: Global, out: &mut String, replace: &Option<EncodableDe
 fn put_references(
     alloc: Global,
     out: &mut String,
-    dependencies: &[EncodableDependency],
-    replace: &Option<EncodableDependency>,
+    dependencies: &[EncodableDependencyRef<'_>],
+    replace: &Option<EncodableDependencyRef<'_>>,
 ) -> Put
     ensures { OnOk result (string_bytes out.new ≡ string_bytes out.old ++ joined (reference_lines dependencies.now replace.now)) }
 {
@@ -224,12 +240,12 @@ fn put_references(
     Ok(())
 }
 
-fn put_package(alloc: Global, out: &mut String, one: &EncodablePackage) -> Put
+fn put_package(alloc: Global, out: &mut String, one: &EncodablePackageRef<'_>) -> Put
     ensures { OnOk result (string_bytes out.new ≡ string_bytes out.old ++ joined (entry_lines one.now)) }
 {
     out.push_str("\n[[package]]\n")?;
-    put_name(out, &one.name)?;
-    put_version(alloc, out, &one.version)?;
+    put_name(out, one.name)?;
+    put_version(alloc, out, one.version)?;
     put_marked_source(alloc, out, &one.source)?;
     put_checksum(alloc, out, &one.checksum)?;
     put_references(alloc, out, one.dependencies.as_slice(), &one.replace)?;
@@ -241,10 +257,62 @@ pub fn put_packages(alloc: Global, out: &mut String, packages: &[EncodablePackag
     ensures { OnOk result (string_bytes out.new ≡ string_bytes out.old ++ joined (flat_map entry_lines packages.now)) }
 {
     for one in packages {
-        put_package(alloc, out, one)?;
+        put_encoded(alloc, out, one)?;
     }
     Ok(())
 }
+
+fn put_encoded(alloc: Global, out: &mut String, one: &EncodablePackage) -> Put
+    ensures { OnOk result (string_bytes out.new ≡ string_bytes out.old ++ joined (entry_lines one.now)) }
+{
+    let entry = one.by_ref(alloc)?;
+    put_package(alloc, out, &entry)
+}
+
+/// Adds the packages of a lockfile as they are written in a format, each after an empty line.
+pub fn put_written_packages(
+    alloc: Global,
+    out: &mut String,
+    format: ResolveVersion,
+    list: &[Package],
+) -> Put
+    ensures { OnOk result (string_bytes out.new ≡ string_bytes out.old
+        ++ joined (flat_map entry_lines (map (entry_of format (map identity_of list.now)) list.now))) }
+{
+    let packages = Indexed::of(alloc, list)?;
+    put_each_written(alloc, out, format, &packages, list)
+}
+
+fn put_each_written<'a>(
+    alloc: Global,
+    out: &mut String,
+    format: ResolveVersion,
+    packages: &Indexed<'a, Package>,
+    list: &'a [Package],
+) -> Put
+    ensures { OnOk result (string_bytes out.new ≡ string_bytes out.old
+        ++ joined (flat_map (λ p. entry_lines (entry_of format (map identity_of packages.now) p)) list.now)) }
+{
+    for one in list {
+        put_written(alloc, out, format, packages, one)?;
+    }
+    Ok(())
+}
+
+fn put_written<'a>(
+    alloc: Global,
+    out: &mut String,
+    format: ResolveVersion,
+    packages: &Indexed<'a, Package>,
+    one: &'a Package,
+) -> Put
+    ensures { OnOk result (string_bytes out.new ≡ string_bytes out.old
+        ++ joined (entry_lines (entry_of format (map identity_of packages.now) one.now))) }
+{
+    let entry = entry_of(alloc, format, packages, one)?;
+    put_package(alloc, out, &entry)
+}
+
 
 // ---- unused patches
 

@@ -10,14 +10,14 @@ ghost use Rattle.cargo_lock_encoding.specs.Form.{of_one, of_two};
 ghost use Rattle.cargo_lock_encoding.specs.Records.{is_escaped};
 ghost use Rattle.cargo_lock_encoding.specs.Table.{entry_of, root_entry, written_checksum, written_version};
 
-use crate::borrowed::{own_source, written_source};
+use crate::borrowed::written_source;
 use crate::index::Indexed;
 use crate::version::ResolveVersion;
-use crate::{EncodableDependency, EncodableDependencyRef, EncodablePackage};
+use crate::{EncodableDependencyRef, EncodablePackage, EncodablePackageRef};
 use cargo_lock_parts::dependency::Dependency;
 use cargo_lock_parts::error::Result;
-use cargo_lock_parts::package::{Checksum, Name, Package, Version};
-use std::alloc::Global;
+use cargo_lock_parts::package::{Checksum, Package};
+use std::alloc::{AllocError, Global};
 
 /// The number that is written: from the third format on.
 pub fn written_version(format: ResolveVersion) -> Option<i64>
@@ -45,30 +45,41 @@ pub fn all_entries(
     let packages = Indexed::of(alloc, list)?;
     let mut entries = Vec::with_capacity(alloc, list.len())?;
     for one in list {
-        let entry = entry_of(alloc, format, &packages, one)?;
+        let entry = written_copy(alloc, format, &packages, one)?;
         entries.push(entry)?;
     }
     Ok(entries)
 }
 
-// A package among those of the lockfile, as it is written.
-fn entry_of<'a>(
+fn written_copy<'a>(
     alloc: Global,
     format: ResolveVersion,
     list: &Indexed<'a, Package>,
     one: &'a Package,
-) -> Result<EncodablePackage>
-    ensures ok { IfOk result (λ e. e ≡ entry_of format (map identity_of list.now) one.now) }
-    ensures err { IsOkUnless result Memory }
+) -> std::result::Result<EncodablePackage, AllocError>
+    ensures { IfOk result (λ e. e ≡ entry_of format (map identity_of list.now) one.now) }
+{
+    let entry = entry_of(alloc, format, list, one)?;
+    entry.to_owned(alloc)
+}
+
+/// A package among those of the lockfile, as it is written, with its parts borrowed.
+pub fn entry_of<'a>(
+    alloc: Global,
+    format: ResolveVersion,
+    list: &Indexed<'a, Package>,
+    one: &'a Package,
+) -> std::result::Result<EncodablePackageRef<'a>, AllocError>
+    ensures { IfOk result (λ e. e ≡ entry_of format (map identity_of list.now) one.now) }
 {
     let dependencies = all_chosen(alloc, format, list, one.dependencies.as_slice())?;
-    Ok(EncodablePackage {
-        name: one.name.clone()?,
-        version: one.version.clone()?,
-        source: own_source(&written_source(format, &one.source))?,
+    Ok(EncodablePackageRef {
+        name: &one.name,
+        version: &one.version,
+        source: written_source(format, &one.source),
         checksum: written_checksum(format, &one.checksum),
         dependencies,
-        replace: full_replace(format, &one.replace)?,
+        replace: full_replace(format, &one.replace),
     })
 }
 
@@ -82,23 +93,30 @@ pub fn root_of(
     ensures err { IsOkUnless result Memory }
 {
     match root {
-        Some(one) => Ok(Some(root_entry(alloc, format, one)?)),
+        Some(one) => {
+            let entry = root_entry(alloc, format, one)?;
+            Ok(Some(entry.to_owned(alloc)?))
+        }
         None => Ok(None),
     }
 }
 
-fn root_entry(alloc: Global, format: ResolveVersion, one: &Package) -> Result<EncodablePackage>
-    ensures ok { IfOk result (λ e. e ≡ root_entry format one.now) }
-    ensures err { IsOkUnless result Memory }
+/// The root as it is written, with its parts borrowed.
+pub fn root_entry(
+    alloc: Global,
+    format: ResolveVersion,
+    one: &Package,
+) -> std::result::Result<EncodablePackageRef<'_>, AllocError>
+    ensures { IfOk result (λ e. e ≡ root_entry format one.now) }
 {
     let dependencies = all_in_full(alloc, format, one.dependencies.as_slice())?;
-    Ok(EncodablePackage {
-        name: one.name.clone()?,
-        version: one.version.clone()?,
-        source: own_source(&written_source(format, &one.source))?,
+    Ok(EncodablePackageRef {
+        name: &one.name,
+        version: &one.version,
+        source: written_source(format, &one.source),
         checksum: one.checksum,
         dependencies,
-        replace: full_replace(format, &one.replace)?,
+        replace: full_replace(format, &one.replace),
     })
 }
 
@@ -155,14 +173,12 @@ fn all_chosen<'a>(
     format: ResolveVersion,
     list: &Indexed<'a, Package>,
     dependencies: &'a [Dependency],
-) -> Result<Vec<EncodableDependency>>
-    ensures ok { IfOk result (λ v. v.items ≡ map (chosen_form format (map identity_of list.now)) dependencies.now) }
-    ensures err { IsOkUnless result Memory }
+) -> std::result::Result<Vec<EncodableDependencyRef<'a>>, AllocError>
+    ensures { IfOk result (λ v. v.items ≡ map (chosen_form format (map identity_of list.now)) dependencies.now) }
 {
     let mut forms = Vec::with_capacity(alloc, dependencies.len())?;
     for dependency in dependencies {
-        let form = chosen_form(format, list, dependency).to_owned()?;
-        forms.push(form)?;
+        forms.push(chosen_form(format, list, dependency))?;
     }
     Ok(forms)
 }
@@ -171,14 +187,12 @@ fn all_in_full(
     alloc: Global,
     format: ResolveVersion,
     dependencies: &[Dependency],
-) -> Result<Vec<EncodableDependency>>
-    ensures ok { IfOk result (λ v. v.items ≡ map (in_full (is_escaped format)) dependencies.now) }
-    ensures err { IsOkUnless result Memory }
+) -> std::result::Result<Vec<EncodableDependencyRef<'_>>, AllocError>
+    ensures { IfOk result (λ v. v.items ≡ map (in_full (is_escaped format)) dependencies.now) }
 {
     let mut forms = Vec::with_capacity(alloc, dependencies.len())?;
     for dependency in dependencies {
-        let form = EncodableDependency::from_dependency(dependency, format)?;
-        forms.push(form)?;
+        forms.push(EncodableDependencyRef::from_dependency(dependency, format))?;
     }
     Ok(forms)
 }
@@ -187,15 +201,11 @@ fn all_in_full(
 fn full_replace(
     format: ResolveVersion,
     replace: &Option<Dependency>,
-) -> Result<Option<EncodableDependency>>
-    ensures ok { IfOk result (λ r. r ≡ option_map (in_full (is_escaped format)) replace.now) }
-    ensures err { IsOkUnless result Memory }
+) -> Option<EncodableDependencyRef<'_>>
+    ensures { result ≡ option_map (in_full (is_escaped format)) replace.now }
 {
     match replace {
-        Some(replace) => {
-            let full = EncodableDependency::from_dependency(replace, format)?;
-            Ok(Some(full))
-        }
-        None => Ok(None),
+        Some(replace) => Some(EncodableDependencyRef::from_dependency(replace, format)),
+        None => None,
     }
 }

@@ -8,8 +8,8 @@ use Rattle.cargo_lock_encoding.proofs.text.put_package.Goals as goal
 pub returns : goal.returns
 returns c =
     let seen : EntryData = record {
-      name = c.one.inside.name;
-      version = parts_of c.one.inside.version;
+      name = c.one.inside.name.now;
+      version = parts_of c.one.inside.version.now;
       source = c.one.inside.source;
       checksum = option_map digest_of c.one.inside.checksum;
       dependencies = c.one.inside.dependencies.items;

@@ -5,4 +5,4 @@ use Rattle.cargo_lock_encoding.proofs.text.put_packages.Goals as goal
 
 pub loop-one-preserved : goal.loop-one-preserved
 loop-one-preserved c =
-    then-more entry_lines c.args.packages.now _ c.one-item.result (string_bytes c.args.out.now) (string_bytes c.loop-one.out) _ c.loop-one-test.true c.one-item.is c.loop-one.invariant c.in_ok-put_package.ensures
+    then-more entry_lines c.args.packages.now _ c.one-item.result (string_bytes c.args.out.now) (string_bytes c.loop-one.out) _ c.loop-one-test.true c.one-item.is c.loop-one.invariant c.in_ok-put_encoded.ensures
