@@ -1,12 +1,12 @@
 -- The lockfile that a table means, by the relation and as it is computed, is the same.
-use Rattle.std.proofs.Common.{◌≡◌, ℕ, List, [], ◌∷◌, inl, map, Option, Some, None, option_map, Result, Ok, Err, refl, sym, subst, ap, ◌∙◌}
+use Rattle.std.proofs.Common.{◌≡◌, ◌⊎◌, ℕ, List, [], ◌∷◌, inl, inr, map, Option, Some, None, option_map, Result, Ok, Err, refl, sym, subst, ap, ◌∙◌}
 use Rattle.std.specs.List.{AllZip}
 use Rattle.std.proofs.lemmas.Option.{same_Some, none-some}
 use Rattle.toml.specs.Data.{Members}
 use Rattle.toml.specs.Parse.{parse_document}
 use Rattle.cargo_lock_parts.specs.declared.error.Error.{Error}
 use Rattle.cargo_lock_parts.specs.declared.error.Error.TheVariants.{Io, Parse, Version, Resolution, Memory}
-use Rattle.cargo_lock_parts.specs.Error.{Reads, ReadsUrls, Refuses}
+use Rattle.cargo_lock_parts.specs.Error.{IsTooLong, Reads, ReadsUrls, Refuses}
 use Rattle.cargo_lock_parts.specs.Identity.{Identity, PackageData}
 use Rattle.cargo_lock_encoding.specs.Finds.{Finds, FindsUrls}
 use Rattle.cargo_lock_encoding.specs.Format.{format_of}
@@ -161,3 +161,25 @@ FindsUrls-refused text (Parse said) P h f = inl (λ l m. none-some m.table (sym 
 FindsUrls-refused text (Version fault) P h f = absurd h
 FindsUrls-refused text (Resolution said) P h f = absurd h
 FindsUrls-refused text Memory P h f = tt
+
+-- ---- refusals for length
+
+-- a fault that is kept or told as want of memory
+pub FindsUrls-kept : (P : LockfileData → Type 0) (e kept : Error) (Q : Type 0) → FindsUrls P (Err e)
+    → (kept ≡ Memory) ⊎ ((kept ≡ e) × Q) → FindsUrls P (Err kept)
+FindsUrls-kept P e kept Q h (inl memory) = rw memory tt
+FindsUrls-kept P e kept Q h (inr same) = rw same.0 h
+
+Finds-not_long : (P : LockfileData → Type 0) (e : Error) → FindsUrls P (Err e) → ¬ IsTooLong e → Finds P (Err e)
+Finds-not_long P (Io kind) h other = absurd h
+Finds-not_long P (Parse said) (inl never) other = never
+Finds-not_long P (Parse said) (inr long) other = absurd (other long)
+Finds-not_long P (Version fault) h other = absurd h
+Finds-not_long P (Resolution said) h other = absurd h
+Finds-not_long P Memory h other = tt
+
+-- the same, where it is not kept for its length
+pub Finds-kept : (P : LockfileData → Type 0) (e kept : Error) (Q : Type 0) → FindsUrls P (Err e)
+    → (kept ≡ Memory) ⊎ ((kept ≡ e) × (Q → ¬ IsTooLong e)) → Q → Finds P (Err kept)
+Finds-kept P e kept Q h (inl memory) q = rw memory tt
+Finds-kept P e kept Q h (inr same) q = rw same.0 (Finds-not_long P e h (same.1 q))

@@ -13,9 +13,10 @@ use Rattle.cargo_lock_encoding.specs.Form.{Form, of_one}
 use Rattle.cargo_lock_encoding.specs.Records.{bare_source}
 use Rattle.cargo_lock_encoding.specs.Said.{fits}
 use Rattle.cargo_lock_encoding.specs.Says.{Fits, IsItself, says_by}
-use Rattle.cargo_lock.specs.Shortest.{AreDistinct, HasNoTwin, IsAmong, IsLeast, Names, one_if_some, words_in}
+use Rattle.cargo_lock.specs.Shortest.{AreDistinct, HasNoTwin, IsAmbiguous, IsAmong, IsLeast, Names, one_if_some, words_in}
+use Rattle.cargo_lock.specs.Survives.{SaysEqual}
 use Rattle.cargo_lock_encoding.proofs.ChosenLemmas.{count-hit, count-miss, count-pos, count-some}
-use Rattle.cargo_lock_encoding.proofs.SaysLemmas.{Says-from, same_parts-refl, same_parts-yes, same_text-refl, same_text-yes}
+use Rattle.cargo_lock_encoding.proofs.SaysLemmas.{Says-from, fits-true, fits-yes, same_parts-refl, same_parts-yes, same_text-refl, same_text-yes}
 
 -- ---- counts
 
@@ -99,18 +100,16 @@ version-names escaped list d among alone p perm =
 to_front : (list : List Identity) (y : Identity) (j : ℕ) → slice_get list j ≡ Some y → IsPermutation list (y ∷ remove list j)
 to_front list y j at = IsPermutation-remove list j y (slice_get_within list j y at) (sym (get_or_from_slice_get list j y y at))
 
--- a form without a source that fits another identity does not name this one
-not-named : (g : Form) (list : List Identity) (d y : Identity) (j : ℕ) → g.source ≡ None → slice_get list j ≡ Some y → Fits g y → identity_key y ≢ identity_key d → Names g list d → ⊥
-not-named g list d y j none at fit other names =
-    let front = y ∷ remove list j in
-    let said = names front (to_front list y j at) in
-    let s : says_by None g front said.0 = subst (λ (o : Option MarkedSource). says_by o g front said.0) none said.1 in
+-- a form without a source says the first identity of a list, where it fits that
+not-said : (g : Form) (d y : Identity) (ys : List Identity) → g.source ≡ None → Fits g y → identity_key y ≢ identity_key d → SaysEqual g (y ∷ ys) d → ⊥
+not-said g d y ys none fit other said =
+    let s : says_by None g (y ∷ ys) said.0 = subst (λ (o : Option MarkedSource). says_by o g (y ∷ ys) said.0) none said.1 in
     elim s [
       | inl first ↦ at_front said.0 said.2 first.0 first.1 first.3
       | inr nowhere ↦ nowhere.0 0 y refl fit
     ]
   where
-    at_front : (i : Identity) → identity_key i ≡ identity_key d → (k : ℕ) → slice_get (y ∷ remove list j) k ≡ Some i → ((n : ℕ) (x : Identity) → n < k → slice_get (y ∷ remove list j) n ≡ Some x → ¬ Fits g x) → ⊥
+    at_front : (i : Identity) → identity_key i ≡ identity_key d → (k : ℕ) → slice_get (y ∷ ys) k ≡ Some i → ((n : ℕ) (x : Identity) → n < k → slice_get (y ∷ ys) n ≡ Some x → ¬ Fits g x) → ⊥
     at_front i same zero e before = other (ap identity_key (same_Some y i e) ∙ same)
     at_front i same (suc k) e before = before 0 y (omega arith) refl fit
 
@@ -119,16 +118,24 @@ fit-self : (g : Form) (list : List Identity) (i : Identity) → says_by None g l
 fit-self g list i (inl first) = first.2
 fit-self g list i (inr nowhere) = (nowhere.1.0, rw nowhere.1.1 refl)
 
--- a form without a source that names the dependency has its name and, if any, its version
-names-fits : (g : Form) (list : List Identity) (d : Identity) → g.source ≡ None → Names g list d → (d.name ≡ g.name) × IfSome g.version (λ v. d.version ≡ v)
-names-fits g list d none names =
-    let said = names list (IsPermutation-refl list) in
+-- a form without a source that says the dependency has its name and, if any, its version
+said-fits : (g : Form) (list : List Identity) (d : Identity) → g.source ≡ None → SaysEqual g list d → (d.name ≡ g.name) × IfSome g.version (λ v. d.version ≡ v)
+said-fits g list d none said =
     let fit = fit-self g list said.0 (subst (λ (o : Option MarkedSource). says_by o g list said.0) none said.1) in
     (sym (key-name said.0 d said.2) ∙ fit.0, moved g.version (key-version said.0 d said.2) fit.1)
   where
     moved : {v w : Parts} (o : Option Parts) → v ≡ w → IfSome o (λ u. v ≡ u) → IfSome o (λ u. w ≡ u)
     moved None e h = tt
     moved (Some u) e h = sym e ∙ h
+
+-- A form without a source that fits another identity too, if it fits the dependency: with the other
+-- one in front it does not say the dependency, and where it fits neither, in no order.
+other-order : (g : Form) (list : List Identity) (d y : Identity) (j : ℕ) → g.source ≡ None → slice_get list j ≡ Some y
+    → identity_key y ≢ identity_key d → ((d.name ≡ g.name) × IfSome g.version (λ v. d.version ≡ v) → Fits g y) → IsAmbiguous g list d
+other-order g list d y j none at other too = elim (cases_Bool (fits g y)) [
+  | inl hit ↦ (y ∷ remove list j, to_front list y j at, λ said. not-said g d y (remove list j) none (fits-yes g y hit) other said)
+  | inr miss ↦ (list, IsPermutation-refl list, λ said. false≢true (sym miss ∙ fits-true g y (too (said-fits g list d none said))))
+]
 
 few-two : (v : Option Parts) (s : Option MarkedSource) → 1 + one_if_some v + one_if_some s < 2 → (v ≡ None) × (s ≡ None)
 few-two None None h = (refl, refl)
@@ -150,31 +157,32 @@ not-one n off e = false≢true (sym off ∙ (Decides-eqb n 1).1 e)
 differs : (y i d : Identity) → identity_key y ≢ identity_key i → identity_key i ≡ identity_key d → identity_key y ≢ identity_key d
 differs y i d other same e = other (e ∙ sym same)
 
-version-least : (list : List Identity) (d : Identity) → AreDistinct list → IsAmong list d → one (bears_name d.name) list ≡ false → (g : Form) → words_in g < 2 → Names g list d → ⊥
-version-least list d apart among many g less names =
+version-least : (list : List Identity) (d : Identity) → AreDistinct list → IsAmong list d → one (bears_name d.name) list ≡ false → (g : Form) → words_in g < 2 → IsAmbiguous g list d
+version-least list d apart among many g less =
     let (no_version, no_source) = few-two g.version g.source less in
-    let fit = names-fits g list d no_source names in
     let m = another (bears_name d.name) list among.0 among.1 apart (not-one _ many) among.2 (own-name d.name among.1 (key-name among.1 d among.3)) in
-    let same : m.0.name ≡ g.name = same_text-yes _ _ m.3 ∙ fit.0 in
-    not-named g list d m.0 m.1 no_source m.2 (same, rw no_version tt) (differs m.0 among.1 d m.4 among.3) names
+    other-order g list d m.0 m.1 no_source m.2 (differs m.0 among.1 d m.4 among.3)
+    (λ fit. (same_text-yes _ _ m.3 ∙ fit.0, rw no_version tt))
 
 still-fits : (o : Option Parts) (v w : Parts) → v ≡ w → IfSome o (λ u. w ≡ u) → IfSome o (λ u. v ≡ u)
 still-fits None v w e h = tt
 still-fits (Some u) v w e h = e ∙ h
 
-full-least : (list : List Identity) (d : Identity) → AreDistinct list → IsAmong list d → one (bears_both d.name d.version) list ≡ false → (g : Form) → words_in g < 3 → Names g list d → ⊥
-full-least list d apart among many g less names =
+full-least : (list : List Identity) (d : Identity) → AreDistinct list → IsAmong list d → one (bears_both d.name d.version) list ≡ false → (g : Form) → words_in g < 3 → IsAmbiguous g list d
+full-least list d apart among many g less =
     elim (few-three g.version g.source less) [
       | inl no_source ↦
-          let fit = names-fits g list d no_source names in
           let m = another (bears_both d.name d.version) list among.0 among.1 apart (not-one _ many) among.2 (own-both d.name d.version among.1 (key-name among.1 d among.3) (key-version among.1 d among.3)) in
           let both = and_parts _ _ m.3 in
-          let same : m.0.name ≡ g.name = same_text-yes _ _ both.0 ∙ fit.0 in
-          not-named g list d m.0 m.1 no_source m.2 (same, still-fits g.version m.0.version d.version (same_parts-yes _ _ both.1) fit.1) (differs m.0 among.1 d m.4 among.3) names
-      | inr odd ↦
-          let said = names list (IsPermutation-refl list) in
-          let itself : IsItself g said.0 = subst (λ (o : Option MarkedSource). says_by o g list said.0) odd.1 said.1 in
-          none-some said.0.version (sym odd.2 ∙ itself.1)
+          other-order g list d m.0 m.1 no_source m.2 (differs m.0 among.1 d m.4 among.3)
+          (λ fit. (same_text-yes _ _ both.0 ∙ fit.0, still-fits g.version m.0.version d.version (same_parts-yes _ _ both.1) fit.1))
+      | inr odd ↦ (
+        list,
+        IsPermutation-refl list,
+        λ said.
+            let itself : IsItself g said.0 = subst (λ (o : Option MarkedSource). says_by o g list said.0) odd.1 said.1 in
+            none-some said.0.version (sym odd.2 ∙ itself.1),
+      )
     ]
 
 -- ---- the form in full
@@ -210,21 +218,21 @@ full-case escaped None list d e h apart among named many =
     let absent : written_source escaped d.source ≡ None = ap (written_source escaped) e in
     record {
       names = λ alone. absurd (differs m.0 i d m.4 among.3 (alone e m.1 m.0 m.2 (same_text-yes _ _ both.0) (same_parts-yes _ _ both.1)));
-      least = λ g less names. version-least list d apart among named g (rw absent at less) names;
+      least = λ g less. version-least list d apart among named g (rw absent at less);
     }
 full-case escaped (Some s) list d e h apart among named many =
     let w = full-written escaped d s e h in
     record {
       names = λ alone. full-names escaped list d s e h;
-      least = λ g less names. full-least list d apart among many g (rw w at less) names;
+      least = λ g less. full-least list d apart among many g (rw w at less);
     }
 
 pub chosen-well : (escaped : Bool) (list : List Identity) (d : Identity) → IsWritten d → AreDistinct list → IsAmong list d → IsChosenWell (shortened list (in_full escaped d)) list d
 unfolding shortened
 chosen-well escaped list d h apart among = elim (cases_Bool (one (bears_name d.name) list)) [
-  | inl a ↦ rw a (record { names = λ alone. name-names list d among a; least = λ g less names. at-least-one g.version g.source less })
+  | inl a ↦ rw a (record { names = λ alone. name-names list d among a; least = λ g less. absurd (at-least-one g.version g.source less) })
   | inr a ↦ elim (cases_Bool (one (bears_both d.name d.version) list)) [
-    | inl b ↦ rw (a, b) (record { names = λ alone. version-names escaped list d among b; least = λ g less names. version-least list d apart among a g less names })
+    | inl b ↦ rw (a, b) (record { names = λ alone. version-names escaped list d among b; least = λ g less. version-least list d apart among a g less })
     | inr b ↦ rw (a, b) (full-case escaped d.source list d refl h apart among a b)
   ]
 ]

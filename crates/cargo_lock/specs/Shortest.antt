@@ -42,17 +42,22 @@ one_if_some (Some x) = 1
 abbrev pub words_in : Form → ℕ
 words_in f = 1 + one_if_some f.version + one_if_some f.source
 
--- no form of fewer words names the dependency
+-- there is an order of the list in which the form does not say this dependency
+abbrev pub IsAmbiguous : Form → List Identity → Identity → Type 0
+IsAmbiguous f list d = (order : List Identity) × IsPermutation list order × ¬ SaysEqual f order d
+
+-- each form of fewer words has an order of the list in which it does not say the dependency
 abbrev pub IsLeast : Form → List Identity → Identity → Type 0
-IsLeast f list d = (g : Form) → words_in g < words_in f → ¬ Names g list d
+IsLeast f list d = (g : Form) → words_in g < words_in f → IsAmbiguous g list d
 
 -- the text of the form is read as a form that is equal to it
 abbrev pub IsReadBack : Form → Type 0
 IsReadBack f = (g : Form) × (form_of (form_text f) ≡ Some g) × (form_key g ≡ form_key f)
 
--- The text is that of a form which names the dependency and is read back, and no form of fewer
--- words names it. One case is excepted from naming it: a dependency without a source, with whose
--- name and version another package stands in the list. Two words are then all that can be written.
+-- The text is that of a form which names the dependency and is read back, and each form of fewer
+-- words fails to say it in some order of the list. One case is excepted from naming it: a dependency
+-- without a source, with whose name and version another package stands in the list. Two words are
+-- then all that can be written.
 pub record IsShortest (list : List Identity) (d : Identity) (text : Option (List ℕ)) : Type 0 where
   pub form : Form
   pub written : text ≡ Some (form_text form)

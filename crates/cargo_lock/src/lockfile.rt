@@ -6,6 +6,7 @@ ghost use Rattle.cargo_lock_encoding.specs.Records.{texts_of};
 ghost use Rattle.cargo_lock.specs.Same.{is_same_metadata, is_same_pair};
 
 pub mod encoding;
+mod long_texts;
 mod reading;
 mod serialization;
 mod survival;

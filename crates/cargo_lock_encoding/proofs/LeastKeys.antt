@@ -1,5 +1,5 @@
 -- The first pair, in the order of the keys, whose key passes a test is that at the least such key.
-use Rattle.std.specs.Prelude.{◌≡◌, ◌≢◌, ◌&&◌, T, Bool, true, false, cond, ℕ, List, [], ◌∷◌, Option, Some, None, is_some, refl}
+use Rattle.std.specs.Prelude.{◌≡◌, ◌≢◌, ◌&&◌, T, Bool, true, false, cond, ℕ, List, [], ◌∷◌, Option, Some, None, is_some, option_map, Result, Ok, Err, IfOk, refl}
 use Rattle.std.specs.Cmp.{tied_itself}
 use Rattle.std.specs.Cmp.Lexicographic.{slice_cmp, nat_list_cmp_total}
 use Rattle.std.specs.FinMap.{entries, entries_sorted, get-entries}
@@ -9,10 +9,11 @@ use Rattle.std.specs.Option.{unwrap_or}
 use Rattle.std.specs.Ordering.{nat_cmp, eq_by_cmp, is_eq, is_lt}
 use Rattle.std.specs.declared.cmp.Ordering.{Ordering}
 use Rattle.std.specs.declared.cmp.Ordering.TheVariants.{Less, Equal, Greater}
-use Rattle.std.proofs.Common.{ap, sym, ◌∙◌}
+use Rattle.std.proofs.Common.{ap, subst, sym, ◌∙◌}
 use Rattle.semver.specs.Parse.{Parts}
-use Rattle.cargo_lock_parts.specs.Checksum.{digest_in}
-use Rattle.cargo_lock_encoding.specs.LeastKey.{ChecksumAtLeastKey, HasNoKey, IsAtLeastKey}
+use Rattle.cargo_lock_parts.specs.Checksum.{digest_in, digest_of}
+use Rattle.cargo_lock_parts.specs.declared.package.checksum.Checksum.{Checksum}
+use Rattle.cargo_lock_encoding.specs.LeastKey.{ChecksumAtLeastKey, HasNoKey, IsAtLeastKey, IsFoundAtLeastKey}
 use Rattle.cargo_lock_encoding.specs.Metadata.{checksum_in, reads_as}
 use Rattle.cargo_lock_encoding.specs.Optional.{◌>>=◌}
 use Rattle.cargo_lock_encoding.specs.Records.{Texts}
@@ -121,3 +122,10 @@ no-key m name version h =
 
 pub checksum_at_least_key : ChecksumAtLeastKey
 checksum_at_least_key m name version = (λ value h. at-least m name version value h, λ h. no-key m name version h)
+
+-- what is said of a computed checksum holds of a call's answer
+pub least-of : {E : Type 0} (m : Texts) (name : List ℕ) (version : Parts) (r : Result (Option Checksum) E)
+    → IfOk r (λ found. option_map digest_of found ≡ checksum_in m name version)
+    → IfOk r (λ found. IsFoundAtLeastKey m name version (option_map digest_of found))
+least-of m name version (Ok found) h = subst (IsFoundAtLeastKey m name version) (sym h) (checksum_at_least_key m name version)
+least-of m name version (Err e) h = tt

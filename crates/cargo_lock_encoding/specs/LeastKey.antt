@@ -1,6 +1,6 @@
 -- Which checksum the metadata of V1 holds for a package, said without a walk: that at the least key
 -- which reads as the package's name and version.
-use Rattle.std.specs.Prelude.{◌≡◌, ◌≢◌, true, false, ℕ, List, Some, None, is_some}
+use Rattle.std.specs.Prelude.{◌≡◌, ◌≢◌, true, false, ℕ, List, Option, Some, None, is_some}
 use Rattle.std.specs.Cmp.Lexicographic.{slice_cmp}
 use Rattle.std.specs.FinMap.{get}
 use Rattle.std.specs.Ordering.{nat_cmp}
@@ -22,9 +22,14 @@ pub record IsAtLeastKey (m : Texts) (name : List ℕ) (version : Parts) (value :
 abbrev pub HasNoKey : Texts → List ℕ → Parts → Type 0
 HasNoKey m name version = (k : List ℕ) → is_some (get m k) ≡ true → reads_as name version k ≡ false
 
--- the checksum is what the value at the least such key reads as, and where no key reads so there is
--- none
+-- what is found is what the value at the least such key reads as, and where no key reads so it is
+-- nothing
+abbrev pub IsFoundAtLeastKey : Texts → List ℕ → Parts → Option (List ℕ) → Type 0
+IsFoundAtLeastKey m name version found =
+    ((value : List ℕ) → IsAtLeastKey m name version value → found ≡ digest_in value)
+    × (HasNoKey m name version → found ≡ None)
+
+-- the checksum is found so
 abbrev pub ChecksumAtLeastKey : Type 0
 ChecksumAtLeastKey = (m : Texts) (name : List ℕ) (version : Parts)
-    → ((value : List ℕ) → IsAtLeastKey m name version value → checksum_in m name version ≡ digest_in value)
-    × (HasNoKey m name version → checksum_in m name version ≡ None)
+    → IsFoundAtLeastKey m name version (checksum_in m name version)

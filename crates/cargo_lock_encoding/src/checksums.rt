@@ -5,6 +5,7 @@ ghost use Rattle.std.specs.FinMap.{entries};
 ghost use Rattle.std.specs.List.{list_any};
 ghost use Rattle.semver.specs.Identifiers.{parts_of};
 ghost use Rattle.cargo_lock_parts.specs.Checksum.{digest_in, digest_of};
+ghost use Rattle.cargo_lock_encoding.specs.LeastKey.{IsFoundAtLeastKey};
 ghost use Rattle.cargo_lock_encoding.specs.Metadata.{checksum_among, checksum_in, has_checksum_key, is_checksum, reads_as};
 ghost use Rattle.cargo_lock_encoding.specs.Records.{texts_of};
 
@@ -23,8 +24,10 @@ pub fn find_checksum(
     name: &Name,
     version: &Version,
 ) -> std::result::Result<Option<Checksum>, AllocError>
-    ensures { IfOk result (λ found. option_map digest_of found
+    ensures found { IfOk result (λ found. option_map digest_of found
         ≡ checksum_in (texts_of metadata.now.entries) name.now (parts_of version.now)) }
+    ensures least { IfOk result (λ found. IsFoundAtLeastKey (texts_of metadata.now.entries) name.now
+        (parts_of version.now) (option_map digest_of found)) }
 {
     ordered(metadata);
     find_among(alloc, metadata, name, version)

@@ -156,7 +156,7 @@ impl fmt::Display for EncodableDependency {
 
 impl EncodableDependency {
     ghost use Rattle.cargo_lock_encoding.specs.Says.{Says};
-    ghost use Rattle.cargo_lock_encoding.specs.Chosen.{shortened};
+    ghost use Rattle.cargo_lock_encoding.specs.Chosen.{ShortensTo, shortened};
     ghost use Rattle.cargo_lock_encoding.specs.Finds.{Finds};
 
     /// The package that the reference stands for among these: without a source, the first one that
@@ -173,8 +173,15 @@ impl EncodableDependency {
     /// The reference without the words that these packages make needless, as it is written from V2
     /// on: its name alone, where exactly one of them has it, otherwise name and version, where
     /// exactly one has both. It takes no memory.
-    #[tactic(auto, unfolding(crate::specs::Chosen::shortened))]
     pub fn v2(self, list: &[Package]) -> EncodableDependency
+        ensures { ShortensTo (map identity_of list.now) self result }
+    {
+        self.by_counts(list)
+    }
+
+    // The same, by how many packages have the name, and name and version.
+    #[tactic(auto, unfolding(crate::specs::Chosen::shortened))]
+    fn by_counts(self, list: &[Package]) -> EncodableDependency
         ensures { result ≡ shortened (map identity_of list.now) self }
     {
         if self.name_is_unique(list) {

@@ -85,8 +85,8 @@ impl<T: Drop> From<AllocFailed<T>> for Error {
 // The words of the refusal of a URL that comes to 4 GB.
 pub(crate) const TOO_LONG: &str = "invalid url: more than 4 GB";
 
-// A text of fewer bytes has no URL that comes to 4 GB.
-pub(crate) const SHORT_LENGTH: usize = 16777216;
+/// A text of fewer bytes has no URL that comes to 4 GB.
+pub const SHORT_LENGTH: usize = 16777216;
 
 impl Error {
     ghost use Rattle.std.specs.Prelude.{◌↔◌, IsTrue};

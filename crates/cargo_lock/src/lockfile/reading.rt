@@ -1,19 +1,22 @@
 //! Reading a lockfile.
 
-ghost use Rattle.std.specs.Prelude.{◌≡◌, ◌≢◌, IfErr, IfOk};
+ghost use Rattle.std.specs.Prelude.{◌≡◌, ◌≢◌, ◌⊎◌, false, IfErr, IfOk};
 ghost use Rattle.std.specs.declared.io.ErrorKind.TheVariants.{OutOfMemory};
 ghost use Rattle.toml.specs.Errors.{IsMemory};
 ghost use Rattle.toml.specs.View.{table_view};
 ghost use Rattle.cargo_lock_parts.specs.declared.error.Error.TheVariants.{Io, Memory};
-ghost use Rattle.cargo_lock_parts.specs.Error.{ReadsUrls, Refuses};
-ghost use Rattle.cargo_lock_encoding.specs.Finds.{FindsUrls};
+ghost use Rattle.cargo_lock_parts.specs.Error.{IsShort, IsTooLong, ReadsUrls, Refuses};
+ghost use Rattle.cargo_lock_encoding.specs.Finds.{Finds, FindsUrls};
 ghost use Rattle.cargo_lock_encoding.specs.Means.{Means, TextMeans};
 ghost use Rattle.cargo_lock_encoding.specs.Meaning.{meaning};
 ghost use Rattle.cargo_lock.specs.Loads.{IsMeant, IsOfFile};
+ghost use Rattle.cargo_lock.specs.LongTexts.{HasShortTexts};
 
 use crate::error::{Error, Result};
 use crate::lockfile::Lockfile;
 use crate::lockfile::encoding::EncodableLockfile;
+use crate::lockfile::long_texts::members_have_long_text;
+use cargo_lock_parts::error::SHORT_LENGTH;
 use std::alloc::Global;
 use std::fs;
 use std::io::ErrorKind;
@@ -37,23 +40,52 @@ impl Lockfile {
     }
 
     /// Reads the text of a lockfile in any format: a TOML document, whose table is read as
-    /// `from_table` reads it. `Parse` says what is refused.
+    /// `from_table` reads it. `Parse` says what is refused. A URL that comes to 4 GB is refused too,
+    /// which is never so where the text is shorter than 2^24 bytes.
     pub fn from_str(alloc: Global, text: &str) -> Result<Lockfile>
-        ensures { FindsUrls (TextMeans text.now) result }
+        ensures read { FindsUrls (TextMeans text.now) result }
+        ensures short { IsShort text.now → Finds (TextMeans text.now) result }
     {
-        match toml::table_from_str(alloc, text) {
-            Ok(table) => Lockfile::from_table(alloc, &table),
-            Err(fault) => Err(of_text(alloc, &fault)),
+        match read_text(alloc, text) {
+            Ok(lockfile) => Ok(lockfile),
+            Err(fault) => Err(of_texts(fault, text.len() >= SHORT_LENGTH)),
         }
     }
 
     /// Reads the table of a lockfile in any format. `Parse` says what is refused: the first value,
     /// in the order of the table's keys, that is missing, of another type or no text of its kind,
-    /// then the format, then the first reference that stands for nothing.
+    /// then the format, then the first reference that stands for nothing. A URL that comes to 4 GB is
+    /// refused too, which is never so where each text of the table is shorter than 2^24 bytes.
     pub fn from_table(alloc: Global, table: &Table) -> Result<Lockfile>
-        ensures { FindsUrls (Means (table_view table.now)) result }
+        ensures read { FindsUrls (Means (table_view table.now)) result }
+        ensures short { HasShortTexts (table_view table.now)
+            → Finds (Means (table_view table.now)) result }
     {
-        read(alloc, table)
+        match read(alloc, table) {
+            Ok(lockfile) => Ok(lockfile),
+            Err(fault) => Err(of_texts(fault, members_have_long_text(table))),
+        }
+    }
+}
+
+// Reads a text.
+fn read_text(alloc: Global, text: &str) -> Result<Lockfile>
+    ensures { FindsUrls (TextMeans text.now) result }
+{
+    match toml::table_from_str(alloc, text) {
+        Ok(table) => Lockfile::from_table(alloc, &table),
+        Err(fault) => Err(of_text(alloc, &fault)),
+    }
+}
+
+// The fault of reading texts. Where none of them is long, no URL in them comes to 4 GB.
+fn of_texts(fault: Error, has_long: bool) -> Error
+    ensures { (result ≡ Memory) ⊎ ((result ≡ fault) × (has_long ≡ false → ¬ IsTooLong fault)) }
+{
+    if !has_long && fault.is_too_long() {
+        Error::Memory
+    } else {
+        fault
     }
 }
 

@@ -1,8 +1,11 @@
-use Rattle.cargo_lock.proofs.MeansLemmas.{FindsUrls-refused, FindsUrls-text}
+use Rattle.std.proofs.Common.{arith, rules}
+use Rattle.std.proofs.lemmas.Bool.Decides.{nat_tests}
+use Rattle.cargo_lock.proofs.MeansLemmas.{FindsUrls-kept, Finds-kept}
 use Rattle.cargo_lock.proofs.lockfile.Lockfile.from_str.Goals as goal
 
-pub returns-in-Ok : goal.returns-in-Ok
-returns-in-Ok c = FindsUrls-text c.args.text.now _ c.from_table.result c.in-Ok.ensures.ok c.from_table.ensures
+pub returns-in-Err-clause-read : goal.returns-in-Err-clause-read
+returns-in-Err-clause-read c = FindsUrls-kept _ c.in-Err.fault _ _ c.in-Err.ensures c.of_texts.ensures
 
-pub returns-in-Err : goal.returns-in-Err
-returns-in-Err c = FindsUrls-refused c.args.text.now c.of_text.result _ c.of_text.ensures c.in-Err.ensures.refused
+pub returns-in-Err-clause-short : goal.returns-in-Err-clause-short
+returns-in-Err-clause-short c =
+    λ short. Finds-kept _ c.in-Err.fault _ _ c.in-Err.ensures c.of_texts.ensures (grind (arith, nat_tests))
