@@ -11,6 +11,7 @@ pub mod DrawingWords
 pub mod EdgeChains
 pub mod EdgeMatch
 pub mod EdgesOnce
+pub mod GraphEnds
 pub mod MadeChains
 pub mod PrefixLemmas
 pub mod ReadLineLemmas

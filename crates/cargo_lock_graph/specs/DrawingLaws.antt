@@ -3,7 +3,6 @@ use Rattle.std.specs.Prelude.{◌≡◌, ℕ, suc, ◌<◌, ◌↔◌, List, [],
 use Rattle.std.specs.List.{filter}
 use Rattle.cargo_lock_graph.specs.declared.graph.EdgeDirection.{EdgeDirection}
 use Rattle.cargo_lock_graph.specs.declared.drawing.entry.Entry.{Entry}
-use Rattle.cargo_lock_graph.specs.Chains.{AreBetween}
 use Rattle.cargo_lock_graph.specs.Edges.{GraphData, far_ends, near_end, Edge}
 use Rattle.cargo_lock_graph.specs.Drawing.{IsDrawing, IsFirst, Occurs, AreBelow, children, is_among, nodes_of}
 use Rattle.cargo_lock_graph.specs.DrawingSteps.{DrawsFrom}
@@ -25,9 +24,9 @@ DrawingExists = (far : ℕ → List ℕ) (nodes start : ℕ) → AreBelow far no
 abbrev pub DrawingIsUnique : Type 0
 DrawingIsUnique = (far : ℕ → List ℕ) (start : ℕ) (es fs : List Entry) → IsDrawing far start es → IsDrawing far start fs → es ≡ fs
 
--- From each node of a graph there is exactly one drawing in each direction.
+-- From each start there is exactly one drawing of a graph in each direction.
 abbrev pub GraphHasOneDrawing : Type 0
-GraphHasOneDrawing = (d : EdgeDirection) (graph : GraphData) (start : ℕ) → AreBetween (length graph.packages) graph.edges → start < length graph.packages
+GraphHasOneDrawing = (d : EdgeDirection) (graph : GraphData) (start : ℕ)
     → (es : List Entry) × IsDrawing (far_ends d graph.edges) start es × ((fs : List Entry) → IsDrawing (far_ends d graph.edges) start fs → fs ≡ es)
 
 -- There are one plus as many entries as edges that leave a node that occurs.

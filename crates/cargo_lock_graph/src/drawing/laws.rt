@@ -17,7 +17,7 @@ pub fn drawing_is_unique()
     ensures { DrawingIsUnique }
 {}
 
-/// From each node of a graph there is exactly one drawing in each direction, with cycles, edges from
+/// From each start there is exactly one drawing of a graph in each direction, with cycles, edges from
 /// a node to itself and several edges between two nodes too.
 pub fn graph_has_one_drawing()
     ensures { GraphHasOneDrawing }
