@@ -2,6 +2,7 @@ pub mod BestCandidates
 pub mod DrawingCount
 pub mod DrawingFirst
 pub mod DrawingLines
+pub mod DrawingOfText
 pub mod DrawingMade
 pub mod DrawingOfGraph
 pub mod DrawingPlaces
