@@ -8,6 +8,9 @@ use Rattle.cargo_lock_graph.specs.DrawingSteps.{AreSteps, DrawsFrom}
 use Rattle.cargo_lock_graph.specs.DrawingText.{level_text, branch_text, standard_symbols}
 use Rattle.cargo_lock_graph.specs.DrawingByLater.{levels_text, goes_on, prefix_by_later, line_by_later, drawn_by_later}
 use Rattle.cargo_lock_graph.specs.DrawingLines.{cut, AreLines, Tell, TellAll}
+use Rattle.cargo_lock_graph.specs.DrawingLaws.{TextTellsDrawing}
+use Rattle.cargo_lock_graph.proofs.DrawingWords.{from_words}
+use Rattle.cargo_lock_graph.proofs.PrefixLemmas.{drawn_same}
 use Rattle.cargo_lock_graph.proofs.ReadLineLemmas.{line_read}
 
 eqb_turn : (a b : ℕ) → eqb a b ≡ eqb b a
@@ -24,7 +27,7 @@ cut_one acc (y ∷ x) rest h =
     let other : eqb y 10 ≡ false = eqb_turn y 10 ∙ p.0 in
     rw other (cut_one (acc ++ y ∷ []) x rest p.1 ∙ ap (λ (l : List ℕ). l ∷ cut [] rest) (append_assoc acc (y ∷ []) x))
 
-among-append : (n : ℕ) (x y : List ℕ) → is_among n x ≡ false → is_among n y ≡ false → is_among n (x ++ y) ≡ false
+pub among-append : (n : ℕ) (x y : List ℕ) → is_among n x ≡ false → is_among n y ≡ false → is_among n (x ++ y) ≡ false
 among-append n [] y h k = k
 among-append n (z ∷ x) y h k = let p = or_parts (eqb n z) (is_among n x) h in or_from (eqb n z) (is_among n (x ++ y)) p.0 (among-append n x y p.1 k)
 
@@ -62,3 +65,9 @@ tell_all far start label [] d h = absurd d
 tell_all far start label (e ∷ es) d h =
     subst (TellAll label (e ∷ es)) (sym (cut_line label e es (drawn_by_later standard_symbols label es) h.0))
     (ap (λ (k : ℕ). prefix_by_later standard_symbols k es ++ label e.node) d.1, tell_later label 0 es d.2 h.1)
+
+-- the text of a drawing tells it
+pub told_of : TextTellsDrawing
+told_of far start label es d plain =
+    let steps = from_words far start es d in
+    subst (λ (t : List ℕ). TellAll label es (cut [] t)) (sym (drawn_same far start es standard_symbols label steps)) (tell_all far start label es steps plain)

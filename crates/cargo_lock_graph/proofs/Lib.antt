@@ -2,6 +2,7 @@ pub mod BestCandidates
 pub mod DrawingCount
 pub mod DrawingFirst
 pub mod DrawingLines
+pub mod DrawingOfText
 pub mod DrawingMade
 pub mod DrawingOfGraph
 pub mod DrawingPlaces
@@ -11,6 +12,7 @@ pub mod DrawingWords
 pub mod EdgeChains
 pub mod EdgeMatch
 pub mod EdgesOnce
+pub mod GraphEnds
 pub mod MadeChains
 pub mod PrefixLemmas
 pub mod ReadLineLemmas

@@ -144,8 +144,13 @@ far_below : (d : EdgeDirection) (e : Edge) (n : ℕ) → (e.from < n) × (e.to <
 far_below Outgoing e n h = h.1
 far_below Incoming e n h = h.0
 
+-- both ends of each edge at a node are nodes
+pub between-at : (d : EdgeDirection) (edges : List Edge) (nodes k : ℕ) → AreBetween nodes edges → AreBetween nodes (edges_at d edges k)
+between-at d edges nodes k h =
+    let kept : AreBetween nodes (filter (is_at d k) edges) = All-filter (is_at d k) (λ (e : Edge). (e.from < nodes) × (e.to < nodes)) edges h in
+    all_reverse (λ (e : Edge). (e.from < nodes) × (e.to < nodes)) (filter (is_at d k) edges) kept
+
 pub below_far : (d : EdgeDirection) (edges : List Edge) (nodes : ℕ) → AreBetween nodes edges → AreBelow (far_ends d edges) nodes
 below_far d edges nodes h k =
-    let kept : AreBetween nodes (filter (is_at d k) edges) = All-filter (is_at d k) (λ (e : Edge). (e.from < nodes) × (e.to < nodes)) edges h in
-    let turned : AreBetween nodes (edges_at d edges k) = all_reverse (λ (e : Edge). (e.from < nodes) × (e.to < nodes)) (filter (is_at d k) edges) kept in
+    let turned = between-at d edges nodes k h in
     All-map (λ j. j < nodes) (far_end d) (edges_at d edges k) (λ i x lt. far_below d (get_or (edges_at d edges k) i x) nodes (turned i x lt))

@@ -1,9 +1,9 @@
 -- Laws of drawings, over every graph.
-use Rattle.std.specs.Prelude.{◌≡◌, ℕ, suc, ◌<◌, ◌↔◌, List, [], length}
+use Rattle.std.specs.Prelude.{◌≡◌, ℕ, suc, ◌<◌, ◌↔◌, Bool, All, List, [], Some, length, slice_get}
 use Rattle.std.specs.List.{filter}
+use Rattle.cargo_lock_parts.specs.Identity.{PackageData}
 use Rattle.cargo_lock_graph.specs.declared.graph.EdgeDirection.{EdgeDirection}
 use Rattle.cargo_lock_graph.specs.declared.drawing.entry.Entry.{Entry}
-use Rattle.cargo_lock_graph.specs.Chains.{AreBetween}
 use Rattle.cargo_lock_graph.specs.Edges.{GraphData, far_ends, near_end, Edge}
 use Rattle.cargo_lock_graph.specs.Drawing.{IsDrawing, IsFirst, Occurs, AreBelow, children, is_among, nodes_of}
 use Rattle.cargo_lock_graph.specs.DrawingSteps.{DrawsFrom}
@@ -11,7 +11,8 @@ use Rattle.cargo_lock_graph.specs.DrawingPlaces.{EdgesMatchEntries}
 use Rattle.cargo_lock_graph.specs.Paths.{IsReachable}
 use Rattle.cargo_lock_graph.specs.DrawingText.{SymbolTexts, standard_symbols, drawn}
 use Rattle.cargo_lock_graph.specs.DrawingByLater.{drawn_by_later}
-use Rattle.cargo_lock_graph.specs.DrawingLines.{cut, AreLines, TellAll}
+use Rattle.cargo_lock_graph.specs.DrawingLines.{AreApart, AreLines, HasNoNewline, TellAll, cut, ended_lines}
+use Rattle.cargo_lock_graph.specs.Labels.{label_at}
 
 -- the drawing in words is the drawing by recursion
 abbrev pub DrawingsAreOneForm : Type 0
@@ -25,9 +26,9 @@ DrawingExists = (far : ℕ → List ℕ) (nodes start : ℕ) → AreBelow far no
 abbrev pub DrawingIsUnique : Type 0
 DrawingIsUnique = (far : ℕ → List ℕ) (start : ℕ) (es fs : List Entry) → IsDrawing far start es → IsDrawing far start fs → es ≡ fs
 
--- From each node of a graph there is exactly one drawing in each direction.
+-- From each start there is exactly one drawing of a graph in each direction.
 abbrev pub GraphHasOneDrawing : Type 0
-GraphHasOneDrawing = (d : EdgeDirection) (graph : GraphData) (start : ℕ) → AreBetween (length graph.packages) graph.edges → start < length graph.packages
+GraphHasOneDrawing = (d : EdgeDirection) (graph : GraphData) (start : ℕ)
     → (es : List Entry) × IsDrawing (far_ends d graph.edges) start es × ((fs : List Entry) → IsDrawing (far_ends d graph.edges) start fs → fs ≡ es)
 
 -- There are one plus as many entries as edges that leave a node that occurs.
@@ -61,3 +62,21 @@ TextByLater = (far : ℕ → List ℕ) (start : ℕ) (es : List Entry) (s : Symb
 abbrev pub TextTellsDrawing : Type 0
 TextTellsDrawing = (far : ℕ → List ℕ) (start : ℕ) (label : ℕ → List ℕ) (es : List Entry) → IsDrawing far start es → AreLines label es
     → TellAll label es (cut [] (drawn standard_symbols label es))
+
+-- Where no label holds a newline and different nodes have different labels, drawings with one text
+-- are one.
+abbrev pub TextIsOfOneDrawing : Type 0
+TextIsOfOneDrawing = (far gar : ℕ → List ℕ) (start other : ℕ) (label : ℕ → List ℕ) (es fs : List Entry)
+    → IsDrawing far start es → IsDrawing gar other fs → AreLines label es → AreLines label fs → AreApart label es fs
+    → drawn standard_symbols label es ≡ drawn standard_symbols label fs → es ≡ fs
+
+-- The text is its lines, each ended by a newline, and nothing stands after the last.
+abbrev pub TextIsEndedLines : Type 0
+TextIsEndedLines = (s : SymbolTexts) (label : ℕ → List ℕ) (es : List Entry)
+    → drawn s label es ≡ ended_lines (cut [] (drawn s label es))
+
+-- Where the packages of the entries hold no newline in name, version and exact text, no label does.
+abbrev pub EntriesAreLines : Type 0
+EntriesAreLines = (exact : Bool) (packages : List PackageData) (es : List Entry)
+    → All (λ e. (p : PackageData) → slice_get packages e.node ≡ Some p → HasNoNewline p) es
+    → AreLines (label_at exact packages) es

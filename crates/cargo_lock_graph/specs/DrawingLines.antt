@@ -1,7 +1,10 @@
 -- What the lines of a drawing's text tell.
 use Rattle.std.specs.Prelude.{◌≡◌, ℕ, false, cond, eqb, List, [], ◌∷◌, ◌++◌, Some}
+use Rattle.semver.specs.Identifiers.{parts_text}
+use Rattle.cargo_lock_parts.specs.Identity.{PackageData}
 use Rattle.cargo_lock_graph.specs.declared.drawing.entry.Entry.{Entry}
-use Rattle.cargo_lock_graph.specs.Drawing.{is_among}
+use Rattle.cargo_lock_graph.specs.Drawing.{Occurs, is_among}
+use Rattle.cargo_lock_graph.specs.Labels.{exact_text}
 use Rattle.cargo_lock_graph.specs.ReadLine.{read_line}
 
 -- The lines of a text that newlines end, where this much of the first stands before. What stands
@@ -21,6 +24,21 @@ Tell label [] [] = Unit {0}
 Tell label (e ∷ es) (l ∷ ls) = (read_line l ≡ Some (e.depth, label e.node)) × Tell label es ls
 Tell label [] (l ∷ ls) = ⊥
 Tell label (e ∷ es) [] = ⊥
+
+-- the text of lines, each ended by a newline
+abbrev pub ended_lines : List (List ℕ) → List ℕ
+ended_lines [] = []
+ended_lines (l ∷ ls) = l ++ 10 ∷ ended_lines ls
+
+-- nodes of these entries that have one label are one
+abbrev pub AreApart : (ℕ → List ℕ) → List Entry → List Entry → Type 0
+AreApart label es fs = (m n : ℕ) → Occurs m es → Occurs n fs → label m ≡ label n → m ≡ n
+
+-- the package's name, version and exact text hold no newline
+pub record HasNoNewline (p : PackageData) : Type 0 where
+  pub name : is_among 10 p.name ≡ false
+  pub version : is_among 10 (parts_text p.version) ≡ false
+  pub exact : is_among 10 (exact_text p.checksum p.source) ≡ false
 
 -- the first line is the first entry's label, and each later one tells its entry
 abbrev pub TellAll : (ℕ → List ℕ) → List Entry → List (List ℕ) → Type 0

@@ -4,7 +4,7 @@
 //! as two chains, of those that leave it and of those that enter it, so that they are found without
 //! a look at the others.
 
-ghost use Rattle.std.specs.Prelude.{◌≡◌, ◌+◌, ◌^◌, ◌<◌, [], ◌∷◌, IfOk, IfSome, MatchOption, Some, None, length, option_map, unwrap_or, slice_get};
+ghost use Rattle.std.specs.Prelude.{◌≡◌, ◌+◌, ◌^◌, ◌<◌, ◌≤◌, [], ◌∷◌, All, IfOk, IfSome, MatchOption, Some, None, length, option_map, unwrap_or, slice_get};
 ghost use Rattle.std.specs.Iterator.{YieldsFirst, item_count};
 ghost use Rattle.std.specs.List.{range_with_len};
 ghost use Rattle.cargo_lock_graph.specs.Chains.{AreBetween, AreChains};
@@ -258,8 +258,11 @@ impl Graph {
 
     /// The edges that leave or enter a node, newest first. A number that is no node has none.
     pub fn edges_directed(&self, index: NodeIndex, direction: EdgeDirection) -> DirectedEdges<'_>
-        ensures { result ≡ edges_at direction self.now.edges index }
+        ensures edges { result ≡ edges_at direction self.now.edges index }
+        ensures within { AreBetween (length self.now.packages) result }
+        ensures beyond { length self.now.packages ≤ index → result ≡ [] }
     {
+        self.has_both_ends();
         DirectedEdges {
             graph: self,
             direction,
@@ -270,7 +273,8 @@ impl Graph {
     /// The nodes that no edge leaves or enters, in ascending order. An edge from a node to itself
     /// does both.
     pub fn externals(&self, direction: EdgeDirection) -> Externals<'_>
-        ensures { result ≡ externals direction self.now }
+        ensures nodes { result ≡ externals direction self.now }
+        ensures within { All (λ node. node < length self.now.packages) result }
     {
         Externals {
             graph: self,

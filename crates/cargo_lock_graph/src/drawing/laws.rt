@@ -1,6 +1,6 @@
 //! Laws of drawings, each the contract of a function without a body. They hold over every graph.
 
-ghost use Rattle.cargo_lock_graph.specs.DrawingLaws.{DrawingExists, DrawingIsUnique, DrawingsAreOneForm, EdgesMatch, EntriesAreCounted, FirstIsUnique, GraphHasOneDrawing, OccursWhereReachable, ReachableIsExpanded, TextByLater, TextTellsDrawing};
+ghost use Rattle.cargo_lock_graph.specs.DrawingLaws.{DrawingExists, DrawingIsUnique, DrawingsAreOneForm, EdgesMatch, EntriesAreCounted, FirstIsUnique, EntriesAreLines, GraphHasOneDrawing, OccursWhereReachable, ReachableIsExpanded, TextByLater, TextIsEndedLines, TextIsOfOneDrawing, TextTellsDrawing};
 
 /// What a drawing is in words, place by place, is what it is by recursion on its entries.
 pub fn drawings_are_one_form()
@@ -17,7 +17,7 @@ pub fn drawing_is_unique()
     ensures { DrawingIsUnique }
 {}
 
-/// From each node of a graph there is exactly one drawing in each direction, with cycles, edges from
+/// From each start there is exactly one drawing of a graph in each direction, with cycles, edges from
 /// a node to itself and several edges between two nodes too.
 pub fn graph_has_one_drawing()
     ensures { GraphHasOneDrawing }
@@ -55,4 +55,20 @@ pub fn text_is_told_by_later_entries()
 /// first is the first entry's label, and each later one tells its entry's depth and label.
 pub fn text_tells_the_drawing()
     ensures { TextTellsDrawing }
+{}
+
+/// The text tells one drawing alone. Where no label holds a newline and different nodes have different
+/// labels, drawings with the same text are the same, so the text tells each reachable edge.
+pub fn text_is_of_one_drawing()
+    ensures { TextIsOfOneDrawing }
+{}
+
+/// The text of a drawing is its lines, each ended by a newline, with nothing after the last.
+pub fn text_is_ended_lines()
+    ensures { TextIsEndedLines }
+{}
+
+/// An entry is one line where its package's name, version and exact text hold no newline.
+pub fn entries_are_lines()
+    ensures { EntriesAreLines }
 {}
