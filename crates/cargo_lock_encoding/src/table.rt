@@ -14,7 +14,7 @@ use crate::checksums::ordered;
 use crate::metadata::{Metadata, MetadataKey, MetadataValue};
 use crate::index::Indexed;
 use crate::writing::{entry_of, root_entry};
-use crate::{EncodableDependencyRef, EncodablePackage, EncodablePackageRef, ResolveVersion};
+use crate::{EncodableDependencyRef, EncodablePackageRef, ResolveVersion};
 use cargo_lock_parts::dependency::Dependency;
 use cargo_lock_parts::error::Result;
 use cargo_lock_parts::package::source::SourceIdAsUrl;
@@ -60,23 +60,8 @@ pub fn version_number(version: Option<i64>) -> Option<Value>
 
 // ---- packages
 
-/// The list of the tables of these entries.
-pub fn packages_value(
-    alloc: Global,
-    list: &[EncodablePackage],
-) -> std::result::Result<Value, AllocError>
-    ensures { IfOk result (λ v. view v ≡ packages_value list.now) }
-{
-    let mut values = Vec::with_capacity(alloc, list.len())?;
-    for one in list {
-        let value = encoded_value(alloc, one)?;
-        values.push(value)?;
-    }
-    Ok(Value::from(values))
-}
-
 /// The list of the tables of the packages of a lockfile, as they are written in a format.
-pub fn written_packages_value(
+pub fn packages_value(
     alloc: Global,
     format: ResolveVersion,
     list: &[Package],
@@ -84,10 +69,10 @@ pub fn written_packages_value(
     ensures { IfOk result (λ v. view v ≡ packages_value (map (entry_of format (map identity_of list.now)) list.now)) }
 {
     let packages = Indexed::of(alloc, list)?;
-    each_written_value(alloc, format, &packages, list)
+    each_value(alloc, format, &packages, list)
 }
 
-fn each_written_value<'a>(
+fn each_value<'a>(
     alloc: Global,
     format: ResolveVersion,
     packages: &Indexed<'a, Package>,
@@ -97,13 +82,13 @@ fn each_written_value<'a>(
 {
     let mut values = Vec::with_capacity(alloc, list.len())?;
     for one in list {
-        let value = written_value(alloc, format, packages, one)?;
+        let value = package_value(alloc, format, packages, one)?;
         values.push(value)?;
     }
     Ok(Value::from(values))
 }
 
-fn written_value<'a>(
+fn package_value<'a>(
     alloc: Global,
     format: ResolveVersion,
     packages: &Indexed<'a, Package>,
@@ -115,21 +100,8 @@ fn written_value<'a>(
     entry_value(alloc, &entry)
 }
 
-/// The table of the root, where there is one.
-pub fn root_value(
-    alloc: Global,
-    root: &Option<EncodablePackage>,
-) -> std::result::Result<Option<Value>, AllocError>
-    ensures { IfOk result (λ v. option_map view v ≡ option_map entry_value root.now) }
-{
-    match root {
-        Some(one) => Ok(Some(encoded_value(alloc, one)?)),
-        None => Ok(None),
-    }
-}
-
 /// The table of the root of a lockfile, as it is written in a format, where there is one.
-pub fn written_root_value(
+pub fn root_value(
     alloc: Global,
     format: ResolveVersion,
     root: &Option<Package>,
@@ -143,13 +115,6 @@ pub fn written_root_value(
         }
         None => Ok(None),
     }
-}
-
-fn encoded_value(alloc: Global, one: &EncodablePackage) -> std::result::Result<Value, AllocError>
-    ensures { IfOk result (λ v. view v ≡ entry_value one.now) }
-{
-    let entry = one.by_ref(alloc)?;
-    entry_value(alloc, &entry)
 }
 
 fn entry_value(

@@ -1,24 +1,19 @@
 //! From a lockfile to the values of its table, and from these to the table and to the text.
 
 ghost use Rattle.std.specs.Prelude.{◌≡◌, ◌++◌, IfOk, IsOkUnless, OnOk, string_bytes};
-ghost use Rattle.toml.specs.View.{table_view};
 ghost use Rattle.cargo_lock_parts.specs.declared.error.Error.TheVariants.{Memory};
-ghost use Rattle.cargo_lock_encoding.specs.Table.{encoded_of, encoded_table};
+ghost use Rattle.cargo_lock_encoding.specs.Table.{encoded_of};
 ghost use Rattle.cargo_lock_encoding.specs.Text.{encoded_lines, joined};
 
 use crate::error::Result;
 use crate::lockfile::Lockfile;
 use crate::lockfile::encoding::EncodableLockfile;
-use cargo_lock_encoding::table::{
-    lockfile_members, metadata_value, packages_value, patch_value, root_value, version_number,
-};
 use cargo_lock_encoding::text::{
     Put, put_comments, put_format, put_metadata, put_packages, put_patches,
 };
 use cargo_lock_encoding::writing::{all_entries, root_of, written_version};
 use cargo_lock_encoding::written::metadata_of;
 use std::alloc::Global;
-use toml::Table;
 
 impl EncodableLockfile {
     /// The values of a lockfile's table, in the lockfile's format. Its packages' references are
@@ -38,21 +33,6 @@ impl EncodableLockfile {
             metadata: metadata_of(alloc, format, &lockfile.metadata, list)?,
             patch: lockfile.patch.clone()?,
         })
-    }
-
-    // The table of these values.
-    #[tactic(auto, unfolding(cargo_lock_encoding::specs::Table::encoded_table))]
-    pub(crate) fn to_table(&self, alloc: Global) -> Result<Table>
-        ensures ok { IfOk result (λ t. table_view t ≡ encoded_table self.now) }
-        ensures err { IsOkUnless result Memory }
-    {
-        let metadata = metadata_value(alloc, &self.metadata)?;
-        let packages = packages_value(alloc, self.package.as_slice())?;
-        let patch = patch_value(alloc, false, &self.patch)?;
-        let root = root_value(alloc, &self.root)?;
-        let version = version_number(self.version);
-        let table = lockfile_members(alloc, metadata, packages, patch, root, version)?;
-        Ok(table)
     }
 
     /// The text of the lockfile, as Cargo writes it: its packages, the patches that no package uses

@@ -2,7 +2,7 @@ use Rattle.std.proofs.Common.{◌≡◌, take, map}
 use Rattle.toml.specs.View.{view}
 use Rattle.cargo_lock_parts.specs.Identity.{identity_of}
 use Rattle.cargo_lock_encoding.specs.Table.{entry_of, entry_value}
-use Rattle.cargo_lock_encoding.proofs.table.each_written_value.Given as goal
+use Rattle.cargo_lock_encoding.proofs.table.each_value.Given as goal
 
 abbrev pub invariant-loop-one : goal.invariant-loop-one
 invariant-loop-one l =
