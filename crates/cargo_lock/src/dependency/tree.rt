@@ -24,8 +24,8 @@ use std::alloc::{AllocError, Global};
 use std::io::Write;
 use std::marker::Model;
 
-/// The tree of a lockfile: its packages as the nodes of a graph, and their dependencies as edges. The
-/// edges of each tree are those of its packages, and its nodes are those of their identities.
+/// The tree of a lockfile: its packages as the nodes of a graph, and their dependencies as edges.
+/// The edges of each tree are those of its packages, and its nodes are those of their identities.
 #[derive(Debug, Drop)]
 pub struct Tree {
     graph: Graph,
@@ -92,7 +92,8 @@ impl Tree {
 
     /// The nodes of the packages by their identities. Of packages with one identity it is the last.
     pub fn nodes(&self) -> &Nodes
-        ensures { (i : Identity) → IsLastWith self.now.graph.packages i (get identity_cmp result.now i) }
+        ensures { (i : Identity)
+            → IsLastWith self.now.graph.packages i (get identity_cmp result.now i) }
     {
         &self.nodes
     }
@@ -100,7 +101,8 @@ impl Tree {
     /// The nodes that no edge enters, in ascending order: the packages on which none depends.
     pub fn roots(&self, alloc: Global) -> Result<Vec<NodeIndex>>
         ensures ok { IfOk result (λ roots. roots.items ≡ externals Incoming self.now.graph) }
-        ensures within { IfOk result (λ roots. All (λ node. node < length self.now.graph.packages) roots.items) }
+        ensures within { IfOk result (λ roots.
+            All (λ node. node < length self.now.graph.packages) roots.items) }
         ensures err { IsOkUnless result Memory }
     {
         let roots = self
