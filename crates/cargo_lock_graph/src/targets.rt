@@ -38,7 +38,8 @@ impl<'a> Model for Candidates<'a> {
     ghost view = { λ c. c.packages.now };
 
     ghost invariant = { λ c. AreLastPlaces c.packages.now (length c.packages.now) c.last
-        × AreVersions c.packages.now (length c.packages.now) c.versions.last c.versions.earlier.items };
+        × AreVersions c.packages.now (length c.packages.now)
+        c.versions.last c.versions.earlier.items };
 }
 
 // The places of the packages of each name and version: the last one, and from each place the one
@@ -99,7 +100,8 @@ impl<'a> Candidates<'a> {
     // The node of the package at a place: that of the last package with its identity.
     pub(crate) fn node_of(&self, place: usize) -> NodeIndex
         requires { place < length self.now }
-        ensures { IfSome (slice_get self.now place) (λ p. IsLastWith self.now (identity_of p) (Some result)) }
+        ensures { IfSome (slice_get self.now place)
+            (λ p. IsLastWith self.now (identity_of p) (Some result)) }
     {
         let packages = self.packages;
         let one = &packages[place];
@@ -110,7 +112,8 @@ impl<'a> Candidates<'a> {
 impl<'a> Versions<'a> {
     // The places of these packages.
     fn of(alloc: Global, packages: &'a [Package]) -> Result<Versions<'a>, AllocError>
-        ensures { IfOk result (λ versions. AreVersions packages.now (length packages.now) versions.last versions.earlier.items) }
+        ensures { IfOk result (λ versions.
+            AreVersions packages.now (length packages.now) versions.last versions.earlier.items) }
     {
         let mut last = BTreeMap::new(alloc);
         let mut earlier = Vec::with_capacity(alloc, packages.len())?;
@@ -125,7 +128,8 @@ impl<'a> Versions<'a> {
 
     // The place of the package that a dependency stands for: the last of those that match best.
     fn find(&self, packages: &'a [Package], dependency: &'a Dependency) -> Option<usize>
-        requires { AreVersions packages.now (length packages.now) self.now.last self.now.earlier.items }
+        requires { AreVersions packages.now (length packages.now)
+            self.now.last self.now.earlier.items }
         ensures { MatchOption result
             (IsLost packages.now dependency.now)
             (λ place. IsTarget packages.now dependency.now place) }
@@ -143,7 +147,8 @@ impl<'a> Versions<'a> {
 
     // The last place of the packages with the name and the version of a dependency.
     fn last(&self, dependency: &'a Dependency) -> Option<usize>
-        ensures { result ≡ get partial_identity_cmp self.now.last (name_and_version dependency.now.name dependency.now.version) }
+        ensures { result ≡ get partial_identity_cmp self.now.last
+            (name_and_version dependency.now.name dependency.now.version) }
     {
         let key = PartialIdentity::name_and_version(&dependency.name, &dependency.version);
         self.last.get(&key).copied()
@@ -168,7 +173,8 @@ fn identity<'a>(
     version: &'a Version,
     source: &'a Option<SourceId>,
 ) -> PartialIdentity<'a>
-    ensures { result ≡ spec.identity_as_key (record { name = name.now; version = parts_of version.now; source = source.now }) }
+    ensures { result ≡ spec.identity_as_key
+        (record { name = name.now; version = parts_of version.now; source = source.now }) }
 {
     PartialIdentity {
         name,
@@ -184,7 +190,8 @@ fn put<'a>(
     place: usize,
 ) -> Result<(), AllocError>
     ensures { OnOk result ((q : PartialIdentity) → get partial_identity_cmp places.new q
-        ≡ cond (is_at (partial_identity_cmp key.entry) q) (Some place) (get partial_identity_cmp places.old q)) }
+        ≡ cond (is_at (partial_identity_cmp key.entry) q) (Some place)
+        (get partial_identity_cmp places.old q)) }
 {
     places.insert(key, place)?;
     Ok(())

@@ -1,6 +1,6 @@
 //! Trees of packages: what each package depends on.
 
-ghost use Rattle.std.specs.Prelude.{◌≡◌, ◌-◌, ◌^◌, ◌<◌, IfErr, IfOk, IsOkUnless, List, length};
+ghost use Rattle.std.specs.Prelude.{◌≡◌, ◌-◌, ◌^◌, ◌<◌, All, IfErr, IfOk, IsOkUnless, List, length};
 ghost use Rattle.std.specs.BTreeMap.{get};
 ghost use Rattle.cargo_lock_parts.specs.declared.error.Error.TheVariants.{Memory};
 ghost use Rattle.cargo_lock_parts.specs.Identity.{Identity};
@@ -22,18 +22,35 @@ pub use cargo_lock_graph::drawing::{Sink, Symbols, WriterSink, laws};
 use cargo_lock_graph::graph::{EdgeDirection, Graph, NodeIndex, Nodes};
 use std::alloc::{AllocError, Global};
 use std::io::Write;
+use std::marker::Model;
 
 /// The tree of a lockfile: its packages as the nodes of a graph, and their dependencies as edges.
+/// The edges of each tree are those of its packages, and its nodes are those of their identities.
 #[derive(Debug, Drop)]
 pub struct Tree {
     graph: Graph,
     nodes: Nodes,
 }
 
+impl Model for Tree {
+    ghost use Rattle.std.specs.BTreeMap.{get};
+    ghost use Rattle.cargo_lock_parts.specs.Identity.{Identity};
+    ghost use Rattle.cargo_lock_parts.specs.IdentityOrder.{identity_cmp};
+    ghost use Rattle.cargo_lock_graph.specs.Targets.{AreEdgesOf, IsLastWith};
+    ghost use Rattle.cargo_lock.specs.Trees.{TreeData};
+
+    ghost Value = { TreeData };
+
+    ghost view = { λ tree. record { graph = tree.graph } };
+
+    ghost invariant = { λ tree. AreEdgesOf tree.graph.packages tree.graph.edges
+        × ((i : Identity) → IsLastWith tree.graph.packages i (get identity_cmp tree.nodes i)) };
+}
+
 impl Clone for Tree {
     ghost use Rattle.std.specs.Prelude.{◌≡◌};
 
-    ghost is_clone = { λ one copy. (copy.graph ≡ one.graph) × (copy.nodes.entries ≡ one.nodes.entries) };
+    ghost is_clone = { λ one copy. copy ≡ one };
 
     fn clone(&self) -> std::result::Result<Tree, AllocError> {
         Ok(Tree {
@@ -59,7 +76,6 @@ impl Tree {
     pub fn new(alloc: Global, lockfile: &Lockfile) -> Result<Tree>
         ensures packages { IfOk result (λ tree. tree.graph.packages ≡ lockfile.now.packages) }
         ensures edges { IfOk result (λ tree. AreEdgesOf lockfile.now.packages tree.graph.edges) }
-        ensures nodes { IfOk result (λ tree. (i : Identity) → IsLastWith lockfile.now.packages i (get identity_cmp tree.nodes i)) }
         ensures err { IfErr result (λ e. IsUnresolved lockfile.now.packages (links lockfile.now.packages) e) }
     {
         let (graph, nodes) = graph_of(alloc, &lockfile.packages)?;
@@ -68,14 +84,16 @@ impl Tree {
 
     /// The graph of the packages.
     pub fn graph(&self) -> &Graph
-        ensures { result.now ≡ self.now.graph }
+        ensures graph { result.now ≡ self.now.graph }
+        ensures edges { AreEdgesOf self.now.graph.packages self.now.graph.edges }
     {
         &self.graph
     }
 
     /// The nodes of the packages by their identities. Of packages with one identity it is the last.
     pub fn nodes(&self) -> &Nodes
-        ensures { result.now ≡ self.now.nodes }
+        ensures { (i : Identity)
+            → IsLastWith self.now.graph.packages i (get identity_cmp result.now i) }
     {
         &self.nodes
     }
@@ -83,6 +101,8 @@ impl Tree {
     /// The nodes that no edge enters, in ascending order: the packages on which none depends.
     pub fn roots(&self, alloc: Global) -> Result<Vec<NodeIndex>>
         ensures ok { IfOk result (λ roots. roots.items ≡ externals Incoming self.now.graph) }
+        ensures within { IfOk result (λ roots.
+            All (λ node. node < length self.now.graph.packages) roots.items) }
         ensures err { IsOkUnless result Memory }
     {
         let roots = self
@@ -155,7 +175,6 @@ impl Lockfile {
     pub fn dependency_tree(&self, alloc: Global) -> Result<Tree>
         ensures packages { IfOk result (λ tree. tree.graph.packages ≡ self.now.packages) }
         ensures edges { IfOk result (λ tree. AreEdgesOf self.now.packages tree.graph.edges) }
-        ensures nodes { IfOk result (λ tree. (i : Identity) → IsLastWith self.now.packages i (get identity_cmp tree.nodes i)) }
         ensures err { IfErr result (λ e. IsUnresolved self.now.packages (links self.now.packages) e) }
     {
         Tree::new(alloc, self)

@@ -28,8 +28,8 @@ pub trait Sink {
         ensures { result ≡ failures self.now };
 }
 
-// Writes some of the bytes from their front, one at least, and answers how many. An interrupted write
-// is a fault, and so is a write of no bytes. A fault is counted.
+// Writes some of the bytes from their front, one at least, and answers how many. An interrupted
+// write is a fault, and so is a write of no bytes. A fault is counted.
 pub(crate) fn write_some<W: Write>(
     writer: &mut W,
     faults: &mut u64,
@@ -37,7 +37,8 @@ pub(crate) fn write_some<W: Write>(
 ) -> Result<usize, ErrorKind>
     requires some { 0 < length bytes.now }
     requires countable { faults.old < 2 ^ 64 - 1 }
-    ensures { IsPut (W.contents writer.old) (W.contents writer.new) faults.old faults.new bytes.now result }
+    ensures { IsPut (W.contents writer.old) (W.contents writer.new)
+        faults.old faults.new bytes.now result }
 {
     match writer.write(bytes) {
         Ok(0) => {

@@ -42,7 +42,8 @@ impl Walk {
         requires { start < length graph.now.packages }
         ensures on { IfOk result (λ walk. IsOn graph.now walk) }
         ensures direction { IfOk result (λ walk. walk.direction ≡ direction) }
-        ensures first { IfOk result (λ walk. AreMarked walk.visited.items (start ∷ []) × (walk.most ≡ 1)) }
+        ensures first { IfOk result (λ walk.
+            AreMarked walk.visited.items (start ∷ []) × (walk.most ≡ 1)) }
         ensures all { IfOk result (λ walk. record { node = start; depth = 0 } ∷ to_come graph.now walk ≡ drawing (far_ends direction graph.now.edges) (length graph.now.packages) start) }
     {
         let count = graph.node_count();
@@ -65,7 +66,8 @@ impl Walk {
         ensures on { IsOn graph.now self.new }
         ensures direction { self.new.direction ≡ self.old.direction }
         ensures longer { vec_len self.old.stack ≤ vec_len self.new.stack }
-        ensures drawn { (depth : ℕ) → depth ≡ vec_len self.old.stack → HasDrawn self.old self.new (record { node = node; depth = depth }) }
+        ensures drawn { (depth : ℕ) → depth ≡ vec_len self.old.stack
+            → HasDrawn self.old self.new (record { node = node; depth = depth }) }
         ensures entry { (depth : ℕ) → depth ≡ vec_len self.old.stack
             → rest_of (far_ends self.old.direction graph.now.edges) self.old.visited.items (record { node = node; depth = depth } ∷ waiting self.old.direction graph.now.edges 0 self.old.stack.items)
             ≡ record { node = node; depth = depth } ∷ to_come graph.now self.new }
@@ -103,7 +105,9 @@ impl Walk {
         requires { IsOn graph.now self.old }
         ensures on { IsOn graph.now self.new }
         ensures direction { self.new.direction ≡ self.old.direction }
-        ensures drawn { MatchOption result (self.new.most ≡ self.old.most) (λ e. HasDrawn self.old self.new e) }
+        ensures drawn { MatchOption result
+            (self.new.most ≡ self.old.most)
+            (λ e. HasDrawn self.old self.new e) }
         ensures fits { IfSome result (λ e. (0 < e.depth) × (e.depth ≤ vec_len self.new.stack) × (e.node < length graph.now.packages)) }
         ensures entry { MatchOption result (to_come graph.now self.old ≡ []) (λ e. to_come graph.now self.old ≡ e ∷ to_come graph.now self.new) }
     {
