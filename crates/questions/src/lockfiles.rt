@@ -2,6 +2,7 @@
 
 use cargo_lock::{Dependency, Error, Lockfile, Metadata, Package, Patch, ResolveVersion};
 use std::alloc::Global;
+use toml::Table;
 
 /// The meaning of a lockfile, line by line: the format, each package with its dependencies and its
 /// replacement, the root, the metadata, the patches.
@@ -87,10 +88,58 @@ pub fn table_meaning(alloc: Global, text: &str) -> Result<String, Error> {
     described(alloc, &lockfile)
 }
 
+/// The text of a lockfile, where `toml` reads it as the table of the lockfile, so far as a text has
+/// what a table has. Another table is told as `Parse`. Tests print lockfiles by this alone.
+pub fn text_of(alloc: Global, lockfile: &Lockfile) -> Result<String, Error> {
+    let text = lockfile.to_string(alloc)?;
+    let table = printed_table(alloc, lockfile)?;
+    if is_read_as(alloc, text.as_str(), &table) {
+        Ok(text)
+    } else {
+        Err(other_table(alloc))
+    }
+}
+
+fn is_read_as(alloc: Global, text: &str, table: &Table) -> bool {
+    match toml::table_from_str(alloc, text) {
+        Ok(read) => read == *table,
+        Err(_) => false,
+    }
+}
+
+fn other_table(alloc: Global) -> Error {
+    match String::from_str(alloc, "the text is read as another table") {
+        Ok(text) => Error::Parse(text),
+        Err(_) => Error::Memory,
+    }
+}
+
+// The table of what a text has: without the root, without a list of no packages, and without the
+// replacement of a package that has dependencies.
+fn printed_table(alloc: Global, lockfile: &Lockfile) -> Result<Table, Error> {
+    let plain = without_hidden(lockfile)?;
+    let mut table = plain.to_table(alloc)?;
+    if plain.packages.is_empty() {
+        let _ = table.remove("package");
+    }
+    Ok(table)
+}
+
+fn without_hidden(lockfile: &Lockfile) -> Result<Lockfile, Error> {
+    let mut plain = lockfile.clone()?;
+    plain.root = None;
+    for one in &mut plain.packages {
+        if !one.dependencies.is_empty() {
+            one.replace = None;
+        }
+    }
+    Ok(plain)
+}
+
 /// What a text prints as.
 pub fn printed(alloc: Global, text: &str) -> Result<String, Error> {
     let lockfile = Lockfile::from_str(alloc, text)?;
-    lockfile.to_string(alloc)
+    text_of(alloc, &lockfile)
 }
 
 /// The lockfile of a text, with another format.
@@ -103,7 +152,7 @@ pub fn with_format(alloc: Global, text: &str, format: ResolveVersion) -> Result<
 /// What a text prints as in another format.
 pub fn printed_in(alloc: Global, text: &str, format: ResolveVersion) -> Result<String, Error> {
     let lockfile = with_format(alloc, text, format)?;
-    lockfile.to_string(alloc)
+    text_of(alloc, &lockfile)
 }
 
 /// What the table of a text in another format means.

@@ -1,7 +1,7 @@
 //! A lockfile with every feature at once.
 
 use cargo_lock::{Error, Lockfile, ResolveVersion};
-use questions::lockfiles::{meaning, meaning_in, printed, through_table};
+use questions::lockfiles::{meaning, meaning_in, printed, text_of, through_table};
 use questions::shown::holds;
 use std::alloc::Global;
 
@@ -153,7 +153,7 @@ fn written_again(alloc: Global, lockfile: &Lockfile) -> Result<Lockfile, Error> 
 // The text after a table.
 fn printed_after(alloc: Global, text: &str, format: ResolveVersion) -> Result<String, Error> {
     let once = through_table(alloc, text, format)?;
-    once.to_string(alloc)
+    text_of(alloc, &once)
 }
 
 // Written as a table once more, whether it stays the same.

@@ -1,6 +1,7 @@
 //! The formats of lockfiles.
 
-use cargo_lock::{Error, ResolveVersion};
+use cargo_lock::lockfile::encoding::EncodableLockfile;
+use cargo_lock::{Error, Lockfile, ResolveVersion};
 use questions::shown::or_fault;
 use std::alloc::Global;
 
@@ -72,4 +73,37 @@ fn format_numbers(rt: HostRuntime) {
     assert!(rt; ResolveVersion::V1 < ResolveVersion::V2);
     assert!(rt; ResolveVersion::V2 < ResolveVersion::V3);
     assert!(rt; ResolveVersion::V3 < ResolveVersion::V4);
+}
+
+// The format that the packages and the metadata of a text tell, whatever its number.
+fn detected(alloc: Global, text: &str) -> Result<String, Error> {
+    let lockfile = Lockfile::from_str(alloc, text)?;
+    detected_of(alloc, &lockfile)
+}
+
+fn detected_of(alloc: Global, lockfile: &Lockfile) -> Result<String, Error> {
+    let encoded = EncodableLockfile::of(alloc, lockfile)?;
+    let packages = encoded.package.as_slice();
+    let format = ResolveVersion::detect(alloc, packages, &encoded.metadata)?;
+    Ok(format!(in alloc; "{format:?}")?)
+}
+
+#[test]
+fn formats_detected(rt: HostRuntime) {
+    for (written, wanted) in [
+        ("version = 3", "V2"),
+        ("version = 3\n[metadata]\nchecksum = \"x\"", "V2"),
+        ("version = 3\n[metadata]\n\"checksum x\" = \"\"", "V1"),
+        (
+            "version = 3\n[[package]]\nname = \"foo\"\nversion = \"1.0.0\"\nchecksum = \"0000000000000000000000000000000000000000000000000000000000000001\"",
+            "V2",
+        ),
+        (
+            "version = 3\n[[package]]\nname = \"foo\"\nversion = \"1.0.0\"\nchecksum = \"0000000000000000000000000000000000000000000000000000000000000001\"\n[metadata]\n\"checksum x\" = \"\"",
+            "parse error: malformed lockfile: contains checksums in both [[package]] and [[metadata]] sections",
+        ),
+    ] {
+        let answer = or_fault(rt.alloc(), detected(rt.alloc(), written));
+        assert_eq!(rt; answer.as_str(), wanted, "{written}");
+    }
 }

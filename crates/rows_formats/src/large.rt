@@ -1,6 +1,7 @@
 //! A large lockfile.
 
 use cargo_lock::{Error, Lockfile, Package};
+use questions::lockfiles::text_of;
 use questions::shown::or_fault;
 use std::alloc::Global;
 
@@ -42,7 +43,7 @@ fn printed_as(alloc: Global, text: &str) -> Result<String, Error> {
     let lockfile = Lockfile::from_str(alloc, text)?;
     let packages = lockfile.packages.len();
     let dependencies = count_dependencies(lockfile.packages.as_slice());
-    let printed = lockfile.to_string(alloc)?;
+    let printed = text_of(alloc, &lockfile)?;
     let equal = printed.as_str() == text;
     Ok(format!(in alloc; "{packages} {dependencies} {equal}")?)
 }

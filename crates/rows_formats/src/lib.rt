@@ -9,7 +9,13 @@ mod every;
 #[cfg(test)]
 mod formats;
 #[cfg(test)]
+mod generated;
+#[cfg(test)]
 mod large;
+#[cfg(test)]
+mod references;
+#[cfg(test)]
+mod rings;
 #[cfg(test)]
 mod survival;
 #[cfg(test)]

@@ -1,7 +1,7 @@
 //! Lockfiles, translated through formats, and references in every order of the packages.
 
 use cargo_lock::{Dependency, Error, Lockfile, Package, ResolveVersion};
-use questions::lockfiles::described;
+use questions::lockfiles::{described, printed, text_of};
 use questions::shown::{PairQuestion, Question, first_wrong, first_wrong_pair};
 use questions::texts::TWO_LOGS;
 use std::alloc::Global;
@@ -142,7 +142,7 @@ fn ordered(alloc: Global, packages: &[Package], order: &str) -> Result<Vec<Packa
 fn printed_in_order(alloc: Global, order: &str) -> Result<String, Error> {
     let mut lockfile = Lockfile::from_str(alloc, TWO_LOGS)?;
     lockfile.packages = ordered(alloc, lockfile.packages.as_slice(), order)?;
-    lockfile.to_string(alloc)
+    text_of(alloc, &lockfile)
 }
 
 // What the references of packages say, one line each.
@@ -225,9 +225,9 @@ impl Question for Beside {
     fn ask(alloc: Global, text: &str) -> Result<String, Error> {
         let mut all = String::from_str(alloc, TWO_LOGS)?;
         all.push_str(text)?;
-        let printed = Lockfile::from_str(alloc, all.as_str())?.to_string(alloc)?;
-        let same = printed.as_str() == all.as_str();
-        let versioned = printed
+        let text = printed(alloc, all.as_str())?;
+        let same = text.as_str() == all.as_str();
+        let versioned = text
             .as_str()
             .contains(" \"log 0.3.9\",\n \"rand 0.8.5\",\n");
         Ok(format!(in alloc; "{same} {versioned}")?)

@@ -271,3 +271,14 @@ fn checksum_keys(rt: HostRuntime) {
         None
     );
 }
+
+#[test]
+fn texts_of_keys(rt: HostRuntime) {
+    let answer = or_fault(rt.alloc(), key_text(rt.alloc(), "a \"b"));
+    assert_eq!(rt; answer.as_str(), "a \"b|a \"b");
+    let answer = or_fault(
+        rt.alloc(),
+        dependency_of_key(rt.alloc(), "checksum foo bad"),
+    );
+    assert!(rt; answer.as_str().starts_with("version error: "), "{answer}");
+}

@@ -67,6 +67,25 @@ fn fault_texts(rt: HostRuntime) {
     assert_eq!(rt; file_fault(&rt, "/no/such/file"), Some(ErrorKind::NotFound));
 }
 
+// Whether a fault that holds this text is that of a URL of 4 GB.
+fn is_too_long(alloc: Global, text: &str) -> Option<bool> {
+    let text = String::from_str(alloc, text).ok()?;
+    Some(Error::Parse(text).is_too_long())
+}
+
+#[test]
+fn faults_of_long_urls(rt: HostRuntime) {
+    let long = "invalid url: more than 4 GB";
+    assert_eq!(rt; is_too_long(rt.alloc(), long), Some(true));
+    assert_eq!(rt; is_too_long(rt.alloc(), ""), Some(false));
+    assert_eq!(rt;
+        is_too_long(rt.alloc(), "invalid url: more than 4 GB "),
+        Some(false)
+    );
+    assert!(rt; !Error::Memory.is_too_long());
+    assert!(rt; !Error::Io(ErrorKind::NotFound).is_too_long());
+}
+
 fn name_text(alloc: Global, text: &str) -> Result<String, Error> {
     let name = Name::from_str(alloc, text)?;
     Ok(name.to_string(alloc)?)

@@ -23,10 +23,6 @@ fn directory(alloc: Global, path: &str) -> Result<String, Error> {
     made.to_text(alloc)
 }
 
-fn after(alloc: Global, word: &str, url: &str) -> Result<String, Error> {
-    Ok(format!(in alloc; "{word}+{url}")?)
-}
-
 // A path, a git source, a registry, a remote registry.
 fn asked_text(alloc: Global, source: &SourceId) -> Result<String, Error> {
     let path = source.is_path();
@@ -353,4 +349,40 @@ fn default_registry(rt: HostRuntime) {
         first_wrong::<RegistryName>(rt.alloc(), &REGISTRY_NAMES),
         None
     );
+}
+
+#[test]
+fn addresses_of_crates_io(rt: HostRuntime) {
+    assert_eq!(rt;
+        CRATES_IO_INDEX,
+        "https://github.com/rust-lang/crates.io-index"
+    );
+    assert_eq!(rt; CRATES_IO_SPARSE_INDEX, "sparse+https://index.crates.io/");
+}
+
+#[test]
+fn made_registries(rt: HostRuntime) {
+    let default =
+        "registry+https://github.com/rust-lang/crates.io-index true crates.io index crates.io false";
+    let answer = or_fault(rt.alloc(), made_registry(rt.alloc()));
+    assert_eq!(rt; answer.as_str(), default);
+    let answer = or_fault(rt.alloc(), registry_at(rt.alloc(), CRATES_IO_INDEX));
+    assert_eq!(rt; answer.as_str(), default);
+    let answer = or_fault(rt.alloc(), registry_at(rt.alloc(), "https://e.org/x"));
+    assert_eq!(rt;
+        answer.as_str(),
+        "registry+https://e.org/x false `https://e.org/x` index https://e.org/x false"
+    );
+}
+
+// The default registry of the sources has no precise text, and that of a lockfile has one.
+#[test]
+fn sources_beside_the_default(rt: HostRuntime) {
+    let answer = or_fault(rt.alloc(), equals_default(rt.alloc(), CRATES_IO));
+    assert_eq!(rt; answer.as_str(), "true 1");
+    let answer = or_fault(
+        rt.alloc(),
+        equals_default(rt.alloc(), CRATES_IO_SPARSE_INDEX),
+    );
+    assert_eq!(rt; answer.as_str(), "false 0");
 }
