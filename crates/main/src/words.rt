@@ -54,11 +54,13 @@ pub fn format<'a>(options: &ArgMatches<'a>) -> &'a str {
     options.get_str("version").unwrap_or(DEFAULT_FORMAT)
 }
 
-/// The parser of the words. Fails for want of memory.
+/// The parser of the words. Of an option that stands again the last value counts, and a flag that
+/// stands again is one flag. Fails for want of memory.
 pub fn command<'a>(alloc: Global) -> Result<Command<'a>, AllocError> {
     Command::new(alloc, "cargo-lock")
         .about("Looks into lockfiles")
         .subcommand_required(true)
+        .args_override_self(true)
         .subcommand(list(alloc)?)?
         .subcommand(translate(alloc)?)?
         .subcommand(tree(alloc)?)
@@ -120,12 +122,13 @@ fn file<'a>(alloc: Global) -> Arg<'a> {
         .help("The lockfile")
 }
 
-/// An option that takes a value, which help shows as `shown`.
+/// An option that takes a value, which help shows as `shown`. The value may begin with a hyphen.
 fn value<'a>(alloc: Global, name: &'a str, short: char, shown: &'a str) -> Arg<'a> {
     Arg::new(alloc, name)
         .short(short)
         .long(name)
         .value_name(shown)
+        .allow_hyphen_values(true)
         .action(ArgAction::Set)
 }
 
