@@ -36,6 +36,12 @@ fn files(rt: HostRuntime) -> io::Result<()> {
         answer.as_str().starts_with("I/O operation failed: "),
         "{answer}"
     );
+    fs::write(&rt, path, "version = 5")?;
+    let answer = or_fault(rt.alloc(), loaded(&rt, path));
+    assert_eq!(rt;
+        answer.as_str(),
+        "parse error: invalid Cargo.lock format version: `5`"
+    );
     fs::write(&rt, path, TWO_LOGS)?;
     let answer = or_fault(rt.alloc(), loaded(&rt, path));
     assert!(rt;

@@ -143,3 +143,31 @@ fn fronts(rt: HostRuntime) {
         assert_eq!(rt; count, whole.len());
     }
 }
+
+#[test]
+fn front_of_one_package(rt: HostRuntime) {
+    let answer = or_fault(
+        rt.alloc(),
+        meaning(rt.alloc(), first_package(REGISTRY_AND_GIT)),
+    );
+    assert_eq!(rt;
+        answer.as_str(),
+        "V3\ntower-buffer 0.3.0 (registry+https://github.com/rust-lang/crates.io-index) c4887dc2a65d464c8b9b66e0e4d51c2fd6cf5b3373afc72805b0a60bce00446a\n- tracing 0.1.35\n"
+    );
+}
+
+#[test]
+fn carriage_returns(rt: HostRuntime) {
+    let with = or_fault(rt.alloc(), returned(rt.alloc(), REGISTRY_AND_GIT));
+    assert!(rt; with.len() > REGISTRY_AND_GIT.len());
+    let answer = means_the_same(rt.alloc(), with.as_str(), REGISTRY_AND_GIT);
+    assert_eq!(rt; or_fault(rt.alloc(), answer).as_str(), "true");
+}
+
+#[test]
+fn short_and_full_references(rt: HostRuntime) {
+    let answer = means_the_same(rt.alloc(), TWO_LOGS_IN_FULL, TWO_LOGS);
+    assert_eq!(rt; or_fault(rt.alloc(), answer).as_str(), "true");
+    let answer = means_the_same(rt.alloc(), "version = 3", "version = 4");
+    assert_eq!(rt; or_fault(rt.alloc(), answer).as_str(), "false");
+}

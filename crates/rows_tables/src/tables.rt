@@ -2,7 +2,7 @@
 
 use cargo_lock::lockfile::encoding::EncodableLockfile;
 use cargo_lock::{Error, Lockfile, ResolveVersion};
-use questions::lockfiles::with_format;
+use questions::lockfiles::{text_of, with_format};
 use questions::shown::{holds, or_fault};
 use std::alloc::Global;
 use toml::Table;
@@ -91,7 +91,7 @@ fn is_printed(
     lockfile: &Lockfile,
     encodable: &EncodableLockfile,
 ) -> Result<bool, Error> {
-    let one = lockfile.to_string(alloc)?;
+    let one = text_of(alloc, lockfile)?;
     let other = encodable.to_string(alloc)?;
     Ok(one == other)
 }
