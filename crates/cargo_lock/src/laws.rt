@@ -16,7 +16,17 @@ pub use cargo_lock_encoding::laws::{
     checksums_stand_at_least_keys, references_are_shortened_by_places, shortened_references_stay,
     written_metadata_key_by_key,
 };
+pub use cargo_lock_graph::drawing::laws::{
+    drawing_exists, drawing_is_unique, drawings_are_one_form, edges_match_entries,
+    entries_are_counted, entries_are_lines, graph_has_one_drawing, node_occurs_where_reachable,
+    reachable_node_is_expanded, text_is_ended_lines, text_is_of_one_drawing,
+    text_is_told_by_later_entries, text_tells_the_drawing,
+};
 pub use cargo_lock_graph::laws::{edges_are_one, lost_dependencies_have_no_edges};
+pub use cargo_lock_parts::laws::{
+    checksums_read_back, no_rank_is_no_match, rank_is_symmetric, rank_one_is_equal_keys,
+    ranks_imply_last, rooted_paths_have_sources,
+};
 
 /// A table means at most one lockfile, in every field.
 pub fn table_means_one()

@@ -9,7 +9,7 @@ use Rattle.std.specs.Cmp.Lexicographic.{slice_cmp, nat_list_cmp_total}
 use Rattle.std.specs.FinMap.{empty, entries_sorted, find, is_sorted, from_sorted, entries-from_sorted, get-from_sorted, entries, get, get-empty, insert, remove, from_entries, get-entries, get-from_entries, get-insert, get-remove, same_map, IsAntisymmetric, nat_cmp-IsAntisymmetric, slice_cmp-IsAntisymmetric}
 use Rattle.cargo_lock_encoding.specs.Records.{Texts, texts_of}
 use Rattle.std.specs.Prelude.{T}
-use Rattle.std.proofs.Common.{◌&&◌, Less}
+use Rattle.std.proofs.Common.{◌&&◌, Less, arith, length}
 use Rattle.std.specs.declared.cmp.Ordering.TheVariants.{Equal, Greater}
 use Rattle.cargo_lock_encoding.specs.TableReading.{put_all}
 use Rattle.std.specs.Map.{keys_of}
@@ -110,3 +110,20 @@ or_none (Some v) = refl
 -- the pairs of a map, put into the empty map, are the map
 pub put_all-entries : (m : Texts) → put_all empty (entries m) ≡ m
 put_all-entries m = same_texts _ _ (λ q. put_all-get (entries m) empty q (entries_sorted m) ∙ ap (or_else _) (get-empty (slice_cmp nat_cmp) q) ∙ or_none _ ∙ sym (get-entries m q))
+
+-- ---- nothing is taken out of no pairs
+
+none-either : (b : Bool) → (let none : Option (List ℕ) = None in cond b none none ≡ none)
+none-either true = refl
+none-either false = refl
+
+no-pairs : (es : List (List ℕ × List ℕ)) → length es ≡ 0 → es ≡ []
+no-pairs [] h = refl
+no-pairs (e ∷ es) h = absurd (omega (arith, h))
+
+pub remove-none : (es : List (List ℕ × List ℕ)) (k : List ℕ) → length es ≡ 0 → from_entries {R = slice_cmp nat_cmp} es ≡ remove (from_entries es) k
+remove-none es k h = same_texts _ _ (λ q.
+    let none : get (from_entries {R = slice_cmp nat_cmp} es) q ≡ None =
+    ap (λ (ds : List (List ℕ × List ℕ)). get (from_entries {R = slice_cmp nat_cmp} ds) q) (no-pairs es h) ∙ get-empty (slice_cmp nat_cmp) q in
+    none ∙ sym (none-either (eq_by_cmp (slice_cmp nat_cmp) q k)) ∙ ap (cond (eq_by_cmp (slice_cmp nat_cmp) q k) None) (sym none)
+    ∙ sym (get-remove nat_list_cmp_total (from_entries es) k q))

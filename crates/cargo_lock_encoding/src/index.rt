@@ -82,16 +82,6 @@ impl Occurrence {
             Occurrence::Only(place) | Occurrence::First(place) => place,
         }
     }
-
-    // Where the items stand once there is one more, at a place after all others.
-    fn with_one_more(before: Option<Occurrence>, place: usize) -> Occurrence
-        ensures { result ≡ spec.with_one_more place before }
-    {
-        match before {
-            None => Occurrence::Only(place),
-            Some(before) => Occurrence::First(before.first_place()),
-        }
-    }
 }
 
 // Whether there is one item alone.
@@ -169,8 +159,10 @@ fn add_under<'a>(
             (Some (spec.with_one_more place (get partial_identity_cmp occurrences.old key.entry)))
             (get partial_identity_cmp occurrences.old q)) }
 {
-    let before = occurrences.get(&key).copied();
-    occurrences.insert(key, Occurrence::with_one_more(before, place))?;
+    occurrences
+        .entry(key)?
+        .and_modify(|found| *found = Occurrence::First(found.first_place()))
+        .or_insert(Occurrence::Only(place));
     Ok(())
 }
 

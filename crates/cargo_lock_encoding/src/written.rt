@@ -85,6 +85,9 @@ fn take_checksum(alloc: Global, metadata: &mut Metadata, one: &Package) -> Resul
     ensures ok { OnOk result (texts_of metadata.new.entries ≡ remove (texts_of metadata.old.entries) (checksum_key (identity_of one.now))) }
     ensures err { IsOkUnless result Memory }
 {
+    if metadata.is_empty() {
+        return Ok(());
+    }
     let key = key_of(alloc, one)?;
     unset(metadata, &key);
     Ok(())

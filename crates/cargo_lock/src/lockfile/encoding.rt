@@ -4,6 +4,7 @@
 ghost use Rattle.std.specs.Prelude.{◌≡◌, IfOk, IsOkUnless, option_map};
 ghost use Rattle.cargo_lock_parts.specs.declared.error.Error.TheVariants.{Memory};
 ghost use Rattle.cargo_lock_parts.specs.Checksum.{digest_of};
+ghost use Rattle.cargo_lock_encoding.specs.LeastKey.{IsFoundAtLeastKey};
 ghost use Rattle.cargo_lock_encoding.specs.Metadata.{checksum_in};
 
 mod meaning;
@@ -62,6 +63,8 @@ impl EncodableLockfile {
     pub fn find_checksum(&self, alloc: Global, one: &Package) -> Result<Option<Checksum>>
         ensures ok { IfOk result (λ found. option_map digest_of found
             ≡ checksum_in self.now.metadata one.now.name one.now.version) }
+        ensures least { IfOk result (λ found. IsFoundAtLeastKey self.now.metadata one.now.name
+            one.now.version (option_map digest_of found)) }
         ensures err { IsOkUnless result Memory }
     {
         let found = find_checksum(alloc, &self.metadata, &one.name, &one.version)?;
