@@ -234,6 +234,6 @@ pub fit-first : {X : Type 0} (identity : X → Identity) (f : Form) (name : List
 fit-first identity f name version xs found o named versioned is first =
     first
     ∙ ap (first_item xs) (is
-        ∙ ap (λ (n : List ℕ). occurrence (λ x. is_of n version (identity x)) xs) named
-        ∙ ap (λ (v : Option Parts). occurrence (λ x. is_of f.name v (identity x)) xs) versioned)
+    ∙ ap (λ (n : List ℕ). occurrence (λ x. is_of n version (identity x)) xs) named
+    ∙ ap (λ (v : Option Parts). occurrence (λ x. is_of f.name v (identity x)) xs) versioned)
     ∙ sym (find-first (λ x. fits f (identity x)) xs)

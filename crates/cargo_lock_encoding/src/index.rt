@@ -136,8 +136,8 @@ fn add_item<'a>(
 ) -> Result<(), AllocError>
     ensures { OnOk result ((n : List ℕ) (v : Option Parts) → occurrence_at occurrences.new n v
         ≡ (if same_text name.now n && has_version v (parts_of version.now)
-            then Some (spec.with_one_more place (occurrence_at occurrences.old n v))
-            else occurrence_at occurrences.old n v)) }
+        then Some (spec.with_one_more place (occurrence_at occurrences.old n v))
+        else occurrence_at occurrences.old n v)) }
 {
     add_under(occurrences, PartialIdentity::name_alone(name), place)?;
     add_under(
@@ -156,8 +156,8 @@ fn add_under<'a>(
 ) -> Result<(), AllocError>
     ensures { OnOk result ((q : PartialIdentity) → get partial_identity_cmp occurrences.new q
         ≡ cond (is_at (partial_identity_cmp key.entry) q)
-            (Some (spec.with_one_more place (get partial_identity_cmp occurrences.old key.entry)))
-            (get partial_identity_cmp occurrences.old q)) }
+        (Some (spec.with_one_more place (get partial_identity_cmp occurrences.old key.entry)))
+        (get partial_identity_cmp occurrences.old q)) }
 {
     occurrences
         .entry(key)?

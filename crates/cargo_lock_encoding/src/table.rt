@@ -11,8 +11,8 @@ ghost use Rattle.cargo_lock_encoding.specs.Records.{texts_of};
 ghost use Rattle.cargo_lock_encoding.specs.Table.{checksum_value, entry_of, entry_table, entry_value, form_value, metadata_value, packages_value, patch_entry_value, patch_table, present, put, put_present, root_entry, source_value, text_members, unless_empty, unless_no_patch};
 
 use crate::checksums::ordered;
-use crate::metadata::{Metadata, MetadataKey, MetadataValue};
 use crate::index::Indexed;
+use crate::metadata::{Metadata, MetadataKey, MetadataValue};
 use crate::writing::{entry_of, root_entry};
 use crate::{EncodableDependencyRef, EncodablePackageRef, ResolveVersion};
 use cargo_lock_parts::dependency::Dependency;

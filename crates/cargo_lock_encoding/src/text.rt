@@ -16,8 +16,8 @@ ghost use Rattle.cargo_lock_encoding.specs.Table.{entry_of};
 ghost use Rattle.cargo_lock_encoding.specs.Text.{checksum_line, comment_lines, dependency_line, entry_lines, escape_char, escaped, field, hex_digit, is_bare_byte, is_bare_key, joined, key_text, metadata_lines, pair_line, patch_lines, quoted, reference_lines, replace_line, short_escape, source_line, version_lines};
 
 use crate::checksums::ordered;
-use crate::metadata::{Metadata, MetadataKey, MetadataValue};
 use crate::index::Indexed;
+use crate::metadata::{Metadata, MetadataKey, MetadataValue};
 use crate::writing::entry_of;
 use crate::{EncodableDependencyRef, EncodablePackage, EncodablePackageRef, ResolveVersion};
 use cargo_lock_parts::dependency::Dependency;
@@ -312,7 +312,6 @@ fn put_written<'a>(
     let entry = entry_of(alloc, format, packages, one)?;
     put_package(alloc, out, &entry)
 }
-
 
 // ---- unused patches
 

@@ -1,6 +1,6 @@
 use Rattle.std.proofs.Common.{◌≡◌, ◌++◌, ◌∙◌, ℕ, List, OnOk, map, string_bytes, sym, ap, subst}
 use Rattle.std.specs.List.{flat_map}
-use Rattle.cargo_lock_parts.specs.Identity.{Identity, PackageData, identity_of}
+use Rattle.cargo_lock_parts.specs.Identity.{PackageData, identity_of}
 use Rattle.cargo_lock_encoding.specs.Table.{entry_of}
 use Rattle.cargo_lock_encoding.specs.Text.{entry_lines, joined}
 use Rattle.cargo_lock_encoding.proofs.Lines.{flat_map-map}

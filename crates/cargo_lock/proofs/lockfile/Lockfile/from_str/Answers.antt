@@ -1,4 +1,4 @@
-use Rattle.std.proofs.Common.{arith, rules}
+use Rattle.std.proofs.Common.{arith}
 use Rattle.std.proofs.lemmas.Bool.Decides.{nat_tests}
 use Rattle.cargo_lock.proofs.MeansLemmas.{FindsUrls-kept, Finds-kept}
 use Rattle.cargo_lock.proofs.lockfile.Lockfile.from_str.Goals as goal

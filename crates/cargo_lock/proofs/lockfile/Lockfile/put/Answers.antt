@@ -24,8 +24,8 @@ returns-clause-ok c =
     ∙ ap (λ (k : LockfileData). before ++ joined (metadata_lines (entries (metadata_of k.version k.metadata k.packages)))) (sym c.self.view_is) in
     subst (λ (k : LockfileData). out ≡ string_bytes c.args.out.now ++ joined (lines_of k)) c.self.view_is
     (then-encoded (encoded_of l) (string_bytes c.args.out.now) _ _ _ _ _
-        c.in_ok-put_comments.ensures
-        (rw c.written_version.ensures at c.in_ok-put_format.ensures)
-        (rw c.as_slice.ensures.value at c.in_ok-put_written_packages.ensures)
-        c.in_ok-put_patches.ensures
-        metadata)
+    c.in_ok-put_comments.ensures
+    (rw c.written_version.ensures at c.in_ok-put_format.ensures)
+    (rw c.as_slice.ensures.value at c.in_ok-put_written_packages.ensures)
+    c.in_ok-put_patches.ensures
+    metadata)
