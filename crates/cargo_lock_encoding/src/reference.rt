@@ -481,10 +481,14 @@ impl Ord for EncodableDependency {
     ghost matches_eq = { λ a b. refl };
 
     fn cmp(&self, other: &EncodableDependency) -> Ordering {
-        self.name
-            .cmp(&other.name)
-            .then(cmp_versions(&self.version, &other.version))
-            .then(self.source.cmp(&other.source))
+        match self.name.cmp(&other.name) {
+            Ordering::Less => Ordering::Less,
+            Ordering::Equal => {
+                let versions = cmp_versions(&self.version, &other.version);
+                versions.then_with(|| self.source.cmp(&other.source))
+            }
+            Ordering::Greater => Ordering::Greater,
+        }
     }
 }
 

@@ -140,8 +140,8 @@ impl Ord for Dependency {
     fn cmp(&self, other: &Dependency) -> Ordering {
         self.name
             .cmp(&other.name)
-            .then(self.version.cmp(&other.version))
-            .then(self.source.cmp(&other.source))
+            .then_with(|| self.version.cmp(&other.version))
+            .then_with(|| self.source.cmp(&other.source))
     }
 }
 

@@ -112,10 +112,14 @@ impl<'a> Ord for PartialIdentity<'a> {
     ghost matches_eq = { λ a b. refl };
 
     fn cmp(&self, other: &PartialIdentity<'a>) -> Ordering {
-        self.name
-            .cmp(other.name)
-            .then(cmp_versions(self.version, other.version))
-            .then(cmp_sources(self.source, other.source))
+        match self.name.cmp(other.name) {
+            Ordering::Less => Ordering::Less,
+            Ordering::Equal => {
+                let versions = cmp_versions(self.version, other.version);
+                versions.then(cmp_sources(self.source, other.source))
+            }
+            Ordering::Greater => Ordering::Greater,
+        }
     }
 }
 

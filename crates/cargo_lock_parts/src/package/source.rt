@@ -362,14 +362,34 @@ impl Ord for SourceId {
     fn cmp(&self, other: &SourceId) -> Ordering {
         self.url()
             .cmp(other.url())
-            .then(cmp_texts(self.name(), other.name()))
-            .then(self.kind().place().cmp(&other.kind().place()))
-            .then(
-                self.kind()
-                    .reference_text()
-                    .cmp(other.kind().reference_text()),
-            )
-            .then(cmp_texts(self.precise_if_git(), other.precise_if_git()))
+            .then_with(|| self.cmp_names(other))
+            .then_with(|| self.kind().place().cmp(&other.kind().place()))
+            .then_with(|| self.cmp_references(other))
+            .then_with(|| self.cmp_precise(other))
+    }
+}
+
+impl SourceId {
+    ghost use Rattle.cargo_lock_parts.specs.SourceKey.{precise_if_git, reference_text};
+
+    fn cmp_names(&self, other: &SourceId) -> Ordering
+        ensures { result ≡ option_cmp (slice_cmp nat_cmp) self.now.name other.now.name }
+    {
+        cmp_texts(self.name(), other.name())
+    }
+
+    fn cmp_references(&self, other: &SourceId) -> Ordering
+        ensures { result ≡ slice_cmp nat_cmp (reference_text self.now.kind) (reference_text other.now.kind) }
+    {
+        let text = self.kind().reference_text();
+        text.cmp(other.kind().reference_text())
+    }
+
+    fn cmp_precise(&self, other: &SourceId) -> Ordering
+        ensures { result ≡ option_cmp (slice_cmp nat_cmp)
+            (precise_if_git self.now.kind self.now.precise) (precise_if_git other.now.kind other.now.precise) }
+    {
+        cmp_texts(self.precise_if_git(), other.precise_if_git())
     }
 }
 
