@@ -73,9 +73,20 @@ fn read_text(alloc: Global, text: &str) -> Result<Lockfile>
     ensures { FindsUrls (TextMeans text.now) result }
 {
     match toml::table_from_str(alloc, text) {
-        Ok(table) => Lockfile::from_table(alloc, &table),
+        Ok(table) => read_once(alloc, table),
         Err(fault) => Err(of_text(alloc, &fault)),
     }
+}
+
+// Reads a table that is not asked for again. It is dropped before the references are looked up, so
+// that it does not take memory beside the lockfile.
+fn read_once(alloc: Global, table: Table) -> Result<Lockfile>
+    ensures { ReadsUrls (λ l. l) result (meaning (table_view table)) }
+{
+    let encoded = EncodableLockfile::from_table(alloc, &table)?;
+    drop(table);
+    let lockfile = encoded.locked(alloc)?;
+    Ok(lockfile)
 }
 
 // The fault of reading texts. Where none of them is long, no URL in them comes to 4 GB.

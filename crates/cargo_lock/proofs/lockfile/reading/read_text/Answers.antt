@@ -1,8 +1,9 @@
-use Rattle.cargo_lock.proofs.MeansLemmas.{FindsUrls-refused, FindsUrls-text}
+use Rattle.cargo_lock.proofs.MeansLemmas.{FindsUrls-means, FindsUrls-refused, FindsUrls-text}
 use Rattle.cargo_lock.proofs.lockfile.reading.read_text.Goals as goal
 
 pub returns-in-Ok : goal.returns-in-Ok
-returns-in-Ok c = FindsUrls-text c.args.text.now _ c.from_table.result c.in-Ok.ensures.ok c.from_table.ensures.read
+returns-in-Ok c =
+    FindsUrls-text c.args.text.now _ c.read_once.result c.in-Ok.ensures.ok (FindsUrls-means _ c.read_once.result c.read_once.ensures)
 
 pub returns-in-Err : goal.returns-in-Err
 returns-in-Err c = FindsUrls-refused c.args.text.now c.of_text.result _ c.of_text.ensures c.in-Err.ensures.refused
