@@ -1,4 +1,5 @@
 //! The program over writers in memory, and files that each test writes.
+mod example;
 mod repeated_words;
 mod translations;
 
