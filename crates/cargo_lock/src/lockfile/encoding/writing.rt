@@ -1,4 +1,4 @@
-//! From a lockfile to the values of its table, and from these to the table and to the text.
+//! From a lockfile to the values of its table, and from these to the text.
 
 ghost use Rattle.std.specs.Prelude.{◌≡◌, ◌++◌, IfOk, IsOkUnless, OnOk, string_bytes};
 ghost use Rattle.cargo_lock_parts.specs.declared.error.Error.TheVariants.{Memory};
