@@ -250,7 +250,8 @@ impl fmt::Display for MetadataValue {
     ghost output = { λ value. Some value };
 
     fn fmt<W: fmt::Write>(&self, f: &mut fmt::Formatter<W>) -> fmt::Result {
-        fmt::Display::fmt(&self.as_str(), f)
+        let MetadataValue(shown) = self;
+        fmt::Display::fmt(&shown.as_str(), f)
     }
 }
 
