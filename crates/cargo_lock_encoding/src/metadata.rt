@@ -172,7 +172,11 @@ impl Hash for MetadataKey {
     }
 }
 
-impl Described for MetadataKey {}
+impl Described for MetadataKey {
+    ghost use Rattle.serde.specs.Event.{Logs, text};
+
+    ghost writes = { λ key old new. Logs old new (text key) };
+}
 
 impl Serialize for MetadataKey {
     fn serialize<S: Serializer>(&self, out: &mut S) -> std::result::Result<(), S::Error> {
@@ -275,7 +279,11 @@ impl Eq for MetadataValue {
     ghost laws = { nat_list_eq_equiv };
 }
 
-impl Described for MetadataValue {}
+impl Described for MetadataValue {
+    ghost use Rattle.serde.specs.Event.{Logs, text};
+
+    ghost writes = { λ value old new. Logs old new (text value) };
+}
 
 impl Serialize for MetadataValue {
     fn serialize<S: Serializer>(&self, out: &mut S) -> std::result::Result<(), S::Error> {
