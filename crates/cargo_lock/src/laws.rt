@@ -13,7 +13,8 @@ ghost use Rattle.cargo_lock.specs.Same.{EqualTablesAndTexts};
 
 use crate::dependency::tree::laws as drawings;
 pub use cargo_lock_encoding::laws::{
-    checksums_stand_at_least_keys, references_are_shortened_by_places, shortened_references_stay,
+    checksums_stand_at_least_keys, marked_sources_are_equal_by_keys, metadata_is_read_key_by_key,
+    references_are_equal_by_keys, references_are_shortened_by_places, shortened_references_stay,
     written_metadata_key_by_key,
 };
 pub use cargo_lock_graph::drawing::laws::{
@@ -24,8 +25,9 @@ pub use cargo_lock_graph::drawing::laws::{
 };
 pub use cargo_lock_graph::laws::{edges_are_one, lost_dependencies_have_no_edges};
 pub use cargo_lock_parts::laws::{
-    checksums_read_back, no_rank_is_no_match, rank_is_symmetric, rank_one_is_equal_keys,
-    ranks_imply_last, rooted_paths_have_sources,
+    checksums_read_back, dependencies_are_equal_by_keys, no_rank_is_no_match,
+    packages_are_equal_by_keys, patches_are_equal_by_keys, rank_is_symmetric,
+    rank_one_is_equal_keys, ranks_imply_last, rooted_paths_have_sources, sources_are_equal_by_keys,
 };
 
 /// A table means at most one lockfile, in every field.

@@ -7,6 +7,7 @@ pub mod Puts
 pub mod ReadKeys
 pub mod ReadSources
 pub mod SaysLemmas
+pub mod TableMetadata
 pub mod TextPuts
 pub mod Texts
 pub mod Walk

@@ -1,5 +1,5 @@
 -- The order of references: name, version, source by its key, and an absent value before a present
--- one.
+-- one. Equality is exactly equality of keys.
 use Rattle.std.specs.Prelude.{ℕ, Bool, List, ◌++◌, Option, option_map}
 use Rattle.std.specs.Option.{option_cmp}
 use Rattle.std.specs.declared.cmp.Ordering.{Ordering}
@@ -7,6 +7,7 @@ use Rattle.std.specs.Ordering.{on, then_cmp, eq_by_cmp}
 use Rattle.std.specs.Hash.{HashWrites}
 use Rattle.std.specs.Hash as fed
 use Rattle.semver.specs.Parse.{Parts}
+use Rattle.cargo_lock_parts.specs.Equality.{IsEqualityOfKeys}
 use Rattle.cargo_lock_parts.specs.IdentityOrder.{source_hash, version_cmp}
 use Rattle.cargo_lock_parts.specs.Source.{MarkedSource}
 use Rattle.cargo_lock_parts.specs.SourceKey.{Key, key_of, source_cmp, text_cmp}
@@ -48,3 +49,11 @@ marked_key m = key_of m.source
 -- what equality looks at
 abbrev pub form_key : Form → FormKey
 form_key f = record { name = f.name; version = f.version; source = option_map marked_key f.source }
+
+-- `a == b` of references holds exactly where their keys are the same
+abbrev pub EqualReferences : Type 0
+EqualReferences = IsEqualityOfKeys is_same_form form_key
+
+-- `a == b` of marked sources holds exactly where the keys of the sources are the same
+abbrev pub EqualMarkedSources : Type 0
+EqualMarkedSources = IsEqualityOfKeys is_same_marked marked_key

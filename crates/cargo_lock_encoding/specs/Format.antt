@@ -35,6 +35,10 @@ pub record IsFormatText (text : List ℕ) (v : ResolveVersion) : Type 0 where
   pub digits : IsNumeral 10 (without_leading_plus text)
   pub number : numbered (digits_value 10 (without_leading_plus text)) ≡ Some v
 
+-- the text is the number of some format
+abbrev pub HasFormat : List ℕ → Type 0
+HasFormat text = (v : ResolveVersion) × IsFormatText text v
+
 -- the text is a whole number of 32 bits as Rust reads one, perhaps after a plus sign
 abbrev pub IsNumberText : List ℕ → Type 0
 IsNumberText text =

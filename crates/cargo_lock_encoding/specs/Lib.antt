@@ -17,6 +17,7 @@ pub mod ReadSources
 pub mod WrittenMetadata
 pub mod Format
 pub mod Means
+pub mod TableMetadata
 pub mod Meaning
 pub mod Table
 pub mod Text

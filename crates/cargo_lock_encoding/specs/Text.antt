@@ -15,7 +15,8 @@ use Rattle.cargo_lock_encoding.specs.Form.{Form, form_text}
 use Rattle.cargo_lock_encoding.specs.Records.{EntryData, EncodedData, LockfileData}
 use Rattle.cargo_lock_encoding.specs.Table.{encoded_of}
 
--- ---- strings: a TOML basic string, with the escapes that TOML asks for and no others
+-- ---- strings: a TOML basic string. Escaped are the quotation mark, the backslash, the characters
+-- below U+0020 and U+007F. TOML asks for each of these but the tab, which it lets stand as it is.
 
 abbrev pub hex_digit : ℕ → ℕ
 hex_digit n = if nat_lt n 10 then 48 + n else 55 + n

@@ -1,7 +1,9 @@
 //! Laws of references and of the metadata, each the contract of a function without a body.
 
 ghost use Rattle.cargo_lock_encoding.specs.Chosen.{ShortenedByPlaces, ShortenedTwice};
+ghost use Rattle.cargo_lock_encoding.specs.FormOrder.{EqualMarkedSources, EqualReferences};
 ghost use Rattle.cargo_lock_encoding.specs.LeastKey.{ChecksumAtLeastKey};
+ghost use Rattle.cargo_lock_encoding.specs.TableMetadata.{MeansKeyByKey, ReadsKeyByKey};
 ghost use Rattle.cargo_lock_encoding.specs.WrittenMetadata.{ChecksumsAtKeys, NoChecksumKeys};
 
 /// A reference is shortened to its name exactly where one package has the name, and otherwise to
@@ -27,4 +29,23 @@ pub fn checksums_stand_at_least_keys()
 pub fn written_metadata_key_by_key()
     ensures v1 { ChecksumsAtKeys }
     ensures later { NoChecksumKeys }
+{}
+
+/// The metadata of a lockfile that a table means has, at each key, exactly the text of the last pair
+/// with the key in the table under `metadata`, and nothing where no pair has it. A value reads as
+/// metadata exactly where it is a table of texts alone, or is missing.
+pub fn metadata_is_read_key_by_key()
+    ensures means { MeansKeyByKey }
+    ensures reads { ReadsKeyByKey }
+{}
+
+/// Two references are equal exactly where their names, their versions and the keys of their sources
+/// are.
+pub fn references_are_equal_by_keys()
+    ensures { EqualReferences }
+{}
+
+/// Two marked sources are equal exactly where the keys of the sources are, however they are marked.
+pub fn marked_sources_are_equal_by_keys()
+    ensures { EqualMarkedSources }
 {}

@@ -172,7 +172,11 @@ impl Hash for MetadataKey {
     }
 }
 
-impl Described for MetadataKey {}
+impl Described for MetadataKey {
+    ghost use Rattle.serde.specs.Event.{Logs, text};
+
+    ghost writes = { λ key old new. Logs old new (text key) };
+}
 
 impl Serialize for MetadataKey {
     fn serialize<S: Serializer>(&self, out: &mut S) -> std::result::Result<(), S::Error> {
@@ -250,7 +254,8 @@ impl fmt::Display for MetadataValue {
     ghost output = { λ value. Some value };
 
     fn fmt<W: fmt::Write>(&self, f: &mut fmt::Formatter<W>) -> fmt::Result {
-        fmt::Display::fmt(&self.as_str(), f)
+        let MetadataValue(shown) = self;
+        fmt::Display::fmt(&shown.as_str(), f)
     }
 }
 
@@ -274,7 +279,11 @@ impl Eq for MetadataValue {
     ghost laws = { nat_list_eq_equiv };
 }
 
-impl Described for MetadataValue {}
+impl Described for MetadataValue {
+    ghost use Rattle.serde.specs.Event.{Logs, text};
+
+    ghost writes = { λ value old new. Logs old new (text value) };
+}
 
 impl Serialize for MetadataValue {
     fn serialize<S: Serializer>(&self, out: &mut S) -> std::result::Result<(), S::Error> {

@@ -1,11 +1,11 @@
 //! The formats of lockfiles.
 
-ghost use Rattle.std.specs.Prelude.{◌≡◌, ◌≤◌, ◌↔◌, ◌⊎◌, IfSome, IsOk, decimal};
+ghost use Rattle.std.specs.Prelude.{◌≡◌, ◌≤◌, ◌↔◌, ◌⊎◌, IfSome, IsOk, IsSome, decimal};
 ghost use Rattle.std.specs.Str.Parse.{digits_value, without_leading_plus};
 ghost use Rattle.cargo_lock_parts.specs.declared.error.Error.TheVariants.{Memory};
 ghost use Rattle.cargo_lock_parts.specs.Error.{IsParse, IsParseOrMemory, Reads, RefusesWith};
 ghost use Rattle.cargo_lock_encoding.specs.Finds.{Finds};
-ghost use Rattle.cargo_lock_encoding.specs.Format.{IsFormatText, IsNumberText, format_by, format_refusal, format_without_number, has_checksum, numbered, numbered_int};
+ghost use Rattle.cargo_lock_encoding.specs.Format.{HasFormat, IsFormatText, IsNumberText, format_by, format_refusal, format_without_number, has_checksum, numbered, numbered_int};
 ghost use Rattle.cargo_lock_encoding.specs.Records.{texts_of};
 
 use crate::EncodablePackage;
@@ -73,12 +73,14 @@ impl ResolveVersion {
         }
     }
 
-    /// The format whose number the text is, as Rust reads a `u32`: `3`, `+3` and `03` are V3.
+    /// The format whose number the text is, as Rust reads a `u32`: `3`, `+3` and `03` are V3. It takes
+    /// no memory.
     ///
     /// `Parse` refuses any other text. It quotes the number of a text that is one, so `5` for `05`,
     /// and a text that is no number as it stands.
     pub fn from_str(alloc: Global, text: &str) -> Result<ResolveVersion>
         ensures read { Finds (IsFormatText text.now) result }
+        ensures accepted { IsOk result ↔ HasFormat text.now }
         ensures number { IsNumberText text.now → RefusesWith result (format_refusal
             (decimal (digits_value 10 (without_leading_plus text.now)))) }
         ensures other { ¬ IsNumberText text.now → RefusesWith result (format_refusal text.now) }
@@ -90,14 +92,17 @@ impl ResolveVersion {
     }
 
     /// The format of a lockfile whose table has no `version`: V1 where some key of the metadata
-    /// begins `checksum `, else V2. `Parse` refuses checksums in both places. The root's checksum
-    /// does not count.
+    /// begins `checksum `, else V2. It takes no memory. `Parse` refuses checksums in both places. The
+    /// root's checksum does not count.
     pub fn detect(
         alloc: Global,
         packages: &[EncodablePackage],
         metadata: &Metadata,
     ) -> Result<ResolveVersion>
-        ensures { Reads (λ version. version) result (format_without_number packages.now (texts_of metadata.now.entries)) }
+        ensures read { Reads (λ version. version) result
+            (format_without_number packages.now (texts_of metadata.now.entries)) }
+        ensures accepted { IsOk result
+            ↔ IsSome (format_without_number packages.now (texts_of metadata.now.entries)) }
     {
         if !has_checksum_key(metadata) {
             return Ok(ResolveVersion::V2);
@@ -114,7 +119,8 @@ impl ResolveVersion {
 
     // The format with this number, which may be below 0.
     fn from_table_number(alloc: Global, number: i64) -> Result<ResolveVersion>
-        ensures { Reads (λ version. version) result (numbered_int number) }
+        ensures read { Reads (λ version. version) result (numbered_int number) }
+        ensures accepted { IsOk result ↔ IsSome (numbered_int number) }
     {
         match number {
             1 => Ok(ResolveVersion::V1),
@@ -127,14 +133,17 @@ impl ResolveVersion {
 }
 
 /// The format of the values of a table: that of the number, or where there is none, what `detect`
-/// finds. `Parse` says that there is none.
+/// finds. It takes no memory. `Parse` says that there is none.
 pub fn format_of_values(
     alloc: Global,
     version: Option<i64>,
     packages: &[EncodablePackage],
     metadata: &Metadata,
 ) -> Result<ResolveVersion>
-    ensures { Reads (λ version. version) result (format_by version packages.now (texts_of metadata.now.entries)) }
+    ensures read { Reads (λ version. version) result
+        (format_by version packages.now (texts_of metadata.now.entries)) }
+    ensures accepted { IsOk result
+        ↔ IsSome (format_by version packages.now (texts_of metadata.now.entries)) }
 {
     match version {
         Some(number) => ResolveVersion::from_table_number(alloc, number),

@@ -1,6 +1,7 @@
 pub mod Ascii
 pub mod Computed
 pub mod DefaultRegistry
+pub mod EqualityLemmas
 pub mod FileUrlLemmas
 pub mod FileUrlRead
 pub mod LastReference

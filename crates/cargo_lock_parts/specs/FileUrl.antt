@@ -1,6 +1,7 @@
 -- The URL of a folder on this machine, by a rule of this crate: the path is cut at `/`, parts that
 -- are empty or `.` are dropped, and the others are escaped. What then stands after `file://` is
--- read as any URL, so a part `..` takes back the part before it.
+-- read as any URL. There a part `..` takes back the part before it, if there is one, unless that
+-- part is the first and is a letter and `:`: `/a/../b` is `/b`, and `/C:/../b` is `/C:/b`.
 use Rattle.std.specs.Prelude.{◌≡◌, ℕ, Bool, true, false, not, ◌&&◌, ◌||◌, ◌==◌, List, [], ◌∷◌, ◌++◌, length, filter, codes, bytes_eq, Option, Some, None, is_some, option_map, option_and_then, if◌then◌else◌}
 use Rattle.std.specs.Char.{is_ascii_alphanumeric}
 use Rattle.std.specs.List.{flat_map, list_any, slice_split}

@@ -8,6 +8,7 @@ pub mod Checksum
 pub mod Identity
 pub mod IdentityOrder
 pub mod IdentityLaws
+pub mod Equality
 pub mod PartialIdentity
 pub mod Rank
 pub mod SourceShown

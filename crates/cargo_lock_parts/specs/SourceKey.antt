@@ -1,7 +1,8 @@
 -- The key of a source: what equality, order and hash look at.
 --
--- The precise text pins a commit of a repository, and so tells two git sources apart. That of a
--- registry is the word `locked`, which only says that the source stood in a lockfile.
+-- The precise text of a git source pins a commit, and so tells two git sources apart. That of any
+-- other source does not count. A registry that was read from a text has the word `locked`, which
+-- only says that it stood in a lockfile, one that a call made has none, and a call may set any text.
 use Rattle.std.specs.Prelude.{ℕ, Bool, List, [], ◌++◌, Option, None, unwrap_or}
 use Rattle.std.specs.Option.{option_cmp}
 use Rattle.std.specs.declared.cmp.Ordering.{Ordering}

@@ -1,6 +1,7 @@
 //! Laws of this crate, each the contract of a function without a body.
 
 ghost use Rattle.cargo_lock_parts.specs.Checksum.{DigestsReadBack};
+ghost use Rattle.cargo_lock_parts.specs.Equality.{EqualDependencies, EqualPackages, EqualPatches, EqualSources};
 ghost use Rattle.cargo_lock_parts.specs.FileUrl.{RootedPathsHaveSources};
 ghost use Rattle.cargo_lock_parts.specs.Rank.{RankIsSymmetric, RankOneIsEqualKeys, NoRankIsNoMatch, RanksImplyLast};
 
@@ -32,4 +33,27 @@ pub fn rooted_paths_have_sources()
 /// The 32 bytes of every checksum read back from their digits.
 pub fn checksums_read_back()
     ensures { DigestsReadBack }
+{}
+
+/// Two sources are equal exactly where their keys are: their URL texts, names and kinds with their
+/// references, and for git their precise texts.
+pub fn sources_are_equal_by_keys()
+    ensures { EqualSources }
+{}
+
+/// Two dependencies are equal exactly where their names, their versions and the keys of their sources
+/// are.
+pub fn dependencies_are_equal_by_keys()
+    ensures { EqualDependencies }
+{}
+
+/// Two packages are equal exactly where their names, versions, keys of sources and checksums are, and
+/// the keys of their dependencies, in order, and of their replacements.
+pub fn packages_are_equal_by_keys()
+    ensures { EqualPackages }
+{}
+
+/// Two patches are equal exactly where the keys of their unused patches are, in order.
+pub fn patches_are_equal_by_keys()
+    ensures { EqualPatches }
 {}

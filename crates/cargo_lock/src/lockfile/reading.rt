@@ -52,10 +52,16 @@ impl Lockfile {
         }
     }
 
-    /// Reads the table of a lockfile in any format. `Parse` says what is refused: the first value,
-    /// in the order of the table's keys, that is missing, of another type or no text of its kind,
-    /// then the format, then the first reference that stands for nothing. A URL that comes to 4 GB is
-    /// refused too, which is never so where each text of the table is shorter than 2^24 bytes.
+    /// Reads the table of a lockfile in any format. `Parse` says what is refused, the first of these:
+    /// a value that is missing, of another type or no text of its kind, then the format, then a
+    /// reference that stands for nothing. A URL that comes to 4 GB is refused too, which is never so
+    /// where each text of the table is shorter than 2^24 bytes.
+    ///
+    /// Values are read in this order, however the keys stand in the table: `version`, each package,
+    /// `root`, `metadata` by its keys, `patch` with each patch; of a package or a patch `name`,
+    /// `version`, `source`, and of a package then `checksum`, each of `dependencies`, `replace`.
+    /// References are looked up package by package, the root last, each time the dependencies and
+    /// then the replacement.
     pub fn from_table(alloc: Global, table: &Table) -> Result<Lockfile>
         ensures read { FindsUrls (Means (table_view table.now)) result }
         ensures short { HasShortTexts (table_view table.now)

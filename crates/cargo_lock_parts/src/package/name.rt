@@ -129,7 +129,11 @@ impl Hash for Name {
     }
 }
 
-impl Described for Name {}
+impl Described for Name {
+    ghost use Rattle.serde.specs.Event.{Logs, text};
+
+    ghost writes = { λ name old new. Logs old new (text name) };
+}
 
 impl Serialize for Name {
     fn serialize<S: Serializer>(&self, out: &mut S) -> std::result::Result<(), S::Error> {

@@ -54,8 +54,9 @@ pub enum SourceKind {
     Directory,
 }
 
-/// Where a package comes from: a URL, a kind, and for a package of a lockfile mostly a precise
-/// text, which is the commit of a git source and `locked` for a registry.
+/// Where a package comes from: a URL, a kind, and perhaps a precise text. A source that was read from
+/// its text has one where it is a registry, the word `locked`, or a git source with a fragment, which
+/// is mostly a commit. `with_precise` sets any text.
 ///
 /// Two sources are equal where their URLs, kinds and, for git, their precise texts are. So a
 /// registry that was read from a lockfile equals one that was made by a call.
@@ -117,7 +118,8 @@ impl SourceId {
         &self.parts.kind
     }
 
-    /// The text that pins the source, if there is one: a commit, or `locked`.
+    /// The precise text, if there is one: of a source that was read, the fragment of a git source,
+    /// which is mostly a commit, or `locked` of a registry.
     pub fn precise(&self) -> Option<&str>
         ensures { option_copied result ≡ self.now.precise }
     {

@@ -7,7 +7,14 @@ use serde::{
 };
 use std::alloc::Global;
 
-impl Described for SourceId {}
+impl Described for SourceId {
+    ghost use Rattle.std.specs.Prelude.{◌≡◌, true};
+    ghost use Rattle.serde.specs.Event.{Logs, nothing};
+    ghost use Rattle.cargo_lock_parts.specs.Source.{is_path};
+
+    // What `serde` writes of a displayed value is in no clause of its own.
+    ghost writes = { λ source old new. is_path source.kind ≡ true → Logs old new nothing };
+}
 
 // A source is written as its plain text, and a path as nothing, like `None`.
 impl Serialize for SourceId {
