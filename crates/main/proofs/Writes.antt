@@ -1,6 +1,6 @@
 -- Texts that a writer takes in pieces.
-use Rattle.std.proofs.Common.{◌≡◌, ℕ, List, [], ◌++◌, Option, Some, None, Result, Ok, Err, sym, ap, subst, take, ◌∙◌, append_assoc}
-use Rattle.std.specs.Prelude.{IfSome, IsErr}
+use Rattle.std.proofs.Common.{◌≡◌, ℕ, List, [], ◌++◌, Option, Some, None, Result, Ok, Err, refl, sym, ap, subst, take, ◌∙◌, append_assoc}
+use Rattle.std.specs.Prelude.{IfSome, IsErr, OnOk}
 use Rattle.std.specs.Io.KnownBytes.{Appends, Keeps}
 use Rattle.std.proofs.lemmas.List.{append-nil}
 use Rattle.main.specs.Output.{IsWritten}
@@ -36,3 +36,13 @@ pub fault_after : {T E : Type 0} (r : Result T E) (old new : Option (List ℕ)) 
     → IsErr r → text ≡ front ++ rest → Appends old new front → IsWritten old new text r
 fault_after (Ok x) old new text front rest e is h = absurd cc
 fault_after (Err x) old new text front rest e is h = (front, rest, is, h)
+
+-- what is not written to keeps its bytes
+pub keeps_self : (o : Option (List ℕ)) → Keeps o o
+keeps_self None = tt
+keeps_self (Some xs) = refl
+
+-- what holds at Ok in place of another fact
+pub on_ok_weaken : {T E : Type 0} (r : Result T E) (P Q : Type 0) → (P → Q) → OnOk r P → OnOk r Q
+on_ok_weaken (Ok x) P Q k h = k h
+on_ok_weaken (Err e) P Q k h = tt

@@ -6,6 +6,7 @@ ghost use Rattle.cargo_lock_encoding.specs.Format.{number_of};
 ghost use Rattle.cargo_lock_encoding.specs.Text.{joined, lines_of};
 ghost use Rattle.cargo_lock.specs.Survives.{Survives, in_format};
 ghost use Rattle.main.specs.declared.fault.Fault.TheVariants.{Library, Lost};
+ghost use Rattle.main.specs.Translate.{PrintsTranslation};
 
 use crate::fault::Fault;
 use crate::output::{put, put_all};
@@ -28,7 +29,9 @@ pub fn run<R: Files + AllocGlobal, W: Write>(
     rt: &R,
     options: &ArgMatches<'_>,
     out: &mut W,
-) -> Result<(), Fault> {
+) -> Result<(), Fault>
+    ensures { OnOk result (PrintsTranslation (W.contents out.old) (W.contents out.new)) }
+{
     let format = ResolveVersion::from_str(rt.alloc(), words::format(options))?;
     let lockfile = words::lockfile(rt, options)?;
     if options.get_flag("check") {
