@@ -15,15 +15,7 @@ use Rattle.cargo_lock_encoding.specs.declared.version.ResolveVersion.{ResolveVer
 use Rattle.cargo_lock_encoding.specs.declared.version.ResolveVersion.TheVariants.{V1, V2, V3, V4}
 use Rattle.cargo_lock_encoding.specs.Format.{number_of}
 use Rattle.cargo_lock_encoding.specs.Records.{LockfileData}
-use Rattle.cargo_lock.specs.Same.{is_same_lockfile, is_same_pair}
-
--- the same format and metadata, and equal packages, root and patches
-pub record IsEqualLockfile (a b : LockfileData) : Type 0 where
-  pub version : a.version ≡ b.version
-  pub packages : map package_key a.packages ≡ map package_key b.packages
-  pub root : option_map package_key a.root ≡ option_map package_key b.root
-  pub metadata : a.metadata ≡ b.metadata
-  pub patch : map identity_key a.patch ≡ map identity_key b.patch
+use Rattle.cargo_lock.specs.Same.{EqualExactlyByKeys, HasSameKeys, is_same_lockfile, is_same_pair}
 
 and-first : (s t : Bool) → (s && t) ≡ true → s ≡ true
 and-first true t h = refl
@@ -50,6 +42,22 @@ option-keys E key same None None h = refl
 option-keys E key same None (Some y) h = cc h
 option-keys E key same (Some x) None h = cc h
 option-keys E key same (Some x) (Some y) h = ap Some ((same x y).0 h)
+
+-- and the other way round
+keys-pointwise : {A K : Type 0} (E : A → A → Bool) (key : A → K) → ((a b : A) → Decides (E a b) (key a ≡ key b))
+    → (xs ys : List A) → map key xs ≡ map key ys → pointwise E xs ys ≡ true
+keys-pointwise E key same [] [] h = refl
+keys-pointwise E key same [] (y ∷ ys) h = cc h
+keys-pointwise E key same (x ∷ xs) [] h = cc h
+keys-pointwise E key same (x ∷ xs) (y ∷ ys) h =
+    both_true ((same x y).1 (cc h)) (keys-pointwise E key same xs ys (cc h))
+
+keys-option : {A K : Type 0} (E : A → A → Bool) (key : A → K) → ((a b : A) → Decides (E a b) (key a ≡ key b))
+    → (x y : Option A) → option_map key x ≡ option_map key y → option_eq E x y ≡ true
+keys-option E key same None None h = refl
+keys-option E key same None (Some y) h = cc h
+keys-option E key same (Some x) None h = cc h
+keys-option E key same (Some x) (Some y) h = (same x y).1 (cc h)
 
 text-Decides : (x y : List ℕ) → Decides (pointwise nat_eq x y) (x ≡ y)
 text-Decides x y = slice_eq-Decides unsigned_Decides x y (pointwise nat_eq x y) refl
@@ -81,7 +89,7 @@ one-number V4 V2 e = cc e
 one-number V4 V3 e = cc e
 one-number V4 V4 e = refl
 
-pub equal_fields : (a b : LockfileData) → is_same_lockfile a b ≡ true → IsEqualLockfile a b
+pub equal_fields : (a b : LockfileData) → is_same_lockfile a b ≡ true → HasSameKeys a b
 equal_fields a b h =
     let h1 = and-first _ _ h in
     let h2 = and-first _ _ h1 in
@@ -94,3 +102,16 @@ equal_fields a b h =
       metadata = same_entries_map _ _ (list.0 (and-second _ _ h1));
       patch = pointwise-keys _ identity_key is_same_identity-Decides _ _ (and-second _ _ h);
     }
+
+same_fields : (a b : LockfileData) → HasSameKeys a b → is_same_lockfile a b ≡ true
+same_fields a b h =
+    let list = slice_eq-Decides pair-Decides (entries a.metadata) (entries b.metadata) (pointwise is_same_pair (entries a.metadata) (entries b.metadata)) refl in
+    let version = (unsigned_Decides (number_of a.version) (number_of b.version)).1 (ap number_of h.version) in
+    let packages = keys-pointwise _ package_key is_same_package-Decides a.packages b.packages h.packages in
+    let root = keys-option _ package_key is_same_package-Decides a.root b.root h.root in
+    let metadata = list.1 (ap entries h.metadata) in
+    let patch = keys-pointwise _ identity_key is_same_identity-Decides a.patch b.patch h.patch in
+    both_true (both_true (both_true (both_true version packages) root) metadata) patch
+
+pub equal_exactly : EqualExactlyByKeys
+equal_exactly a b = (equal_fields a b, same_fields a b)

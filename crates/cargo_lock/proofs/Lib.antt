@@ -1,6 +1,7 @@
 pub mod DenseWords
 pub mod EqualLockfiles
 pub mod KeyTexts
+pub mod LoadLemmas
 pub mod MeansLemmas
 pub mod PackageTables
 pub mod PlainFirst

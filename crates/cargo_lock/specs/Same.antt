@@ -1,11 +1,12 @@
 -- Lockfiles are equal field by field: packages, the root and patches as they compare, the metadata
 -- pair by pair.
-use Rattle.std.specs.Prelude.{◌≡◌, ◌&&◌, Bool, true, ℕ, List, nat_eq}
+use Rattle.std.specs.Prelude.{◌≡◌, ◌&&◌, ◌↔◌, Bool, IsTrue, true, ℕ, List, map, nat_eq, option_map}
 use Rattle.std.specs.Cmp.{IsEquivalence, and_equiv, eq_by_cmp_equiv, nat_eq_equiv, on_equiv}
 use Rattle.std.specs.Cmp.Lexicographic.{lists_equiv, nat_list_eq_equiv, options_equiv, pointwise}
 use Rattle.std.specs.FinMap.{entries}
 use Rattle.std.specs.Option.{option_eq}
 use Rattle.std.specs.Ordering.{eq_of_both, on}
+use Rattle.cargo_lock_parts.specs.Identity.{identity_key, package_key}
 use Rattle.cargo_lock_parts.specs.IdentityLaws.{package_total, patch_equivalence}
 use Rattle.cargo_lock_parts.specs.IdentityOrder.{is_same_package, is_same_patch}
 use Rattle.cargo_lock_encoding.specs.Format.{number_of}
@@ -42,6 +43,19 @@ lockfile_equivalence = and_equiv (and_equiv (and_equiv (and_equiv
     (on_equiv (λ (l : LockfileData). l.patch) patch_equivalence)
 
 -- ---- what equality looks at
+
+-- the same format and metadata, and, place by place, the same key of each package, of the root and
+-- of each unused patch
+pub record HasSameKeys (a b : LockfileData) : Type 0 where
+  pub version : a.version ≡ b.version
+  pub packages : map package_key a.packages ≡ map package_key b.packages
+  pub root : option_map package_key a.root ≡ option_map package_key b.root
+  pub metadata : a.metadata ≡ b.metadata
+  pub patch : map identity_key a.patch ≡ map identity_key b.patch
+
+-- `==` calls exactly those lockfiles equal that have the same keys
+abbrev pub EqualExactlyByKeys : Type 0
+EqualExactlyByKeys = (a b : LockfileData) → IsTrue (is_same_lockfile a b) ↔ HasSameKeys a b
 
 -- lockfiles that `==` calls equal have equal tables and equal texts
 abbrev pub EqualTablesAndTexts : Type 0

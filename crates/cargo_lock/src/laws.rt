@@ -9,7 +9,7 @@ ghost use Rattle.cargo_lock.specs.Survives.{SurvivesExactly};
 ghost use Rattle.cargo_lock.specs.Translation.{WrittenAgain};
 ghost use Rattle.cargo_lock.specs.Plain.{PlainSurvives};
 ghost use Rattle.cargo_lock.specs.Printed.{PrintedBack};
-ghost use Rattle.cargo_lock.specs.Same.{EqualTablesAndTexts};
+ghost use Rattle.cargo_lock.specs.Same.{EqualExactlyByKeys, EqualTablesAndTexts};
 
 use crate::dependency::tree::laws as drawings;
 pub use cargo_lock_encoding::laws::{
@@ -33,6 +33,12 @@ pub use cargo_lock_parts::laws::{
 /// A table means at most one lockfile, in every field.
 pub fn table_means_one()
     ensures { MeansOne }
+{}
+
+/// Two lockfiles are equal by `==` exactly where their formats, their metadata and the keys of their
+/// packages, roots and unused patches are equal, in order.
+pub fn lockfiles_are_equal_by_keys()
+    ensures { EqualExactlyByKeys }
 {}
 
 /// Equal lockfiles have equal tables and equal texts.

@@ -98,7 +98,7 @@ impl From<AllocError> for Fault {
     ghost from_gives = { λ _ fault. fault ≡ Library Memory };
 
     fn from(_: AllocError) -> Fault {
-        Fault::Library(Error::Memory)
+        Fault::from(Error::Memory)
     }
 }
 
@@ -106,6 +106,6 @@ impl<T: Drop> From<AllocFailed<T>> for Fault {
     ghost from_gives = { λ _ fault. fault ≡ Library Memory };
 
     fn from(_: AllocFailed<T>) -> Fault {
-        Fault::Library(Error::Memory)
+        Fault::from(AllocError)
     }
 }

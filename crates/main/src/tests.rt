@@ -188,6 +188,17 @@ fn help_words(rt: HostRuntime) {
 }
 
 #[test]
+fn help_of_translate(rt: HostRuntime) {
+    let outcome = outcome_of(&rt, &["translate", "--help"]);
+    let check =
+        "Refuses a lockfile whose table, written in the format, does not read back; a root, \
+or a replacement of a package with dependencies, is in the table and in no text";
+    assert_eq!(rt; outcome.err(), "");
+    assert!(rt; outcome.out().contains(check));
+    assert_eq!(rt; outcome.status, ExitCode::SUCCESS);
+}
+
+#[test]
 fn list_of_dependencies(rt: HostRuntime) -> Result<(), Fail> {
     let path = file_of(&rt, "dependencies", APP.as_bytes())?;
     let file = path.as_path().as_str();

@@ -1,4 +1,13 @@
 //! The command `translate`: a lockfile in another format.
+ghost use Rattle.std.specs.Prelude.{◌≡◌, ◌⊎◌, ◌∷◌, ◌++◌, [], IfErr, IfOk, IsOkUnless, OnOk, string_bytes};
+ghost use Rattle.std.specs.Io.KnownBytes.{Appends};
+ghost use Rattle.cargo_lock_parts.specs.declared.error.Error.TheVariants.{Memory};
+ghost use Rattle.cargo_lock_encoding.specs.Format.{number_of};
+ghost use Rattle.cargo_lock_encoding.specs.Text.{joined, lines_of};
+ghost use Rattle.cargo_lock.specs.Survives.{Survives, in_format};
+ghost use Rattle.main.specs.declared.fault.Fault.TheVariants.{Library, Lost};
+ghost use Rattle.main.specs.Translate.{PrintsTranslation};
+
 use crate::fault::Fault;
 use crate::output::{put, put_all};
 use crate::words;
@@ -20,7 +29,9 @@ pub fn run<R: Files + AllocGlobal, W: Write>(
     rt: &R,
     options: &ArgMatches<'_>,
     out: &mut W,
-) -> Result<(), Fault> {
+) -> Result<(), Fault>
+    ensures { OnOk result (PrintsTranslation (W.contents out.old) (W.contents out.new)) }
+{
     let format = ResolveVersion::from_str(rt.alloc(), words::format(options))?;
     let lockfile = words::lockfile(rt, options)?;
     if options.get_flag("check") {
@@ -34,7 +45,11 @@ pub fn run<R: Files + AllocGlobal, W: Write>(
 }
 
 /// Refuses a lockfile that does not survive the format.
-fn check(alloc: Global, lockfile: &Lockfile, format: ResolveVersion) -> Result<(), Fault> {
+fn check(alloc: Global, lockfile: &Lockfile, format: ResolveVersion) -> Result<(), Fault>
+    ensures ok { OnOk result (Survives lockfile.now format) }
+    ensures err { IfErr result (λ fault. (fault ≡ Library Memory)
+        ⊎ ((fault ≡ Lost (number_of format)) × (¬ Survives lockfile.now format))) }
+{
     if lockfile.survives(alloc, format)? {
         Ok(())
     } else {
@@ -43,7 +58,10 @@ fn check(alloc: Global, lockfile: &Lockfile, format: ResolveVersion) -> Result<(
 }
 
 /// The text of the lockfile in another format.
-fn text_in(alloc: Global, lockfile: Lockfile, format: ResolveVersion) -> Result<String, Error> {
+fn text_in(alloc: Global, lockfile: Lockfile, format: ResolveVersion) -> Result<String, Error>
+    ensures ok { IfOk result (λ text. string_bytes text ≡ joined (lines_of (in_format format lockfile))) }
+    ensures err { IsOkUnless result Memory }
+{
     let mut lockfile = lockfile;
     lockfile.version = format;
     lockfile.to_string(alloc)
@@ -58,7 +76,9 @@ fn save<R: Files + AllocGlobal>(rt: &R, path: Path<'_>, text: &str) -> Result<()
 }
 
 /// Prints the text and one more newline.
-fn print<W: Write>(out: &mut W, text: &str) -> Result<(), Fault> {
+fn print<W: Write>(out: &mut W, text: &str) -> Result<(), Fault>
+    ensures { OnOk result (Appends (W.contents out.old) (W.contents out.new) (text.now ++ 10 ∷ [])) }
+{
     put(out, text)?;
     put(out, "\n")?;
     Ok(())

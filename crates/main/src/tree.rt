@@ -1,4 +1,6 @@
 //! The command `tree`: the trees of the roots of a lockfile, or of the packages that are asked for.
+ghost use Rattle.std.specs.Prelude.{◌<◌, All, IfOk, length};
+
 use crate::fault::Fault;
 use crate::output::put;
 use crate::words;
@@ -62,7 +64,10 @@ fn starts(
     lockfile: &Lockfile,
     tree: &Tree,
     options: &ArgMatches<'_>,
-) -> Result<Vec<NodeIndex>, Fault> {
+) -> Result<Vec<NodeIndex>, Fault>
+    ensures { IfOk result (λ starts.
+        All (λ start. start < length tree.now.graph.packages) starts.items) }
+{
     match options.get_strs("spec") {
         Some(specs) if !specs.is_empty() => {
             starts_of(alloc, lockfile.packages.as_slice(), tree, specs)
@@ -77,7 +82,10 @@ fn starts_of(
     packages: &[Package],
     tree: &Tree,
     specs: &[&str],
-) -> Result<Vec<NodeIndex>, Fault> {
+) -> Result<Vec<NodeIndex>, Fault>
+    ensures { IfOk result (λ starts.
+        All (λ start. start < length tree.now.graph.packages) starts.items) }
+{
     let mut starts = Vec::new(alloc);
     for spec in specs {
         starts.push(start_of(alloc, packages, tree, spec)?)?;
@@ -91,7 +99,9 @@ fn start_of(
     packages: &[Package],
     tree: &Tree,
     spec: &str,
-) -> Result<NodeIndex, Fault> {
+) -> Result<NodeIndex, Fault>
+    ensures { IfOk result (λ start. start < length tree.now.graph.packages) }
+{
     let parsed = Spec::parse(alloc, spec)?;
     match first_fitting(alloc, packages, &parsed)? {
         Some(package) => node_of(alloc, tree, package, spec),
@@ -100,7 +110,9 @@ fn start_of(
 }
 
 /// The node that the tree has for the identity of a package.
-fn node_of(alloc: Global, tree: &Tree, package: &Package, spec: &str) -> Result<NodeIndex, Fault> {
+fn node_of(alloc: Global, tree: &Tree, package: &Package, spec: &str) -> Result<NodeIndex, Fault>
+    ensures { IfOk result (λ node. node < length tree.now.graph.packages) }
+{
     let identity = Dependency::of(package)?;
     match tree.nodes().get(&identity) {
         Some(node) => Ok(*node),
@@ -207,7 +219,9 @@ fn print_trees<W: Write>(
     tree: &Tree,
     starts: &[NodeIndex],
     style: Style,
-) -> Result<(), Fault> {
+) -> Result<(), Fault>
+    requires { All (λ start. start < length tree.now.graph.packages) starts.now }
+{
     let mut is_first = true;
     for start in starts {
         if !is_first {
@@ -226,9 +240,9 @@ fn print_tree<W: Write>(
     tree: &Tree,
     start: NodeIndex,
     style: Style,
-) -> Result<(), Fault> {
-    if start.index() < tree.graph().node_count() {
-        tree.render(alloc, out, start, style.direction, style.exact)?;
-    }
+) -> Result<(), Fault>
+    requires { start < length tree.now.graph.packages }
+{
+    tree.render(alloc, out, start, style.direction, style.exact)?;
     Ok(())
 }

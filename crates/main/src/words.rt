@@ -1,4 +1,8 @@
 //! The words that the program is called with.
+ghost use Rattle.std.specs.Prelude.{◌≡◌, IfErr, IfOk, codes, option_map, unwrap_or};
+ghost use Rattle.clap.specs.Matches.{first_value, found_of};
+ghost use Rattle.cargo_lock.specs.Loads.{IsMeant, IsOfFile};
+
 use cargo_lock::{Error, Lockfile};
 use clap::{Arg, ArgAction, ArgMatches, Command};
 use std::alloc::{AllocError, Global};
@@ -11,6 +15,11 @@ const DEFAULT_PATH: &str = "Cargo.lock";
 
 /// The format that is written where the words name none.
 const DEFAULT_FORMAT: &str = "3";
+
+/// What `--check` does, as help shows it.
+const CHECK_HELP: &str =
+    "Refuses a lockfile whose table, written in the format, does not read back; \
+a root, or a replacement of a package with dependencies, is in the table and in no text";
 
 /// The words as the parser reads them, the program's name first. A leading `lock` is left out, and
 /// `list` stands before the first option where no command does, unless it asks for help. Fails for
@@ -41,16 +50,18 @@ fn is_option(word: &str) -> bool {
 }
 
 /// The lockfile that a command reads. Fails where it is not read.
-pub fn lockfile<R: Files + AllocGlobal>(
-    rt: &R,
-    options: &ArgMatches<'_>,
-) -> Result<Lockfile, Error> {
+pub fn lockfile<R: Files + AllocGlobal>(rt: &R, options: &ArgMatches<'_>) -> Result<Lockfile, Error>
+    ensures ok { IfOk result IsMeant }
+    ensures err { IfErr result IsOfFile }
+{
     let path = Path::new(options.get_str("file").unwrap_or(DEFAULT_PATH));
     Lockfile::load(rt, rt.alloc(), path)
 }
 
 /// The text of the format that a command writes.
-pub fn format<'a>(options: &ArgMatches<'a>) -> &'a str {
+pub fn format<'a>(options: &ArgMatches<'a>) -> &'a str
+    ensures { result.now ≡ unwrap_or (first_value (found_of options.now) (codes "version")) (codes "3") }
+{
     options.get_str("version").unwrap_or(DEFAULT_FORMAT)
 }
 
@@ -93,7 +104,7 @@ fn translate<'a>(alloc: Global) -> Result<Command<'a>, AllocError> {
             Arg::new(alloc, "check")
                 .long("check")
                 .action(ArgAction::SetTrue)
-                .help("Refuses a lockfile that the format does not keep"),
+                .help(CHECK_HELP),
         )
 }
 

@@ -1,0 +1,16 @@
+-- What reading a text answers is what loading a file may answer.
+use Rattle.std.specs.Prelude.{ℕ, List, Result, Ok, Err, IfErr}
+use Rattle.cargo_lock_parts.specs.declared.error.Error.{Error}
+use Rattle.cargo_lock_parts.specs.declared.error.Error.TheVariants.{Io, Parse, Version, Resolution, Memory}
+use Rattle.cargo_lock_encoding.specs.Finds.{FindsUrls}
+use Rattle.cargo_lock_encoding.specs.Means.{TextMeans}
+use Rattle.cargo_lock_encoding.specs.Records.{LockfileData}
+use Rattle.cargo_lock.specs.Loads.{IsOfFile}
+
+pub refusal_of_text : (text : List ℕ) (r : Result LockfileData Error) → FindsUrls (TextMeans text) r → IfErr r IsOfFile
+refusal_of_text text (Ok l) h = tt
+refusal_of_text text (Err (Io kind)) h = tt
+refusal_of_text text (Err (Parse said)) h = (text, h)
+refusal_of_text text (Err (Version fault)) h = h
+refusal_of_text text (Err (Resolution said)) h = h
+refusal_of_text text (Err Memory) h = tt
