@@ -3,7 +3,7 @@ ghost use Rattle.std.specs.Prelude.{◌≡◌, ◌≢◌, ◌⊎◌, String, str
 ghost use Rattle.std.specs.declared.alloc.Global.{Global};
 ghost use Rattle.std.specs.IoError.{error_kind};
 ghost use Rattle.cargo_lock_parts.specs.declared.error.Error.TheVariants.{Io, Memory};
-ghost use Rattle.main.specs.declared.fault.Fault.TheVariants.{Library, Spec};
+ghost use Rattle.cli.specs.declared.fault.Fault.TheVariants.{Library, Spec};
 
 use cargo_lock::Error;
 use clap::error::ErrorKind;
@@ -73,7 +73,7 @@ impl From<Error> for Fault {
 impl From<clap::Error> for Fault {
     ghost use Rattle.clap.specs.Values.{kind_of};
     ghost use Rattle.clap.specs.declared.error.kind.ErrorKind.TheVariants.{OutOfMemory};
-    ghost use Rattle.main.specs.declared.fault.Fault.TheVariants.{Words};
+    ghost use Rattle.cli.specs.declared.fault.Fault.TheVariants.{Words};
 
     ghost from_gives = { λ error fault. (kind_of error ≡ OutOfMemory → fault ≡ Library Memory)
         × (kind_of error ≢ OutOfMemory → fault ≡ Words error) };
