@@ -1,5 +1,7 @@
 //! Graphs of lockfiles: nodes, edges and roots.
 
+ghost use Rattle.std.specs.Prelude.{◌<◌, IfOk, IfSome, length};
+
 use cargo_lock::dependency::Tree;
 use cargo_lock::dependency::graph::{EdgeDirection, Graph, NodeIndex};
 use cargo_lock::{Dependency, Error, Lockfile};
@@ -11,6 +13,15 @@ use std::alloc::Global;
 pub(crate) fn tree_of(alloc: Global, text: &str) -> Result<Tree, Error> {
     let lockfile = Lockfile::from_str(alloc, text)?;
     lockfile.dependency_tree(alloc)
+}
+
+// The first of the nodes that no edge enters, if there is one.
+pub(crate) fn first_root(alloc: Global, tree: &Tree) -> Result<Option<NodeIndex>, Error>
+    ensures { IfOk result (λ root.
+        IfSome root (λ node. node < length tree.now.graph.packages)) }
+{
+    let roots = tree.roots(alloc)?;
+    Ok(roots.first().copied())
 }
 
 // The nodes and edges of a text's graph: a line for each node with the nodes that its edges lead to
@@ -393,20 +404,22 @@ fn dependencies_without_packages(rt: HostRuntime) {
     assert_eq!(rt; first_wrong::<Edges>(rt.alloc(), &REFUSED), None);
 }
 
-// What a number that is no node has, and what indexing and the edges of node 3 give.
+// What a number that is no node has, what indexing by the nodes that no edge leaves gives, and what
+// the edges of node 3 give.
 fn reads(alloc: Global, text: &str) -> Result<String, Error> {
     let tree = tree_of(alloc, text)?;
     let mut answer = String::new(alloc);
     put_label(&mut answer, tree.graph(), NodeIndex::new(9))?;
     put_targets(&mut answer, tree.graph(), NodeIndex::new(9))?;
-    put_indexed(&mut answer, tree.graph(), NodeIndex::new(2))?;
+    put_indexed(alloc, &mut answer, tree.graph())?;
     put_weights(&mut answer, tree.graph(), NodeIndex::new(3))?;
     Ok(answer)
 }
 
-fn put_indexed(text: &mut String, graph: &Graph, node: NodeIndex) -> Result<(), Error> {
-    if node.index() < graph.node_count() {
-        let version = &graph[node].version;
+fn put_indexed(alloc: Global, text: &mut String, graph: &Graph) -> Result<(), Error> {
+    let nodes: Vec<NodeIndex> = graph.externals(EdgeDirection::Outgoing).collect(alloc)?;
+    for node in &nodes {
+        let version = &graph[*node].version;
         write!(text, "; {version}")?;
     }
     Ok(())
@@ -426,7 +439,7 @@ fn reads_of_a_graph(rt: HostRuntime) {
     let answer = or_fault(rt.alloc(), reads(rt.alloc(), REGISTRY_AND_GIT));
     assert_eq!(rt;
         answer.as_str(),
-        "9 nothing, to; 0.2.0; 3 to tracing; 3 to tower-buffer"
+        "9 nothing, to; 0.1.35; 0.2.0; 3 to tracing; 3 to tower-buffer"
     );
 }
 
