@@ -1,6 +1,9 @@
 //! What the tests share: lockfiles that lie at hand, printed lockfiles, and answers as texts.
 
+ghost use Rattle.std.specs.Prelude.{◌<◌, IfOk, IfSome, length};
+
 use cargo_lock::dependency::Tree;
+use cargo_lock::dependency::graph::NodeIndex;
 use cargo_lock::{Error, Lockfile};
 use std::alloc::Global;
 use toml::Table;
@@ -104,6 +107,15 @@ pub(crate) fn text_of(alloc: Global, lockfile: &Lockfile) -> Result<String, Erro
     } else {
         Err(other_table(alloc))
     }
+}
+
+// The first of the nodes that no edge enters, if there is one.
+pub(crate) fn first_root(alloc: Global, tree: &Tree) -> Result<Option<NodeIndex>, Error>
+    ensures { IfOk result (λ root.
+        IfSome root (λ node. node < length tree.now.graph.packages)) }
+{
+    let roots = tree.roots(alloc)?;
+    Ok(roots.first().copied())
 }
 
 fn is_read_as(alloc: Global, text: &str, table: &Table) -> bool {

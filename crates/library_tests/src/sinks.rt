@@ -2,16 +2,16 @@
 
 ghost use Rattle.std.specs.Prelude.{◌≡◌, ◌<◌, Some};
 
-use crate::shared::{REGISTRY_AND_GIT, or_fault, tree_of};
+use crate::shared::{REGISTRY_AND_GIT, first_root, or_fault, tree_of};
 use cargo_lock::Error;
 use cargo_lock::dependency::Tree;
-use cargo_lock::dependency::graph::{EdgeDirection, NodeIndex};
+use cargo_lock::dependency::graph::EdgeDirection;
 use cargo_lock::dependency::tree::{Sink, Symbols, WriterSink};
 use std::alloc::Global;
 use std::io;
 use std::io::{ErrorKind, Write};
 
-// The drawing of that lockfile from its last package.
+// The drawing of that lockfile from its last package, on which none depends.
 const DRAWN: &str = "example 0.1.0
 ├── tracing 0.2.0
 └── tower-buffer 0.3.0
@@ -65,12 +65,11 @@ fn into_failing(alloc: Global, step: usize, calls: usize) -> Result<String, Erro
 fn draw(alloc: Global, tree: &Tree, sink: &mut Failing) -> Result<(), Error>
     requires { sink.old.faults < 1 }
 {
-    let start = NodeIndex::new(3);
-    if start.index() < tree.graph().node_count() {
-        let symbols = Symbols::default();
-        tree.render_into(alloc, sink, start, EdgeDirection::Outgoing, &symbols, false)?;
-    }
-    Ok(())
+    let Some(start) = first_root(alloc, tree)? else {
+        return Ok(());
+    };
+    let symbols = Symbols::default();
+    tree.render_into(alloc, sink, start, EdgeDirection::Outgoing, &symbols, false)
 }
 
 // An answer, a count of faults, and bytes.
@@ -174,11 +173,10 @@ fn onto_broken(alloc: Global, answer: Option<ErrorKind>) -> Result<Option<ErrorK
 }
 
 fn render<W: Write>(alloc: Global, tree: &Tree, out: &mut W) -> Result<(), Error> {
-    let start = NodeIndex::new(3);
-    if start.index() < tree.graph().node_count() {
-        tree.render(alloc, out, start, EdgeDirection::Outgoing, false)?;
-    }
-    Ok(())
+    let Some(start) = first_root(alloc, tree)? else {
+        return Ok(());
+    };
+    tree.render(alloc, out, start, EdgeDirection::Outgoing, false)
 }
 
 fn kind_of(answer: Result<Option<ErrorKind>, Error>) -> Option<ErrorKind> {
@@ -209,19 +207,19 @@ fn into_writer(alloc: Global) -> Result<String, Error> {
 }
 
 fn draw_onto(alloc: Global, tree: &Tree, out: &mut Vec<u8>) -> Result<u64, Error> {
+    let Some(start) = first_root(alloc, tree)? else {
+        return Ok(0);
+    };
     let mut sink = WriterSink::new(out);
-    let start = NodeIndex::new(3);
-    if start.index() < tree.graph().node_count() {
-        let symbols = Symbols::default();
-        tree.render_into(
-            alloc,
-            &mut sink,
-            start,
-            EdgeDirection::Outgoing,
-            &symbols,
-            false,
-        )?;
-    }
+    let symbols = Symbols::default();
+    tree.render_into(
+        alloc,
+        &mut sink,
+        start,
+        EdgeDirection::Outgoing,
+        &symbols,
+        false,
+    )?;
     Ok(sink.faults())
 }
 
