@@ -1,0 +1,83 @@
+//! The program `cargo-lock` as a library: lists the packages of a lockfile, writes it in another
+//! format and draws its trees.
+//!
+//! Whatever goes wrong is told in one message on standard error that begins `*** error: `, and the
+//! status is then 1. It is 0 where all of the output was written and flushed.
+#![tactic(auto)]
+
+ghost use Rattle.std.specs.Prelude.{◌≡◌};
+ghost use Rattle.std.specs.Io.KnownBytes.{Keeps};
+
+mod fault;
+mod list;
+mod output;
+mod translate;
+mod tree;
+mod words;
+
+use clap::ArgMatches;
+pub use fault::Fault;
+use std::convert::AsStr;
+use std::io::Write;
+use std::process::ExitCode;
+use std::rt::Files;
+
+/// Runs the command that `words` name, which stand without the program's own name. What it answers
+/// goes to `out`, which is then flushed, and a fault goes to `err`, as one message. Where it answers
+/// success, nothing was written to `err`.
+pub fn run<R: Files + AllocGlobal, S: AsStr, W: Write, E: Write>(
+    rt: &R,
+    words: &[S],
+    out: &mut W,
+    err: &mut E,
+) -> ExitCode
+    ensures { result ≡ ExitCode.SUCCESS → Keeps (E.contents err.old) (E.contents err.new) }
+{
+    match execute(rt, words, out) {
+        Ok(()) => ExitCode::SUCCESS,
+        Err(fault) => report(err, &fault),
+    }
+}
+
+/// Prints the message of a fault. The status is the same where that fails too.
+pub fn report<E: Write>(err: &mut E, fault: &Fault) -> ExitCode
+    ensures { result ≡ ExitCode.FAILURE }
+{
+    let _ = output::put(err, format_args!("*** {fault}"));
+    let _ = err.flush();
+    ExitCode::FAILURE
+}
+
+/// Reads the words, and runs their command or prints the help that they ask for.
+fn execute<R: Files + AllocGlobal, S: AsStr, W: Write>(
+    rt: &R,
+    words: &[S],
+    out: &mut W,
+) -> Result<(), Fault> {
+    let words = words::with_command(rt.alloc(), words)?;
+    match words::command(rt.alloc())?.try_get_matches_from(words.as_slice()) {
+        Ok(matches) => dispatch(rt, &matches, out)?,
+        Err(error) => {
+            if error.use_stderr() {
+                return Err(Fault::from(error));
+            }
+            output::put(out, format_args!("{error}"))?;
+        }
+    }
+    out.flush()?;
+    Ok(())
+}
+
+/// Runs the command that the parser found.
+fn dispatch<R: Files + AllocGlobal, W: Write>(
+    rt: &R,
+    matches: &ArgMatches<'_>,
+    out: &mut W,
+) -> Result<(), Fault> {
+    match matches.subcommand() {
+        Some(("list", options)) => list::run(rt, options, out),
+        Some(("translate", options)) => translate::run(rt, options, out),
+        Some(("tree", options)) => tree::run(rt, options, out),
+        _ => Err(Fault::NoCommand),
+    }
+}

@@ -1,0 +1,85 @@
+//! The command `translate`: a lockfile in another format.
+ghost use Rattle.std.specs.Prelude.{◌≡◌, ◌⊎◌, ◌∷◌, ◌++◌, [], IfErr, IfOk, IsOkUnless, OnOk, string_bytes};
+ghost use Rattle.std.specs.Io.KnownBytes.{Appends};
+ghost use Rattle.cargo_lock_parts.specs.declared.error.Error.TheVariants.{Memory};
+ghost use Rattle.cargo_lock_encoding.specs.Format.{number_of};
+ghost use Rattle.cargo_lock_encoding.specs.Text.{joined, lines_of};
+ghost use Rattle.cargo_lock.specs.Survives.{Survives, in_format};
+ghost use Rattle.cli.specs.declared.fault.Fault.TheVariants.{Library, Lost};
+ghost use Rattle.cli.specs.Translate.{PrintsTranslation};
+
+use crate::fault::Fault;
+use crate::output::{put, put_all};
+use crate::words;
+use cargo_lock::{Error, Lockfile, ResolveVersion};
+use clap::ArgMatches;
+use std::alloc::Global;
+use std::fs::File;
+use std::io::Write;
+use std::path::Path;
+use std::rt::Files;
+
+/// The output that stands for standard output.
+const STANDARD_OUTPUT: &str = "-";
+
+/// Writes the lockfile in the format that is asked for: into the output file, or to `out` with one
+/// more newline. The format is read before the file. Fails where either is not read, where the
+/// lockfile is to be checked and does not survive the format, and where the output fails.
+pub fn run<R: Files + AllocGlobal, W: Write>(
+    rt: &R,
+    options: &ArgMatches<'_>,
+    out: &mut W,
+) -> Result<(), Fault>
+    ensures { OnOk result (PrintsTranslation (W.contents out.old) (W.contents out.new)) }
+{
+    let format = ResolveVersion::from_str(rt.alloc(), words::format(options))?;
+    let lockfile = words::lockfile(rt, options)?;
+    if options.get_flag("check") {
+        check(rt.alloc(), &lockfile, format)?;
+    }
+    let text = text_in(rt.alloc(), lockfile, format)?;
+    match options.get_str("output") {
+        Some(path) if path != STANDARD_OUTPUT => save(rt, Path::new(path), text.as_str()),
+        _ => print(out, text.as_str()),
+    }
+}
+
+/// Refuses a lockfile that does not survive the format.
+fn check(alloc: Global, lockfile: &Lockfile, format: ResolveVersion) -> Result<(), Fault>
+    ensures ok { OnOk result (Survives lockfile.now format) }
+    ensures err { IfErr result (λ fault. (fault ≡ Library Memory)
+        ⊎ ((fault ≡ Lost (number_of format)) × (¬ Survives lockfile.now format))) }
+{
+    if lockfile.survives(alloc, format)? {
+        Ok(())
+    } else {
+        Err(Fault::Lost(u32::from(format)))
+    }
+}
+
+/// The text of the lockfile in another format.
+fn text_in(alloc: Global, lockfile: Lockfile, format: ResolveVersion) -> Result<String, Error>
+    ensures ok { IfOk result (λ text. string_bytes text ≡ joined (lines_of (in_format format lockfile))) }
+    ensures err { IsOkUnless result Memory }
+{
+    let mut lockfile = lockfile;
+    lockfile.version = format;
+    lockfile.to_string(alloc)
+}
+
+/// Writes the text into the file at this path, which is made or written anew.
+fn save<R: Files + AllocGlobal>(rt: &R, path: Path<'_>, text: &str) -> Result<(), Fault> {
+    let mut file = File::create(rt, path)?;
+    put_all(&mut file, text.as_bytes())?;
+    file.flush()?;
+    Ok(())
+}
+
+/// Prints the text and one more newline.
+fn print<W: Write>(out: &mut W, text: &str) -> Result<(), Fault>
+    ensures { OnOk result (Appends (W.contents out.old) (W.contents out.new) (text.now ++ 10 ∷ [])) }
+{
+    put(out, text)?;
+    put(out, "\n")?;
+    Ok(())
+}

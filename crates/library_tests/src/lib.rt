@@ -1,0 +1,27 @@
+//! Tests of what no row of text asks, over the public calls of `cargo_lock`: sinks and writers that
+//! fail, large and generated lockfiles, every order of the packages, bytes and numbers. What they
+//! expect was worked out by hand or comes from outside, never from the calls' own output.
+#![tactic(auto)]
+
+#[cfg(test)]
+mod chains;
+#[cfg(test)]
+mod generated;
+#[cfg(test)]
+mod hub;
+#[cfg(test)]
+mod large;
+#[cfg(test)]
+mod orders;
+#[cfg(test)]
+mod program;
+#[cfg(test)]
+mod references;
+#[cfg(test)]
+mod rings;
+#[cfg(test)]
+mod shared;
+#[cfg(test)]
+mod sinks;
+#[cfg(test)]
+mod values;

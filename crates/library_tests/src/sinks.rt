@@ -1,0 +1,231 @@
+//! Drawings into sinks that take few bytes a call or fail, and onto writers that fail.
+
+ghost use Rattle.std.specs.Prelude.{◌≡◌, ◌<◌, Some};
+
+use crate::shared::{REGISTRY_AND_GIT, first_root, or_fault, tree_of};
+use cargo_lock::Error;
+use cargo_lock::dependency::Tree;
+use cargo_lock::dependency::graph::EdgeDirection;
+use cargo_lock::dependency::tree::{Sink, Symbols, WriterSink};
+use std::alloc::Global;
+use std::io;
+use std::io::{ErrorKind, Write};
+
+// The drawing of that lockfile from its last package, on which none depends.
+const DRAWN: &str = "example 0.1.0
+├── tracing 0.2.0
+└── tower-buffer 0.3.0
+    └── tracing 0.1.35
+";
+
+// A sink that takes some bytes a call, and fails after some calls.
+#[derive(Drop)]
+struct Failing {
+    taken: Vec<u8>,
+    step: usize,
+    calls: usize,
+    faults: u64,
+    ghost some: { 0 < step },
+}
+
+impl Sink for Failing {
+    ghost taken = { λ sink. Some sink.taken.items };
+
+    ghost failures = { λ sink. sink.faults };
+
+    fn put(&mut self, bytes: &[u8]) -> Result<usize, ErrorKind> {
+        let count = bytes.len().min(self.step);
+        if self.calls == 0 || self.taken.extend_from_slice(&bytes[..count]).is_err() {
+            self.faults += 1;
+            return Err(ErrorKind::BrokenPipe);
+        }
+        self.calls -= 1;
+        Ok(count)
+    }
+
+    fn faults(&self) -> u64 {
+        self.faults
+    }
+}
+
+// The drawing into a sink that takes this many bytes a call, one at least, and fails after so many
+// calls: the answer, the count of faults and the bytes that were taken.
+fn into_failing(alloc: Global, step: usize, calls: usize) -> Result<String, Error> {
+    let tree = tree_of(alloc, REGISTRY_AND_GIT)?;
+    let mut sink = Failing {
+        taken: Vec::new(alloc),
+        step: step.max(1),
+        calls,
+        faults: 0,
+    };
+    let answer = draw(alloc, &tree, &mut sink);
+    told(alloc, answer, sink.faults(), sink.taken.as_slice())
+}
+
+fn draw(alloc: Global, tree: &Tree, sink: &mut Failing) -> Result<(), Error>
+    requires { sink.old.faults < 1 }
+{
+    let Some(start) = first_root(alloc, tree)? else {
+        return Ok(());
+    };
+    let symbols = Symbols::default();
+    tree.render_into(alloc, sink, start, EdgeDirection::Outgoing, &symbols, false)
+}
+
+// An answer, a count of faults, and bytes.
+fn told(
+    alloc: Global,
+    answer: Result<(), Error>,
+    faults: u64,
+    bytes: &[u8],
+) -> Result<String, Error> {
+    let text = std::str::from_utf8(bytes).unwrap_or("a part of a character at the end");
+    match answer {
+        Ok(()) => Ok(format!(in alloc; "ok, {faults}: {text}")?),
+        Err(fault) => Ok(format!(in alloc; "{fault}, {faults}: {text}")?),
+    }
+}
+
+#[test]
+fn sink_that_takes_one_byte_a_call(rt: HostRuntime) {
+    let answer = or_fault(rt.alloc(), into_failing(rt.alloc(), 1, 1000));
+    let wanted = or_fault(rt.alloc(), told(rt.alloc(), Ok(()), 0, DRAWN.as_bytes()));
+    assert_eq!(rt; answer.as_str(), wanted.as_str());
+}
+
+#[test]
+fn sink_that_fails(rt: HostRuntime) {
+    let answer = or_fault(rt.alloc(), into_failing(rt.alloc(), 5, 1));
+    assert_eq!(rt;
+        answer.as_str(),
+        "I/O operation failed: broken pipe, 1: examp"
+    );
+}
+
+// Whether a sink that takes one byte a call, and fails after so many calls, has taken that many
+// bytes of the drawing, and told its fault.
+fn is_cut_off_after(alloc: Global, tree: &Tree, calls: usize) -> bool {
+    let mut sink = Failing {
+        taken: Vec::new(alloc),
+        step: 1,
+        calls,
+        faults: 0,
+    };
+    let answer = draw(alloc, tree, &mut sink);
+    let taken = sink.taken.as_slice();
+    matches!(answer, Err(Error::Io(ErrorKind::BrokenPipe)))
+        && sink.faults() == 1
+        && taken.len() == calls
+        && DRAWN.as_bytes().starts_with(taken)
+}
+
+fn first_not_cut_off(alloc: Global, tree: &Tree) -> Option<usize> {
+    for calls in 0..DRAWN.len() {
+        if !is_cut_off_after(alloc, tree, calls) {
+            return Some(calls);
+        }
+    }
+    None
+}
+
+fn each_cut_off(alloc: Global) -> Result<String, Error> {
+    let tree = tree_of(alloc, REGISTRY_AND_GIT)?;
+    match first_not_cut_off(alloc, &tree) {
+        Some(calls) => Ok(format!(in alloc; "not after {calls} calls")?),
+        None => Ok(String::from_str(alloc, "each")?),
+    }
+}
+
+#[test]
+fn sink_that_fails_at_each_call(rt: HostRuntime) {
+    let answer = or_fault(rt.alloc(), each_cut_off(rt.alloc()));
+    assert_eq!(rt; answer.as_str(), "each");
+}
+
+// A writer that always answers this fault, or that it took no bytes.
+#[derive(Drop)]
+struct Broken {
+    answer: Option<ErrorKind>,
+}
+
+impl Write for Broken {
+    fn write(&mut self, _: &[u8]) -> io::Result<usize> {
+        match self.answer {
+            Some(kind) => Err(io::Error::from(kind)),
+            None => Ok(0),
+        }
+    }
+
+    fn flush(&mut self) -> io::Result<()> {
+        Ok(())
+    }
+}
+
+// The kind of the fault of a drawing onto such a writer.
+fn onto_broken(alloc: Global, answer: Option<ErrorKind>) -> Result<Option<ErrorKind>, Error> {
+    let tree = tree_of(alloc, REGISTRY_AND_GIT)?;
+    let mut out = Broken { answer };
+    match render(alloc, &tree, &mut out) {
+        Ok(()) => Ok(None),
+        Err(Error::Io(kind)) => Ok(Some(kind)),
+        Err(fault) => Err(fault),
+    }
+}
+
+fn render<W: Write>(alloc: Global, tree: &Tree, out: &mut W) -> Result<(), Error> {
+    let Some(start) = first_root(alloc, tree)? else {
+        return Ok(());
+    };
+    tree.render(alloc, out, start, EdgeDirection::Outgoing, false)
+}
+
+fn kind_of(answer: Result<Option<ErrorKind>, Error>) -> Option<ErrorKind> {
+    match answer {
+        Ok(kind) => kind,
+        Err(_) => None,
+    }
+}
+
+#[test]
+fn writer_that_is_interrupted(rt: HostRuntime) {
+    let kind = kind_of(onto_broken(rt.alloc(), Some(ErrorKind::Interrupted)));
+    assert_eq!(rt; kind, Some(ErrorKind::Interrupted));
+}
+
+#[test]
+fn writer_that_takes_no_bytes(rt: HostRuntime) {
+    let kind = kind_of(onto_broken(rt.alloc(), None));
+    assert_eq!(rt; kind, Some(ErrorKind::WriteZero));
+}
+
+// The drawing into a sink that is made of a writer, and the sink's count of faults.
+fn into_writer(alloc: Global) -> Result<String, Error> {
+    let tree = tree_of(alloc, REGISTRY_AND_GIT)?;
+    let mut out: Vec<u8> = Vec::new(alloc);
+    let faults = draw_onto(alloc, &tree, &mut out)?;
+    told(alloc, Ok(()), faults, out.as_slice())
+}
+
+fn draw_onto(alloc: Global, tree: &Tree, out: &mut Vec<u8>) -> Result<u64, Error> {
+    let Some(start) = first_root(alloc, tree)? else {
+        return Ok(0);
+    };
+    let mut sink = WriterSink::new(out);
+    let symbols = Symbols::default();
+    tree.render_into(
+        alloc,
+        &mut sink,
+        start,
+        EdgeDirection::Outgoing,
+        &symbols,
+        false,
+    )?;
+    Ok(sink.faults())
+}
+
+#[test]
+fn sink_made_of_a_writer(rt: HostRuntime) {
+    let answer = or_fault(rt.alloc(), into_writer(rt.alloc()));
+    let wanted = or_fault(rt.alloc(), told(rt.alloc(), Ok(()), 0, DRAWN.as_bytes()));
+    assert_eq!(rt; answer.as_str(), wanted.as_str());
+}

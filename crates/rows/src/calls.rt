@@ -1,0 +1,106 @@
+//! What a case can ask. Each answer is of whole lines.
+
+mod checksums;
+mod commands;
+mod drawings;
+mod files;
+mod formats;
+mod graphs;
+mod lockfiles;
+mod metadata;
+mod references;
+mod sources;
+mod tables;
+mod typed;
+
+use cargo_lock::Error;
+use std::alloc::Global;
+use std::fmt::Display;
+
+/// The texts that a case is asked of: the one at hand, one beside it, and the subject, which in a
+/// row is the row's left side, else the text at hand.
+#[derive(Clone, Copy)]
+pub struct Texts<'t> {
+    /// The text at hand.
+    pub at_hand: &'t str,
+    /// The text beside it.
+    pub beside: &'t str,
+    /// What the case is asked of.
+    pub subject: &'t str,
+    /// Whether the case is a row.
+    pub is_row: bool,
+}
+
+/// The answer of a call, or the text of the fault in its place.
+pub fn answer(rt: &HostRuntime, call: &str, texts: Texts<'_>) -> Result<String, Error> {
+    let words: Vec<&str> = call.split_whitespace().collect(rt.alloc())?;
+    let answer = ask(rt, words.as_slice(), texts);
+    or_fault(rt.alloc(), answer)
+}
+
+/// The wanted answer in the form in which the call gives it: a table is told as `toml` prints it,
+/// and any other text as it is.
+pub fn wanted(alloc: Global, call: &str, text: &str) -> Result<String, Error> {
+    if call.starts_with("table ") {
+        return or_fault(alloc, tables::printed_again(alloc, text));
+    }
+    Ok(String::from_str(alloc, text)?)
+}
+
+fn ask(rt: &HostRuntime, words: &[&str], texts: Texts<'_>) -> Result<String, Error> {
+    let alloc = rt.alloc();
+    match words {
+        ["name", how @ ..] => checksums::name_asked(alloc, how, texts.subject),
+        ["checksum", how @ ..] => checksums::asked(alloc, how, texts.subject),
+        ["key", how @ ..] => checksums::key_asked(alloc, how, texts.subject),
+        ["format", how @ ..] => formats::asked(alloc, how, texts.subject),
+        ["metadata", how @ ..] => metadata::asked(alloc, how, texts),
+        ["reference", how @ ..] => references::asked(alloc, how, texts),
+        ["source", how @ ..] => sources::asked(alloc, how, texts.subject),
+        ["typed", how @ ..] => typed::asked(alloc, how, texts.subject),
+        ["file", how @ ..] => files::asked(rt, how, texts.subject),
+        ["command", how @ ..] => commands::asked(rt, how, texts),
+        _ => lockfiles::asked(alloc, words, texts),
+    }
+}
+
+/// The answer where the words are no call.
+fn no_call(alloc: Global) -> Result<String, Error> {
+    line(alloc, "there is no such call")
+}
+
+/// What is displayed, as a line. It is generic, so that a format is proved here alone.
+fn line<D: Display + Drop>(alloc: Global, value: D) -> Result<String, Error> {
+    Ok(format!(in alloc; "{value}\n")?)
+}
+
+/// An answer, or the text of the fault in its place.
+fn or_fault(alloc: Global, answer: Result<String, Error>) -> Result<String, Error> {
+    match answer {
+        Ok(text) => Ok(text),
+        Err(fault) => line(alloc, &fault),
+    }
+}
+
+/// The answer of one way, if the other way gives the same, else both.
+fn alike(
+    alloc: Global,
+    one: Result<String, Error>,
+    other: Result<String, Error>,
+) -> Result<String, Error> {
+    let one = or_fault(alloc, one)?;
+    same_as(alloc, one, other)
+}
+
+fn same_as(alloc: Global, one: String, other: Result<String, Error>) -> Result<String, Error> {
+    let other = or_fault(alloc, other)?;
+    if one == other {
+        return Ok(one);
+    }
+    line(alloc, format_args!("{one}and the other way\n{other}"))
+}
+
+/// The two sides of a bar in a row.
+fn pair(subject: &str) -> (&str, &str) {
+    subject.split_once(" | ").unwrap_or((subject, ""))
+}

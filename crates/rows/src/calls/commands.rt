@@ -1,0 +1,55 @@
+//! Commands of the program, run in this folder, where the text at hand is the file `Cargo.lock`.
+
+use super::{Texts, line};
+use crate::notation;
+use cargo_lock::Error;
+use std::alloc::Global;
+use std::fs;
+use std::process::ExitCode;
+
+/// What a command puts out, and where it fails its message too, after a line `status 1`. The words
+/// of a row follow those of the call.
+pub fn asked(rt: &HostRuntime, how: &[&str], texts: Texts<'_>) -> Result<String, Error> {
+    fs::write(rt, "Cargo.lock", texts.at_hand)?;
+    let words = words_of(rt.alloc(), how, texts)?;
+    run(rt, words.as_slice())
+}
+
+fn words_of(alloc: Global, how: &[&str], texts: Texts<'_>) -> Result<Vec<String>, Error> {
+    let mut words = Vec::new(alloc);
+    for word in how {
+        words.push(notation::word(alloc, word)?)?;
+    }
+    if texts.is_row {
+        for word in texts.subject.split(' ') {
+            words.push(notation::word(alloc, word)?)?;
+        }
+    }
+    Ok(words)
+}
+
+fn run(rt: &HostRuntime, words: &[String]) -> Result<String, Error> {
+    let mut out: Vec<u8> = Vec::new(rt.alloc());
+    let mut err: Vec<u8> = Vec::new(rt.alloc());
+    let status = cli::run(rt, words, &mut out, &mut err);
+    told(rt.alloc(), status, out.as_slice(), err.as_slice())
+}
+
+fn told(alloc: Global, status: ExitCode, out: &[u8], err: &[u8]) -> Result<String, Error> {
+    let out = text_of(out);
+    let err = text_of(err);
+    if status == ExitCode::SUCCESS && err.is_empty() {
+        return Ok(String::from_str(alloc, out)?);
+    }
+    let status = if status == ExitCode::SUCCESS { 0 } else { 1 };
+    let end = if err.ends_with('\n') {
+        ""
+    } else {
+        ", not a whole line"
+    };
+    Ok(format!(in alloc; "{out}status {status}{end}\n{err}")?)
+}
+
+fn text_of(bytes: &[u8]) -> &str {
+    std::str::from_utf8(bytes).unwrap_or("not text")
+}

@@ -1,0 +1,108 @@
+//! Printed lockfiles.
+
+use super::super::formats::format;
+use super::super::{line, no_call};
+use cargo_lock::{Error, Lockfile};
+use std::alloc::Global;
+use toml::Table;
+
+/// What is asked of a lockfile's text, and of the text that it was read from.
+pub fn asked(
+    alloc: Global,
+    how: &[&str],
+    lockfile: &mut Lockfile,
+    text: &str,
+) -> Result<String, Error> {
+    match how {
+        [] => printed(alloc, lockfile),
+        ["again"] => printed_again(alloc, lockfile, text),
+        ["in", number] => printed_in(alloc, lockfile, number),
+        ["again", "in", number] => again_in(alloc, lockfile, number),
+        ["after", "table", "in", number] => after_table_in(alloc, lockfile, number),
+        _ => no_call(alloc),
+    }
+}
+
+/// The text of a lockfile, where `toml` reads it as the table of the lockfile, so far as a text has
+/// what a table has. Lockfiles are printed by this alone.
+pub fn printed(alloc: Global, lockfile: &Lockfile) -> Result<String, Error> {
+    let text = lockfile.to_string(alloc)?;
+    if is_read_as_table(alloc, text.as_str(), lockfile)? {
+        return Ok(text);
+    }
+    line(alloc, format_args!("{text}is read as another table"))
+}
+
+fn is_read_as_table(alloc: Global, text: &str, lockfile: &Lockfile) -> Result<bool, Error> {
+    let table = printed_table(alloc, lockfile)?;
+    Ok(is_read_as(alloc, text, &table))
+}
+
+fn is_read_as(alloc: Global, text: &str, table: &Table) -> bool {
+    match toml::table_from_str(alloc, text) {
+        Ok(read) => read == *table,
+        Err(_) => false,
+    }
+}
+
+/// The table of what a text has: without the root, without a list of no packages, and without the
+/// replacement of a package that has dependencies.
+fn printed_table(alloc: Global, lockfile: &Lockfile) -> Result<Table, Error> {
+    let plain = without_hidden(lockfile)?;
+    let mut table = table_of(alloc, &plain)?;
+    if plain.packages.is_empty() {
+        let _ = table.remove("package");
+    }
+    Ok(table)
+}
+
+fn table_of(alloc: Global, lockfile: &Lockfile) -> Result<Table, Error> {
+    lockfile.to_table(alloc)
+}
+
+fn without_hidden(lockfile: &Lockfile) -> Result<Lockfile, Error> {
+    let mut plain = lockfile.clone()?;
+    plain.root = None;
+    for package in &mut plain.packages {
+        if !package.dependencies.is_empty() {
+            package.replace = None;
+        }
+    }
+    Ok(plain)
+}
+
+/// Whether a text is printed as it stands, else what is printed.
+fn printed_again(alloc: Global, lockfile: &Lockfile, text: &str) -> Result<String, Error> {
+    let answer = printed(alloc, lockfile)?;
+    if answer.as_str() == text {
+        return line(alloc, "as it stands");
+    }
+    Ok(answer)
+}
+
+fn printed_in(alloc: Global, lockfile: &mut Lockfile, number: &str) -> Result<String, Error> {
+    lockfile.version = format(alloc, number)?;
+    printed(alloc, lockfile)
+}
+
+/// Whether the text of the table that is written in a format is printed as it stands.
+fn again_in(alloc: Global, lockfile: &mut Lockfile, number: &str) -> Result<String, Error> {
+    let text = after_table_in(alloc, lockfile, number)?;
+    printed_of(alloc, text.as_str())
+}
+
+fn printed_of(alloc: Global, text: &str) -> Result<String, Error> {
+    let lockfile = super::read(alloc, text)?;
+    printed_again(alloc, &lockfile, text)
+}
+
+/// The text of the lockfile that the table written in a format means.
+fn after_table_in(alloc: Global, lockfile: &mut Lockfile, number: &str) -> Result<String, Error> {
+    lockfile.version = format(alloc, number)?;
+    after_table(alloc, lockfile)
+}
+
+fn after_table(alloc: Global, lockfile: &Lockfile) -> Result<String, Error> {
+    let again = super::written_again(alloc, lockfile)?;
+    printed(alloc, &again)
+}

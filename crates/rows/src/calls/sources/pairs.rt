@@ -1,0 +1,36 @@
+//! Two sources beside one another.
+
+use super::super::{line, no_call, pair};
+use super::source;
+use cargo_lock::{Error, SourceId};
+use std::alloc::Global;
+
+/// What is asked of the sources on the sides of a bar, or of one and the default registry.
+pub fn asked(alloc: Global, how: &str, sides: &str) -> Result<String, Error> {
+    let (one, other) = pair(sides);
+    let one = source(alloc, one)?;
+    let other = match how {
+        "beside" => SourceId::default_registry(alloc)?,
+        _ => source(alloc, other)?,
+    };
+    match how {
+        "ranks" | "beside" => ranks(alloc, &one, &other),
+        "order" => order(alloc, &one, &other),
+        _ => no_call(alloc),
+    }
+}
+
+/// The rank of two sources from both sides, with 0 for none, and whether they are equal.
+fn ranks(alloc: Global, one: &SourceId, other: &SourceId) -> Result<String, Error> {
+    let rank = one.match_rank(other).unwrap_or(0);
+    let back = other.match_rank(one).unwrap_or(0);
+    let equal = one == other;
+    line(alloc, format_args!("{rank} {back} {equal}"))
+}
+
+/// How two sources compare, from both sides.
+fn order(alloc: Global, one: &SourceId, other: &SourceId) -> Result<String, Error> {
+    let order = one.cmp(other);
+    let back = other.cmp(one);
+    line(alloc, format_args!("{order:?} {back:?}"))
+}

@@ -1,0 +1,32 @@
+//! A lockfile in which a package has another version.
+
+use cargo_lock::{Error, Lockfile, Package, Version};
+use std::alloc::Global;
+
+/// Gives the packages of a name another version, and takes their checksums away, which are those of
+/// the old one. What depended on the old version is told too.
+pub fn changed(
+    alloc: Global,
+    lockfile: &Lockfile,
+    name: &str,
+    version: &str,
+) -> Result<Lockfile, Error> {
+    let mut lockfile = lockfile.clone()?;
+    for package in &mut lockfile.packages {
+        change(alloc, package, name, version)?;
+    }
+    Ok(lockfile)
+}
+
+fn change(alloc: Global, package: &mut Package, name: &str, version: &str) -> Result<(), Error> {
+    if package.name.as_str() == name {
+        package.version = Version::parse(alloc, version)?;
+        package.checksum = None;
+    }
+    for dependency in &mut package.dependencies {
+        if dependency.name.as_str() == name {
+            dependency.version = Version::parse(alloc, version)?;
+        }
+    }
+    Ok(())
+}

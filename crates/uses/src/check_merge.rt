@@ -1,0 +1,34 @@
+//! Whether a lockfile is as Cargo would write it after a merge: its text is read, its own format
+//! keeps it, and it is printed as it stands.
+
+ghost use Rattle.std.specs.Prelude.{◌≡◌, IfOk, IsTrue};
+ghost use Rattle.cargo_lock_encoding.specs.Means.{TextMeans};
+ghost use Rattle.cargo_lock_encoding.specs.Records.{LockfileData};
+ghost use Rattle.cargo_lock_encoding.specs.Text.{joined, lines_of};
+ghost use Rattle.cargo_lock.specs.Survives.{Survives};
+
+use cargo_lock::{Error, Lockfile};
+use std::alloc::Global;
+use std::fs;
+use std::path::Path;
+
+/// Whether the lockfile in a file is kept by its format and printed as the file.
+pub fn is_as_cargo_writes_it(rt: &HostRuntime, path: Path<'_>) -> Result<bool, Error> {
+    let text = fs::read_to_string(rt, path)?;
+    is_kept(rt.alloc(), text.as_str())
+}
+
+/// Whether the lockfile of a text is kept by its format and printed as the text.
+pub fn is_kept(alloc: Global, text: &str) -> Result<bool, Error>
+    ensures kept { IfOk result (λ kept. IsTrue kept → (lockfile : LockfileData)
+        × TextMeans text.now lockfile
+        × Survives lockfile lockfile.version
+        × (joined (lines_of lockfile) ≡ text.now)) }
+{
+    let lockfile = Lockfile::from_str(alloc, text)?;
+    if !lockfile.survives(alloc, lockfile.version)? {
+        return Ok(false);
+    }
+    let printed = lockfile.to_string(alloc)?;
+    Ok(printed.as_str() == text)
+}
