@@ -19,7 +19,7 @@ use Rattle.cargo_lock_encoding.specs.declared.version.ResolveVersion.TheVariants
 use Rattle.cargo_lock_encoding.specs.Chosen.{bears_both, bears_name, chosen_form, in_full, marked, one, shortened, unless_path, without_source, written_source}
 use Rattle.cargo_lock_encoding.specs.Form.{Form, form_text, of_one, source_part, version_part}
 use Rattle.cargo_lock_encoding.specs.Metadata.{checksum_key, checksum_pairs, has_key, metadata_of, pairs_before, with_checksums, without_checksums}
-use Rattle.cargo_lock_encoding.specs.Records.{EntryData, EncodedData, LockfileData, Texts, is_escaped}
+use Rattle.cargo_lock_encoding.specs.Records.{EntryData, EncodedData, LockfileData, Texts, is_escaped, is_escaped_number}
 use Rattle.cargo_lock_encoding.specs.Said.{same_parts, same_text}
 use Rattle.cargo_lock.specs.Survives.{HasSamePackages}
 use Rattle.cargo_lock.specs.Same.{EqualTablesAndTexts}
@@ -278,8 +278,8 @@ record PatchTexts : Type 0 where
   pub version : Parts
   pub source : Option (List ℕ)
 
-abbrev patch_texts : Identity → PatchTexts
-patch_texts i = record { name = i.name; version = i.version; source = option_map marked_text (written_source false i.source) }
+abbrev patch_texts : Bool → Identity → PatchTexts
+patch_texts escaped i = record { name = i.name; version = i.version; source = option_map marked_text (written_source escaped i.source) }
 
 abbrev patch_texts_value : PatchTexts → Data
 patch_texts_value t = table (present (
@@ -287,9 +287,9 @@ patch_texts_value t = table (present (
     ∷ (codes "source", option_map string t.source)
     ∷ (codes "version", Some (string (parts_text t.version))) ∷ []))
 
-patch_value-texts : (i : Identity) → patch_entry_value false i ≡ patch_texts_value (patch_texts i)
-patch_value-texts d =
-    let s = optionally-by source_value string marked_text (λ m. refl) (written_source false d.source) in
+patch_value-texts : (escaped : Bool) (i : Identity) → patch_entry_value escaped i ≡ patch_texts_value (patch_texts escaped i)
+patch_value-texts escaped d =
+    let s = optionally-by source_value string marked_text (λ m. refl) (written_source escaped d.source) in
     λ i. table (present (
     (codes "name", Some (string d.name))
     ∷ (codes "source", s i)
@@ -300,17 +300,17 @@ patch_texts_lines t =
     [] ∷ codes "[[patch.unused]]" ∷ field (codes "name") t.name ∷ field (codes "version") (parts_text t.version)
     ∷ (option_to_list (option_map (field (codes "source")) t.source) ++ [] ∷ [])
 
-patch_lines-texts : (d : Identity) → patch_lines false d ≡ patch_texts_lines (patch_texts d)
-patch_lines-texts d =
-    let s = optionally-by source_line (field (codes "source")) marked_text (λ m. refl) (written_source false d.source) in
+patch_lines-texts : (escaped : Bool) (d : Identity) → patch_lines escaped d ≡ patch_texts_lines (patch_texts escaped d)
+patch_lines-texts escaped d =
+    let s = optionally-by source_line (field (codes "source")) marked_text (λ m. refl) (written_source escaped d.source) in
     λ i. [] ∷ codes "[[patch.unused]]" ∷ field (codes "name") d.name ∷ field (codes "version") (parts_text d.version)
     ∷ (option_to_list (s i) ++ [] ∷ [])
 
-abbrev key_patch : IdentityKey → PatchTexts
-key_patch k = record { name = k.name; version = k.version; source = written_text false k.source }
+abbrev key_patch : Bool → IdentityKey → PatchTexts
+key_patch escaped k = record { name = k.name; version = k.version; source = written_text escaped k.source }
 
-patch_texts-key : (d : Identity) → patch_texts d ≡ key_patch (identity_key d)
-patch_texts-key d = let s = written_source-text false d.source in λ i. record { name = d.name; version = d.version; source = s i }
+patch_texts-key : (escaped : Bool) (d : Identity) → patch_texts escaped d ≡ key_patch escaped (identity_key d)
+patch_texts-key escaped d = let s = written_source-text escaped d.source in λ i. record { name = d.name; version = d.version; source = s i }
 
 -- ---- all values
 
@@ -327,7 +327,7 @@ encoded_texts e = record {
   entries = map entry_texts e.entries;
   root = option_map entry_texts e.root;
   metadata = e.metadata;
-  patch = map patch_texts e.patch;
+  patch = map (patch_texts (is_escaped_number e.version)) e.patch;
 }
 
 abbrev table_of_texts : EncodedTexts → Members
@@ -342,7 +342,7 @@ encoded_table-texts : (e : EncodedData) → encoded_table e ≡ table_of_texts (
 unfolding encoded_table
 encoded_table-texts e =
     let ps = map-by entry_value texts_value entry_texts entry_value-texts e.entries in
-    let us = map-by (patch_entry_value false) patch_texts_value patch_texts patch_value-texts e.patch in
+    let us = map-by (patch_entry_value (is_escaped_number e.version)) patch_texts_value (patch_texts (is_escaped_number e.version)) (patch_value-texts (is_escaped_number e.version)) e.patch in
     let r = optionally-by entry_value texts_value entry_texts entry_value-texts e.root in
     λ i. present (
     (codes "metadata", metadata_value e.metadata)
@@ -359,7 +359,7 @@ lines_of_texts e =
 encoded_lines-texts : (e : EncodedData) → encoded_lines e ≡ lines_of_texts (encoded_texts e)
 encoded_lines-texts e =
     let ps = lines-by entry_lines texts_lines entry_texts entry_lines-texts e.entries in
-    let us = lines-by (patch_lines false) patch_texts_lines patch_texts patch_lines-texts e.patch in
+    let us = lines-by (patch_lines (is_escaped_number e.version)) patch_texts_lines (patch_texts (is_escaped_number e.version)) (patch_lines-texts (is_escaped_number e.version)) e.patch in
     λ i. comment_lines ++ (version_lines e.version ++ (ps i ++ (us i ++ metadata_lines (entries e.metadata))))
 
 -- ---- metadata
@@ -438,7 +438,7 @@ key_encoded v packages root metadata patch = record {
   entries = map (key_entry v (map (λ k. k.identity) packages)) packages;
   root = option_map (key_root v) root;
   metadata = metadata;
-  patch = map key_patch patch;
+  patch = map (key_patch (is_escaped_number (written_version v))) patch;
 }
 
 entries-key : (v : ResolveVersion) (ps : List PackageData)
@@ -458,7 +458,7 @@ encoded_of-key l =
     let ps = entries-key l.version l.packages in
     let r = optionally-through entry_texts (root_entry l.version) (key_root l.version) package_key
     (λ p. entry_with-texts l.version p.checksum (in_full (is_escaped l.version)) (full_text (is_escaped l.version)) p (in_full-text (is_escaped l.version))) l.root in
-    let us = map-by patch_texts key_patch identity_key patch_texts-key l.patch in
+    let us = map-by (patch_texts (is_escaped_number (written_version l.version))) (key_patch (is_escaped_number (written_version l.version))) identity_key (patch_texts-key (is_escaped_number (written_version l.version))) l.patch in
     λ i. record { version = written_version l.version; entries = ps i; root = r i; metadata = metadata_of l.version l.metadata l.packages; patch = us i }
 
 -- lockfiles with the same format, equal packages and the same written metadata have one written form

@@ -7,7 +7,7 @@ use Rattle.cargo_lock_encoding.specs.Meaning.{locked, meaning}
 use Rattle.cargo_lock_encoding.specs.Metadata.{metadata_of}
 use Rattle.cargo_lock_encoding.specs.Optional.{◌>>=◌}
 use Rattle.cargo_lock.specs.Printed.{PrintedBack, printed_table}
-use Rattle.cargo_lock_encoding.specs.Records.{EncodedData, LockfileData}
+use Rattle.cargo_lock_encoding.specs.Records.{EncodedData, LockfileData, is_escaped}
 use Rattle.cargo_lock.specs.Survives.{Survives}
 use Rattle.cargo_lock_encoding.specs.Table.{entry_of, entry_value, metadata_value, patch_value, present, table_of, unless_empty, written_version}
 use Rattle.cargo_lock_encoding.specs.TableReading.{all_entries_at, encoded_at, entries_at, optional_list}
@@ -44,8 +44,8 @@ printed-values l =
     let ds = map entry_value (map (entry_of l.version (map identity_of l.packages)) l.packages) in
     let metadata = metadata_value (metadata_of l.version l.metadata l.packages) in
     let version = option_map integer (written_version l.version) in
-    printed-present metadata (unless_empty ds) (patch_value l.patch) version
-    ∙ ap (λ (o : Option Items). values_from metadata o (patch_value l.patch) None version) (list-read ds)
+    printed-present metadata (unless_empty ds) (patch_value (is_escaped l.version) l.patch) version
+    ∙ ap (λ (o : Option Items). values_from metadata o (patch_value (is_escaped l.version) l.patch) None version) (list-read ds)
     ∙ sym (table-values l.version (without_root l))
 
 no_root : (o : Option PackageData) → option_map package_key o ≡ None → o ≡ None

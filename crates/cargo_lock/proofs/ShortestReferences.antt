@@ -18,7 +18,7 @@ use Rattle.cargo_lock_encoding.specs.Form.{Form, form_text}
 use Rattle.cargo_lock_encoding.specs.FormOrder.{form_key}
 use Rattle.cargo_lock_encoding.specs.Metadata.{metadata_of}
 use Rattle.cargo_lock_encoding.specs.Optional.{◌>>=◌}
-use Rattle.cargo_lock_encoding.specs.Records.{EntryData, LockfileData}
+use Rattle.cargo_lock_encoding.specs.Records.{EntryData, LockfileData, is_escaped_number}
 use Rattle.cargo_lock_encoding.specs.Said.{same_text}
 use Rattle.cargo_lock.specs.Shortest.{AreDistinct, HasShortestReferences, IsAmong, IsShortening, ShortestReferences, WrittenByBearers, bearers, bears_some, item_at, package_at, reference_at}
 use Rattle.cargo_lock.specs.Survives.{EntrySurvives, SourceSurvives, Survives}
@@ -64,7 +64,7 @@ entries l = map (entry_of l.version (map identity_of l.packages)) l.packages
 package-member : (l : LockfileData) → get_member (codes "package") (table_of l) ≡ Some (packages_value (entries l))
 unfolding encoded_table encoded_of
 package-member l = packages-member (metadata_value (metadata_of l.version l.metadata l.packages)) (packages_value (entries l)) (
-    (codes "patch", patch_value l.patch)
+    (codes "patch", patch_value (is_escaped_number (written_version l.version)) l.patch)
     ∷ (codes "root", option_map entry_value (option_map (root_entry l.version) l.root))
     ∷ (codes "version", option_map integer (written_version l.version)) ∷ [])
 

@@ -17,7 +17,7 @@ use Rattle.cargo_lock_encoding.specs.Meaning.{ResolvedData, all_packages, comple
 use Rattle.cargo_lock_encoding.specs.Means.{entry_checksum, reading_list}
 use Rattle.cargo_lock_encoding.specs.Metadata.{checksum_in, has_checksum_key, metadata_of}
 use Rattle.cargo_lock_encoding.specs.Optional.{◌>>=◌, map_all, map_some}
-use Rattle.cargo_lock_encoding.specs.Records.{EncodedData, EntryData, LockfileData, Texts, entry_identity, is_escaped}
+use Rattle.cargo_lock_encoding.specs.Records.{EncodedData, EntryData, LockfileData, Texts, entry_identity, is_escaped, is_escaped_number}
 use Rattle.cargo_lock.specs.Survives.{ChecksumSurvives, DigestReadsBack, EntrySurvives, FormatSurvives, HasSamePackages, PatchSurvives, ReadsBack, RootSurvives, Survives, SurvivesExactly, in_format}
 use Rattle.cargo_lock_encoding.specs.Table.{checksum_value, encoded_of, encoded_table, entry_of, entry_table, entry_value, metadata_value, patch_entry_value, patch_table, patch_value, present, root_entry, table_of, text_members, unless_no_text, written_checksum, written_version}
 use Rattle.cargo_lock_encoding.specs.TableReading.{EntriesData, all_entries_at, checksum_from, encoded_at, entries_at, entry_at, entry_in, metadata_in, number_in, optional_by, optional_list, pairs_at, patch_entry_at, patch_entry_in, patch_in, put_all, read_all, required_text, source_in, version_of}
@@ -42,44 +42,51 @@ unfolding patch_entry_at
 patch-present None n v = refl
 patch-present (Some s) n v = refl
 
-patch-survives : (i j : Identity) → patch_entry_at (patch_table false i) ≡ Some j → identity_key j ≡ identity_key i → PatchSurvives i
-patch-survives i j h k =
-    let e = sym (patch-present (source_data false i.source) (string i.name) (string (parts_text i.version))) ∙ h in
+patch-survives : (format : ResolveVersion) (i j : Identity) → patch_entry_at (patch_table (is_escaped format) i) ≡ Some j → identity_key j ≡ identity_key i → PatchSurvives format i
+patch-survives format i j h k =
+    let e = sym (patch-present (source_data (is_escaped format) i.source) (string i.name) (string (parts_text i.version))) ∙ h in
     let a = bind-parts (version_of (parts_text i.version)) _ j e in
-    let b = bind-parts (optional_by source_in (source_data false i.source)) _ j a.2 in
+    let b = bind-parts (optional_by source_in (source_data (is_escaped format) i.source)) _ j a.2 in
     let made : ◌≡◌ {A = Identity} (record { name = i.name; version = a.0; source = b.0 }) j = same_Some _ _ b.2 in (
       a.1 ∙ ap (λ (x : Identity). Some x.version) made ∙ ap (λ (x : IdentityKey). Some x.version) k,
-      source-survives false i.source b.0 b.1 (ap (λ (x : Identity). option_map key_of x.source) made ∙ ap (λ (x : IdentityKey). x.source) k),
+      source-survives (is_escaped format) i.source b.0 b.1 (ap (λ (x : Identity). option_map key_of x.source) made ∙ ap (λ (x : IdentityKey). x.source) k),
     )
 
-patch-reads : (i : Identity) → PatchSurvives i → (j : Identity) × (patch_entry_at (patch_table false i) ≡ Some j) × (identity_key j ≡ identity_key i)
-patch-reads i h =
-    let s = source-reads false i.source h.1 in (
+patch-reads : (format : ResolveVersion) (i : Identity) → PatchSurvives format i → (j : Identity) × (patch_entry_at (patch_table (is_escaped format) i) ≡ Some j) × (identity_key j ≡ identity_key i)
+patch-reads format i h =
+    let s = source-reads (is_escaped format) i.source h.1 in (
       record { name = i.name; version = i.version; source = s.0 },
-      patch-present (source_data false i.source) (string i.name) (string (parts_text i.version)) ∙ rw (h.0, s.1) refl,
+      patch-present (source_data (is_escaped format) i.source) (string i.name) (string (parts_text i.version)) ∙ rw (h.0, s.1) refl,
       ap (λ (k : Option Key). record { name = i.name; version = i.version; source = k }) s.2,
     )
 
-abbrev patch_items : List Identity → Items
-patch_items is = items_of (map (patch_entry_value false) is)
+abbrev patch_items : ResolveVersion → List Identity → Items
+patch_items format is = items_of (map (patch_entry_value (is_escaped format)) is)
 
-patches-survive : (is js : List Identity) → read_all patch_entry_in (patch_items is) ≡ Some js → map identity_key js ≡ map identity_key is → AllByRecursion PatchSurvives is
-patches-survive [] js r k = tt
-patches-survive (i ∷ is) js r k =
-    let a = all-parts (patch_entry_at (patch_table false i)) (read_all patch_entry_in (patch_items is)) js r in
+patches-survive : (format : ResolveVersion) (is js : List Identity) → read_all patch_entry_in (patch_items format is) ≡ Some js → map identity_key js ≡ map identity_key is → AllByRecursion (PatchSurvives format) is
+patches-survive format [] js r k = tt
+patches-survive format (i ∷ is) js r k =
+    let a = all-parts (patch_entry_at (patch_table (is_escaped format) i)) (read_all patch_entry_in (patch_items format is)) js r in
     let keys = cons-parts (identity_key a.0) (identity_key i) (map identity_key a.1) (map identity_key is) (ap (map identity_key) (sym a.4) ∙ k) in
-    (patch-survives i a.0 a.2 keys.0, patches-survive is a.1 a.3 keys.1)
+    (patch-survives format i a.0 a.2 keys.0, patches-survive format is a.1 a.3 keys.1)
 
-patches-read : (is : List Identity) → AllByRecursion PatchSurvives is → (js : List Identity) × (read_all patch_entry_in (patch_items is) ≡ Some js) × (map identity_key js ≡ map identity_key is)
-patches-read [] h = ([], refl, refl)
-patches-read (i ∷ is) h =
-    let a = patch-reads i h.0 in
-    let b = patches-read is h.1 in
+patches-read : (format : ResolveVersion) (is : List Identity) → AllByRecursion (PatchSurvives format) is → (js : List Identity) × (read_all patch_entry_in (patch_items format is) ≡ Some js) × (map identity_key js ≡ map identity_key is)
+patches-read format [] h = ([], refl, refl)
+patches-read format (i ∷ is) h =
+    let a = patch-reads format i h.0 in
+    let b = patches-read format is h.1 in
     (a.0 ∷ b.0, all-made _ _ a.0 b.0 a.1 b.1, λ k. a.2 k ∷ b.2 k)
 
-patch-value : (is : List Identity) → patch_in (patch_value is) ≡ read_all patch_entry_in (patch_items is)
-patch-value [] = refl
-patch-value (i ∷ is) = refl
+patch-value : (format : ResolveVersion) (is : List Identity) → patch_in (patch_value (is_escaped format) is) ≡ read_all patch_entry_in (patch_items format is)
+patch-value format [] = refl
+patch-value format (i ∷ is) = refl
+
+-- the number that is written tells what the format does
+escaped-number : (format : ResolveVersion) → is_escaped_number (written_version format) ≡ is_escaped format
+escaped-number V1 = refl
+escaped-number V2 = refl
+escaped-number V3 = refl
+escaped-number V4 = refl
 
 -- ---- metadata
 
@@ -326,11 +333,14 @@ written_metadata format l = metadata_of format l.metadata l.packages
 -- what the parts of the table are read as
 abbrev values : ResolveVersion → LockfileData → Option EncodedData
 values format l = values_from (metadata_value (written_metadata format l)) (Some (package_items format (identities l) l.packages))
-    (patch_value l.patch) (root_data format l.root) (option_map integer (written_version format))
+    (patch_value (is_escaped format) l.patch) (root_data format l.root) (option_map integer (written_version format))
 
 pub table-values : (format : ResolveVersion) (l : LockfileData) → encoded_at (table_of (in_format format l)) ≡ values format l
 unfolding encoded_table encoded_of
-table-values format l = values-present _ _ _ _ _
+table-values format l =
+    values-present _ _ _ _ _
+    ∙ ap (λ (b : Bool). values_from (metadata_value (written_metadata format l)) (Some (package_items format (identities l) l.packages))
+    (patch_value b l.patch) (root_data format l.root) (option_map integer (written_version format))) (escaped-number format)
 
 -- what the values were read from
 record AreValues (format : ResolveVersion) (l : LockfileData) (e : EncodedData) : Type 0 where
@@ -338,14 +348,14 @@ record AreValues (format : ResolveVersion) (l : LockfileData) (e : EncodedData) 
   listed : read_all entry_in (package_items format (identities l) l.packages) ≡ Some e.entries
   base : optional_by entry_in (root_data format l.root) ≡ Some e.root
   metadata : e.metadata ≡ written_metadata format l
-  patch : read_all patch_entry_in (patch_items l.patch) ≡ Some e.patch
+  patch : read_all patch_entry_in (patch_items format l.patch) ≡ Some e.patch
 
 value-parts : (format : ResolveVersion) (l : LockfileData) (e : EncodedData) → values format l ≡ Some e → AreValues format l e
 value-parts format l e h =
     let n = bind-parts (optional_by number_in (option_map integer (written_version format))) _ e h in
     let all = bind-parts (entries_from (Some (package_items format (identities l) l.packages)) (root_data format l.root)) _ e n.2 in
     let m = bind-parts (metadata_in (metadata_value (written_metadata format l))) _ e all.2 in
-    let p = bind-parts (patch_in (patch_value l.patch)) _ e m.2 in
+    let p = bind-parts (patch_in (patch_value (is_escaped format) l.patch)) _ e m.2 in
     let es = bind-parts (read_all entry_in (package_items format (identities l) l.packages)) _ all.0 all.1 in
     let r = bind-parts (optional_by entry_in (root_data format l.root)) _ all.0 es.2 in
     let both : ◌≡◌ {A = EntriesData} (record { listed = es.0; root = r.0 }) all.0 = same_Some _ _ r.2 in
@@ -355,7 +365,7 @@ value-parts format l e h =
       listed = es.1 ∙ ap (λ (x : EntriesData). Some x.listed) both ∙ ap (λ (x : EncodedData). Some x.entries) made;
       base = r.1 ∙ ap (λ (x : EntriesData). Some x.root) both ∙ ap (λ (x : EncodedData). Some x.root) made;
       metadata = sym (ap (λ (x : EncodedData). x.metadata) made) ∙ same_Some _ _ (sym m.1 ∙ metadata-read (written_metadata format l));
-      patch = sym (patch-value l.patch) ∙ p.1 ∙ ap (λ (x : EncodedData). Some x.patch) made;
+      patch = sym (patch-value format l.patch) ∙ p.1 ∙ ap (λ (x : EncodedData). Some x.patch) made;
     }
 
 -- ---- lockfiles
@@ -398,10 +408,10 @@ reading l format h =
     let es = entries-read format (identities l) md l.packages h.packages in
     let qs = es.means (map entry_identity es.entries) es.identities in
     let root = root-reads format l.root h.root in
-    let patch = patches-read l.patch h.patch in
+    let patch = patches-read format l.patch h.patch in
     let e : EncodedData = record { version = written_version format; entries = es.entries; root = root.0; metadata = md; patch = patch.0 } in
     let x : LockfileData = record { version = format; packages = qs.0; root = root.1; metadata = md; patch = patch.0 } in
-    let read : values format l ≡ Some e = rw (number-read format, es.read, root.2, metadata-read md, patch-value l.patch, patch.1) refl in
+    let read : values format l ≡ Some e = rw (number-read format, es.read, root.2, metadata-read md, patch-value format l.patch, patch.1) refl in
     let found : locked e ≡ Some x = rw (format-read format es.entries md es.none h.told, qs.1, root.3) refl in
     record {
       read = x;
@@ -429,7 +439,7 @@ survives-from l x format h told same =
     record {
       packages = entries-survive format (identities l) (map entry_identity e.entries) md ids l.packages e.entries x.packages v.listed found same.packages;
       root = root-survives format l.root e.root x.root v.base k.root same.root;
-      patch = patches-survive l.patch e.patch v.patch (ap (map identity_key) k.patch ∙ same.patch);
+      patch = patches-survive format l.patch e.patch v.patch (ap (map identity_key) k.patch ∙ same.patch);
       told = format-survives format e.entries md shown;
     }
 

@@ -6,7 +6,7 @@ use Rattle.toml.specs.Parse.{parse_document}
 use Rattle.cargo_lock_parts.specs.Identity.{PackageData, identity_key, identity_of, package_key}
 use Rattle.cargo_lock_encoding.specs.Means.{TextMeans}
 use Rattle.cargo_lock_encoding.specs.Metadata.{metadata_of}
-use Rattle.cargo_lock_encoding.specs.Records.{LockfileData}
+use Rattle.cargo_lock_encoding.specs.Records.{LockfileData, is_escaped}
 use Rattle.cargo_lock.specs.Survives.{Survives}
 use Rattle.cargo_lock_encoding.specs.Table.{entry_of, entry_value, metadata_value, patch_value, present, unless_empty, written_version}
 use Rattle.cargo_lock_encoding.specs.Text.{joined, lines_of}
@@ -17,7 +17,7 @@ abbrev pub printed_table : LockfileData → Members
 printed_table l = present (
     (codes "metadata", metadata_value (metadata_of l.version l.metadata l.packages))
     ∷ (codes "package", unless_empty (map entry_value (map (entry_of l.version (map identity_of l.packages)) l.packages)))
-    ∷ (codes "patch", patch_value l.patch)
+    ∷ (codes "patch", patch_value (is_escaped l.version) l.patch)
     ∷ (codes "version", option_map integer (written_version l.version)) ∷ [])
 
 -- the text has the replacement of a package only where the package has no dependencies

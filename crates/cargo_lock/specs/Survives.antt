@@ -88,9 +88,9 @@ abbrev pub RootSurvives : ResolveVersion → PackageData → Type 0
 RootSurvives format p =
     PackageSurvives format (in_full (is_escaped format)) [] p × IfSome p.checksum DigestReadsBack
 
--- an unused patch, whose source is plain in every format
-abbrev pub PatchSurvives : Identity → Type 0
-PatchSurvives i = VersionSurvives i.version × IfSome i.source (SourceSurvives false)
+-- an unused patch
+abbrev pub PatchSurvives : ResolveVersion → Identity → Type 0
+PatchSurvives format i = VersionSurvives i.version × IfSome i.source (SourceSurvives (is_escaped format))
 
 -- ---- lockfiles
 
@@ -105,7 +105,7 @@ FormatSurvives V4 m = Unit {0}
 pub record Survives (l : LockfileData) (format : ResolveVersion) : Type 0 where
   pub packages : AllByRecursion (EntrySurvives format (map identity_of l.packages) (metadata_of format l.metadata l.packages)) l.packages
   pub root : IfSome l.root (RootSurvives format)
-  pub patch : AllByRecursion PatchSurvives l.patch
+  pub patch : AllByRecursion (PatchSurvives format) l.patch
   pub told : FormatSurvives format (metadata_of format l.metadata l.packages)
 
 -- ---- what survival is for

@@ -11,7 +11,7 @@ use Rattle.semver.specs.Identifiers.{parts_text}
 use Rattle.cargo_lock_parts.specs.Identity.{Identity}
 use Rattle.cargo_lock_encoding.specs.Chosen.{written_source}
 use Rattle.cargo_lock_encoding.specs.Form.{Form}
-use Rattle.cargo_lock_encoding.specs.Records.{EntryData, EncodedData}
+use Rattle.cargo_lock_encoding.specs.Records.{EntryData, EncodedData, is_escaped_number}
 use Rattle.cargo_lock_encoding.specs.Text.{checksum_line, comment_lines, dependency_line, encoded_lines, entry_lines, field, is_nonempty_text, joined, metadata_lines, pair_line, patch_lines, reference_lines, source_line, version_lines}
 
 -- what was put, and what was put after it
@@ -103,13 +103,13 @@ pub then-encoded : (l : EncodedData) (a b c d e f : List ℕ)
     → b ≡ a ++ joined comment_lines
     → c ≡ b ++ joined (version_lines l.version)
     → d ≡ c ++ joined (flat_map entry_lines l.entries)
-    → e ≡ d ++ joined (flat_map (patch_lines false) l.patch)
+    → e ≡ d ++ joined (flat_map (patch_lines (is_escaped_number l.version)) l.patch)
     → f ≡ e ++ joined (metadata_lines (entries l.metadata))
     → f ≡ a ++ joined (encoded_lines l)
 then-encoded l a b c d e f h0 h1 h2 h3 h4 =
     let l1 : List (List ℕ) = version_lines l.version in
     let l2 : List (List ℕ) = flat_map entry_lines l.entries in
-    let l3 : List (List ℕ) = flat_map (patch_lines false) l.patch in
+    let l3 : List (List ℕ) = flat_map (patch_lines (is_escaped_number l.version)) l.patch in
     let l4 : List (List ℕ) = metadata_lines (entries l.metadata) in
     then a b f comment_lines (l1 ++ (l2 ++ (l3 ++ l4))) h0
     (then b c f l1 (l2 ++ (l3 ++ l4)) h1 (then c d f l2 (l3 ++ l4) h2 (then d e f l3 l4 h3 h4)))

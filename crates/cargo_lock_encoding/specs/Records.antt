@@ -1,5 +1,5 @@
 -- What contracts see of a lockfile, and of a lockfile as its table has it.
-use Rattle.std.specs.Prelude.{ℕ, ℤ, Bool, true, false, List, Option, option_map}
+use Rattle.std.specs.Prelude.{ℕ, ℤ, pos, negsuc, ◌==◌, Bool, true, false, List, Option, Some, None, option_map}
 use Rattle.std.specs.Cmp.Lexicographic.{slice_cmp}
 use Rattle.std.specs.Coded.{Coded, coded_ℕ, coded_list}
 use Rattle.std.specs.FinMap.{FinMap, code, from_entries}
@@ -61,3 +61,9 @@ is_escaped V1 = false
 is_escaped V2 = false
 is_escaped V3 = false
 is_escaped V4 = true
+
+-- the same of the number that a table has: it is that of V4
+abbrev pub is_escaped_number : Option ℤ → Bool
+is_escaped_number None = false
+is_escaped_number (Some (negsuc n)) = false
+is_escaped_number (Some (pos n)) = n == 4

@@ -1,5 +1,5 @@
 -- The table of a lockfile.
-use Rattle.std.specs.Prelude.{ℕ, ℤ, pos, Bool, false, List, [], ◌∷◌, Option, Some, None, option_map, map, codes}
+use Rattle.std.specs.Prelude.{ℕ, ℤ, pos, Bool, List, [], ◌∷◌, Option, Some, None, option_map, map, codes}
 use Rattle.std.specs.FinMap.{entries}
 use Rattle.std.specs.Cmp.Lexicographic.{slice_cmp}
 use Rattle.std.specs.Ordering.{nat_cmp, match_ordering}
@@ -15,7 +15,7 @@ use Rattle.cargo_lock_encoding.specs.declared.version.ResolveVersion.TheVariants
 use Rattle.cargo_lock_encoding.specs.Chosen.{chosen_form, in_full, written_source}
 use Rattle.cargo_lock_encoding.specs.Form.{Form, form_text}
 use Rattle.cargo_lock_encoding.specs.Metadata.{metadata_of}
-use Rattle.cargo_lock_encoding.specs.Records.{EntryData, EncodedData, LockfileData, Texts, is_escaped}
+use Rattle.cargo_lock_encoding.specs.Records.{EntryData, EncodedData, LockfileData, Texts, is_escaped, is_escaped_number}
 
 -- ---- the values that are written
 
@@ -115,9 +115,9 @@ abbrev pub unless_no_patch : List Data → Option Data
 unless_no_patch [] = None
 unless_no_patch (d ∷ ds) = Some (table (unused_table (d ∷ ds)))
 
--- the unused patches, whose sources are plain in every format
-abbrev pub patch_value : List Identity → Option Data
-patch_value patch = unless_no_patch (map (patch_entry_value false) patch)
+-- the unused patches, their sources escaped or plain
+abbrev pub patch_value : Bool → List Identity → Option Data
+patch_value escaped patch = unless_no_patch (map (patch_entry_value escaped) patch)
 
 abbrev pub text_members : List (List ℕ × List ℕ) → Members
 text_members [] = no_members
@@ -138,7 +138,7 @@ unfoldable pub encoded_table : EncodedData → Members
 encoded_table e = present (
     (codes "metadata", metadata_value e.metadata)
     ∷ (codes "package", Some (packages_value e.entries))
-    ∷ (codes "patch", patch_value e.patch)
+    ∷ (codes "patch", patch_value (is_escaped_number e.version) e.patch)
     ∷ (codes "root", option_map entry_value e.root)
     ∷ (codes "version", option_map integer e.version) ∷ [])
 

@@ -12,7 +12,7 @@ use Rattle.cargo_lock_parts.specs.Source.{MarkedSource}
 use Rattle.cargo_lock_parts.specs.SourceText.{marked_text}
 use Rattle.cargo_lock_encoding.specs.Chosen.{written_source}
 use Rattle.cargo_lock_encoding.specs.Form.{Form, form_text}
-use Rattle.cargo_lock_encoding.specs.Records.{EntryData, EncodedData, LockfileData}
+use Rattle.cargo_lock_encoding.specs.Records.{EntryData, EncodedData, LockfileData, is_escaped_number}
 use Rattle.cargo_lock_encoding.specs.Table.{encoded_of}
 
 -- ---- strings: a TOML basic string. Escaped are the quotation mark, the backslash, the characters
@@ -127,7 +127,7 @@ comment_lines =
 abbrev pub encoded_lines : EncodedData → List (List ℕ)
 encoded_lines e =
     comment_lines ++ (version_lines e.version ++ (flat_map entry_lines e.entries
-    ++ (flat_map (patch_lines false) e.patch ++ metadata_lines (entries e.metadata))))
+    ++ (flat_map (patch_lines (is_escaped_number e.version)) e.patch ++ metadata_lines (entries e.metadata))))
 
 -- the lines of a lockfile; the root is never printed
 abbrev pub lines_of : LockfileData → List (List ℕ)

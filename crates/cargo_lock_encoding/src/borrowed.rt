@@ -4,7 +4,7 @@
 ghost use Rattle.std.specs.Prelude.{◌≡◌, IfOk, option_map};
 ghost use Rattle.semver.specs.Identifiers.{parts_of};
 ghost use Rattle.cargo_lock_encoding.specs.Chosen.{written_source};
-ghost use Rattle.cargo_lock_encoding.specs.Records.{is_escaped};
+ghost use Rattle.cargo_lock_encoding.specs.Records.{is_escaped, is_escaped_number};
 
 use crate::version::ResolveVersion;
 use crate::{EncodableDependency, EncodablePackage, EncodableSourceId};
@@ -231,6 +231,13 @@ pub fn is_escaped(format: ResolveVersion) -> bool
         ResolveVersion::V1 | ResolveVersion::V2 | ResolveVersion::V3 => false,
         ResolveVersion::V4 => true,
     }
+}
+
+/// The same of the number that a table has: it is that of V4.
+pub fn is_escaped_number(number: &Option<i64>) -> bool
+    ensures { result ≡ is_escaped_number number.now }
+{
+    matches!(number, Some(4))
 }
 
 #[tactic(auto, unfolding(crate::specs::Form::form_text))]

@@ -336,11 +336,12 @@ fn put_each_patch(alloc: Global, out: &mut String, unused: &[Dependency], escape
     Ok(())
 }
 
-/// Adds the unused patches, whose sources are plain.
-pub fn put_patches(alloc: Global, out: &mut String, patch: &Patch) -> Put
-    ensures { OnOk result (string_bytes out.new ≡ string_bytes out.old ++ joined (flat_map (patch_lines false) patch.now)) }
+/// Adds the unused patches, their sources escaped or plain.
+pub fn put_patches(alloc: Global, out: &mut String, patch: &Patch, escaped: bool) -> Put
+    ensures { OnOk result (string_bytes out.new
+        ≡ string_bytes out.old ++ joined (flat_map (patch_lines escaped) patch.now)) }
 {
-    put_each_patch(alloc, out, patch.unused.as_slice(), false)?;
+    put_each_patch(alloc, out, patch.unused.as_slice(), escaped)?;
     Ok(())
 }
 

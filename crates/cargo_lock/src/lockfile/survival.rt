@@ -56,7 +56,7 @@ impl Lockfile {
         let metadata = metadata_of(alloc, format, &self.metadata, list)?;
         Ok(
             format_survives(format, &metadata)
-                && patches_survive(alloc, self.patch.unused.as_slice())?
+                && patches_survive(alloc, format, self.patch.unused.as_slice())?
                 && root_survives(alloc, format, &self.root)?
                 && packages_survive(alloc, format, &metadata, list)?,
         )
@@ -74,23 +74,27 @@ fn format_survives(format: ResolveVersion, metadata: &Metadata) -> bool
     }
 }
 
-fn patches_survive(alloc: Global, patches: &[Dependency]) -> Result<bool>
-    ensures ok { IfOk result (λ b. IsTrue b ↔ AllByRecursion PatchSurvives patches.now) }
+fn patches_survive(alloc: Global, format: ResolveVersion, patches: &[Dependency]) -> Result<bool>
+    ensures ok { IfOk result (λ b. IsTrue b
+        ↔ AllByRecursion (PatchSurvives format) patches.now) }
     ensures err { IsOkUnless result Memory }
 {
     for patch in patches {
-        if !patch_survives(alloc, patch)? {
+        if !patch_survives(alloc, format, patch)? {
             return Ok(false);
         }
     }
     Ok(true)
 }
 
-fn patch_survives(alloc: Global, patch: &Dependency) -> Result<bool>
-    ensures ok { IfOk result (λ b. IsTrue b ↔ PatchSurvives patch.now) }
+fn patch_survives(alloc: Global, format: ResolveVersion, patch: &Dependency) -> Result<bool>
+    ensures ok { IfOk result (λ b. IsTrue b ↔ PatchSurvives format patch.now) }
     ensures err { IsOkUnless result Memory }
 {
-    Ok(version_survives(alloc, &patch.version)? && source_survives(alloc, false, &patch.source)?)
+    Ok(
+        version_survives(alloc, &patch.version)?
+            && source_survives(alloc, is_escaped(format), &patch.source)?,
+    )
 }
 
 fn root_survives(alloc: Global, format: ResolveVersion, root: &Option<Package>) -> Result<bool>

@@ -11,6 +11,7 @@ ghost use Rattle.cargo_lock_encoding.specs.Text.{joined, lines_of, metadata_line
 
 use crate::error::Result;
 use crate::lockfile::Lockfile;
+use cargo_lock_encoding::borrowed::is_escaped_number;
 use cargo_lock_encoding::table::{
     lockfile_members, metadata_value, packages_value, patch_value, root_value, version_number,
 };
@@ -46,9 +47,10 @@ impl Lockfile {
         let list = self.packages.as_slice();
         let metadata = self.metadata_value(alloc)?;
         let packages = packages_value(alloc, format, list)?;
-        let patch = patch_value(alloc, false, &self.patch)?;
+        let number = written_version(format);
+        let patch = patch_value(alloc, is_escaped_number(&number), &self.patch)?;
         let root = root_value(alloc, format, &self.root)?;
-        let version = version_number(written_version(format));
+        let version = version_number(number);
         let table = lockfile_members(alloc, metadata, packages, patch, root, version)?;
         Ok(table)
     }
@@ -83,9 +85,10 @@ impl Lockfile {
     {
         let format = self.version;
         put_comments(out)?;
-        put_format(alloc, out, &written_version(format))?;
+        let number = written_version(format);
+        put_format(alloc, out, &number)?;
         put_written_packages(alloc, out, format, self.packages.as_slice())?;
-        put_patches(alloc, out, &self.patch)?;
+        put_patches(alloc, out, &self.patch, is_escaped_number(&number))?;
         self.put_metadata(alloc, out)?;
         Ok(())
     }

@@ -8,6 +8,7 @@ ghost use Rattle.cargo_lock_encoding.specs.Text.{encoded_lines, joined};
 use crate::error::Result;
 use crate::lockfile::Lockfile;
 use crate::lockfile::encoding::EncodableLockfile;
+use cargo_lock_encoding::borrowed::is_escaped_number;
 use cargo_lock_encoding::text::{
     Put, put_comments, put_format, put_metadata, put_packages, put_patches,
 };
@@ -36,7 +37,8 @@ impl EncodableLockfile {
     }
 
     /// The text of the lockfile, as Cargo writes it: its packages, the patches that no package uses
-    /// and its metadata, and its number from the third format on. The root is not written.
+    /// and its metadata, and its number from the third format on. The sources of patches are escaped
+    /// where the number is 4. The root is not written.
     ///
     /// The one error is want of memory.
     pub fn to_string(&self, alloc: Global) -> Result<String>
@@ -55,7 +57,7 @@ impl EncodableLockfile {
         put_comments(out)?;
         put_format(alloc, out, &self.version)?;
         put_packages(alloc, out, self.package.as_slice())?;
-        put_patches(alloc, out, &self.patch)?;
+        put_patches(alloc, out, &self.patch, is_escaped_number(&self.version))?;
         put_metadata(out, &self.metadata)?;
         Ok(())
     }

@@ -25,7 +25,7 @@ returns-clause-ok c =
     subst (λ (k : LockfileData). out ≡ string_bytes c.args.out.now ++ joined (lines_of k)) c.self.view_is
     (then-encoded (encoded_of l) (string_bytes c.args.out.now) _ _ _ _ _
     c.in_ok-put_comments.ensures
-    (rw c.written_version.ensures at c.in_ok-put_format.ensures)
+    (rw c.written_version-number.ensures at c.in_ok-put_format.ensures)
     (rw c.as_slice.ensures.value at c.in_ok-put_written_packages.ensures)
-    c.in_ok-put_patches.ensures
+    (rw c.written_version-number.ensures at (rw c.is_escaped_number.ensures at c.in_ok-put_patches.ensures))
     metadata)

@@ -5,5 +5,5 @@ use Rattle.cargo_lock.proofs.lockfile.survival.patches_survive.Given as goal
 
 abbrev pub invariant-loop-patch : goal.invariant-loop-patch
 invariant-loop-patch l =
-    AllByRecursion PatchSurvives (drop l.patch-index l.patches)
-    ↔ AllByRecursion PatchSurvives l.patches
+    AllByRecursion (PatchSurvives l.format) (drop l.patch-index l.patches)
+    ↔ AllByRecursion (PatchSurvives l.format) l.patches
