@@ -26,7 +26,7 @@ impl Detail {
 
 /// Prints each package of the lockfile in list order, or each that has the name that is asked for.
 /// Fails where the lockfile is not read or `out` fails; a beginning of the text was then written.
-pub fn run<R: Files + AllocGlobal, W: Write>(
+pub(crate) fn run<R: Files + AllocGlobal, W: Write>(
     rt: &R,
     options: &ArgMatches<'_>,
     out: &mut W,

@@ -8,7 +8,7 @@ use std::{fmt, io};
 
 /// Writes all of the bytes. Fails at the first write that fails, and with `WriteZero` at the first
 /// that takes none of the bytes; a beginning of them was then written.
-pub fn put_all<W: Write>(out: &mut W, bytes: &[u8]) -> io::Result<()>
+pub(crate) fn put_all<W: Write>(out: &mut W, bytes: &[u8]) -> io::Result<()>
     ensures { IsWritten (W.contents out.old) (W.contents out.new) bytes.now result }
 {
     let mut at = 0;
@@ -23,7 +23,7 @@ pub fn put_all<W: Write>(out: &mut W, bytes: &[u8]) -> io::Result<()>
 }
 
 /// Writes a value as it is displayed. Fails as `put_all` does.
-pub fn put<W: Write, D: fmt::Display + Drop>(out: &mut W, value: D) -> io::Result<()>
+pub(crate) fn put<W: Write, D: fmt::Display + Drop>(out: &mut W, value: D) -> io::Result<()>
     ensures { OnOk result (IfSome (D.output value)
         (Appends (W.contents out.old) (W.contents out.new))) }
 {

@@ -25,7 +25,7 @@ const STANDARD_OUTPUT: &str = "-";
 /// Writes the lockfile in the format that is asked for: into the output file, or to `out` with one
 /// more newline. The format is read before the file. Fails where either is not read, where the
 /// lockfile is to be checked and does not survive the format, and where the output fails.
-pub fn run<R: Files + AllocGlobal, W: Write>(
+pub(crate) fn run<R: Files + AllocGlobal, W: Write>(
     rt: &R,
     options: &ArgMatches<'_>,
     out: &mut W,

@@ -33,7 +33,7 @@ impl Style {
 /// roots, with an empty line between two trees. Fails where the lockfile is not read or has no tree,
 /// where a specification fits no package, or where `out` fails; a beginning of the text was then
 /// written in the last case, and nothing in the others.
-pub fn run<R: Files + AllocGlobal, W: Write>(
+pub(crate) fn run<R: Files + AllocGlobal, W: Write>(
     rt: &R,
     options: &ArgMatches<'_>,
     out: &mut W,

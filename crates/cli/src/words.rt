@@ -24,7 +24,7 @@ a root, or a replacement of a package with dependencies, is in the table and in 
 /// The words as the parser reads them, the program's name first. A leading `lock` is left out, and
 /// `list` stands before the first option where no command does, unless it asks for help. Fails for
 /// want of memory.
-pub fn with_command<'a, S: AsStr>(
+pub(crate) fn with_command<'a, S: AsStr>(
     alloc: Global,
     words: &'a [S],
 ) -> Result<Vec<&'a str>, AllocError> {
@@ -50,7 +50,10 @@ fn is_option(word: &str) -> bool {
 }
 
 /// The lockfile that a command reads. Fails where it is not read.
-pub fn lockfile<R: Files + AllocGlobal>(rt: &R, options: &ArgMatches<'_>) -> Result<Lockfile, Error>
+pub(crate) fn lockfile<R: Files + AllocGlobal>(
+    rt: &R,
+    options: &ArgMatches<'_>,
+) -> Result<Lockfile, Error>
     ensures ok { IfOk result IsMeant }
     ensures err { IfErr result IsOfFile }
 {
@@ -59,7 +62,7 @@ pub fn lockfile<R: Files + AllocGlobal>(rt: &R, options: &ArgMatches<'_>) -> Res
 }
 
 /// The text of the format that a command writes.
-pub fn format<'a>(options: &ArgMatches<'a>) -> &'a str
+pub(crate) fn format<'a>(options: &ArgMatches<'a>) -> &'a str
     ensures { result.now ≡ unwrap_or (first_value (found_of options.now) (codes "version")) (codes "3") }
 {
     options.get_str("version").unwrap_or(DEFAULT_FORMAT)
@@ -67,7 +70,7 @@ pub fn format<'a>(options: &ArgMatches<'a>) -> &'a str
 
 /// The parser of the words. Of an option that stands again the last value counts, and a flag that
 /// stands again is one flag. Fails for want of memory.
-pub fn command<'a>(alloc: Global) -> Result<Command<'a>, AllocError> {
+pub(crate) fn command<'a>(alloc: Global) -> Result<Command<'a>, AllocError> {
     Command::new(alloc, "cargo-lock")
         .about("Looks into lockfiles")
         .subcommand_required(true)
