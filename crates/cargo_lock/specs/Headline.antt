@@ -9,6 +9,7 @@ use Rattle.cargo_lock.specs.Survives.{SurvivesExactly}
 use Rattle.cargo_lock_graph.specs.Targets.{EdgesAreOne}
 use Rattle.cargo_lock.specs.Translation.{WrittenAgain}
 
+-- the promises of this library in one
 pub record Headline : Type 0 where
   -- a table means at most one lockfile: `Lockfile::from_table`
   pub one_meaning : MeansOne

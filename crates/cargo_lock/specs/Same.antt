@@ -14,12 +14,15 @@ use Rattle.cargo_lock_encoding.specs.Records.{LockfileData, Texts}
 use Rattle.cargo_lock_encoding.specs.Table.{table_of}
 use Rattle.cargo_lock_encoding.specs.Text.{lines_of}
 
+-- the keys are one and the texts are one
 abbrev pub is_same_pair : List ℕ × List ℕ → List ℕ × List ℕ → Bool
 is_same_pair p q = pointwise nat_eq p.0 q.0 && pointwise nat_eq p.1 q.1
 
+-- the metadata are the same pair by pair
 abbrev pub is_same_metadata : Texts → Texts → Bool
 is_same_metadata m n = pointwise is_same_pair (entries m) (entries n)
 
+-- lockfiles that `==` calls equal: all fields are the same
 abbrev pub is_same_lockfile : LockfileData → LockfileData → Bool
 is_same_lockfile = eq_of_both (eq_of_both (eq_of_both (eq_of_both
     (on (λ l. number_of l.version) nat_eq)
@@ -34,6 +37,7 @@ pair_equivalence = and_equiv (on_equiv (λ p. p.0) nat_list_eq_equiv) (on_equiv 
 package_equivalence : IsEquivalence is_same_package
 package_equivalence = eq_by_cmp_equiv package_total
 
+-- equality of lockfiles is an equivalence
 pub lockfile_equivalence : IsEquivalence is_same_lockfile
 lockfile_equivalence = and_equiv (and_equiv (and_equiv (and_equiv
     (on_equiv (λ (l : LockfileData). number_of l.version) nat_eq_equiv)

@@ -34,6 +34,7 @@ HasNoTwin list d = (k : ℕ) (i : Identity) → slice_get list k ≡ Some i → 
 abbrev pub Names : Form → List Identity → Identity → Type 0
 Names f list d = (order : List Identity) → IsPermutation list order → SaysEqual f order d
 
+-- 1 where a value is there
 abbrev pub one_if_some : {X : Type 0} → Option X → ℕ
 one_if_some None = 0
 one_if_some (Some x) = 1
@@ -67,6 +68,7 @@ pub record IsShortest (list : List Identity) (d : Identity) (text : Option (List
 
 -- ---- the texts of a table
 
+-- the item at a place of a list of values
 abbrev pub item_at : Items → ℕ → Option Data
 item_at no_items k = None
 item_at (item d ds) zero = Some d
@@ -95,6 +97,7 @@ HasShortestReferences l t = Survives l l.version → IsShortening l.version → 
     → (k j : ℕ) (p : PackageData) (d : Identity) → slice_get l.packages k ≡ Some p → slice_get p.dependencies j ≡ Some d
     → IsAmong (map identity_of l.packages) d → IsShortest (map identity_of l.packages) d (reference_at t k j)
 
+-- the table of each lockfile has the shortest references
 abbrev pub ShortestReferences : Type 0
 ShortestReferences = (l : LockfileData) → HasShortestReferences l (table_of l)
 

@@ -16,9 +16,11 @@ abbrev pub IsUnique : (Identity → Type 0) → List Identity → Type 0
 IsUnique P list = (k : ℕ) × (x : Identity) × (slice_get list k ≡ Some x) × P x
     × ((j : ℕ) (y : Identity) → slice_get list j ≡ Some y → P y → j ≡ k)
 
+-- the identity has the name
 abbrev pub BearsName : List ℕ → Identity → Type 0
 BearsName name i = i.name ≡ name
 
+-- the identity has the name and the version
 abbrev pub BearsBoth : List ℕ → Parts → Identity → Type 0
 BearsBoth name version i = (i.name ≡ name) × (i.version ≡ version)
 
@@ -26,10 +28,12 @@ BearsBoth name version i = (i.name ≡ name) × (i.version ≡ version)
 abbrev pub unless_path : Bool → Source → Option Source
 unless_path path s = if path then None else Some s
 
+-- a source that is written: none for a path
 abbrev pub written : Option Source → Option Source
 written None = None
 written (Some s) = unless_path (is_path s.kind) s
 
+-- a source with its mark
 abbrev pub marked : Bool → Source → MarkedSource
 marked escaped s = record { source = s; escaped = escaped }
 
@@ -41,6 +45,7 @@ written_source escaped s = option_map (marked escaped) (written s)
 abbrev pub in_full : Bool → Identity → Form
 in_full escaped d = record { name = d.name; version = Some d.version; source = written_source escaped d.source }
 
+-- the form without its source
 abbrev pub without_source : Form → Form
 without_source f = record { name = f.name; version = f.version; source = None }
 
@@ -62,9 +67,11 @@ ShortensTo list f g =
 
 -- ---- computed
 
+-- the identity has the name
 abbrev pub bears_name : List ℕ → Identity → Bool
 bears_name name i = same_text i.name name
 
+-- the identity has the name and the version
 abbrev pub bears_both : List ℕ → Parts → Identity → Bool
 bears_both name version i = same_text i.name name && same_parts i.version version
 
@@ -72,6 +79,7 @@ bears_both name version i = same_text i.name name && same_parts i.version versio
 abbrev pub one : (Identity → Bool) → List Identity → Bool
 one p list = count_by p list == 1
 
+-- the form has a version, and one package has both
 abbrev pub is_version_unique : List Identity → List ℕ → Option Parts → Bool
 is_version_unique list name None = false
 is_version_unique list name (Some v) = one (bears_both name v) list

@@ -31,12 +31,15 @@ pub data Refusal : Type 0 where
 abbrev pub plainly : Source → MarkedSource
 plainly s = record { source = s; escaped = false }
 
+-- the form of a name alone
 abbrev pub of_one : List ℕ → Form
 of_one name = record { name = name; version = None; source = None }
 
+-- the form of a name and a version
 abbrev pub of_two : List ℕ → Parts → Form
 of_two name version = record { name = name; version = Some version; source = None }
 
+-- the form of a name, a version and a source
 abbrev pub of_three : List ℕ → Parts → Source → Form
 of_three name version source = record { name = name; version = Some version; source = Some (plainly source) }
 
@@ -103,10 +106,12 @@ ReadsFormExactly (Err e) expected = IsExactFormFault e expected
 
 -- ---- writing
 
+-- a space and the version, where there is one
 abbrev pub version_part : Option Parts → List ℕ
 version_part None = []
 version_part (Some version) = codes " " ++ parts_text version
 
+-- a space and the source in brackets, where there is one
 abbrev pub source_part : Option MarkedSource → List ℕ
 source_part None = []
 source_part (Some source) = codes " (" ++ marked_text source ++ codes ")"

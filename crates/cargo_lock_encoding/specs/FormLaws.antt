@@ -20,12 +20,15 @@ use Rattle.cargo_lock_parts.specs.SourceLaws.{key_total, source_total, source_al
 use Rattle.cargo_lock_encoding.specs.Form.{Form}
 use Rattle.cargo_lock_encoding.specs.FormOrder.{FormKey, form_cmp, form_hash, form_key, is_same_form, is_same_marked, marked_cmp, marked_hash, marked_key}
 
+-- the order of marked sources is total
 pub marked_total : IsTotalOrder marked_cmp
 marked_total = on_total (λ (m : MarkedSource). m.source) source_total
 
+-- marked sources that tie feed a hasher alike
 pub marked_alike : (a b : MarkedSource) → is_same_marked a b ≡ true → marked_hash a ≡ marked_hash b
 marked_alike a b h = source_alike a.source b.source h
 
+-- the order of forms is total
 pub form_total : IsTotalOrder form_cmp
 form_total = then_total (then_total
     (on_total (λ (f : Form). f.name) nat_list_cmp_total)
@@ -79,6 +82,7 @@ form_hash-key : (f : Form) → form_hash f ≡ form_writes (form_key f)
 unfolding form_writes
 form_hash-key f = ap (λ w. fed.str f.name ++ w) (marked_hash-key f.source)
 
+-- forms that tie feed a hasher alike
 pub form_alike : (a b : Form) → is_same_form a b ≡ true → form_hash a ≡ form_hash b
 form_alike a b h =
     form_hash-key a ∙ ap form_writes ((is_same_form-Decides a b).0 h) ∙ sym (form_hash-key b)

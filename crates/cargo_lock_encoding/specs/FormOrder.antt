@@ -17,18 +17,22 @@ use Rattle.cargo_lock_encoding.specs.Form.{Form}
 abbrev pub marked_cmp : MarkedSource → MarkedSource → Ordering
 marked_cmp = on (λ m. m.source) source_cmp
 
+-- marked sources that tie: the mark does not count
 abbrev pub is_same_marked : MarkedSource → MarkedSource → Bool
 is_same_marked = eq_by_cmp marked_cmp
 
+-- what a hasher is fed of a marked source: the source alone
 abbrev pub marked_hash : MarkedSource → HashWrites
 marked_hash m = source_hash m.source
 
+-- forms compare by name, version and source
 abbrev pub form_cmp : Form → Form → Ordering
 form_cmp = then_cmp (then_cmp
     (on (λ f. f.name) text_cmp)
     (on (λ f. f.version) (option_cmp version_cmp)))
     (on (λ f. f.source) (option_cmp marked_cmp))
 
+-- forms that tie
 abbrev pub is_same_form : Form → Form → Bool
 is_same_form = eq_by_cmp form_cmp
 
@@ -38,11 +42,13 @@ form_hash f = fed.str f.name ++ fed.option marked_hash f.source
 
 -- ---- keys
 
+-- what equality of forms looks at
 pub record FormKey : Type 0 where
   pub name : List ℕ
   pub version : Option Parts
   pub source : Option Key
 
+-- the key of a marked source, which is that of the source
 abbrev pub marked_key : MarkedSource → Key
 marked_key m = key_of m.source
 

@@ -63,9 +63,11 @@ detected false b = Some V2
 abbrev pub format_without_number : List EntryData → Texts → Option ResolveVersion
 format_without_number entries m = detected (has_checksum_key m) (has_checksum entries)
 
+-- the format of a number, or else the one that packages and metadata tell
 abbrev pub format_by : Option ℤ → List EntryData → Texts → Option ResolveVersion
 format_by (Some z) entries m = numbered_int z
 format_by None entries m = format_without_number entries m
 
+-- the format of the values of a table
 abbrev pub format_of : EncodedData → Option ResolveVersion
 format_of e = format_by e.version e.entries e.metadata

@@ -10,6 +10,7 @@ use Rattle.cargo_lock_encoding.specs.Records.{EntryData, EncodedData, LockfileDa
 use Rattle.cargo_lock_encoding.specs.Said.{said}
 use Rattle.cargo_lock_encoding.specs.TableReading.{encoded_at}
 
+-- the package of an entry with this checksum
 abbrev pub package_of : List Identity → Option (List ℕ) → EntryData → Option PackageData
 package_of list checksum e = do
   dependencies ← map_all (λ f. said f list) e.dependencies
@@ -23,12 +24,15 @@ package_of list checksum e = do
     replace = replace;
   })
 
+-- the package of an entry of the list
 abbrev pub entry_package : ResolveVersion → List Identity → Texts → EntryData → Option PackageData
 entry_package v list m e = package_of list (entry_checksum v m e) e
 
+-- the package of the root
 abbrev pub root_package : EntryData → Option PackageData
 root_package e = package_of [] e.checksum e
 
+-- the packages of the entries
 abbrev pub all_packages : ResolveVersion → Texts → List EntryData → Option (List PackageData)
 all_packages v m es = map_all (entry_package v (reading_list v (map entry_identity es)) m) es
 
@@ -38,6 +42,7 @@ pub record ResolvedData : Type 0 where
   pub packages : List PackageData
   pub root : Option PackageData
 
+-- the format, the packages and the root
 abbrev pub resolved : EncodedData → Option ResolvedData
 resolved e = do
   version ← format_of e
@@ -45,11 +50,13 @@ resolved e = do
   root ← map_some root_package e.root
   Some (record { version = version; packages = packages; root = root })
 
+-- these with the metadata and the patches
 abbrev pub completed : EncodedData → ResolvedData → LockfileData
 completed e r = record { version = r.version; packages = r.packages; root = r.root; metadata = e.metadata; patch = e.patch }
 
 unfoldable pub locked : EncodedData → Option LockfileData
 locked e = option_map (completed e) (resolved e)
 
+-- the lockfile that a table means, if there is one
 abbrev pub meaning : Members → Option LockfileData
 meaning t = encoded_at t >>= locked

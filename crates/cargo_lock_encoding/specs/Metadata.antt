@@ -24,6 +24,7 @@ checksum_key d = codes "checksum " ++ dependency_text d
 unfoldable pub is_checksum : List ℕ → Bool
 is_checksum k = same_text (codes "checksum ") (take 9 k)
 
+-- an identity, or the refusal where there is none
 abbrev pub or_refused : Option Identity → Result Identity Refusal
 or_refused None = Err NoForm
 or_refused (Some i) = Ok i
@@ -37,11 +38,13 @@ own_identity (Ok f) = or_refused (itself f)
 unfoldable pub key_or_refusal : List ℕ → Result Identity Refusal
 key_or_refusal k = if is_checksum k then own_identity (form_or_refusal (drop 9 k)) else Err NoForm
 
+-- the identity that a key reads as
 abbrev pub key_identity : List ℕ → Option Identity
 key_identity k = result_ok (key_or_refusal k)
 
 -- ---- the checksum that the metadata holds for a package
 
+-- the identity has this name and this version
 abbrev pub is_named : List ℕ → Parts → Option Identity → Bool
 is_named name version None = false
 is_named name version (Some d) = same_text d.name name && same_parts d.version version
@@ -64,6 +67,7 @@ has_checksum_key m = list_any (λ e. is_checksum e.0) (entries m)
 
 -- ---- the metadata that is written
 
+-- the key and the text of a package's checksum, where it has one, before other pairs
 abbrev pub pairs_before : PackageData → Option (List ℕ) → List (List ℕ × List ℕ) → List (List ℕ × List ℕ)
 pairs_before p None pairs = pairs
 pairs_before p (Some c) pairs = (checksum_key (identity_of p), digest_text c) ∷ pairs
@@ -78,6 +82,7 @@ checksum_pairs (p ∷ ps) = pairs_before p p.checksum (checksum_pairs ps)
 unfoldable pub with_checksums : Texts → List PackageData → Texts
 with_checksums m ps = from_entries (reverse (checksum_pairs ps) ++ entries m)
 
+-- the key is the checksum key of the package
 abbrev pub has_key : List ℕ → PackageData → Bool
 has_key k p = same_text k (checksum_key (identity_of p))
 
@@ -94,6 +99,7 @@ metadata_of V4 m ps = without_checksums m ps
 
 -- ---- the same, package by package
 
+-- a text put at a key, where there is one
 abbrev pub put_some : Texts → List ℕ → Option (List ℕ) → Texts
 put_some m k None = m
 put_some m k (Some c) = insert m k (digest_text c)

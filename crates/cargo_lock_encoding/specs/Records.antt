@@ -20,6 +20,7 @@ pub record EntryData : Type 0 where
   pub dependencies : List Form
   pub replace : Option Form
 
+-- a source without its mark
 abbrev pub bare_source : Option MarkedSource → Option Source
 bare_source s = option_map (λ m. m.source) s
 

@@ -22,6 +22,7 @@ NoneFits f list = (j : ℕ) (y : Identity) → slice_get list j ≡ Some y → �
 abbrev pub IsItself : Form → Identity → Type 0
 IsItself f i = (i.name ≡ f.name) × (f.version ≡ Some i.version) × (i.source ≡ bare_source f.source)
 
+-- what a form says, where its source is looked at first
 abbrev pub says_by : Option MarkedSource → Form → List Identity → Identity → Type 0
 says_by (Some s) f list i = IsItself f i
 says_by None f list i = IsFirst f list i ⊎ (NoneFits f list × IsItself f i)

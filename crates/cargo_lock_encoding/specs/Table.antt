@@ -63,6 +63,7 @@ encoded_of l = record {
 
 -- ---- tables
 
+-- a member before others, where its value is there
 abbrev pub present_one : List ℕ → Option Data → Members → Members
 present_one k None rest = rest
 present_one k (Some d) rest = member k d rest
@@ -77,15 +78,19 @@ abbrev pub unless_empty : List Data → Option Data
 unless_empty [] = None
 unless_empty (d ∷ ds) = Some (array (items_of (d ∷ ds)))
 
+-- a reference as a value
 abbrev pub form_value : Form → Data
 form_value f = string (form_text f)
 
+-- a marked source as a value
 abbrev pub source_value : MarkedSource → Data
 source_value m = string (marked_text m)
 
+-- a digest as a value
 abbrev pub checksum_value : List ℕ → Data
 checksum_value c = string (digest_text c)
 
+-- the table of a package
 abbrev pub entry_table : EntryData → Members
 entry_table e = present (
     (codes "checksum", option_map checksum_value e.checksum)
@@ -95,6 +100,7 @@ entry_table e = present (
     ∷ (codes "source", option_map source_value e.source)
     ∷ (codes "version", Some (string (parts_text e.version))) ∷ [])
 
+-- a package as a value
 abbrev pub entry_value : EntryData → Data
 entry_value e = table (entry_table e)
 
@@ -105,12 +111,15 @@ patch_table escaped i = present (
     ∷ (codes "source", option_map source_value (written_source escaped i.source))
     ∷ (codes "version", Some (string (parts_text i.version))) ∷ [])
 
+-- an unused patch as a value
 abbrev pub patch_entry_value : Bool → Identity → Data
 patch_entry_value escaped i = table (patch_table escaped i)
 
+-- the table of a list of unused patches
 abbrev pub unused_table : List Data → Members
 unused_table values = member (codes "unused") (array (items_of values)) no_members
 
+-- the table of unused patches, unless there is none
 abbrev pub unless_no_patch : List Data → Option Data
 unless_no_patch [] = None
 unless_no_patch (d ∷ ds) = Some (table (unused_table (d ∷ ds)))
@@ -119,17 +128,21 @@ unless_no_patch (d ∷ ds) = Some (table (unused_table (d ∷ ds)))
 abbrev pub patch_value : Bool → List Identity → Option Data
 patch_value escaped patch = unless_no_patch (map (patch_entry_value escaped) patch)
 
+-- the members of a table of texts
 abbrev pub text_members : List (List ℕ × List ℕ) → Members
 text_members [] = no_members
 text_members (m ∷ ms) = member m.0 (string m.1) (text_members ms)
 
+-- a table of texts, unless there is none
 abbrev pub unless_no_text : List (List ℕ × List ℕ) → Option Data
 unless_no_text [] = None
 unless_no_text (m ∷ ms) = Some (table (text_members (m ∷ ms)))
 
+-- the metadata as a value, unless there is none
 abbrev pub metadata_value : Texts → Option Data
 metadata_value m = unless_no_text (entries m)
 
+-- the list of packages as a value
 abbrev pub packages_value : List EntryData → Data
 packages_value es = array (items_of (map entry_value es))
 
@@ -153,6 +166,7 @@ abbrev pub put : List ℕ → Data → Members → Members
 put k d no_members = member k d no_members
 put k d (member l e ms) = match_ordering (slice_cmp nat_cmp k l) (member k d (member l e ms)) (member l d ms) (member l e (put k d ms))
 
+-- a value put at a key, where there is one
 abbrev pub put_present : List ℕ → Option Data → Members → Members
 put_present k None ms = ms
 put_present k (Some d) ms = put k d ms

@@ -16,18 +16,22 @@ use Rattle.cargo_lock_encoding.specs.Records.{EntryData, EncodedData, Texts}
 
 -- ---- values by their types
 
+-- the text that a value is
 abbrev pub text_in : Data → Option (List ℕ)
 text_in (string s) = Some s
 text_in _ = None
 
+-- the whole number that a value is
 abbrev pub number_in : Data → Option ℤ
 number_in (integer z) = Some z
 number_in _ = None
 
+-- the list that a value is
 abbrev pub items_in : Data → Option Items
 items_in (array ds) = Some ds
 items_in _ = None
 
+-- the table that a value is
 abbrev pub members_in : Data → Option Members
 members_in (table ms) = Some ms
 members_in _ = None
@@ -60,12 +64,15 @@ read_all read (item d ds) = read d >>= λ x. option_map (λ xs. x ∷ xs) (read_
 unfoldable pub version_of : List ℕ → Option Parts
 version_of text = result_ok (version_parts text)
 
+-- the source that a value reads as
 abbrev pub source_in : Data → Option Source
 source_in d = text_in d >>= source_of
 
+-- the digest that a value reads as
 abbrev pub checksum_from : Data → Option (List ℕ)
 checksum_from d = text_in d >>= digest_in
 
+-- the reference that a value reads as
 abbrev pub form_in : Data → Option Form
 form_in d = text_in d >>= form_of
 
@@ -90,6 +97,7 @@ entry_at ms = do
     replace = replace;
   })
 
+-- the package that a value is
 abbrev pub entry_in : Data → Option EntryData
 entry_in d = members_in d >>= entry_at
 
@@ -116,13 +124,16 @@ abbrev pub put_all : Texts → List (List ℕ × List ℕ) → Texts
 put_all m [] = m
 put_all m (e ∷ es) = put_all (insert m e.0 e.1) es
 
+-- the members of a table of texts
 abbrev pub pairs_at : Members → Option (List (List ℕ × List ℕ))
 pairs_at no_members = Some []
 pairs_at (member k d ms) = text_in d >>= λ v. option_map (λ es. (k, v) ∷ es) (pairs_at ms)
 
+-- the texts of a table
 abbrev pub texts_at : Members → Option Texts
 texts_at ms = option_map (put_all empty) (pairs_at ms)
 
+-- the metadata that a value is, where there is one
 abbrev pub metadata_in : Option Data → Option Texts
 metadata_in None = Some empty
 metadata_in (Some d) = members_in d >>= texts_at
@@ -137,12 +148,15 @@ patch_entry_at ms = do
   source ← optional_by source_in (get_member (codes "source") ms)
   Some (record { name = name; version = version; source = source })
 
+-- the unused patch that a value is
 abbrev pub patch_entry_in : Data → Option Identity
 patch_entry_in d = members_in d >>= patch_entry_at
 
+-- the unused patches of a table
 abbrev pub patch_at : Members → Option (List Identity)
 patch_at ms = required_list (get_member (codes "unused") ms) >>= read_all patch_entry_in
 
+-- the unused patches that a value is, where there is one
 abbrev pub patch_in : Option Data → Option (List Identity)
 patch_in None = Some []
 patch_in (Some d) = members_in d >>= patch_at

@@ -35,6 +35,7 @@ BestFrom packages d bound (Some best) = (bound ≤ best.place) × FitsAt package
 abbrev pub better_one : Best → ℕ → ℕ → Option Best
 better_one best rank place = cond (nat_lt rank best.rank) (Some record { rank = rank; place = place }) (Some best)
 
+-- the best so far or the candidate with this rank, if it has one, where that is less
 abbrev pub better : Option Best → Option ℕ → ℕ → Option Best
 better best None place = best
 better None (Some rank) place = Some record { rank = rank; place = place }

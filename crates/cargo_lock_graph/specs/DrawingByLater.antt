@@ -5,6 +5,7 @@ use Rattle.cargo_lock_graph.specs.declared.drawing.entry.Entry.{Entry}
 use Rattle.cargo_lock_graph.specs.Drawing.{children}
 use Rattle.cargo_lock_graph.specs.DrawingText.{SymbolTexts, level_text, branch_text}
 
+-- there is a number
 abbrev pub is_any : List ℕ → Bool
 is_any [] = false
 is_any (n ∷ ns) = true

@@ -106,6 +106,7 @@ pub record IsFirstLost (packages : List PackageData) (among : List Link) (d : Id
   pub found : All (HasTarget packages) front
   pub none : IsLost packages d
 
+-- the words of the fault of a dependency without a package
 abbrev pub lost_text : Identity → List ℕ
 lost_text d = codes "failed to find dependency: " ++ dependency_text d
 

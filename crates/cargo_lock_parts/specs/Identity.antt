@@ -24,6 +24,7 @@ pub record PackageData : Type 0 where
   pub dependencies : List Identity
   pub replace : Option Identity
 
+-- the name, the version and the source of a package
 abbrev pub identity_of : PackageData → Identity
 identity_of p = record { name = p.name; version = p.version; source = p.source }
 
@@ -34,20 +35,24 @@ pub record HasNameAndVersion (d : Identity) (p : PackageData) : Type 0 where
 
 -- ---- keys: equality looks at a source by its key, and at all else as it stands
 
+-- what equality of identities looks at: the source by its key, and all else as it is
 pub record IdentityKey : Type 0 where
   pub name : List ℕ
   pub version : Parts
   pub source : Option Key
 
+-- what equality of packages looks at
 pub record PackageKey : Type 0 where
   pub identity : IdentityKey
   pub checksum : Option (List ℕ)
   pub dependencies : List IdentityKey
   pub replace : Option IdentityKey
 
+-- the key of an identity
 abbrev pub identity_key : Identity → IdentityKey
 identity_key i = record { name = i.name; version = i.version; source = option_map key_of i.source }
 
+-- the key of a package
 abbrev pub package_key : PackageData → PackageKey
 package_key p = record {
   identity = identity_key (identity_of p);

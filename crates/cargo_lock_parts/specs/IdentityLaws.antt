@@ -24,17 +24,20 @@ use Rattle.cargo_lock_parts.specs.IdentityOrder.{version_cmp, identity_cmp, pack
 
 -- ---- the orders are total
 
+-- the order of versions is total
 pub version_total : IsTotalOrder version_cmp
 version_total =
     then_total (on_total (λ (v : Parts). v.0) nat_cmp_total) (then_total (on_total (λ (v : Parts). v.1) nat_cmp_total) (then_total (on_total (λ (v : Parts). v.2) nat_cmp_total)
     (then_total (on_total (λ (v : Parts). v.3) pre_total) (on_total (λ (v : Parts). v.4) build_total))))
 
+-- the order of identities is total
 pub identity_total : IsTotalOrder identity_cmp
 identity_total = then_total (then_total
     (on_total (λ (d : Identity). d.name) nat_list_cmp_total)
     (on_total (λ (d : Identity). d.version) version_total))
     (on_total (λ (d : Identity). d.source) (options_total source_total))
 
+-- the order of packages is total
 pub package_total : IsTotalOrder package_cmp
 package_total = then_total (then_total (then_total (then_total (then_total
     (on_total (λ (p : PackageData). p.name) nat_list_cmp_total)
@@ -44,24 +47,29 @@ package_total = then_total (then_total (then_total (then_total (then_total
     (on_total (λ (p : PackageData). p.dependencies) (lists_total identity_total)))
     (on_total (λ (p : PackageData). p.replace) (options_total identity_total))
 
+-- equality of unused patches is an equivalence
 pub patch_equivalence : IsEquivalence is_same_patch
 patch_equivalence = lists_equiv (eq_by_cmp_equiv identity_total)
 
 -- ---- only one key ties
 
+-- where two comparisons in a row tie, the first one ties
 pub tied-first : (r s : Ordering) → ordering_then r s ≡ Equal → r ≡ Equal
 tied-first Less s e = cc e
 tied-first Equal s e = refl
 tied-first Greater s e = cc e
 
+-- and so does the second one
 pub tied-second : (r s : Ordering) → ordering_then r s ≡ Equal → s ≡ Equal
 tied-second Less s e = cc e
 tied-second Equal s e = e
 tied-second Greater s e = cc e
 
+-- texts that tie are one
 pub text_cmp-anti : IsAntisymmetric text_cmp
 text_cmp-anti = slice_cmp-IsAntisymmetric nat_cmp-IsAntisymmetric
 
+-- versions that tie are one
 pub version_cmp-anti : IsAntisymmetric version_cmp
 version_cmp-anti x y e =
     let e1 = tied-second _ _ e in
@@ -74,6 +82,7 @@ version_cmp-anti x y e =
     let build = build-anti x.4 y.4 (tied-second _ _ e3) in
     λ i. (major i, minor i, patch i, pre i, build i)
 
+-- keys that tie are one
 pub key_cmp-anti : IsAntisymmetric key_cmp
 key_cmp-anti j k e = key_same j k (ap is_eq e)
 
@@ -93,6 +102,7 @@ slice_cmp-by f C R same [] (y ∷ ys) = refl
 slice_cmp-by f C R same (x ∷ xs) [] = refl
 slice_cmp-by f C R same (x ∷ xs) (y ∷ ys) = λ i. ordering_then (same x y i) (slice_cmp-by f C R same xs ys i)
 
+-- values that may be absent compare by the keys that their values compare by
 pub option_cmp-by : {K J : Type 0} (f : K → J) (C : K → K → Ordering) (R : J → J → Ordering)
     → ((x y : K) → C x y ≡ R (f x) (f y)) → (x y : Option K)
     → option_cmp C x y ≡ option_cmp R (option_map f x) (option_map f y)
@@ -200,6 +210,7 @@ identity_hash-key : (d : Identity) → identity_hash d ≡ identity_writes (iden
 unfolding identity_writes
 identity_hash-key d = ap (λ w. fed.str d.name ++ version_hash d.version ++ w) (source_hash-key d.source)
 
+-- identities that tie feed a hasher alike
 pub identity_alike : (a b : Identity) → is_same_identity a b ≡ true → identity_hash a ≡ identity_hash b
 identity_alike a b h =
     identity_hash-key a ∙ ap identity_writes ((is_same_identity-Decides a b).0 h) ∙ sym (identity_hash-key b)
@@ -216,6 +227,7 @@ items_writes xs ys e = slice_key xs ∙ ap (fed.slice identity_writes) e ∙ sym
     slice_key : (zs : List Identity) → fed.slice identity_hash zs ≡ fed.slice identity_writes (map identity_key zs)
     slice_key zs = λ i. fed.usize (sym (length-map zs identity_key) i) ++ each zs i
 
+-- packages that tie feed a hasher alike
 pub package_alike : (a b : PackageData) → is_same_package a b ≡ true → package_hash a ≡ package_hash b
 package_alike a b h =
     let same = (is_same_package-Decides a b).0 h in

@@ -19,12 +19,14 @@ version_cmp =
     then_cmp (on (λ v. v.0) nat_cmp) (then_cmp (on (λ v. v.1) nat_cmp) (then_cmp (on (λ v. v.2) nat_cmp)
     (then_cmp (on (λ v. v.3) pre_cmp) (on (λ v. v.4) build_cmp))))
 
+-- identities compare by name, version and source; an absent source stands before a present one
 abbrev pub identity_cmp : Identity → Identity → Ordering
 identity_cmp = then_cmp (then_cmp
     (on (λ d. d.name) text_cmp)
     (on (λ d. d.version) version_cmp))
     (on (λ d. d.source) (option_cmp source_cmp))
 
+-- packages compare field by field in their order
 abbrev pub package_cmp : PackageData → PackageData → Ordering
 package_cmp = then_cmp (then_cmp (then_cmp (then_cmp (then_cmp
     (on (λ p. p.name) text_cmp)
@@ -34,9 +36,11 @@ package_cmp = then_cmp (then_cmp (then_cmp (then_cmp (then_cmp
     (on (λ p. p.dependencies) (slice_cmp identity_cmp)))
     (on (λ p. p.replace) (option_cmp identity_cmp))
 
+-- identities that tie
 abbrev pub is_same_identity : Identity → Identity → Bool
 is_same_identity = eq_by_cmp identity_cmp
 
+-- packages that tie
 abbrev pub is_same_package : PackageData → PackageData → Bool
 is_same_package = eq_by_cmp package_cmp
 
@@ -46,12 +50,15 @@ is_same_patch = pointwise is_same_identity
 
 -- ---- what a hasher is fed
 
+-- what a hasher is fed of a version
 abbrev pub version_hash : Parts → HashWrites
 version_hash v = fed.u64 v.0 ++ (fed.u64 v.1 ++ (fed.u64 v.2 ++ (fed.str v.3 ++ fed.str v.4)))
 
+-- what a hasher is fed of a source that may be absent
 abbrev pub source_hash : Source → HashWrites
 source_hash s = key_hash (key_of s)
 
+-- what a hasher is fed of an identity: its name, its version and its source
 abbrev pub identity_hash : Identity → HashWrites
 identity_hash d = fed.str d.name ++ version_hash d.version ++ fed.option source_hash d.source
 

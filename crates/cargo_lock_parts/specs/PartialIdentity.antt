@@ -17,6 +17,7 @@ use Rattle.cargo_lock_parts.specs.Source.{Source}
 use Rattle.cargo_lock_parts.specs.SourceKey.{Key, key_cmp, key_of, source_cmp, text_cmp}
 use Rattle.cargo_lock_parts.specs.SourceLaws.{key_total, source_total}
 
+-- a name, and perhaps a version and a source
 pub record PartialIdentity : Type 0 where
   pub name : List ℕ
   pub version : Option Parts
@@ -37,9 +38,11 @@ partial_identity_cmp = then_cmp (then_cmp
     (on (λ i. i.version) (option_cmp version_cmp)))
     (on (λ i. i.source) (option_cmp source_cmp))
 
+-- partial identities that tie
 abbrev pub is_same_partial_identity : PartialIdentity → PartialIdentity → Bool
 is_same_partial_identity = eq_by_cmp partial_identity_cmp
 
+-- the order of partial identities is total
 pub partial_identity_total : IsTotalOrder partial_identity_cmp
 partial_identity_total = then_total (then_total
     (on_total (λ (i : PartialIdentity). i.name) nat_list_cmp_total)
@@ -48,6 +51,7 @@ partial_identity_total = then_total (then_total
 
 -- ---- keys
 
+-- what their equality looks at
 pub record PartialKey : Type 0 where
   pub name : List ℕ
   pub version : Option Parts

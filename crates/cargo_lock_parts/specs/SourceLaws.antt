@@ -12,6 +12,7 @@ use Rattle.std.proofs.lemmas.Cmp.{tied_itself}
 use Rattle.cargo_lock_parts.specs.Source.{Kind, Source, DefaultBranch, Tag, Branch, Rev, Git, Path, Registry, SparseRegistry, LocalRegistry, Directory}
 use Rattle.cargo_lock_parts.specs.SourceKey.{Key, place, reference_text, text_cmp, key_cmp, key_of, key_hash, source_cmp, is_same_source}
 
+-- the order of keys is total
 pub key_total : IsTotalOrder key_cmp
 key_total =
     then_total (then_total (then_total (then_total
@@ -21,6 +22,7 @@ key_total =
     (on_total (λ (k : Key). reference_text k.kind) nat_list_cmp_total))
     (on_total (λ (k : Key). k.precise) (options_total nat_list_cmp_total))
 
+-- the order of sources is total
 pub source_total : IsTotalOrder source_cmp
 source_total = on_total key_of key_total
 
@@ -31,9 +33,11 @@ tied_parts Less b h = absurd (true≢false (sym h))
 tied_parts Equal b h = (refl, h)
 tied_parts Greater b h = absurd (true≢false (sym h))
 
+-- numbers that tie are one
 pub number_same : (x y : ℕ) → is_eq (nat_cmp x y) ≡ true → x ≡ y
 number_same x y h = (unsigned_Decides x y).0 (sym (unsigned_tied x y) ∙ h)
 
+-- texts that tie are one
 pub text_same : (x y : List ℕ) → is_eq (text_cmp x y) ≡ true → x ≡ y
 text_same x y h = (pointwise_decides unsigned_Decides x y).0 (texts_ties x y ∙ h)
 

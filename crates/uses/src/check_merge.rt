@@ -1,5 +1,5 @@
-//! Whether a lockfile is as Cargo would write it after a merge: its text is read, its own format
-//! keeps it, and it is printed as it stands.
+//! What a merge check begins with: the text of a lockfile is read, its own format keeps it, and it is
+//! printed as it stands.
 
 ghost use Rattle.std.specs.Prelude.{◌≡◌, IfOk, IsTrue};
 ghost use Rattle.cargo_lock_encoding.specs.Means.{TextMeans};
@@ -13,7 +13,7 @@ use std::fs;
 use std::path::Path;
 
 /// Whether the lockfile in a file is kept by its format and printed as the file.
-pub fn is_as_cargo_writes_it(rt: &HostRuntime, path: Path<'_>) -> Result<bool, Error> {
+pub fn is_file_kept(rt: &HostRuntime, path: Path<'_>) -> Result<bool, Error> {
     let text = fs::read_to_string(rt, path)?;
     is_kept(rt.alloc(), text.as_str())
 }

@@ -31,7 +31,7 @@ fn run(rt: &HostRuntime) -> Result<(), Error> {
     let path = Path::new(FILE);
     let lockfile = Lockfile::load(rt, rt.alloc(), path)?;
     run_over(rt, &lockfile)?;
-    let is_kept = check_merge::is_as_cargo_writes_it(rt, path)?;
+    let is_kept = check_merge::is_file_kept(rt, path)?;
     println!(rt; "the file is kept and printed as it stands: {is_kept}")?;
     print_missing(rt)
 }
