@@ -1,6 +1,6 @@
 //! What a caller does with each kind of fault.
 
-ghost use Rattle.std.specs.Prelude.{◌≡◌, ℕ, ◌⊎◌, false, IsTrue};
+ghost use Rattle.std.specs.Prelude.{◌≡◌, ◌↔◌, ◌⊎◌, IsTrue};
 ghost use Rattle.std.specs.declared.io.ErrorKind.{ErrorKind};
 ghost use Rattle.cargo_lock_parts.specs.declared.error.Error.TheVariants.{Io, Memory};
 
@@ -10,7 +10,7 @@ use cargo_lock::Error;
 /// others say that the text, or a dependency in it, is refused.
 pub fn may_pass(fault: &Error) -> bool
     ensures { IsTrue result
-        → (fault.now ≡ Memory) ⊎ ((kind : ErrorKind) × (fault.now ≡ Io kind)) }
+        ↔ ((fault.now ≡ Memory) ⊎ ((kind : ErrorKind) × (fault.now ≡ Io kind))) }
 {
     match fault {
         Error::Io(_) | Error::Memory => true,
