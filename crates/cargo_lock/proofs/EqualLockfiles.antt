@@ -11,10 +11,10 @@ use Rattle.std.proofs.Common.{ap}
 use Rattle.std.proofs.lemmas.Slice.Eq.{slice_eq-Decides}
 use Rattle.cargo_lock_parts.specs.Identity.{identity_key, package_key}
 use Rattle.cargo_lock_parts.specs.IdentityLaws.{is_same_identity-Decides, is_same_package-Decides}
-use Rattle.cargo_lock_encoding.specs.declared.version.ResolveVersion.{ResolveVersion}
-use Rattle.cargo_lock_encoding.specs.declared.version.ResolveVersion.TheVariants.{V1, V2, V3, V4}
-use Rattle.cargo_lock_encoding.specs.Format.{number_of}
-use Rattle.cargo_lock_encoding.specs.Records.{LockfileData}
+use Rattle.cargo_lock_references.specs.declared.version.ResolveVersion.{ResolveVersion}
+use Rattle.cargo_lock_references.specs.declared.version.ResolveVersion.TheVariants.{V1, V2, V3, V4}
+use Rattle.cargo_lock_references.specs.Format.{number_of}
+use Rattle.cargo_lock_encoding.specs.Lockfiles.{LockfileData}
 use Rattle.cargo_lock.specs.Same.{EqualExactlyByKeys, HasSameKeys, is_same_lockfile, is_same_pair}
 
 and-first : (s t : Bool) → (s && t) ≡ true → s ≡ true

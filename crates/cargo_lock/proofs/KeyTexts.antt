@@ -14,14 +14,15 @@ use Rattle.cargo_lock_parts.specs.Identity.{Identity, IdentityKey, PackageData, 
 use Rattle.cargo_lock_parts.specs.Source.{Kind, Source, MarkedSource, Git, Path, Registry, SparseRegistry, LocalRegistry, Directory, is_path}
 use Rattle.cargo_lock_parts.specs.SourceKey.{Key, key_of, precise_if_git}
 use Rattle.cargo_lock_parts.specs.SourceText.{marked_text, text_by_kind, text_of}
-use Rattle.cargo_lock_encoding.specs.declared.version.ResolveVersion.{ResolveVersion}
-use Rattle.cargo_lock_encoding.specs.declared.version.ResolveVersion.TheVariants.{V1, V2, V3, V4}
-use Rattle.cargo_lock_encoding.specs.Chosen.{bears_both, bears_name, chosen_form, in_full, marked, one, shortened, unless_path, without_source, written_source}
-use Rattle.cargo_lock_encoding.specs.Form.{Form, form_text, of_one, source_part, version_part}
-use Rattle.cargo_lock_encoding.specs.Metadata.{checksum_key, checksum_pairs, has_key, metadata_of, pairs_before, with_checksums, without_checksums}
-use Rattle.cargo_lock_encoding.specs.Records.{EntryData, EncodedData, LockfileData, Texts, is_escaped, is_escaped_number}
-use Rattle.cargo_lock_encoding.specs.Said.{same_parts, same_text}
-use Rattle.cargo_lock.specs.Survives.{HasSamePackages}
+use Rattle.cargo_lock_references.specs.declared.version.ResolveVersion.{ResolveVersion}
+use Rattle.cargo_lock_references.specs.declared.version.ResolveVersion.TheVariants.{V1, V2, V3, V4}
+use Rattle.cargo_lock_references.specs.Chosen.{bears_both, bears_name, chosen_form, in_full, marked, one, shortened, unless_path, without_source, written_source}
+use Rattle.cargo_lock_references.specs.Form.{Form, form_text, of_one, source_part, version_part}
+use Rattle.cargo_lock_references.specs.Metadata.{checksum_key, checksum_pairs, has_key, metadata_of, pairs_before, with_checksums, without_checksums}
+use Rattle.cargo_lock_references.specs.Records.{EntryData, Texts, is_escaped}
+use Rattle.cargo_lock_encoding.specs.Lockfiles.{EncodedData, LockfileData, is_escaped_number}
+use Rattle.cargo_lock_references.specs.Said.{same_parts, same_text}
+use Rattle.cargo_lock_encoding.specs.Survives.{HasSamePackages}
 use Rattle.cargo_lock.specs.Same.{EqualTablesAndTexts}
 use Rattle.cargo_lock.proofs.EqualLockfiles.{equal_fields}
 use Rattle.cargo_lock_encoding.specs.Table.{checksum_value, encoded_of, encoded_table, entry_of, entry_value, entry_with, form_value, metadata_value, patch_entry_value, present, root_entry, source_value, table_of, unless_empty, unless_no_patch, written_checksum, written_version}

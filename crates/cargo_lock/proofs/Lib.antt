@@ -1,8 +1,6 @@
-pub mod DenseWords
 pub mod EqualLockfiles
 pub mod KeyTexts
 pub mod LoadLemmas
-pub mod MeansLemmas
 pub mod PackageTables
 pub mod PlainFirst
 pub mod PlainLockfiles
@@ -12,7 +10,5 @@ pub mod SaidKeys
 pub mod ShortestForms
 pub mod ShortestReferences
 pub mod Survival
-pub mod SurvivalTests
-pub mod TableLemmas
 pub mod TranslationLemmas
 pub mod WrittenAgain

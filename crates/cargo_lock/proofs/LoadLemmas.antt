@@ -2,9 +2,9 @@
 use Rattle.std.specs.Prelude.{ℕ, List, Result, Ok, Err, IfErr}
 use Rattle.cargo_lock_parts.specs.declared.error.Error.{Error}
 use Rattle.cargo_lock_parts.specs.declared.error.Error.TheVariants.{Io, Parse, Version, Resolution, Memory}
-use Rattle.cargo_lock_encoding.specs.Finds.{FindsUrls}
+use Rattle.cargo_lock_references.specs.Finds.{FindsUrls}
 use Rattle.cargo_lock_encoding.specs.Means.{TextMeans}
-use Rattle.cargo_lock_encoding.specs.Records.{LockfileData}
+use Rattle.cargo_lock_encoding.specs.Lockfiles.{LockfileData}
 use Rattle.cargo_lock.specs.Loads.{IsOfFile}
 
 pub refusal_of_text : (text : List ℕ) (r : Result LockfileData Error) → FindsUrls (TextMeans text) r → IfErr r IsOfFile

@@ -12,17 +12,19 @@ use Rattle.cargo_lock_parts.specs.Source.{Source, is_path}
 use Rattle.cargo_lock_parts.specs.SourceKey.{Key, key_of}
 use Rattle.cargo_lock_parts.specs.SourceReading.{source_of}
 use Rattle.cargo_lock_parts.specs.SourceText.{marked_text}
-use Rattle.cargo_lock_encoding.specs.declared.version.ResolveVersion.{ResolveVersion}
-use Rattle.cargo_lock_encoding.specs.Chosen.{in_full, marked, unless_path, written_source}
-use Rattle.cargo_lock_encoding.specs.Form.{Form, form_of, form_text, plainly}
+use Rattle.cargo_lock_references.specs.declared.version.ResolveVersion.{ResolveVersion}
+use Rattle.cargo_lock_references.specs.Chosen.{in_full, marked, unless_path, written_source}
+use Rattle.cargo_lock_references.specs.Form.{Form, form_of, form_text, plainly}
 use Rattle.cargo_lock_encoding.specs.Meaning.{package_of}
-use Rattle.cargo_lock_encoding.specs.Optional.{◌>>=◌, map_all, map_some}
-use Rattle.cargo_lock_encoding.specs.Records.{EntryData, bare_source, entry_identity, is_escaped}
-use Rattle.cargo_lock_encoding.specs.Said.{said}
-use Rattle.cargo_lock.specs.Survives.{DigestReadsBack, PackageSurvives, ReferenceSurvives, SourceSurvives, TextReadsBack}
+use Rattle.cargo_lock_references.specs.Optional.{◌>>=◌, map_all, map_some}
+use Rattle.cargo_lock_references.specs.Records.{EntryData, bare_source, entry_identity, is_escaped}
+use Rattle.cargo_lock_references.specs.Said.{said}
+use Rattle.cargo_lock_references.specs.ReadBack.{DigestReadsBack, ReferenceSurvives, SourceSurvives, TextReadsBack}
+use Rattle.cargo_lock_encoding.specs.Survives.{PackageSurvives}
 use Rattle.cargo_lock_encoding.specs.Table.{checksum_value, entry_table, entry_with, form_value, present, source_value, unless_empty}
-use Rattle.cargo_lock_encoding.specs.TableReading.{checksum_from, entry_at, form_in, optional_by, optional_list, read_all, required_text, source_in, version_of}
-use Rattle.cargo_lock.proofs.MeansLemmas.{bind-parts, map-parts}
+use Rattle.cargo_lock_encoding.specs.TableReading.{checksum_from, entry_at, form_in, optional_by, optional_list, read_all, required_text, source_in}
+use Rattle.cargo_lock_references.specs.Form.{version_of}
+use Rattle.cargo_lock_encoding.proofs.MeansLemmas.{bind-parts, map-parts}
 use Rattle.cargo_lock.proofs.SaidKeys.{IsOf, in_full-of, reference-survives, reference-reads}
 
 pub cons-parts : {A : Type 0} (x y : A) (xs ys : List A) → x ∷ xs ≡ y ∷ ys → (x ≡ y) × (xs ≡ ys)

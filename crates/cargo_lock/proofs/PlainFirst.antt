@@ -18,26 +18,28 @@ use Rattle.cargo_lock_parts.specs.Source.{MarkedSource, Source, is_path, is_regi
 use Rattle.cargo_lock_parts.specs.SourceKey.{Key, key_of}
 use Rattle.cargo_lock_parts.specs.SourceReading.{source_of}
 use Rattle.cargo_lock_parts.specs.SourceText.{marked_text, text_by_kind, text_of}
-use Rattle.cargo_lock_encoding.specs.declared.version.ResolveVersion.TheVariants.{V1}
-use Rattle.cargo_lock_encoding.specs.Chosen.{chosen_form, in_full, marked, unless_path}
-use Rattle.cargo_lock_encoding.specs.Form.{Form, Refusal, form_or_refusal, form_text, plainly, source_part}
-use Rattle.cargo_lock_encoding.specs.LeastKey.{IsAtLeastKey}
-use Rattle.cargo_lock_encoding.specs.Metadata.{checksum_in, checksum_key, has_checksum_key, is_checksum, is_named, key_identity, key_or_refusal, metadata_of, reads_as}
+use Rattle.cargo_lock_references.specs.declared.version.ResolveVersion.TheVariants.{V1}
+use Rattle.cargo_lock_references.specs.Chosen.{chosen_form, in_full, marked, unless_path}
+use Rattle.cargo_lock_references.specs.Form.{Form, Refusal, form_or_refusal, form_text, plainly, source_part}
+use Rattle.cargo_lock_references.specs.LeastKey.{IsAtLeastKey}
+use Rattle.cargo_lock_references.specs.Metadata.{checksum_in, checksum_key, has_checksum_key, is_checksum, is_named, key_identity, key_or_refusal, metadata_of, reads_as}
 use Rattle.cargo_lock.specs.Plain.{HasNoTwins, HasSomeChecksum, IsPlain, IsPlainPackage, IsPlainSource, PlainSurvives}
-use Rattle.cargo_lock_encoding.specs.Records.{LockfileData, Texts, bare_source}
-use Rattle.cargo_lock_encoding.specs.Said.{same_parts, same_text}
+use Rattle.cargo_lock_encoding.specs.Lockfiles.{LockfileData}
+use Rattle.cargo_lock_references.specs.Records.{Texts, bare_source}
+use Rattle.cargo_lock_references.specs.Said.{same_parts, same_text}
 use Rattle.cargo_lock.specs.Shortest.{IsAmong}
-use Rattle.cargo_lock.specs.Survives.{DigestReadsBack, EntrySurvives, ReferenceSurvives, Survives, TextReadsBack, VersionSurvives}
-use Rattle.cargo_lock_encoding.specs.Words.{IsDense, IsWord}
-use Rattle.cargo_lock_encoding.specs.WrittenMetadata.{HasChecksumAt, HasNoChecksum}
+use Rattle.cargo_lock_references.specs.ReadBack.{DigestReadsBack, ReferenceSurvives, TextReadsBack, VersionSurvives}
+use Rattle.cargo_lock_encoding.specs.Survives.{EntrySurvives, Survives}
+use Rattle.cargo_lock_references.specs.Words.{IsDense, IsWord}
+use Rattle.cargo_lock_references.specs.WrittenMetadata.{HasChecksumAt, HasNoChecksum}
 use Rattle.cargo_lock.proofs.KeyTexts.{text_of-key}
-use Rattle.cargo_lock_encoding.proofs.LeastKeys.{checksum_at_least_key}
+use Rattle.cargo_lock_references.proofs.LeastKeys.{checksum_at_least_key}
 use Rattle.cargo_lock.proofs.PlainLockfiles.{IsSound, listed-at, no_path, own-parts, plain-fourth, plain-second, plain-third, shown, sound-listed}
 use Rattle.cargo_lock.proofs.ReferenceTexts.{IsWhole, form-reads}
-use Rattle.cargo_lock_encoding.proofs.SaysLemmas.{Says-from, same_parts-refl, same_parts-yes, same_text-refl, same_text-yes}
+use Rattle.cargo_lock_references.proofs.SaysLemmas.{Says-from, same_parts-refl, same_parts-yes, same_text-refl, same_text-yes}
 use Rattle.cargo_lock.proofs.ShortestReferences.{all-at, map-at}
-use Rattle.cargo_lock_encoding.proofs.Texts.{texts_tie}
-use Rattle.cargo_lock_encoding.proofs.WrittenMetadata.{checksums_at_keys}
+use Rattle.cargo_lock_references.proofs.Texts.{texts_tie}
+use Rattle.cargo_lock_references.proofs.WrittenMetadata.{checksums_at_keys}
 
 -- ---- references in full
 

@@ -14,19 +14,21 @@ use Rattle.cargo_lock_parts.specs.Source.{Kind, Source, Git, Path, Registry, Spa
 use Rattle.cargo_lock_parts.specs.SourceKey.{key_of}
 use Rattle.cargo_lock_parts.specs.SourceReading.{source_of}
 use Rattle.cargo_lock_parts.specs.SourceText.{text_by_kind, text_of}
-use Rattle.cargo_lock_encoding.specs.declared.version.ResolveVersion.{ResolveVersion}
-use Rattle.cargo_lock_encoding.specs.declared.version.ResolveVersion.TheVariants.{V1, V2, V3, V4}
-use Rattle.cargo_lock_encoding.specs.Chosen.{bears_both, bears_name, chosen_form, in_full, one, shortened}
-use Rattle.cargo_lock_encoding.specs.Metadata.{has_checksum_key, has_key, is_checksum, metadata_of, without_checksums}
+use Rattle.cargo_lock_references.specs.declared.version.ResolveVersion.{ResolveVersion}
+use Rattle.cargo_lock_references.specs.declared.version.ResolveVersion.TheVariants.{V1, V2, V3, V4}
+use Rattle.cargo_lock_references.specs.Chosen.{bears_both, bears_name, chosen_form, in_full, one, shortened}
+use Rattle.cargo_lock_references.specs.Metadata.{has_checksum_key, has_key, is_checksum, metadata_of, without_checksums}
 use Rattle.cargo_lock.specs.Plain.{HasNoTwins, IsPlain, IsPlainPackage, IsPlainSource}
-use Rattle.cargo_lock_encoding.specs.Records.{LockfileData, Texts, is_escaped}
+use Rattle.cargo_lock_encoding.specs.Lockfiles.{LockfileData}
+use Rattle.cargo_lock_references.specs.Records.{Texts, is_escaped}
 use Rattle.cargo_lock.specs.Shortest.{IsAmong}
-use Rattle.cargo_lock.specs.Survives.{EntrySurvives, FormatSurvives, OwnPartsSurvive, ReferenceSurvives, RootSurvives, SourceSurvives, Survives, VersionSurvives}
-use Rattle.cargo_lock_encoding.specs.Words.{IsWord}
-use Rattle.cargo_lock_encoding.proofs.ChosenLemmas.{one-place}
-use Rattle.cargo_lock_encoding.proofs.SaysLemmas.{same_parts-refl, same_parts-yes, same_text-refl, same_text-yes}
+use Rattle.cargo_lock_encoding.specs.Survives.{EntrySurvives, FormatSurvives, OwnPartsSurvive, RootSurvives, Survives}
+use Rattle.cargo_lock_references.specs.ReadBack.{ReferenceSurvives, SourceSurvives, VersionSurvives}
+use Rattle.cargo_lock_references.specs.Words.{IsWord}
+use Rattle.cargo_lock_references.proofs.ChosenLemmas.{one-place}
+use Rattle.cargo_lock_references.proofs.SaysLemmas.{same_parts-refl, same_parts-yes, same_text-refl, same_text-yes}
 use Rattle.cargo_lock.proofs.ShortestForms.{name-names, version-names}
-use Rattle.cargo_lock_encoding.proofs.Texts.{same_texts}
+use Rattle.cargo_lock_references.proofs.Texts.{same_texts}
 use Rattle.cargo_lock.proofs.WrittenAgain.{get-kept}
 use Rattle.std.proofs.lemmas.List.Sorted.{IsPermutation-refl}
 

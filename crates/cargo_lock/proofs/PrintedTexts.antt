@@ -4,14 +4,15 @@ use Rattle.std.proofs.lemmas.Option.{none-some}
 use Rattle.toml.specs.Data.{Data, Items, integer}
 use Rattle.cargo_lock_parts.specs.Identity.{PackageData, identity_of, package_key}
 use Rattle.cargo_lock_encoding.specs.Meaning.{locked, meaning}
-use Rattle.cargo_lock_encoding.specs.Metadata.{metadata_of}
-use Rattle.cargo_lock_encoding.specs.Optional.{◌>>=◌}
+use Rattle.cargo_lock_references.specs.Metadata.{metadata_of}
+use Rattle.cargo_lock_references.specs.Optional.{◌>>=◌}
 use Rattle.cargo_lock.specs.Printed.{PrintedBack, printed_table}
-use Rattle.cargo_lock_encoding.specs.Records.{EncodedData, LockfileData, is_escaped}
-use Rattle.cargo_lock.specs.Survives.{Survives}
+use Rattle.cargo_lock_encoding.specs.Lockfiles.{EncodedData, LockfileData}
+use Rattle.cargo_lock_references.specs.Records.{is_escaped}
+use Rattle.cargo_lock_encoding.specs.Survives.{Survives}
 use Rattle.cargo_lock_encoding.specs.Table.{entry_of, entry_value, metadata_value, patch_value, present, table_of, unless_empty, written_version}
 use Rattle.cargo_lock_encoding.specs.TableReading.{all_entries_at, encoded_at, entries_at, optional_list}
-use Rattle.cargo_lock.proofs.MeansLemmas.{Means-from}
+use Rattle.cargo_lock_encoding.proofs.MeansLemmas.{Means-from}
 use Rattle.cargo_lock.proofs.PackageTables.{list-read}
 use Rattle.cargo_lock.proofs.Survival.{reading, table-values, values_from}
 

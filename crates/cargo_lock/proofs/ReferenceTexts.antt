@@ -15,13 +15,13 @@ use Rattle.cargo_lock_parts.specs.Source.{MarkedSource, Source}
 use Rattle.cargo_lock_parts.specs.SourceKey.{Key, key_of}
 use Rattle.cargo_lock_parts.specs.SourceReading.{source_of}
 use Rattle.cargo_lock_parts.specs.SourceText.{marked_text}
-use Rattle.cargo_lock_encoding.specs.Words.{words, IsWord, IsDense}
-use Rattle.cargo_lock_encoding.specs.Form.{Form, Refusal, after_source, after_version, bracketed_source, form_of, form_of_words, form_or_refusal, form_text, of_one, of_two, of_three, plainly, source_part, version_part}
-use Rattle.cargo_lock_encoding.specs.FormOrder.{marked_key}
-use Rattle.cargo_lock_encoding.specs.Optional.{◌>>=◌}
-use Rattle.cargo_lock.specs.Survives.{FormSurvives, TextReadsBack, VersionSurvives}
-use Rattle.cargo_lock_encoding.specs.TableReading.{version_of}
-use Rattle.cargo_lock.proofs.DenseWords.{bracketed, words-words, words-utf8, words-word, words-more, utf8-cut, some-word, dense-utf8, utf8-ascii, bracketed-whole, bracketed-dense, dense-bracketed}
+use Rattle.cargo_lock_references.specs.Words.{words, IsWord, IsDense}
+use Rattle.cargo_lock_references.specs.Form.{Form, Refusal, after_source, after_version, bracketed_source, form_of, form_of_words, form_or_refusal, form_text, of_one, of_two, of_three, plainly, source_part, version_part}
+use Rattle.cargo_lock_references.specs.FormOrder.{marked_key}
+use Rattle.cargo_lock_references.specs.Optional.{◌>>=◌}
+use Rattle.cargo_lock_references.specs.ReadBack.{FormSurvives, TextReadsBack, VersionSurvives}
+use Rattle.cargo_lock_references.specs.Form.{version_of}
+use Rattle.cargo_lock_references.proofs.DenseWords.{bracketed, words-words, words-utf8, words-word, words-more, utf8-cut, some-word, dense-utf8, utf8-ascii, bracketed-whole, bracketed-dense, dense-bracketed}
 
 -- ---- the form of some words, where there is one
 

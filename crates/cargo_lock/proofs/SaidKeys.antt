@@ -8,17 +8,18 @@ use Rattle.semver.specs.Parse.{Parts}
 use Rattle.cargo_lock_parts.specs.Identity.{Identity, IdentityKey, identity_key}
 use Rattle.cargo_lock_parts.specs.Source.{MarkedSource, Source, is_path}
 use Rattle.cargo_lock_parts.specs.SourceKey.{Key, key_of}
-use Rattle.cargo_lock_encoding.specs.declared.version.ResolveVersion.{ResolveVersion}
-use Rattle.cargo_lock_encoding.specs.declared.version.ResolveVersion.TheVariants.{V1, V2, V3, V4}
-use Rattle.cargo_lock_encoding.specs.Chosen.{bears_name, chosen_form, in_full, is_version_unique, marked, one, shortened, unless_path, without_source, written_source}
-use Rattle.cargo_lock_encoding.specs.Form.{Form, form_of, form_text, of_one}
-use Rattle.cargo_lock_encoding.specs.FormOrder.{marked_key}
-use Rattle.cargo_lock_encoding.specs.Records.{bare_source}
-use Rattle.cargo_lock_encoding.specs.Said.{fits, has_version, itself, or_itself, said, said_by, same_text, with_version}
-use Rattle.cargo_lock.specs.Survives.{ReferenceSurvives, SaysEqual}
-use Rattle.cargo_lock.proofs.MeansLemmas.{map-parts}
+use Rattle.cargo_lock_references.specs.declared.version.ResolveVersion.{ResolveVersion}
+use Rattle.cargo_lock_references.specs.declared.version.ResolveVersion.TheVariants.{V1, V2, V3, V4}
+use Rattle.cargo_lock_references.specs.Chosen.{bears_name, chosen_form, in_full, is_version_unique, marked, one, shortened, unless_path, without_source, written_source}
+use Rattle.cargo_lock_references.specs.Form.{Form, form_of, form_text, of_one}
+use Rattle.cargo_lock_references.specs.FormOrder.{marked_key}
+use Rattle.cargo_lock_references.specs.Records.{bare_source}
+use Rattle.cargo_lock_references.specs.Said.{fits, has_version, itself, or_itself, said, said_by, same_text, with_version}
+use Rattle.cargo_lock_references.specs.ReadBack.{ReferenceSurvives, SaysEqual}
+use Rattle.cargo_lock_encoding.proofs.MeansLemmas.{map-parts}
 use Rattle.cargo_lock.proofs.ReferenceTexts.{Agrees, Alike, IsWhole, form-survives, form-reads}
-use Rattle.cargo_lock_encoding.proofs.SaysLemmas.{Says-from, find-found, find-map, has_version-yes, said-from, same_text-yes}
+use Rattle.cargo_lock_references.proofs.ReadBackLemmas.{says-equal}
+use Rattle.cargo_lock_references.proofs.SaysLemmas.{Says-from, find-found, find-map, has_version-yes, said-from, same_text-yes}
 
 -- ---- what a form says, of keys alone
 
@@ -152,13 +153,6 @@ chosen_form-of V3 list d = shortened-of false list d
 chosen_form-of V4 list d = shortened-of true list d
 
 -- ---- a reference survives exactly where it reads back
-
--- a form says an equal identity exactly where the key of what it says is that identity's
-pub says-equal : (f : Form) (list : List Identity) (d : Identity) → SaysEqual f list d ↔ (option_map identity_key (said f list) ≡ Some (identity_key d))
-says-equal f list d = (
-  λ h. ap (option_map identity_key) (said-from f list h.0 h.1) ∙ ap Some h.2,
-  λ e. let p = map-parts identity_key (said f list) (identity_key d) e in (p.0, Says-from f list p.0 p.1, p.2),
-)
 
 pub record ReferenceReads (f : Form) (list : List Identity) (d : Identity) (g : Form) : Type 0 where
   pub read : form_of (form_text f) ≡ Some g

@@ -8,15 +8,15 @@ use Rattle.std.proofs.lemmas.Option.{same_Some, none-some, slice_get_within, get
 use Rattle.semver.specs.Parse.{Parts}
 use Rattle.cargo_lock_parts.specs.Identity.{Identity, IdentityKey, identity_key}
 use Rattle.cargo_lock_parts.specs.Source.{MarkedSource, Source, is_path}
-use Rattle.cargo_lock_encoding.specs.Chosen.{bears_both, bears_name, in_full, marked, one, shortened, unless_path, without_source, written_source}
-use Rattle.cargo_lock_encoding.specs.Form.{Form, of_one}
-use Rattle.cargo_lock_encoding.specs.Records.{bare_source}
-use Rattle.cargo_lock_encoding.specs.Said.{fits}
-use Rattle.cargo_lock_encoding.specs.Says.{Fits, IsItself, says_by}
+use Rattle.cargo_lock_references.specs.Chosen.{bears_both, bears_name, in_full, marked, one, shortened, unless_path, without_source, written_source}
+use Rattle.cargo_lock_references.specs.Form.{Form, of_one}
+use Rattle.cargo_lock_references.specs.Records.{bare_source}
+use Rattle.cargo_lock_references.specs.Said.{fits}
+use Rattle.cargo_lock_references.specs.Says.{Fits, IsItself, says_by}
 use Rattle.cargo_lock.specs.Shortest.{AreDistinct, HasNoTwin, IsAmbiguous, IsAmong, IsLeast, Names, one_if_some, words_in}
-use Rattle.cargo_lock.specs.Survives.{SaysEqual}
-use Rattle.cargo_lock_encoding.proofs.ChosenLemmas.{count-hit, count-miss, count-pos, count-some}
-use Rattle.cargo_lock_encoding.proofs.SaysLemmas.{Says-from, fits-true, fits-yes, same_parts-refl, same_parts-yes, same_text-refl, same_text-yes}
+use Rattle.cargo_lock_references.specs.ReadBack.{SaysEqual}
+use Rattle.cargo_lock_references.proofs.ChosenLemmas.{count-hit, count-miss, count-pos, count-some}
+use Rattle.cargo_lock_references.proofs.SaysLemmas.{Says-from, fits-true, fits-yes, same_parts-refl, same_parts-yes, same_text-refl, same_text-yes}
 
 -- ---- counts
 

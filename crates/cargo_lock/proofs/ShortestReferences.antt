@@ -11,20 +11,22 @@ use Rattle.toml.specs.View.{items_of}
 use Rattle.cargo_lock_parts.specs.Identity.{Identity, IdentityKey, PackageData, identity_of}
 use Rattle.cargo_lock_parts.specs.Source.{Source, is_path}
 use Rattle.cargo_lock_parts.specs.SourceKey.{Key, key_of}
-use Rattle.cargo_lock_encoding.specs.declared.version.ResolveVersion.{ResolveVersion}
-use Rattle.cargo_lock_encoding.specs.declared.version.ResolveVersion.TheVariants.{V1, V2, V3, V4}
-use Rattle.cargo_lock_encoding.specs.Chosen.{bears_both, bears_name, chosen_form, in_full, shortened}
-use Rattle.cargo_lock_encoding.specs.Form.{Form, form_text}
-use Rattle.cargo_lock_encoding.specs.FormOrder.{form_key}
-use Rattle.cargo_lock_encoding.specs.Metadata.{metadata_of}
-use Rattle.cargo_lock_encoding.specs.Optional.{◌>>=◌}
-use Rattle.cargo_lock_encoding.specs.Records.{EntryData, LockfileData, is_escaped_number}
-use Rattle.cargo_lock_encoding.specs.Said.{same_text}
+use Rattle.cargo_lock_references.specs.declared.version.ResolveVersion.{ResolveVersion}
+use Rattle.cargo_lock_references.specs.declared.version.ResolveVersion.TheVariants.{V1, V2, V3, V4}
+use Rattle.cargo_lock_references.specs.Chosen.{bears_both, bears_name, chosen_form, in_full, shortened}
+use Rattle.cargo_lock_references.specs.Form.{Form, form_text}
+use Rattle.cargo_lock_references.specs.FormOrder.{form_key}
+use Rattle.cargo_lock_references.specs.Metadata.{metadata_of}
+use Rattle.cargo_lock_references.specs.Optional.{◌>>=◌}
+use Rattle.cargo_lock_references.specs.Records.{EntryData}
+use Rattle.cargo_lock_encoding.specs.Lockfiles.{LockfileData, is_escaped_number}
+use Rattle.cargo_lock_references.specs.Said.{same_text}
 use Rattle.cargo_lock.specs.Shortest.{AreDistinct, HasShortestReferences, IsAmong, IsShortening, ShortestReferences, WrittenByBearers, bearers, bears_some, item_at, package_at, reference_at}
-use Rattle.cargo_lock.specs.Survives.{EntrySurvives, SourceSurvives, Survives}
+use Rattle.cargo_lock_encoding.specs.Survives.{EntrySurvives, Survives}
+use Rattle.cargo_lock_references.specs.ReadBack.{SourceSurvives}
 use Rattle.cargo_lock_encoding.specs.Table.{checksum_value, encoded_of, encoded_table, entry_of, entry_table, entry_value, form_value, metadata_value, packages_value, patch_value, present, root_entry, source_value, table_of, unless_empty, written_version}
 use Rattle.cargo_lock_encoding.specs.TableReading.{members_in, required_list, text_in}
-use Rattle.cargo_lock_encoding.proofs.ChosenLemmas.{count-miss}
+use Rattle.cargo_lock_references.proofs.ChosenLemmas.{count-miss}
 use Rattle.cargo_lock.proofs.ReferenceTexts.{Alike, form-reads}
 use Rattle.cargo_lock.proofs.SaidKeys.{chosen_form-of}
 use Rattle.cargo_lock.proofs.ShortestForms.{IsChosenWell, IsWritten, chosen-well}

@@ -9,22 +9,26 @@ use Rattle.toml.specs.Data.{Data, string, integer, Items}
 use Rattle.toml.specs.View.{items_of}
 use Rattle.cargo_lock_parts.specs.Identity.{Identity, IdentityKey, PackageData, PackageKey, identity_key, identity_of, package_key}
 use Rattle.cargo_lock_parts.specs.SourceKey.{Key, key_of}
-use Rattle.cargo_lock_encoding.specs.declared.version.ResolveVersion.{ResolveVersion}
-use Rattle.cargo_lock_encoding.specs.declared.version.ResolveVersion.TheVariants.{V1, V2, V3, V4}
-use Rattle.cargo_lock_encoding.specs.Chosen.{chosen_form, in_full}
-use Rattle.cargo_lock_encoding.specs.Format.{detected, format_by, format_of, has_checksum}
+use Rattle.cargo_lock_references.specs.declared.version.ResolveVersion.{ResolveVersion}
+use Rattle.cargo_lock_references.specs.declared.version.ResolveVersion.TheVariants.{V1, V2, V3, V4}
+use Rattle.cargo_lock_references.specs.Chosen.{chosen_form, in_full}
+use Rattle.cargo_lock_references.specs.Format.{detected, format_by, has_checksum}
+use Rattle.cargo_lock_encoding.specs.Lockfiles.{format_of}
 use Rattle.cargo_lock_encoding.specs.Meaning.{ResolvedData, all_packages, completed, locked, meaning, package_of, resolved, root_package}
 use Rattle.cargo_lock_encoding.specs.Means.{entry_checksum, reading_list}
-use Rattle.cargo_lock_encoding.specs.Metadata.{checksum_in, has_checksum_key, metadata_of}
-use Rattle.cargo_lock_encoding.specs.Optional.{◌>>=◌, map_all, map_some}
-use Rattle.cargo_lock_encoding.specs.Records.{EncodedData, EntryData, LockfileData, Texts, entry_identity, is_escaped, is_escaped_number}
-use Rattle.cargo_lock.specs.Survives.{ChecksumSurvives, DigestReadsBack, EntrySurvives, FormatSurvives, HasSamePackages, PatchSurvives, ReadsBack, RootSurvives, Survives, SurvivesExactly, in_format}
+use Rattle.cargo_lock_references.specs.Metadata.{checksum_in, has_checksum_key, metadata_of}
+use Rattle.cargo_lock_references.specs.Optional.{◌>>=◌, map_all, map_some}
+use Rattle.cargo_lock_encoding.specs.Lockfiles.{EncodedData, LockfileData, is_escaped_number}
+use Rattle.cargo_lock_references.specs.Records.{EntryData, Texts, entry_identity, is_escaped}
+use Rattle.cargo_lock_encoding.specs.Survives.{ChecksumSurvives, EntrySurvives, FormatSurvives, HasSamePackages, PatchSurvives, ReadsBack, RootSurvives, Survives, SurvivesExactly, in_format}
+use Rattle.cargo_lock_references.specs.ReadBack.{DigestReadsBack}
 use Rattle.cargo_lock_encoding.specs.Table.{checksum_value, encoded_of, encoded_table, entry_of, entry_table, entry_value, metadata_value, patch_entry_value, patch_table, patch_value, present, root_entry, table_of, text_members, unless_no_text, written_checksum, written_version}
-use Rattle.cargo_lock_encoding.specs.TableReading.{EntriesData, all_entries_at, checksum_from, encoded_at, entries_at, entry_at, entry_in, metadata_in, number_in, optional_by, optional_list, pairs_at, patch_entry_at, patch_entry_in, patch_in, put_all, read_all, required_text, source_in, version_of}
-use Rattle.cargo_lock.proofs.MeansLemmas.{Means-from, bind-parts, map-parts, meaning-from}
+use Rattle.cargo_lock_encoding.specs.TableReading.{EntriesData, all_entries_at, checksum_from, encoded_at, entries_at, entry_at, entry_in, metadata_in, number_in, optional_by, optional_list, pairs_at, patch_entry_at, patch_entry_in, patch_in, put_all, read_all, required_text, source_in}
+use Rattle.cargo_lock_references.specs.Form.{version_of}
+use Rattle.cargo_lock_encoding.proofs.MeansLemmas.{Means-from, bind-parts, map-parts, meaning-from}
 use Rattle.cargo_lock.proofs.PackageTables.{all-parts, all-made, cons-parts, digest-survives, not-cons, package-parts, package-reads, package-survives, source-reads, source-survives, source_data, table-read}
 use Rattle.cargo_lock.proofs.SaidKeys.{chosen_form-of, in_full-of}
-use Rattle.cargo_lock_encoding.proofs.Texts.{put_all-entries}
+use Rattle.cargo_lock_encoding.proofs.PutAll.{put_all-entries}
 
 -- ---- patches
 

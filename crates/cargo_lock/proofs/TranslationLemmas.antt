@@ -5,18 +5,19 @@ use Rattle.cargo_lock_parts.specs.declared.error.Error.{Error}
 use Rattle.cargo_lock_parts.specs.declared.error.Error.TheVariants.{Io, Parse, Version, Resolution, Memory}
 use Rattle.cargo_lock_parts.specs.Error.{Reads, Refuses}
 use Rattle.cargo_lock_parts.specs.Identity.{PackageData, package_key}
-use Rattle.cargo_lock_encoding.specs.declared.version.ResolveVersion.{ResolveVersion}
+use Rattle.cargo_lock_references.specs.declared.version.ResolveVersion.{ResolveVersion}
 use Rattle.cargo_lock_encoding.specs.Meaning.{meaning}
-use Rattle.cargo_lock_encoding.specs.Metadata.{metadata_of}
-use Rattle.cargo_lock_encoding.specs.Optional.{◌>>=◌}
-use Rattle.cargo_lock_encoding.specs.Records.{LockfileData, Texts}
-use Rattle.cargo_lock.specs.Survives.{in_format}
+use Rattle.cargo_lock_references.specs.Metadata.{metadata_of}
+use Rattle.cargo_lock_references.specs.Optional.{◌>>=◌}
+use Rattle.cargo_lock_encoding.specs.Lockfiles.{LockfileData}
+use Rattle.cargo_lock_references.specs.Records.{Texts}
+use Rattle.cargo_lock_encoding.specs.Survives.{in_format}
 use Rattle.cargo_lock_encoding.specs.Table.{table_of}
 use Rattle.cargo_lock.specs.Translation.{IsStuck, KeepsThrough, LeadsTo, SurvivesEach, last_format, metadata_through, translated}
 use Rattle.cargo_lock.proofs.KeyTexts.{metadata_of-same}
-use Rattle.cargo_lock.proofs.MeansLemmas.{Means-from, bind-parts, meaning-from}
+use Rattle.cargo_lock_encoding.proofs.MeansLemmas.{Means-from, bind-parts, meaning-from}
 use Rattle.cargo_lock.proofs.Survival.{reading}
-use Rattle.cargo_lock_encoding.proofs.Walk.{Refuses-by}
+use Rattle.cargo_lock_references.proofs.Walk.{Refuses-by}
 
 leads-to : (fs : List ResolveVersion) (l x : LockfileData) → translated fs l ≡ Some x → LeadsTo fs l x
 leads-to [] l x e = sym (same_Some _ _ e)

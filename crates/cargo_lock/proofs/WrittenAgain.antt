@@ -4,16 +4,17 @@ use Rattle.std.specs.Cmp.Lexicographic.{slice_cmp, nat_list_cmp_total}
 use Rattle.std.specs.FinMap.{entries, find, from_entries, get, get-entries, get-from_entries, get-retain_keys, retain_keys}
 use Rattle.std.specs.Ordering.{eq_by_cmp, nat_cmp}
 use Rattle.cargo_lock_parts.specs.Identity.{PackageKey, package_key}
-use Rattle.cargo_lock_encoding.specs.declared.version.ResolveVersion.{ResolveVersion}
-use Rattle.cargo_lock_encoding.specs.declared.version.ResolveVersion.TheVariants.{V1, V2, V3, V4}
-use Rattle.cargo_lock_encoding.specs.Metadata.{metadata_of}
-use Rattle.cargo_lock_encoding.specs.Records.{Texts}
+use Rattle.cargo_lock_references.specs.declared.version.ResolveVersion.{ResolveVersion}
+use Rattle.cargo_lock_references.specs.declared.version.ResolveVersion.TheVariants.{V1, V2, V3, V4}
+use Rattle.cargo_lock_references.specs.Metadata.{metadata_of}
+use Rattle.cargo_lock_references.specs.Records.{Texts}
 use Rattle.cargo_lock_encoding.specs.Table.{table_of}
 use Rattle.cargo_lock.specs.Translation.{WrittenAgain}
 use Rattle.cargo_lock.proofs.KeyTexts.{key_metadata, metadata_of-key, metadata_of-same, same-tables}
-use Rattle.cargo_lock.proofs.MeansLemmas.{meaning-from}
+use Rattle.cargo_lock_encoding.proofs.MeansLemmas.{meaning-from}
 use Rattle.cargo_lock.proofs.Survival.{step-keeps}
-use Rattle.cargo_lock_encoding.proofs.Texts.{or_else, same_texts, texts_tie}
+use Rattle.cargo_lock_references.proofs.Texts.{same_texts, texts_tie}
+use Rattle.cargo_lock_encoding.proofs.PutAll.{or_else}
 
 -- ---- pairs before others
 

@@ -5,7 +5,7 @@ use Rattle.cargo_lock_encoding.specs.Means.{MeansOne}
 use Rattle.cargo_lock.specs.Plain.{PlainSurvives}
 use Rattle.cargo_lock.specs.Printed.{PrintedBack}
 use Rattle.cargo_lock.specs.Shortest.{ShortestReferences, WrittenByBearers}
-use Rattle.cargo_lock.specs.Survives.{SurvivesExactly}
+use Rattle.cargo_lock_encoding.specs.Survives.{SurvivesExactly}
 use Rattle.cargo_lock_graph.specs.Targets.{EdgesAreOne}
 use Rattle.cargo_lock.specs.Translation.{WrittenAgain}
 
@@ -23,16 +23,17 @@ pub record Headline : Type 0 where
   -- lockfiles of registry packages alone, each name and version once, survive V2 to V4, and V1
   -- where some package has a checksum: `Lockfile::survives`
   pub plain : PlainSurvives
-  -- there, from V2 on with distinct identities, a listed dependency stands in the shortest form that
-  -- names it in every order of the packages, one sourceless case excepted: `Lockfile::to_table`
+  -- there, from V2 on with distinct identities, a listed dependency stands in the shortest form
+  -- that names it in every order of the packages, one sourceless case excepted: `Lockfile::to_table`
   pub shortest : ShortestReferences
   -- and the table of a package depends on the packages that bear the names of its dependencies
   pub bearers : WrittenByBearers
   -- the edges of a tree are told by the packages: `Tree::new`
   pub edges : EdgesAreOne
   -- a successful rendering draws its start and each reachable edge exactly once, and nothing else:
-  -- `Tree::render_into` draws a drawing, there is exactly one, it has the reachable nodes alone, each
-  -- is expanded once, and the edges of reachable nodes match the entries after the first one to one
+  -- `Tree::render_into` draws a drawing, there is exactly one, it has the reachable nodes alone,
+  -- each is expanded once, and the edges of reachable nodes match the entries after the first one
+  -- to one
   pub drawn : DrawingExists
   pub drawn_alone : DrawingIsUnique
   pub reached : OccursWhereReachable

@@ -4,17 +4,18 @@ use Rattle.cargo_lock_parts.specs.declared.error.Error.{Error}
 use Rattle.cargo_lock_parts.specs.declared.error.Error.TheVariants.{Io, Parse, Version, Resolution, Memory}
 use Rattle.cargo_lock_parts.specs.Error.{RefusesUrls}
 use Rattle.cargo_lock_encoding.specs.Means.{TextMeans}
-use Rattle.cargo_lock_encoding.specs.Records.{LockfileData}
+use Rattle.cargo_lock_encoding.specs.Lockfiles.{LockfileData}
 
 -- some text means the lockfile
 abbrev pub IsMeant : LockfileData → Type 0
 IsMeant l = (text : List ℕ) × TextMeans text l
 
 -- the fault of a file; the refusal of some text that means no lockfile, or of one with a URL that
--- came to 4 GB; or want of memory
+-- has 4 GB or more; or running out of memory
 abbrev pub IsOfFile : Error → Type 0
 IsOfFile (Io kind) = Unit {0}
-IsOfFile (Parse said) = (text : List ℕ) × RefusesUrls (Parse said) ((l : LockfileData) → ¬ TextMeans text l)
+IsOfFile (Parse said) = (text : List ℕ)
+    × RefusesUrls (Parse said) ((l : LockfileData) → ¬ TextMeans text l)
 IsOfFile (Version fault) = ⊥
 IsOfFile (Resolution said) = ⊥
 IsOfFile Memory = Unit {0}

@@ -18,6 +18,6 @@ abbrev mutual
   members_have_long_text no_members = false
   members_have_long_text (member k d ms) = has_long_text d || members_have_long_text ms
 
--- each text in the values of a table is shorter than 2^24 bytes: none has a URL that comes to 4 GB
+-- each text in the values of a table is shorter than 2^24 bytes: none has a URL of 4 GB or more
 abbrev pub HasShortTexts : Members → Type 0
 HasShortTexts t = members_have_long_text t ≡ false

@@ -7,12 +7,13 @@ use Rattle.semver.specs.Identifiers.{parts_text}
 use Rattle.cargo_lock_parts.specs.Identity.{Identity, PackageData, identity_of}
 use Rattle.cargo_lock_parts.specs.Source.{Source, is_registry}
 use Rattle.cargo_lock_parts.specs.SourceText.{text_of}
-use Rattle.cargo_lock_encoding.specs.declared.version.ResolveVersion.TheVariants.{V1, V2, V3, V4}
-use Rattle.cargo_lock_encoding.specs.Chosen.{marked}
-use Rattle.cargo_lock_encoding.specs.Records.{LockfileData}
+use Rattle.cargo_lock_references.specs.declared.version.ResolveVersion.TheVariants.{V1, V2, V3, V4}
+use Rattle.cargo_lock_references.specs.Chosen.{marked}
+use Rattle.cargo_lock_encoding.specs.Lockfiles.{LockfileData}
 use Rattle.cargo_lock.specs.Shortest.{IsAmong}
-use Rattle.cargo_lock.specs.Survives.{DigestReadsBack, Survives, TextReadsBack, VersionSurvives}
-use Rattle.cargo_lock_encoding.specs.Words.{IsDense, IsWord}
+use Rattle.cargo_lock_references.specs.ReadBack.{DigestReadsBack, TextReadsBack, VersionSurvives}
+use Rattle.cargo_lock_encoding.specs.Survives.{Survives}
+use Rattle.cargo_lock_references.specs.Words.{IsDense, IsWord}
 
 -- a registry whose text has no white space and reads back
 pub record IsPlainSource (s : Source) : Type 0 where
@@ -53,4 +54,5 @@ pub record HasSomeChecksum (l : LockfileData) : Type 0 where
 
 -- a plain lockfile survives V2, V3 and V4, and where some package has a checksum V1 too
 abbrev pub PlainSurvives : Type 0
-PlainSurvives = (l : LockfileData) → IsPlain l → Survives l V2 × Survives l V3 × Survives l V4 × (HasSomeChecksum l → Survives l V1)
+PlainSurvives = (l : LockfileData) → IsPlain l → Survives l V2 × Survives l V3 × Survives l V4
+    × (HasSomeChecksum l → Survives l V1)

@@ -5,9 +5,10 @@ use Rattle.toml.specs.Data.{integer, Members}
 use Rattle.toml.specs.Parse.{parse_document}
 use Rattle.cargo_lock_parts.specs.Identity.{PackageData, identity_key, identity_of, package_key}
 use Rattle.cargo_lock_encoding.specs.Means.{TextMeans}
-use Rattle.cargo_lock_encoding.specs.Metadata.{metadata_of}
-use Rattle.cargo_lock_encoding.specs.Records.{LockfileData, is_escaped}
-use Rattle.cargo_lock.specs.Survives.{Survives}
+use Rattle.cargo_lock_references.specs.Metadata.{metadata_of}
+use Rattle.cargo_lock_encoding.specs.Lockfiles.{LockfileData}
+use Rattle.cargo_lock_references.specs.Records.{is_escaped}
+use Rattle.cargo_lock_encoding.specs.Survives.{Survives}
 use Rattle.cargo_lock_encoding.specs.Table.{entry_of, entry_value, metadata_value, patch_value, present, unless_empty, written_version}
 use Rattle.cargo_lock_encoding.specs.Text.{joined, lines_of}
 
@@ -16,7 +17,11 @@ use Rattle.cargo_lock_encoding.specs.Text.{joined, lines_of}
 abbrev pub printed_table : LockfileData → Members
 printed_table l = present (
     (codes "metadata", metadata_value (metadata_of l.version l.metadata l.packages))
-    ∷ (codes "package", unless_empty (map entry_value (map (entry_of l.version (map identity_of l.packages)) l.packages)))
+    ∷ (
+      codes "package",
+      unless_empty
+          (map entry_value (map (entry_of l.version (map identity_of l.packages)) l.packages)),
+    )
     ∷ (codes "patch", patch_value (is_escaped l.version) l.patch)
     ∷ (codes "version", option_map integer (written_version l.version)) ∷ [])
 
@@ -40,5 +45,6 @@ pub record IsPrintedBack (l x : LockfileData) : Type 0 where
 -- Where a lockfile survives its own format and no package has both a replacement and dependencies,
 -- its printed text means such a lockfile, as far as `toml` reads it as it was printed.
 abbrev pub PrintedBack : Type 0
-PrintedBack = (l : LockfileData) → Survives l l.version → AllByRecursion HasAllPrinted l.packages → IsReadAsPrinted l
+PrintedBack = (l : LockfileData) → Survives l l.version → AllByRecursion HasAllPrinted l.packages
+    → IsReadAsPrinted l
     → (x : LockfileData) × TextMeans (joined (lines_of l)) x × IsPrintedBack l x

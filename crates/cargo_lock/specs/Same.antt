@@ -9,8 +9,9 @@ use Rattle.std.specs.Ordering.{eq_of_both, on}
 use Rattle.cargo_lock_parts.specs.Identity.{identity_key, package_key}
 use Rattle.cargo_lock_parts.specs.IdentityLaws.{package_total, patch_equivalence}
 use Rattle.cargo_lock_parts.specs.IdentityOrder.{is_same_package, is_same_patch}
-use Rattle.cargo_lock_encoding.specs.Format.{number_of}
-use Rattle.cargo_lock_encoding.specs.Records.{LockfileData, Texts}
+use Rattle.cargo_lock_references.specs.Format.{number_of}
+use Rattle.cargo_lock_encoding.specs.Lockfiles.{LockfileData}
+use Rattle.cargo_lock_references.specs.Records.{Texts}
 use Rattle.cargo_lock_encoding.specs.Table.{table_of}
 use Rattle.cargo_lock_encoding.specs.Text.{lines_of}
 
@@ -32,7 +33,8 @@ is_same_lockfile = eq_of_both (eq_of_both (eq_of_both (eq_of_both
     (on (λ l. l.patch) is_same_patch)
 
 pair_equivalence : IsEquivalence is_same_pair
-pair_equivalence = and_equiv (on_equiv (λ p. p.0) nat_list_eq_equiv) (on_equiv (λ p. p.1) nat_list_eq_equiv)
+pair_equivalence = and_equiv (on_equiv (λ p. p.0) nat_list_eq_equiv)
+    (on_equiv (λ p. p.1) nat_list_eq_equiv)
 
 package_equivalence : IsEquivalence is_same_package
 package_equivalence = eq_by_cmp_equiv package_total
@@ -63,4 +65,5 @@ EqualExactlyByKeys = (a b : LockfileData) → IsTrue (is_same_lockfile a b) ↔ 
 
 -- lockfiles that `==` calls equal have equal tables and equal texts
 abbrev pub EqualTablesAndTexts : Type 0
-EqualTablesAndTexts = (a b : LockfileData) → is_same_lockfile a b ≡ true → (table_of a ≡ table_of b) × (lines_of a ≡ lines_of b)
+EqualTablesAndTexts = (a b : LockfileData) → is_same_lockfile a b ≡ true → (table_of a ≡ table_of b)
+    × (lines_of a ≡ lines_of b)

@@ -3,14 +3,15 @@ use Rattle.std.specs.Prelude.{◌≡◌, ◌+◌, ◌<◌, Bool, ℕ, zero, suc,
 use Rattle.std.specs.List.{list_any}
 use Rattle.toml.specs.Data.{Data, Items, no_items, item, Members, get_member}
 use Rattle.cargo_lock_parts.specs.Identity.{Identity, PackageData, identity_key, identity_of}
-use Rattle.cargo_lock_encoding.specs.declared.version.ResolveVersion.{ResolveVersion}
-use Rattle.cargo_lock_encoding.specs.declared.version.ResolveVersion.TheVariants.{V1, V2, V3, V4}
-use Rattle.cargo_lock_encoding.specs.Form.{Form, form_of, form_text}
-use Rattle.cargo_lock_encoding.specs.FormOrder.{form_key}
-use Rattle.cargo_lock_encoding.specs.Optional.{◌>>=◌}
-use Rattle.cargo_lock_encoding.specs.Records.{LockfileData}
-use Rattle.cargo_lock_encoding.specs.Said.{same_text}
-use Rattle.cargo_lock.specs.Survives.{SaysEqual, Survives}
+use Rattle.cargo_lock_references.specs.declared.version.ResolveVersion.{ResolveVersion}
+use Rattle.cargo_lock_references.specs.declared.version.ResolveVersion.TheVariants.{V1, V2, V3, V4}
+use Rattle.cargo_lock_references.specs.Form.{Form, form_of, form_text}
+use Rattle.cargo_lock_references.specs.FormOrder.{form_key}
+use Rattle.cargo_lock_references.specs.Optional.{◌>>=◌}
+use Rattle.cargo_lock_encoding.specs.Lockfiles.{LockfileData}
+use Rattle.cargo_lock_references.specs.Said.{same_text}
+use Rattle.cargo_lock_references.specs.ReadBack.{SaysEqual}
+use Rattle.cargo_lock_encoding.specs.Survives.{Survives}
 use Rattle.cargo_lock_encoding.specs.Table.{table_of}
 use Rattle.cargo_lock_encoding.specs.TableReading.{members_in, required_list, text_in}
 
@@ -18,16 +19,19 @@ use Rattle.cargo_lock_encoding.specs.TableReading.{members_in, required_list, te
 
 -- an identity that is equal to this one stands in the list
 abbrev pub IsAmong : List Identity → Identity → Type 0
-IsAmong list d = (k : ℕ) × (i : Identity) × (slice_get list k ≡ Some i) × (identity_key i ≡ identity_key d)
+IsAmong list d = (k : ℕ) × (i : Identity) × (slice_get list k ≡ Some i)
+    × (identity_key i ≡ identity_key d)
 
 -- no two places of the list hold equal identities
 abbrev pub AreDistinct : List Identity → Type 0
-AreDistinct list = (j k : ℕ) (x y : Identity) → slice_get list j ≡ Some x → slice_get list k ≡ Some y
+AreDistinct list = (j k : ℕ) (x y : Identity) → slice_get list j ≡ Some x → slice_get list k
+    ≡ Some y
     → identity_key x ≡ identity_key y → j ≡ k
 
 -- what stands in the list with the same name and version is equal to this one
 abbrev pub HasNoTwin : List Identity → Identity → Type 0
-HasNoTwin list d = (k : ℕ) (i : Identity) → slice_get list k ≡ Some i → i.name ≡ d.name → i.version ≡ d.version
+HasNoTwin list d = (k : ℕ) (i : Identity) → slice_get list k ≡ Some i → i.name ≡ d.name → i.version
+    ≡ d.version
     → identity_key i ≡ identity_key d
 
 -- the form says this dependency in every order of the list
@@ -76,12 +80,14 @@ item_at (item d ds) (suc k) = item_at ds k
 
 -- the table of the package at a place
 abbrev pub package_at : Members → ℕ → Option Members
-package_at t k = required_list (get_member (codes "package") t) >>= λ packages. item_at packages k >>= members_in
+package_at t k = required_list
+    (get_member (codes "package") t) >>= λ packages. item_at packages k >>= members_in
 
 -- the text of a dependency of the package at a place
 abbrev pub reference_at : Members → ℕ → ℕ → Option (List ℕ)
 reference_at t k j = package_at t k >>= λ entry.
-    required_list (get_member (codes "dependencies") entry) >>= λ references. item_at references j >>= text_in
+    required_list
+    (get_member (codes "dependencies") entry) >>= λ references. item_at references j >>= text_in
 
 -- from V2 on references are shortened
 abbrev pub IsShortening : ResolveVersion → Type 0
@@ -93,9 +99,12 @@ IsShortening V4 = Unit {0}
 -- Where the lockfile survives its own format, which is V2 or later, and no two packages are equal
 -- in identity, each dependency that is among the packages stands in the table in its shortest form.
 abbrev pub HasShortestReferences : LockfileData → Members → Type 0
-HasShortestReferences l t = Survives l l.version → IsShortening l.version → AreDistinct (map identity_of l.packages)
-    → (k j : ℕ) (p : PackageData) (d : Identity) → slice_get l.packages k ≡ Some p → slice_get p.dependencies j ≡ Some d
-    → IsAmong (map identity_of l.packages) d → IsShortest (map identity_of l.packages) d (reference_at t k j)
+HasShortestReferences l t = Survives l l.version → IsShortening l.version
+    → AreDistinct (map identity_of l.packages)
+    → (k j : ℕ) (p : PackageData) (d : Identity) → slice_get l.packages k ≡ Some p
+    → slice_get p.dependencies j ≡ Some d
+    → IsAmong (map identity_of l.packages) d
+    → IsShortest (map identity_of l.packages) d (reference_at t k j)
 
 -- the table of each lockfile has the shortest references
 abbrev pub ShortestReferences : Type 0

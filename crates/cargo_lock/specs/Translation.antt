@@ -2,13 +2,14 @@
 -- as a table in that format, and the table is read.
 use Rattle.std.specs.Prelude.{◌≡◌, ◌⊎◌, List, [], ◌∷◌, Option, Some}
 use Rattle.cargo_lock_parts.specs.Identity.{PackageData}
-use Rattle.cargo_lock_encoding.specs.declared.version.ResolveVersion.{ResolveVersion}
+use Rattle.cargo_lock_references.specs.declared.version.ResolveVersion.{ResolveVersion}
 use Rattle.cargo_lock_encoding.specs.Means.{Means}
 use Rattle.cargo_lock_encoding.specs.Meaning.{meaning}
-use Rattle.cargo_lock_encoding.specs.Metadata.{metadata_of}
-use Rattle.cargo_lock_encoding.specs.Optional.{◌>>=◌}
-use Rattle.cargo_lock_encoding.specs.Records.{LockfileData, Texts}
-use Rattle.cargo_lock.specs.Survives.{HasSamePackages, Survives, in_format}
+use Rattle.cargo_lock_references.specs.Metadata.{metadata_of}
+use Rattle.cargo_lock_references.specs.Optional.{◌>>=◌}
+use Rattle.cargo_lock_encoding.specs.Lockfiles.{LockfileData}
+use Rattle.cargo_lock_references.specs.Records.{Texts}
+use Rattle.cargo_lock_encoding.specs.Survives.{HasSamePackages, Survives, in_format}
 use Rattle.cargo_lock_encoding.specs.Table.{table_of}
 
 -- ---- the chain
@@ -40,7 +41,8 @@ SurvivesEach (format ∷ formats) l =
 -- the metadata that is written in each format in turn
 abbrev pub metadata_through : List ResolveVersion → Texts → List PackageData → Texts
 metadata_through [] m packages = m
-metadata_through (format ∷ formats) m packages = metadata_through formats (metadata_of format m packages) packages
+metadata_through (format ∷ formats) m packages = metadata_through formats
+    (metadata_of format m packages) packages
 
 -- the last of the formats, or this one where there is none
 abbrev pub last_format : ResolveVersion → List ResolveVersion → ResolveVersion
@@ -65,4 +67,5 @@ translated (format ∷ formats) l = meaning (table_of (in_format format l)) >>= 
 
 -- what a lockfile that survives its own format is read back as is written again as it was
 abbrev pub WrittenAgain : Type 0
-WrittenAgain = (l x : LockfileData) → Survives l l.version → Means (table_of l) x → table_of x ≡ table_of l
+WrittenAgain = (l x : LockfileData) → Survives l l.version → Means (table_of l) x → table_of x
+    ≡ table_of l

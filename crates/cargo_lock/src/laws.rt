@@ -5,18 +5,14 @@
 ghost use Rattle.cargo_lock.specs.Headline.{Headline};
 ghost use Rattle.cargo_lock_encoding.specs.Means.{MeansOne};
 ghost use Rattle.cargo_lock.specs.Shortest.{ShortestReferences, WrittenByBearers};
-ghost use Rattle.cargo_lock.specs.Survives.{SurvivesExactly};
+ghost use Rattle.cargo_lock_encoding.specs.Survives.{SurvivesExactly};
 ghost use Rattle.cargo_lock.specs.Translation.{WrittenAgain};
 ghost use Rattle.cargo_lock.specs.Plain.{PlainSurvives};
 ghost use Rattle.cargo_lock.specs.Printed.{PrintedBack};
 ghost use Rattle.cargo_lock.specs.Same.{EqualExactlyByKeys, EqualTablesAndTexts};
 
 use crate::dependency::tree::laws as drawings;
-pub use cargo_lock_encoding::laws::{
-    checksums_stand_at_least_keys, marked_sources_are_equal_by_keys, metadata_is_read_key_by_key,
-    references_are_equal_by_keys, references_are_shortened_by_places, shortened_references_stay,
-    written_metadata_key_by_key,
-};
+pub use cargo_lock_encoding::laws::metadata_is_read_key_by_key;
 pub use cargo_lock_graph::drawing::laws::{
     drawing_exists, drawing_is_unique, drawings_are_one_form, edges_match_entries,
     entries_are_counted, entries_are_lines, graph_has_one_drawing, node_occurs_where_reachable,
@@ -28,6 +24,10 @@ pub use cargo_lock_parts::laws::{
     checksums_read_back, dependencies_are_equal_by_keys, no_rank_is_no_match,
     packages_are_equal_by_keys, patches_are_equal_by_keys, rank_is_symmetric,
     rank_one_is_equal_keys, ranks_imply_last, rooted_paths_have_sources, sources_are_equal_by_keys,
+};
+pub use cargo_lock_references::laws::{
+    checksums_stand_at_least_keys, marked_sources_are_equal_by_keys, references_are_equal_by_keys,
+    references_are_shortened_by_places, shortened_references_stay, written_metadata_key_by_key,
 };
 
 /// A table means at most one lockfile, in every field.

@@ -2,11 +2,12 @@
 
 ghost use Rattle.std.specs.Prelude.{◌≡◌, IfOk};
 ghost use Rattle.std.specs.Cmp.Lexicographic.{pointwise};
-ghost use Rattle.cargo_lock_encoding.specs.Records.{texts_of};
+ghost use Rattle.cargo_lock_references.specs.Records.{texts_of};
 ghost use Rattle.cargo_lock.specs.Same.{is_same_metadata, is_same_pair};
 
 pub mod encoding;
 mod long_texts;
+mod parts;
 mod reading;
 mod serialization;
 mod survival;
@@ -14,10 +15,10 @@ mod translation;
 mod writing;
 
 use crate::metadata::Metadata;
-use cargo_lock_encoding::checksums::ordered;
-pub use cargo_lock_encoding::{ResolveVersion, version};
 use cargo_lock_parts::package::Package;
 use cargo_lock_parts::patch::Patch;
+use cargo_lock_references::checksums::ordered;
+pub use cargo_lock_references::{ResolveVersion, version};
 use std::alloc::AllocError;
 use std::marker::Model;
 
@@ -43,7 +44,8 @@ pub struct Lockfile {
 
 impl Model for Lockfile {
     ghost use Rattle.std.specs.Coded.{codes};
-    ghost use Rattle.cargo_lock_encoding.specs.Records.{LockfileData, texts_code, texts_of};
+    ghost use Rattle.cargo_lock_encoding.specs.Lockfiles.{LockfileData};
+    ghost use Rattle.cargo_lock_references.specs.Records.{texts_code, texts_of};
 
     ghost Value = { LockfileData };
 

@@ -9,9 +9,10 @@ use Rattle.std.proofs.lemmas.List.Concat.{flat_map-cons}
 use Rattle.std.proofs.lemmas.List.{append-nil, map-append, take_more}
 use Rattle.semver.specs.Identifiers.{parts_text}
 use Rattle.cargo_lock_parts.specs.Identity.{Identity}
-use Rattle.cargo_lock_encoding.specs.Chosen.{written_source}
-use Rattle.cargo_lock_encoding.specs.Form.{Form}
-use Rattle.cargo_lock_encoding.specs.Records.{EntryData, EncodedData, is_escaped_number}
+use Rattle.cargo_lock_references.specs.Chosen.{written_source}
+use Rattle.cargo_lock_references.specs.Form.{Form}
+use Rattle.cargo_lock_references.specs.Records.{EntryData}
+use Rattle.cargo_lock_encoding.specs.Lockfiles.{EncodedData, is_escaped_number}
 use Rattle.cargo_lock_encoding.specs.Text.{checksum_line, comment_lines, dependency_line, encoded_lines, entry_lines, field, is_nonempty_text, joined, metadata_lines, pair_line, patch_lines, reference_lines, source_line, version_lines}
 
 -- what was put, and what was put after it

@@ -2,12 +2,13 @@
 use Rattle.std.specs.Prelude.{ℕ, List, [], Option, Some, option_map, map}
 use Rattle.toml.specs.Data.{Members}
 use Rattle.cargo_lock_parts.specs.Identity.{Identity, PackageData}
-use Rattle.cargo_lock_encoding.specs.declared.version.ResolveVersion.{ResolveVersion}
-use Rattle.cargo_lock_encoding.specs.Format.{format_of}
+use Rattle.cargo_lock_references.specs.declared.version.ResolveVersion.{ResolveVersion}
+use Rattle.cargo_lock_encoding.specs.Lockfiles.{format_of}
 use Rattle.cargo_lock_encoding.specs.Means.{reading_list, entry_checksum}
-use Rattle.cargo_lock_encoding.specs.Optional.{◌>>=◌, map_all, map_some}
-use Rattle.cargo_lock_encoding.specs.Records.{EntryData, EncodedData, LockfileData, Texts, bare_source, entry_identity}
-use Rattle.cargo_lock_encoding.specs.Said.{said}
+use Rattle.cargo_lock_references.specs.Optional.{◌>>=◌, map_all, map_some}
+use Rattle.cargo_lock_references.specs.Records.{EntryData, Texts, bare_source, entry_identity}
+use Rattle.cargo_lock_encoding.specs.Lockfiles.{EncodedData, LockfileData}
+use Rattle.cargo_lock_references.specs.Said.{said}
 use Rattle.cargo_lock_encoding.specs.TableReading.{encoded_at}
 
 -- the package of an entry with this checksum
@@ -52,7 +53,15 @@ resolved e = do
 
 -- these with the metadata and the patches
 abbrev pub completed : EncodedData → ResolvedData → LockfileData
-completed e r = record { version = r.version; packages = r.packages; root = r.root; metadata = e.metadata; patch = e.patch }
+completed e r =
+    record {
+      version = r.version;
+      packages = r.packages;
+      root = r.root;
+      metadata = e.metadata;
+      patch
+          = e.patch;
+    }
 
 unfoldable pub locked : EncodedData → Option LockfileData
 locked e = option_map (completed e) (resolved e)

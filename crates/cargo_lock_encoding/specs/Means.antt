@@ -4,13 +4,14 @@ use Rattle.std.specs.List.{AllZip}
 use Rattle.toml.specs.Data.{Members}
 use Rattle.toml.specs.Parse.{parse_document}
 use Rattle.cargo_lock_parts.specs.Identity.{Identity, PackageData}
-use Rattle.cargo_lock_encoding.specs.declared.version.ResolveVersion.{ResolveVersion}
-use Rattle.cargo_lock_encoding.specs.declared.version.ResolveVersion.TheVariants.{V1, V2, V3, V4}
-use Rattle.cargo_lock_encoding.specs.Format.{format_of}
-use Rattle.cargo_lock_encoding.specs.Metadata.{checksum_in}
-use Rattle.cargo_lock_encoding.specs.Optional.{BothOrNone}
-use Rattle.cargo_lock_encoding.specs.Records.{EntryData, EncodedData, LockfileData, Texts, bare_source, entry_identity}
-use Rattle.cargo_lock_encoding.specs.Says.{Says}
+use Rattle.cargo_lock_references.specs.declared.version.ResolveVersion.{ResolveVersion}
+use Rattle.cargo_lock_references.specs.declared.version.ResolveVersion.TheVariants.{V1, V2, V3, V4}
+use Rattle.cargo_lock_encoding.specs.Lockfiles.{format_of}
+use Rattle.cargo_lock_references.specs.Metadata.{checksum_in}
+use Rattle.cargo_lock_references.specs.Optional.{BothOrNone}
+use Rattle.cargo_lock_references.specs.Records.{EntryData, Texts, bare_source, entry_identity}
+use Rattle.cargo_lock_encoding.specs.Lockfiles.{EncodedData, LockfileData}
+use Rattle.cargo_lock_references.specs.Says.{Says}
 use Rattle.cargo_lock_encoding.specs.TableReading.{encoded_at}
 
 -- the list in which the references of packages are looked up: in V1 they are in full
@@ -29,17 +30,20 @@ entry_checksum V4 m e = e.checksum
 
 -- the package that an entry means, with this checksum and its dependencies looked up in this list;
 -- its replacement is in full in every format
-pub record IsPackage (list : List Identity) (digest : Option (List ℕ)) (entry : EntryData) (p : PackageData) : Type 0 where
+pub record IsPackage (list : List Identity) (digest : Option (List ℕ)) (entry : EntryData)
+    (p : PackageData) : Type 0 where
   pub name : p.name ≡ entry.name
   pub version : p.version ≡ entry.version
   pub source : p.source ≡ bare_source entry.source
   pub checksum : p.checksum ≡ digest
-  pub dependencies : AllZip (λ form identity. Says form list identity) entry.dependencies p.dependencies
+  pub dependencies : AllZip
+      (λ form identity. Says form list identity) entry.dependencies p.dependencies
   pub replace : BothOrNone (λ form identity. Says form [] identity) entry.replace p.replace
 
 -- the package of an entry of the list, in this format
 abbrev pub IsListed : ResolveVersion → List Identity → Texts → EntryData → PackageData → Type 0
-IsListed format list m entry p = IsPackage (reading_list format list) (entry_checksum format m entry) entry p
+IsListed format list m entry p = IsPackage (reading_list format list)
+    (entry_checksum format m entry) entry p
 
 -- the root, whose references are in full and which keeps its own checksum
 abbrev pub IsRoot : EntryData → PackageData → Type 0
@@ -48,7 +52,8 @@ IsRoot entry p = IsPackage [] entry.checksum entry p
 -- the lockfile of these values
 pub record IsLocked (e : EncodedData) (l : LockfileData) : Type 0 where
   pub format : format_of e ≡ Some l.version
-  pub packages : AllZip (IsListed l.version (map entry_identity e.entries) e.metadata) e.entries l.packages
+  pub packages : AllZip
+      (IsListed l.version (map entry_identity e.entries) e.metadata) e.entries l.packages
   pub root : BothOrNone IsRoot e.root l.root
   pub metadata : l.metadata ≡ e.metadata
   pub patch : l.patch ≡ e.patch

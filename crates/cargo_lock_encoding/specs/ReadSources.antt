@@ -6,4 +6,5 @@ use Rattle.cargo_lock_parts.specs.SourceReading.{source_of}
 
 -- each source that the map has for a text is the one that the text reads as
 abbrev pub AreRead : {Y : Type 0} → BTreeMap (String Y) Source → Type 0
-AreRead m = (text : List ℕ) (source : Source) → get_by_text m text ≡ Some source → source_of text ≡ Some source
+AreRead m = (text : List ℕ) (source : Source) → get_by_text m text ≡ Some source → source_of text
+    ≡ Some source

@@ -10,12 +10,13 @@ use Rattle.cargo_lock_parts.specs.Checksum.{digest_text}
 use Rattle.cargo_lock_parts.specs.Identity.{Identity, PackageData, identity_of}
 use Rattle.cargo_lock_parts.specs.Source.{MarkedSource}
 use Rattle.cargo_lock_parts.specs.SourceText.{marked_text}
-use Rattle.cargo_lock_encoding.specs.declared.version.ResolveVersion.{ResolveVersion}
-use Rattle.cargo_lock_encoding.specs.declared.version.ResolveVersion.TheVariants.{V1, V2, V3, V4}
-use Rattle.cargo_lock_encoding.specs.Chosen.{chosen_form, in_full, written_source}
-use Rattle.cargo_lock_encoding.specs.Form.{Form, form_text}
-use Rattle.cargo_lock_encoding.specs.Metadata.{metadata_of}
-use Rattle.cargo_lock_encoding.specs.Records.{EntryData, EncodedData, LockfileData, Texts, is_escaped, is_escaped_number}
+use Rattle.cargo_lock_references.specs.declared.version.ResolveVersion.{ResolveVersion}
+use Rattle.cargo_lock_references.specs.declared.version.ResolveVersion.TheVariants.{V1, V2, V3, V4}
+use Rattle.cargo_lock_references.specs.Chosen.{chosen_form, in_full, written_source}
+use Rattle.cargo_lock_references.specs.Form.{Form, form_text}
+use Rattle.cargo_lock_references.specs.Metadata.{metadata_of}
+use Rattle.cargo_lock_references.specs.Records.{EntryData, Texts, is_escaped}
+use Rattle.cargo_lock_encoding.specs.Lockfiles.{EncodedData, LockfileData, is_escaped_number}
 
 -- ---- the values that are written
 
@@ -34,7 +35,8 @@ written_checksum V3 checksum = checksum
 written_checksum V4 checksum = checksum
 
 -- a package with this checksum and with its dependencies written so; a replacement is in full
-abbrev pub entry_with : ResolveVersion → Option (List ℕ) → (Identity → Form) → PackageData → EntryData
+abbrev pub entry_with : ResolveVersion → Option (List ℕ) → (Identity → Form) → PackageData
+    → EntryData
 entry_with format checksum form p = record {
   name = p.name;
   version = p.version;
@@ -46,7 +48,8 @@ entry_with format checksum form p = record {
 
 -- a package among those of the lockfile
 abbrev pub entry_of : ResolveVersion → List Identity → PackageData → EntryData
-entry_of format list p = entry_with format (written_checksum format p.checksum) (chosen_form format list) p
+entry_of format list p = entry_with format (written_checksum format p.checksum)
+    (chosen_form format list) p
 
 -- the root, whose references are in full and which keeps its checksum
 abbrev pub root_entry : ResolveVersion → PackageData → EntryData
@@ -164,7 +167,8 @@ table_of l = encoded_table (encoded_of l)
 -- a member put into members that ascend
 abbrev pub put : List ℕ → Data → Members → Members
 put k d no_members = member k d no_members
-put k d (member l e ms) = match_ordering (slice_cmp nat_cmp k l) (member k d (member l e ms)) (member l d ms) (member l e (put k d ms))
+put k d (member l e ms) = match_ordering (slice_cmp nat_cmp k l) (member k d (member l e ms))
+    (member l d ms) (member l e (put k d ms))
 
 -- a value put at a key, where there is one
 abbrev pub put_present : List ℕ → Option Data → Members → Members

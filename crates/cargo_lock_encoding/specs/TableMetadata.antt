@@ -4,7 +4,8 @@ use Rattle.std.specs.Prelude.{◌≡◌, ◌≢◌, ◌↔◌, ◌<◌, ℕ, Lis
 use Rattle.std.specs.FinMap.{get}
 use Rattle.toml.specs.Data.{Data, string, table, Members, no_members, member, get_member}
 use Rattle.cargo_lock_encoding.specs.Means.{Means}
-use Rattle.cargo_lock_encoding.specs.Records.{LockfileData, Texts}
+use Rattle.cargo_lock_encoding.specs.Lockfiles.{LockfileData}
+use Rattle.cargo_lock_references.specs.Records.{Texts}
 use Rattle.cargo_lock_encoding.specs.TableReading.{metadata_in}
 
 -- the pairs of a table, each a key and its value, in the table's order
@@ -14,7 +15,8 @@ pairs_of (member key value ms) = (key, value) ∷ pairs_of ms
 
 -- each value is a text
 abbrev pub HasTextsAlone : List (List ℕ × Data) → Type 0
-HasTextsAlone pairs = (j : ℕ) (key : List ℕ) (value : Data) → slice_get pairs j ≡ Some (key, value) → (text : List ℕ) × (value ≡ string text)
+HasTextsAlone pairs = (j : ℕ) (key : List ℕ) (value : Data) → slice_get pairs j ≡ Some (key, value)
+    → (text : List ℕ) × (value ≡ string text)
 
 -- the key with this text stands at some place, and the key at no place after it
 pub record IsLastText (pairs : List (List ℕ × Data)) (key text : List ℕ) : Type 0 where
@@ -39,8 +41,10 @@ IsMetadata (Some value) m = IsTableOfTexts value m
 
 -- a value reads as a map exactly where the map is its metadata, key by key
 abbrev pub ReadsKeyByKey : Type 0
-ReadsKeyByKey = (value : Option Data) (m : Texts) → (metadata_in value ≡ Some m) ↔ IsMetadata value m
+ReadsKeyByKey = (value : Option Data) (m : Texts) → (metadata_in value ≡ Some m)
+    ↔ IsMetadata value m
 
 -- so is the metadata of a lockfile that a table means
 abbrev pub MeansKeyByKey : Type 0
-MeansKeyByKey = (t : Members) (l : LockfileData) → Means t l → IsMetadata (get_member (codes "metadata") t) l.metadata
+MeansKeyByKey = (t : Members) (l : LockfileData) → Means t l
+    → IsMetadata (get_member (codes "metadata") t) l.metadata

@@ -3,16 +3,15 @@
 use Rattle.std.specs.Prelude.{ℕ, ℤ, List, [], ◌∷◌, Option, Some, None, option_map, codes}
 use Rattle.std.specs.FinMap.{empty, insert}
 use Rattle.std.specs.Option.{option_and_then}
-use Rattle.std.specs.Result.{result_ok}
-use Rattle.semver.specs.Parse.{Parts, version_parts}
 use Rattle.toml.specs.Data.{Data, string, array, table, integer, Items, no_items, item, Members, no_members, member, get_member}
 use Rattle.cargo_lock_parts.specs.Checksum.{digest_in}
 use Rattle.cargo_lock_parts.specs.Identity.{Identity}
 use Rattle.cargo_lock_parts.specs.Source.{Source}
 use Rattle.cargo_lock_parts.specs.SourceReading.{source_of}
-use Rattle.cargo_lock_encoding.specs.Form.{Form, form_of, plainly}
-use Rattle.cargo_lock_encoding.specs.Optional.{◌>>=◌}
-use Rattle.cargo_lock_encoding.specs.Records.{EntryData, EncodedData, Texts}
+use Rattle.cargo_lock_references.specs.Form.{Form, form_of, plainly, version_of}
+use Rattle.cargo_lock_references.specs.Optional.{◌>>=◌}
+use Rattle.cargo_lock_references.specs.Records.{EntryData, Texts}
+use Rattle.cargo_lock_encoding.specs.Lockfiles.{EncodedData}
 
 -- ---- values by their types
 
@@ -60,9 +59,6 @@ read_all read no_items = Some []
 read_all read (item d ds) = read d >>= λ x. option_map (λ xs. x ∷ xs) (read_all read ds)
 
 -- ---- texts
-
-unfoldable pub version_of : List ℕ → Option Parts
-version_of text = result_ok (version_parts text)
 
 -- the source that a value reads as
 abbrev pub source_in : Data → Option Source

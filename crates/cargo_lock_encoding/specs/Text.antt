@@ -1,5 +1,5 @@
 -- The text of a lockfile, line by line, as Cargo writes it.
-use Rattle.std.specs.Prelude.{ℕ, ℤ, pos, negsuc, ◌+◌, ◌/◌, ◌%◌, ◌==◌, ◌&&◌, ◌||◌, nat_lt, nat_le, Bool, true, false, if◌then◌else◌, List, [], ◌∷◌, ◌++◌, Option, Some, None, option_map, map, codes, decimal}
+use Rattle.std.specs.Prelude.{◌≡◌, ℕ, ℤ, pos, negsuc, ◌+◌, ◌/◌, ◌%◌, ◌==◌, ◌&&◌, ◌||◌, nat_lt, nat_le, Bool, true, false, if◌then◌else◌, List, [], ◌∷◌, ◌++◌, Option, Some, None, OnOk, Result, String, option_map, map, codes, decimal, string_bytes}
 use Rattle.std.specs.Char.{encode_utf8}
 use Rattle.std.specs.FinMap.{entries}
 use Rattle.std.specs.List.{flat_map, list_all}
@@ -10,9 +10,10 @@ use Rattle.cargo_lock_parts.specs.Checksum.{digest_text}
 use Rattle.cargo_lock_parts.specs.Identity.{Identity}
 use Rattle.cargo_lock_parts.specs.Source.{MarkedSource}
 use Rattle.cargo_lock_parts.specs.SourceText.{marked_text}
-use Rattle.cargo_lock_encoding.specs.Chosen.{written_source}
-use Rattle.cargo_lock_encoding.specs.Form.{Form, form_text}
-use Rattle.cargo_lock_encoding.specs.Records.{EntryData, EncodedData, LockfileData, is_escaped_number}
+use Rattle.cargo_lock_references.specs.Chosen.{written_source}
+use Rattle.cargo_lock_references.specs.Form.{Form, form_text}
+use Rattle.cargo_lock_references.specs.Records.{EntryData}
+use Rattle.cargo_lock_encoding.specs.Lockfiles.{EncodedData, LockfileData, is_escaped_number}
 use Rattle.cargo_lock_encoding.specs.Table.{encoded_of}
 
 -- ---- strings: a TOML basic string. Escaped are the quotation mark, the backslash, the characters
@@ -107,14 +108,17 @@ reference_lines (f ∷ fs) replace =
 -- an empty line, and a package
 abbrev pub entry_lines : EntryData → List (List ℕ)
 entry_lines e =
-    [] ∷ codes "[[package]]" ∷ field (codes "name") e.name ∷ field (codes "version") (parts_text e.version)
+    [] ∷ codes "[[package]]" ∷ field (codes "name") e.name
+    ∷ field (codes "version") (parts_text e.version)
     ∷ (option_to_list (option_map source_line e.source)
-    ++ (option_to_list (option_map checksum_line e.checksum) ++ reference_lines e.dependencies e.replace))
+    ++ (option_to_list (option_map checksum_line e.checksum)
+    ++ reference_lines e.dependencies e.replace))
 
 -- an empty line, an unused patch, its source escaped or plain, and one more empty line
 abbrev pub patch_lines : Bool → Identity → List (List ℕ)
 patch_lines escaped i =
-    [] ∷ codes "[[patch.unused]]" ∷ field (codes "name") i.name ∷ field (codes "version") (parts_text i.version)
+    [] ∷ codes "[[patch.unused]]" ∷ field (codes "name") i.name
+    ∷ field (codes "version") (parts_text i.version)
     ∷ (option_to_list (option_map source_line (written_source escaped i.source)) ++ [] ∷ [])
 
 -- the line of a key of the metadata
@@ -142,7 +146,8 @@ comment_lines =
 abbrev pub encoded_lines : EncodedData → List (List ℕ)
 encoded_lines e =
     comment_lines ++ (version_lines e.version ++ (flat_map entry_lines e.entries
-    ++ (flat_map (patch_lines (is_escaped_number e.version)) e.patch ++ metadata_lines (entries e.metadata))))
+    ++ (flat_map (patch_lines (is_escaped_number e.version)) e.patch
+    ++ metadata_lines (entries e.metadata))))
 
 -- the lines of a lockfile; the root is never printed
 abbrev pub lines_of : LockfileData → List (List ℕ)
@@ -151,3 +156,13 @@ lines_of l = encoded_lines (encoded_of l)
 -- each line, and a newline after it
 abbrev pub joined : List (List ℕ) → List ℕ
 joined lines = flat_map (λ line. line ++ 10 ∷ []) lines
+
+-- ---- what is added to a text
+
+-- the bytes are added at the end of the text, where memory suffices
+abbrev pub Adds : {X Y Z : Type 0} → Result X Y → String Z → String Z → List ℕ → Type 0
+Adds answer before after bytes = OnOk answer (string_bytes after ≡ string_bytes before ++ bytes)
+
+-- the lines are, each with a newline after it
+abbrev pub AddsLines : {X Y Z : Type 0} → Result X Y → String Z → String Z → List (List ℕ) → Type 0
+AddsLines answer before after lines = Adds answer before after (joined lines)

@@ -1,35 +1,6 @@
-//! Laws of references and of the metadata, each the contract of a function without a body.
+//! Laws of tables, each the contract of a function without a body.
 
-ghost use Rattle.cargo_lock_encoding.specs.Chosen.{ShortenedByPlaces, ShortenedTwice};
-ghost use Rattle.cargo_lock_encoding.specs.FormOrder.{EqualMarkedSources, EqualReferences};
-ghost use Rattle.cargo_lock_encoding.specs.LeastKey.{ChecksumAtLeastKey};
 ghost use Rattle.cargo_lock_encoding.specs.TableMetadata.{MeansKeyByKey, ReadsKeyByKey};
-ghost use Rattle.cargo_lock_encoding.specs.WrittenMetadata.{ChecksumsAtKeys, NoChecksumKeys};
-
-/// A reference is shortened to its name exactly where one package has the name, and otherwise to
-/// name and version exactly where one package has both.
-pub fn references_are_shortened_by_places()
-    ensures { ShortenedByPlaces }
-{}
-
-/// A reference that was shortened is not shortened any further.
-pub fn shortened_references_stay()
-    ensures { ShortenedTwice }
-{}
-
-/// The checksum that the metadata holds for a package is the value at the least key that reads as
-/// the package's name and version, and there is none where no key reads so.
-pub fn checksums_stand_at_least_keys()
-    ensures { ChecksumAtLeastKey }
-{}
-
-/// In V1 the written metadata has, at the checksum key of packages with checksums, the text of the
-/// last one's checksum, and at every other key the old value. From V2 on it has nothing at the
-/// checksum key of a package, and at every other key the old value.
-pub fn written_metadata_key_by_key()
-    ensures v1 { ChecksumsAtKeys }
-    ensures later { NoChecksumKeys }
-{}
 
 /// The metadata of a lockfile that a table means has, at each key, exactly the text of the last pair
 /// with the key in the table under `metadata`, and nothing where no pair has it. A value reads as
@@ -37,15 +8,4 @@ pub fn written_metadata_key_by_key()
 pub fn metadata_is_read_key_by_key()
     ensures means { MeansKeyByKey }
     ensures reads { ReadsKeyByKey }
-{}
-
-/// Two references are equal exactly where their names, their versions and the keys of their sources
-/// are.
-pub fn references_are_equal_by_keys()
-    ensures { EqualReferences }
-{}
-
-/// Two marked sources are equal exactly where the keys of the sources are, however they are marked.
-pub fn marked_sources_are_equal_by_keys()
-    ensures { EqualMarkedSources }
 {}

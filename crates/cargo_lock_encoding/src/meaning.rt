@@ -1,35 +1,137 @@
-//! From entries to packages: the references are looked up.
+//! From the values of a table to a lockfile: the format is found, and the references are looked up.
 
 ghost use Rattle.std.specs.Prelude.{◌≡◌, [], map, option_map};
 ghost use Rattle.cargo_lock_parts.specs.Checksum.{digest_of};
 ghost use Rattle.cargo_lock_parts.specs.Error.{Reads};
-ghost use Rattle.cargo_lock_encoding.specs.declared.version.ResolveVersion.TheVariants.{V1};
-ghost use Rattle.cargo_lock_encoding.specs.Meaning.{all_packages, entry_package, package_of, root_package};
-ghost use Rattle.cargo_lock_encoding.specs.Optional.{map_all, map_some};
-ghost use Rattle.cargo_lock_encoding.specs.Records.{entry_identity, texts_of};
-ghost use Rattle.cargo_lock_encoding.specs.Said.{said};
+ghost use Rattle.cargo_lock_references.specs.declared.version.ResolveVersion.TheVariants.{V1};
+ghost use Rattle.cargo_lock_encoding.specs.Meaning.{all_packages, completed, entry_package, locked, package_of, resolved, root_package};
+ghost use Rattle.cargo_lock_encoding.specs.Lockfiles.{format_of};
+ghost use Rattle.cargo_lock_references.specs.Optional.{map_all, map_some};
+ghost use Rattle.cargo_lock_references.specs.Records.{entry_identity, texts_of};
+ghost use Rattle.cargo_lock_references.specs.Said.{said};
 
-use crate::index::Indexed;
-use crate::read_keys::ReadMetadata;
-use crate::reference::bare_source;
-use crate::{EncodableDependency, EncodablePackage, Metadata, ResolveVersion};
+use crate::values::{LockfileParts, Values};
 use cargo_lock_parts::dependency::Dependency;
 use cargo_lock_parts::error::Result;
 use cargo_lock_parts::package::{Checksum, Package};
+use cargo_lock_references::identified::{Identified, copy_source};
+use cargo_lock_references::index::Indexed;
+use cargo_lock_references::read_keys::ReadMetadata;
+use cargo_lock_references::resolution::resolve_among;
+use cargo_lock_references::version::format_of_values;
+use cargo_lock_references::{EncodableDependency, EncodablePackage, Metadata, ResolveVersion};
 use std::alloc::Global;
+use std::marker::Model;
 
-/// The packages of these entries in this format, with each reference looked up. In V1 the references
-/// are in full, and the checksums are those that the metadata holds. From V2 on the references are
-/// looked up among the entries. Replacements are in full in every format.
-///
-/// `Parse` says that a reference stands for nothing.
-pub fn all_packages(
+impl Values {
+    /// The lockfile of these values: in its format, with each reference looked up. In V1 the
+    /// references are in full, and the checksums are those that the metadata holds. From V2 on the
+    /// references of packages are looked up among the packages. Replacements and the references of
+    /// the root are in full in every format.
+    ///
+    /// `Parse` says that the values have no format, or that a reference stands for nothing.
+    #[tactic(auto, unfolding(crate::specs::Meaning::locked))]
+    pub fn resolve(self, alloc: Global) -> Result<LockfileParts>
+        ensures { Reads (λ l. l) result (locked self) }
+    {
+        let found = self.resolved(alloc)?;
+        Ok(completed(self, found))
+    }
+
+    // The format, the packages and the root.
+    fn resolved(&self, alloc: Global) -> Result<Resolved>
+        ensures { Reads (λ r. r) result (resolved self.now) }
+    {
+        let version = self.format(alloc)?;
+        let packages = self.packages_in(alloc, version)?;
+        let root = self.root_package(alloc)?;
+        Ok(Resolved {
+            version,
+            packages,
+            root,
+        })
+    }
+
+    fn format(&self, alloc: Global) -> Result<ResolveVersion>
+        ensures { Reads (λ v. v) result (format_of self.now) }
+    {
+        format_of_values(
+            alloc,
+            self.version,
+            self.packages.as_slice(),
+            &self.metadata,
+        )
+    }
+
+    fn packages_in(&self, alloc: Global, format: ResolveVersion) -> Result<Vec<Package>>
+        ensures { Reads
+            (λ v. v.items) result (all_packages format self.now.metadata self.now.entries) }
+    {
+        all_packages(alloc, format, &self.metadata, self.packages.as_slice())
+    }
+
+    fn root_package(&self, alloc: Global) -> Result<Option<Package>>
+        ensures { Reads (λ o. o) result (map_some root_package self.now.root) }
+    {
+        match &self.root {
+            Some(entry) => Ok(Some(root_package(alloc, entry)?)),
+            None => Ok(None),
+        }
+    }
+}
+
+// What is found out about values.
+#[derive(Drop)]
+struct Resolved {
+    version: ResolveVersion,
+    packages: Vec<Package>,
+    root: Option<Package>,
+}
+
+impl Model for Resolved {
+    ghost use Rattle.cargo_lock_encoding.specs.Meaning.{ResolvedData};
+
+    ghost Value = { ResolvedData };
+
+    ghost view = { λ r. record { version = r.version; packages = r.packages.items; root = r.root } };
+}
+
+// The lockfile of what was found out, with the other values kept.
+fn completed(values: Values, found: Resolved) -> LockfileParts
+    ensures { result ≡ completed values found }
+{
+    let Values {
+        version: _,
+        packages: _,
+        root: _,
+        metadata,
+        patch,
+    } = values;
+    let Resolved {
+        version,
+        packages,
+        root,
+    } = found;
+    LockfileParts {
+        version,
+        packages,
+        root,
+        metadata,
+        patch,
+    }
+}
+
+// The packages of these entries in this format, with each reference looked up. In V1 the references
+// are in full, and the checksums are those that the metadata holds. From V2 on the references are
+// looked up among the entries. Replacements are in full in every format.
+fn all_packages(
     alloc: Global,
     format: ResolveVersion,
     metadata: &Metadata,
     entries: &[EncodablePackage],
 ) -> Result<Vec<Package>>
-    ensures { Reads (λ v. v.items) result (all_packages format (texts_of metadata.now.entries) entries.now) }
+    ensures { Reads
+        (λ v. v.items) result (all_packages format (texts_of metadata.now.entries) entries.now) }
 {
     match format {
         ResolveVersion::V1 => packages_in_full(alloc, metadata, entries),
@@ -45,7 +147,9 @@ fn packages_in_full(
     metadata: &Metadata,
     entries: &[EncodablePackage],
 ) -> Result<Vec<Package>>
-    ensures { Reads (λ v. v.items) result (map_all (entry_package V1 [] (texts_of metadata.now.entries)) entries.now) }
+    ensures { Reads
+        (λ v. v.items) result
+        (map_all (entry_package V1 [] (texts_of metadata.now.entries)) entries.now) }
 {
     let read = ReadMetadata::of(alloc, metadata)?;
     each_in_full(alloc, &read, entries)
@@ -74,7 +178,7 @@ fn package_in_full(
     ensures { Reads (λ p. p) result (entry_package V1 [] metadata.now entry.now) }
 {
     let checksum = metadata.checksum(&entry.name, &entry.version)?;
-    entry.with_references(alloc, checksum, &Indexed::none(alloc))
+    with_references(alloc, entry, checksum, &Indexed::none(alloc))
 }
 
 // The packages from V2 on: their references are looked up by name, and they have their checksums.
@@ -96,47 +200,45 @@ fn each_by_name<'a>(
 {
     let mut packages = Vec::with_capacity(alloc, entries.len())?;
     for entry in entries {
-        let one = entry.with_references(alloc, entry.own_checksum(), list)?;
+        let one = with_references(alloc, entry, own_checksum(entry), list)?;
         packages.push(one)?;
     }
     Ok(packages)
 }
 
-/// The package of the root, whose references are in full in every format.
-pub fn root_package(alloc: Global, entry: &EncodablePackage) -> Result<Package>
+// The package of the root, whose references are in full in every format.
+fn root_package(alloc: Global, entry: &EncodablePackage) -> Result<Package>
     ensures { Reads (λ p. p) result (root_package entry.now) }
 {
-    entry.with_references(alloc, entry.own_checksum(), &Indexed::none(alloc))
+    with_references(alloc, entry, own_checksum(entry), &Indexed::none(alloc))
 }
 
-impl EncodablePackage {
-    fn own_checksum(&self) -> Option<Checksum>
-        ensures { option_map digest_of result ≡ self.now.checksum }
-    {
-        self.checksum
-    }
+fn own_checksum(entry: &EncodablePackage) -> Option<Checksum>
+    ensures { option_map digest_of result ≡ entry.now.checksum }
+{
+    entry.checksum
+}
 
-    // The package, its references looked up in this list.
-    fn with_references<'a>(
-        &'a self,
-        alloc: Global,
-        checksum: Option<Checksum>,
-        list: &Indexed<'a, EncodablePackage>,
-    ) -> Result<Package>
-        ensures { Reads (λ p. p) result
-            (package_of (map entry_identity list.now) (option_map digest_of checksum) self.now) }
-    {
-        let dependencies = resolve_all(alloc, self.dependencies.as_slice(), list)?;
-        let replace = resolve_some(alloc, &self.replace)?;
-        Ok(Package {
-            name: self.name.clone()?,
-            version: self.version.clone()?,
-            source: bare_source(&self.source)?,
-            checksum,
-            dependencies,
-            replace,
-        })
-    }
+// The package of an entry, its references looked up in this list.
+fn with_references<'a>(
+    alloc: Global,
+    entry: &'a EncodablePackage,
+    checksum: Option<Checksum>,
+    list: &Indexed<'a, EncodablePackage>,
+) -> Result<Package>
+    ensures { Reads (λ p. p) result
+        (package_of (map entry_identity list.now) (option_map digest_of checksum) entry.now) }
+{
+    let dependencies = resolve_all(alloc, entry.dependencies.as_slice(), list)?;
+    let replace = resolve_some(alloc, &entry.replace)?;
+    Ok(Package {
+        name: entry.name.clone()?,
+        version: entry.version.clone()?,
+        source: copy_source(entry.source())?,
+        checksum,
+        dependencies,
+        replace,
+    })
 }
 
 fn resolve_all<'a>(
@@ -144,11 +246,12 @@ fn resolve_all<'a>(
     forms: &'a [EncodableDependency],
     list: &Indexed<'a, EncodablePackage>,
 ) -> Result<Vec<Dependency>>
-    ensures { Reads (λ v. v.items) result (map_all (λ f. said f (map entry_identity list.now)) forms.now) }
+    ensures { Reads
+        (λ v. v.items) result (map_all (λ f. said f (map entry_identity list.now)) forms.now) }
 {
     let mut dependencies = Vec::with_capacity(alloc, forms.len())?;
     for form in forms {
-        let dependency = form.said_among(alloc, list)?;
+        let dependency = resolve_among(alloc, form, list)?;
         dependencies.push(dependency)?;
     }
     Ok(dependencies)
@@ -158,7 +261,7 @@ fn resolve_some(alloc: Global, form: &Option<EncodableDependency>) -> Result<Opt
     ensures { Reads (λ o. o) result (map_some (λ f. said f []) form.now) }
 {
     match form {
-        Some(form) => Ok(Some(form.said(alloc, &[])?)),
+        Some(form) => Ok(Some(resolve_among(alloc, form, &Indexed::none(alloc))?)),
         None => Ok(None),
     }
 }

@@ -59,7 +59,8 @@ fn no_sources(alloc: Global) -> Sources
 
 // The source that the map has for a text.
 fn known(sources: &Sources, text: &str) -> std::result::Result<Option<SourceId>, AllocError>
-    ensures { AreRead sources.now → IfOk result (λ found. IfSome found (λ source. source_of text.now ≡ Some source)) }
+    ensures { AreRead sources.now → IfOk result
+        (λ found. IfSome found (λ source. source_of text.now ≡ Some source)) }
 {
     match sources.get(text) {
         Some(source) => Ok(Some(source.clone()?)),

@@ -3,39 +3,58 @@
 //! The values are read in the order in which the keys are named here, and the first fault is
 //! answered. A fault of `semver` is a `Parse` here, so that a table is refused with `Parse` alone.
 
-ghost use Rattle.std.specs.Prelude.{◌≡◌, ◌↔◌, ◌⊎◌, ◌++◌, IsOkUnless, IsTrue, OnOk, codes, option_map};
+ghost use Rattle.std.specs.Prelude.{◌≡◌, ◌⊎◌, ◌++◌, IsOkUnless, OnOk, codes, option_map};
 ghost use Rattle.std.specs.FinMap.{insert};
-ghost use Rattle.semver.specs.Identifiers.{parts_of};
-ghost use Rattle.semver.specs.Parse.{memory_error};
 ghost use Rattle.toml.specs.Data.{get_member};
 ghost use Rattle.toml.specs.View.{items_view, table_view, view};
 ghost use Rattle.cargo_lock_parts.specs.Checksum.{digest_of};
 ghost use Rattle.cargo_lock_parts.specs.Error.{IsParse, IsParseOrMemory, ReadsUrls};
 ghost use Rattle.cargo_lock_parts.specs.declared.error.Error.TheVariants.{Memory};
-ghost use Rattle.cargo_lock_encoding.specs.Form.{form_of, plainly};
-ghost use Rattle.cargo_lock_encoding.specs.Records.{texts_of};
-ghost use Rattle.cargo_lock_encoding.specs.TableReading.{all_entries_at, checksum_from, entries_at, entry_at, entry_in, form_in, items_in, metadata_in, number_in, optional_by, optional_list, patch_at, patch_entry_at, patch_entry_in, patch_in, read_all, required_list, required_text, source_in, text_in, texts_at, version_of};
+ghost use Rattle.cargo_lock_references.specs.Form.{form_of, plainly};
+ghost use Rattle.cargo_lock_references.specs.Records.{texts_of};
+ghost use Rattle.cargo_lock_encoding.specs.TableReading.{all_entries_at, checksum_from, encoded_at, entries_at, entry_at, entry_in, form_in, items_in, metadata_in, number_in, optional_by, optional_list, patch_at, patch_entry_at, patch_entry_in, patch_in, read_all, required_list, required_text, source_in, text_in, texts_at};
 
-use crate::metadata::{Metadata, MetadataKey, MetadataValue};
 use crate::read_sources::ReadSources;
-use crate::{EncodableDependency, EncodablePackage, EncodableSourceId};
+use crate::values::Values;
 use cargo_lock_parts::dependency::Dependency;
 use cargo_lock_parts::error::{Error, Result};
 use cargo_lock_parts::package::{Checksum, Name, SourceId, Version};
 use cargo_lock_parts::patch::Patch;
-use semver::Error as VersionError;
-use std::alloc::{AllocError, Global};
+use cargo_lock_references::metadata::{Metadata, MetadataKey, MetadataValue};
+use cargo_lock_references::package_version::{refused_version, version_of};
+use cargo_lock_references::written::set;
+use cargo_lock_references::{EncodableDependency, EncodablePackage, EncodableSourceId};
+use std::alloc::Global;
 use std::marker::Model;
 use toml::{Table, Value};
 
-/// The packages of a lockfile and its root.
-#[derive(Drop)]
-pub struct AllEntries {
-    /// The packages.
-    pub listed: Vec<EncodablePackage>,
+impl Values {
+    /// Reads the values of a table. `Parse` says what is refused, the first in the order of the keys
+    /// here.
+    #[tactic(auto, unfolding(crate::specs::TableReading::encoded_at))]
+    pub fn read(alloc: Global, table: &Table) -> Result<Values>
+        ensures { ReadsUrls (λ e. e) result (encoded_at (table_view table.now)) }
+    {
+        let version = number_at(alloc, table, "version")?;
+        let entries = all_entries_at(alloc, table)?;
+        let metadata = metadata_at(alloc, table, "metadata")?;
+        let patch = patch_at_key(alloc, table, "patch")?;
+        let AllEntries { listed, root } = entries;
+        Ok(Values {
+            version,
+            packages: listed,
+            root,
+            metadata,
+            patch,
+        })
+    }
+}
 
-    /// The root package, which old lockfiles have apart from the others.
-    pub root: Option<EncodablePackage>,
+// The packages of a lockfile and its root.
+#[derive(Drop)]
+struct AllEntries {
+    listed: Vec<EncodablePackage>,
+    root: Option<EncodablePackage>,
 }
 
 impl Model for AllEntries {
@@ -46,9 +65,9 @@ impl Model for AllEntries {
     ghost view = { λ e. record { listed = e.listed.items; root = e.root } };
 }
 
-/// The packages of a table, under `package`, and its root, under `root`. `Parse` says what is refused.
+// The packages of a table, under `package`, and its root, under `root`.
 #[tactic(auto, unfolding(crate::specs::TableReading::all_entries_at))]
-pub fn all_entries_at(alloc: Global, table: &Table) -> Result<AllEntries>
+fn all_entries_at(alloc: Global, table: &Table) -> Result<AllEntries>
     ensures { ReadsUrls (λ e. e) result (all_entries_at (table_view table.now)) }
 {
     let mut sources = ReadSources::new(alloc);
@@ -62,7 +81,8 @@ pub fn all_entries_at(alloc: Global, table: &Table) -> Result<AllEntries>
 // The fault of a value or of an element of another type. The key is that of the list.
 fn wrong_type(alloc: Global, key: &str) -> Error
     ensures kind { IsParseOrMemory result }
-    ensures text { (result ≡ Memory) ⊎ IsParse result (codes "wrong type: `" ++ key.now ++ codes "`") }
+    ensures text { (result ≡ Memory)
+        ⊎ IsParse result (codes "wrong type: `" ++ key.now ++ codes "`") }
 {
     match format!(in alloc; "wrong type: `{key}`") {
         Ok(text) => Error::Parse(text),
@@ -73,29 +93,13 @@ fn wrong_type(alloc: Global, key: &str) -> Error
 // The fault of a required key that is missing.
 fn missing_key(alloc: Global, key: &str) -> Error
     ensures kind { IsParseOrMemory result }
-    ensures text { (result ≡ Memory) ⊎ IsParse result (codes "missing key: `" ++ key.now ++ codes "`") }
+    ensures text { (result ≡ Memory)
+        ⊎ IsParse result (codes "missing key: `" ++ key.now ++ codes "`") }
 {
     match format!(in alloc; "missing key: `{key}`") {
         Ok(text) => Error::Parse(text),
         Err(_) => Error::Memory,
     }
-}
-
-// A fault of `semver`.
-fn refused_version(alloc: Global, fault: &VersionError) -> Error
-    ensures { IsParseOrMemory result }
-{
-    match format!(in alloc; "version error: {fault}") {
-        Ok(text) => Error::Parse(text),
-        Err(_) => Error::Memory,
-    }
-}
-
-// Whether `semver` found no memory.
-fn is_memory(fault: &VersionError) -> bool
-    ensures { IsTrue result ↔ (fault.now ≡ memory_error) }
-{
-    *fault == VersionError::from(AllocError)
 }
 
 // ---- values by their types
@@ -119,7 +123,8 @@ fn text_in<'a>(alloc: Global, value: &'a Value, key: &str) -> Result<&'a str>
 
 // The text at a key that may not be missing.
 fn required_text<'a>(alloc: Global, table: &'a Table, key: &str) -> Result<&'a str>
-    ensures { ReadsUrls (λ s. s.now) result (required_text (get_member key.now (table_view table.now))) }
+    ensures { ReadsUrls
+        (λ s. s.now) result (required_text (get_member key.now (table_view table.now))) }
 {
     match value_at(table, key) {
         Some(value) => text_in(alloc, value, key),
@@ -127,9 +132,10 @@ fn required_text<'a>(alloc: Global, table: &'a Table, key: &str) -> Result<&'a s
     }
 }
 
-/// The whole number at a key, where the key is there. `Parse` says that the value is no number.
-pub fn number_at(alloc: Global, table: &Table, key: &str) -> Result<Option<i64>>
-    ensures { ReadsUrls (λ o. o) result (optional_by number_in (get_member key.now (table_view table.now))) }
+// The whole number at a key, where the key is there.
+fn number_at(alloc: Global, table: &Table, key: &str) -> Result<Option<i64>>
+    ensures { ReadsUrls
+        (λ o. o) result (optional_by number_in (get_member key.now (table_view table.now))) }
 {
     let Some(value) = value_at(table, key) else {
         return Ok(None);
@@ -152,7 +158,8 @@ fn list_in<'a>(alloc: Global, value: &'a Value, key: &str) -> Result<&'a [Value]
 
 // The list at a key, empty where it is missing.
 fn optional_list<'a>(alloc: Global, table: &'a Table, key: &str) -> Result<&'a [Value]>
-    ensures { ReadsUrls (λ s. items_view s.now) result (optional_list (get_member key.now (table_view table.now))) }
+    ensures { ReadsUrls
+        (λ s. items_view s.now) result (optional_list (get_member key.now (table_view table.now))) }
 {
     match value_at(table, key) {
         Some(value) => list_in(alloc, value, key),
@@ -162,7 +169,8 @@ fn optional_list<'a>(alloc: Global, table: &'a Table, key: &str) -> Result<&'a [
 
 // The list at a key that may not be missing.
 fn required_list<'a>(alloc: Global, table: &'a Table, key: &str) -> Result<&'a [Value]>
-    ensures { ReadsUrls (λ s. items_view s.now) result (required_list (get_member key.now (table_view table.now))) }
+    ensures { ReadsUrls
+        (λ s. items_view s.now) result (required_list (get_member key.now (table_view table.now))) }
 {
     match value_at(table, key) {
         Some(value) => list_in(alloc, value, key),
@@ -171,18 +179,6 @@ fn required_list<'a>(alloc: Global, table: &'a Table, key: &str) -> Result<&'a [
 }
 
 // ---- texts
-
-/// The version that a text is. A fault of `semver` is a `Parse` here.
-#[tactic(auto, unfolding(crate::specs::TableReading::version_of))]
-pub fn version_of(alloc: Global, text: &str) -> Result<Version>
-    ensures { ReadsUrls parts_of result (version_of text.now) }
-{
-    match Version::parse(alloc, text) {
-        Ok(version) => Ok(version),
-        Err(fault) if is_memory(&fault) => Err(Error::Memory),
-        Err(fault) => Err(refused_version(alloc, &fault)),
-    }
-}
 
 // The source that a value is the text of.
 fn source_in(alloc: Global, sources: &mut ReadSources, value: &Value, key: &str) -> Result<SourceId>
@@ -200,7 +196,8 @@ fn source_at(
     table: &Table,
     key: &str,
 ) -> Result<Option<SourceId>>
-    ensures { ReadsUrls (λ o. o) result (optional_by source_in (get_member key.now (table_view table.now))) }
+    ensures { ReadsUrls
+        (λ o. o) result (optional_by source_in (get_member key.now (table_view table.now))) }
 {
     match value_at(table, key) {
         Some(value) => Ok(Some(source_in(alloc, sources, value, key)?)),
@@ -229,7 +226,8 @@ fn checksum_from(alloc: Global, value: &Value, key: &str) -> Result<Checksum>
 
 // The checksum at a key that may be missing.
 fn checksum_at(alloc: Global, table: &Table, key: &str) -> Result<Option<Checksum>>
-    ensures { ReadsUrls (option_map digest_of) result (optional_by checksum_from (get_member key.now (table_view table.now))) }
+    ensures { ReadsUrls (option_map digest_of) result
+        (optional_by checksum_from (get_member key.now (table_view table.now))) }
 {
     match value_at(table, key) {
         Some(value) => Ok(Some(checksum_from(alloc, value, key)?)),
@@ -258,7 +256,8 @@ fn form_in(alloc: Global, value: &Value, key: &str) -> Result<EncodableDependenc
 
 // The reference at a key that may be missing.
 fn form_at(alloc: Global, table: &Table, key: &str) -> Result<Option<EncodableDependency>>
-    ensures { ReadsUrls (λ o. o) result (optional_by form_in (get_member key.now (table_view table.now))) }
+    ensures { ReadsUrls
+        (λ o. o) result (optional_by form_in (get_member key.now (table_view table.now))) }
 {
     match value_at(table, key) {
         Some(value) => Ok(Some(form_in(alloc, value, key)?)),
@@ -356,7 +355,8 @@ fn entry_at_key(
     table: &Table,
     key: &str,
 ) -> Result<Option<EncodablePackage>>
-    ensures { ReadsUrls (λ o. o) result (optional_by entry_in (get_member key.now (table_view table.now))) }
+    ensures { ReadsUrls
+        (λ o. o) result (optional_by entry_in (get_member key.now (table_view table.now))) }
 {
     match value_at(table, key) {
         Some(value) => Ok(Some(entry_in(alloc, sources, value, key)?)),
@@ -366,21 +366,10 @@ fn entry_at_key(
 
 // ---- metadata
 
-// Sets a key to a value.
-pub(crate) fn set(
-    metadata: &mut Metadata,
-    key: MetadataKey,
-    value: MetadataValue,
-) -> std::result::Result<(), AllocError>
-    ensures { OnOk result (texts_of metadata.new.entries ≡ insert (texts_of metadata.old.entries) key value) }
-{
-    metadata.insert(key, value)?;
-    Ok(())
-}
-
 // Sets a key to a text.
 fn put_text(alloc: Global, metadata: &mut Metadata, key: &str, value: &str) -> Result<()>
-    ensures ok { OnOk result (texts_of metadata.new.entries ≡ insert (texts_of metadata.old.entries) key.now value.now) }
+    ensures ok { OnOk result
+        (texts_of metadata.new.entries ≡ insert (texts_of metadata.old.entries) key.now value.now) }
     ensures err { IsOkUnless result Memory }
 {
     let key = MetadataKey::from_str(alloc, key)?;
@@ -401,9 +390,10 @@ fn texts_at(alloc: Global, table: &Table) -> Result<Metadata>
     Ok(metadata)
 }
 
-/// The metadata at a key, empty where it is missing. `Parse` says that the value is no table of texts.
-pub fn metadata_at(alloc: Global, table: &Table, key: &str) -> Result<Metadata>
-    ensures { ReadsUrls (λ m. texts_of m.entries) result (metadata_in (get_member key.now (table_view table.now))) }
+// The metadata at a key, empty where it is missing.
+fn metadata_at(alloc: Global, table: &Table, key: &str) -> Result<Metadata>
+    ensures { ReadsUrls
+        (λ m. texts_of m.entries) result (metadata_in (get_member key.now (table_view table.now))) }
 {
     let Some(value) = value_at(table, key) else {
         return Ok(Metadata::new(alloc));
@@ -475,8 +465,8 @@ fn patch_at(alloc: Global, table: &Table) -> Result<Patch>
     Ok(Patch { unused })
 }
 
-/// The unused patches at a key, none where it is missing. `Parse` says what is refused.
-pub fn patch_at_key(alloc: Global, table: &Table, key: &str) -> Result<Patch>
+// The unused patches at a key, none where it is missing.
+fn patch_at_key(alloc: Global, table: &Table, key: &str) -> Result<Patch>
     ensures { ReadsUrls (λ p. p) result (patch_in (get_member key.now (table_view table.now))) }
 {
     let Some(value) = value_at(table, key) else {

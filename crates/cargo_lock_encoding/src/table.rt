@@ -1,30 +1,71 @@
 //! From entries to the values of a table.
 
-ghost use Rattle.std.specs.Prelude.{◌≡◌, ◌∷◌, [], Some, IfOk, OnOk, codes, map, option_map};
+ghost use Rattle.std.specs.Prelude.{◌≡◌, ◌∷◌, [], Some, IfOk, IsOkUnless, OnOk, codes, map, option_map};
 ghost use Rattle.semver.specs.Identifiers.{parts_of, parts_text};
 ghost use Rattle.toml.specs.Data.{integer, string};
 ghost use Rattle.toml.specs.View.{table_view, view};
 ghost use Rattle.cargo_lock_parts.specs.Checksum.{digest_of};
-ghost use Rattle.cargo_lock_encoding.specs.Chosen.{written_source};
 ghost use Rattle.cargo_lock_parts.specs.Identity.{identity_of};
-ghost use Rattle.cargo_lock_encoding.specs.Records.{texts_of};
-ghost use Rattle.cargo_lock_encoding.specs.Table.{checksum_value, entry_of, entry_table, entry_value, form_value, metadata_value, packages_value, patch_entry_value, patch_table, present, put, put_present, root_entry, source_value, text_members, unless_empty, unless_no_patch};
+ghost use Rattle.cargo_lock_references.specs.Records.{texts_of};
+ghost use Rattle.cargo_lock_encoding.specs.Table.{checksum_value, entry_of, entry_table, entry_value, form_value, metadata_value, packages_value, patch_entry_value, patch_table, present, put, put_present, root_entry, source_value, table_of, text_members, unless_empty, unless_no_patch};
+ghost use Rattle.cargo_lock_encoding.specs.Lockfiles.{is_escaped_number};
+ghost use Rattle.cargo_lock_parts.specs.declared.error.Error.TheVariants.{Memory};
+ghost use Rattle.cargo_lock_references.specs.Metadata.{metadata_of};
 
-use crate::checksums::ordered;
-use crate::index::Indexed;
-use crate::metadata::{Metadata, MetadataKey, MetadataValue};
-use crate::writing::{entry_of, root_entry};
-use crate::{EncodableDependencyRef, EncodablePackageRef, ResolveVersion};
+use crate::values::LockfileRef;
+use crate::writing::{entry_of, root_entry, written_version};
 use cargo_lock_parts::dependency::Dependency;
 use cargo_lock_parts::error::Result;
 use cargo_lock_parts::package::source::SourceIdAsUrl;
-use cargo_lock_parts::package::{Checksum, Package, SourceId, Version};
+use cargo_lock_parts::package::{Checksum, Package, Version};
 use cargo_lock_parts::patch::Patch;
+use cargo_lock_references::borrowed::written_source;
+use cargo_lock_references::checksums::ordered;
+use cargo_lock_references::index::Indexed;
+use cargo_lock_references::metadata::{Metadata, MetadataKey, MetadataValue};
+use cargo_lock_references::written::metadata_of;
+use cargo_lock_references::{EncodableDependencyRef, EncodablePackageRef, ResolveVersion};
 use std::alloc::{AllocError, Global};
 use toml::{Table, Value};
 
-/// The table of the values of a lockfile that are there.
-pub fn lockfile_members(
+impl LockfileRef<'_> {
+    /// The table of the lockfile, in the lockfile's format, as Cargo writes it. The one error is `Memory`.
+    #[tactic(auto, unfolding(crate::specs::Table::encoded_of, crate::specs::Table::encoded_table))]
+    pub fn to_table(&self, alloc: Global) -> Result<Table>
+        ensures ok { IfOk result (λ t. table_view t ≡ table_of self.now) }
+        ensures err { IsOkUnless result Memory }
+    {
+        let format = self.version;
+        let metadata = self.metadata_value(alloc)?;
+        let packages = packages_value(alloc, format, self.packages)?;
+        let number = written_version(format);
+        let patch = patch_value(alloc, is_escaped_number(&number), self.patch)?;
+        let root = root_value(alloc, format, self.root)?;
+        let version = version_number(number);
+        let table = lockfile_members(alloc, metadata, packages, patch, root, version)?;
+        Ok(table)
+    }
+
+    // The table of the metadata that are written.
+    fn metadata_value(&self, alloc: Global) -> Result<Option<Value>>
+        ensures ok { IfOk result (λ v. option_map view v
+            ≡ metadata_value (metadata_of self.now.version self.now.metadata self.now.packages)) }
+        ensures err { IsOkUnless result Memory }
+    {
+        let metadata = metadata_of(alloc, self.version, self.metadata, self.packages)?;
+        Ok(metadata_value(alloc, &metadata)?)
+    }
+}
+
+// Whether the sources of patches are escaped where the table has this number: it is that of V4.
+pub(crate) fn is_escaped_number(number: &Option<i64>) -> bool
+    ensures { result ≡ is_escaped_number number.now }
+{
+    matches!(number, Some(4))
+}
+
+// The table of the values of a lockfile that are there.
+fn lockfile_members(
     alloc: Global,
     metadata: Option<Value>,
     packages: Value,
@@ -48,8 +89,8 @@ pub fn lockfile_members(
     Ok(table)
 }
 
-/// The value of the number of a format.
-pub fn version_number(version: Option<i64>) -> Option<Value>
+// The value of the number of a format.
+fn version_number(version: Option<i64>) -> Option<Value>
     ensures { option_map view result ≡ option_map integer version }
 {
     match version {
@@ -60,13 +101,14 @@ pub fn version_number(version: Option<i64>) -> Option<Value>
 
 // ---- packages
 
-/// The list of the tables of the packages of a lockfile, as they are written in a format.
-pub fn packages_value(
+// The list of the tables of the packages of a lockfile, as they are written in a format.
+fn packages_value(
     alloc: Global,
     format: ResolveVersion,
     list: &[Package],
 ) -> std::result::Result<Value, AllocError>
-    ensures { IfOk result (λ v. view v ≡ packages_value (map (entry_of format (map identity_of list.now)) list.now)) }
+    ensures { IfOk result
+        (λ v. view v ≡ packages_value (map (entry_of format (map identity_of list.now)) list.now)) }
 {
     let packages = Indexed::of(alloc, list)?;
     each_value(alloc, format, &packages, list)
@@ -78,7 +120,9 @@ fn each_value<'a>(
     packages: &Indexed<'a, Package>,
     list: &'a [Package],
 ) -> std::result::Result<Value, AllocError>
-    ensures { IfOk result (λ v. view v ≡ packages_value (map (entry_of format (map identity_of packages.now)) list.now)) }
+    ensures { IfOk result
+        (λ v. view v ≡ packages_value
+        (map (entry_of format (map identity_of packages.now)) list.now)) }
 {
     let mut values = Vec::with_capacity(alloc, list.len())?;
     for one in list {
@@ -94,19 +138,22 @@ fn package_value<'a>(
     packages: &Indexed<'a, Package>,
     one: &'a Package,
 ) -> std::result::Result<Value, AllocError>
-    ensures { IfOk result (λ v. view v ≡ entry_value (entry_of format (map identity_of packages.now) one.now)) }
+    ensures { IfOk result
+        (λ v. view v ≡ entry_value (entry_of format (map identity_of packages.now) one.now)) }
 {
     let entry = entry_of(alloc, format, packages, one)?;
     entry_value(alloc, &entry)
 }
 
-/// The table of the root of a lockfile, as it is written in a format, where there is one.
-pub fn root_value(
+// The table of the root of a lockfile, as it is written in a format, where there is one.
+fn root_value(
     alloc: Global,
     format: ResolveVersion,
     root: &Option<Package>,
 ) -> std::result::Result<Option<Value>, AllocError>
-    ensures { IfOk result (λ v. option_map view v ≡ option_map entry_value (option_map (root_entry format) root.now)) }
+    ensures { IfOk result
+        (λ v. option_map view v
+        ≡ option_map entry_value (option_map (root_entry format) root.now)) }
 {
     match root {
         Some(one) => {
@@ -183,7 +230,8 @@ fn checksum_value(
     alloc: Global,
     checksum: &Option<Checksum>,
 ) -> std::result::Result<Option<Value>, AllocError>
-    ensures { IfOk result (λ v. option_map view v ≡ option_map checksum_value (option_map digest_of checksum.now)) }
+    ensures { IfOk result
+        (λ v. option_map view v ≡ option_map checksum_value (option_map digest_of checksum.now)) }
 {
     match checksum {
         Some(checksum) => {
@@ -255,13 +303,14 @@ fn version_value(alloc: Global, version: &Version) -> std::result::Result<Value,
 
 // ---- patches
 
-/// The table of the unused patches, their sources escaped or plain, unless there is none.
-pub fn patch_value(
+// The table of the unused patches, their sources escaped or plain, unless there is none.
+fn patch_value(
     alloc: Global,
     escaped: bool,
     patch: &Patch,
 ) -> std::result::Result<Option<Value>, AllocError>
-    ensures { IfOk result (λ v. option_map view v ≡ unless_no_patch (map (patch_entry_value escaped) patch.now)) }
+    ensures { IfOk result
+        (λ v. option_map view v ≡ unless_no_patch (map (patch_entry_value escaped) patch.now)) }
 {
     let unused = patch_values(alloc, escaped, patch.unused.as_slice())?;
     unused_value(alloc, unused)
@@ -302,7 +351,7 @@ fn patch_table(
     ensures { IfOk result (λ t. table_view t ≡ patch_table escaped one.now) }
 {
     let name = Value::string(alloc, one.name.as_str())?;
-    let source = patch_source(alloc, escaped, &one.source)?;
+    let source = source_value(alloc, &written_source(escaped, &one.source))?;
     let version = version_value(alloc, &one.version)?;
     patch_members(alloc, name, source, version)
 }
@@ -326,33 +375,15 @@ fn patch_members(
     Ok(table)
 }
 
-// A path source is not written.
-fn patch_source(
-    alloc: Global,
-    escaped: bool,
-    source: &Option<SourceId>,
-) -> std::result::Result<Option<Value>, AllocError>
-    ensures { IfOk result (λ v. option_map view v ≡ option_map source_value (written_source escaped source.now)) }
-{
-    match source {
-        None => Ok(None),
-        Some(source) if source.is_path() => Ok(None),
-        Some(source) => {
-            let shown = source.as_url(escaped);
-            let text = format!(in alloc; "{shown}")?;
-            Ok(Some(Value::from(text)))
-        }
-    }
-}
-
 // ---- metadata
 
-/// The table of the metadata, unless it is empty.
-pub fn metadata_value(
+// The table of the metadata, unless it is empty.
+fn metadata_value(
     alloc: Global,
     metadata: &Metadata,
 ) -> std::result::Result<Option<Value>, AllocError>
-    ensures { IfOk result (λ v. option_map view v ≡ metadata_value (texts_of metadata.now.entries)) }
+    ensures { IfOk result
+        (λ v. option_map view v ≡ metadata_value (texts_of metadata.now.entries)) }
 {
     ordered(metadata);
     if metadata.is_empty() {
@@ -380,7 +411,8 @@ fn put_text(
     key: &MetadataKey,
     value: &MetadataValue,
 ) -> std::result::Result<(), AllocError>
-    ensures { OnOk result (table_view table.new ≡ put key.now (string value.now) (table_view table.old)) }
+    ensures { OnOk result
+        (table_view table.new ≡ put key.now (string value.now) (table_view table.old)) }
 {
     let value = Value::string(alloc, value.as_str())?;
     put(alloc, table, key.as_str(), value)?;
@@ -407,7 +439,9 @@ fn put_present(
     key: &str,
     value: Option<Value>,
 ) -> std::result::Result<(), AllocError>
-    ensures { OnOk result (table_view table.new ≡ put_present key.now (option_map view value) (table_view table.old)) }
+    ensures { OnOk result
+        (table_view table.new
+        ≡ put_present key.now (option_map view value) (table_view table.old)) }
 {
     match value {
         Some(value) => put(alloc, table, key, value),

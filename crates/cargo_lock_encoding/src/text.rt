@@ -3,32 +3,39 @@
 //! The empty line between two blocks is written with the second one, so the text does not end in
 //! an empty line that would have to be taken back.
 
-ghost use Rattle.std.specs.Prelude.{◌≡◌, ◌++◌, ◌∷◌, [], ◌<◌, OnOk, codes, false, map, option_map, string_bytes};
+ghost use Rattle.std.specs.Prelude.{◌≡◌, ◌++◌, ◌∷◌, [], ◌<◌, IfOk, IsOkUnless, codes, false, map, option_map, string_bytes};
 ghost use Rattle.std.specs.FinMap.{entries};
 ghost use Rattle.std.specs.List.{flat_map, list_all};
 ghost use Rattle.std.specs.Option.{option_to_list};
 ghost use Rattle.semver.specs.Identifiers.{parts_of, parts_text};
 ghost use Rattle.cargo_lock_parts.specs.Checksum.{digest_of};
-ghost use Rattle.cargo_lock_encoding.specs.Chosen.{written_source};
 ghost use Rattle.cargo_lock_parts.specs.Identity.{identity_of};
-ghost use Rattle.cargo_lock_encoding.specs.Records.{texts_of};
+ghost use Rattle.cargo_lock_references.specs.Records.{texts_of};
 ghost use Rattle.cargo_lock_encoding.specs.Table.{entry_of};
-ghost use Rattle.cargo_lock_encoding.specs.Text.{checksum_line, comment_lines, dependency_line, entry_lines, escape_char, escaped, field, hex_digit, is_bare_byte, is_bare_key, joined, key_text, metadata_lines, pair_line, patch_lines, quoted, reference_lines, replace_line, short_escape, source_line, version_lines};
+ghost use Rattle.cargo_lock_parts.specs.declared.error.Error.TheVariants.{Memory};
+ghost use Rattle.cargo_lock_references.specs.Metadata.{metadata_of};
+ghost use Rattle.cargo_lock_encoding.specs.Text.{Adds, AddsLines, checksum_line, comment_lines, dependency_line, encoded_lines, entry_lines, escape_char, escaped, field, hex_digit, is_bare_byte, is_bare_key, joined, key_text, lines_of, metadata_lines, pair_line, patch_lines, quoted, reference_lines, replace_line, short_escape, source_line, version_lines};
 
-use crate::checksums::ordered;
-use crate::index::Indexed;
-use crate::metadata::{Metadata, MetadataKey, MetadataValue};
-use crate::writing::entry_of;
-use crate::{EncodableDependencyRef, EncodablePackage, EncodablePackageRef, ResolveVersion};
+use crate::table::is_escaped_number;
+use crate::values::{LockfileRef, ValuesRef};
+use crate::writing::{entry_of, written_version};
 use cargo_lock_parts::dependency::Dependency;
 use cargo_lock_parts::error::Result;
 use cargo_lock_parts::package::source::SourceIdAsUrl;
-use cargo_lock_parts::package::{Checksum, Name, Package, SourceId, Version};
+use cargo_lock_parts::package::{Checksum, Name, Package, Version};
 use cargo_lock_parts::patch::Patch;
+use cargo_lock_references::borrowed::written_source;
+use cargo_lock_references::checksums::ordered;
+use cargo_lock_references::index::Indexed;
+use cargo_lock_references::metadata::{Metadata, MetadataKey, MetadataValue};
+use cargo_lock_references::written::metadata_of;
+use cargo_lock_references::{
+    EncodableDependencyRef, EncodablePackage, EncodablePackageRef, ResolveVersion,
+};
 use std::alloc::{AllocError, Global};
 
-/// What a function that adds to the text answers: memory may run out.
-pub type Put = std::result::Result<(), AllocError>;
+// What a function that adds to the text answers: memory may run out.
+type Put = std::result::Result<(), AllocError>;
 
 // ---- strings
 
@@ -62,7 +69,7 @@ fn short_escape(c: char) -> Option<char>
 
 // A character of a string.
 fn put_char(out: &mut String, c: char) -> Put
-    ensures { OnOk result (string_bytes out.new ≡ string_bytes out.old ++ escape_char c) }
+    ensures { Adds result out.old out.new (escape_char c) }
 {
     if let Some(letter) = short_escape(c) {
         out.push('\\')?;
@@ -80,7 +87,7 @@ fn put_char(out: &mut String, c: char) -> Put
 // The characters of a string.
 #[tactic(auto, unfolding(crate::specs::Text::escaped))]
 fn put_escaped(out: &mut String, text: &str) -> Put
-    ensures { OnOk result (string_bytes out.new ≡ string_bytes out.old ++ escaped text.now) }
+    ensures { Adds result out.old out.new (escaped text.now) }
 {
     for c in text.chars() {
         put_char(out, c)?;
@@ -90,7 +97,7 @@ fn put_escaped(out: &mut String, text: &str) -> Put
 
 // A string between quotation marks.
 fn put_quoted(out: &mut String, text: &str) -> Put
-    ensures { OnOk result (string_bytes out.new ≡ string_bytes out.old ++ quoted text.now) }
+    ensures { Adds result out.old out.new (quoted text.now) }
 {
     out.push('"')?;
     put_escaped(out, text)?;
@@ -101,7 +108,7 @@ fn put_quoted(out: &mut String, text: &str) -> Put
 
 // The line `key = "text"`, of a key that is bare.
 fn put_field(out: &mut String, key: &str, text: &str) -> Put
-    ensures { OnOk result (string_bytes out.new ≡ string_bytes out.old ++ joined (field key.now text.now ∷ [])) }
+    ensures { AddsLines result out.old out.new (field key.now text.now ∷ []) }
 {
     out.push_str(key)?;
     out.push_str(" = ")?;
@@ -110,13 +117,14 @@ fn put_field(out: &mut String, key: &str, text: &str) -> Put
 }
 
 fn put_name(out: &mut String, name: &Name) -> Put
-    ensures { OnOk result (string_bytes out.new ≡ string_bytes out.old ++ joined (field (codes "name") name.now ∷ [])) }
+    ensures { AddsLines result out.old out.new (field (codes "name") name.now ∷ []) }
 {
     put_field(out, "name", name.as_str())
 }
 
 fn put_version(alloc: Global, out: &mut String, version: &Version) -> Put
-    ensures { OnOk result (string_bytes out.new ≡ string_bytes out.old ++ joined (field (codes "version") (parts_text (parts_of version.now)) ∷ [])) }
+    ensures { AddsLines result out.old out.new
+        (field (codes "version") (parts_text (parts_of version.now)) ∷ []) }
 {
     let text = format!(in alloc; "{version}")?;
     put_field(out, "version", text.as_str())
@@ -124,15 +132,16 @@ fn put_version(alloc: Global, out: &mut String, version: &Version) -> Put
 
 // The line of a source that is written.
 fn put_source(alloc: Global, out: &mut String, source: &SourceIdAsUrl<'_>) -> Put
-    ensures { OnOk result (string_bytes out.new ≡ string_bytes out.old ++ joined (source_line source.now ∷ [])) }
+    ensures { AddsLines result out.old out.new (source_line source.now ∷ []) }
 {
     let text = format!(in alloc; "{source}")?;
     put_field(out, "source", text.as_str())
 }
 
-// The source of a package.
+// The source of a package or a patch, where it is written.
 fn put_marked_source(alloc: Global, out: &mut String, source: &Option<SourceIdAsUrl<'_>>) -> Put
-    ensures { OnOk result (string_bytes out.new ≡ string_bytes out.old ++ joined (option_to_list (option_map source_line source.now))) }
+    ensures { AddsLines result out.old out.new
+        (option_to_list (option_map source_line source.now)) }
 {
     match source {
         Some(source) => put_source(alloc, out, source),
@@ -140,24 +149,9 @@ fn put_marked_source(alloc: Global, out: &mut String, source: &Option<SourceIdAs
     }
 }
 
-// The source of a patch, escaped or plain: a path source is left out.
-fn put_patch_source(
-    alloc: Global,
-    out: &mut String,
-    source: &Option<SourceId>,
-    escaped: bool,
-) -> Put
-    ensures { OnOk result (string_bytes out.new ≡ string_bytes out.old ++ joined (option_to_list (option_map source_line (written_source escaped source.now)))) }
-{
-    match source {
-        Some(source) if source.is_path() => Ok(()),
-        Some(source) => put_source(alloc, out, &source.as_url(escaped)),
-        None => Ok(()),
-    }
-}
-
 fn put_checksum(alloc: Global, out: &mut String, checksum: &Option<Checksum>) -> Put
-    ensures { OnOk result (string_bytes out.new ≡ string_bytes out.old ++ joined (option_to_list (option_map checksum_line (option_map digest_of checksum.now)))) }
+    ensures { AddsLines result out.old out.new
+        (option_to_list (option_map checksum_line (option_map digest_of checksum.now))) }
 {
     match checksum {
         Some(checksum) => {
@@ -172,7 +166,7 @@ fn put_checksum(alloc: Global, out: &mut String, checksum: &Option<Checksum>) ->
 
 // The line of one dependency in the list of them.
 fn put_dependency(alloc: Global, out: &mut String, dependency: &EncodableDependencyRef<'_>) -> Put
-    ensures { OnOk result (string_bytes out.new ≡ string_bytes out.old ++ joined (dependency_line dependency.now ∷ [])) }
+    ensures { AddsLines result out.old out.new (dependency_line dependency.now ∷ []) }
 {
     let text = format!(in alloc; "{dependency}")?;
     out.push(' ')?;
@@ -185,7 +179,7 @@ fn put_each_dependency(
     out: &mut String,
     dependencies: &[EncodableDependencyRef<'_>],
 ) -> Put
-    ensures { OnOk result (string_bytes out.new ≡ string_bytes out.old ++ joined (map dependency_line dependencies.now)) }
+    ensures { AddsLines result out.old out.new (map dependency_line dependencies.now) }
 {
     for dependency in dependencies {
         put_dependency(alloc, out, dependency)?;
@@ -199,7 +193,8 @@ fn put_dependencies(
     out: &mut String,
     dependencies: &[EncodableDependencyRef<'_>],
 ) -> Put
-    ensures { OnOk result (string_bytes out.new ≡ string_bytes out.old ++ joined (codes "dependencies = [" ∷ (map dependency_line dependencies.now ++ codes "]" ∷ []))) }
+    ensures { AddsLines result out.old out.new
+        (codes "dependencies = [" ∷ (map dependency_line dependencies.now ++ codes "]" ∷ [])) }
 {
     out.push_str("dependencies = [\n")?;
     put_each_dependency(alloc, out, dependencies)?;
@@ -212,7 +207,8 @@ fn put_replacement(
     out: &mut String,
     replace: &Option<EncodableDependencyRef<'_>>,
 ) -> Put
-    ensures { OnOk result (string_bytes out.new ≡ string_bytes out.old ++ joined (option_to_list (option_map replace_line replace.now))) }
+    ensures { AddsLines result out.old out.new
+        (option_to_list (option_map replace_line replace.now)) }
 {
     match replace {
         Some(replace) => {
@@ -230,7 +226,7 @@ fn put_references(
     dependencies: &[EncodableDependencyRef<'_>],
     replace: &Option<EncodableDependencyRef<'_>>,
 ) -> Put
-    ensures { OnOk result (string_bytes out.new ≡ string_bytes out.old ++ joined (reference_lines dependencies.now replace.now)) }
+    ensures { AddsLines result out.old out.new (reference_lines dependencies.now replace.now) }
 {
     if dependencies.is_empty() {
         put_replacement(alloc, out, replace)?;
@@ -241,7 +237,7 @@ fn put_references(
 }
 
 fn put_package(alloc: Global, out: &mut String, one: &EncodablePackageRef<'_>) -> Put
-    ensures { OnOk result (string_bytes out.new ≡ string_bytes out.old ++ joined (entry_lines one.now)) }
+    ensures { AddsLines result out.old out.new (entry_lines one.now) }
 {
     out.push_str("\n[[package]]\n")?;
     put_name(out, one.name)?;
@@ -252,9 +248,9 @@ fn put_package(alloc: Global, out: &mut String, one: &EncodablePackageRef<'_>) -
     Ok(())
 }
 
-/// Adds the packages, each after an empty line.
-pub fn put_packages(alloc: Global, out: &mut String, packages: &[EncodablePackage]) -> Put
-    ensures { OnOk result (string_bytes out.new ≡ string_bytes out.old ++ joined (flat_map entry_lines packages.now)) }
+// Adds the packages, each after an empty line.
+fn put_packages(alloc: Global, out: &mut String, packages: &[EncodablePackage]) -> Put
+    ensures { AddsLines result out.old out.new (flat_map entry_lines packages.now) }
 {
     for one in packages {
         put_encoded(alloc, out, one)?;
@@ -263,21 +259,21 @@ pub fn put_packages(alloc: Global, out: &mut String, packages: &[EncodablePackag
 }
 
 fn put_encoded(alloc: Global, out: &mut String, one: &EncodablePackage) -> Put
-    ensures { OnOk result (string_bytes out.new ≡ string_bytes out.old ++ joined (entry_lines one.now)) }
+    ensures { AddsLines result out.old out.new (entry_lines one.now) }
 {
     let entry = one.by_ref(alloc)?;
     put_package(alloc, out, &entry)
 }
 
-/// Adds the packages of a lockfile as they are written in a format, each after an empty line.
-pub fn put_written_packages(
+// Adds the packages of a lockfile as they are written in a format, each after an empty line.
+fn put_written_packages(
     alloc: Global,
     out: &mut String,
     format: ResolveVersion,
     list: &[Package],
 ) -> Put
-    ensures { OnOk result (string_bytes out.new ≡ string_bytes out.old
-        ++ joined (flat_map entry_lines (map (entry_of format (map identity_of list.now)) list.now))) }
+    ensures { AddsLines result out.old out.new
+        (flat_map entry_lines (map (entry_of format (map identity_of list.now)) list.now)) }
 {
     let packages = Indexed::of(alloc, list)?;
     put_each_written(alloc, out, format, &packages, list)
@@ -290,8 +286,8 @@ fn put_each_written<'a>(
     packages: &Indexed<'a, Package>,
     list: &'a [Package],
 ) -> Put
-    ensures { OnOk result (string_bytes out.new ≡ string_bytes out.old
-        ++ joined (flat_map (λ p. entry_lines (entry_of format (map identity_of packages.now) p)) list.now)) }
+    ensures { AddsLines result out.old out.new
+        (flat_map (λ p. entry_lines (entry_of format (map identity_of packages.now) p)) list.now) }
 {
     for one in list {
         put_written(alloc, out, format, packages, one)?;
@@ -306,8 +302,8 @@ fn put_written<'a>(
     packages: &Indexed<'a, Package>,
     one: &'a Package,
 ) -> Put
-    ensures { OnOk result (string_bytes out.new ≡ string_bytes out.old
-        ++ joined (entry_lines (entry_of format (map identity_of packages.now) one.now))) }
+    ensures { AddsLines result out.old out.new
+        (entry_lines (entry_of format (map identity_of packages.now) one.now)) }
 {
     let entry = entry_of(alloc, format, packages, one)?;
     put_package(alloc, out, &entry)
@@ -317,18 +313,18 @@ fn put_written<'a>(
 
 // An unused patch, its source escaped or plain.
 fn put_patch(alloc: Global, out: &mut String, patch: &Dependency, escaped: bool) -> Put
-    ensures { OnOk result (string_bytes out.new ≡ string_bytes out.old ++ joined (patch_lines escaped patch.now)) }
+    ensures { AddsLines result out.old out.new (patch_lines escaped patch.now) }
 {
     out.push_str("\n[[patch.unused]]\n")?;
     put_name(out, &patch.name)?;
     put_version(alloc, out, &patch.version)?;
-    put_patch_source(alloc, out, &patch.source, escaped)?;
+    put_marked_source(alloc, out, &written_source(escaped, &patch.source))?;
     out.push_str("\n")?;
     Ok(())
 }
 
 fn put_each_patch(alloc: Global, out: &mut String, unused: &[Dependency], escaped: bool) -> Put
-    ensures { OnOk result (string_bytes out.new ≡ string_bytes out.old ++ joined (flat_map (patch_lines escaped) unused.now)) }
+    ensures { AddsLines result out.old out.new (flat_map (patch_lines escaped) unused.now) }
 {
     for patch in unused {
         put_patch(alloc, out, patch, escaped)?;
@@ -336,10 +332,9 @@ fn put_each_patch(alloc: Global, out: &mut String, unused: &[Dependency], escape
     Ok(())
 }
 
-/// Adds the unused patches, their sources escaped or plain.
-pub fn put_patches(alloc: Global, out: &mut String, patch: &Patch, escaped: bool) -> Put
-    ensures { OnOk result (string_bytes out.new
-        ≡ string_bytes out.old ++ joined (flat_map (patch_lines escaped) patch.now)) }
+// Adds the unused patches, their sources escaped or plain.
+fn put_patches(alloc: Global, out: &mut String, patch: &Patch, escaped: bool) -> Put
+    ensures { AddsLines result out.old out.new (flat_map (patch_lines escaped) patch.now) }
 {
     put_each_patch(alloc, out, patch.unused.as_slice(), escaped)?;
     Ok(())
@@ -368,7 +363,7 @@ fn is_bare_key(key: &str) -> bool
 }
 
 fn put_key(out: &mut String, key: &str) -> Put
-    ensures { OnOk result (string_bytes out.new ≡ string_bytes out.old ++ key_text key.now) }
+    ensures { Adds result out.old out.new (key_text key.now) }
 {
     if is_bare_key(key) {
         out.push_str(key)
@@ -378,7 +373,7 @@ fn put_key(out: &mut String, key: &str) -> Put
 }
 
 fn put_pair(out: &mut String, key: &MetadataKey, value: &MetadataValue) -> Put
-    ensures { OnOk result (string_bytes out.new ≡ string_bytes out.old ++ joined (pair_line (key.now, value.now) ∷ [])) }
+    ensures { AddsLines result out.old out.new (pair_line (key.now, value.now) ∷ []) }
 {
     put_key(out, key.as_str())?;
     out.push_str(" = ")?;
@@ -388,7 +383,7 @@ fn put_pair(out: &mut String, key: &MetadataKey, value: &MetadataValue) -> Put
 
 // The pairs, in the order of the keys.
 fn put_pairs(out: &mut String, metadata: &Metadata) -> Put
-    ensures { OnOk result (string_bytes out.new ≡ string_bytes out.old ++ joined (map pair_line metadata.now.entries)) }
+    ensures { AddsLines result out.old out.new (map pair_line metadata.now.entries) }
 {
     for (key, value) in metadata {
         put_pair(out, key, value)?;
@@ -398,7 +393,7 @@ fn put_pairs(out: &mut String, metadata: &Metadata) -> Put
 
 // The metadata as it is stored.
 fn put_stored(out: &mut String, metadata: &Metadata) -> Put
-    ensures { OnOk result (string_bytes out.new ≡ string_bytes out.old ++ joined (metadata_lines metadata.now.entries)) }
+    ensures { AddsLines result out.old out.new (metadata_lines metadata.now.entries) }
 {
     if metadata.is_empty() {
         return Ok(());
@@ -408,9 +403,10 @@ fn put_stored(out: &mut String, metadata: &Metadata) -> Put
     Ok(())
 }
 
-/// Adds the metadata, in the order of its keys, unless it is empty.
-pub fn put_metadata(out: &mut String, metadata: &Metadata) -> Put
-    ensures { OnOk result (string_bytes out.new ≡ string_bytes out.old ++ joined (metadata_lines (entries (texts_of metadata.now.entries)))) }
+// Adds the metadata, in the order of its keys, unless it is empty.
+fn put_metadata(out: &mut String, metadata: &Metadata) -> Put
+    ensures { AddsLines result out.old out.new
+        (metadata_lines (entries (texts_of metadata.now.entries))) }
 {
     ordered(metadata);
     put_stored(out, metadata)?;
@@ -419,18 +415,84 @@ pub fn put_metadata(out: &mut String, metadata: &Metadata) -> Put
 
 // ---- the whole
 
-/// Adds the comments at the head of the file.
-pub fn put_comments(out: &mut String) -> Put
-    ensures { OnOk result (string_bytes out.new ≡ string_bytes out.old ++ joined comment_lines) }
+impl LockfileRef<'_> {
+    /// The text of the lockfile, in the lockfile's format, as Cargo writes it. The root is left
+    /// out, and so is the replacement of a package with dependencies. The one error is `Memory`.
+    pub fn to_string(&self, alloc: Global) -> Result<String>
+        ensures ok { IfOk result (λ text. string_bytes text ≡ joined (lines_of self.now)) }
+        ensures err { IsOkUnless result Memory }
+    {
+        let mut out = String::new(alloc);
+        self.put(alloc, &mut out)?;
+        Ok(out)
+    }
+
+    // All lines of the lockfile.
+    fn put(&self, alloc: Global, out: &mut String) -> Result<()>
+        ensures ok { AddsLines result out.old out.new (lines_of self.now) }
+        ensures err { IsOkUnless result Memory }
+    {
+        let format = self.version;
+        put_comments(out)?;
+        let number = written_version(format);
+        put_format(alloc, out, &number)?;
+        put_written_packages(alloc, out, format, self.packages)?;
+        put_patches(alloc, out, self.patch, is_escaped_number(&number))?;
+        self.put_metadata(alloc, out)?;
+        Ok(())
+    }
+
+    // The lines of the metadata that are written.
+    fn put_metadata(&self, alloc: Global, out: &mut String) -> Result<()>
+        ensures ok { AddsLines result out.old out.new
+            (metadata_lines
+            (entries (metadata_of self.now.version self.now.metadata self.now.packages))) }
+        ensures err { IsOkUnless result Memory }
+    {
+        let metadata = metadata_of(alloc, self.version, self.metadata, self.packages)?;
+        put_metadata(out, &metadata)?;
+        Ok(())
+    }
+}
+
+impl ValuesRef<'_> {
+    /// The text of the lockfile, as Cargo writes it: its packages, the patches that no package uses
+    /// and its metadata, and its number from the third format on. The sources of patches are escaped
+    /// where the number is 4. The root is not written. The one error is `Memory`.
+    pub fn to_string(&self, alloc: Global) -> Result<String>
+        ensures ok { IfOk result (λ text. string_bytes text ≡ joined (encoded_lines self.now)) }
+        ensures err { IsOkUnless result Memory }
+    {
+        let mut out = String::new(alloc);
+        self.put(alloc, &mut out)?;
+        Ok(out)
+    }
+
+    // All lines of the lockfile.
+    fn put(&self, alloc: Global, out: &mut String) -> Put
+        ensures { AddsLines result out.old out.new (encoded_lines self.now) }
+    {
+        put_comments(out)?;
+        put_format(alloc, out, &self.version)?;
+        put_packages(alloc, out, self.packages)?;
+        put_patches(alloc, out, self.patch, is_escaped_number(&self.version))?;
+        put_metadata(out, self.metadata)?;
+        Ok(())
+    }
+}
+
+// Adds the comments at the head of the file.
+fn put_comments(out: &mut String) -> Put
+    ensures { AddsLines result out.old out.new comment_lines }
 {
     out.push_str(
         "# This file is automatically @generated by Cargo.\n# It is not intended for manual editing.\n",
     )
 }
 
-/// Adds the number of the format, which stands in the file from the third on.
-pub fn put_format(alloc: Global, out: &mut String, version: &Option<i64>) -> Put
-    ensures { OnOk result (string_bytes out.new ≡ string_bytes out.old ++ joined (version_lines version.now)) }
+// Adds the number of the format, which stands in the file from the third on.
+fn put_format(alloc: Global, out: &mut String, version: &Option<i64>) -> Put
+    ensures { AddsLines result out.old out.new (version_lines version.now) }
 {
     match version {
         Some(number) if *number >= 3 => {

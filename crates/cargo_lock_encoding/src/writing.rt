@@ -1,26 +1,48 @@
-//! From packages to their entries.
+//! From a lockfile to the values of its table.
 
 ghost use Rattle.std.specs.Prelude.{◌≡◌, IfOk, IsOkUnless, map, option_map};
 ghost use Rattle.semver.specs.Identifiers.{parts_of};
 ghost use Rattle.cargo_lock_parts.specs.declared.error.Error.TheVariants.{Memory};
 ghost use Rattle.cargo_lock_parts.specs.Checksum.{digest_of};
 ghost use Rattle.cargo_lock_parts.specs.Identity.{identity_of};
-ghost use Rattle.cargo_lock_encoding.specs.Chosen.{chosen_form, in_full, shortened};
-ghost use Rattle.cargo_lock_encoding.specs.Form.{of_one, of_two};
-ghost use Rattle.cargo_lock_encoding.specs.Records.{is_escaped};
-ghost use Rattle.cargo_lock_encoding.specs.Table.{entry_of, root_entry, written_checksum, written_version};
+ghost use Rattle.cargo_lock_references.specs.Chosen.{chosen_form, in_full, shortened};
+ghost use Rattle.cargo_lock_references.specs.Form.{of_one, of_two};
+ghost use Rattle.cargo_lock_references.specs.Records.{is_escaped};
+ghost use Rattle.cargo_lock_encoding.specs.Table.{encoded_of, entry_of, root_entry, written_checksum, written_version};
 
-use crate::borrowed::written_source;
-use crate::index::Indexed;
-use crate::version::ResolveVersion;
-use crate::{EncodableDependencyRef, EncodablePackage, EncodablePackageRef};
+use crate::values::{LockfileRef, Values};
 use cargo_lock_parts::dependency::Dependency;
 use cargo_lock_parts::error::Result;
 use cargo_lock_parts::package::{Checksum, Package};
+use cargo_lock_references::borrowed::{is_escaped, written_source};
+use cargo_lock_references::index::Indexed;
+use cargo_lock_references::version::ResolveVersion;
+use cargo_lock_references::written::metadata_of;
+use cargo_lock_references::{EncodableDependencyRef, EncodablePackage, EncodablePackageRef};
 use std::alloc::{AllocError, Global};
 
-/// The number that is written: from the third format on.
-pub fn written_version(format: ResolveVersion) -> Option<i64>
+impl LockfileRef<'_> {
+    /// The values of the lockfile's table, in the lockfile's format. Its packages' references are
+    /// without the words that the packages make needless, except in V1. The references of the root
+    /// and all replacements are in full. The one error is `Memory`.
+    #[tactic(auto, unfolding(crate::specs::Table::encoded_of))]
+    pub fn to_values(&self, alloc: Global) -> Result<Values>
+        ensures ok { IfOk result (λ e. e ≡ encoded_of self.now) }
+        ensures err { IsOkUnless result Memory }
+    {
+        let format = self.version;
+        Ok(Values {
+            version: written_version(format),
+            packages: all_entries(alloc, format, self.packages)?,
+            root: root_of(alloc, format, self.root)?,
+            metadata: metadata_of(alloc, format, self.metadata, self.packages)?,
+            patch: self.patch.clone()?,
+        })
+    }
+}
+
+// The number that is written: from the third format on.
+pub(crate) fn written_version(format: ResolveVersion) -> Option<i64>
     ensures { result ≡ written_version format }
 {
     match format {
@@ -32,14 +54,15 @@ pub fn written_version(format: ResolveVersion) -> Option<i64>
 
 // ---- packages
 
-/// The packages of a lockfile, as they are written. Their references are without the words that the
-/// packages make needless, except in V1. Replacements are in full. Only want of memory is refused.
-pub fn all_entries(
+// The packages of a lockfile, as they are written. Their references are without the words that the
+// packages make needless, except in V1. Replacements are in full.
+fn all_entries(
     alloc: Global,
     format: ResolveVersion,
     list: &[Package],
 ) -> Result<Vec<EncodablePackage>>
-    ensures ok { IfOk result (λ v. v.items ≡ map (entry_of format (map identity_of list.now)) list.now) }
+    ensures ok { IfOk result
+        (λ v. v.items ≡ map (entry_of format (map identity_of list.now)) list.now) }
     ensures err { IsOkUnless result Memory }
 {
     let packages = Indexed::of(alloc, list)?;
@@ -63,8 +86,8 @@ fn written_copy<'a>(
     entry.to_owned(alloc)
 }
 
-/// A package among those of the lockfile, as it is written, with its parts borrowed.
-pub fn entry_of<'a>(
+// A package among those of the lockfile, as it is written, with its parts borrowed.
+pub(crate) fn entry_of<'a>(
     alloc: Global,
     format: ResolveVersion,
     list: &Indexed<'a, Package>,
@@ -76,15 +99,15 @@ pub fn entry_of<'a>(
     Ok(EncodablePackageRef {
         name: &one.name,
         version: &one.version,
-        source: written_source(format, &one.source),
+        source: written_source(is_escaped(format), &one.source),
         checksum: written_checksum(format, &one.checksum),
         dependencies,
         replace: full_replace(format, &one.replace),
     })
 }
 
-/// The root as it is written: its references are in full. Only want of memory is refused.
-pub fn root_of(
+// The root as it is written: its references are in full.
+fn root_of(
     alloc: Global,
     format: ResolveVersion,
     root: &Option<Package>,
@@ -101,8 +124,8 @@ pub fn root_of(
     }
 }
 
-/// The root as it is written, with its parts borrowed.
-pub fn root_entry(
+// The root as it is written, with its parts borrowed.
+pub(crate) fn root_entry(
     alloc: Global,
     format: ResolveVersion,
     one: &Package,
@@ -113,7 +136,7 @@ pub fn root_entry(
     Ok(EncodablePackageRef {
         name: &one.name,
         version: &one.version,
-        source: written_source(format, &one.source),
+        source: written_source(is_escaped(format), &one.source),
         checksum: one.checksum,
         dependencies,
         replace: full_replace(format, &one.replace),
@@ -122,7 +145,8 @@ pub fn root_entry(
 
 // The checksum that is written with a package. In V1 the metadata has it.
 fn written_checksum(format: ResolveVersion, checksum: &Option<Checksum>) -> Option<Checksum>
-    ensures { option_map digest_of result ≡ written_checksum format (option_map digest_of checksum.now) }
+    ensures { option_map digest_of result
+        ≡ written_checksum format (option_map digest_of checksum.now) }
 {
     match format {
         ResolveVersion::V1 => None,
@@ -132,9 +156,9 @@ fn written_checksum(format: ResolveVersion, checksum: &Option<Checksum>) -> Opti
 
 // ---- references
 
-/// A dependency as it is written among these packages.
-#[tactic(auto, unfolding(crate::specs::Chosen::chosen_form))]
-pub fn chosen_form<'a>(
+// A dependency as it is written among these packages.
+#[tactic(auto, unfolding(cargo_lock_references::specs::Chosen::chosen_form))]
+pub(crate) fn chosen_form<'a>(
     format: ResolveVersion,
     list: &Indexed<'a, Package>,
     dependency: &'a Dependency,
@@ -155,7 +179,8 @@ fn shortest_form<'a>(
     list: &Indexed<'a, Package>,
     dependency: &'a Dependency,
 ) -> EncodableDependencyRef<'a>
-    ensures { result ≡ shortened (map identity_of list.now) (in_full (is_escaped format) dependency.now) }
+    ensures { result
+        ≡ shortened (map identity_of list.now) (in_full (is_escaped format) dependency.now) }
 {
     let name = &dependency.name;
     let version = &dependency.version;
@@ -174,7 +199,8 @@ fn all_chosen<'a>(
     list: &Indexed<'a, Package>,
     dependencies: &'a [Dependency],
 ) -> std::result::Result<Vec<EncodableDependencyRef<'a>>, AllocError>
-    ensures { IfOk result (λ v. v.items ≡ map (chosen_form format (map identity_of list.now)) dependencies.now) }
+    ensures { IfOk result
+        (λ v. v.items ≡ map (chosen_form format (map identity_of list.now)) dependencies.now) }
 {
     let mut forms = Vec::with_capacity(alloc, dependencies.len())?;
     for dependency in dependencies {

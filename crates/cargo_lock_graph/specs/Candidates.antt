@@ -14,26 +14,33 @@ identity_as_key i = record { name = i.name; version = Some i.version; source = i
 -- for the packages below a bound, the last place of those with each identity
 abbrev pub AreLastPlaces : List PackageData → ℕ → BTreeMap PartialIdentity ℕ → Type 0
 AreLastPlaces packages bound places = (i : Identity)
-    → IsLastBelow (HoldsOf (HasIdentity i) packages) bound (get partial_identity_cmp places (identity_as_key i))
+    → IsLastBelow (HoldsOf (HasIdentity i) packages) bound
+    (get partial_identity_cmp places (identity_as_key i))
 
 -- For the packages below a bound, `last` has for each name and version the last place of those with
 -- both, and `earlier` has for each place the last place before it of those with the same ones.
-pub record AreVersions (packages : List PackageData) (bound : ℕ) (last : BTreeMap PartialIdentity ℕ) (earlier : List (Option ℕ)) : Type 0 where
+pub record AreVersions (packages : List PackageData) (bound : ℕ) (last : BTreeMap PartialIdentity ℕ)
+    (earlier : List (Option ℕ)) : Type 0 where
   pub count : length earlier ≡ bound
   pub newest : (i : Identity)
-      → IsLastBelow (HoldsOf (HasNameAndVersion i) packages) bound (get partial_identity_cmp last (name_and_version i.name i.version))
-  pub before : (k : ℕ) (p : PackageData) (place : Option ℕ) → slice_get packages k ≡ Some p → slice_get earlier k ≡ Some place
+      → IsLastBelow (HoldsOf (HasNameAndVersion i) packages) bound
+      (get partial_identity_cmp last (name_and_version i.name i.version))
+  pub before : (k : ℕ) (p : PackageData) (place : Option ℕ) → slice_get packages k ≡ Some p
+      → slice_get earlier k ≡ Some place
       → IsLastBelow (HoldsOf (HasNameAndVersion (identity_of p)) packages) k place
 
 -- the best of the places from a bound on: none of them has a lesser rank, and no later one the same
 abbrev pub BestFrom : List PackageData → Identity → ℕ → Option Best → Type 0
 BestFrom packages d bound None = (k rank : ℕ) → bound ≤ k → ¬ FitsAt packages d k rank
-BestFrom packages d bound (Some best) = (bound ≤ best.place) × FitsAt packages d best.place best.rank
-    × ((k rank : ℕ) → bound ≤ k → FitsAt packages d k rank → (best.rank ≤ rank) × (best.place < k → best.rank < rank))
+BestFrom packages d bound (Some best) = (bound ≤ best.place)
+    × FitsAt packages d best.place best.rank
+    × ((k rank : ℕ) → bound ≤ k → FitsAt packages d k rank → (best.rank ≤ rank)
+    × (best.place < k → best.rank < rank))
 
 -- the better of the best so far and an earlier place
 abbrev pub better_one : Best → ℕ → ℕ → Option Best
-better_one best rank place = cond (nat_lt rank best.rank) (Some record { rank = rank; place = place }) (Some best)
+better_one best rank place = cond (nat_lt rank best.rank)
+    (Some record { rank = rank; place = place }) (Some best)
 
 -- the best so far or the candidate with this rank, if it has one, where that is less
 abbrev pub better : Option Best → Option ℕ → ℕ → Option Best

@@ -7,12 +7,14 @@ use Rattle.cargo_lock_graph.specs.Edges.{Edge, near_end, edges_at, edges_from}
 -- Chains of the edges at each of so many nodes. `newest` has for each node the place of the newest
 -- edge there, and `older` has for each edge the place of the next older edge at the same node. From
 -- either of them on, the chain is the list of the edges there, newest first.
-pub record AreChains (direction : EdgeDirection) (count : ℕ) (edges : List Edge) (newest older : List (Option ℕ)) : Type 0 where
+pub record AreChains (direction : EdgeDirection) (count : ℕ) (edges : List Edge)
+    (newest older : List (Option ℕ)) : Type 0 where
   pub for_nodes : length newest ≡ count
   pub for_edges : length older ≡ length edges
   pub from_newest : (node : ℕ) (place : Option ℕ) → slice_get newest node ≡ Some place
       → edges_from direction edges place ≡ edges_at direction edges node
-  pub from_older : (k : ℕ) (e : Edge) (place : Option ℕ) → slice_get edges k ≡ Some e → slice_get older k ≡ Some place
+  pub from_older : (k : ℕ) (e : Edge) (place : Option ℕ) → slice_get edges k ≡ Some e
+      → slice_get older k ≡ Some place
       → edges_from direction edges place ≡ edges_at direction (take k edges) (near_end direction e)
   -- what is named is there, and what is older comes earlier
   pub within : (node place : ℕ) → slice_get newest node ≡ Some (Some place) → place < length edges

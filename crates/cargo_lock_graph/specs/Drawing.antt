@@ -34,11 +34,14 @@ pub record IsDrawing (far : ℕ → List ℕ) (start : ℕ) (es : List Entry) : 
   -- the first is of the start, at depth 0
   pub first : (later : List Entry) × (es ≡ record { node = start; depth = 0 } ∷ later)
   -- each later depth is at least 1 and at most one more than the depth before
-  pub steps : (front later : List Entry) (a b : Entry) → es ≡ front ++ a ∷ b ∷ later → (0 < b.depth) × (b.depth ≤ suc a.depth)
+  pub steps : (front later : List Entry) (a b : Entry) → es ≡ front ++ a ∷ b ∷ later → (0 < b.depth)
+      × (b.depth ≤ suc a.depth)
   -- where no earlier entry has its node, an entry has a child for each far end, newest first
-  pub expanded : (front later : List Entry) (e : Entry) → es ≡ front ++ e ∷ later → is_among e.node (nodes_of front) ≡ false → children e.depth later ≡ far e.node
+  pub expanded : (front later : List Entry) (e : Entry) → es ≡ front ++ e ∷ later
+      → is_among e.node (nodes_of front) ≡ false → children e.depth later ≡ far e.node
   -- otherwise it has none
-  pub again : (front later : List Entry) (e : Entry) → es ≡ front ++ e ∷ later → is_among e.node (nodes_of front) ≡ true → children e.depth later ≡ []
+  pub again : (front later : List Entry) (e : Entry) → es ≡ front ++ e ∷ later
+      → is_among e.node (nodes_of front) ≡ true → children e.depth later ≡ []
 
 -- the entries are some, one of the node that is the first of it, and the later ones
 pub record IsFirst (n : ℕ) (es front : List Entry) (e : Entry) (later : List Entry) : Type 0 where

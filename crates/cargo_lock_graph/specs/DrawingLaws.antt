@@ -16,58 +16,72 @@ use Rattle.cargo_lock_graph.specs.Labels.{label_at}
 
 -- the drawing in words is the drawing by recursion
 abbrev pub DrawingsAreOneForm : Type 0
-DrawingsAreOneForm = (far : ℕ → List ℕ) (start : ℕ) (es : List Entry) → (IsDrawing far start es ↔ DrawsFrom far start es)
+DrawingsAreOneForm = (far : ℕ → List ℕ) (start : ℕ) (es : List Entry)
+    → (IsDrawing far start es ↔ DrawsFrom far start es)
 
 -- there is a drawing from each node
 abbrev pub DrawingExists : Type 0
-DrawingExists = (far : ℕ → List ℕ) (nodes start : ℕ) → AreBelow far nodes → start < nodes → (es : List Entry) × IsDrawing far start es
+DrawingExists = (far : ℕ → List ℕ) (nodes start : ℕ) → AreBelow far nodes → start < nodes
+    → (es : List Entry) × IsDrawing far start es
 
 -- and no second one
 abbrev pub DrawingIsUnique : Type 0
-DrawingIsUnique = (far : ℕ → List ℕ) (start : ℕ) (es fs : List Entry) → IsDrawing far start es → IsDrawing far start fs → es ≡ fs
+DrawingIsUnique = (far : ℕ → List ℕ) (start : ℕ) (es fs : List Entry) → IsDrawing far start es
+    → IsDrawing far start fs → es ≡ fs
 
 -- From each start there is exactly one drawing of a graph in each direction.
 abbrev pub GraphHasOneDrawing : Type 0
 GraphHasOneDrawing = (d : EdgeDirection) (graph : GraphData) (start : ℕ)
-    → (es : List Entry) × IsDrawing (far_ends d graph.edges) start es × ((fs : List Entry) → IsDrawing (far_ends d graph.edges) start fs → fs ≡ es)
+    → (es : List Entry) × IsDrawing (far_ends d graph.edges) start es
+    × ((fs : List Entry) → IsDrawing (far_ends d graph.edges) start fs → fs ≡ es)
 
 -- There are one plus as many entries as edges that leave a node that occurs.
 abbrev pub EntriesAreCounted : Type 0
-EntriesAreCounted = (d : EdgeDirection) (edges : List Edge) (start : ℕ) (es : List Entry) → IsDrawing (far_ends d edges) start es
+EntriesAreCounted = (d : EdgeDirection) (edges : List Edge) (start : ℕ) (es : List Entry)
+    → IsDrawing (far_ends d edges) start es
     → length es ≡ suc (length (filter (λ e. is_among (near_end d e) (nodes_of es)) edges))
 
 -- a node occurs exactly where it is reachable
 abbrev pub OccursWhereReachable : Type 0
-OccursWhereReachable = (far : ℕ → List ℕ) (start n : ℕ) (es : List Entry) → IsDrawing far start es → (Occurs n es ↔ IsReachable far start n)
+OccursWhereReachable = (far : ℕ → List ℕ) (start n : ℕ) (es : List Entry) → IsDrawing far start es
+    → (Occurs n es ↔ IsReachable far start n)
 
 -- a reachable node has a first entry, whose children are the far ends of its edges
 abbrev pub ReachableIsExpanded : Type 0
-ReachableIsExpanded = (far : ℕ → List ℕ) (start n : ℕ) (es : List Entry) → IsDrawing far start es → IsReachable far start n
-    → (front : List Entry) × (e : Entry) × (later : List Entry) × IsFirst n es front e later × (children e.depth later ≡ far n)
+ReachableIsExpanded = (far : ℕ → List ℕ) (start n : ℕ) (es : List Entry) → IsDrawing far start es
+    → IsReachable far start n
+    → (front : List Entry) × (e : Entry) × (later : List Entry) × IsFirst n es front e later
+    × (children e.depth later ≡ far n)
 
 -- a node has at most one first entry
 abbrev pub FirstIsUnique : Type 0
-FirstIsUnique = (n : ℕ) (es f g : List Entry) (a b : Entry) (k l : List Entry) → IsFirst n es f a k → IsFirst n es g b l → f ≡ g
+FirstIsUnique = (n : ℕ) (es f g : List Entry) (a b : Entry) (k l : List Entry) → IsFirst n es f a k
+    → IsFirst n es g b l → f ≡ g
 
 -- the edges of reachable nodes and the entries after the first match one to one
 abbrev pub EdgesMatch : Type 0
-EdgesMatch = (far : ℕ → List ℕ) (start : ℕ) (es : List Entry) → IsDrawing far start es → EdgesMatchEntries far start es
+EdgesMatch = (far : ℕ → List ℕ) (start : ℕ) (es : List Entry) → IsDrawing far start es
+    → EdgesMatchEntries far start es
 
 -- the text as it is defined is the text that looks at later entries
 abbrev pub TextByLater : Type 0
-TextByLater = (far : ℕ → List ℕ) (start : ℕ) (es : List Entry) (s : SymbolTexts) (label : ℕ → List ℕ) → IsDrawing far start es → drawn s label es ≡ drawn_by_later s label es
+TextByLater = (far : ℕ → List ℕ) (start : ℕ) (es : List Entry) (s : SymbolTexts)
+    (label : ℕ → List ℕ) → IsDrawing far start es → drawn s label es ≡ drawn_by_later s label es
 
 -- Where no label holds a newline, the text is one line an entry: the first is the first entry's
 -- label, and each later one tells its entry's depth and label.
 abbrev pub TextTellsDrawing : Type 0
-TextTellsDrawing = (far : ℕ → List ℕ) (start : ℕ) (label : ℕ → List ℕ) (es : List Entry) → IsDrawing far start es → AreLines label es
+TextTellsDrawing = (far : ℕ → List ℕ) (start : ℕ) (label : ℕ → List ℕ) (es : List Entry)
+    → IsDrawing far start es → AreLines label es
     → TellAll label es (cut [] (drawn standard_symbols label es))
 
 -- Where no label holds a newline and different nodes have different labels, drawings with one text
 -- are one.
 abbrev pub TextIsOfOneDrawing : Type 0
-TextIsOfOneDrawing = (far gar : ℕ → List ℕ) (start other : ℕ) (label : ℕ → List ℕ) (es fs : List Entry)
-    → IsDrawing far start es → IsDrawing gar other fs → AreLines label es → AreLines label fs → AreApart label es fs
+TextIsOfOneDrawing = (far gar : ℕ → List ℕ) (start other : ℕ) (label : ℕ → List ℕ)
+    (es fs : List Entry)
+    → IsDrawing far start es → IsDrawing gar other fs → AreLines label es → AreLines label fs
+    → AreApart label es fs
     → drawn standard_symbols label es ≡ drawn standard_symbols label fs → es ≡ fs
 
 -- The text is its lines, each ended by a newline, and nothing stands after the last.

@@ -14,7 +14,8 @@ unmarked [] = 0
 unmarked (b ∷ bs) = cond b 0 1 + unmarked bs
 
 -- draws what is to come up to a node without a mark, and goes on from there
-abbrev pub draw_seen : (ℕ → List ℕ) → (List Bool → List Entry → List Entry) → List Bool → List Entry → List Entry
+abbrev pub draw_seen : (ℕ → List ℕ) → (List Bool → List Entry → List Entry) → List Bool → List Entry
+    → List Entry
 draw_seen far on marks [] = []
 draw_seen far on marks (e ∷ p) =
     e ∷ cond (get_or marks e.node true) (draw_seen far on marks p)
@@ -31,7 +32,8 @@ rest_of far marks p = draw far (unmarked marks) marks p
 
 -- the drawing from a start
 abbrev pub drawing : (ℕ → List ℕ) → ℕ → ℕ → List Entry
-drawing far nodes start = rest_of far (replicate nodes false) (record { node = start; depth = 0 } ∷ [])
+drawing far nodes start = rest_of far (replicate nodes false)
+    (record { node = start; depth = 0 } ∷ [])
 
 -- among so many nodes, those with a mark are these
 abbrev pub AreMarked : List Bool → List ℕ → Type 0

@@ -10,7 +10,8 @@ abbrev pub child_places : ℕ → ℕ → List Entry → List ℕ
 child_places depth at [] = []
 child_places depth at (e ∷ later) =
     cond (leb e.depth depth) []
-    (cond (eqb e.depth (suc depth)) (at ∷ child_places depth (suc at) later) (child_places depth (suc at) later))
+    (cond (eqb e.depth (suc depth)) (at ∷ child_places depth (suc at) later)
+    (child_places depth (suc at) later))
 
 -- the places of the children of each of the entries, where the first of them stands at this place
 abbrev pub all_places : ℕ → List Entry → List ℕ
@@ -49,9 +50,11 @@ pub record IsChildPlace (es : List Entry) (n k j : ℕ) : Type 0 where
 pub record EdgesMatchEntries (far : ℕ → List ℕ) (start : ℕ) (es : List Entry) : Type 0 where
   -- the edge at a place goes to the child at that place, which is an entry of its far end
   pub child : (n k : ℕ) → IsReachable far start n → k < length (far n)
-      → (j : ℕ) × IsChildPlace es n k j × (0 < j) × (j < length es) × ((get_or es j no_entry).node ≡ get_or (far n) k 0)
+      → (j : ℕ) × IsChildPlace es n k j × (0 < j) × (j < length es)
+      × ((get_or es j no_entry).node ≡ get_or (far n) k 0)
   -- each entry after the first is such a child
-  pub edge : (j : ℕ) → 0 < j → j < length es → (n : ℕ) × (k : ℕ) × IsReachable far start n × (k < length (far n)) × IsChildPlace es n k j
+  pub edge : (j : ℕ) → 0 < j → j < length es → (n : ℕ) × (k : ℕ) × IsReachable far start n
+      × (k < length (far n)) × IsChildPlace es n k j
   -- and no entry is the child of two edges, no edge has two children
   pub one_edge : (m n k l j : ℕ) → IsChildPlace es m k j → IsChildPlace es n l j → (m ≡ n) × (k ≡ l)
   pub one_child : (n k i j : ℕ) → IsChildPlace es n k i → IsChildPlace es n k j → i ≡ j

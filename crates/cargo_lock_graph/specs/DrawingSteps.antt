@@ -17,7 +17,8 @@ expected far earlier node = cond (is_among node earlier) [] (far node)
 abbrev pub HaveChildren : (ℕ → List ℕ) → List ℕ → List Entry → Type 0
 HaveChildren far earlier [] = Unit {0}
 HaveChildren far earlier (e ∷ later) =
-    (children e.depth later ≡ expected far earlier e.node) × HaveChildren far (e.node ∷ earlier) later
+    (children e.depth later ≡ expected far earlier e.node)
+    × HaveChildren far (e.node ∷ earlier) later
 
 -- the entries are the drawing from a start
 abbrev pub DrawsFrom : (ℕ → List ℕ) → ℕ → List Entry → Type 0

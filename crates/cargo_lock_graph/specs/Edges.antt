@@ -45,7 +45,8 @@ far_ends direction edges node = map (far_end direction) (edges_at direction edge
 
 -- those of some nodes at which no edge starts
 abbrev pub externals_among : EdgeDirection → List Edge → List ℕ → List ℕ
-externals_among direction edges nodes = filter (λ node. not (list_any (is_at direction node) edges)) nodes
+externals_among direction edges nodes = filter
+    (λ node. not (list_any (is_at direction node) edges)) nodes
 
 -- the nodes from this one on at which no edge starts, in ascending order
 abbrev pub externals_from : EdgeDirection → GraphData → ℕ → List ℕ
@@ -66,7 +67,8 @@ edge_and_older direction older (Some e) = e ∷ edges_at direction older (near_e
 -- the edge at a place, and the older ones that start where it starts, newest first
 abbrev pub edges_from : EdgeDirection → List Edge → Option ℕ → List Edge
 edges_from direction edges None = []
-edges_from direction edges (Some place) = edge_and_older direction (take place edges) (slice_get edges place)
+edges_from direction edges (Some place) = edge_and_older direction (take place edges)
+    (slice_get edges place)
 
 -- the nodes to which they lead
 abbrev pub far_ends_from : EdgeDirection → List Edge → Option ℕ → List ℕ

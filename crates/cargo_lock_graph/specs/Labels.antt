@@ -15,7 +15,8 @@ exact_text None None = codes "inexact"
 -- the name, a space and the version, and where it is exact a space and what tells the package
 abbrev pub label_of : Bool → PackageData → List ℕ
 label_of exact p =
-    (p.name ++ (codes " " ++ parts_text p.version)) ++ cond exact (codes " " ++ exact_text p.checksum p.source) []
+    (p.name ++ (codes " " ++ parts_text p.version))
+    ++ cond exact (codes " " ++ exact_text p.checksum p.source) []
 
 -- the label of a node
 abbrev pub label_at : Bool → List PackageData → ℕ → List ℕ

@@ -33,8 +33,12 @@ as_label (Some rest) = Some (1, rest)
 abbrev pub read_levels : ℕ → List ℕ → Option (ℕ × List ℕ)
 read_levels zero line = None
 read_levels (suc fuel) line =
-    or_else (as_label (or_else (strip (branch_text standard_symbols true) line) (strip (branch_text standard_symbols false) line)))
-    (then_read (read_levels fuel) (or_else (strip (level_text standard_symbols true) line) (strip (level_text standard_symbols false) line)))
+    or_else (as_label
+    (or_else (strip (branch_text standard_symbols true) line)
+    (strip (branch_text standard_symbols false) line)))
+    (then_read (read_levels fuel)
+    (or_else (strip (level_text standard_symbols true) line)
+    (strip (level_text standard_symbols false) line)))
 
 -- the depth and the label of a line
 unfoldable pub read_line : List ℕ → Option (ℕ × List ℕ)

@@ -7,8 +7,10 @@ use Rattle.cargo_lock_parts.specs.declared.error.Error.TheVariants.{Io, Parse, V
 
 -- What putting bytes leaves: at Ok(n) the first n of them are taken, one at least, and no fault is
 -- added. Otherwise nothing is taken and one fault is added.
-abbrev pub IsPut : {E : Type 0} → Option (List ℕ) → Option (List ℕ) → ℕ → ℕ → List ℕ → Result ℕ E → Type 0
-IsPut old new before after bytes (Ok n) = (0 < n) × (n ≤ length bytes) × Appends old new (take n bytes) × (after ≡ before)
+abbrev pub IsPut : {E : Type 0} → Option (List ℕ) → Option (List ℕ) → ℕ → ℕ → List ℕ → Result ℕ E
+    → Type 0
+IsPut old new before after bytes (Ok n) = (0 < n) × (n ≤ length bytes)
+    × Appends old new (take n bytes) × (after ≡ before)
 IsPut old new before after bytes (Err e) = Keeps old new × (after ≡ before + 1)
 
 -- the bytes that a sink took, where they are known, and how often it failed
@@ -32,13 +34,15 @@ HasFault old new = (new.failures ≡ old.failures + 1) × (new.borrow ≡ old.bo
 
 -- what putting bytes leaves, as `IsPut` has it
 abbrev pub IsTaken : {E : Type 0} → Taken → Taken → List ℕ → Result ℕ E → Type 0
-IsTaken old new bytes (Ok n) = (0 < n) × (n ≤ length bytes) × Appends old.bytes new.bytes (take n bytes) × IsSound old new
+IsTaken old new bytes (Ok n) = (0 < n) × (n ≤ length bytes)
+    × Appends old.bytes new.bytes (take n bytes) × IsSound old new
 IsTaken old new bytes (Err e) = Keeps old.bytes new.bytes × HasFault old new
 
 -- a beginning of a text was taken, and one fault was added
 abbrev pub HasFailed : Taken → Taken → List ℕ → Type 0
 HasFailed old new text =
-    ((front rest : List ℕ) × (text ≡ front ++ rest) × Appends old.bytes new.bytes front) × HasFault old new
+    ((front rest : List ℕ) × (text ≡ front ++ rest) × Appends old.bytes new.bytes front)
+    × HasFault old new
 
 -- at Ok all of a text was taken and no fault was added, otherwise a beginning and one fault
 abbrev pub IsWritten : {T E : Type 0} → Taken → Taken → List ℕ → Result T E → Type 0
@@ -57,7 +61,8 @@ IsRendered old new text (Err (Version fault)) = ⊥
 IsRendered old new text (Err (Resolution said)) = ⊥
 
 -- The same of a sink, by the bytes that it took and its count of faults.
-abbrev pub IsRenderedInto : {T : Type 0} → Option (List ℕ) → Option (List ℕ) → ℕ → ℕ → List ℕ → Result T Error → Type 0
+abbrev pub IsRenderedInto : {T : Type 0} → Option (List ℕ) → Option (List ℕ) → ℕ → ℕ → List ℕ
+    → Result T Error → Type 0
 IsRenderedInto old new before after text (Ok _) = Appends old new text × (after ≡ before)
 IsRenderedInto old new before after text (Err (Io kind)) =
     ((front rest : List ℕ) × (text ≡ front ++ rest) × Appends old new front) × (after ≡ before + 1)
@@ -67,9 +72,11 @@ IsRenderedInto old new before after text (Err (Version fault)) = ⊥
 IsRenderedInto old new before after text (Err (Resolution said)) = ⊥
 
 -- The same of a writer, which has no count of faults.
-abbrev pub IsRenderedTo : {T : Type 0} → Option (List ℕ) → Option (List ℕ) → List ℕ → Result T Error → Type 0
+abbrev pub IsRenderedTo : {T : Type 0} → Option (List ℕ) → Option (List ℕ) → List ℕ → Result T Error
+    → Type 0
 IsRenderedTo old new text (Ok _) = Appends old new text
-IsRenderedTo old new text (Err (Io kind)) = (front rest : List ℕ) × (text ≡ front ++ rest) × Appends old new front
+IsRenderedTo old new text (Err (Io kind)) = (front rest : List ℕ) × (text ≡ front ++ rest)
+    × Appends old new front
 IsRenderedTo old new text (Err Memory) = Keeps old new
 IsRenderedTo old new text (Err (Parse said)) = ⊥
 IsRenderedTo old new text (Err (Version fault)) = ⊥

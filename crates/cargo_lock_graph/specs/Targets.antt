@@ -21,7 +21,8 @@ HoldsOf P packages place = (p : PackageData) × (slice_get packages place ≡ So
 -- the last of the places below a bound at which P holds, or none where it holds at none of them
 abbrev pub IsLastBelow : (ℕ → Type 0) → ℕ → Option ℕ → Type 0
 IsLastBelow P bound None = (k : ℕ) → k < bound → ¬ P k
-IsLastBelow P bound (Some place) = (place < bound) × P place × ((k : ℕ) → place < k → k < bound → ¬ P k)
+IsLastBelow P bound (Some place) = (place < bound) × P place
+    × ((k : ℕ) → place < k → k < bound → ¬ P k)
 
 -- the package has the identity
 abbrev pub HasIdentity : Identity → PackageData → Type 0
@@ -98,7 +99,8 @@ abbrev pub HasTarget : List PackageData → Link → Type 0
 HasTarget packages link = (place : ℕ) × IsTarget packages link.dependency place
 
 -- the dependency is the first of these that no package fits
-pub record IsFirstLost (packages : List PackageData) (among : List Link) (d : Identity) : Type 0 where
+pub record IsFirstLost (packages : List PackageData) (among : List Link)
+    (d : Identity) : Type 0 where
   pub front : List Link
   pub from : PackageData
   pub rest : List Link
@@ -123,14 +125,16 @@ abbrev pub IsUnresolved : List PackageData → List Link → Error → Type 0
 IsUnresolved packages among (Io kind) = ⊥
 IsUnresolved packages among (Parse said) = ⊥
 IsUnresolved packages among (Version fault) = ⊥
-IsUnresolved packages among (Resolution said) = (d : Identity) × IsFirstLost packages among d × (string_bytes said ≡ lost_text d)
+IsUnresolved packages among (Resolution said) = (d : Identity) × IsFirstLost packages among d
+    × (string_bytes said ≡ lost_text d)
 IsUnresolved packages among Memory = Unit {0}
 
 -- ---- the laws of edges
 
 -- packages have one list of edges
 abbrev pub EdgesAreOne : Type 0
-EdgesAreOne = (packages : List PackageData) (a b : List Edge) → AreEdgesOf packages a → AreEdgesOf packages b → a ≡ b
+EdgesAreOne = (packages : List PackageData) (a b : List Edge) → AreEdgesOf packages a
+    → AreEdgesOf packages b → a ≡ b
 
 -- packages have none where some dependency has no package
 abbrev pub LostHaveNoEdges : Type 0

@@ -16,7 +16,8 @@ waiting direction edges depth (f ∷ fs) =
 
 -- what is still to be drawn, where these nodes have marks
 unfoldable pub coming : EdgeDirection → List Edge → List Bool → List (Option ℕ) → List Entry
-coming direction edges marks frames = rest_of (far_ends direction edges) marks (waiting direction edges 0 frames)
+coming direction edges marks frames = rest_of (far_ends direction edges) marks
+    (waiting direction edges 0 frames)
 
 -- what a walk has still to draw
 abbrev pub to_come : GraphData → Walk → List Entry
@@ -24,7 +25,8 @@ to_come graph walk = coming walk.direction graph.edges walk.visited.items walk.s
 
 -- Marks of so many nodes, frames that name edges, and room for a frame of each node that has no
 -- mark. There were never more frames than `most`.
-pub record IsHeld (nodes edges : ℕ) (marks : List Bool) (frames : List (Option ℕ)) (capacity most : ℕ) : Type 0 where
+pub record IsHeld (nodes edges : ℕ) (marks : List Bool) (frames : List (Option ℕ))
+    (capacity most : ℕ) : Type 0 where
   pub long : length marks ≡ nodes
   pub known : All (λ f. IfSome f (λ edge. edge < edges)) frames
   pub room : length frames + unmarked marks ≤ nodes
@@ -35,10 +37,12 @@ pub record IsHeld (nodes edges : ℕ) (marks : List Bool) (frames : List (Option
 -- the walk goes over this graph
 abbrev pub IsOn : GraphData → Walk → Type 0
 IsOn graph walk =
-    IsHeld (length graph.packages) (length graph.edges) walk.visited.items walk.stack.items (vec_capacity walk.stack) walk.most
+    IsHeld (length graph.packages) (length graph.edges) walk.visited.items walk.stack.items
+    (vec_capacity walk.stack) walk.most
 
 -- The walk drew an entry: its node has a mark, and `most` counts the levels that the entry opens.
 -- This is said of the nodes that had a mark before.
 abbrev pub HasDrawn : Walk → Walk → Entry → Type 0
 HasDrawn old new e = (earlier : List ℕ) → AreMarked old.visited.items earlier
-    → AreMarked new.visited.items (e.node ∷ earlier) × (new.most ≡ max old.most (levels_with earlier e))
+    → AreMarked new.visited.items (e.node ∷ earlier)
+    × (new.most ≡ max old.most (levels_with earlier e))

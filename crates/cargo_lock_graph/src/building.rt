@@ -19,7 +19,8 @@ use std::collections::BTreeMap;
 
 // The nodes of these packages by their identities. Of packages with one identity it is the last.
 fn nodes_of(alloc: Global, packages: &Vec<Package>) -> Result<Nodes>
-    ensures ok { IfOk result (λ nodes. (i : Identity) → IsLastWith packages.now.items i (get identity_cmp nodes i)) }
+    ensures ok { IfOk result
+        (λ nodes. (i : Identity) → IsLastWith packages.now.items i (get identity_cmp nodes i)) }
     ensures err { IsOkUnless result Memory }
 {
     let mut nodes = BTreeMap::new(alloc);
@@ -32,7 +33,8 @@ fn nodes_of(alloc: Global, packages: &Vec<Package>) -> Result<Nodes>
 // Sets the node at the identity of a package.
 fn put_node(nodes: &mut Nodes, one: &Package, node: NodeIndex) -> Result<()>
     ensures ok { OnOk result ((q : Identity) → get identity_cmp nodes.new q
-        ≡ cond (is_at (identity_cmp (identity_of one.now)) q) (Some node) (get identity_cmp nodes.old q)) }
+        ≡ cond (is_at (identity_cmp (identity_of one.now)) q) (Some node)
+        (get identity_cmp nodes.old q)) }
     ensures err { IsOkUnless result Memory }
 {
     let identity = Dependency::of(one)?;
@@ -49,7 +51,8 @@ fn put_node(nodes: &mut Nodes, one: &Package, node: NodeIndex) -> Result<()>
 pub fn graph_of(alloc: Global, packages: &Vec<Package>) -> Result<(Graph, Nodes)>
     ensures packages { IfOk result (λ made. made.0.packages ≡ packages.now.items) }
     ensures edges { IfOk result (λ made. AreEdgesOf packages.now.items made.0.edges) }
-    ensures nodes { IfOk result (λ made. (i : Identity) → IsLastWith packages.now.items i (get identity_cmp made.1 i)) }
+    ensures nodes { IfOk result
+        (λ made. (i : Identity) → IsLastWith packages.now.items i (get identity_cmp made.1 i)) }
     ensures err { IfErr result (λ e. IsUnresolved packages.now.items (links packages.now.items) e) }
 {
     let nodes = nodes_of(alloc, packages)?;
@@ -93,7 +96,8 @@ fn put_edges<'a>(
 ) -> Result<()>
     requires { IsLastWith candidates.now (identity_of one.now) (Some source) }
     ensures { MatchResult result
-        (λ _. (added : List Edge) × (edges.new.items ≡ edges.old.items ++ added) × AllZip (IsEdgeOf candidates.now) (links_of one.now) added)
+        (λ _. (added : List Edge) × (edges.new.items ≡ edges.old.items ++ added)
+        × AllZip (IsEdgeOf candidates.now) (links_of one.now) added)
         (λ e. IsUnresolved candidates.now (links_of one.now) e) }
 {
     for dependency in &one.dependencies {
@@ -111,7 +115,8 @@ fn edge_of<'a>(
     dependency: &'a Dependency,
 ) -> Result<StoredEdge>
     ensures { MatchResult result
-        (λ e. (e.from ≡ source) × IsTarget candidates.now dependency.now e.to × (e.dependency ≡ dependency.now))
+        (λ e. (e.from ≡ source) × IsTarget candidates.now dependency.now e.to
+        × (e.dependency ≡ dependency.now))
         (λ e. IsLostFault candidates.now dependency.now e) }
 {
     let target = target_of(alloc, candidates, dependency)?;

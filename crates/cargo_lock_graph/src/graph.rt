@@ -137,14 +137,17 @@ impl Model for Graph {
     ghost view = { λ g. record { packages = g.packages.items; edges = g.edges.items } };
 
     ghost invariant = { λ g. AreBetween (length g.packages.items) g.edges.items
-        × AreChains Outgoing (length g.packages.items) g.edges.items g.leaving.newest.items g.leaving.older.items
-        × AreChains Incoming (length g.packages.items) g.edges.items g.entering.newest.items g.entering.older.items };
+        × AreChains Outgoing
+        (length g.packages.items) g.edges.items g.leaving.newest.items g.leaving.older.items
+        × AreChains Incoming
+        (length g.packages.items) g.edges.items g.entering.newest.items g.entering.older.items };
 }
 
 impl Clone for Chains {
     ghost use Rattle.std.specs.Prelude.{◌≡◌};
 
-    ghost is_clone = { λ one copy. (copy.newest.items ≡ one.newest.items) × (copy.older.items ≡ one.older.items) };
+    ghost is_clone = { λ one copy. (copy.newest.items ≡ one.newest.items)
+        × (copy.older.items ≡ one.older.items) };
 
     fn clone(&self) -> Result<Chains, AllocError> {
         Ok(Chains {
@@ -206,7 +209,8 @@ impl Graph {
         edges: Vec<StoredEdge>,
     ) -> Result<Graph, AllocError>
         requires { AreBetween (length packages.items) edges.items }
-        ensures { IfOk result (λ graph. graph ≡ record { packages = packages.items; edges = edges.items }) }
+        ensures { IfOk result
+            (λ graph. graph ≡ record { packages = packages.items; edges = edges.items }) }
     {
         let leaving = Chains::of(alloc, packages.len(), &edges, EdgeDirection::Outgoing)?;
         let entering = Chains::of(alloc, packages.len(), &edges, EdgeDirection::Incoming)?;
@@ -286,7 +290,8 @@ impl Graph {
     // The place of the newest edge at a node. There is none where no edge is at the node, and none
     // at a number that is no node.
     pub(crate) fn newest(&self, node: NodeIndex, direction: EdgeDirection) -> Option<usize>
-        ensures edges { edges_from direction self.now.edges result ≡ edges_at direction self.now.edges node }
+        ensures edges { edges_from direction self.now.edges result
+            ≡ edges_at direction self.now.edges node }
         ensures within { IfSome result (λ place. place < length self.now.edges) }
     {
         match direction {
@@ -299,7 +304,8 @@ impl Graph {
     fn first_external(&self, direction: EdgeDirection, from: usize) -> Option<usize>
         ensures external { MatchOption result
             (externals_from direction self.now from ≡ [])
-            (λ node. externals_from direction self.now from ≡ node ∷ externals_from direction self.now (node + 1)) }
+            (λ node. externals_from direction self.now from ≡ node
+            ∷ externals_from direction self.now (node + 1)) }
         ensures fits { IfSome result (λ node. node + 1 < 2 ^ 64) }
     {
         for node in from..self.node_count() {
@@ -314,7 +320,8 @@ impl Graph {
     pub(crate) fn older(&self, edge: usize, direction: EdgeDirection) -> Option<usize>
         requires { edge < length self.now.edges }
         ensures edges { IfSome (slice_get self.now.edges edge) (λ e.
-            edges_from direction self.now.edges (Some edge) ≡ e ∷ edges_from direction self.now.edges result) }
+            edges_from direction self.now.edges (Some edge) ≡ e
+            ∷ edges_from direction self.now.edges result) }
         ensures earlier { IfSome result (λ place. place < edge) }
     {
         match direction {

@@ -13,7 +13,7 @@ IsParse (Version fault) text = ⊥
 IsParse (Resolution said) text = ⊥
 IsParse Memory text = ⊥
 
--- the fault is `Parse` or want of memory
+-- the fault is `Parse` or running out of memory
 abbrev pub IsParseOrMemory : Error → Type 0
 IsParseOrMemory (Io kind) = ⊥
 IsParseOrMemory (Parse said) = Unit {0}
@@ -21,7 +21,7 @@ IsParseOrMemory (Version fault) = ⊥
 IsParseOrMemory (Resolution said) = ⊥
 IsParseOrMemory Memory = Unit {0}
 
--- the fault of `semver` as a fault of this crate: its want of memory is want of memory
+-- the fault of `semver` as a fault of this crate: out of memory stays out of memory
 abbrev pub IsFromVersion : VersionError → Error → Type 0
 IsFromVersion fault e =
     ((fault ≡ memory_error) × (e ≡ Memory)) ⊎ (¬ (fault ≡ memory_error) × (e ≡ Version fault))
@@ -30,16 +30,16 @@ IsFromVersion fault e =
 abbrev pub RefusesWith : {T : Type 0} → Result T Error → List ℕ → Type 0
 RefusesWith result text = IfErr result (λ e. (e ≡ Memory) ⊎ IsParse e text)
 
--- The crate `url` reads no URL that comes to 4 GB, and promises no length below which it does not
+-- The crate `url` reads no URL of 4 GB or more, and promises no length below which it does not
 -- say so. That refusal has this one text.
 abbrev pub too_long : List ℕ
 too_long = codes "invalid url: more than 4 GB"
 
--- the text is shorter than 2^24 bytes: no URL in it comes to 4 GB, so it is never refused so
+-- the text is shorter than 2^24 bytes: no URL in it has 4 GB, so it is never refused so
 abbrev pub IsShort : List ℕ → Type 0
 IsShort text = length text < 16777216
 
--- the fault is that of a URL that came to 4 GB
+-- the fault is that of a URL of 4 GB or more
 abbrev pub IsTooLong : Error → Type 0
 IsTooLong e = IsParse e too_long
 
@@ -59,7 +59,7 @@ abbrev pub Reads : {X Y : Type 0} → (X → Y) → Result X Error → Option Y 
 Reads view (Ok x) meaning = meaning ≡ Some (view x)
 Reads view (Err e) meaning = Refuses e (meaning ≡ None)
 
--- A refusal of a reader of URLs, one of which may also have come to 4 GB.
+-- A refusal of a reader of URLs, one of which may also have 4 GB or more.
 abbrev pub RefusesUrls : Error → Type 0 → Type 0
 RefusesUrls (Io kind) P = ⊥
 RefusesUrls (Parse said) P = P ⊎ (string_bytes said ≡ too_long)
@@ -67,7 +67,7 @@ RefusesUrls (Version fault) P = ⊥
 RefusesUrls (Resolution said) P = ⊥
 RefusesUrls Memory P = Unit {0}
 
--- `Ok` with the meaning alone, and `Parse` only where there is none or a URL came to 4 GB
+-- `Ok` with the meaning alone, and `Parse` only where there is none or a URL has 4 GB or more
 abbrev pub ReadsUrls : {X Y : Type 0} → (X → Y) → Result X Error → Option Y → Type 0
 ReadsUrls view (Ok x) meaning = meaning ≡ Some (view x)
 ReadsUrls view (Err e) meaning = RefusesUrls e (meaning ≡ None)

@@ -16,7 +16,8 @@ use Rattle.cargo_lock_parts.specs.Identity.{Identity, PackageData, identity_of}
 -- versions compare as `semver` orders them, build metadata last
 abbrev pub version_cmp : Parts → Parts → Ordering
 version_cmp =
-    then_cmp (on (λ v. v.0) nat_cmp) (then_cmp (on (λ v. v.1) nat_cmp) (then_cmp (on (λ v. v.2) nat_cmp)
+    then_cmp (on (λ v. v.0) nat_cmp)
+    (then_cmp (on (λ v. v.1) nat_cmp) (then_cmp (on (λ v. v.2) nat_cmp)
     (then_cmp (on (λ v. v.3) pre_cmp) (on (λ v. v.4) build_cmp))))
 
 -- identities compare by name, version and source; an absent source stands before a present one

@@ -83,16 +83,21 @@ partial_key-anti j k e =
     let source = option_cmp-anti key_cmp-anti j.source k.source (tied-second _ _ e) in
     λ i. record { name = name i; version = version i; source = source i }
 
-partial_identity_cmp-key : (a b : PartialIdentity) → partial_identity_cmp a b ≡ partial_key_cmp (partial_key a) (partial_key b)
+partial_identity_cmp-key : (a b : PartialIdentity) → partial_identity_cmp a b
+    ≡ partial_key_cmp (partial_key a) (partial_key b)
 unfolding partial_key_cmp
 partial_identity_cmp-key a b =
-    ap (ordering_then (ordering_then (text_cmp a.name b.name) (option_cmp version_cmp a.version b.version)))
+    ap (ordering_then
+    (ordering_then (text_cmp a.name b.name) (option_cmp version_cmp a.version b.version)))
     (option_cmp-by key_of source_cmp key_cmp (λ x y. refl) a.source b.source)
 
 -- two are the same exactly where their keys are
-pub is_same_partial_identity-Decides : (a b : PartialIdentity) → Decides (is_same_partial_identity a b) (partial_key a ≡ partial_key b)
+pub is_same_partial_identity-Decides : (a b : PartialIdentity)
+    → Decides (is_same_partial_identity a b) (partial_key a ≡ partial_key b)
 is_same_partial_identity-Decides a b = (
-  λ h. partial_key-anti _ _ (sym (partial_identity_cmp-key a b) ∙ (Equal-is (partial_identity_cmp a b)).0 h),
+  λ h. partial_key-anti _ _
+      (sym (partial_identity_cmp-key a b) ∙ (Equal-is (partial_identity_cmp a b)).0 h),
   λ e. ap is_eq (partial_identity_cmp-key a b
-      ∙ subst (λ k. partial_key_cmp (partial_key a) k ≡ Equal) e (tied_itself partial_key-total (partial_key a))),
+      ∙ subst (λ k. partial_key_cmp (partial_key a) k ≡ Equal) e
+      (tied_itself partial_key-total (partial_key a))),
 )

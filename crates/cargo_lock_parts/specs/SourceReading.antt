@@ -79,5 +79,6 @@ source_by_word (Some protocol) url = option_map (source_by protocol) url
 unfoldable pub source_of : List ℕ → Option Source
 source_of text =
     if list_any (λ b. b == 43) text
-    then source_by_word (protocol_of (before_first (λ b. b == 43) text)) (url_of (after_first (λ b. b == 43) text))
+    then source_by_word (protocol_of (before_first (λ b. b == 43) text))
+    (url_of (after_first (λ b. b == 43) text))
     else None

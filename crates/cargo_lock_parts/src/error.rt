@@ -82,17 +82,17 @@ impl<T: Drop> From<AllocFailed<T>> for Error {
     }
 }
 
-// The words of the refusal of a URL that comes to 4 GB.
+// The words of the refusal of a URL of 4 GB or more.
 pub(crate) const TOO_LONG: &str = "invalid url: more than 4 GB";
 
-/// A text of fewer bytes has no URL that comes to 4 GB.
+/// A text of fewer bytes has no URL of 4 GB or more.
 pub const SHORT_LENGTH: usize = 16777216;
 
 impl Error {
     ghost use Rattle.std.specs.Prelude.{◌↔◌, IsTrue};
     ghost use Rattle.cargo_lock_parts.specs.Error.{IsParseOrMemory, IsTooLong};
 
-    /// Whether the fault is that of a URL that came to 4 GB, which is refused though it may be one.
+    /// Whether the fault is that of a URL of 4 GB or more, which is refused though it may be one.
     /// No text of fewer than 2^24 bytes is refused so.
     pub fn is_too_long(&self) -> bool
         ensures { IsTrue result ↔ IsTooLong self.now }

@@ -161,7 +161,8 @@ impl Ord for Package {
 
 // An absent checksum stands before a present one.
 fn cmp_checksums(a: &Option<Checksum>, b: &Option<Checksum>) -> Ordering
-    ensures { result ≡ option_cmp text_cmp (option_map digest_of a.now) (option_map digest_of b.now) }
+    ensures { result
+        ≡ option_cmp text_cmp (option_map digest_of a.now) (option_map digest_of b.now) }
 {
     match (a, b) {
         (None, None) => Ordering::Equal,

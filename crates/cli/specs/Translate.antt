@@ -1,15 +1,33 @@
 -- What `translate` leaves in the writer that stands for standard output.
-use Rattle.std.specs.Prelude.{ℕ, List, [], ◌∷◌, ◌++◌, ◌⊎◌, Option}
+use Rattle.std.specs.Prelude.{◌≡◌, ℕ, List, [], ◌∷◌, ◌++◌, ◌⊎◌, Option, Some, None, codes, unwrap_or}
+use Rattle.clap.specs.Matches.{first_value, one_text}
+use Rattle.clap.specs.declared.parser.matches.Found.{Found}
 use Rattle.std.specs.Io.KnownBytes.{Appends, Keeps}
-use Rattle.cargo_lock_encoding.specs.declared.version.ResolveVersion.{ResolveVersion}
-use Rattle.cargo_lock_encoding.specs.Records.{LockfileData}
+use Rattle.cargo_lock_references.specs.declared.version.ResolveVersion.{ResolveVersion}
+use Rattle.cargo_lock_references.specs.Format.{IsFormatText}
+use Rattle.cargo_lock_encoding.specs.Lockfiles.{LockfileData}
 use Rattle.cargo_lock_encoding.specs.Text.{joined, lines_of}
 use Rattle.cargo_lock.specs.Loads.{IsMeant}
-use Rattle.cargo_lock.specs.Survives.{in_format}
+use Rattle.cargo_lock_encoding.specs.Survives.{Survives, in_format}
 
--- the text, in some format, of a lockfile that some text means, and one more newline; or nothing,
--- where the text went to a file
-abbrev pub PrintsTranslation : Option (List ℕ) → Option (List ℕ) → Type 0
-PrintsTranslation old new = Keeps old new
-    ⊎ ((l : LockfileData) × (format : ResolveVersion) × IsMeant l
-    × Appends old new (joined (lines_of (in_format format l)) ++ 10 ∷ []))
+-- the value of the option for the output, if there is one, stands for standard output
+abbrev pub IsPrinted : Option (List ℕ) → Type 0
+IsPrinted output = (output ≡ None) ⊎ (output ≡ Some (codes "-"))
+
+-- standard output takes the text and one more newline where it is the output, and nothing where the
+-- text goes to a file
+abbrev pub TakesText : Option (List ℕ) → List ℕ → Option (List ℕ) → Option (List ℕ) → Type 0
+TakesText output text old new = (IsPrinted output → Appends old new (text ++ 10 ∷ []))
+    × ((¬ IsPrinted output) → Keeps old new)
+
+-- the words ask that only a lockfile that survives the format is written
+abbrev pub IsCheckAsked : Found → Type 0
+IsCheckAsked found = one_text found (codes "check") ≡ Some (codes "true")
+
+-- the text is that of a lockfile that some text means, in the format that the words name or else V3,
+-- which the lockfile survives if they ask for that
+abbrev pub PrintsTranslation : Found → Option (List ℕ) → Option (List ℕ) → Type 0
+PrintsTranslation found old new = (l : LockfileData) × (format : ResolveVersion) × IsMeant l
+    × IsFormatText (unwrap_or (first_value found (codes "version")) (codes "3")) format
+    × (IsCheckAsked found → Survives l format)
+    × TakesText (first_value found (codes "output")) (joined (lines_of (in_format format l))) old new

@@ -40,7 +40,8 @@ pub enum Fault {
 impl Fault {
     ghost use Rattle.std.specs.declared.io.ErrorKind.TheVariants.{OutOfMemory};
 
-    /// The fault of what is done before the words are known, where refused memory is told as that.
+    /// The fault of a call of the system that takes memory, as the one that reads the words. Refused
+    /// memory is told as that.
     pub fn of_start(error: io::Error) -> Fault
         ensures memory { error_kind error ≡ OutOfMemory → result ≡ Library Memory }
         ensures other { error_kind error ≢ OutOfMemory → result ≡ Library (Io (error_kind error)) }
@@ -51,9 +52,10 @@ impl Fault {
         }
     }
 
-    /// The fault of a specification that fits no package, or want of memory.
+    /// The fault of a specification that fits no package, or running out of memory.
     pub fn of_spec(alloc: Global, spec: &str) -> Fault
-        ensures { (result ≡ Library Memory) ⊎ ((said : String Global) × (result ≡ Spec said) × (string_bytes said ≡ spec.now)) }
+        ensures { (result ≡ Library Memory)
+            ⊎ ((said : String Global) × (result ≡ Spec said) × (string_bytes said ≡ spec.now)) }
     {
         match String::from_str(alloc, spec) {
             Ok(spec) => Fault::Spec(spec),

@@ -11,6 +11,7 @@ ghost use Rattle.std.specs.Io.KnownBytes.{Keeps};
 mod fault;
 mod list;
 mod output;
+mod saving;
 mod translate;
 mod tree;
 mod words;

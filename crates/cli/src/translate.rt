@@ -1,26 +1,24 @@
 //! The command `translate`: a lockfile in another format.
-ghost use Rattle.std.specs.Prelude.{◌≡◌, ◌⊎◌, ◌∷◌, ◌++◌, [], IfErr, IfOk, IsOkUnless, OnOk, string_bytes};
+ghost use Rattle.std.specs.Prelude.{◌≡◌, ◌⊎◌, ◌∷◌, ◌++◌, [], IfErr, IfOk, IsOkUnless, OnOk, codes, string_bytes};
+ghost use Rattle.clap.specs.Matches.{first_value, found_of};
 ghost use Rattle.std.specs.Io.KnownBytes.{Appends};
 ghost use Rattle.cargo_lock_parts.specs.declared.error.Error.TheVariants.{Memory};
-ghost use Rattle.cargo_lock_encoding.specs.Format.{number_of};
+ghost use Rattle.cargo_lock_references.specs.Format.{number_of};
 ghost use Rattle.cargo_lock_encoding.specs.Text.{joined, lines_of};
-ghost use Rattle.cargo_lock.specs.Survives.{Survives, in_format};
+ghost use Rattle.cargo_lock_encoding.specs.Survives.{Survives, in_format};
 ghost use Rattle.cli.specs.declared.fault.Fault.TheVariants.{Library, Lost};
-ghost use Rattle.cli.specs.Translate.{PrintsTranslation};
+ghost use Rattle.cli.specs.Translate.{IsCheckAsked, PrintsTranslation, TakesText};
 
 use crate::fault::Fault;
-use crate::output::{put, put_all};
+use crate::output::put;
+use crate::saving::save;
 use crate::words;
 use cargo_lock::{Error, Lockfile, ResolveVersion};
 use clap::ArgMatches;
 use std::alloc::Global;
-use std::fs::File;
 use std::io::Write;
 use std::path::Path;
 use std::rt::Files;
-
-/// The output that stands for standard output.
-const STANDARD_OUTPUT: &str = "-";
 
 /// Writes the lockfile in the format that is asked for: into the output file, or to `out` with one
 /// more newline. The format is read before the file. Fails where either is not read, where the
@@ -30,17 +28,29 @@ pub(crate) fn run<R: Files + AllocGlobal, W: Write>(
     options: &ArgMatches<'_>,
     out: &mut W,
 ) -> Result<(), Fault>
-    ensures { OnOk result (PrintsTranslation (W.contents out.old) (W.contents out.new)) }
+    ensures { OnOk result
+        (PrintsTranslation (found_of options.now) (W.contents out.old) (W.contents out.new)) }
 {
     let format = ResolveVersion::from_str(rt.alloc(), words::format(options))?;
     let lockfile = words::lockfile(rt, options)?;
-    if options.get_flag("check") {
-        check(rt.alloc(), &lockfile, format)?;
-    }
+    check_if_asked(rt.alloc(), options, &lockfile, format)?;
     let text = text_in(rt.alloc(), lockfile, format)?;
-    match options.get_str("output") {
-        Some(path) if path != STANDARD_OUTPUT => save(rt, Path::new(path), text.as_str()),
-        _ => print(out, text.as_str()),
+    put_out(rt, options, text.as_str(), out)
+}
+
+/// Refuses a lockfile that does not survive the format, where the words ask for that.
+fn check_if_asked(
+    alloc: Global,
+    options: &ArgMatches<'_>,
+    lockfile: &Lockfile,
+    format: ResolveVersion,
+) -> Result<(), Fault>
+    ensures { OnOk result (IsCheckAsked (found_of options.now) → Survives lockfile.now format) }
+{
+    if options.get_flag("check") {
+        check(alloc, lockfile, format)
+    } else {
+        Ok(())
     }
 }
 
@@ -59,7 +69,8 @@ fn check(alloc: Global, lockfile: &Lockfile, format: ResolveVersion) -> Result<(
 
 /// The text of the lockfile in another format.
 fn text_in(alloc: Global, lockfile: Lockfile, format: ResolveVersion) -> Result<String, Error>
-    ensures ok { IfOk result (λ text. string_bytes text ≡ joined (lines_of (in_format format lockfile))) }
+    ensures ok { IfOk result
+        (λ text. string_bytes text ≡ joined (lines_of (in_format format lockfile))) }
     ensures err { IsOkUnless result Memory }
 {
     let mut lockfile = lockfile;
@@ -67,17 +78,26 @@ fn text_in(alloc: Global, lockfile: Lockfile, format: ResolveVersion) -> Result<
     lockfile.to_string(alloc)
 }
 
-/// Writes the text into the file at this path, which is made or written anew.
-fn save<R: Files + AllocGlobal>(rt: &R, path: Path<'_>, text: &str) -> Result<(), Fault> {
-    let mut file = File::create(rt, path)?;
-    put_all(&mut file, text.as_bytes())?;
-    file.flush()?;
-    Ok(())
+/// Writes the text into the output file, or prints it.
+fn put_out<R: Files + AllocGlobal, W: Write>(
+    rt: &R,
+    options: &ArgMatches<'_>,
+    text: &str,
+    out: &mut W,
+) -> Result<(), Fault>
+    ensures { OnOk result (TakesText (first_value (found_of options.now) (codes "output")) text.now
+        (W.contents out.old) (W.contents out.new)) }
+{
+    match words::output_file(options) {
+        Some(path) => save(rt, Path::new(path), text),
+        None => print(out, text),
+    }
 }
 
 /// Prints the text and one more newline.
 fn print<W: Write>(out: &mut W, text: &str) -> Result<(), Fault>
-    ensures { OnOk result (Appends (W.contents out.old) (W.contents out.new) (text.now ++ 10 ∷ [])) }
+    ensures { OnOk result
+        (Appends (W.contents out.old) (W.contents out.new) (text.now ++ 10 ∷ [])) }
 {
     put(out, text)?;
     put(out, "\n")?;

@@ -148,7 +148,7 @@ struct Spec<'a> {
 }
 
 impl<'a> Spec<'a> {
-    /// Reads a specification. Fails for want of memory.
+    /// Reads a specification. Fails when out of memory.
     fn parse(alloc: Global, spec: &'a str) -> Result<Spec<'a>, Fault> {
         let (name, part, both) = match spec.split_once('@') {
             Some((name, part)) => (name, part, true),
@@ -163,7 +163,7 @@ impl<'a> Spec<'a> {
         })
     }
 
-    /// Whether a package fits. Fails for want of memory.
+    /// Whether a package fits. Fails when out of memory.
     fn fits(&self, alloc: Global, package: &Package) -> Result<bool, Fault> {
         let named = package.name.as_str() == self.name;
         if self.both {
@@ -185,7 +185,7 @@ impl<'a> Spec<'a> {
     }
 }
 
-/// The version that a text reads as, if it does. Fails for want of memory.
+/// The version that a text reads as, if it does. Fails when out of memory.
 fn version_in(alloc: Global, text: &str) -> Result<Option<Version>, Fault> {
     match Version::parse(alloc, text) {
         Ok(version) => Ok(Some(version)),
@@ -204,7 +204,7 @@ fn is_precise(source: &Option<SourceId>, text: &str) -> bool {
     }
 }
 
-/// Whether a text is the lower-case text of a checksum. Fails for want of memory.
+/// Whether a text is the lower-case text of a checksum. Fails when out of memory.
 fn is_checksum(alloc: Global, checksum: &Option<Checksum>, text: &str) -> Result<bool, Fault> {
     match checksum {
         Some(checksum) => Ok(checksum.to_lower_hex(alloc)?.as_str() == text),

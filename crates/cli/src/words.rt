@@ -1,7 +1,8 @@
 //! The words that the program is called with.
-ghost use Rattle.std.specs.Prelude.{◌≡◌, IfErr, IfOk, codes, option_map, unwrap_or};
+ghost use Rattle.std.specs.Prelude.{◌≡◌, IfErr, IfOk, IfSome, None, Some, codes, option_map, unwrap_or};
 ghost use Rattle.clap.specs.Matches.{first_value, found_of};
 ghost use Rattle.cargo_lock.specs.Loads.{IsMeant, IsOfFile};
+ghost use Rattle.cli.specs.Translate.{IsPrinted};
 
 use cargo_lock::{Error, Lockfile};
 use clap::{Arg, ArgAction, ArgMatches, Command};
@@ -16,6 +17,9 @@ const DEFAULT_PATH: &str = "Cargo.lock";
 /// The format that is written where the words name none.
 const DEFAULT_FORMAT: &str = "3";
 
+/// The output that stands for standard output.
+const STANDARD_OUTPUT: &str = "-";
+
 /// What `--check` does, as help shows it.
 const CHECK_HELP: &str =
     "Refuses a lockfile whose table, written in the format, does not read back; \
@@ -23,7 +27,7 @@ a root, or a replacement of a package with dependencies, is in the table and in 
 
 /// The words as the parser reads them, the program's name first. A leading `lock` is left out, and
 /// `list` stands before the first option where no command does, unless it asks for help. Fails for
-/// want of memory.
+/// running out of memory.
 pub(crate) fn with_command<'a, S: AsStr>(
     alloc: Global,
     words: &'a [S],
@@ -63,13 +67,27 @@ pub(crate) fn lockfile<R: Files + AllocGlobal>(
 
 /// The text of the format that a command writes.
 pub(crate) fn format<'a>(options: &ArgMatches<'a>) -> &'a str
-    ensures { result.now ≡ unwrap_or (first_value (found_of options.now) (codes "version")) (codes "3") }
+    ensures { result.now
+        ≡ unwrap_or (first_value (found_of options.now) (codes "version")) (codes "3") }
 {
     options.get_str("version").unwrap_or(DEFAULT_FORMAT)
 }
 
+/// The path of the file that `translate` writes, unless it prints.
+pub(crate) fn output_file<'a>(options: &ArgMatches<'a>) -> Option<&'a str>
+    ensures none { result ≡ None → IsPrinted (first_value (found_of options.now) (codes "output")) }
+    ensures some { IfSome result (λ path.
+        (first_value (found_of options.now) (codes "output") ≡ Some path.now)
+        × (¬ IsPrinted (first_value (found_of options.now) (codes "output")))) }
+{
+    match options.get_str("output") {
+        Some(path) if path != STANDARD_OUTPUT => Some(path),
+        _ => None,
+    }
+}
+
 /// The parser of the words. Of an option that stands again the last value counts, and a flag that
-/// stands again is one flag. Fails for want of memory.
+/// stands again is one flag. Fails when out of memory.
 pub(crate) fn command<'a>(alloc: Global) -> Result<Command<'a>, AllocError> {
     Command::new(alloc, "cargo-lock")
         .about("Looks into lockfiles")

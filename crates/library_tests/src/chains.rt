@@ -122,15 +122,15 @@ fn add_link(text: &mut String, i: u32) -> Result<(), Error> {
 // newline, after the first 10 for the branch, and 4 for each level above, which are k - 1 and of which
 // none goes on. So there are 13 n + 10 (n - 1) + 2 (n - 1) (n - 2) bytes, either way along the chain.
 #[test]
-fn chain_of_five_thousand_packages(rt: HostRuntime) {
-    let text = or_fault(rt.alloc(), chain(rt.alloc(), 5000));
+fn chain_of_twenty_thousand_packages(rt: HostRuntime) {
+    let text = or_fault(rt.alloc(), chain(rt.alloc(), 20_000));
     let answer = or_fault(rt.alloc(), counted(rt.alloc(), text.as_str()));
-    assert_eq!(rt; answer.as_str(), "5000 entries, 50084994 bytes");
+    assert_eq!(rt; answer.as_str(), "20000 entries, 800339994 bytes");
 }
 
 #[test]
-fn chain_of_five_thousand_packages_backwards(rt: HostRuntime) {
-    let text = or_fault(rt.alloc(), chain(rt.alloc(), 5000));
+fn chain_of_twenty_thousand_packages_backwards(rt: HostRuntime) {
+    let text = or_fault(rt.alloc(), chain(rt.alloc(), 20_000));
     let answer = or_fault(rt.alloc(), counted_backwards(rt.alloc(), text.as_str()));
-    assert_eq!(rt; answer.as_str(), "5000 entries, 50084994 bytes");
+    assert_eq!(rt; answer.as_str(), "20000 entries, 800339994 bytes");
 }

@@ -6,11 +6,15 @@
 #[cfg(test)]
 mod chains;
 #[cfg(test)]
+mod disk;
+#[cfg(test)]
 mod generated;
 #[cfg(test)]
 mod hub;
 #[cfg(test)]
 mod large;
+#[cfg(test)]
+mod long_texts;
 #[cfg(test)]
 mod orders;
 #[cfg(test)]
@@ -19,6 +23,8 @@ mod program;
 mod references;
 #[cfg(test)]
 mod rings;
+#[cfg(test)]
+mod saving;
 #[cfg(test)]
 mod shared;
 #[cfg(test)]

@@ -1,5 +1,6 @@
 //! The program over writers that fail, and a fault that comes before its words are read.
 
+use crate::shared::TWO_LOGS;
 use cli::{Fault, report, run};
 use std::io::{self, ErrorKind, Write};
 use std::path::PathBuf;
@@ -61,6 +62,23 @@ version = 4
 
 ";
 
+// What `list -p app -d -s` prints of two versions of one package and another.
+const APP_LISTED: &str = "- app 0.1.0
+  - log 0.3.9 (registry+https://github.com/rust-lang/crates.io-index)
+  - rand 0.8.5 (registry+https://github.com/rust-lang/crates.io-index)
+";
+
+// What the message of an output that fails begins with.
+const MESSAGE: &str = "*** error: I/O operation failed: ";
+
+// How an output fails: with a fault of this kind, or by taking no bytes.
+const KINDS: [Option<ErrorKind>; 4] = [
+    Some(ErrorKind::Interrupted),
+    Some(ErrorKind::BrokenPipe),
+    Some(ErrorKind::OutOfMemory),
+    None,
+];
+
 // A path for this test alone, where no file is yet.
 fn path_of(rt: &HostRuntime, name: &str) -> Result<PathBuf, Fail> {
     let number = process::id(rt.process());
@@ -114,29 +132,93 @@ fn failing_after(rt: &HostRuntime, calls: usize, kind: Option<ErrorKind>) -> Fai
     }
 }
 
+// Whether the command prints a beginning of the text onto an output that fails after so many calls,
+// and the message of that fault, or so much of it as standard error takes in so many calls.
+fn is_cut_off(rt: &HostRuntime, words: &[&str], text: &str, out: Failing, told: usize) -> bool {
+    let mut out = out;
+    let calls = out.calls;
+    let mut err = failing_after(rt, told, out.kind);
+    let status = run(rt, words, &mut out, &mut err);
+    let message = err.taken.as_slice();
+    let is_told = if told < MESSAGE.len() {
+        message.len() == told && MESSAGE.as_bytes().starts_with(message)
+    } else {
+        message.starts_with(MESSAGE.as_bytes()) && message.ends_with(b"\n")
+    };
+    let taken = out.taken.as_slice();
+    status == ExitCode::FAILURE
+        && is_told
+        && taken.len() == calls
+        && text.as_bytes().starts_with(taken)
+}
+
+// Whether the command is cut off after so many calls, whatever the fault is, where standard error
+// takes the whole message, none of it, or a beginning.
+fn is_cut_off_after(rt: &HostRuntime, words: &[&str], text: &str, calls: usize) -> bool {
+    KINDS.iter().all(|kind| {
+        [usize::MAX, 0, 7].iter().all(|told| is_cut_off(
+            rt,
+            words,
+            text,
+            failing_after(rt, calls, *kind),
+            *told,
+        ))
+    })
+}
+
+// A fault of the test, unless the command is cut off after each count of calls below the bytes of
+// what it prints.
+fn each_cut_off(rt: &HostRuntime, words: &[&str], text: &str) -> Result<(), Fail> {
+    match (0..text.len()).find(|calls| !is_cut_off_after(rt, words, text, *calls)) {
+        Some(calls) => Err(Fail::new(format_args!("not cut off after {calls} calls"))),
+        None => Ok(()),
+    }
+}
+
 #[test]
 fn list_onto_output_that_fails(rt: HostRuntime) -> Result<(), Fail> {
     let path = file_of(&rt, "output", FOO.as_bytes())?;
-    let words = ["list", "-f", path.as_path().as_str()];
-    let kinds = [
-        Some(ErrorKind::Interrupted),
-        Some(ErrorKind::BrokenPipe),
-        Some(ErrorKind::OutOfMemory),
-        None,
-    ];
-    for kind in kinds {
-        for calls in 0..FOO_LISTED.len() {
-            let mut out = failing_after(&rt, calls, kind);
-            let mut err: Vec<u8> = Vec::new(rt.alloc());
-            let status = run(&rt, &words, &mut out, &mut err);
-            assert_eq!(rt; status, ExitCode::FAILURE, "after {calls}");
-            assert_eq!(rt; out.taken.as_slice(), &FOO_LISTED.as_bytes()[..calls]);
-            let message = std::str::from_utf8(err.as_slice())?;
-            assert!(rt; message.starts_with("*** error: I/O operation failed: "));
-        }
-    }
+    each_cut_off(&rt, &["list", "-f", path.as_path().as_str()], FOO_LISTED)?;
     fs::remove_file(&rt, path.as_path())?;
     Ok(())
+}
+
+#[test]
+fn dependencies_onto_output_that_fails(rt: HostRuntime) -> Result<(), Fail> {
+    let path = file_of(&rt, "dependencies_output", TWO_LOGS.as_bytes())?;
+    let file = path.as_path().as_str();
+    let words = ["list", "-p", "app", "-d", "-s", "-f", file];
+    each_cut_off(&rt, &words, APP_LISTED)?;
+    fs::remove_file(&rt, path.as_path())?;
+    Ok(())
+}
+
+#[test]
+fn tree_onto_output_that_fails(rt: HostRuntime) -> Result<(), Fail> {
+    let path = file_of(&rt, "tree_output", EXAMPLE.as_bytes())?;
+    each_cut_off(&rt, &["tree", "-f", path.as_path().as_str()], EXAMPLE_DRAWN)?;
+    fs::remove_file(&rt, path.as_path())?;
+    Ok(())
+}
+
+#[test]
+fn translate_onto_output_that_fails(rt: HostRuntime) -> Result<(), Fail> {
+    let path = file_of(&rt, "empty_translated", b"")?;
+    let words = ["translate", "-v", "4", "-f", path.as_path().as_str()];
+    each_cut_off(&rt, &words, EMPTY_IN_V4)?;
+    fs::remove_file(&rt, path.as_path())?;
+    Ok(())
+}
+
+#[test]
+fn help_onto_output_that_fails(rt: HostRuntime) -> Result<(), Fail> {
+    let mut help: Vec<u8> = Vec::new(rt.alloc());
+    let mut err: Vec<u8> = Vec::new(rt.alloc());
+    let status = run(&rt, &["list", "--help"], &mut help, &mut err);
+    assert_eq!(rt; status, ExitCode::SUCCESS);
+    let help = std::str::from_utf8(help.as_slice())?;
+    assert!(rt; help.starts_with("Lists the packages of a lockfile\n"));
+    each_cut_off(&rt, &["list", "--help"], help)
 }
 
 #[test]
@@ -144,12 +226,8 @@ fn flush_that_fails(rt: HostRuntime) -> Result<(), Fail> {
     let path = file_of(&rt, "flush", FOO.as_bytes())?;
     let words = ["list", "-f", path.as_path().as_str()];
     for kind in [ErrorKind::Interrupted, ErrorKind::BrokenPipe] {
-        let mut out = failing_after(&rt, FOO_LISTED.len(), Some(kind));
-        let mut err: Vec<u8> = Vec::new(rt.alloc());
-        assert_eq!(rt; run(&rt, &words, &mut out, &mut err), ExitCode::FAILURE);
-        assert_eq!(rt; out.taken.as_slice(), FOO_LISTED.as_bytes());
-        let message = std::str::from_utf8(err.as_slice())?;
-        assert!(rt; message.starts_with("*** error: I/O operation failed: "));
+        let out = failing_after(&rt, FOO_LISTED.len(), Some(kind));
+        assert!(rt; is_cut_off(&rt, &words, FOO_LISTED, out, usize::MAX));
     }
     fs::remove_file(&rt, path.as_path())?;
     Ok(())
@@ -158,11 +236,7 @@ fn flush_that_fails(rt: HostRuntime) -> Result<(), Fail> {
 #[test]
 fn message_that_fails(rt: HostRuntime) {
     let start = "*** error: ";
-    for kind in [
-        Some(ErrorKind::Interrupted),
-        Some(ErrorKind::BrokenPipe),
-        None,
-    ] {
+    for kind in KINDS {
         for calls in 0..start.len() {
             let mut out: Vec<u8> = Vec::new(rt.alloc());
             let mut err = failing_after(&rt, calls, kind);
@@ -172,53 +246,6 @@ fn message_that_fails(rt: HostRuntime) {
             assert_eq!(rt; out.len(), 0);
         }
     }
-}
-
-#[test]
-fn tree_onto_output_that_fails(rt: HostRuntime) -> Result<(), Fail> {
-    let path = file_of(&rt, "tree_output", EXAMPLE.as_bytes())?;
-    let words = ["tree", "-f", path.as_path().as_str()];
-    for kind in [
-        Some(ErrorKind::Interrupted),
-        Some(ErrorKind::BrokenPipe),
-        None,
-    ] {
-        for calls in 0..EXAMPLE_DRAWN.len() {
-            let mut out = failing_after(&rt, calls, kind);
-            let mut err: Vec<u8> = Vec::new(rt.alloc());
-            let status = run(&rt, &words, &mut out, &mut err);
-            assert_eq!(rt; status, ExitCode::FAILURE, "after {calls}");
-            assert_eq!(rt; out.taken.as_slice(), &EXAMPLE_DRAWN.as_bytes()[..calls]);
-            let message = std::str::from_utf8(err.as_slice())?;
-            assert!(rt; message.starts_with("*** error: I/O operation failed: "));
-        }
-    }
-    fs::remove_file(&rt, path.as_path())?;
-    Ok(())
-}
-
-#[test]
-fn translate_onto_output_that_fails(rt: HostRuntime) -> Result<(), Fail> {
-    let path = file_of(&rt, "empty_translated", b"")?;
-    let words = ["translate", "-v", "4", "-f", path.as_path().as_str()];
-    let kinds = [
-        Some(ErrorKind::Interrupted),
-        Some(ErrorKind::BrokenPipe),
-        None,
-    ];
-    for kind in kinds {
-        for calls in 0..EMPTY_IN_V4.len() {
-            let mut out = failing_after(&rt, calls, kind);
-            let mut err: Vec<u8> = Vec::new(rt.alloc());
-            let status = run(&rt, &words, &mut out, &mut err);
-            assert_eq!(rt; status, ExitCode::FAILURE, "after {calls}");
-            assert_eq!(rt; out.taken.as_slice(), &EMPTY_IN_V4.as_bytes()[..calls]);
-            let message = std::str::from_utf8(err.as_slice())?;
-            assert!(rt; message.starts_with("*** error: I/O operation failed: "));
-        }
-    }
-    fs::remove_file(&rt, path.as_path())?;
-    Ok(())
 }
 
 // The words of the process are not read where one is no UTF-8. That is a fault like others.

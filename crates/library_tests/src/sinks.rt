@@ -10,6 +10,7 @@ use cargo_lock::dependency::tree::{Sink, Symbols, WriterSink};
 use std::alloc::Global;
 use std::io;
 use std::io::{ErrorKind, Write};
+use std::test::Fail;
 
 // The drawing of that lockfile from its last package, on which none depends.
 const DRAWN: &str = "example 0.1.0
@@ -142,18 +143,28 @@ fn sink_that_fails_at_each_call(rt: HostRuntime) {
     assert_eq!(rt; answer.as_str(), "each");
 }
 
-// A writer that always answers this fault, or that it took no bytes.
+// A writer that takes some bytes a call for so many calls. Each later call answers this fault, or
+// that it took no bytes.
 #[derive(Drop)]
 struct Broken {
+    taken: Vec<u8>,
+    step: usize,
+    calls: usize,
     answer: Option<ErrorKind>,
 }
 
 impl Write for Broken {
-    fn write(&mut self, _: &[u8]) -> io::Result<usize> {
-        match self.answer {
-            Some(kind) => Err(io::Error::from(kind)),
-            None => Ok(0),
+    fn write(&mut self, bytes: &[u8]) -> io::Result<usize> {
+        if self.calls == 0 {
+            return match self.answer {
+                Some(kind) => Err(io::Error::from(kind)),
+                None => Ok(0),
+            };
         }
+        self.calls -= 1;
+        let count = bytes.len().min(self.step);
+        self.taken.extend_from_slice(&bytes[..count])?;
+        Ok(count)
     }
 
     fn flush(&mut self) -> io::Result<()> {
@@ -161,14 +172,26 @@ impl Write for Broken {
     }
 }
 
-// The kind of the fault of a drawing onto such a writer.
-fn onto_broken(alloc: Global, answer: Option<ErrorKind>) -> Result<Option<ErrorKind>, Error> {
-    let tree = tree_of(alloc, REGISTRY_AND_GIT)?;
-    let mut out = Broken { answer };
-    match render(alloc, &tree, &mut out) {
-        Ok(()) => Ok(None),
-        Err(Error::Io(kind)) => Ok(Some(kind)),
-        Err(fault) => Err(fault),
+// The calls that draw onto a writer, the last over a sink that is made of it.
+#[derive(Clone, Copy)]
+enum Call {
+    Render,
+    RenderWithSymbols,
+    RenderInto,
+}
+
+const DRAWING_CALLS: [Call; 3] = [Call::Render, Call::RenderWithSymbols, Call::RenderInto];
+
+impl Call {
+    // What the call answers, and the sink's count of faults.
+    fn draw(self, alloc: Global, tree: &Tree, out: &mut Broken) -> (Result<(), Error>, u64) {
+        let answer = match self {
+            Call::Render => render(alloc, tree, out),
+            Call::RenderWithSymbols => render_with_symbols(alloc, tree, out),
+            Call::RenderInto => return render_into_writer(alloc, tree, out),
+        };
+        let faults = u64::from(answer.is_err());
+        (answer, faults)
     }
 }
 
@@ -179,23 +202,119 @@ fn render<W: Write>(alloc: Global, tree: &Tree, out: &mut W) -> Result<(), Error
     tree.render(alloc, out, start, EdgeDirection::Outgoing, false)
 }
 
-fn kind_of(answer: Result<Option<ErrorKind>, Error>) -> Option<ErrorKind> {
-    match answer {
-        Ok(kind) => kind,
-        Err(_) => None,
+fn render_with_symbols<W: Write>(alloc: Global, tree: &Tree, out: &mut W) -> Result<(), Error> {
+    let Some(start) = first_root(alloc, tree)? else {
+        return Ok(());
+    };
+    let symbols = Symbols::default();
+    tree.render_with_symbols(alloc, out, start, EdgeDirection::Outgoing, &symbols, false)
+}
+
+fn render_into_writer(alloc: Global, tree: &Tree, out: &mut Broken) -> (Result<(), Error>, u64) {
+    let start = match first_root(alloc, tree) {
+        Ok(Some(start)) => start,
+        Ok(None) => return (Ok(()), 0),
+        Err(fault) => return (Err(fault), 0),
+    };
+    let mut sink = WriterSink::new(out);
+    let symbols = Symbols::default();
+    let direction = EdgeDirection::Outgoing;
+    let answer = tree.render_into(alloc, &mut sink, start, direction, &symbols, false);
+    (answer, sink.faults())
+}
+
+// Whether a writer that takes so many bytes a call, and answers this after so many calls, has taken
+// as many bytes of the drawing as are wanted, and its answer is told as one fault.
+fn is_told(alloc: Global, tree: &Tree, call: Call, writer: Broken, wanted: usize) -> bool {
+    let mut writer = writer;
+    let kind = writer.answer.unwrap_or(ErrorKind::WriteZero);
+    let (answer, faults) = call.draw(alloc, tree, &mut writer);
+    let taken = writer.taken.as_slice();
+    matches!(answer, Err(Error::Io(told)) if told == kind)
+        && faults == 1
+        && taken.len() == wanted
+        && DRAWN.as_bytes().starts_with(taken)
+}
+
+// Whether each call tells this answer of a writer that takes so many bytes a call for so many calls.
+fn each_tells(
+    alloc: Global,
+    tree: &Tree,
+    answer: Option<ErrorKind>,
+    step: usize,
+    calls: usize,
+) -> bool {
+    for call in DRAWING_CALLS {
+        let writer = Broken {
+            taken: Vec::new(alloc),
+            step,
+            calls,
+            answer,
+        };
+        if !is_told(alloc, tree, call, writer, step.saturating_mul(calls)) {
+            return false;
+        }
+    }
+    true
+}
+
+// The first count of calls, below the bytes of the drawing, after which the answer of a writer that
+// takes one byte a call is not told.
+fn first_not_told(alloc: Global, tree: &Tree, answer: Option<ErrorKind>) -> Option<usize> {
+    (0..DRAWN.len()).find(|calls| !each_tells(alloc, tree, answer, 1, *calls))
+}
+
+fn told_after_each_call(alloc: Global, answer: Option<ErrorKind>) -> Result<String, Error> {
+    let tree = tree_of(alloc, REGISTRY_AND_GIT)?;
+    match first_not_told(alloc, &tree, answer) {
+        Some(calls) => Ok(format!(in alloc; "not after {calls} calls")?),
+        None => Ok(String::from_str(alloc, "each")?),
     }
 }
 
 #[test]
 fn writer_that_is_interrupted(rt: HostRuntime) {
-    let kind = kind_of(onto_broken(rt.alloc(), Some(ErrorKind::Interrupted)));
-    assert_eq!(rt; kind, Some(ErrorKind::Interrupted));
+    let answer = told_after_each_call(rt.alloc(), Some(ErrorKind::Interrupted));
+    assert_eq!(rt; or_fault(rt.alloc(), answer).as_str(), "each");
+}
+
+#[test]
+fn writer_that_fails(rt: HostRuntime) {
+    let answer = told_after_each_call(rt.alloc(), Some(ErrorKind::BrokenPipe));
+    assert_eq!(rt; or_fault(rt.alloc(), answer).as_str(), "each");
 }
 
 #[test]
 fn writer_that_takes_no_bytes(rt: HostRuntime) {
-    let kind = kind_of(onto_broken(rt.alloc(), None));
-    assert_eq!(rt; kind, Some(ErrorKind::WriteZero));
+    let answer = told_after_each_call(rt.alloc(), None);
+    assert_eq!(rt; or_fault(rt.alloc(), answer).as_str(), "each");
+}
+
+#[test]
+fn writer_that_takes_five_bytes(rt: HostRuntime) -> Result<(), Fail> {
+    let tree = tree_of(rt.alloc(), REGISTRY_AND_GIT)?;
+    for answer in [Some(ErrorKind::Interrupted), Some(ErrorKind::Other), None] {
+        assert!(rt; each_tells(rt.alloc(), &tree, answer, 5, 1));
+    }
+    Ok(())
+}
+
+#[test]
+fn writer_that_takes_all(rt: HostRuntime) -> Result<(), Fail> {
+    let tree = tree_of(rt.alloc(), REGISTRY_AND_GIT)?;
+    for call in DRAWING_CALLS {
+        let mut writer = Broken {
+            taken: Vec::new(rt.alloc()),
+            step: 1,
+            calls: DRAWN.len(),
+            answer: Some(ErrorKind::Other),
+        };
+        let (answer, faults) = call.draw(rt.alloc(), &tree, &mut writer);
+        assert!(rt; answer.is_ok());
+        assert_eq!(rt; faults, 0);
+        assert_eq!(rt; writer.taken.as_slice(), DRAWN.as_bytes());
+    }
+    Ok(())
 }
 
 // The drawing into a sink that is made of a writer, and the sink's count of faults.

@@ -67,7 +67,7 @@ fn fault_texts(rt: HostRuntime) {
     assert_eq!(rt; file_fault(&rt, "/no/such/file"), Some(ErrorKind::NotFound));
 }
 
-// Whether a fault that holds this text is that of a URL of 4 GB.
+// Whether a fault that holds this text is that of a URL of 4 GB or more.
 fn is_too_long(alloc: Global, text: &str) -> Option<bool> {
     let text = String::from_str(alloc, text).ok()?;
     Some(Error::Parse(text).is_too_long())

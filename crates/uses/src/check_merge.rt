@@ -2,9 +2,9 @@
 //! printed as it stands.
 
 ghost use Rattle.std.specs.Prelude.{◌≡◌, IfOk, IsTrue};
-ghost use Rattle.cargo_lock_encoding.specs.Means.{TextMeans};
-ghost use Rattle.cargo_lock_encoding.specs.Records.{LockfileData};
-ghost use Rattle.cargo_lock_encoding.specs.Text.{joined, lines_of};
+ghost use Rattle.cargo_lock.specs.Means.{TextMeans};
+ghost use Rattle.cargo_lock.specs.Lockfiles.{LockfileData};
+ghost use Rattle.cargo_lock.specs.Text.{joined, lines_of};
 ghost use Rattle.cargo_lock.specs.Survives.{Survives};
 
 use cargo_lock::{Error, Lockfile};

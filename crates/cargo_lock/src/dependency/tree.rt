@@ -76,7 +76,8 @@ impl Tree {
     pub fn new(alloc: Global, lockfile: &Lockfile) -> Result<Tree>
         ensures packages { IfOk result (λ tree. tree.graph.packages ≡ lockfile.now.packages) }
         ensures edges { IfOk result (λ tree. AreEdgesOf lockfile.now.packages tree.graph.edges) }
-        ensures err { IfErr result (λ e. IsUnresolved lockfile.now.packages (links lockfile.now.packages) e) }
+        ensures err { IfErr result
+            (λ e. IsUnresolved lockfile.now.packages (links lockfile.now.packages) e) }
     {
         let (graph, nodes) = graph_of(alloc, &lockfile.packages)?;
         Ok(Tree { graph, nodes })
@@ -131,7 +132,11 @@ impl Tree {
     ) -> Result<()>
         requires sound { S.failures sink.old < 2 ^ 64 - 1 }
         requires start { index < length self.now.graph.packages }
-        ensures { (entries : List Entry) × IsDrawing (far_ends direction self.now.graph.edges) index entries × IsRenderedInto (S.taken sink.old) (S.taken sink.new) (S.failures sink.old) (S.failures sink.new) (drawn standard_symbols (label_at exact self.now.graph.packages) entries) result }
+        ensures { (entries : List Entry)
+            × IsDrawing (far_ends direction self.now.graph.edges) index entries
+            × IsRenderedInto (S.taken sink.old) (S.taken sink.new) (S.failures sink.old)
+            (S.failures sink.new)
+            (drawn standard_symbols (label_at exact self.now.graph.packages) entries) result }
     {
         render_into(alloc, sink, &self.graph, index, direction, symbols, exact)
     }
@@ -148,7 +153,10 @@ impl Tree {
         exact: bool,
     ) -> Result<()>
         requires { index < length self.now.graph.packages }
-        ensures { (entries : List Entry) × IsDrawing (far_ends direction self.now.graph.edges) index entries × IsRenderedTo (W.contents w.old) (W.contents w.new) (drawn standard_symbols (label_at exact self.now.graph.packages) entries) result }
+        ensures { (entries : List Entry)
+            × IsDrawing (far_ends direction self.now.graph.edges) index entries
+            × IsRenderedTo (W.contents w.old) (W.contents w.new)
+            (drawn standard_symbols (label_at exact self.now.graph.packages) entries) result }
     {
         render_onto(alloc, w, &self.graph, index, direction, symbols, exact)
     }
@@ -164,7 +172,10 @@ impl Tree {
         exact: bool,
     ) -> Result<()>
         requires { index < length self.now.graph.packages }
-        ensures { (entries : List Entry) × IsDrawing (far_ends direction self.now.graph.edges) index entries × IsRenderedTo (W.contents w.old) (W.contents w.new) (drawn standard_symbols (label_at exact self.now.graph.packages) entries) result }
+        ensures { (entries : List Entry)
+            × IsDrawing (far_ends direction self.now.graph.edges) index entries
+            × IsRenderedTo (W.contents w.old) (W.contents w.new)
+            (drawn standard_symbols (label_at exact self.now.graph.packages) entries) result }
     {
         self.render_with_symbols(alloc, w, index, direction, &Symbols::default(), exact)
     }
@@ -175,7 +186,8 @@ impl Lockfile {
     pub fn dependency_tree(&self, alloc: Global) -> Result<Tree>
         ensures packages { IfOk result (λ tree. tree.graph.packages ≡ self.now.packages) }
         ensures edges { IfOk result (λ tree. AreEdgesOf self.now.packages tree.graph.edges) }
-        ensures err { IfErr result (λ e. IsUnresolved self.now.packages (links self.now.packages) e) }
+        ensures err { IfErr result
+            (λ e. IsUnresolved self.now.packages (links self.now.packages) e) }
     {
         Tree::new(alloc, self)
     }

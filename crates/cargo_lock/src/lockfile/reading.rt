@@ -6,7 +6,7 @@ ghost use Rattle.toml.specs.Errors.{IsMemory};
 ghost use Rattle.toml.specs.View.{table_view};
 ghost use Rattle.cargo_lock_parts.specs.declared.error.Error.TheVariants.{Io, Memory};
 ghost use Rattle.cargo_lock_parts.specs.Error.{IsShort, IsTooLong, ReadsUrls, Refuses};
-ghost use Rattle.cargo_lock_encoding.specs.Finds.{Finds, FindsUrls};
+ghost use Rattle.cargo_lock_references.specs.Finds.{Finds, FindsUrls};
 ghost use Rattle.cargo_lock_encoding.specs.Means.{Means, TextMeans};
 ghost use Rattle.cargo_lock_encoding.specs.Meaning.{meaning};
 ghost use Rattle.cargo_lock.specs.Loads.{IsMeant, IsOfFile};
@@ -14,8 +14,8 @@ ghost use Rattle.cargo_lock.specs.LongTexts.{HasShortTexts};
 
 use crate::error::{Error, Result};
 use crate::lockfile::Lockfile;
-use crate::lockfile::encoding::EncodableLockfile;
 use crate::lockfile::long_texts::members_have_long_text;
+use cargo_lock_encoding::Values;
 use cargo_lock_parts::error::SHORT_LENGTH;
 use std::alloc::Global;
 use std::fs;
@@ -40,7 +40,7 @@ impl Lockfile {
     }
 
     /// Reads the text of a lockfile in any format: a TOML document, whose table is read as
-    /// `from_table` reads it. `Parse` says what is refused. A URL that comes to 4 GB is refused too,
+    /// `from_table` reads it. `Parse` says what is refused. A URL of 4 GB or more is refused too,
     /// which is never so where the text is shorter than 2^24 bytes.
     pub fn from_str(alloc: Global, text: &str) -> Result<Lockfile>
         ensures read { FindsUrls (TextMeans text.now) result }
@@ -54,7 +54,7 @@ impl Lockfile {
 
     /// Reads the table of a lockfile in any format. `Parse` says what is refused, the first of these:
     /// a value that is missing, of another type or no text of its kind, then the format, then a
-    /// reference that stands for nothing. A URL that comes to 4 GB is refused too, which is never so
+    /// reference that stands for nothing. A URL of 4 GB or more is refused too, which is never so
     /// where each text of the table is shorter than 2^24 bytes.
     ///
     /// Values are read in this order, however the keys stand in the table: `version`, each package,
@@ -89,13 +89,13 @@ fn read_text(alloc: Global, text: &str) -> Result<Lockfile>
 fn read_once(alloc: Global, table: Table) -> Result<Lockfile>
     ensures { ReadsUrls (λ l. l) result (meaning (table_view table)) }
 {
-    let encoded = EncodableLockfile::from_table(alloc, &table)?;
+    let values = Values::read(alloc, &table)?;
     drop(table);
-    let lockfile = encoded.locked(alloc)?;
-    Ok(lockfile)
+    let parts = values.resolve(alloc)?;
+    Ok(Lockfile::from_parts(parts))
 }
 
-// The fault of reading texts. Where none of them is long, no URL in them comes to 4 GB.
+// The fault of reading texts. Where none of them is long, no URL in them has 4 GB.
 fn of_texts(fault: Error, has_long: bool) -> Error
     ensures { (result ≡ Memory) ⊎ ((result ≡ fault) × (has_long ≡ false → ¬ IsTooLong fault)) }
 {
@@ -110,12 +110,12 @@ fn of_texts(fault: Error, has_long: bool) -> Error
 pub(super) fn read(alloc: Global, table: &Table) -> Result<Lockfile>
     ensures { ReadsUrls (λ l. l) result (meaning (table_view table.now)) }
 {
-    let encoded = EncodableLockfile::from_table(alloc, table)?;
-    let lockfile = encoded.locked(alloc)?;
-    Ok(lockfile)
+    let values = Values::read(alloc, table)?;
+    let parts = values.resolve(alloc)?;
+    Ok(Lockfile::from_parts(parts))
 }
 
-// The fault of a file. Want of memory is told as that.
+// The fault of a file. Running out of memory is told as that.
 fn of_file(kind: ErrorKind) -> Error
     ensures memory { kind ≡ OutOfMemory → result ≡ Memory }
     ensures other { kind ≢ OutOfMemory → result ≡ Io kind }

@@ -5,14 +5,14 @@ ghost use Rattle.toml.specs.View.{table_view};
 ghost use Rattle.cargo_lock_parts.specs.declared.error.Error.TheVariants.{Memory};
 ghost use Rattle.cargo_lock_parts.specs.Error.{Reads, Refuses};
 ghost use Rattle.cargo_lock_encoding.specs.Meaning.{meaning};
-ghost use Rattle.cargo_lock.specs.Survives.{in_format};
+ghost use Rattle.cargo_lock_encoding.specs.Survives.{in_format};
 ghost use Rattle.cargo_lock_encoding.specs.Table.{table_of};
 ghost use Rattle.cargo_lock.specs.Translation.{IsStuck, KeepsThrough, LeadsTo, SurvivesEach, translated};
 
 use crate::error::{Error, Result};
 use crate::lockfile::Lockfile;
 use crate::lockfile::reading::read;
-use cargo_lock_encoding::ResolveVersion;
+use cargo_lock_references::ResolveVersion;
 use std::alloc::Global;
 use toml::Table;
 
@@ -22,11 +22,12 @@ impl Lockfile {
     ///
     /// Where the lockfile before each step survives the format of the step (see `survives`), the
     /// packages, the root and the patches stay equal. Otherwise they may change, or be refused:
-    /// `Parse` says what a table could not be read for. A URL that comes to 4 GB is `Memory` here.
+    /// `Parse` says what a table could not be read for. A URL of 4 GB or more is `Memory` here.
     pub fn translate_through(&self, alloc: Global, formats: &[ResolveVersion]) -> Result<Lockfile>
         ensures chain { IfOk result (LeadsTo formats.now self.now) }
         ensures stuck { IfErr result (λ e. Refuses e (IsStuck formats.now self.now)) }
-        ensures kept { SurvivesEach formats.now self.now → IfOk result (KeepsThrough formats.now self.now) }
+        ensures kept { SurvivesEach formats.now self.now
+            → IfOk result (KeepsThrough formats.now self.now) }
         ensures refused { SurvivesEach formats.now self.now → IsOkUnless result Memory }
     {
         self.translated(alloc, formats)
@@ -70,7 +71,7 @@ impl Lockfile {
     }
 }
 
-// Reads a table that was written here. A URL that comes to 4 GB is want of memory.
+// Reads a table that was written here. A URL of 4 GB or more is `Memory`.
 fn read_again(alloc: Global, table: &Table) -> Result<Lockfile>
     ensures { Reads (λ x. x) result (meaning (table_view table.now)) }
 {

@@ -20,7 +20,8 @@ use cargo_lock_parts::package::{
 // The pre-release and the build metadata, each after its mark.
 fn put_tags<T: Target>(out: &mut T, version: &Version) -> Put
     requires { (T.state out.old).failures < 2 ^ 64 - 1 }
-    ensures { IsWritten (T.state out.old) (T.state out.new) (marked 45 (parts_of version.now).3 ++ marked 43 (parts_of version.now).4) result }
+    ensures { IsWritten (T.state out.old) (T.state out.new)
+        (marked 45 (parts_of version.now).3 ++ marked 43 (parts_of version.now).4) result }
 {
     put_marked(out, b'-', version.pre.as_str())?;
     put_marked(out, b'+', version.build.as_str())
@@ -29,7 +30,9 @@ fn put_tags<T: Target>(out: &mut T, version: &Version) -> Put
 // The patch number and what follows it.
 fn put_patch<T: Target>(out: &mut T, version: &Version) -> Put
     requires { (T.state out.old).failures < 2 ^ 64 - 1 }
-    ensures { IsWritten (T.state out.old) (T.state out.new) (46 ∷ (decimal version.now.patch ++ (marked 45 (parts_of version.now).3 ++ marked 43 (parts_of version.now).4))) result }
+    ensures { IsWritten (T.state out.old) (T.state out.new)
+        (46 ∷ (decimal version.now.patch
+        ++ (marked 45 (parts_of version.now).3 ++ marked 43 (parts_of version.now).4))) result }
 {
     put_dotted(out, version.patch)?;
     put_tags(out, version)
@@ -38,7 +41,10 @@ fn put_patch<T: Target>(out: &mut T, version: &Version) -> Put
 // The minor number and what follows it.
 fn put_minor<T: Target>(out: &mut T, version: &Version) -> Put
     requires { (T.state out.old).failures < 2 ^ 64 - 1 }
-    ensures { IsWritten (T.state out.old) (T.state out.new) (46 ∷ (decimal version.now.minor ++ (46 ∷ (decimal version.now.patch ++ (marked 45 (parts_of version.now).3 ++ marked 43 (parts_of version.now).4))))) result }
+    ensures { IsWritten (T.state out.old) (T.state out.new)
+        (46 ∷ (decimal version.now.minor
+        ++ (46 ∷ (decimal version.now.patch
+        ++ (marked 45 (parts_of version.now).3 ++ marked 43 (parts_of version.now).4))))) result }
 {
     put_dotted(out, version.minor)?;
     put_patch(out, version)
@@ -46,7 +52,8 @@ fn put_minor<T: Target>(out: &mut T, version: &Version) -> Put
 
 fn put_version<T: Target>(out: &mut T, version: &Version) -> Put
     requires { (T.state out.old).failures < 2 ^ 64 - 1 }
-    ensures { IsWritten (T.state out.old) (T.state out.new) (parts_text (parts_of version.now)) result }
+    ensures { IsWritten (T.state out.old) (T.state out.new)
+        (parts_text (parts_of version.now)) result }
 {
     put_number(out, version.major)?;
     put_minor(out, version)
@@ -64,7 +71,8 @@ fn digest(checksum: &Checksum) -> [u8; 32]
 
 fn put_checksum<T: Target>(out: &mut T, checksum: &Checksum) -> Put
     requires { (T.state out.old).failures < 2 ^ 64 - 1 }
-    ensures { IsWritten (T.state out.old) (T.state out.new) (codes "checksum:" ++ digest_text (digest_of checksum.now)) result }
+    ensures { IsWritten (T.state out.old) (T.state out.new)
+        (codes "checksum:" ++ digest_text (digest_of checksum.now)) result }
 {
     let digest = digest(checksum);
     let mut digits = [0u8; 64];
@@ -77,7 +85,8 @@ fn put_checksum<T: Target>(out: &mut T, checksum: &Checksum) -> Put
 // What is checked out of a repository, plain, as the query of its URL.
 fn put_query<T: Target>(out: &mut T, reference: &GitReference) -> Put
     requires { (T.state out.old).failures < 2 ^ 64 - 1 }
-    ensures { IsWritten (T.state out.old) (T.state out.new) (query_text false (reference_of reference.now)) result }
+    ensures { IsWritten (T.state out.old) (T.state out.new)
+        (query_text false (reference_of reference.now)) result }
 {
     match reference {
         GitReference::DefaultBranch => Ok(()),
@@ -90,7 +99,8 @@ fn put_query<T: Target>(out: &mut T, reference: &GitReference) -> Put
 // The commit of a repository, as the fragment of its URL.
 fn put_fragment<T: Target>(out: &mut T, precise: Option<&str>) -> Put
     requires { (T.state out.old).failures < 2 ^ 64 - 1 }
-    ensures { IsWritten (T.state out.old) (T.state out.new) (fragment_text (option_copied precise.entry)) result }
+    ensures { IsWritten (T.state out.old) (T.state out.new)
+        (fragment_text (option_copied precise.entry)) result }
 {
     match precise {
         Some(text) => put_both(out, b"#", text.as_bytes()),
@@ -101,7 +111,9 @@ fn put_fragment<T: Target>(out: &mut T, precise: Option<&str>) -> Put
 // The query and the fragment of a git source.
 fn put_place<T: Target>(out: &mut T, reference: &GitReference, precise: Option<&str>) -> Put
     requires { (T.state out.old).failures < 2 ^ 64 - 1 }
-    ensures { IsWritten (T.state out.old) (T.state out.new) (query_text false (reference_of reference.now) ++ fragment_text (option_copied precise.entry)) result }
+    ensures { IsWritten (T.state out.old) (T.state out.new)
+        (query_text false (reference_of reference.now)
+        ++ fragment_text (option_copied precise.entry)) result }
 {
     put_query(out, reference)?;
     put_fragment(out, precise)
@@ -115,7 +127,11 @@ fn put_git<T: Target>(
     precise: Option<&str>,
 ) -> Put
     requires { (T.state out.old).failures < 2 ^ 64 - 1 }
-    ensures { IsWritten (T.state out.old) (T.state out.new) (codes "git+" ++ (url.now ++ (query_text false (reference_of reference.now) ++ fragment_text (option_copied precise.entry)))) result }
+    ensures { IsWritten (T.state out.old) (T.state out.new)
+        (codes "git+"
+        ++ (url.now ++
+        (query_text false (reference_of reference.now)
+        ++ fragment_text (option_copied precise.entry)))) result }
 {
     put_both(out, b"git+", url.as_bytes())?;
     put_place(out, reference, precise)
@@ -140,7 +156,8 @@ fn put_source<T: Target>(out: &mut T, source: &SourceId) -> Put
 
 fn put_exact_text<T: Target>(out: &mut T, one: &Package) -> Put
     requires { (T.state out.old).failures < 2 ^ 64 - 1 }
-    ensures { IsWritten (T.state out.old) (T.state out.new) (exact_text one.now.checksum one.now.source) result }
+    ensures { IsWritten (T.state out.old) (T.state out.new)
+        (exact_text one.now.checksum one.now.source) result }
 {
     match (&one.checksum, &one.source) {
         (Some(checksum), _) => put_checksum(out, checksum),
@@ -154,7 +171,8 @@ fn put_exact_text<T: Target>(out: &mut T, one: &Package) -> Put
 // A space, and what tells the package exactly.
 fn put_exactly<T: Target>(out: &mut T, one: &Package) -> Put
     requires { (T.state out.old).failures < 2 ^ 64 - 1 }
-    ensures { IsWritten (T.state out.old) (T.state out.new) (codes " " ++ exact_text one.now.checksum one.now.source) result }
+    ensures { IsWritten (T.state out.old) (T.state out.new)
+        (codes " " ++ exact_text one.now.checksum one.now.source) result }
 {
     put_all(out, b" ")?;
     put_exact_text(out, one)
@@ -163,7 +181,8 @@ fn put_exactly<T: Target>(out: &mut T, one: &Package) -> Put
 // A name, a space and a version.
 fn put_name<T: Target>(out: &mut T, name: &Name, version: &Version) -> Put
     requires { (T.state out.old).failures < 2 ^ 64 - 1 }
-    ensures { IsWritten (T.state out.old) (T.state out.new) (name.now ++ (codes " " ++ parts_text (parts_of version.now))) result }
+    ensures { IsWritten (T.state out.old) (T.state out.new)
+        (name.now ++ (codes " " ++ parts_text (parts_of version.now))) result }
 {
     put_both(out, name.as_str().as_bytes(), b" ")?;
     put_version(out, version)
@@ -172,7 +191,8 @@ fn put_name<T: Target>(out: &mut T, name: &Name, version: &Version) -> Put
 // The name and the version of a package.
 fn put_identity<T: Target>(out: &mut T, one: &Package) -> Put
     requires { (T.state out.old).failures < 2 ^ 64 - 1 }
-    ensures { IsWritten (T.state out.old) (T.state out.new) (one.now.name ++ (codes " " ++ parts_text one.now.version)) result }
+    ensures { IsWritten (T.state out.old) (T.state out.new)
+        (one.now.name ++ (codes " " ++ parts_text one.now.version)) result }
 {
     put_name(out, &one.name, &one.version)
 }

@@ -27,7 +27,13 @@ pub(crate) struct OfSink<'a, S> {
 }
 
 impl<S: Sink> Target for OfSink<'_, S> {
-    ghost state = { λ out. record { bytes = S.taken out.sink.now; failures = S.failures out.sink.now; borrow = out.sink.ghost_name } };
+    ghost state = { λ out.
+        record {
+          bytes = S.taken out.sink.now;
+          failures = S.failures out.sink.now;
+          borrow =
+              out.sink.ghost_name;
+        } };
 
     fn put(&mut self, bytes: &[u8]) -> Result<usize, ErrorKind> {
         self.sink.put(bytes)
@@ -42,7 +48,13 @@ pub(crate) struct OfWriter<'a, W> {
 }
 
 impl<W: Write> Target for OfWriter<'_, W> {
-    ghost state = { λ out. record { bytes = W.contents out.writer.now; failures = out.faults; borrow = out.writer.ghost_name } };
+    ghost state = { λ out.
+        record {
+          bytes = W.contents out.writer.now;
+          failures = out.faults;
+          borrow =
+              out.writer.ghost_name;
+        } };
 
     fn put(&mut self, bytes: &[u8]) -> Result<usize, ErrorKind> {
         write_some(&mut *self.writer, &mut self.faults, bytes)

@@ -26,7 +26,8 @@ use std::io::Write;
 // What stands for a level above an entry.
 fn put_level<T: Target>(out: &mut T, symbols: &Symbols, more: bool) -> Put
     requires { (T.state out.old).failures < 2 ^ 64 - 1 }
-    ensures { IsWritten (T.state out.old) (T.state out.new) (level_text standard_symbols more) result }
+    ensures { IsWritten (T.state out.old) (T.state out.new)
+        (level_text standard_symbols more) result }
 {
     let first = if more { symbols.down.as_bytes() } else { b" " };
     put_both(out, first, b"   ")
@@ -43,7 +44,8 @@ fn put_levels<T: Target>(
     requires sound { (T.state out.old).failures < 2 ^ 64 - 1 }
     requires on { IsOn graph.now walk.now }
     requires levels { levels ≤ vec_len walk.now.stack }
-    ensures { IsWritten (T.state out.old) (T.state out.new) (levels_text standard_symbols levels (to_come graph.now walk.now)) result }
+    ensures { IsWritten (T.state out.old) (T.state out.new)
+        (levels_text standard_symbols levels (to_come graph.now walk.now)) result }
 {
     for level in 0..levels {
         put_level(out, symbols, walk.goes_on(graph, level))?;
@@ -54,7 +56,8 @@ fn put_levels<T: Target>(
 // What stands before a label.
 fn put_branch<T: Target>(out: &mut T, symbols: &Symbols, more: bool) -> Put
     requires { (T.state out.old).failures < 2 ^ 64 - 1 }
-    ensures { IsWritten (T.state out.old) (T.state out.new) (branch_text standard_symbols more) result }
+    ensures { IsWritten (T.state out.old) (T.state out.new)
+        (branch_text standard_symbols more) result }
 {
     let first = if more { symbols.tee } else { symbols.ell };
     put_both(out, first.as_bytes(), symbols.right.as_bytes())?;
@@ -72,7 +75,8 @@ fn put_prefix<T: Target>(
     requires sound { (T.state out.old).failures < 2 ^ 64 - 1 }
     requires on { IsOn graph.now walk.now }
     requires depth { depth ≤ vec_len walk.now.stack }
-    ensures { IsWritten (T.state out.old) (T.state out.new) (prefix_by_later standard_symbols depth (to_come graph.now walk.now)) result }
+    ensures { IsWritten (T.state out.old) (T.state out.new)
+        (prefix_by_later standard_symbols depth (to_come graph.now walk.now)) result }
 {
     if depth == 0 {
         return Ok(());
@@ -85,7 +89,8 @@ fn put_prefix<T: Target>(
 fn put_node<T: Target>(out: &mut T, graph: &Graph, node: NodeIndex, exact: bool) -> Put
     requires sound { (T.state out.old).failures < 2 ^ 64 - 1 }
     requires node { node < length graph.now.packages }
-    ensures { IsWritten (T.state out.old) (T.state out.new) (label_at exact graph.now.packages node ++ (10 ∷ [])) result }
+    ensures { IsWritten (T.state out.old) (T.state out.new)
+        (label_at exact graph.now.packages node ++ (10 ∷ [])) result }
 {
     put_label(out, &graph[node], exact)?;
     put_all(out, b"\n")
@@ -104,7 +109,9 @@ fn put_line<T: Target>(
     requires on { IsOn graph.now walk.now }
     requires depth { entry.depth ≤ vec_len walk.now.stack }
     requires node { entry.node < length graph.now.packages }
-    ensures { IsWritten (T.state out.old) (T.state out.new) (line_by_later standard_symbols (label_at exact graph.now.packages) entry (to_come graph.now walk.now)) result }
+    ensures { IsWritten (T.state out.old) (T.state out.new)
+        (line_by_later standard_symbols (label_at exact graph.now.packages) entry
+        (to_come graph.now walk.now)) result }
 {
     put_prefix(out, symbols, graph, walk, entry.depth)?;
     put_node(out, graph, NodeIndex::new(entry.node), exact)
@@ -123,7 +130,9 @@ fn put_entries<T: Target>(
     ensures on { IsOn graph.now walk.new }
     ensures levels { OnOk result ((earlier : List ℕ) → AreMarked walk.old.visited.items earlier
         → walk.new.most ≡ max walk.old.most (most_levels earlier (to_come graph.now walk.old))) }
-    ensures written { IsWritten (T.state out.old) (T.state out.new) (drawn_by_later standard_symbols (label_at exact graph.now.packages) (to_come graph.now walk.old)) result }
+    ensures written { IsWritten (T.state out.old) (T.state out.new)
+        (drawn_by_later standard_symbols (label_at exact graph.now.packages)
+        (to_come graph.now walk.old)) result }
 {
     while let Some(entry) = walk.next(graph) {
         put_line(out, symbols, graph, walk, entry, exact)?;
@@ -146,7 +155,9 @@ fn put_drawing<T: Target>(
     ensures on { IsOn graph.now walk.new }
     ensures levels { OnOk result ((earlier : List ℕ) → AreMarked walk.old.visited.items earlier
         → walk.new.most ≡ max walk.old.most (most_levels earlier (to_come graph.now walk.old))) }
-    ensures written { IsWritten (T.state out.old) (T.state out.new) (drawn_by_later standard_symbols (label_at exact graph.now.packages) (record { node = start; depth = 0 } ∷ to_come graph.now walk.old)) result }
+    ensures written { IsWritten (T.state out.old) (T.state out.new)
+        (drawn_by_later standard_symbols (label_at exact graph.now.packages)
+        (record { node = start; depth = 0 } ∷ to_come graph.now walk.old)) result }
 {
     let first = Entry {
         node: start.index(),
@@ -169,7 +180,11 @@ fn draw<T: Target>(
 ) -> Result<usize>
     requires sound { (T.state out.old).failures < 2 ^ 64 - 1 }
     requires start { start < length graph.now.packages }
-    ensures drawn { (entries : List Entry) × IsDrawing (far_ends direction graph.now.edges) start entries × IsRendered (T.state out.old) (T.state out.new) (drawn standard_symbols (label_at exact graph.now.packages) entries) result × IfOk result (λ most. most ≡ most_levels [] entries) }
+    ensures drawn { (entries : List Entry)
+        × IsDrawing (far_ends direction graph.now.edges) start entries
+        × IsRendered (T.state out.old) (T.state out.new)
+        (drawn standard_symbols (label_at exact graph.now.packages) entries) result × IfOk result
+        (λ most. most ≡ most_levels [] entries) }
     ensures frames { IfOk result (λ most. most ≤ length graph.now.packages) }
 {
     graph.has_both_ends();
@@ -199,7 +214,10 @@ pub fn render_into<S: Sink>(
 ) -> Result<()>
     requires sound { S.failures sink.old < 2 ^ 64 - 1 }
     requires start { start < length graph.now.packages }
-    ensures { (entries : List Entry) × IsDrawing (far_ends direction graph.now.edges) start entries × IsRenderedInto (S.taken sink.old) (S.taken sink.new) (S.failures sink.old) (S.failures sink.new) (drawn standard_symbols (label_at exact graph.now.packages) entries) result }
+    ensures { (entries : List Entry) × IsDrawing (far_ends direction graph.now.edges) start entries
+        × IsRenderedInto (S.taken sink.old) (S.taken sink.new) (S.failures sink.old)
+        (S.failures sink.new)
+        (drawn standard_symbols (label_at exact graph.now.packages) entries) result }
 {
     let mut out = OfSink { sink };
     let drawn = draw(alloc, &mut out, graph, start, direction, symbols, exact);
@@ -223,7 +241,9 @@ pub fn render_onto<W: Write>(
     exact: bool,
 ) -> Result<()>
     requires { start < length graph.now.packages }
-    ensures { (entries : List Entry) × IsDrawing (far_ends direction graph.now.edges) start entries × IsRenderedTo (W.contents writer.old) (W.contents writer.new) (drawn standard_symbols (label_at exact graph.now.packages) entries) result }
+    ensures { (entries : List Entry) × IsDrawing (far_ends direction graph.now.edges) start entries
+        × IsRenderedTo (W.contents writer.old) (W.contents writer.new)
+        (drawn standard_symbols (label_at exact graph.now.packages) entries) result }
 {
     let mut out = OfWriter { writer, faults: 0 };
     let drawn = draw(alloc, &mut out, graph, start, direction, symbols, exact);

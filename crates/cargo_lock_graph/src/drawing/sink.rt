@@ -21,7 +21,8 @@ pub trait Sink {
     fn put(&mut self, bytes: &[u8]) -> Result<usize, ErrorKind>
         requires some { 0 < length bytes.now }
         requires countable { failures self.old < 2 ^ 64 - 1 }
-        ensures { IsPut (taken self.old) (taken self.new) (failures self.old) (failures self.new) bytes.now result };
+        ensures { IsPut (taken self.old) (taken self.new) (failures self.old)
+            (failures self.new) bytes.now result };
 
     /// How often it has failed.
     fn faults(&self) -> u64

@@ -44,7 +44,9 @@ impl Walk {
         ensures direction { IfOk result (λ walk. walk.direction ≡ direction) }
         ensures first { IfOk result (λ walk.
             AreMarked walk.visited.items (start ∷ []) × (walk.most ≡ 1)) }
-        ensures all { IfOk result (λ walk. record { node = start; depth = 0 } ∷ to_come graph.now walk ≡ drawing (far_ends direction graph.now.edges) (length graph.now.packages) start) }
+        ensures all { IfOk result
+            (λ walk. record { node = start; depth = 0 } ∷ to_come graph.now walk
+            ≡ drawing (far_ends direction graph.now.edges) (length graph.now.packages) start) }
     {
         let count = graph.node_count();
         let visited = vec![in alloc; false; count]?;
@@ -69,7 +71,9 @@ impl Walk {
         ensures drawn { (depth : ℕ) → depth ≡ vec_len self.old.stack
             → HasDrawn self.old self.new (record { node = node; depth = depth }) }
         ensures entry { (depth : ℕ) → depth ≡ vec_len self.old.stack
-            → rest_of (far_ends self.old.direction graph.now.edges) self.old.visited.items (record { node = node; depth = depth } ∷ waiting self.old.direction graph.now.edges 0 self.old.stack.items)
+            → rest_of (far_ends self.old.direction graph.now.edges) self.old.visited.items
+            (record { node = node; depth = depth }
+            ∷ waiting self.old.direction graph.now.edges 0 self.old.stack.items)
             ≡ record { node = node; depth = depth } ∷ to_come graph.now self.new }
     {
         if !self.visited[node.index()] {
@@ -82,12 +86,16 @@ impl Walk {
 
     // Draws the edge at a place, that of a frame which was taken off the stack.
     fn follow(&mut self, graph: &Graph, edge: usize) -> Entry
-        requires { IsHeld (length graph.now.packages) (length graph.now.edges) self.old.visited.items (self.old.stack.items ++ Some edge ∷ []) (vec_capacity self.old.stack) self.old.most }
+        requires { IsHeld (length graph.now.packages)
+            (length graph.now.edges) self.old.visited.items (self.old.stack.items ++ Some edge ∷ [])
+            (vec_capacity self.old.stack) self.old.most }
         ensures on { IsOn graph.now self.new }
         ensures direction { self.new.direction ≡ self.old.direction }
         ensures drawn { HasDrawn self.old self.new result }
-        ensures fits { (0 < result.depth) × (result.depth ≤ vec_len self.new.stack) × (result.node < length graph.now.packages) }
-        ensures entry { coming self.old.direction graph.now.edges self.old.visited.items (self.old.stack.items ++ Some edge ∷ []) ≡ result ∷ to_come graph.now self.new }
+        ensures fits { (0 < result.depth) × (result.depth ≤ vec_len self.new.stack)
+            × (result.node < length graph.now.packages) }
+        ensures entry { coming self.old.direction graph.now.edges self.old.visited.items
+            (self.old.stack.items ++ Some edge ∷ []) ≡ result ∷ to_come graph.now self.new }
     {
         let node = graph.far_end(edge, self.direction);
         let older = graph.older(edge, self.direction);
@@ -108,8 +116,11 @@ impl Walk {
         ensures drawn { MatchOption result
             (self.new.most ≡ self.old.most)
             (λ e. HasDrawn self.old self.new e) }
-        ensures fits { IfSome result (λ e. (0 < e.depth) × (e.depth ≤ vec_len self.new.stack) × (e.node < length graph.now.packages)) }
-        ensures entry { MatchOption result (to_come graph.now self.old ≡ []) (λ e. to_come graph.now self.old ≡ e ∷ to_come graph.now self.new) }
+        ensures fits { IfSome result
+            (λ e. (0 < e.depth) × (e.depth ≤ vec_len self.new.stack)
+            × (e.node < length graph.now.packages)) }
+        ensures entry { MatchOption result (to_come graph.now self.old ≡ [])
+            (λ e. to_come graph.now self.old ≡ e ∷ to_come graph.now self.new) }
     {
         while let Some(frame) = self.stack.pop() {
             if let Some(edge) = frame {

@@ -131,7 +131,8 @@ impl SourceId {
 
     /// What is checked out of the repository, if the source is one.
     pub fn git_reference(&self) -> Option<&GitReference>
-        ensures { option_map (λ reference. reference_of reference.now) result ≡ git_reference self.now.kind }
+        ensures { option_map (λ reference. reference_of reference.now) result
+            ≡ git_reference self.now.kind }
     {
         match self.kind() {
             SourceKind::Git(reference) => Some(reference),
@@ -141,7 +142,8 @@ impl SourceId {
 
     /// A repository at this URL, with no precise text.
     pub fn for_git(url: &Url, reference: GitReference) -> Result<SourceId>
-        ensures ok { IfOk result (λ source. source ≡ plain_source (Git (reference_of reference)) None url.now) }
+        ensures ok { IfOk result
+            (λ source. source ≡ plain_source (Git (reference_of reference)) None url.now) }
         ensures err { IsOkUnless result Memory }
     {
         SourceId::of(url, SourceKind::Git(reference))
@@ -157,7 +159,8 @@ impl SourceId {
 
     /// This source with another precise text, or with none.
     pub fn with_precise(&self, precise: Option<String>) -> Result<SourceId>
-        ensures ok { IfOk result (λ source. source ≡ record self.now { precise = option_map string_bytes precise }) }
+        ensures ok { IfOk result
+            (λ source. source ≡ record self.now { precise = option_map string_bytes precise }) }
         ensures err { IsOkUnless result Memory }
     {
         let alloc = allocator_of(self.url())?;
@@ -179,7 +182,8 @@ impl SourceId {
         kind: SourceKind,
         precise: Option<String>,
     ) -> std::result::Result<SourceId, AllocError>
-        ensures { IfOk result (λ source. source ≡ plain_source (kind_of kind) (option_map string_bytes precise) url) }
+        ensures { IfOk result
+            (λ source. source ≡ plain_source (kind_of kind) (option_map string_bytes precise) url) }
     {
         let parts = SourceParts {
             url,
@@ -277,7 +281,8 @@ impl Clone for SourceKind {
 }
 
 fn clone_text(text: &Option<String>) -> std::result::Result<Option<String>, AllocError>
-    ensures { IfOk result (λ copy. option_map string_bytes copy ≡ option_map string_bytes text.now) }
+    ensures { IfOk result
+        (λ copy. option_map string_bytes copy ≡ option_map string_bytes text.now) }
 {
     match text {
         Some(text) => Ok(Some(text.clone()?)),
@@ -381,7 +386,8 @@ impl SourceId {
     }
 
     fn cmp_references(&self, other: &SourceId) -> Ordering
-        ensures { result ≡ slice_cmp nat_cmp (reference_text self.now.kind) (reference_text other.now.kind) }
+        ensures { result
+            ≡ slice_cmp nat_cmp (reference_text self.now.kind) (reference_text other.now.kind) }
     {
         let text = self.kind().reference_text();
         text.cmp(other.kind().reference_text())
@@ -389,7 +395,8 @@ impl SourceId {
 
     fn cmp_precise(&self, other: &SourceId) -> Ordering
         ensures { result ≡ option_cmp (slice_cmp nat_cmp)
-            (precise_if_git self.now.kind self.now.precise) (precise_if_git other.now.kind other.now.precise) }
+            (precise_if_git self.now.kind self.now.precise)
+            (precise_if_git other.now.kind other.now.precise) }
     {
         cmp_texts(self.precise_if_git(), other.precise_if_git())
     }
@@ -397,7 +404,8 @@ impl SourceId {
 
 // An absent text stands before a present one.
 fn cmp_texts(a: Option<&str>, b: Option<&str>) -> Ordering
-    ensures { result ≡ option_cmp (slice_cmp nat_cmp) (option_copied a.entry) (option_copied b.entry) }
+    ensures { result
+        ≡ option_cmp (slice_cmp nat_cmp) (option_copied a.entry) (option_copied b.entry) }
 {
     match (a, b) {
         (None, None) => Ordering::Equal,

@@ -19,6 +19,9 @@ pub fn asked(alloc: Global, words: &[&str], texts: Texts<'_>) -> Result<String, 
         ["values", how @ ..] => tables::values_asked(alloc, how, texts.subject),
         ["kept", "by", "tables", "in", format] => kept_by_tables(alloc, texts.subject, format),
         ["equal"] => are_equal(alloc, texts.at_hand, texts.beside),
+        ["equal", "with", "carriage", "returns"] => {
+            equal_with_carriage_returns(alloc, texts.subject)
+        }
         ["fronts"] => fronts(alloc, texts.subject),
         _ => lockfile_asked(alloc, words, texts.subject),
     }
@@ -28,7 +31,6 @@ fn meaning_asked(alloc: Global, how: &[&str], texts: Texts<'_>) -> Result<String
     match how {
         [] => both_meanings(alloc, texts.subject),
         ["of", "text"] => meaning_of_text(alloc, texts.subject),
-        ["of", "table"] => meaning_of_table(alloc, texts.subject),
         ["around"] => meaning_around(alloc, texts),
         ["with", "carriage", "returns"] => with_carriage_returns(alloc, texts.subject),
         ["by", "table", "in", format] => by_table_in(alloc, texts.subject, format),
@@ -123,7 +125,7 @@ pub fn around(alloc: Global, texts: Texts<'_>) -> Result<String, Error> {
 
 fn meaning_around(alloc: Global, texts: Texts<'_>) -> Result<String, Error> {
     let text = around(alloc, texts)?;
-    meaning_of_table(alloc, text.as_str())
+    both_meanings(alloc, text.as_str())
 }
 
 /// The meaning where a carriage return stands before each newline.
@@ -187,6 +189,12 @@ fn is_kept(alloc: Global, lockfile: &Lockfile) -> Result<String, Error> {
 fn are_equal(alloc: Global, one: &str, other: &str) -> Result<String, Error> {
     let one = read(alloc, one)?;
     is_equal(alloc, &one, other)
+}
+
+/// Whether a text means an equal lockfile where a carriage return stands before each newline.
+fn equal_with_carriage_returns(alloc: Global, text: &str) -> Result<String, Error> {
+    let other = text.replace(alloc, "\n", "\r\n")?;
+    are_equal(alloc, text, other.as_str())
 }
 
 fn is_equal(alloc: Global, one: &Lockfile, other: &str) -> Result<String, Error> {

@@ -1,8 +1,8 @@
 use Rattle.std.proofs.Common.{◌≡◌, [], drop}
-use Rattle.cargo_lock_encoding.specs.declared.version.ResolveVersion.TheVariants.{V1}
+use Rattle.cargo_lock_references.specs.declared.version.ResolveVersion.TheVariants.{V1}
 use Rattle.cargo_lock_encoding.specs.Meaning.{entry_package}
-use Rattle.cargo_lock_encoding.specs.Optional.{map_all}
-use Rattle.cargo_lock_encoding.proofs.Walk.{after}
+use Rattle.cargo_lock_references.specs.Optional.{map_all}
+use Rattle.cargo_lock_references.proofs.Walk.{after}
 use Rattle.cargo_lock_encoding.proofs.meaning.each_in_full.Given as goal
 
 abbrev pub invariant-loop-entry : goal.invariant-loop-entry

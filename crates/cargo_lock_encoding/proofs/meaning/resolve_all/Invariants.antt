@@ -1,8 +1,8 @@
 use Rattle.std.proofs.Common.{◌≡◌, drop, map}
-use Rattle.cargo_lock_encoding.specs.Optional.{map_all}
-use Rattle.cargo_lock_encoding.specs.Records.{entry_identity}
-use Rattle.cargo_lock_encoding.specs.Said.{said}
-use Rattle.cargo_lock_encoding.proofs.Walk.{after}
+use Rattle.cargo_lock_references.specs.Optional.{map_all}
+use Rattle.cargo_lock_references.specs.Records.{entry_identity}
+use Rattle.cargo_lock_references.specs.Said.{said}
+use Rattle.cargo_lock_references.proofs.Walk.{after}
 use Rattle.cargo_lock_encoding.proofs.meaning.resolve_all.Given as goal
 
 abbrev pub invariant-loop-form : goal.invariant-loop-form

@@ -1,7 +1,7 @@
 use Rattle.std.proofs.Common.{◌≡◌, drop}
 use Rattle.toml.specs.View.{items_view}
 use Rattle.cargo_lock_encoding.specs.TableReading.{read_all, entry_in}
-use Rattle.cargo_lock_encoding.proofs.Walk.{after}
+use Rattle.cargo_lock_references.proofs.Walk.{after}
 use Rattle.cargo_lock_encoding.proofs.reading.entries_of.Given as goal
 
 abbrev pub invariant-loop-value : goal.invariant-loop-value

@@ -1,7 +1,7 @@
 use Rattle.std.proofs.Common.{◌≡◌, option_map}
 use Rattle.std.specs.FinMap.{empty}
 use Rattle.toml.specs.View.{members_view}
-use Rattle.cargo_lock_encoding.specs.Records.{texts_of}
+use Rattle.cargo_lock_references.specs.Records.{texts_of}
 use Rattle.cargo_lock_encoding.specs.TableReading.{pairs_at, put_all}
 use Rattle.cargo_lock_encoding.proofs.reading.texts_at.Given as goal
 

@@ -1,7 +1,7 @@
 use Rattle.std.proofs.Common.{option_map, string_bytes}
 use Rattle.semver.specs.Identifiers.{parts_of}
 use Rattle.cargo_lock_parts.specs.Checksum.{digest_of}
-use Rattle.cargo_lock_encoding.specs.Records.{EntryData}
+use Rattle.cargo_lock_references.specs.Records.{EntryData}
 use Rattle.cargo_lock_encoding.proofs.Lines.{then-entry}
 use Rattle.cargo_lock_encoding.proofs.text.put_package.Goals as goal
 

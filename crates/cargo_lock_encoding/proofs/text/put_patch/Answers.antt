@@ -11,4 +11,4 @@ returns c =
       version = parts_of c.patch.inside.version;
       source = c.patch.inside.source;
     } in
-    rw (← c.patch.view_is) (then-patch c.args.escaped seen (string_bytes c.args.out.now) _ _ _ _ _ c.in_ok-push_str.ensures.bytes c.in_ok-put_name.ensures c.in_ok-put_version.ensures c.in_ok-put_patch_source.ensures c.in_ok-push_str-2.ensures.bytes)
+    rw (← c.patch.view_is) (then-patch c.args.escaped seen (string_bytes c.args.out.now) _ _ _ _ _ c.in_ok-push_str.ensures.bytes c.in_ok-put_name.ensures c.in_ok-put_version.ensures (rw c.written_source.ensures at c.in_ok-put_marked_source.ensures) c.in_ok-push_str-2.ensures.bytes)

@@ -1,8 +1,8 @@
 use Rattle.std.proofs.Common.{sym, ◌∙◌, ap, map}
 use Rattle.semver.specs.Identifiers.{parts_of}
 use Rattle.cargo_lock_parts.specs.Identity.{Identity, identity_of}
-use Rattle.cargo_lock_encoding.specs.Records.{is_escaped}
-use Rattle.cargo_lock_encoding.proofs.ChosenLemmas.{shortened-to_one, shortened-to_two, shortened-to_full}
+use Rattle.cargo_lock_references.specs.Records.{is_escaped}
+use Rattle.cargo_lock_references.proofs.ChosenLemmas.{shortened-to_one, shortened-to_two, shortened-to_full}
 use Rattle.cargo_lock_encoding.proofs.writing.shortest_form.Goals as goal
 
 pub returns-then-is_name_unique : goal.returns-then-is_name_unique

@@ -42,7 +42,7 @@ impl SourceId {
     /// The folder at this path, as a path dependency has it, with no precise text.
     ///
     /// The path is from the root, and becomes a `file` URL: `/a b/./c/` is `file:///a%20b/c`.
-    /// `Parse` says that the path does not begin with `/`. A URL that comes to 4 GB is
+    /// `Parse` says that the path does not begin with `/`. A URL of 4 GB or more is
     /// refused too, which is never so where the path is shorter than 2^24 bytes.
     pub fn for_path(alloc: Global, path: Path<'_>) -> Result<SourceId>
         ensures reads { ReadsUrls (λ source. source) result

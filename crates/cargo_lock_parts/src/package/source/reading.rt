@@ -22,7 +22,7 @@ impl SourceId {
     /// A registry has the precise text `locked`. Of a git source the fragment is the precise text,
     /// and the last pair of the query whose key is `branch`, `ref`, `rev` or `tag` the reference.
     ///
-    /// `Parse` says which part is refused. A URL that comes to 4 GB is refused too, which is never
+    /// `Parse` says which part is refused. A URL of 4 GB or more is refused too, which is never
     /// so where the text is shorter than 2^24 bytes.
     #[tactic(auto, unfolding(crate::specs::SourceReading::source_of))]
     pub fn from_url(alloc: Global, text: &str) -> Result<SourceId>
@@ -89,7 +89,7 @@ pub(super) fn parse_url(alloc: Global, url: &str, size: usize) -> Result<Url>
     }
 }
 
-// The refusal of a URL that comes to 4 GB, in a text of `size` bytes. Short texts have no such URL.
+// The refusal of a URL of 4 GB or more, in a text of `size` bytes. Short texts have no such URL.
 fn too_long(alloc: Global, size: usize) -> Error
     ensures kind { (result ≡ Memory) ⊎ IsTooLong result }
     ensures short { size < 16777216 → result ≡ Memory }
@@ -118,7 +118,8 @@ fn source_by(alloc: Global, protocol: Protocol, url: Url) -> Result<SourceId>
 
 // A registry that stood in a lockfile.
 fn locked_source(alloc: Global, url: Url, kind: SourceKind) -> Result<SourceId>
-    ensures ok { IfOk result (λ source. source ≡ spec.plain_source (kind_of kind) (Some (codes "locked")) url) }
+    ensures ok { IfOk result
+        (λ source. source ≡ spec.plain_source (kind_of kind) (Some (codes "locked")) url) }
     ensures err { IsOkUnless result Memory }
 {
     let precise = Some(String::from_str(alloc, "locked")?);
@@ -155,7 +156,9 @@ fn reference_in(alloc: Global, url: &Url) -> Result<GitReference>
 
 // The reference that a pair names, or the other one if its key is none of a reference.
 fn reference_by(alloc: Global, key: &str, value: &str, other: GitReference) -> Result<GitReference>
-    ensures ok { IfOk result (λ reference. reference_of reference ≡ unwrap_or (reference_named (key.now, value.now)) (reference_of other)) }
+    ensures ok { IfOk result
+        (λ reference. reference_of reference
+        ≡ unwrap_or (reference_named (key.now, value.now)) (reference_of other)) }
     ensures err { IsOkUnless result Memory }
 {
     match key {
@@ -171,7 +174,7 @@ fn without_tail(alloc: Global, mut url: Url) -> Result<Url>
     ensures ok { IfOk result (λ bare. bare ≡ without_tail url) }
     ensures err { IsOkUnless result Memory }
 {
-    // A URL that loses a part comes to no 4 GB.
+    // A URL that loses a part stays below 4 GB.
     if url.set_fragment(None).is_err() || url.set_query(None).is_err() {
         return Err(Error::Memory);
     }

@@ -75,7 +75,8 @@ impl<'a> Model for PrettyRef<'a> {
 
     ghost Value = { MarkedReference };
 
-    ghost view = { λ shown. record { reference = reference_of shown.reference.now; escaped = shown.escaped } };
+    ghost view = { λ shown.
+        record { reference = reference_of shown.reference.now; escaped = shown.escaped } };
 }
 
 impl fmt::Display for PrettyRef<'_> {
@@ -105,7 +106,8 @@ impl fmt::Display for PrettyRef<'_> {
 
 // A reference's value, escaped or not.
 fn write_value<W: fmt::Write>(text: &str, escaped: bool, f: &mut fmt::Formatter<W>) -> fmt::Result
-    ensures { DisplaysOnOk W.write_str_gives f.old result (Some (value_text escaped text.now)) f.new }
+    ensures { DisplaysOnOk W.write_str_gives f.old result
+        (Some (value_text escaped text.now)) f.new }
 {
     if escaped {
         write_serialized(text, f)

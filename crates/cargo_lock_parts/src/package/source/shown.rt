@@ -79,7 +79,7 @@ impl SourceId {
 
     /// The registry of crates.io at `CRATES_IO_INDEX`, with no precise text.
     ///
-    /// The one error is want of memory.
+    /// The one error is `Memory`.
     pub fn default_registry(alloc: Global) -> Result<SourceId>
         ensures source { IfOk result (λ source. default_registry ≡ Some source) }
         ensures default { IfOk result (λ source. is_default_registry source ≡ true) }
@@ -94,7 +94,7 @@ impl SourceId {
     /// The index of the source, in words: `crates.io index`, or for another source its URL in
     /// backquotes and ` index`.
     ///
-    /// The one error is want of memory.
+    /// The one error is `Memory`.
     pub fn display_index(&self, alloc: Global) -> Result<String>
         ensures ok { IfOk result (λ text. string_bytes text ≡ index_text self.now) }
         ensures err { IsOkUnless result Memory }
@@ -110,7 +110,7 @@ impl SourceId {
     /// The name of the registry: `crates.io`, or for another source its name if it has one, or else
     /// its URL.
     ///
-    /// The one error is want of memory.
+    /// The one error is `Memory`.
     pub fn display_registry_name(&self, alloc: Global) -> Result<String>
         ensures ok { IfOk result (λ text. string_bytes text ≡ registry_name_text self.now) }
         ensures err { IsOkUnless result Memory }

@@ -106,7 +106,8 @@ fn write_query<W: fmt::Write>(
     escaped: bool,
     f: &mut fmt::Formatter<W>,
 ) -> fmt::Result
-    ensures { DisplaysOnOk W.write_str_gives f.old result (Some (query_text escaped (reference_of reference.now))) f.new }
+    ensures { DisplaysOnOk W.write_str_gives f.old result
+        (Some (query_text escaped (reference_of reference.now))) f.new }
 {
     match reference.pretty_ref(escaped) {
         None => Ok(()),
@@ -116,7 +117,8 @@ fn write_query<W: fmt::Write>(
 
 // The fragment of a git source.
 fn write_fragment<W: fmt::Write>(precise: Option<&str>, f: &mut fmt::Formatter<W>) -> fmt::Result
-    ensures { DisplaysOnOk W.write_str_gives f.old result (Some (fragment_text (option_copied precise.entry))) f.new }
+    ensures { DisplaysOnOk W.write_str_gives f.old result
+        (Some (fragment_text (option_copied precise.entry))) f.new }
 {
     match precise {
         Some(precise) => write!(f, "#{precise}"),

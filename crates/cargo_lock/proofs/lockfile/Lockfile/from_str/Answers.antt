@@ -1,6 +1,6 @@
 use Rattle.std.proofs.Common.{arith}
 use Rattle.std.proofs.lemmas.Bool.Decides.{nat_tests}
-use Rattle.cargo_lock.proofs.MeansLemmas.{FindsUrls-kept, Finds-kept}
+use Rattle.cargo_lock_encoding.proofs.MeansLemmas.{FindsUrls-kept, Finds-kept}
 use Rattle.cargo_lock.proofs.lockfile.Lockfile.from_str.Goals as goal
 
 pub returns-in-Err-clause-read : goal.returns-in-Err-clause-read

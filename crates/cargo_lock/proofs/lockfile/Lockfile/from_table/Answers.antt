@@ -1,5 +1,5 @@
 use Rattle.std.proofs.Common.{◌∙◌, Err}
-use Rattle.cargo_lock.proofs.MeansLemmas.{FindsUrls-kept, FindsUrls-means, Finds-kept, Means-from}
+use Rattle.cargo_lock_encoding.proofs.MeansLemmas.{FindsUrls-kept, FindsUrls-means, Finds-kept, Means-from}
 use Rattle.cargo_lock.proofs.lockfile.Lockfile.from_table.Goals as goal
 
 pub returns-in-Ok-clause-read : goal.returns-in-Ok-clause-read

@@ -1,4 +1,4 @@
-use Rattle.cargo_lock.proofs.MeansLemmas.{FindsUrls-means, FindsUrls-refused, FindsUrls-text}
+use Rattle.cargo_lock_encoding.proofs.MeansLemmas.{FindsUrls-means, FindsUrls-refused, FindsUrls-text}
 use Rattle.cargo_lock.proofs.lockfile.reading.read_text.Goals as goal
 
 pub returns-in-Ok : goal.returns-in-Ok

@@ -1,9 +1,0 @@
-use Rattle.std.proofs.Common.{map, refl}
-use Rattle.cargo_lock_parts.specs.Identity.{identity_of}
-use Rattle.cargo_lock.proofs.SurvivalTests.{reads-in-list, survives-by}
-use Rattle.cargo_lock.proofs.lockfile.survival.survives_among.Goals as goal
-
-pub returns-in_ok-survives-in-V2 : goal.returns-in_ok-survives-in-V2
-returns-in_ok-survives-in-V2 c =
-    survives-by c.in_ok-survives-in-V2.survives _ _ _ _ c.args.dependency.now
-    refl (reads-in-list c.args.format (map identity_of c.args.list.now) c.in-V2.is) c.in_ok-survives-in-V2.ensures

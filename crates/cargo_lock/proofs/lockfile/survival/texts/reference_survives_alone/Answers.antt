@@ -1,7 +1,0 @@
-use Rattle.std.proofs.Common.{ap, map, refl}
-use Rattle.cargo_lock_parts.specs.Identity.{identity_of}
-use Rattle.cargo_lock.proofs.SurvivalTests.{survives-by}
-use Rattle.cargo_lock.proofs.lockfile.survival.texts.reference_survives_alone.Goals as goal
-
-pub returns : goal.returns
-returns c = survives-by c.in_ok-survives.survives _ _ _ _ c.args.dependency.now refl (ap (map identity_of) c.none-empty.ensures) c.in_ok-survives.ensures

@@ -1,6 +1,0 @@
-use Rattle.cargo_lock_parts.specs.SourceReading.{source_of}
-use Rattle.cargo_lock.proofs.SurvivalTests.{same-source}
-use Rattle.cargo_lock.proofs.lockfile.survival.texts.source_reads_as.Goals as goal
-
-pub returns-in-Ok : goal.returns-in-Ok
-returns-in-Ok c = same-source (source_of c.args.text.now) c.in-Ok.read c.args.source.now c.eq.result c.in-Ok.ensures.read c.eq.ensures

@@ -1,0 +1,186 @@
+-- The lockfile that a table means, by the relation and as it is computed, is the same.
+use Rattle.std.proofs.Common.{◌≡◌, ◌⊎◌, ℕ, List, [], ◌∷◌, inl, inr, map, Option, Some, None, option_map, Result, Ok, Err, refl, sym, subst, ap, ◌∙◌}
+use Rattle.std.specs.List.{AllZip}
+use Rattle.std.proofs.lemmas.Option.{same_Some, none-some}
+use Rattle.toml.specs.Data.{Members}
+use Rattle.toml.specs.Parse.{parse_document}
+use Rattle.cargo_lock_parts.specs.declared.error.Error.{Error}
+use Rattle.cargo_lock_parts.specs.declared.error.Error.TheVariants.{Io, Parse, Version, Resolution, Memory}
+use Rattle.cargo_lock_parts.specs.Error.{IsTooLong, Reads, ReadsUrls, Refuses}
+use Rattle.cargo_lock_parts.specs.Identity.{Identity, PackageData}
+use Rattle.cargo_lock_references.specs.Finds.{Finds, FindsUrls}
+use Rattle.cargo_lock_encoding.specs.Lockfiles.{format_of}
+use Rattle.cargo_lock_encoding.specs.Means.{IsLocked, IsPackage, Means, TextMeans, entry_checksum, reading_list}
+use Rattle.cargo_lock_encoding.specs.Meaning.{ResolvedData, all_packages, completed, entry_package, locked, meaning, package_of, resolved, root_package}
+use Rattle.cargo_lock_references.specs.Optional.{◌>>=◌, BothOrNone, map_all, map_some}
+use Rattle.cargo_lock_references.specs.Records.{EntryData, bare_source, entry_identity}
+use Rattle.cargo_lock_encoding.specs.Lockfiles.{EncodedData, LockfileData}
+use Rattle.cargo_lock_references.specs.Said.{said}
+use Rattle.cargo_lock_references.specs.Says.{Says}
+use Rattle.cargo_lock_encoding.specs.TableReading.{encoded_at}
+use Rattle.cargo_lock_references.proofs.SaysLemmas.{Says-from, said-from}
+use Rattle.cargo_lock_references.proofs.Walk.{Refuses-by, RefusesUrls-by}
+
+-- ---- lists
+
+pub map_all-from : {X Y : Type 0} (f : X → Option Y) (R : X → Y → Type 0) → ((x : X) (y : Y) → R x y → f x ≡ Some y) → (xs : List X) (ys : List Y) → AllZip R xs ys → map_all f xs ≡ Some ys
+map_all-from f R each [] [] h = refl
+map_all-from f R each [] (y ∷ ys) h = absurd h
+map_all-from f R each (x ∷ xs) [] h = absurd h
+map_all-from f R each (x ∷ xs) (y ∷ ys) h = rw (each x y h.0, map_all-from f R each xs ys h.1)
+
+more-parts : {Y : Type 0} (o : Option Y) (p : Option (List Y)) (zs : List Y) → (o >>= λ y. option_map (λ ys. y ∷ ys) p) ≡ Some zs → (y : Y) × (ys : List Y) × (o ≡ Some y) × (p ≡ Some ys) × (zs ≡ y ∷ ys)
+more-parts None p zs e = absurd (none-some zs e)
+more-parts (Some y) None zs e = absurd (none-some zs e)
+more-parts (Some y) (Some ys) zs e = (y, ys, refl, refl, sym (same_Some _ _ e))
+
+pub AllZip-from : {X Y : Type 0} (f : X → Option Y) (R : X → Y → Type 0) → ((x : X) (y : Y) → f x ≡ Some y → R x y) → (xs : List X) (ys : List Y) → map_all f xs ≡ Some ys → AllZip R xs ys
+AllZip-from f R each [] ys e = let s : [] ≡ ys = same_Some _ _ e in rw (← s) tt
+AllZip-from f R each (x ∷ xs) zs e =
+    let m = more-parts (f x) (map_all f xs) zs e in
+    rw m.4 (each x m.0 m.2, AllZip-from f R each xs m.1 m.3)
+
+-- ---- packages
+
+pub bind-parts : {A B : Type 0} (o : Option A) (f : A → Option B) (b : B) → (o >>= f) ≡ Some b → (a : A) × (o ≡ Some a) × (f a ≡ Some b)
+bind-parts None f b e = absurd (none-some b e)
+bind-parts (Some a) f b e = (a, refl, e)
+
+pub map-parts : {A B : Type 0} (f : A → B) (o : Option A) (b : B) → option_map f o ≡ Some b → (a : A) × (o ≡ Some a) × (f a ≡ b)
+map-parts f None b e = absurd (none-some b e)
+map-parts f (Some a) b e = (a, refl, same_Some _ _ e)
+
+map_some-from : {X Y : Type 0} (f : X → Option Y) (R : X → Y → Type 0) → ((x : X) (y : Y) → R x y → f x ≡ Some y) → (o : Option X) (p : Option Y) → BothOrNone R o p → map_some f o ≡ Some p
+map_some-from f R each None None h = refl
+map_some-from f R each None (Some y) h = absurd h
+map_some-from f R each (Some x) None h = absurd h
+map_some-from f R each (Some x) (Some y) h = rw (each x y h)
+
+some-parts : {Y : Type 0} (o : Option Y) (p : Option Y) → option_map Some o ≡ Some p → (y : Y) × (o ≡ Some y) × (Some y ≡ p)
+some-parts None p e = absurd (none-some p e)
+some-parts (Some y) p e = (y, refl, same_Some _ _ e)
+
+BothOrNone-from : {X Y : Type 0} (f : X → Option Y) (R : X → Y → Type 0) → ((x : X) (y : Y) → f x ≡ Some y → R x y) → (o : Option X) (p : Option Y) → map_some f o ≡ Some p → BothOrNone R o p
+BothOrNone-from f R each None p e = let s : None ≡ p = same_Some _ _ e in rw (← s) tt
+BothOrNone-from f R each (Some x) p e = let s = some-parts (f x) p e in rw (← s.2) (each x s.0 s.1)
+
+pub package_of-from : (list : List Identity) (c : Option (List ℕ)) (e : EntryData) (p : PackageData) → IsPackage list c e p → package_of list c e ≡ Some p
+package_of-from list c e p h =
+    rw (
+      map_all-from (λ f. said f list) (λ f i. Says f list i) (λ f i s. said-from f list i s) e.dependencies p.dependencies h.dependencies,
+      map_some-from (λ f. said f []) (λ f i. Says f [] i) (λ f i s. said-from f [] i s) e.replace p.replace h.replace,
+      ← h.name,
+      ← h.version,
+      ← h.source,
+      ← h.checksum,
+    )
+
+pub IsPackage-from : (list : List Identity) (c : Option (List ℕ)) (e : EntryData) (p : PackageData) → package_of list c e ≡ Some p → IsPackage list c e p
+IsPackage-from list c e p h =
+    let d = bind-parts (map_all (λ f. said f list) e.dependencies) _ p h in
+    let r = bind-parts (map_some (λ f. said f []) e.replace) _ p d.2 in
+    let s : ◌≡◌ {A = PackageData} (record { name = e.name; version = e.version; source = bare_source e.source; checksum = c; dependencies = d.0; replace = r.0 }) p = same_Some _ _ r.2 in
+    rw (← s) (record {
+      name = refl;
+      version = refl;
+      source = refl;
+      checksum = refl;
+      dependencies = AllZip-from (λ f. said f list) (λ f i. Says f list i) (λ f i q. Says-from f list i q) e.dependencies d.0 d.1;
+      replace = BothOrNone-from (λ f. said f []) (λ f i. Says f [] i) (λ f i q. Says-from f [] i q) e.replace r.0 r.1;
+    })
+
+-- ---- lockfiles
+
+pub locked-from : (e : EncodedData) (l : LockfileData) → IsLocked e l → locked e ≡ Some l
+unfolding locked
+locked-from e l h =
+    rw (
+      h.format,
+      map_all-from (entry_package l.version (reading_list l.version (map entry_identity e.entries)) e.metadata) (λ entry p. IsPackage (reading_list l.version (map entry_identity e.entries)) (entry_checksum l.version e.metadata entry) entry p) (λ x y s. package_of-from _ _ x y s) e.entries l.packages h.packages,
+      map_some-from root_package (λ entry p. IsPackage [] entry.checksum entry p) (λ x y s. package_of-from [] _ x y s) e.root l.root h.root,
+      ← h.metadata,
+      ← h.patch,
+    )
+
+pub IsLocked-from : (e : EncodedData) (l : LockfileData) → locked e ≡ Some l → IsLocked e l
+unfolding locked
+IsLocked-from e l h =
+    let w = map-parts (completed e) (resolved e) l h in
+    let v = bind-parts (format_of e) _ w.0 w.1 in
+    let ps = bind-parts (all_packages v.0 e.metadata e.entries) _ w.0 v.2 in
+    let r = bind-parts (map_some root_package e.root) _ w.0 ps.2 in
+    let t : ◌≡◌ {A = ResolvedData} (record { version = v.0; packages = ps.0; root = r.0 }) w.0 = same_Some _ _ r.2 in
+    let s : ◌≡◌ {A = LockfileData} (completed e (record { version = v.0; packages = ps.0; root = r.0 })) l = ap (completed e) t ∙ w.2 in
+    rw (← s) (record {
+      format = v.1;
+      packages = AllZip-from (entry_package v.0 (reading_list v.0 (map entry_identity e.entries)) e.metadata) (λ entry p. IsPackage (reading_list v.0 (map entry_identity e.entries)) (entry_checksum v.0 e.metadata entry) entry p) (λ x y q. IsPackage-from _ _ x y q) e.entries ps.0 ps.1;
+      root = BothOrNone-from root_package (λ entry p. IsPackage [] entry.checksum entry p) (λ x y q. IsPackage-from [] _ x y q) e.root r.0 r.1;
+      metadata = refl;
+      patch = refl;
+    })
+
+pub Finds-locked : (e : EncodedData) (r : Result LockfileData Error) → Reads (λ l. l) r (locked e) → Finds (IsLocked e) r
+Finds-locked e (Ok l) h = IsLocked-from e l h
+Finds-locked e (Err f) h = Refuses-by f _ _ h (λ none l m. none-some l (sym none ∙ locked-from e l m))
+
+pub locked-none : (e : EncodedData) → resolved e ≡ None → locked e ≡ None
+unfolding locked
+locked-none e none = rw none
+
+-- ---- tables
+
+pub meaning-from : (t : Members) (l : LockfileData) → Means t l → meaning t ≡ Some l
+meaning-from t l h = rw (h.values, locked-from h.encoded l h.locked)
+
+pub Means-from : (t : Members) (l : LockfileData) → meaning t ≡ Some l → Means t l
+Means-from t l h =
+    let e = bind-parts (encoded_at t) locked l h in
+    record { encoded = e.0; values = e.1; locked = IsLocked-from e.0 l e.2 }
+
+-- what is computed is what the table means
+pub FindsUrls-means : (t : Members) (r : Result LockfileData Error) → ReadsUrls (λ l. l) r (meaning t) → FindsUrls (Means t) r
+FindsUrls-means t (Ok l) h = Means-from t l h
+FindsUrls-means t (Err e) h = RefusesUrls-by e _ _ h (λ none l m. none-some l (sym none ∙ meaning-from t l m))
+
+-- a table means at most one lockfile
+pub Means-one : (t : Members) (a b : LockfileData) → Means t a → Means t b → a ≡ b
+Means-one t a b p q = same_Some _ _ (sym (meaning-from t a p) ∙ meaning-from t b q)
+
+-- ---- texts
+
+pub FindsUrls-text : (text : List ℕ) (t : Members) (r : Result LockfileData Error) → parse_document text ≡ Some t
+    → FindsUrls (Means t) r → FindsUrls (TextMeans text) r
+FindsUrls-text text t (Ok l) parsed h = record { table = t; parsed = parsed; means = h }
+FindsUrls-text text t (Err e) parsed h =
+    RefusesUrls-by e _ _ h (λ never l m. never l (subst (λ (u : Members). Means u l) (same_Some _ _ (sym m.parsed ∙ parsed)) m.means))
+
+-- a text that is no table means nothing
+pub FindsUrls-refused : (text : List ℕ) (e : Error) (P : Type 0) → Refuses e P → (P → parse_document text ≡ None)
+    → FindsUrls (TextMeans text) (Err e)
+FindsUrls-refused text (Io kind) P h f = absurd h
+FindsUrls-refused text (Parse said) P h f = inl (λ l m. none-some m.table (sym (f h) ∙ m.parsed))
+FindsUrls-refused text (Version fault) P h f = absurd h
+FindsUrls-refused text (Resolution said) P h f = absurd h
+FindsUrls-refused text Memory P h f = tt
+
+-- ---- refusals for length
+
+-- a fault that is kept or told as out of memory
+pub FindsUrls-kept : (P : LockfileData → Type 0) (e kept : Error) (Q : Type 0) → FindsUrls P (Err e)
+    → (kept ≡ Memory) ⊎ ((kept ≡ e) × Q) → FindsUrls P (Err kept)
+FindsUrls-kept P e kept Q h (inl memory) = rw memory tt
+FindsUrls-kept P e kept Q h (inr same) = rw same.0 h
+
+Finds-not_long : (P : LockfileData → Type 0) (e : Error) → FindsUrls P (Err e) → ¬ IsTooLong e → Finds P (Err e)
+Finds-not_long P (Io kind) h other = absurd h
+Finds-not_long P (Parse said) (inl never) other = never
+Finds-not_long P (Parse said) (inr long) other = absurd (other long)
+Finds-not_long P (Version fault) h other = absurd h
+Finds-not_long P (Resolution said) h other = absurd h
+Finds-not_long P Memory h other = tt
+
+-- the same, where it is not kept for its length
+pub Finds-kept : (P : LockfileData → Type 0) (e kept : Error) (Q : Type 0) → FindsUrls P (Err e)
+    → (kept ≡ Memory) ⊎ ((kept ≡ e) × (Q → ¬ IsTooLong e)) → Q → Finds P (Err kept)
+Finds-kept P e kept Q h (inl memory) q = rw memory tt
+Finds-kept P e kept Q h (inr same) q = rw same.0 (Finds-not_long P e h (same.1 q))

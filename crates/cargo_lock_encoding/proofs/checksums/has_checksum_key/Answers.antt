@@ -1,6 +1,0 @@
-use Rattle.cargo_lock_encoding.specs.Metadata.{has_checksum_key}
-use Rattle.cargo_lock_encoding.proofs.checksums.has_checksum_key.Goals as goal
-
-pub returns : goal.returns
-unfolding has_checksum_key
-returns c = rw c.ordered.ensures c.has_checksum_among.ensures

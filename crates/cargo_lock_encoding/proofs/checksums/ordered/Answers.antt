@@ -1,5 +1,0 @@
-use Rattle.cargo_lock_encoding.proofs.Texts.{entries-of}
-use Rattle.cargo_lock_encoding.proofs.checksums.ordered.Goals as goal
-
-pub returns : goal.returns
-returns c = entries-of c.args.metadata.now.entries c.len-length.ensures.ordered

@@ -1,5 +1,0 @@
-use Rattle.cargo_lock_encoding.specs.FormLaws.{is_same_form-Decides}
-use Rattle.cargo_lock_encoding.proofs.laws.references_are_equal_by_keys.Goals as goal
-
-pub returns : goal.returns
-returns c = λ a b. is_same_form-Decides a b

@@ -1,5 +1,0 @@
-use Rattle.cargo_lock_encoding.proofs.ChosenLemmas.{shortened-by_places}
-use Rattle.cargo_lock_encoding.proofs.laws.references_are_shortened_by_places.Goals as goal
-
-pub returns : goal.returns
-returns c = shortened-by_places

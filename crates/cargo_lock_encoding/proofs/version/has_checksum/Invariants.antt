@@ -1,6 +1,0 @@
-use Rattle.std.proofs.Common.{◌≡◌, drop}
-use Rattle.cargo_lock_encoding.specs.Format.{has_checksum}
-use Rattle.cargo_lock_encoding.proofs.version.has_checksum.Given as goal
-
-abbrev pub invariant-loop-entry : goal.invariant-loop-entry
-invariant-loop-entry l = has_checksum (drop l.entry-index l.packages) ≡ has_checksum l.packages

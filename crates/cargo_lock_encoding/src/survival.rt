@@ -1,0 +1,400 @@
+//! Whether a lockfile survives a format.
+
+ghost use Rattle.std.specs.Prelude.{◌≡◌, ◌↔◌, [], IfOk, IfSome, IsOkUnless, IsTrue, map, option_map};
+ghost use Rattle.std.specs.List.{AllByRecursion};
+ghost use Rattle.cargo_lock_parts.specs.declared.error.Error.TheVariants.{Memory};
+ghost use Rattle.cargo_lock_parts.specs.Checksum.{digest_of};
+ghost use Rattle.cargo_lock_parts.specs.Identity.{identity_of};
+ghost use Rattle.cargo_lock_references.specs.declared.version.ResolveVersion.TheVariants.{V1};
+ghost use Rattle.cargo_lock_references.specs.Chosen.{chosen_form, in_full};
+ghost use Rattle.cargo_lock_encoding.specs.Means.{reading_list};
+ghost use Rattle.cargo_lock_references.specs.Records.{is_escaped, texts_of};
+ghost use Rattle.cargo_lock_encoding.specs.Survives.{ChecksumSurvives, EntrySurvives, FormatSurvives, OwnPartsSurvive, PackageSurvives, PatchSurvives, RootSurvives, Survives};
+ghost use Rattle.cargo_lock_references.specs.ReadBack.{DigestReadsBack, ReferenceSurvives};
+
+use crate::values::LockfileRef;
+use crate::writing::chosen_form;
+use cargo_lock_parts::dependency::Dependency;
+use cargo_lock_parts::error::Result;
+use cargo_lock_parts::laws::checksums_read_back;
+use cargo_lock_parts::package::{Checksum, Package};
+use cargo_lock_references::borrowed::is_escaped;
+use cargo_lock_references::checksums::has_checksum_key;
+use cargo_lock_references::index::Indexed;
+use cargo_lock_references::metadata::Metadata;
+use cargo_lock_references::read_back::{
+    reference_survives, reference_survives_alone, source_survives, version_survives,
+};
+use cargo_lock_references::read_keys::ReadMetadata;
+use cargo_lock_references::written::metadata_of;
+use cargo_lock_references::{EncodableDependencyRef, ResolveVersion};
+use std::alloc::{AllocError, Global};
+
+impl LockfileRef<'_> {
+    /// Whether the lockfile survives a format: whether its table, written in this format, is read
+    /// back as a lockfile of this format with equal packages, root and patches. It is told from
+    /// the parts, without writing the table: every version and source reads back from its text,
+    /// each reference, in the form in which it is written, says the dependency that it stands for,
+    /// checksums are found again, and V1 and V2 can be told apart.
+    ///
+    /// A path source is not written, so a package with one survives no format. Only want of
+    /// memory is refused; a source of 4 GB or more counts as that.
+    pub fn survives(&self, alloc: Global, format: ResolveVersion) -> Result<bool>
+        ensures ok { IfOk result (λ b. IsTrue b ↔ Survives self.now format) }
+        ensures err { IsOkUnless result Memory }
+    {
+        let metadata = metadata_of(alloc, format, self.metadata, self.packages)?;
+        let patch = self.patch;
+        Ok(
+            format_survives(format, &metadata)
+                && patches_survive(alloc, format, patch.unused.as_slice())?
+                && root_survives(alloc, format, self.root)?
+                && packages_survive(alloc, format, &metadata, self.packages)?,
+        )
+    }
+}
+
+// Whether the written metadata tells the format, where the table has no number.
+fn format_survives(format: ResolveVersion, metadata: &Metadata) -> bool
+    ensures { IsTrue result ↔ FormatSurvives format (texts_of metadata.now.entries) }
+{
+    match format {
+        ResolveVersion::V1 => has_checksum_key(metadata),
+        ResolveVersion::V2 => !has_checksum_key(metadata),
+        ResolveVersion::V3 | ResolveVersion::V4 => true,
+    }
+}
+
+fn patches_survive(alloc: Global, format: ResolveVersion, patches: &[Dependency]) -> Result<bool>
+    ensures ok { IfOk result (λ b. IsTrue b
+        ↔ AllByRecursion (PatchSurvives format) patches.now) }
+    ensures err { IsOkUnless result Memory }
+{
+    for patch in patches {
+        if !patch_survives(alloc, format, patch)? {
+            return Ok(false);
+        }
+    }
+    Ok(true)
+}
+
+fn patch_survives(alloc: Global, format: ResolveVersion, patch: &Dependency) -> Result<bool>
+    ensures ok { IfOk result (λ b. IsTrue b ↔ PatchSurvives format patch.now) }
+    ensures err { IsOkUnless result Memory }
+{
+    Ok(
+        version_survives(alloc, &patch.version)?
+            && source_survives(alloc, is_escaped(format), &patch.source)?,
+    )
+}
+
+fn root_survives(alloc: Global, format: ResolveVersion, root: &Option<Package>) -> Result<bool>
+    ensures ok { IfOk result (λ b. IsTrue b ↔ IfSome root.now (RootSurvives format)) }
+    ensures err { IsOkUnless result Memory }
+{
+    match root {
+        Some(one) => one_root_survives(alloc, format, one),
+        None => Ok(true),
+    }
+}
+
+// The references of the root are in full.
+fn one_root_survives(alloc: Global, format: ResolveVersion, one: &Package) -> Result<bool>
+    ensures ok { IfOk result (λ b. IsTrue b ↔ RootSurvives format one.now) }
+    ensures err { IsOkUnless result Memory }
+{
+    digest_reads_back(&one.checksum);
+    Ok(
+        own_parts_survive(alloc, format, one)?
+            && full_references_survive(alloc, format, one.dependencies.as_slice())?,
+    )
+}
+
+fn packages_survive(
+    alloc: Global,
+    format: ResolveVersion,
+    metadata: &Metadata,
+    list: &[Package],
+) -> Result<bool>
+    ensures ok { IfOk result (λ b. IsTrue b
+        ↔ AllByRecursion
+        (EntrySurvives format (map identity_of list.now) (texts_of metadata.now.entries))
+        list.now) }
+    ensures err { IsOkUnless result Memory }
+{
+    match format {
+        ResolveVersion::V1 => first_format_survives(alloc, metadata, list),
+        ResolveVersion::V2 | ResolveVersion::V3 | ResolveVersion::V4 => {
+            let survives = later_format_survives(alloc, format, list)?;
+            Ok(survives)
+        }
+    }
+}
+
+// In V1 the checksums are found again in the written metadata.
+fn first_format_survives(alloc: Global, metadata: &Metadata, list: &[Package]) -> Result<bool>
+    ensures ok { IfOk result (λ b. IsTrue b
+        ↔ AllByRecursion
+        (EntrySurvives V1 (map identity_of list.now) (texts_of metadata.now.entries)) list.now) }
+    ensures err { IsOkUnless result Memory }
+{
+    let packages = Indexed::of(alloc, list)?;
+    let read = ReadMetadata::of(alloc, metadata)?;
+    let survive = first_entries_survive(alloc, &read, &packages, list)?;
+    Ok(survive)
+}
+
+fn first_entries_survive<'a>(
+    alloc: Global,
+    metadata: &ReadMetadata<'_>,
+    packages: &Indexed<'a, Package>,
+    list: &'a [Package],
+) -> Result<bool>
+    ensures ok { IfOk result (λ b. IsTrue b
+        ↔ AllByRecursion (EntrySurvives V1 (map identity_of packages.now) metadata.now) list.now) }
+    ensures err { IsOkUnless result Memory }
+{
+    for one in list {
+        if !first_entry_survives(alloc, metadata, packages, one)? {
+            return Ok(false);
+        }
+    }
+    Ok(true)
+}
+
+fn first_entry_survives<'a>(
+    alloc: Global,
+    metadata: &ReadMetadata<'_>,
+    list: &Indexed<'a, Package>,
+    one: &'a Package,
+) -> Result<bool>
+    ensures ok { IfOk result
+        (λ b. IsTrue b ↔ EntrySurvives V1 (map identity_of list.now) metadata.now one.now) }
+    ensures err { IsOkUnless result Memory }
+{
+    Ok(package_survives(alloc, ResolveVersion::V1, list, one)? && checksum_survives(metadata, one)?)
+}
+
+// From V2 on every checksum survives.
+fn later_format_survives(alloc: Global, format: ResolveVersion, list: &[Package]) -> Result<bool>
+    ensures ok { IfOk result (λ b. IsTrue b
+        ↔ AllByRecursion
+        (λ p. PackageSurvives format (chosen_form format (map identity_of list.now))
+        (reading_list format (map identity_of list.now)) p
+        × IfSome p.checksum DigestReadsBack) list.now) }
+    ensures err { IsOkUnless result Memory }
+{
+    let packages = Indexed::of(alloc, list)?;
+    let survive = later_entries_survive(alloc, format, &packages, list)?;
+    Ok(survive)
+}
+
+fn later_entries_survive<'a>(
+    alloc: Global,
+    format: ResolveVersion,
+    packages: &Indexed<'a, Package>,
+    list: &'a [Package],
+) -> Result<bool>
+    ensures ok { IfOk result (λ b. IsTrue b
+        ↔ AllByRecursion
+        (λ p. PackageSurvives format (chosen_form format (map identity_of packages.now))
+        (reading_list format (map identity_of packages.now)) p
+        × IfSome p.checksum DigestReadsBack) list.now) }
+    ensures err { IsOkUnless result Memory }
+{
+    for one in list {
+        if !later_entry_survives(alloc, format, packages, one)? {
+            return Ok(false);
+        }
+    }
+    Ok(true)
+}
+
+fn later_entry_survives<'a>(
+    alloc: Global,
+    format: ResolveVersion,
+    list: &Indexed<'a, Package>,
+    one: &'a Package,
+) -> Result<bool>
+    ensures ok { IfOk result (λ b. IsTrue b
+        ↔ (PackageSurvives format (chosen_form format (map identity_of list.now))
+        (reading_list format (map identity_of list.now)) one.now
+        × IfSome one.now.checksum DigestReadsBack)) }
+    ensures err { IsOkUnless result Memory }
+{
+    digest_reads_back(&one.checksum);
+    package_survives(alloc, format, list, one)
+}
+
+// Whether the parts of a package and its references survive.
+fn package_survives<'a>(
+    alloc: Global,
+    format: ResolveVersion,
+    list: &Indexed<'a, Package>,
+    one: &'a Package,
+) -> Result<bool>
+    ensures ok { IfOk result (λ b. IsTrue b
+        ↔ PackageSurvives format (chosen_form format (map identity_of list.now))
+        (reading_list format (map identity_of list.now)) one.now) }
+    ensures err { IsOkUnless result Memory }
+{
+    Ok(
+        own_parts_survive(alloc, format, one)?
+            && references_survive(alloc, format, list, one.dependencies.as_slice())?,
+    )
+}
+
+// Whether the version, the source and the replacement survive.
+fn own_parts_survive(alloc: Global, format: ResolveVersion, one: &Package) -> Result<bool>
+    ensures ok { IfOk result (λ b. IsTrue b ↔ OwnPartsSurvive format one.now) }
+    ensures err { IsOkUnless result Memory }
+{
+    Ok(
+        version_survives(alloc, &one.version)?
+            && source_survives(alloc, is_escaped(format), &one.source)?
+            && replace_survives(alloc, format, &one.replace)?,
+    )
+}
+
+// A replacement is in full, and looked up by itself.
+fn replace_survives(
+    alloc: Global,
+    format: ResolveVersion,
+    replace: &Option<Dependency>,
+) -> Result<bool>
+    ensures ok { IfOk result (λ b. IsTrue b
+        ↔ IfSome replace.now (λ d. ReferenceSurvives (in_full (is_escaped format) d) [] d)) }
+    ensures err { IsOkUnless result Memory }
+{
+    match replace {
+        Some(dependency) => full_reference_survives(alloc, format, dependency),
+        None => Ok(true),
+    }
+}
+
+// ---- checksums
+
+// Whether the checksum is found again in the written metadata.
+fn checksum_survives(metadata: &ReadMetadata<'_>, one: &Package) -> Result<bool>
+    ensures ok { IfOk result (λ b. IsTrue b ↔ ChecksumSurvives V1 metadata.now one.now) }
+    ensures err { IsOkUnless result Memory }
+{
+    let found = metadata.checksum(&one.name, &one.version)?;
+    Ok(same_checksum(&found, &one.checksum))
+}
+
+fn same_checksum(a: &Option<Checksum>, b: &Option<Checksum>) -> bool
+    ensures { IsTrue result ↔ (option_map digest_of a.now ≡ option_map digest_of b.now) }
+{
+    match (a, b) {
+        (None, None) => true,
+        (Some(a), Some(b)) => a == b,
+        (None, Some(_)) | (Some(_), None) => false,
+    }
+}
+
+// Every checksum reads back from its text.
+fn digest_reads_back(checksum: &Option<Checksum>)
+    ensures { IfSome (option_map digest_of checksum.now) DigestReadsBack }
+{
+    if let Some(Checksum::Sha256(digest)) = checksum {
+        bytes_read_back(digest);
+    }
+}
+
+fn bytes_read_back(digest: &[u8; 32])
+    ensures { DigestReadsBack digest.now }
+{
+    checksums_read_back();
+}
+
+// ---- references
+
+fn references_survive<'a>(
+    alloc: Global,
+    format: ResolveVersion,
+    list: &Indexed<'a, Package>,
+    dependencies: &'a [Dependency],
+) -> Result<bool>
+    ensures ok { IfOk result (λ b. IsTrue b
+        ↔ AllByRecursion
+        (λ d. ReferenceSurvives (chosen_form format (map identity_of list.now) d)
+        (reading_list format (map identity_of list.now)) d) dependencies.now) }
+    ensures err { IsOkUnless result Memory }
+{
+    for dependency in dependencies {
+        if !chosen_reference_survives(alloc, format, list, dependency)? {
+            return Ok(false);
+        }
+    }
+    Ok(true)
+}
+
+fn chosen_reference_survives<'a>(
+    alloc: Global,
+    format: ResolveVersion,
+    list: &Indexed<'a, Package>,
+    dependency: &'a Dependency,
+) -> Result<bool>
+    ensures ok { IfOk result (λ b. IsTrue b
+        ↔ ReferenceSurvives (chosen_form format (map identity_of list.now) dependency.now)
+        (reading_list format (map identity_of list.now)) dependency.now) }
+    ensures err { IsOkUnless result Memory }
+{
+    let form = chosen_form(format, list, dependency);
+    let survives = survives_among(alloc, format, &form, list, dependency)?;
+    Ok(survives)
+}
+
+// Whether the reference survives where it is looked up: in V1 by itself.
+fn survives_among<'a>(
+    alloc: Global,
+    format: ResolveVersion,
+    form: &EncodableDependencyRef<'a>,
+    list: &Indexed<'a, Package>,
+    dependency: &Dependency,
+) -> std::result::Result<bool, AllocError>
+    ensures { IfOk result (λ b. IsTrue b
+        ↔ ReferenceSurvives form.now
+        (reading_list format (map identity_of list.now)) dependency.now) }
+{
+    match format {
+        ResolveVersion::V1 => reference_survives_alone(alloc, form, dependency),
+        ResolveVersion::V2 | ResolveVersion::V3 | ResolveVersion::V4 => {
+            let survives = reference_survives(alloc, form, list, dependency)?;
+            Ok(survives)
+        }
+    }
+}
+
+fn full_references_survive(
+    alloc: Global,
+    format: ResolveVersion,
+    dependencies: &[Dependency],
+) -> Result<bool>
+    ensures ok { IfOk result (λ b. IsTrue b
+        ↔ AllByRecursion
+        (λ d. ReferenceSurvives (in_full (is_escaped format) d) [] d) dependencies.now) }
+    ensures err { IsOkUnless result Memory }
+{
+    for dependency in dependencies {
+        if !full_reference_survives(alloc, format, dependency)? {
+            return Ok(false);
+        }
+    }
+    Ok(true)
+}
+
+fn full_reference_survives(
+    alloc: Global,
+    format: ResolveVersion,
+    dependency: &Dependency,
+) -> Result<bool>
+    ensures ok { IfOk result (λ b. IsTrue b
+        ↔ ReferenceSurvives (in_full (is_escaped format) dependency.now) [] dependency.now) }
+    ensures err { IsOkUnless result Memory }
+{
+    let form = EncodableDependencyRef::from_dependency(dependency, format);
+    let survives = reference_survives_alone(alloc, &form, dependency)?;
+    Ok(survives)
+}

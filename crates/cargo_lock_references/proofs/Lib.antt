@@ -1,0 +1,12 @@
+pub mod ChecksumKeys
+pub mod ChosenLemmas
+pub mod DenseWords
+pub mod LeastKeys
+pub mod Occurrences
+pub mod ReadBackLemmas
+pub mod ReadKeys
+pub mod SaysLemmas
+pub mod Texts
+pub mod Walk
+pub mod WordLemmas
+pub mod WrittenMetadata

@@ -1,0 +1,6 @@
+use Rattle.std.proofs.Common.{◌≡◌, drop}
+use Rattle.cargo_lock_references.specs.Format.{has_checksum}
+use Rattle.cargo_lock_references.proofs.version.has_checksum.Given as goal
+
+abbrev pub invariant-loop-entry : goal.invariant-loop-entry
+invariant-loop-entry l = has_checksum (drop l.entry-index l.packages) ≡ has_checksum l.packages

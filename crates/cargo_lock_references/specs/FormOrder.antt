@@ -1,0 +1,65 @@
+-- The order of references: name, version, source by its key, and an absent value before a present
+-- one. Equality is exactly equality of keys.
+use Rattle.std.specs.Prelude.{ℕ, Bool, List, ◌++◌, Option, option_map}
+use Rattle.std.specs.Option.{option_cmp}
+use Rattle.std.specs.declared.cmp.Ordering.{Ordering}
+use Rattle.std.specs.Ordering.{on, then_cmp, eq_by_cmp}
+use Rattle.std.specs.Hash.{HashWrites}
+use Rattle.std.specs.Hash as fed
+use Rattle.semver.specs.Parse.{Parts}
+use Rattle.cargo_lock_parts.specs.Equality.{IsEqualityOfKeys}
+use Rattle.cargo_lock_parts.specs.IdentityOrder.{source_hash, version_cmp}
+use Rattle.cargo_lock_parts.specs.Source.{MarkedSource}
+use Rattle.cargo_lock_parts.specs.SourceKey.{Key, key_of, source_cmp, text_cmp}
+use Rattle.cargo_lock_references.specs.Form.{Form}
+
+-- a source compares by its key alone, however it is marked
+abbrev pub marked_cmp : MarkedSource → MarkedSource → Ordering
+marked_cmp = on (λ m. m.source) source_cmp
+
+-- marked sources that tie: the mark does not count
+abbrev pub is_same_marked : MarkedSource → MarkedSource → Bool
+is_same_marked = eq_by_cmp marked_cmp
+
+-- what a hasher is fed of a marked source: the source alone
+abbrev pub marked_hash : MarkedSource → HashWrites
+marked_hash m = source_hash m.source
+
+-- forms compare by name, version and source
+abbrev pub form_cmp : Form → Form → Ordering
+form_cmp = then_cmp (then_cmp
+    (on (λ f. f.name) text_cmp)
+    (on (λ f. f.version) (option_cmp version_cmp)))
+    (on (λ f. f.source) (option_cmp marked_cmp))
+
+-- forms that tie
+abbrev pub is_same_form : Form → Form → Bool
+is_same_form = eq_by_cmp form_cmp
+
+-- the version follows from the name in most lockfiles, and is not fed
+abbrev pub form_hash : Form → HashWrites
+form_hash f = fed.str f.name ++ fed.option marked_hash f.source
+
+-- ---- keys
+
+-- what equality of forms looks at
+pub record FormKey : Type 0 where
+  pub name : List ℕ
+  pub version : Option Parts
+  pub source : Option Key
+
+-- the key of a marked source, which is that of the source
+abbrev pub marked_key : MarkedSource → Key
+marked_key m = key_of m.source
+
+-- what equality looks at
+abbrev pub form_key : Form → FormKey
+form_key f = record { name = f.name; version = f.version; source = option_map marked_key f.source }
+
+-- `a == b` of references holds exactly where their keys are the same
+abbrev pub EqualReferences : Type 0
+EqualReferences = IsEqualityOfKeys is_same_form form_key
+
+-- `a == b` of marked sources holds exactly where the keys of the sources are the same
+abbrev pub EqualMarkedSources : Type 0
+EqualMarkedSources = IsEqualityOfKeys is_same_marked marked_key

@@ -1,0 +1,70 @@
+-- The format of a lockfile: the number under `version`, or where there is none, what the checksums
+-- tell.
+use Rattle.std.specs.Prelude.{◌≡◌, ◌==◌, ◌<◌, ◌^◌, ◌++◌, codes, if◌then◌else◌, Bool, true, false, is_some, ℕ, ℤ, pos, negsuc, List, Option, Some, None}
+use Rattle.std.specs.List.{list_any}
+use Rattle.std.specs.Str.Parse.{IsNumeral, digits_value, without_leading_plus}
+use Rattle.cargo_lock_references.specs.declared.version.ResolveVersion.{ResolveVersion}
+use Rattle.cargo_lock_references.specs.declared.version.ResolveVersion.TheVariants.{V1, V2, V3, V4}
+use Rattle.cargo_lock_references.specs.Metadata.{has_checksum_key}
+use Rattle.cargo_lock_references.specs.Records.{EntryData, Texts}
+
+-- the format with that number
+abbrev pub numbered : ℕ → Option ResolveVersion
+numbered n =
+    if n == 1 then Some V1
+    else (if n == 2 then Some V2
+    else (if n == 3 then Some V3
+    else (if n == 4 then Some V4
+    else None)))
+
+-- the number of a format
+abbrev pub number_of : ResolveVersion → ℕ
+number_of V1 = 1
+number_of V2 = 2
+number_of V3 = 3
+number_of V4 = 4
+
+-- the format with that number, which may be below 0
+abbrev pub numbered_int : ℤ → Option ResolveVersion
+numbered_int (pos n) = numbered n
+numbered_int (negsuc n) = None
+
+-- the text is a whole number as Rust reads one, perhaps after a plus sign, and it is that of the
+-- format
+pub record IsFormatText (text : List ℕ) (v : ResolveVersion) : Type 0 where
+  pub digits : IsNumeral 10 (without_leading_plus text)
+  pub number : numbered (digits_value 10 (without_leading_plus text)) ≡ Some v
+
+-- the text is the number of some format
+abbrev pub HasFormat : List ℕ → Type 0
+HasFormat text = (v : ResolveVersion) × IsFormatText text v
+
+-- the text is a whole number of 32 bits as Rust reads one, perhaps after a plus sign
+abbrev pub IsNumberText : List ℕ → Type 0
+IsNumberText text =
+    IsNumeral 10 (without_leading_plus text)
+    × (digits_value 10 (without_leading_plus text) < 2 ^ 32)
+
+-- why what is quoted is no number of a format
+abbrev pub format_refusal : List ℕ → List ℕ
+format_refusal quoted = codes "invalid Cargo.lock format version: `" ++ quoted ++ codes "`"
+
+-- some package has a checksum
+abbrev pub has_checksum : List EntryData → Bool
+has_checksum entries = list_any (λ e. is_some e.checksum) entries
+
+-- by whether some key of the metadata begins `checksum `, and whether some package has a checksum:
+-- both at once is no format
+abbrev pub detected : Bool → Bool → Option ResolveVersion
+detected true true = None
+detected true false = Some V1
+detected false b = Some V2
+
+-- the format of values without a number; the root does not count
+abbrev pub format_without_number : List EntryData → Texts → Option ResolveVersion
+format_without_number entries m = detected (has_checksum_key m) (has_checksum entries)
+
+-- the format of a number, or else the one that packages and metadata tell
+abbrev pub format_by : Option ℤ → List EntryData → Texts → Option ResolveVersion
+format_by (Some z) entries m = numbered_int z
+format_by None entries m = format_without_number entries m

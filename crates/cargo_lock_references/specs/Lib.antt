@@ -1,0 +1,17 @@
+pub mod Words
+pub mod Optional
+pub mod Form
+pub mod Records
+pub mod Says
+pub mod Said
+pub mod Chosen
+pub mod Index
+pub mod FormOrder
+pub mod FormLaws
+pub mod Finds
+pub mod Metadata
+pub mod LeastKey
+pub mod ReadKeys
+pub mod WrittenMetadata
+pub mod Format
+pub mod ReadBack

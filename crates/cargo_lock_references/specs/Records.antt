@@ -1,0 +1,48 @@
+-- What contracts see of a package as its table has it, and of the metadata.
+use Rattle.std.specs.Prelude.{ℕ, ℤ, pos, negsuc, ◌==◌, Bool, true, false, List, Option, Some, None, option_map}
+use Rattle.std.specs.Cmp.Lexicographic.{slice_cmp}
+use Rattle.std.specs.Coded.{Coded, coded_ℕ, coded_list}
+use Rattle.std.specs.FinMap.{FinMap, code, from_entries}
+use Rattle.std.specs.Ordering.{nat_cmp}
+use Rattle.semver.specs.Parse.{Parts}
+use Rattle.cargo_lock_parts.specs.Identity.{Identity, PackageData}
+use Rattle.cargo_lock_parts.specs.Source.{MarkedSource, Source}
+use Rattle.cargo_lock_references.specs.declared.version.ResolveVersion.{ResolveVersion}
+use Rattle.cargo_lock_references.specs.declared.version.ResolveVersion.TheVariants.{V1, V2, V3, V4}
+use Rattle.cargo_lock_references.specs.Form.{Form}
+
+-- a package as its table has it: its references are not looked up yet
+pub record EntryData : Type 0 where
+  pub name : List ℕ
+  pub version : Parts
+  pub source : Option MarkedSource
+  pub checksum : Option (List ℕ)
+  pub dependencies : List Form
+  pub replace : Option Form
+
+-- a source without its mark
+abbrev pub bare_source : Option MarkedSource → Option Source
+bare_source s = option_map (λ m. m.source) s
+
+-- the identity of an entry
+abbrev pub entry_identity : EntryData → Identity
+entry_identity e = record { name = e.name; version = e.version; source = bare_source e.source }
+
+-- texts by texts
+abbrev pub Texts : Type 0
+Texts = FinMap (slice_cmp nat_cmp) (List ℕ)
+
+-- the pairs of a map, as the map that contracts speak of
+abbrev pub texts_of : List (List ℕ × List ℕ) → Texts
+texts_of pairs = from_entries pairs
+
+-- how the map is stored
+abbrev pub texts_code : Coded Texts
+texts_code = code (coded_list coded_ℕ) (coded_list coded_ℕ)
+
+-- from V4 on Cargo escapes the references of git sources
+abbrev pub is_escaped : ResolveVersion → Bool
+is_escaped V1 = false
+is_escaped V2 = false
+is_escaped V3 = false
+is_escaped V4 = true

@@ -1,0 +1,49 @@
+//! The versions of packages, from their texts.
+
+ghost use Rattle.std.specs.Prelude.{◌≡◌, ◌↔◌, IsTrue};
+ghost use Rattle.semver.specs.Identifiers.{parts_of};
+ghost use Rattle.semver.specs.Parse.{memory_error};
+ghost use Rattle.cargo_lock_parts.specs.Error.{IsParseOrMemory, ReadsUrls};
+ghost use Rattle.cargo_lock_references.specs.Form.{version_of};
+ghost use Rattle.cargo_lock_references.specs.Said.{same_parts};
+
+use cargo_lock_parts::error::{Error, Result};
+use cargo_lock_parts::package::Version;
+use semver::Error as VersionError;
+use std::alloc::{AllocError, Global};
+
+/// Whether two versions are equal.
+pub fn same_version(a: &Version, b: &Version) -> bool
+    ensures { result ≡ same_parts (parts_of a.now) (parts_of b.now) }
+{
+    a == b
+}
+
+/// The version that a text is. A fault of `semver` is a `Parse` here.
+#[tactic(auto, unfolding(crate::specs::Form::version_of))]
+pub fn version_of(alloc: Global, text: &str) -> Result<Version>
+    ensures { ReadsUrls parts_of result (version_of text.now) }
+{
+    match Version::parse(alloc, text) {
+        Ok(version) => Ok(version),
+        Err(fault) if is_memory(&fault) => Err(Error::Memory),
+        Err(fault) => Err(refused_version(alloc, &fault)),
+    }
+}
+
+/// The `Parse` that stands for a fault of `semver`.
+pub fn refused_version(alloc: Global, fault: &VersionError) -> Error
+    ensures { IsParseOrMemory result }
+{
+    match format!(in alloc; "version error: {fault}") {
+        Ok(text) => Error::Parse(text),
+        Err(_) => Error::Memory,
+    }
+}
+
+// Whether `semver` found no memory.
+fn is_memory(fault: &VersionError) -> bool
+    ensures { IsTrue result ↔ (fault.now ≡ memory_error) }
+{
+    *fault == VersionError::from(AllocError)
+}

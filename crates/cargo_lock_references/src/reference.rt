@@ -1,0 +1,452 @@
+//! References: how a lockfile names the package that another one depends on.
+
+ghost use Rattle.std.specs.Prelude.{◌≡◌, ◌≤◌, ◌+◌, ◌⊎◌, ◌∷◌, ◌++◌, [], IfOk, IfSome, IsOkUnless, MatchOption, length, codes, count_by, map, option_copied, option_map};
+ghost use Rattle.std.specs.List.{find};
+ghost use Rattle.std.specs.Option.{option_cmp};
+ghost use Rattle.std.specs.Str.Iter.{split_whitespace_rest};
+ghost use Rattle.semver.specs.Identifiers.{parts_of};
+ghost use Rattle.cargo_lock_parts.specs.declared.error.Error.TheVariants.{Memory};
+ghost use Rattle.cargo_lock_parts.specs.Error.{IsParse, IsParseOrMemory, IsShort, Reads, ReadsUrls};
+ghost use Rattle.cargo_lock_parts.specs.Identity.{identity_of};
+ghost use Rattle.cargo_lock_parts.specs.IdentityOrder.{version_cmp};
+ghost use Rattle.cargo_lock_references.specs.Words.{text_words};
+ghost use Rattle.cargo_lock_references.specs.Form as spec;
+ghost use Rattle.cargo_lock_references.specs.Records.{bare_source, entry_identity, is_escaped};
+ghost use Rattle.cargo_lock_references.specs.Said.{fits, itself, said, same_parts};
+ghost use Rattle.cargo_lock_references.specs.Chosen.{bears_both, bears_name, in_full, one};
+
+use crate::borrowed::EncodableDependencyRef;
+use crate::index::Indexed;
+use crate::package_version::same_version;
+use crate::resolution::{dependency_by_first, own_dependency, required};
+use crate::version::ResolveVersion;
+use crate::{EncodablePackage, EncodableSourceId};
+use cargo_lock_parts::dependency::Dependency;
+use cargo_lock_parts::error::{Error, Result};
+use cargo_lock_parts::package::{Name, Package, SourceId, Version};
+use std::alloc::{AllocError, Global};
+use std::cmp::Ordering;
+use std::fmt;
+use std::hash::{Hash, Hasher};
+use std::marker::Model;
+use std::ops::Deref;
+use std::str::SplitWhitespace;
+
+/// A reference as a lockfile writes it: the name of a package, and its version and its source
+/// where the name alone does not tell it. Two are equal where the three are.
+#[derive(Debug, Drop)]
+pub struct EncodableDependency {
+    /// The name.
+    pub name: Name,
+
+    /// The version, where it is written.
+    pub version: Option<Version>,
+
+    /// The source, where it is written.
+    pub source: Option<EncodableSourceId>,
+}
+
+impl Model for EncodableDependency {
+    ghost use Rattle.std.specs.Prelude.{option_map};
+    ghost use Rattle.semver.specs.Identifiers.{parts_of};
+    ghost use Rattle.cargo_lock_references.specs.Form.{Form};
+
+    ghost Value = { Form };
+
+    ghost view = { λ d.
+        record { name = d.name; version = option_map parts_of d.version; source = d.source } };
+}
+
+impl EncodableDependency {
+    ghost use Rattle.cargo_lock_references.specs.Form.{ReadsForm, ReadsFormExactly, form_of_words, form_or_refusal};
+
+    /// Reads one to three words with white space between: a name, a version, a source in round
+    /// brackets, as `foo 1.0.0 (registry+https://github.com/rust-lang/crates.io-index)`. A source
+    /// that was read is marked plain.
+    ///
+    /// The first word from the left that is refused decides: `Version` for the second one, else
+    /// `Parse`. A URL of 4 GB or more is refused too, which is never so where the text is shorter
+    /// than 2^24 bytes.
+    pub fn from_str(alloc: Global, text: &str) -> Result<EncodableDependency>
+        ensures read { ReadsForm result (form_or_refusal text.now) }
+        ensures short { IsShort text.now → ReadsFormExactly result (form_or_refusal text.now) }
+    {
+        EncodableDependency::read(alloc, text)
+    }
+
+    // Reads a reference word by word.
+    fn read(alloc: Global, text: &str) -> Result<EncodableDependency>
+        ensures read { ReadsForm result (form_of_words (text_words text.now)) }
+        ensures short { IsShort text.now
+            → ReadsFormExactly result (form_of_words (text_words text.now)) }
+    {
+        let mut words = text.split_whitespace();
+        let Some(name) = next_word(&mut words) else {
+            let message = String::from_str(alloc, "empty dependency string")?;
+            return Err(Error::Parse(message));
+        };
+        let name = Name::from_str(alloc, name)?;
+        let Some(version) = next_word(&mut words) else {
+            return Ok(EncodableDependency {
+                name,
+                version: None,
+                source: None,
+            });
+        };
+        let version = Version::parse(alloc, version)?;
+        let Some(source) = next_word(&mut words) else {
+            return Ok(EncodableDependency {
+                name,
+                version: Some(version),
+                source: None,
+            });
+        };
+        let source = bracketed_source(alloc, source)?;
+        if let Some(_) = next_word(&mut words) {
+            let message = format!(in alloc; "malformed dependency: {text}")?;
+            return Err(Error::Parse(message));
+        }
+        Ok(EncodableDependency {
+            name,
+            version: Some(version),
+            source: Some(EncodableSourceId::without_url_encoded(source)),
+        })
+    }
+}
+
+// The next word of a text.
+fn next_word<'a>(rest: &mut SplitWhitespace<'a>) -> Option<&'a str>
+    ensures words { MatchOption result
+        ((text_words (split_whitespace_rest rest.old) ≡ [])
+        × (text_words (split_whitespace_rest rest.new) ≡ []))
+        (λ word. text_words (split_whitespace_rest rest.old) ≡ word.now
+        ∷ text_words (split_whitespace_rest rest.new)) }
+    ensures shorter { IfSome result
+        (λ word. length word.now + length (split_whitespace_rest rest.new)
+        ≤ length (split_whitespace_rest rest.old)) }
+{
+    match rest.next() {
+        Some(word) => {
+            let _text = word.as_bytes();
+            Some(word)
+        }
+        None => None,
+    }
+}
+
+// The source between round brackets.
+#[tactic(auto, unfolding(crate::specs::Form::bracketed_source))]
+fn bracketed_source(alloc: Global, word: &str) -> Result<SourceId>
+    ensures read { ReadsUrls (λ source. source) result (spec.bracketed_source word.now) }
+    ensures short { IsShort word.now → Reads
+        (λ source. source) result (spec.bracketed_source word.now) }
+{
+    let bytes = word.as_bytes();
+    let length = bytes.len();
+    if length < 2 || bytes[0] != b'(' || bytes[length - 1] != b')' {
+        let message = format!(in alloc; "malformed source in dependency: {word}")?;
+        return Err(Error::Parse(message));
+    }
+    let source = SourceId::from_url(alloc, &word[1..length - 1])?;
+    Ok(source)
+}
+
+impl fmt::Display for EncodableDependency {
+    ghost use Rattle.std.specs.Prelude.{Some};
+    ghost use Rattle.cargo_lock_references.specs.Form.{form_text};
+
+    ghost output = { λ d. Some (form_text d) };
+
+    fn fmt<W: fmt::Write>(&self, f: &mut fmt::Formatter<W>) -> fmt::Result {
+        fmt::Display::fmt(&self.by_ref(), f)
+    }
+}
+
+impl EncodableDependency {
+    ghost use Rattle.cargo_lock_references.specs.Says.{Says};
+    ghost use Rattle.cargo_lock_references.specs.Chosen.{ShortensTo, shortened};
+    ghost use Rattle.cargo_lock_references.specs.Finds.{Finds};
+
+    /// The package that the reference stands for among these: without a source, the first one that
+    /// has the name and the written version. Where there is none, and with a source, the reference
+    /// is taken as it stands.
+    ///
+    /// `Parse` says that the reference then has no version.
+    pub fn resolve(&self, alloc: Global, list: &[EncodablePackage]) -> Result<Dependency>
+        ensures { Finds (Says self.now (map entry_identity list.now)) result }
+    {
+        self.dependency_in(alloc, list)
+    }
+
+    // The same, as it is looked up.
+    fn dependency_in(&self, alloc: Global, list: &[EncodablePackage]) -> Result<Dependency>
+        ensures { Reads (λ d. d) result (said self.now (map entry_identity list.now)) }
+    {
+        let found = dependency_by_first(&self.by_ref(), self.first_fit(list))?;
+        required(alloc, &self.name, found)
+    }
+
+    // The first package that the reference fits.
+    fn first_fit<'a>(&self, list: &'a [EncodablePackage]) -> Option<&'a EncodablePackage>
+        ensures { option_copied result ≡ find (λ e. fits self.now (entry_identity e)) list.now }
+    {
+        list.iter().find(|entry| {
+            let entry: &EncodablePackage = entry;
+            self.fits(entry)
+        })
+    }
+
+    fn fits(&self, entry: &EncodablePackage) -> bool
+        ensures { result ≡ fits self.now (entry_identity entry.now) }
+    {
+        entry.name.as_str() == self.name.as_str()
+            && match &self.version {
+                Some(version) => same_version(&entry.version, version),
+                None => true,
+            }
+    }
+
+    /// The reference without the words that these packages make needless, as it is written from V2
+    /// on: its name alone, where exactly one of them has it, otherwise name and version, where
+    /// exactly one has both. It takes no memory.
+    pub fn v2(self, list: &[Package]) -> EncodableDependency
+        ensures { ShortensTo (map identity_of list.now) self result }
+    {
+        self.by_counts(list)
+    }
+
+    // The same, by how many packages have the name, and name and version.
+    #[tactic(auto, unfolding(crate::specs::Chosen::shortened))]
+    fn by_counts(self, list: &[Package]) -> EncodableDependency
+        ensures { result ≡ shortened (map identity_of list.now) self }
+    {
+        if self.name_is_unique(list) {
+            self.by_name()
+        } else if self.version_is_unique(list) {
+            self.without_source()
+        } else {
+            self
+        }
+    }
+
+    /// The reference to a dependency in full: its name, its version and its source, unless that is
+    /// absent or a path. The source is marked escaped for V4, and plain before.
+    pub fn from_dependency(
+        dependency: &Dependency,
+        format: ResolveVersion,
+    ) -> Result<EncodableDependency>
+        ensures ok { IfOk result (λ d. d ≡ in_full (is_escaped format) dependency.now) }
+        ensures err { IsOkUnless result Memory }
+    {
+        let form = EncodableDependencyRef::from_dependency(dependency, format);
+        Ok(form.to_owned()?)
+    }
+}
+
+impl EncodableDependency {
+    ghost use Rattle.std.specs.Prelude.{Ok};
+    ghost use Rattle.cargo_lock_references.specs.Form.{ReadsForm, ReadsFormExactly};
+    ghost use Rattle.cargo_lock_references.specs.Metadata.{own_identity};
+
+    // The reference's own words as an identity.
+    pub(crate) fn own_identity(&self, alloc: Global) -> Result<Dependency>
+        ensures read { ReadsForm result (own_identity (Ok self.now)) }
+        ensures exact { ReadsFormExactly result (own_identity (Ok self.now)) }
+    {
+        let found = own_dependency(&self.by_ref())?;
+        required(alloc, &self.name, found)
+    }
+}
+
+// ---- the form that is written
+
+impl EncodableDependency {
+    ghost use Rattle.cargo_lock_references.specs.Form.{of_one};
+    ghost use Rattle.cargo_lock_references.specs.Chosen.{is_version_unique, without_source};
+
+    // Whether exactly one package has the name.
+    fn name_is_unique(&self, list: &[Package]) -> bool
+        ensures { result ≡ one (bears_name self.now.name) (map identity_of list.now) }
+    {
+        count_named(&self.name, list) == 1
+    }
+
+    // Whether a version is written, and exactly one package has the name and the version.
+    fn version_is_unique(&self, list: &[Package]) -> bool
+        ensures { result
+            ≡ is_version_unique (map identity_of list.now) self.now.name self.now.version }
+    {
+        match &self.version {
+            Some(version) => count_versions(&self.name, version, list) == 1,
+            None => false,
+        }
+    }
+
+    // The name alone.
+    fn by_name(self) -> EncodableDependency
+        ensures { result ≡ of_one self.name }
+    {
+        let EncodableDependency {
+            name,
+            version: _,
+            source: _,
+        } = self;
+        EncodableDependency {
+            name,
+            version: None,
+            source: None,
+        }
+    }
+
+    // The name and the version alone.
+    fn without_source(self) -> EncodableDependency
+        ensures { result ≡ without_source self }
+    {
+        let EncodableDependency {
+            name,
+            version,
+            source: _,
+        } = self;
+        EncodableDependency {
+            name,
+            version,
+            source: None,
+        }
+    }
+}
+
+// How many packages have the name.
+fn count_named(name: &Name, list: &[Package]) -> usize
+    ensures { result ≡ count_by (bears_name name.now) (map identity_of list.now) }
+{
+    list.iter()
+        .filter(|one| {
+            let one: &Package = one;
+            one.name.as_str() == name.as_str()
+        })
+        .count()
+}
+
+// How many packages have the name and the version.
+fn count_versions(name: &Name, version: &Version, list: &[Package]) -> usize
+    ensures { result
+        ≡ count_by (bears_both name.now (parts_of version.now)) (map identity_of list.now) }
+{
+    list.iter()
+        .filter(|one| {
+            let one: &Package = one;
+            one.name.as_str() == name.as_str() && same_version(&one.version, version)
+        })
+        .count()
+}
+
+// ---- copies and comparisons
+
+impl Clone for EncodableDependency {
+    ghost is_clone = { λ one copy. copy ≡ one };
+
+    fn clone(&self) -> std::result::Result<EncodableDependency, AllocError> {
+        Ok(EncodableDependency {
+            name: self.name.clone()?,
+            version: clone_version(&self.version)?,
+            source: self.source.clone()?,
+        })
+    }
+}
+
+fn clone_version(version: &Option<Version>) -> std::result::Result<Option<Version>, AllocError>
+    ensures { IfOk result (λ copy. option_map parts_of copy ≡ option_map parts_of version.now) }
+{
+    match version {
+        Some(version) => Ok(Some(version.clone()?)),
+        None => Ok(None),
+    }
+}
+
+impl PartialEq for EncodableDependency {
+    ghost use Rattle.std.specs.Cmp.{partial_equiv_from_equiv, eq_by_cmp_equiv};
+    ghost use Rattle.cargo_lock_references.specs.FormOrder.{is_same_form};
+    ghost use Rattle.cargo_lock_references.specs.FormLaws.{form_total};
+
+    ghost eq = { is_same_form };
+
+    ghost laws = { partial_equiv_from_equiv (eq_by_cmp_equiv form_total) };
+
+    fn eq(&self, other: &EncodableDependency) -> bool {
+        self.cmp(other) == Ordering::Equal
+    }
+}
+
+impl Eq for EncodableDependency {
+    ghost use Rattle.std.specs.Cmp.{eq_by_cmp_equiv};
+    ghost use Rattle.cargo_lock_references.specs.FormLaws.{form_total};
+
+    ghost laws = { eq_by_cmp_equiv form_total };
+}
+
+impl PartialOrd for EncodableDependency {
+    ghost use Rattle.std.specs.Ordering.{as_partial_cmp};
+    ghost use Rattle.std.specs.Cmp.{partial_order_from_total};
+    ghost use Rattle.cargo_lock_references.specs.FormOrder.{form_cmp};
+    ghost use Rattle.cargo_lock_references.specs.FormLaws.{form_total};
+
+    ghost partial_cmp = { as_partial_cmp form_cmp };
+
+    ghost laws = { partial_order_from_total form_total };
+
+    fn partial_cmp(&self, other: &EncodableDependency) -> Option<Ordering> {
+        Some(self.cmp(other))
+    }
+}
+
+impl Ord for EncodableDependency {
+    ghost use Rattle.std.specs.Prelude.{refl};
+    ghost use Rattle.cargo_lock_references.specs.FormOrder.{form_cmp};
+    ghost use Rattle.cargo_lock_references.specs.FormLaws.{form_total};
+
+    ghost cmp = { form_cmp };
+
+    ghost total = { form_total };
+
+    ghost matches_partial_cmp = { λ a b. refl };
+
+    ghost matches_eq = { λ a b. refl };
+
+    fn cmp(&self, other: &EncodableDependency) -> Ordering {
+        match self.name.cmp(&other.name) {
+            Ordering::Less => Ordering::Less,
+            Ordering::Equal => {
+                let versions = cmp_versions(&self.version, &other.version);
+                versions.then_with(|| self.source.cmp(&other.source))
+            }
+            Ordering::Greater => Ordering::Greater,
+        }
+    }
+}
+
+// An absent version stands before a present one.
+fn cmp_versions(a: &Option<Version>, b: &Option<Version>) -> Ordering
+    ensures { result
+        ≡ option_cmp version_cmp (option_map parts_of a.now) (option_map parts_of b.now) }
+{
+    match (a, b) {
+        (None, None) => Ordering::Equal,
+        (None, Some(_)) => Ordering::Less,
+        (Some(_), None) => Ordering::Greater,
+        (Some(a), Some(b)) => a.cmp(b),
+    }
+}
+
+impl Hash for EncodableDependency {
+    ghost use Rattle.cargo_lock_references.specs.FormOrder.{form_hash};
+    ghost use Rattle.cargo_lock_references.specs.FormLaws.{form_alike};
+
+    ghost hash_input = { form_hash };
+
+    ghost respects_eq = { form_alike };
+
+    fn hash<H: Hasher>(&self, state: &mut H) {
+        self.name.hash(state);
+        self.source.hash(state);
+    }
+}

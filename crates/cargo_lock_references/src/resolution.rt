@@ -1,0 +1,109 @@
+//! The dependency that a reference stands for among packages.
+
+ghost use Rattle.std.specs.Prelude.{◌≡◌, ◌⊎◌, ◌++◌, List, None, IfErr, IfOk, codes, map, option_copied, option_map};
+ghost use Rattle.std.specs.List.{find};
+ghost use Rattle.cargo_lock_parts.specs.declared.error.Error.TheVariants.{Memory};
+ghost use Rattle.cargo_lock_parts.specs.Error.{IsParse, IsParseOrMemory, Reads};
+ghost use Rattle.cargo_lock_references.specs.Records.{bare_source, entry_identity};
+ghost use Rattle.cargo_lock_references.specs.Said.{fits, itself, said};
+
+use crate::identified::{Identified, copy_source, identity};
+use crate::index::Indexed;
+use crate::{EncodableDependency, EncodableDependencyRef, EncodablePackage};
+use cargo_lock_parts::dependency::Dependency;
+use cargo_lock_parts::error::{Error, Result};
+use cargo_lock_parts::package::source::SourceIdAsUrl;
+use cargo_lock_parts::package::{Name, SourceId};
+use std::alloc::{AllocError, Global};
+
+/// The dependency that a reference stands for: without a source the first item that it fits, and
+/// with one, or where it fits none, its own words. It is `None` where these have no version.
+pub fn dependency_among<'a, T: Identified>(
+    form: &EncodableDependencyRef<'a>,
+    list: &Indexed<'a, T>,
+) -> std::result::Result<Option<Dependency>, AllocError>
+    ensures { IfOk result (λ found. found ≡ said form.now (map T.identity list.now)) }
+{
+    dependency_by_first(form, list.first_fit(form))
+}
+
+/// The same, where the first item that the reference fits was looked up.
+pub fn dependency_by_first<T: Identified>(
+    form: &EncodableDependencyRef<'_>,
+    first: Option<&T>,
+) -> std::result::Result<Option<Dependency>, AllocError>
+    ensures { (list : List T) → option_copied first.entry ≡ find
+        (λ x. fits form.now (T.identity x)) list
+        → IfOk result (λ found. found ≡ said form.now (map T.identity list)) }
+{
+    if form.source.is_some() {
+        return own_dependency(form);
+    }
+    match first {
+        Some(item) => Ok(Some(identity(item)?)),
+        None => own_dependency(form),
+    }
+}
+
+/// The reference's own words as a dependency, where a version is written.
+pub fn own_dependency(
+    form: &EncodableDependencyRef<'_>,
+) -> std::result::Result<Option<Dependency>, AllocError>
+    ensures { IfOk result (λ found. found ≡ itself form.now) }
+{
+    match form.version {
+        Some(version) => Ok(Some(Dependency {
+            name: form.name.clone()?,
+            version: version.clone()?,
+            source: copy_source(unmarked(&form.source))?,
+        })),
+        None => Ok(None),
+    }
+}
+
+// The source without its mark.
+fn unmarked<'a>(source: &'a Option<SourceIdAsUrl<'_>>) -> Option<&'a SourceId>
+    ensures { option_map (λ s. s.now) result ≡ bare_source source.now }
+{
+    match source {
+        Some(source) => Some(source.source()),
+        None => None,
+    }
+}
+
+/// The dependency that a reference of a table stands for among the packages of the table. `Parse`
+/// says that it stands for none.
+pub fn resolve_among<'a>(
+    alloc: Global,
+    form: &'a EncodableDependency,
+    list: &Indexed<'a, EncodablePackage>,
+) -> Result<Dependency>
+    ensures { Reads (λ d. d) result (said form.now (map entry_identity list.now)) }
+{
+    let found = dependency_among(&form.by_ref(), list)?;
+    required(alloc, &form.name, found)
+}
+
+/// The dependency that was found for a reference of this name. `Parse` says that there is none.
+pub fn required(alloc: Global, name: &Name, found: Option<Dependency>) -> Result<Dependency>
+    ensures read { Reads (λ d. d) result found }
+    ensures refused { found ≡ None → IfErr result (λ fault. (fault ≡ Memory)
+        ⊎ IsParse fault (codes "couldn't resolve dependency: " ++ name.now)) }
+{
+    match found {
+        Some(dependency) => Ok(dependency),
+        None => Err(unresolved(alloc, name)),
+    }
+}
+
+// The refusal of a reference that needs a version.
+fn unresolved(alloc: Global, name: &Name) -> Error
+    ensures kind { IsParseOrMemory result }
+    ensures text { (result ≡ Memory)
+        ⊎ IsParse result (codes "couldn't resolve dependency: " ++ name.now) }
+{
+    match format!(in alloc; "couldn't resolve dependency: {name}") {
+        Ok(text) => Error::Parse(text),
+        Err(_) => Error::Memory,
+    }
+}

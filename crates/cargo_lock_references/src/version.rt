@@ -1,0 +1,189 @@
+//! The formats of lockfiles.
+
+ghost use Rattle.std.specs.Prelude.{◌≡◌, ◌≤◌, ◌↔◌, ◌⊎◌, IfSome, IsOk, IsSome, decimal};
+ghost use Rattle.std.specs.Str.Parse.{digits_value, without_leading_plus};
+ghost use Rattle.cargo_lock_parts.specs.declared.error.Error.TheVariants.{Memory};
+ghost use Rattle.cargo_lock_parts.specs.Error.{IsParse, IsParseOrMemory, Reads, RefusesWith};
+ghost use Rattle.cargo_lock_references.specs.Finds.{Finds};
+ghost use Rattle.cargo_lock_references.specs.Format.{HasFormat, IsFormatText, IsNumberText, format_by, format_refusal, format_without_number, has_checksum, numbered, numbered_int};
+ghost use Rattle.cargo_lock_references.specs.Records.{texts_of};
+
+use crate::EncodablePackage;
+use crate::checksums::has_checksum_key;
+use crate::metadata::Metadata;
+use cargo_lock_parts::error::{Error, Result};
+use serde::{Deserialize, Serialize};
+use std::alloc::Global;
+use std::fmt;
+
+/// A format of lockfiles, by its number.
+#[derive(Clone, Copy, Debug, PartialEq, Eq, PartialOrd, Ord, Hash, Serialize, Deserialize)]
+pub enum ResolveVersion {
+    /// The first format: references in full, and checksums in the metadata.
+    V1,
+
+    /// References without needless words, and checksums in the packages.
+    V2,
+
+    /// As V2, with the number of the format in the file.
+    V3,
+
+    /// As V3, with the references of git sources escaped.
+    V4,
+}
+
+impl Default for ResolveVersion {
+    ghost use Rattle.std.specs.Prelude.{◌≡◌};
+    ghost use Rattle.cargo_lock_references.specs.declared.version.ResolveVersion.TheVariants.{V3};
+
+    ghost is_default = { λ version. version ≡ V3 };
+
+    fn default() -> ResolveVersion {
+        ResolveVersion::V3
+    }
+}
+
+impl From<ResolveVersion> for u32 {
+    ghost use Rattle.std.specs.Prelude.{◌≡◌};
+    ghost use Rattle.cargo_lock_references.specs.Format.{number_of};
+
+    ghost from_gives = { λ version number. number ≡ number_of version };
+
+    fn from(version: ResolveVersion) -> u32 {
+        match version {
+            ResolveVersion::V1 => 1,
+            ResolveVersion::V2 => 2,
+            ResolveVersion::V3 => 3,
+            ResolveVersion::V4 => 4,
+        }
+    }
+}
+
+impl ResolveVersion {
+    /// The format with this number. `Parse` refuses a number outside 1 to 4 and quotes it, which is
+    /// the one case that takes memory.
+    pub fn from_number(alloc: Global, number: u32) -> Result<ResolveVersion>
+        ensures read { Reads (λ version. version) result (numbered number) }
+        ensures accepted { IsOk result ↔ ((1 ≤ number) × (number ≤ 4)) }
+        ensures refused { RefusesWith result (format_refusal (decimal number)) }
+    {
+        match numbered(number) {
+            Some(version) => Ok(version),
+            None => Err(invalid_format(alloc, number)),
+        }
+    }
+
+    /// The format whose number the text is, as Rust reads a `u32`: `3`, `+3` and `03` are V3. It takes
+    /// no memory.
+    ///
+    /// `Parse` refuses any other text. It quotes the number of a text that is one, so `5` for `05`,
+    /// and a text that is no number as it stands.
+    pub fn from_str(alloc: Global, text: &str) -> Result<ResolveVersion>
+        ensures read { Finds (IsFormatText text.now) result }
+        ensures accepted { IsOk result ↔ HasFormat text.now }
+        ensures number { IsNumberText text.now → RefusesWith result (format_refusal
+            (decimal (digits_value 10 (without_leading_plus text.now)))) }
+        ensures other { ¬ IsNumberText text.now → RefusesWith result (format_refusal text.now) }
+    {
+        match text.parse::<u32>() {
+            Ok(number) => ResolveVersion::from_number(alloc, number),
+            Err(_) => Err(invalid_format(alloc, text)),
+        }
+    }
+
+    /// The format of a lockfile whose table has no `version`: V1 where some key of the metadata
+    /// begins `checksum `, else V2. It takes no memory. `Parse` refuses checksums in both places. The
+    /// root's checksum does not count.
+    pub fn detect(
+        alloc: Global,
+        packages: &[EncodablePackage],
+        metadata: &Metadata,
+    ) -> Result<ResolveVersion>
+        ensures read { Reads (λ version. version) result
+            (format_without_number packages.now (texts_of metadata.now.entries)) }
+        ensures accepted { IsOk result
+            ↔ IsSome (format_without_number packages.now (texts_of metadata.now.entries)) }
+    {
+        if !has_checksum_key(metadata) {
+            return Ok(ResolveVersion::V2);
+        }
+        if !has_checksum(packages) {
+            return Ok(ResolveVersion::V1);
+        }
+        let message = String::from_str(
+            alloc,
+            "malformed lockfile: contains checksums in both [[package]] and [[metadata]] sections",
+        )?;
+        Err(Error::Parse(message))
+    }
+
+    // The format with this number, which may be below 0.
+    fn from_table_number(alloc: Global, number: i64) -> Result<ResolveVersion>
+        ensures read { Reads (λ version. version) result (numbered_int number) }
+        ensures accepted { IsOk result ↔ IsSome (numbered_int number) }
+    {
+        match number {
+            1 => Ok(ResolveVersion::V1),
+            2 => Ok(ResolveVersion::V2),
+            3 => Ok(ResolveVersion::V3),
+            4 => Ok(ResolveVersion::V4),
+            _ => Err(invalid_format(alloc, number)),
+        }
+    }
+}
+
+/// The format of the values of a table: that of the number, or where there is none, what `detect`
+/// finds. It takes no memory. `Parse` says that there is none.
+pub fn format_of_values(
+    alloc: Global,
+    version: Option<i64>,
+    packages: &[EncodablePackage],
+    metadata: &Metadata,
+) -> Result<ResolveVersion>
+    ensures read { Reads (λ version. version) result
+        (format_by version packages.now (texts_of metadata.now.entries)) }
+    ensures accepted { IsOk result
+        ↔ IsSome (format_by version packages.now (texts_of metadata.now.entries)) }
+{
+    match version {
+        Some(number) => ResolveVersion::from_table_number(alloc, number),
+        None => ResolveVersion::detect(alloc, packages, metadata),
+    }
+}
+
+// The format with this number.
+fn numbered(number: u32) -> Option<ResolveVersion>
+    ensures { result ≡ numbered number }
+{
+    match number {
+        1 => Some(ResolveVersion::V1),
+        2 => Some(ResolveVersion::V2),
+        3 => Some(ResolveVersion::V3),
+        4 => Some(ResolveVersion::V4),
+        _ => None,
+    }
+}
+
+// The refusal of what is no number of a format.
+fn invalid_format<T: fmt::Display + Drop>(alloc: Global, number: T) -> Error
+    ensures kind { IsParseOrMemory result }
+    ensures text { IfSome (T.output number)
+        (λ shown. (result ≡ Memory) ⊎ IsParse result (format_refusal shown)) }
+{
+    match format!(in alloc; "invalid Cargo.lock format version: `{number}`") {
+        Ok(text) => Error::Parse(text),
+        Err(_) => Error::Memory,
+    }
+}
+
+// Whether some package has a checksum.
+fn has_checksum(packages: &[EncodablePackage]) -> bool
+    ensures { result ≡ has_checksum packages.now }
+{
+    for entry in packages {
+        if entry.checksum.is_some() {
+            return true;
+        }
+    }
+    false
+}
