@@ -16,17 +16,17 @@ use Rattle.cargo_lock_parts.specs.SourceKey.{Key, key_of, precise_if_git}
 use Rattle.cargo_lock_parts.specs.SourceText.{marked_text, text_by_kind, text_of}
 use Rattle.cargo_lock_references.specs.declared.version.ResolveVersion.{ResolveVersion}
 use Rattle.cargo_lock_references.specs.declared.version.ResolveVersion.TheVariants.{V1, V2, V3, V4}
-use Rattle.cargo_lock_references.specs.Chosen.{bears_both, bears_name, chosen_form, in_full, marked, one, shortened, unless_path, without_source, written_source}
-use Rattle.cargo_lock_references.specs.Form.{Form, form_text, of_one, source_part, version_part}
+use Rattle.cargo_lock_references.specs.WrittenReference.{has_name_and_version, has_name, written_reference, in_full, mark, exactly_one, shorten, unless_path, without_source, written_source}
+use Rattle.cargo_lock_references.specs.Reference.{Reference, reference_text, one_word, marked_source_part, version_part}
 use Rattle.cargo_lock_references.specs.Metadata.{checksum_key, checksum_pairs, has_key, metadata_of, pairs_before, with_checksums, without_checksums}
-use Rattle.cargo_lock_references.specs.Records.{EntryData, Texts, is_escaped}
+use Rattle.cargo_lock_references.specs.Records.{EncodedPackage, Texts, is_escaped}
 use Rattle.cargo_lock_encoding.specs.Lockfiles.{EncodedData, LockfileData, is_escaped_number}
-use Rattle.cargo_lock_references.specs.Said.{same_parts, same_text}
+use Rattle.cargo_lock_references.specs.ResolutionSearch.{same_parts, same_text}
 use Rattle.cargo_lock_encoding.specs.Survives.{HasSamePackages}
 use Rattle.cargo_lock.specs.Same.{EqualTablesAndTexts}
 use Rattle.cargo_lock.proofs.EqualLockfiles.{equal_fields}
-use Rattle.cargo_lock_encoding.specs.Table.{checksum_value, encoded_of, encoded_table, entry_of, entry_value, entry_with, form_value, metadata_value, patch_entry_value, present, root_entry, source_value, table_of, unless_empty, unless_no_patch, written_checksum, written_version}
-use Rattle.cargo_lock_encoding.specs.Text.{checksum_line, comment_lines, dependency_line, encoded_lines, entry_lines, field, metadata_lines, patch_lines, quoted, reference_lines, replace_line, source_line, version_lines}
+use Rattle.cargo_lock_encoding.specs.Table.{checksum_value, encoded_of, encoded_table, encoded_package_of, encoded_package_value, encoded_package_with, reference_value, metadata_value, unused_patch_value, present_members, encoded_root, source_value, table_of, unless_empty, unless_no_patch, written_checksum, written_version}
+use Rattle.cargo_lock_encoding.specs.Text.{checksum_line, comment_lines, dependency_line, encoded_lines, package_lines, field, metadata_lines, patch_lines, quote, reference_lines, replace_line, source_line, version_lines}
 
 -- ---- lists and options, by what keys tell
 
@@ -95,7 +95,7 @@ abbrev written_text : Bool → Option Key → Option (List ℕ)
 written_text escaped k = option_map (key_text escaped) (written_key k)
 
 unless_path-text : (escaped path : Bool) (s : Source)
-    → option_map marked_text (option_map (marked escaped) (unless_path path s)) ≡ option_map (key_text escaped) (key_unless_path path (key_of s))
+    → option_map marked_text (option_map (mark escaped) (unless_path path s)) ≡ option_map (key_text escaped) (key_unless_path path (key_of s))
 unless_path-text escaped true s = refl
 unless_path-text escaped false s = ap Some (text_of-key escaped s)
 
@@ -109,18 +109,18 @@ abbrev part_of_text : Option (List ℕ) → List ℕ
 part_of_text None = []
 part_of_text (Some t) = codes " (" ++ t ++ codes ")"
 
-source_part-text : (s : Option MarkedSource) → source_part s ≡ part_of_text (option_map marked_text s)
-source_part-text None = refl
-source_part-text (Some s) = refl
+marked_source_part-text : (s : Option MarkedSource) → marked_source_part s ≡ part_of_text (option_map marked_text s)
+marked_source_part-text None = refl
+marked_source_part-text (Some s) = refl
 
 abbrev full_text : Bool → IdentityKey → List ℕ
 full_text escaped k = k.name ++ version_part (Some k.version) ++ part_of_text (written_text escaped k.source)
 
-in_full-text : (escaped : Bool) (d : Identity) → form_text (in_full escaped d) ≡ full_text escaped (identity_key d)
-unfolding form_text
+in_full-text : (escaped : Bool) (d : Identity) → reference_text (in_full escaped d) ≡ full_text escaped (identity_key d)
+unfolding reference_text
 in_full-text escaped d =
     ap (λ (t : List ℕ). d.name ++ version_part (Some d.version) ++ t)
-    (source_part-text (written_source escaped d.source) ∙ ap part_of_text (written_source-text escaped d.source))
+    (marked_source_part-text (written_source escaped d.source) ∙ ap part_of_text (written_source-text escaped d.source))
 
 abbrev named : List ℕ → IdentityKey → Bool
 named name k = same_text k.name name
@@ -135,57 +135,57 @@ abbrev one_versioned : List IdentityKey → IdentityKey → Bool
 one_versioned keys k = count_by (versioned k.name k.version) keys == 1
 
 abbrev name_text : IdentityKey → List ℕ
-name_text k = k.name ++ version_part None ++ source_part None
+name_text k = k.name ++ version_part None ++ marked_source_part None
 
 abbrev version_text : IdentityKey → List ℕ
-version_text k = k.name ++ version_part (Some k.version) ++ source_part None
+version_text k = k.name ++ version_part (Some k.version) ++ marked_source_part None
 
 abbrev short_text : Bool → List IdentityKey → IdentityKey → List ℕ
 short_text escaped keys k =
     if one_named keys k then name_text k else (if one_versioned keys k then version_text k else full_text escaped k)
 
-pick : (b c : Bool) (x y z : Form) → form_text (if b then x else (if c then y else z)) ≡ (if b then form_text x else (if c then form_text y else form_text z))
+pick : (b c : Bool) (x y z : Reference) → reference_text (if b then x else (if c then y else z)) ≡ (if b then reference_text x else (if c then reference_text y else reference_text z))
 pick true c x y z = refl
 pick false true x y z = refl
 pick false false x y z = refl
 
-of_one-text : (d : Identity) → form_text (of_one d.name) ≡ name_text (identity_key d)
-unfolding form_text
-of_one-text d = refl
+one_word-text : (d : Identity) → reference_text (one_word d.name) ≡ name_text (identity_key d)
+unfolding reference_text
+one_word-text d = refl
 
-without_source-text : (escaped : Bool) (d : Identity) → form_text (without_source (in_full escaped d)) ≡ version_text (identity_key d)
-unfolding form_text
+without_source-text : (escaped : Bool) (d : Identity) → reference_text (without_source (in_full escaped d)) ≡ version_text (identity_key d)
+unfolding reference_text
 without_source-text escaped d = refl
 
-shortened-text : (escaped : Bool) (list : List Identity) (d : Identity)
-    → form_text (shortened list (in_full escaped d)) ≡ short_text escaped (map identity_key list) (identity_key d)
-unfolding shortened
-shortened-text escaped list d =
+shorten-text : (escaped : Bool) (list : List Identity) (d : Identity)
+    → reference_text (shorten list (in_full escaped d)) ≡ short_text escaped (map identity_key list) (identity_key d)
+unfolding shorten
+shorten-text escaped list d =
     let a = count-key (named d.name) identity_key list in
     let b = count-key (versioned d.name d.version) identity_key list in
-    let x = of_one-text d in
+    let x = one_word-text d in
     let y = without_source-text escaped d in
     let z = in_full-text escaped d in
-    pick (one (bears_name d.name) list) (one (bears_both d.name d.version) list) (of_one d.name) (without_source (in_full escaped d)) (in_full escaped d)
+    pick (exactly_one (has_name d.name) list) (exactly_one (has_name_and_version d.name d.version) list) (one_word d.name) (without_source (in_full escaped d)) (in_full escaped d)
     ∙ (λ i. if a i == 1 then x i else (if b i == 1 then y i else z i))
 
-abbrev chosen_text : ResolveVersion → List IdentityKey → IdentityKey → List ℕ
-chosen_text V1 keys k = full_text false k
-chosen_text V2 keys k = short_text false keys k
-chosen_text V3 keys k = short_text false keys k
-chosen_text V4 keys k = short_text true keys k
+abbrev written_reference_text : ResolveVersion → List IdentityKey → IdentityKey → List ℕ
+written_reference_text V1 keys k = full_text false k
+written_reference_text V2 keys k = short_text false keys k
+written_reference_text V3 keys k = short_text false keys k
+written_reference_text V4 keys k = short_text true keys k
 
-chosen_form-text : (v : ResolveVersion) (list : List Identity) (d : Identity)
-    → form_text (chosen_form v list d) ≡ chosen_text v (map identity_key list) (identity_key d)
-unfolding chosen_form
-chosen_form-text V1 list d = in_full-text false d
-chosen_form-text V2 list d = shortened-text false list d
-chosen_form-text V3 list d = shortened-text false list d
-chosen_form-text V4 list d = shortened-text true list d
+written_reference-text : (v : ResolveVersion) (list : List Identity) (d : Identity)
+    → reference_text (written_reference v list d) ≡ written_reference_text v (map identity_key list) (identity_key d)
+unfolding written_reference
+written_reference-text V1 list d = in_full-text false d
+written_reference-text V2 list d = shorten-text false list d
+written_reference-text V3 list d = shorten-text false list d
+written_reference-text V4 list d = shorten-text true list d
 
 -- ---- packages, with their sources and references as texts
 
-record EntryTexts : Type 0 where
+record PackageTexts : Type 0 where
   pub name : List ℕ
   pub version : Parts
   pub source : Option (List ℕ)
@@ -193,18 +193,18 @@ record EntryTexts : Type 0 where
   pub dependencies : List (List ℕ)
   pub replace : Option (List ℕ)
 
-abbrev entry_texts : EntryData → EntryTexts
-entry_texts e = record {
+abbrev package_texts : EncodedPackage → PackageTexts
+package_texts e = record {
   name = e.name;
   version = e.version;
   source = option_map marked_text e.source;
   checksum = e.checksum;
-  dependencies = map form_text e.dependencies;
-  replace = option_map form_text e.replace;
+  dependencies = map reference_text e.dependencies;
+  replace = option_map reference_text e.replace;
 }
 
-abbrev texts_table : EntryTexts → Members
-texts_table t = present (
+abbrev texts_table : PackageTexts → Members
+texts_table t = present_members (
     (codes "checksum", option_map checksum_value t.checksum)
     ∷ (codes "dependencies", unless_empty (map string t.dependencies))
     ∷ (codes "name", Some (string t.name))
@@ -212,15 +212,15 @@ texts_table t = present (
     ∷ (codes "source", option_map string t.source)
     ∷ (codes "version", Some (string (parts_text t.version))) ∷ [])
 
-abbrev texts_value : EntryTexts → Data
+abbrev texts_value : PackageTexts → Data
 texts_value t = table (texts_table t)
 
-entry_value-texts : (e : EntryData) → entry_value e ≡ texts_value (entry_texts e)
-entry_value-texts e =
-    let ds = map-by form_value string form_text (λ f. refl) e.dependencies in
-    let r = optionally-by form_value string form_text (λ f. refl) e.replace in
+encoded_package_value-texts : (e : EncodedPackage) → encoded_package_value e ≡ texts_value (package_texts e)
+encoded_package_value-texts e =
+    let ds = map-by reference_value string reference_text (λ f. refl) e.dependencies in
+    let r = optionally-by reference_value string reference_text (λ f. refl) e.replace in
     let s = optionally-by source_value string marked_text (λ m. refl) e.source in
-    λ i. table (present (
+    λ i. table (present_members (
     (codes "checksum", option_map checksum_value e.checksum)
     ∷ (codes "dependencies", unless_empty (ds i))
     ∷ (codes "name", Some (string e.name))
@@ -229,31 +229,31 @@ entry_value-texts e =
     ∷ (codes "version", Some (string (parts_text e.version))) ∷ []))
 
 abbrev text_line : List ℕ → List ℕ
-text_line t = 32 ∷ (quoted t ++ 44 ∷ [])
+text_line t = 32 ∷ (quote t ++ 44 ∷ [])
 
 abbrev text_reference_lines : List (List ℕ) → Option (List ℕ) → List (List ℕ)
 text_reference_lines [] replace = option_to_list (option_map (field (codes "replace")) replace)
 text_reference_lines (t ∷ ts) replace = codes "dependencies = [" ∷ (map text_line (t ∷ ts) ++ codes "]" ∷ [])
 
-reference_lines-texts : (fs : List Form) (r : Option Form) → reference_lines fs r ≡ text_reference_lines (map form_text fs) (option_map form_text r)
-reference_lines-texts [] r = ap option_to_list (optionally-by replace_line (field (codes "replace")) form_text (λ f. refl) r)
+reference_lines-texts : (fs : List Reference) (r : Option Reference) → reference_lines fs r ≡ text_reference_lines (map reference_text fs) (option_map reference_text r)
+reference_lines-texts [] r = ap option_to_list (optionally-by replace_line (field (codes "replace")) reference_text (λ f. refl) r)
 reference_lines-texts (f ∷ fs) r =
-    ap (λ (ls : List (List ℕ)). codes "dependencies = [" ∷ (ls ++ codes "]" ∷ [])) (map-by dependency_line text_line form_text (λ f. refl) (f ∷ fs))
+    ap (λ (ls : List (List ℕ)). codes "dependencies = [" ∷ (ls ++ codes "]" ∷ [])) (map-by dependency_line text_line reference_text (λ f. refl) (f ∷ fs))
 
-abbrev texts_lines : EntryTexts → List (List ℕ)
+abbrev texts_lines : PackageTexts → List (List ℕ)
 texts_lines t =
     [] ∷ codes "[[package]]" ∷ field (codes "name") t.name ∷ field (codes "version") (parts_text t.version)
     ∷ (option_to_list (option_map (field (codes "source")) t.source)
     ++ (option_to_list (option_map checksum_line t.checksum) ++ text_reference_lines t.dependencies t.replace))
 
-entry_lines-texts : (e : EntryData) → entry_lines e ≡ texts_lines (entry_texts e)
-entry_lines-texts e =
+package_lines-texts : (e : EncodedPackage) → package_lines e ≡ texts_lines (package_texts e)
+package_lines-texts e =
     let s = optionally-by source_line (field (codes "source")) marked_text (λ m. refl) e.source in
     let r = reference_lines-texts e.dependencies e.replace in
     λ i. [] ∷ codes "[[package]]" ∷ field (codes "name") e.name ∷ field (codes "version") (parts_text e.version)
     ∷ (option_to_list (s i) ++ (option_to_list (option_map checksum_line e.checksum) ++ r i))
 
-abbrev key_texts : Bool → Option (List ℕ) → (IdentityKey → List ℕ) → PackageKey → EntryTexts
+abbrev key_texts : Bool → Option (List ℕ) → (IdentityKey → List ℕ) → PackageKey → PackageTexts
 key_texts escaped checksum text k = record {
   name = k.identity.name;
   version = k.identity.version;
@@ -263,13 +263,13 @@ key_texts escaped checksum text k = record {
   replace = option_map (full_text escaped) k.replace;
 }
 
-entry_with-texts : (v : ResolveVersion) (checksum : Option (List ℕ)) (form : Identity → Form) (text : IdentityKey → List ℕ) (p : PackageData)
-    → ((d : Identity) → form_text (form d) ≡ text (identity_key d))
-    → entry_texts (entry_with v checksum form p) ≡ key_texts (is_escaped v) checksum text (package_key p)
-entry_with-texts v checksum form text p each =
+encoded_package_with-texts : (v : ResolveVersion) (checksum : Option (List ℕ)) (reference : Identity → Reference) (text : IdentityKey → List ℕ) (p : PackageData)
+    → ((d : Identity) → reference_text (reference d) ≡ text (identity_key d))
+    → package_texts (encoded_package_with v checksum reference p) ≡ key_texts (is_escaped v) checksum text (package_key p)
+encoded_package_with-texts v checksum reference text p each =
     let s = written_source-text (is_escaped v) p.source in
-    let ds = map-through form_text form text identity_key each p.dependencies in
-    let r = optionally-through form_text (in_full (is_escaped v)) (full_text (is_escaped v)) identity_key (in_full-text (is_escaped v)) p.replace in
+    let ds = map-through reference_text reference text identity_key each p.dependencies in
+    let r = optionally-through reference_text (in_full (is_escaped v)) (full_text (is_escaped v)) identity_key (in_full-text (is_escaped v)) p.replace in
     λ i. record { name = p.name; version = p.version; source = s i; checksum = checksum; dependencies = ds i; replace = r i }
 
 -- ---- patches
@@ -283,15 +283,15 @@ abbrev patch_texts : Bool → Identity → PatchTexts
 patch_texts escaped i = record { name = i.name; version = i.version; source = option_map marked_text (written_source escaped i.source) }
 
 abbrev patch_texts_value : PatchTexts → Data
-patch_texts_value t = table (present (
+patch_texts_value t = table (present_members (
     (codes "name", Some (string t.name))
     ∷ (codes "source", option_map string t.source)
     ∷ (codes "version", Some (string (parts_text t.version))) ∷ []))
 
-patch_value-texts : (escaped : Bool) (i : Identity) → patch_entry_value escaped i ≡ patch_texts_value (patch_texts escaped i)
+patch_value-texts : (escaped : Bool) (i : Identity) → unused_patch_value escaped i ≡ patch_texts_value (patch_texts escaped i)
 patch_value-texts escaped d =
     let s = optionally-by source_value string marked_text (λ m. refl) (written_source escaped d.source) in
-    λ i. table (present (
+    λ i. table (present_members (
     (codes "name", Some (string d.name))
     ∷ (codes "source", s i)
     ∷ (codes "version", Some (string (parts_text d.version))) ∷ []))
@@ -317,24 +317,24 @@ patch_texts-key escaped d = let s = written_source-text escaped d.source in λ i
 
 record EncodedTexts : Type 0 where
   pub version : Option ℤ
-  pub entries : List EntryTexts
-  pub root : Option EntryTexts
+  pub packages : List PackageTexts
+  pub root : Option PackageTexts
   pub metadata : Texts
   pub patch : List PatchTexts
 
 abbrev encoded_texts : EncodedData → EncodedTexts
 encoded_texts e = record {
   version = e.version;
-  entries = map entry_texts e.entries;
-  root = option_map entry_texts e.root;
+  packages = map package_texts e.packages;
+  root = option_map package_texts e.root;
   metadata = e.metadata;
   patch = map (patch_texts (is_escaped_number e.version)) e.patch;
 }
 
 abbrev table_of_texts : EncodedTexts → Members
-table_of_texts e = present (
+table_of_texts e = present_members (
     (codes "metadata", metadata_value e.metadata)
-    ∷ (codes "package", Some (array (items_of (map texts_value e.entries))))
+    ∷ (codes "package", Some (array (items_of (map texts_value e.packages))))
     ∷ (codes "patch", unless_no_patch (map patch_texts_value e.patch))
     ∷ (codes "root", option_map texts_value e.root)
     ∷ (codes "version", option_map integer e.version) ∷ [])
@@ -342,10 +342,10 @@ table_of_texts e = present (
 encoded_table-texts : (e : EncodedData) → encoded_table e ≡ table_of_texts (encoded_texts e)
 unfolding encoded_table
 encoded_table-texts e =
-    let ps = map-by entry_value texts_value entry_texts entry_value-texts e.entries in
-    let us = map-by (patch_entry_value (is_escaped_number e.version)) patch_texts_value (patch_texts (is_escaped_number e.version)) (patch_value-texts (is_escaped_number e.version)) e.patch in
-    let r = optionally-by entry_value texts_value entry_texts entry_value-texts e.root in
-    λ i. present (
+    let ps = map-by encoded_package_value texts_value package_texts encoded_package_value-texts e.packages in
+    let us = map-by (unused_patch_value (is_escaped_number e.version)) patch_texts_value (patch_texts (is_escaped_number e.version)) (patch_value-texts (is_escaped_number e.version)) e.patch in
+    let r = optionally-by encoded_package_value texts_value package_texts encoded_package_value-texts e.root in
+    λ i. present_members (
     (codes "metadata", metadata_value e.metadata)
     ∷ (codes "package", Some (array (items_of (ps i))))
     ∷ (codes "patch", unless_no_patch (us i))
@@ -354,12 +354,12 @@ encoded_table-texts e =
 
 abbrev lines_of_texts : EncodedTexts → List (List ℕ)
 lines_of_texts e =
-    comment_lines ++ (version_lines e.version ++ (flat_map texts_lines e.entries
+    comment_lines ++ (version_lines e.version ++ (flat_map texts_lines e.packages
     ++ (flat_map patch_texts_lines e.patch ++ metadata_lines (entries e.metadata))))
 
 encoded_lines-texts : (e : EncodedData) → encoded_lines e ≡ lines_of_texts (encoded_texts e)
 encoded_lines-texts e =
-    let ps = lines-by entry_lines texts_lines entry_texts entry_lines-texts e.entries in
+    let ps = lines-by package_lines texts_lines package_texts package_lines-texts e.packages in
     let us = lines-by (patch_lines (is_escaped_number e.version)) patch_texts_lines (patch_texts (is_escaped_number e.version)) (patch_lines-texts (is_escaped_number e.version)) e.patch in
     λ i. comment_lines ++ (version_lines e.version ++ (ps i ++ (us i ++ metadata_lines (entries e.metadata))))
 
@@ -427,29 +427,29 @@ metadata_of-same v m ps qs e = metadata_of-key v m ps ∙ ap (key_metadata v m) 
 identities-key : (ps : List PackageData) → map identity_key (map identity_of ps) ≡ map (λ k. k.identity) (map package_key ps)
 identities-key ps = map-through identity_key identity_of (λ (k : PackageKey). k.identity) package_key (λ p. refl) ps
 
-abbrev key_entry : ResolveVersion → List IdentityKey → PackageKey → EntryTexts
-key_entry v keys k = key_texts (is_escaped v) (written_checksum v k.checksum) (chosen_text v keys) k
+abbrev key_package : ResolveVersion → List IdentityKey → PackageKey → PackageTexts
+key_package v keys k = key_texts (is_escaped v) (written_checksum v k.checksum) (written_reference_text v keys) k
 
-abbrev key_root : ResolveVersion → PackageKey → EntryTexts
+abbrev key_root : ResolveVersion → PackageKey → PackageTexts
 key_root v k = key_texts (is_escaped v) k.checksum (full_text (is_escaped v)) k
 
 key_encoded : ResolveVersion → List PackageKey → Option PackageKey → Texts → List IdentityKey → EncodedTexts
 key_encoded v packages root metadata patch = record {
   version = written_version v;
-  entries = map (key_entry v (map (λ k. k.identity) packages)) packages;
+  packages = map (key_package v (map (λ k. k.identity) packages)) packages;
   root = option_map (key_root v) root;
   metadata = metadata;
   patch = map (key_patch (is_escaped_number (written_version v))) patch;
 }
 
 entries-key : (v : ResolveVersion) (ps : List PackageData)
-    → map entry_texts (map (entry_of v (map identity_of ps)) ps) ≡ map (key_entry v (map (λ k. k.identity) (map package_key ps))) (map package_key ps)
+    → map package_texts (map (encoded_package_of v (map identity_of ps)) ps) ≡ map (key_package v (map (λ k. k.identity) (map package_key ps))) (map package_key ps)
 entries-key v ps =
     let list = map identity_of ps in
     let keys = identities-key ps in
-    map-through entry_texts (entry_of v list) (key_entry v (map identity_key list)) package_key
-    (λ p. entry_with-texts v (written_checksum v p.checksum) (chosen_form v list) (chosen_text v (map identity_key list)) p (chosen_form-text v list)) ps
-    ∙ (λ i. map (key_entry v (keys i)) (map package_key ps))
+    map-through package_texts (encoded_package_of v list) (key_package v (map identity_key list)) package_key
+    (λ p. encoded_package_with-texts v (written_checksum v p.checksum) (written_reference v list) (written_reference_text v (map identity_key list)) p (written_reference-text v list)) ps
+    ∙ (λ i. map (key_package v (keys i)) (map package_key ps))
 
 encoded_of-key : (l : LockfileData)
     → encoded_texts (encoded_of l)
@@ -457,10 +457,10 @@ encoded_of-key : (l : LockfileData)
 unfolding encoded_of key_encoded
 encoded_of-key l =
     let ps = entries-key l.version l.packages in
-    let r = optionally-through entry_texts (root_entry l.version) (key_root l.version) package_key
-    (λ p. entry_with-texts l.version p.checksum (in_full (is_escaped l.version)) (full_text (is_escaped l.version)) p (in_full-text (is_escaped l.version))) l.root in
+    let r = optionally-through package_texts (encoded_root l.version) (key_root l.version) package_key
+    (λ p. encoded_package_with-texts l.version p.checksum (in_full (is_escaped l.version)) (full_text (is_escaped l.version)) p (in_full-text (is_escaped l.version))) l.root in
     let us = map-by (patch_texts (is_escaped_number (written_version l.version))) (key_patch (is_escaped_number (written_version l.version))) identity_key (patch_texts-key (is_escaped_number (written_version l.version))) l.patch in
-    λ i. record { version = written_version l.version; entries = ps i; root = r i; metadata = metadata_of l.version l.metadata l.packages; patch = us i }
+    λ i. record { version = written_version l.version; packages = ps i; root = r i; metadata = metadata_of l.version l.metadata l.packages; patch = us i }
 
 -- lockfiles with the same format, equal packages and the same written metadata have one written form
 same-texts : (a b : LockfileData) → a.version ≡ b.version → HasSamePackages a b

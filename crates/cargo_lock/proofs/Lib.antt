@@ -6,8 +6,8 @@ pub mod PlainFirst
 pub mod PlainLockfiles
 pub mod PrintedTexts
 pub mod ReferenceTexts
-pub mod SaidKeys
-pub mod ShortestForms
+pub mod ResolutionKeys
+pub mod ShortestWords
 pub mod ShortestReferences
 pub mod Survival
 pub mod TranslationLemmas

@@ -19,24 +19,24 @@ use Rattle.cargo_lock_parts.specs.SourceKey.{Key, key_of}
 use Rattle.cargo_lock_parts.specs.SourceReading.{source_of}
 use Rattle.cargo_lock_parts.specs.SourceText.{marked_text, text_by_kind, text_of}
 use Rattle.cargo_lock_references.specs.declared.version.ResolveVersion.TheVariants.{V1}
-use Rattle.cargo_lock_references.specs.Chosen.{chosen_form, in_full, marked, unless_path}
-use Rattle.cargo_lock_references.specs.Form.{Form, Refusal, form_or_refusal, form_text, plainly, source_part}
+use Rattle.cargo_lock_references.specs.WrittenReference.{written_reference, in_full, mark, unless_path}
+use Rattle.cargo_lock_references.specs.Reference.{Reference, Refusal, reference_or_refusal, reference_text, mark_plain, marked_source_part}
 use Rattle.cargo_lock_references.specs.LeastKey.{IsAtLeastKey}
 use Rattle.cargo_lock_references.specs.Metadata.{checksum_in, checksum_key, has_checksum_key, is_checksum, is_named, key_identity, key_or_refusal, metadata_of, reads_as}
 use Rattle.cargo_lock.specs.Plain.{HasNoTwins, HasSomeChecksum, IsPlain, IsPlainPackage, IsPlainSource, PlainSurvives}
 use Rattle.cargo_lock_encoding.specs.Lockfiles.{LockfileData}
-use Rattle.cargo_lock_references.specs.Records.{Texts, bare_source}
-use Rattle.cargo_lock_references.specs.Said.{same_parts, same_text}
+use Rattle.cargo_lock_references.specs.Records.{Texts, unmarked_source}
+use Rattle.cargo_lock_references.specs.ResolutionSearch.{same_parts, same_text}
 use Rattle.cargo_lock.specs.Shortest.{IsAmong}
 use Rattle.cargo_lock_references.specs.ReadBack.{DigestReadsBack, ReferenceSurvives, TextReadsBack, VersionSurvives}
-use Rattle.cargo_lock_encoding.specs.Survives.{EntrySurvives, Survives}
+use Rattle.cargo_lock_encoding.specs.Survives.{ListedSurvives, Survives}
 use Rattle.cargo_lock_references.specs.Words.{IsDense, IsWord}
 use Rattle.cargo_lock_references.specs.WrittenMetadata.{HasChecksumAt, HasNoChecksum}
 use Rattle.cargo_lock.proofs.KeyTexts.{text_of-key}
 use Rattle.cargo_lock_references.proofs.LeastKeys.{checksum_at_least_key}
 use Rattle.cargo_lock.proofs.PlainLockfiles.{IsSound, listed-at, no_path, own-parts, plain-fourth, plain-second, plain-third, shown, sound-listed}
-use Rattle.cargo_lock.proofs.ReferenceTexts.{IsWhole, form-reads}
-use Rattle.cargo_lock_references.proofs.SaysLemmas.{Says-from, same_parts-refl, same_parts-yes, same_text-refl, same_text-yes}
+use Rattle.cargo_lock.proofs.ReferenceTexts.{IsWhole, reference-reads}
+use Rattle.cargo_lock_references.proofs.ResolvesToLemmas.{ResolvesTo-from, same_parts-refl, same_parts-yes, same_text-refl, same_text-yes}
 use Rattle.cargo_lock.proofs.ShortestReferences.{all-at, map-at}
 use Rattle.cargo_lock_references.proofs.Texts.{texts_tie}
 use Rattle.cargo_lock_references.proofs.WrittenMetadata.{checksums_at_keys}
@@ -62,24 +62,24 @@ listed-source list ps d h among =
     let a = listed-at (IsPlainPackage list) ps among.0 among.1 h among.2 in
     plain-listed a.0.source d.source (ap (λ (i : Identity). option_map key_of i.source) a.2 ∙ ap (λ (k : IdentityKey). k.source) among.3) a.1.source
 
-abbrev full_form : List ℕ → Parts → Bool → Source → Form
-full_form n v path s = record { name = n; version = Some v; source = option_map (marked false) (unless_path path s) }
+abbrev full_reference : List ℕ → Parts → Bool → Source → Reference
+full_reference n v path s = record { name = n; version = Some v; source = option_map (mark false) (unless_path path s) }
 
 full-sourced : (n : List ℕ) (v : Parts) (s : Source) (path : Bool) → path ≡ false → IsWord n → IsWord (parts_text v) × VersionSurvives v → IsPlainSource s
-    → ReferenceSurvives (full_form n v path s) [] (record { name = n; version = v; source = Some s })
+    → ReferenceSurvives (full_reference n v path s) [] (record { name = n; version = v; source = Some s })
 full-sourced n v s true off name version h = absurd (true≢false off)
 full-sourced n v s false off name version h = record {
   written = record { name = name; version = version; source = (h.dense, h.back) };
-  says = (record { name = n; version = v; source = Some s }, Says-from (full_form n v false s) [] (record { name = n; version = v; source = Some s }) refl, refl);
+  resolves = (record { name = n; version = v; source = Some s }, ResolvesTo-from (full_reference n v false s) [] (record { name = n; version = v; source = Some s }) refl, refl);
 }
 
 full-by : (n : List ℕ) (v : Parts) (o : Option Source) → IsWord n → IsWord (parts_text v) × VersionSurvives v → IfSome o IsPlainSource
     → ReferenceSurvives (in_full false (record { name = n; version = v; source = o })) [] (record { name = n; version = v; source = o })
 full-by n v None name version h = record {
   written = record { name = name; version = version; source = tt };
-  says = (
+  resolves = (
     record { name = n; version = v; source = None },
-    Says-from (in_full false (record { name = n; version = v; source = None })) [] (record { name = n; version = v; source = None }) refl,
+    ResolvesTo-from (in_full false (record { name = n; version = v; source = None })) [] (record { name = n; version = v; source = None }) refl,
     refl,
   );
 }
@@ -96,10 +96,10 @@ all-full list ps h (d ∷ ds) at =
 
 -- ---- what a checksum key reads as
 
-abbrev key_form : PackageData → Form
-key_form q = record { name = q.name; version = Some q.version; source = option_map plainly q.source }
+abbrev key_reference : PackageData → Reference
+key_reference q = record { name = q.name; version = Some q.version; source = option_map mark_plain q.source }
 
-plain-parts : (o : Option Source) → IfSome o IsPlainSource → IfSome (option_map plainly o) (λ m. IsDense (marked_text m) × TextReadsBack m)
+plain-parts : (o : Option Source) → IfSome o IsPlainSource → IfSome (option_map mark_plain o) (λ m. IsDense (marked_text m) × TextReadsBack m)
 plain-parts None h = tt
 plain-parts (Some s) h = (h.dense, h.back)
 
@@ -107,12 +107,12 @@ whole : (v : Parts) (o : Option MarkedSource) → IsWhole (Some v) o
 whole v None = tt
 whole v (Some m) = tt
 
-brackets-plain : (o : Option Source) → brackets o ≡ source_part (option_map plainly o)
+brackets-plain : (o : Option Source) → brackets o ≡ marked_source_part (option_map mark_plain o)
 brackets-plain None = refl
 brackets-plain (Some s) = refl
 
-key-text : (q : PackageData) → dependency_text (identity_of q) ≡ form_text (key_form q)
-unfolding form_text
+key-text : (q : PackageData) → dependency_text (identity_of q) ≡ reference_text (key_reference q)
+unfolding reference_text
 key-text q =
     ap (λ (t : List ℕ). t ++ brackets q.source) (append_assoc q.name (codes " ") (parts_text q.version))
     ∙ ap (λ (t : List ℕ). (q.name ++ (codes " " ++ parts_text q.version)) ++ t) (brackets-plain q.source)
@@ -125,7 +125,7 @@ after-key : (q : PackageData) → drop 9 (checksum_key (identity_of q)) ≡ depe
 unfolding checksum_key
 after-key q = refl
 
-ok-is : (r : Result Form Refusal) (f : Form) → result_ok r ≡ Some f → r ≡ Ok f
+ok-is : (r : Result Reference Refusal) (f : Reference) → result_ok r ≡ Some f → r ≡ Ok f
 ok-is (Ok g) f e = ap Ok (same_Some g f e)
 ok-is (Err e) f h = absurd (none-some f h)
 
@@ -136,10 +136,10 @@ record KeyReads (q : PackageData) : Type 0 where
   name : identity.name ≡ q.name
   version : identity.version ≡ q.version
 
-from-form : (q : PackageData) (g : Form) → g.name ≡ q.name → g.version ≡ Some q.version → form_or_refusal (drop 9 (checksum_key (identity_of q))) ≡ Ok g → KeyReads q
+from-reference : (q : PackageData) (g : Reference) → g.name ≡ q.name → g.version ≡ Some q.version → reference_or_refusal (drop 9 (checksum_key (identity_of q))) ≡ Ok g → KeyReads q
 unfolding key_or_refusal
-from-form q g name version read =
-    let i : Identity = record { name = g.name; version = q.version; source = bare_source g.source } in
+from-reference q g name version read =
+    let i : Identity = record { name = g.name; version = q.version; source = unmarked_source g.source } in
     record {
       identity = i;
       reads = rw (begins q, read, version) refl;
@@ -149,9 +149,9 @@ from-form q g name version read =
 
 key-reads : (list : List Identity) (q : PackageData) → IsPlainPackage list q → KeyReads q
 key-reads list q h =
-    let r = form-reads (key_form q) (whole q.version (option_map plainly q.source)) (record { name = h.name; version = (h.word, h.version); source = plain-parts q.source h.source }) in
-    let text : drop 9 (checksum_key (identity_of q)) ≡ form_text (key_form q) = after-key q ∙ key-text q in
-    from-form q r.0 r.2.name r.2.version (ap form_or_refusal text ∙ ok-is (form_or_refusal (form_text (key_form q))) r.0 r.1)
+    let r = reference-reads (key_reference q) (whole q.version (option_map mark_plain q.source)) (record { name = h.name; version = (h.word, h.version); source = plain-parts q.source h.source }) in
+    let text : drop 9 (checksum_key (identity_of q)) ≡ reference_text (key_reference q) = after-key q ∙ key-text q in
+    from-reference q r.0 r.2.name r.2.version (ap reference_or_refusal text ∙ ok-is (reference_or_refusal (reference_text (key_reference q))) r.0 r.1)
 
 -- whether the key reads as a name and a version
 key-named : (list : List Identity) (q : PackageData) (name : List ℕ) (version : Parts) → IsPlainPackage list q
@@ -319,8 +319,8 @@ shows list ps plain apart k p c at has =
 
 first-entries : (list : List Identity) (m : Texts) (all : List PackageData) → AllByRecursion (IsPlainPackage list) all → list ≡ map identity_of all
     → (ps : List PackageData) → AllByRecursion (IsPlainPackage list) ps → ((k : ℕ) (p : PackageData) → IsAt ps k p → checksum_in m p.name p.version ≡ p.checksum)
-    → AllByRecursion (EntrySurvives V1 list m) ps
-unfolding chosen_form
+    → AllByRecursion (ListedSurvives V1 list m) ps
+unfolding written_reference
 first-entries list m all plain is [] h sums = tt
 first-entries list m all plain is (p ∷ ps) h sums = (
   (record { own = own-parts V1 list p h.0; dependencies = all-full list all plain p.dependencies (subst (λ l. AllByRecursion (IsAmong l) p.dependencies) is h.0.dependencies) }, sums 0 p refl),

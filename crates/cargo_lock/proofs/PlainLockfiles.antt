@@ -16,18 +16,18 @@ use Rattle.cargo_lock_parts.specs.SourceReading.{source_of}
 use Rattle.cargo_lock_parts.specs.SourceText.{text_by_kind, text_of}
 use Rattle.cargo_lock_references.specs.declared.version.ResolveVersion.{ResolveVersion}
 use Rattle.cargo_lock_references.specs.declared.version.ResolveVersion.TheVariants.{V1, V2, V3, V4}
-use Rattle.cargo_lock_references.specs.Chosen.{bears_both, bears_name, chosen_form, in_full, one, shortened}
+use Rattle.cargo_lock_references.specs.WrittenReference.{has_name_and_version, has_name, written_reference, in_full, exactly_one, shorten}
 use Rattle.cargo_lock_references.specs.Metadata.{has_checksum_key, has_key, is_checksum, metadata_of, without_checksums}
 use Rattle.cargo_lock.specs.Plain.{HasNoTwins, IsPlain, IsPlainPackage, IsPlainSource}
 use Rattle.cargo_lock_encoding.specs.Lockfiles.{LockfileData}
 use Rattle.cargo_lock_references.specs.Records.{Texts, is_escaped}
 use Rattle.cargo_lock.specs.Shortest.{IsAmong}
-use Rattle.cargo_lock_encoding.specs.Survives.{EntrySurvives, FormatSurvives, OwnPartsSurvive, RootSurvives, Survives}
+use Rattle.cargo_lock_encoding.specs.Survives.{ListedSurvives, FormatSurvives, OwnPartsSurvive, RootSurvives, Survives}
 use Rattle.cargo_lock_references.specs.ReadBack.{ReferenceSurvives, SourceSurvives, VersionSurvives}
 use Rattle.cargo_lock_references.specs.Words.{IsWord}
-use Rattle.cargo_lock_references.proofs.ChosenLemmas.{one-place}
-use Rattle.cargo_lock_references.proofs.SaysLemmas.{same_parts-refl, same_parts-yes, same_text-refl, same_text-yes}
-use Rattle.cargo_lock.proofs.ShortestForms.{name-names, version-names}
+use Rattle.cargo_lock_references.proofs.WrittenReferenceLemmas.{exactly_one-place}
+use Rattle.cargo_lock_references.proofs.ResolvesToLemmas.{same_parts-refl, same_parts-yes, same_text-refl, same_text-yes}
+use Rattle.cargo_lock.proofs.ShortestWords.{name-names, version-names}
 use Rattle.cargo_lock_references.proofs.Texts.{same_texts}
 use Rattle.cargo_lock.proofs.WrittenAgain.{get-kept}
 use Rattle.std.proofs.lemmas.List.Sorted.{IsPermutation-refl}
@@ -41,26 +41,26 @@ pub record IsSound (d : Identity) : Type 0 where
   pub version : VersionSurvives d.version
 
 -- the place of an identity that is among the list is the only one with its name and version
-one-both : (list : List Identity) (d : Identity) → HasNoTwins list → IsAmong list d → one (bears_both d.name d.version) list ≡ true
-one-both list d apart among =
+exactly_one-both : (list : List Identity) (d : Identity) → HasNoTwins list → IsAmong list d → exactly_one (has_name_and_version d.name d.version) list ≡ true
+exactly_one-both list d apart among =
     let i = among.1 in
     let name : i.name ≡ d.name = ap (λ (k : IdentityKey). k.name) among.3 in
     let version : i.version ≡ d.version = ap (λ (k : IdentityKey). k.version) among.3 in
-    let hit : bears_both d.name d.version i ≡ true = rw (name, version, same_text-refl d.name) (same_parts-refl d.version) in
-    (Decides-eqb _ _).1 (one-place (bears_both d.name d.version) list among.0 i among.2 hit (λ j y there pass.
+    let hit : has_name_and_version d.name d.version i ≡ true = rw (name, version, same_text-refl d.name) (same_parts-refl d.version) in
+    (Decides-eqb _ _).1 (exactly_one-place (has_name_and_version d.name d.version) list among.0 i among.2 hit (λ j y there pass.
     let p = and_parts _ _ pass in
     apart j among.0 y i there among.2 (same_text-yes _ _ p.0 ∙ sym name) (same_parts-yes _ _ p.1 ∙ sym version)))
 
-shortened-survives : (escaped : Bool) (list : List Identity) (d : Identity) → HasNoTwins list → IsAmong list d → IsSound d → ReferenceSurvives (shortened list (in_full escaped d)) list d
-unfolding shortened
-shortened-survives escaped list d apart among sound = elim (cases_Bool (one (bears_name d.name) list)) [
+shorten-survives : (escaped : Bool) (list : List Identity) (d : Identity) → HasNoTwins list → IsAmong list d → IsSound d → ReferenceSurvives (shorten list (in_full escaped d)) list d
+unfolding shorten
+shorten-survives escaped list d apart among sound = elim (cases_Bool (exactly_one (has_name d.name) list)) [
   | inl hit ↦ rw hit (record {
     written = record { name = sound.name; version = tt; source = tt };
-    says = name-names list d among hit list (IsPermutation-refl list);
+    resolves = name-names list d among hit list (IsPermutation-refl list);
   })
-  | inr miss ↦ let both = one-both list d apart among in rw (miss, both) (record {
+  | inr miss ↦ let both = exactly_one-both list d apart among in rw (miss, both) (record {
     written = record { name = sound.name; version = (sound.word, sound.version); source = tt };
-    says = version-names escaped list d among both list (IsPermutation-refl list);
+    resolves = version-names escaped list d among both list (IsPermutation-refl list);
   })
 ]
 
@@ -122,27 +122,27 @@ own-parts format list p h = record {
 }
 
 references-survive : (escaped : Bool) (list : List Identity) → HasNoTwins list → ((d : Identity) → IsAmong list d → IsSound d)
-    → (ds : List Identity) → AllByRecursion (IsAmong list) ds → AllByRecursion (λ d. ReferenceSurvives (shortened list (in_full escaped d)) list d) ds
+    → (ds : List Identity) → AllByRecursion (IsAmong list) ds → AllByRecursion (λ d. ReferenceSurvives (shorten list (in_full escaped d)) list d) ds
 references-survive escaped list apart sound [] h = tt
 references-survive escaped list apart sound (d ∷ ds) h =
-    (shortened-survives escaped list d apart h.0 (sound d h.0), references-survive escaped list apart sound ds h.1)
+    (shorten-survives escaped list d apart h.0 (sound d h.0), references-survive escaped list apart sound ds h.1)
 
 entry-survives : (format : ResolveVersion) (list : List Identity) (m : Texts) → HasNoTwins list → ((d : Identity) → IsAmong list d → IsSound d)
-    → (p : PackageData) → IsPlainPackage list p → (format ≡ V1 → ⊥) → EntrySurvives format list m p
-unfolding chosen_form
+    → (p : PackageData) → IsPlainPackage list p → (format ≡ V1 → ⊥) → ListedSurvives format list m p
+unfolding written_reference
 entry-survives V1 list m apart sound p h later = absurd (later refl)
 entry-survives V2 list m apart sound p h later = (record { own = own-parts V2 list p h; dependencies = references-survive false list apart sound p.dependencies h.dependencies }, h.checksum)
 entry-survives V3 list m apart sound p h later = (record { own = own-parts V3 list p h; dependencies = references-survive false list apart sound p.dependencies h.dependencies }, h.checksum)
 entry-survives V4 list m apart sound p h later = (record { own = own-parts V4 list p h; dependencies = references-survive true list apart sound p.dependencies h.dependencies }, h.checksum)
 
 entries-survive : (format : ResolveVersion) (list : List Identity) (m : Texts) → HasNoTwins list → ((d : Identity) → IsAmong list d → IsSound d) → (format ≡ V1 → ⊥)
-    → (ps : List PackageData) → AllByRecursion (IsPlainPackage list) ps → AllByRecursion (EntrySurvives format list m) ps
+    → (ps : List PackageData) → AllByRecursion (IsPlainPackage list) ps → AllByRecursion (ListedSurvives format list m) ps
 entries-survive format list m apart sound later [] h = tt
 entries-survive format list m apart sound later (p ∷ ps) h =
     (entry-survives format list m apart sound p h.0 later, entries-survive format list m apart sound later ps h.1)
 
 -- a lockfile with nothing but packages
-pub shown : (format : ResolveVersion) (l : LockfileData) → IsPlain l → AllByRecursion (EntrySurvives format (map identity_of l.packages) (metadata_of format l.metadata l.packages)) l.packages
+pub shown : (format : ResolveVersion) (l : LockfileData) → IsPlain l → AllByRecursion (ListedSurvives format (map identity_of l.packages) (metadata_of format l.metadata l.packages)) l.packages
     → FormatSurvives format (metadata_of format l.metadata l.packages) → Survives l format
 shown format l h ps told = record { packages = ps; root = none-root l.root h.root; patch = rw h.patch tt; told = told }
   where

@@ -13,23 +13,23 @@ use Rattle.cargo_lock_parts.specs.Source.{Source, is_path}
 use Rattle.cargo_lock_parts.specs.SourceKey.{Key, key_of}
 use Rattle.cargo_lock_references.specs.declared.version.ResolveVersion.{ResolveVersion}
 use Rattle.cargo_lock_references.specs.declared.version.ResolveVersion.TheVariants.{V1, V2, V3, V4}
-use Rattle.cargo_lock_references.specs.Chosen.{bears_both, bears_name, chosen_form, in_full, shortened}
-use Rattle.cargo_lock_references.specs.Form.{Form, form_text}
-use Rattle.cargo_lock_references.specs.FormOrder.{form_key}
+use Rattle.cargo_lock_references.specs.WrittenReference.{has_name_and_version, has_name, written_reference, in_full, shorten}
+use Rattle.cargo_lock_references.specs.Reference.{Reference, reference_text}
+use Rattle.cargo_lock_references.specs.ReferenceOrder.{reference_key}
 use Rattle.cargo_lock_references.specs.Metadata.{metadata_of}
 use Rattle.cargo_lock_references.specs.Optional.{◌>>=◌}
-use Rattle.cargo_lock_references.specs.Records.{EntryData}
+use Rattle.cargo_lock_references.specs.Records.{EncodedPackage}
 use Rattle.cargo_lock_encoding.specs.Lockfiles.{LockfileData, is_escaped_number}
-use Rattle.cargo_lock_references.specs.Said.{same_text}
-use Rattle.cargo_lock.specs.Shortest.{AreDistinct, HasShortestReferences, IsAmong, IsShortening, ShortestReferences, WrittenByBearers, bearers, bears_some, item_at, package_at, reference_at}
-use Rattle.cargo_lock_encoding.specs.Survives.{EntrySurvives, Survives}
+use Rattle.cargo_lock_references.specs.ResolutionSearch.{same_text}
+use Rattle.cargo_lock.specs.Shortest.{AreDistinct, HasShortestReferences, IsAmong, IsShortening, ShortestReferences, WrittenByBearers, namesakes, bears_some, item_at, package_at, reference_at}
+use Rattle.cargo_lock_encoding.specs.Survives.{ListedSurvives, Survives}
 use Rattle.cargo_lock_references.specs.ReadBack.{SourceSurvives}
-use Rattle.cargo_lock_encoding.specs.Table.{checksum_value, encoded_of, encoded_table, entry_of, entry_table, entry_value, form_value, metadata_value, packages_value, patch_value, present, root_entry, source_value, table_of, unless_empty, written_version}
+use Rattle.cargo_lock_encoding.specs.Table.{checksum_value, encoded_of, encoded_table, encoded_package_of, package_table, encoded_package_value, reference_value, metadata_value, packages_value, patch_value, present_members, encoded_root, source_value, table_of, unless_empty, written_version}
 use Rattle.cargo_lock_encoding.specs.TableReading.{members_in, required_list, text_in}
-use Rattle.cargo_lock_references.proofs.ChosenLemmas.{count-miss}
-use Rattle.cargo_lock.proofs.ReferenceTexts.{Alike, form-reads}
-use Rattle.cargo_lock.proofs.SaidKeys.{chosen_form-of}
-use Rattle.cargo_lock.proofs.ShortestForms.{IsChosenWell, IsWritten, chosen-well}
+use Rattle.cargo_lock_references.proofs.WrittenReferenceLemmas.{count-miss}
+use Rattle.cargo_lock.proofs.ReferenceTexts.{Alike, reference-reads}
+use Rattle.cargo_lock.proofs.ResolutionKeys.{written_reference-of}
+use Rattle.cargo_lock.proofs.ShortestWords.{IsWrittenWell, IsWritten, chosen-well}
 
 -- ---- places
 
@@ -56,61 +56,61 @@ from-map f (x ∷ xs) (suc k) y at = from-map f xs k y at
 -- ---- the package at a place
 
 packages-member : (m : Option Data) (k : Data) (rest : List (List ℕ × Option Data))
-    → get_member (codes "package") (present ((codes "metadata", m) ∷ (codes "package", Some k) ∷ rest)) ≡ Some k
+    → get_member (codes "package") (present_members ((codes "metadata", m) ∷ (codes "package", Some k) ∷ rest)) ≡ Some k
 packages-member None k rest = refl
 packages-member (Some m) k rest = refl
 
-abbrev entries : LockfileData → List EntryData
-entries l = map (entry_of l.version (map identity_of l.packages)) l.packages
+abbrev entries : LockfileData → List EncodedPackage
+entries l = map (encoded_package_of l.version (map identity_of l.packages)) l.packages
 
 package-member : (l : LockfileData) → get_member (codes "package") (table_of l) ≡ Some (packages_value (entries l))
 unfolding encoded_table encoded_of
 package-member l = packages-member (metadata_value (metadata_of l.version l.metadata l.packages)) (packages_value (entries l)) (
     (codes "patch", patch_value (is_escaped_number (written_version l.version)) l.patch)
-    ∷ (codes "root", option_map entry_value (option_map (root_entry l.version) l.root))
+    ∷ (codes "root", option_map encoded_package_value (option_map (encoded_root l.version) l.root))
     ∷ (codes "version", option_map integer (written_version l.version)) ∷ [])
 
 package-at : (l : LockfileData) (k : ℕ) (p : PackageData) → slice_get l.packages k ≡ Some p
-    → package_at (table_of l) k ≡ Some (entry_table (entry_of l.version (map identity_of l.packages) p))
+    → package_at (table_of l) k ≡ Some (package_table (encoded_package_of l.version (map identity_of l.packages) p))
 package-at l k p at =
     ap (λ (o : Option Data). required_list o >>= λ packages. item_at packages k >>= members_in) (package-member l)
     ∙ ap (λ (o : Option Data). o >>= members_in)
-    (item-map entry_value (entries l) k _ (map-at (entry_of l.version (map identity_of l.packages)) l.packages k p at))
+    (item-map encoded_package_value (entries l) k _ (map-at (encoded_package_of l.version (map identity_of l.packages)) l.packages k p at))
 
 -- ---- the reference at a place
 
 references-member : (c : Option Data) (d : Data) (rest : List (List ℕ × Option Data))
-    → get_member (codes "dependencies") (present ((codes "checksum", c) ∷ (codes "dependencies", Some d) ∷ rest)) ≡ Some d
+    → get_member (codes "dependencies") (present_members ((codes "checksum", c) ∷ (codes "dependencies", Some d) ∷ rest)) ≡ Some d
 references-member None d rest = refl
 references-member (Some c) d rest = refl
 
-nonempty : (fs : List Form) (j : ℕ) (f : Form) → slice_get fs j ≡ Some f → unless_empty (map form_value fs) ≡ Some (array (items_of (map form_value fs)))
+nonempty : (fs : List Reference) (j : ℕ) (f : Reference) → slice_get fs j ≡ Some f → unless_empty (map reference_value fs) ≡ Some (array (items_of (map reference_value fs)))
 nonempty [] j f at = absurd (none-some f at)
 nonempty (g ∷ gs) j f at = refl
 
-entry-reference : (e : EntryData) (j : ℕ) (f : Form) → slice_get e.dependencies j ≡ Some f
-    → (required_list (get_member (codes "dependencies") (entry_table e)) >>= λ references. item_at references j >>= text_in) ≡ Some (form_text f)
+entry-reference : (e : EncodedPackage) (j : ℕ) (f : Reference) → slice_get e.dependencies j ≡ Some f
+    → (required_list (get_member (codes "dependencies") (package_table e)) >>= λ references. item_at references j >>= text_in) ≡ Some (reference_text f)
 entry-reference e j f at =
     let after : List (List ℕ × Option Data) =
-    (codes "name", Some (string e.name)) ∷ (codes "replace", option_map form_value e.replace)
+    (codes "name", Some (string e.name)) ∷ (codes "replace", option_map reference_value e.replace)
     ∷ (codes "source", option_map source_value e.source) ∷ (codes "version", Some (string (parts_text e.version))) ∷ [] in
     let c = option_map checksum_value e.checksum in
-    let member : get_member (codes "dependencies") (entry_table e) ≡ Some (array (items_of (map form_value e.dependencies))) =
-    ap (λ (d : Option Data). get_member (codes "dependencies") (present ((codes "checksum", c) ∷ (codes "dependencies", d) ∷ after))) (nonempty e.dependencies j f at)
-    ∙ references-member c (array (items_of (map form_value e.dependencies))) after in
+    let member : get_member (codes "dependencies") (package_table e) ≡ Some (array (items_of (map reference_value e.dependencies))) =
+    ap (λ (d : Option Data). get_member (codes "dependencies") (present_members ((codes "checksum", c) ∷ (codes "dependencies", d) ∷ after))) (nonempty e.dependencies j f at)
+    ∙ references-member c (array (items_of (map reference_value e.dependencies))) after in
     ap (λ (o : Option Data). required_list o >>= λ references. item_at references j >>= text_in) member
-    ∙ ap (λ (o : Option Data). o >>= text_in) (item-map form_value e.dependencies j f at)
+    ∙ ap (λ (o : Option Data). o >>= text_in) (item-map reference_value e.dependencies j f at)
 
 reference-at : (l : LockfileData) (k j : ℕ) (p : PackageData) (d : Identity) → slice_get l.packages k ≡ Some p → slice_get p.dependencies j ≡ Some d
-    → reference_at (table_of l) k j ≡ Some (form_text (chosen_form l.version (map identity_of l.packages) d))
+    → reference_at (table_of l) k j ≡ Some (reference_text (written_reference l.version (map identity_of l.packages) d))
 reference-at l k j p d here there =
     ap (λ (o : Option Members). o >>= λ entry. required_list (get_member (codes "dependencies") entry) >>= λ references. item_at references j >>= text_in) (package-at l k p here)
-    ∙ entry-reference (entry_of l.version (map identity_of l.packages) p) j (chosen_form l.version (map identity_of l.packages) d)
-    (map-at (chosen_form l.version (map identity_of l.packages)) p.dependencies j d there)
+    ∙ entry-reference (encoded_package_of l.version (map identity_of l.packages) p) j (written_reference l.version (map identity_of l.packages) d)
+    (map-at (written_reference l.version (map identity_of l.packages)) p.dependencies j d there)
 
 -- ---- shortest
 
-alike-key : (f g : Form) → Alike f g → form_key g ≡ form_key f
+alike-key : (f g : Reference) → Alike f g → reference_key g ≡ reference_key f
 alike-key f g h = λ i. record { name = h.name i; version = h.version i; source = h.source i }
 
 source-path : (s t : Option Source) → option_map key_of s ≡ option_map key_of t → IfSome s (λ x. is_path x.kind ≡ false) → IfSome t (λ x. is_path x.kind ≡ false)
@@ -123,7 +123,7 @@ source-path (Some s) (Some t) e h = sym (ap (λ (k : Key). is_path k.kind) (same
 among-written : (l : LockfileData) (d : Identity) → Survives l l.version → IsAmong (map identity_of l.packages) d → IsWritten d
 among-written l d h among =
     let p = from-map identity_of l.packages among.0 among.1 among.2 in
-    let s = all-at (EntrySurvives l.version (map identity_of l.packages) (metadata_of l.version l.metadata l.packages)) l.packages among.0 p.0 h.packages p.1 in
+    let s = all-at (ListedSurvives l.version (map identity_of l.packages) (metadata_of l.version l.metadata l.packages)) l.packages among.0 p.0 h.packages p.1 in
     let key : option_map key_of p.0.source ≡ option_map key_of d.source =
     ap (λ (i : Identity). option_map key_of i.source) p.2 ∙ ap (λ (k : IdentityKey). k.source) among.3 in
     source-path p.0.source d.source key (no_path _ p.0.source s.0.own.source)
@@ -133,8 +133,8 @@ among-written l d h among =
     no_path escaped (Some x) h = h.0
 
 chosen-case : (format : ResolveVersion) (list : List Identity) (d : Identity) → IsShortening format → IsWritten d → AreDistinct list → IsAmong list d
-    → IsChosenWell (chosen_form format list d) list d
-unfolding chosen_form
+    → IsWrittenWell (written_reference format list d) list d
+unfolding written_reference
 chosen-case V1 list d later h apart among = absurd later
 chosen-case V2 list d later h apart among = chosen-well false list d h apart among
 chosen-case V3 list d later h apart among = chosen-well false list d h apart among
@@ -143,13 +143,13 @@ chosen-case V4 list d later h apart among = chosen-well true list d h apart amon
 pub shortest-references : ShortestReferences
 shortest-references l h later apart k j p d here there among =
     let list = map identity_of l.packages in
-    let f = chosen_form l.version list d in
+    let f = written_reference l.version list d in
     let w = chosen-case l.version list d later (among-written l d h among) apart among in
-    let s = all-at (EntrySurvives l.version list (metadata_of l.version l.metadata l.packages)) l.packages k p h.packages here in
+    let s = all-at (ListedSurvives l.version list (metadata_of l.version l.metadata l.packages)) l.packages k p h.packages here in
     let r = all-at _ p.dependencies j d s.0.dependencies there in
-    let g = form-reads f (chosen_form-of l.version list d).whole r.written in
+    let g = reference-reads f (written_reference-of l.version list d).whole r.written in
     record {
-      form = f;
+      reference = f;
       written = reference-at l k j p d here there;
       read = (g.0, g.1, alike-key f g.0 g.2);
       names = w.names;
@@ -186,44 +186,44 @@ any-at q (y ∷ ys) (suc k) x at hit = rw (any-at q ys k x at hit) (either (q y)
 
 -- as many places pass a test in two lists of packages where the same ones bear the names
 same-count : (q : Identity → Bool) (p : PackageData) (ps qs : List PackageData) → ((i : Identity) → q i ≡ true → bears_some p i ≡ true)
-    → IsPermutation (bearers p ps) (bearers p qs) → count_by q (map identity_of ps) ≡ count_by q (map identity_of qs)
+    → IsPermutation (namesakes p ps) (namesakes p qs) → count_by q (map identity_of ps) ≡ count_by q (map identity_of qs)
 same-count q p ps qs within perm =
     sym (count-filter q (bears_some p) within (map identity_of ps))
-    ∙ sym (sum_by-IsPermutation (λ i. cond (q i) 1 0) (bearers p ps) (bearers p qs) perm)
+    ∙ sym (sum_by-IsPermutation (λ i. cond (q i) 1 0) (namesakes p ps) (namesakes p qs) perm)
     ∙ count-filter q (bears_some p) within (map identity_of qs)
 
-same-shortened : (list other : List Identity) (escaped : Bool) (d : Identity) → count_by (bears_name d.name) list ≡ count_by (bears_name d.name) other
-    → count_by (bears_both d.name d.version) list ≡ count_by (bears_both d.name d.version) other → shortened list (in_full escaped d) ≡ shortened other (in_full escaped d)
-unfolding shortened
-same-shortened list other escaped d names both = rw (names, both) refl
+same-shorten : (list other : List Identity) (escaped : Bool) (d : Identity) → count_by (has_name d.name) list ≡ count_by (has_name d.name) other
+    → count_by (has_name_and_version d.name d.version) list ≡ count_by (has_name_and_version d.name d.version) other → shorten list (in_full escaped d) ≡ shorten other (in_full escaped d)
+unfolding shorten
+same-shorten list other escaped d names both = rw (names, both) refl
 
-same-chosen : (format : ResolveVersion) (list other : List Identity) (d : Identity) → count_by (bears_name d.name) list ≡ count_by (bears_name d.name) other
-    → count_by (bears_both d.name d.version) list ≡ count_by (bears_both d.name d.version) other → chosen_form format list d ≡ chosen_form format other d
-unfolding chosen_form
+same-chosen : (format : ResolveVersion) (list other : List Identity) (d : Identity) → count_by (has_name d.name) list ≡ count_by (has_name d.name) other
+    → count_by (has_name_and_version d.name d.version) list ≡ count_by (has_name_and_version d.name d.version) other → written_reference format list d ≡ written_reference format other d
+unfolding written_reference
 same-chosen V1 list other d names both = refl
-same-chosen V2 list other d names both = same-shortened list other false d names both
-same-chosen V3 list other d names both = same-shortened list other false d names both
-same-chosen V4 list other d names both = same-shortened list other true d names both
+same-chosen V2 list other d names both = same-shorten list other false d names both
+same-chosen V3 list other d names both = same-shorten list other false d names both
+same-chosen V4 list other d names both = same-shorten list other true d names both
 
 map-alike : {X Y : Type 0} (f g : X → Y) (xs : List X) → ((k : ℕ) (x : X) → slice_get xs k ≡ Some x → f x ≡ g x) → map f xs ≡ map g xs
 map-alike f g [] each = refl
 map-alike f g (x ∷ xs) each = let h = each 0 x refl in let t = map-alike f g xs (λ k y at. each (suc k) y at) in λ i. h i ∷ t i
 
-same-entry : (format : ResolveVersion) (p : PackageData) (ps qs : List PackageData) → IsPermutation (bearers p ps) (bearers p qs)
-    → entry_of format (map identity_of ps) p ≡ entry_of format (map identity_of qs) p
+same-entry : (format : ResolveVersion) (p : PackageData) (ps qs : List PackageData) → IsPermutation (namesakes p ps) (namesakes p qs)
+    → encoded_package_of format (map identity_of ps) p ≡ encoded_package_of format (map identity_of qs) p
 same-entry format p ps qs perm =
-    let each = map-alike (chosen_form format (map identity_of ps)) (chosen_form format (map identity_of qs)) p.dependencies (λ k d at.
-    let within = λ (i : Identity) (hit : bears_name d.name i ≡ true). any-at (λ e. same_text i.name e.name) p.dependencies k d at hit in
+    let each = map-alike (written_reference format (map identity_of ps)) (written_reference format (map identity_of qs)) p.dependencies (λ k d at.
+    let within = λ (i : Identity) (hit : has_name d.name i ≡ true). any-at (λ e. same_text i.name e.name) p.dependencies k d at hit in
     same-chosen format (map identity_of ps) (map identity_of qs) d
-    (same-count (bears_name d.name) p ps qs within perm)
-    (same-count (bears_both d.name d.version) p ps qs (λ i hit. within i (and_parts _ _ hit).0) perm)) in
-    let e = entry_of format (map identity_of ps) p in
+    (same-count (has_name d.name) p ps qs within perm)
+    (same-count (has_name_and_version d.name d.version) p ps qs (λ i hit. within i (and_parts _ _ hit).0) perm)) in
+    let e = encoded_package_of format (map identity_of ps) p in
     λ i. record { name = e.name; version = e.version; source = e.source; checksum = e.checksum; dependencies = each i; replace = e.replace }
 
 pub written-by_bearers : WrittenByBearers
 written-by_bearers l m j k p version here there perm =
     package-at l j p here
-    ∙ ap (λ (e : EntryData). Some (entry_table e)) (same-entry l.version p l.packages m.packages perm ∙ (λ i. entry_of (version i) (map identity_of m.packages) p))
+    ∙ ap (λ (e : EncodedPackage). Some (package_table e)) (same-entry l.version p l.packages m.packages perm ∙ (λ i. encoded_package_of (version i) (map identity_of m.packages) p))
     ∙ sym (package-at m k p there)
 
 -- what is said of the table of the lockfile holds of a call's answer

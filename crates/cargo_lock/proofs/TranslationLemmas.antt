@@ -13,24 +13,24 @@ use Rattle.cargo_lock_encoding.specs.Lockfiles.{LockfileData}
 use Rattle.cargo_lock_references.specs.Records.{Texts}
 use Rattle.cargo_lock_encoding.specs.Survives.{in_format}
 use Rattle.cargo_lock_encoding.specs.Table.{table_of}
-use Rattle.cargo_lock.specs.Translation.{IsStuck, KeepsThrough, LeadsTo, SurvivesEach, last_format, metadata_through, translated}
+use Rattle.cargo_lock.specs.Translation.{IsStuck, KeepsThrough, LeadsTo, SurvivesEach, last_format, metadata_through, translate_in_turn}
 use Rattle.cargo_lock.proofs.KeyTexts.{metadata_of-same}
 use Rattle.cargo_lock_encoding.proofs.MeansLemmas.{Means-from, bind-parts, meaning-from}
 use Rattle.cargo_lock.proofs.Survival.{reading}
 use Rattle.cargo_lock_references.proofs.Walk.{Refuses-by}
 
-leads-to : (fs : List ResolveVersion) (l x : LockfileData) → translated fs l ≡ Some x → LeadsTo fs l x
+leads-to : (fs : List ResolveVersion) (l x : LockfileData) → translate_in_turn fs l ≡ Some x → LeadsTo fs l x
 leads-to [] l x e = sym (same_Some _ _ e)
 leads-to (f ∷ fs) l x e =
-    let p = bind-parts (meaning (table_of (in_format f l))) (translated fs) x e in
+    let p = bind-parts (meaning (table_of (in_format f l))) (translate_in_turn fs) x e in
     (p.0, Means-from (table_of (in_format f l)) p.0 p.1, leads-to fs p.0 x p.2)
 
-stuck : (fs : List ResolveVersion) (l : LockfileData) → translated fs l ≡ None → IsStuck fs l
+stuck : (fs : List ResolveVersion) (l : LockfileData) → translate_in_turn fs l ≡ None → IsStuck fs l
 stuck [] l e = none-some l (sym e)
 stuck (f ∷ fs) l e = by (meaning (table_of (in_format f l))) refl e (λ y none. stuck fs y none)
   where
-    by : (o : Option LockfileData) → meaning (table_of (in_format f l)) ≡ o → (o >>= translated fs) ≡ None
-        → ((y : LockfileData) → translated fs y ≡ None → IsStuck fs y) → IsStuck (f ∷ fs) l
+    by : (o : Option LockfileData) → meaning (table_of (in_format f l)) ≡ o → (o >>= translate_in_turn fs) ≡ None
+        → ((y : LockfileData) → translate_in_turn fs y ≡ None → IsStuck fs y) → IsStuck (f ∷ fs) l
     by None given none later = inl (λ y s. none-some y (sym given ∙ meaning-from (table_of (in_format f l)) y s))
     by (Some y) given none later = inr (y, Means-from (table_of (in_format f l)) y given, later y none)
 
@@ -43,7 +43,7 @@ through-same (f ∷ fs) m ps qs e =
 
 record IsThrough (fs : List ResolveVersion) (l : LockfileData) : Type 0 where
   end : LockfileData
-  gives : translated fs l ≡ Some end
+  gives : translate_in_turn fs l ≡ Some end
   keeps : KeepsThrough fs l end
 
 through : (fs : List ResolveVersion) (l : LockfileData) → SurvivesEach fs l → IsThrough fs l
@@ -58,7 +58,7 @@ through (f ∷ fs) l h =
     let k = t.keeps in
     record {
       end = t.end;
-      gives = ap (λ (o : Option LockfileData). o >>= translated fs) r.means ∙ t.gives;
+      gives = ap (λ (o : Option LockfileData). o >>= translate_in_turn fs) r.means ∙ t.gives;
       keeps = record {
         version = k.version ∙ ap (λ (v : ResolveVersion). last_format v fs) r.version;
         same = record {
@@ -74,25 +74,25 @@ through (f ∷ fs) l h =
 
 -- ---- what the call answers
 
-pub chain-from : (fs : List ResolveVersion) (l : LockfileData) (r : Result LockfileData Error) → Reads (λ x. x) r (translated fs l) → IfOk r (LeadsTo fs l)
+pub chain-from : (fs : List ResolveVersion) (l : LockfileData) (r : Result LockfileData Error) → Reads (λ x. x) r (translate_in_turn fs l) → IfOk r (LeadsTo fs l)
 chain-from fs l (Ok x) h = leads-to fs l x h
 chain-from fs l (Err e) h = tt
 
-pub stuck-from : (fs : List ResolveVersion) (l : LockfileData) (r : Result LockfileData Error) → Reads (λ x. x) r (translated fs l) → IfErr r (λ e. Refuses e (IsStuck fs l))
+pub stuck-from : (fs : List ResolveVersion) (l : LockfileData) (r : Result LockfileData Error) → Reads (λ x. x) r (translate_in_turn fs l) → IfErr r (λ e. Refuses e (IsStuck fs l))
 stuck-from fs l (Ok x) h = tt
 stuck-from fs l (Err e) h = Refuses-by e _ _ h (stuck fs l)
 
-pub kept-from : (fs : List ResolveVersion) (l : LockfileData) (r : Result LockfileData Error) → Reads (λ x. x) r (translated fs l) → SurvivesEach fs l → IfOk r (KeepsThrough fs l)
+pub kept-from : (fs : List ResolveVersion) (l : LockfileData) (r : Result LockfileData Error) → Reads (λ x. x) r (translate_in_turn fs l) → SurvivesEach fs l → IfOk r (KeepsThrough fs l)
 kept-from fs l (Ok x) h s = let t = through fs l s in subst (KeepsThrough fs l) (same_Some _ _ (sym t.gives ∙ h)) t.keeps
 kept-from fs l (Err e) h s = tt
 
 only-memory : (e : Error) → Refuses e ⊥ → e ≡ Memory
 only-memory (Io kind) h = absurd h
-only-memory (Parse said) h = absurd h
+only-memory (Parse message) h = absurd h
 only-memory (Version fault) h = absurd h
-only-memory (Resolution said) h = absurd h
+only-memory (Resolution message) h = absurd h
 only-memory Memory h = refl
 
-pub refused-from : (fs : List ResolveVersion) (l : LockfileData) (r : Result LockfileData Error) → Reads (λ x. x) r (translated fs l) → SurvivesEach fs l → IsOkUnless r Memory
+pub refused-from : (fs : List ResolveVersion) (l : LockfileData) (r : Result LockfileData Error) → Reads (λ x. x) r (translate_in_turn fs l) → SurvivesEach fs l → IsOkUnless r Memory
 refused-from fs l (Ok x) h s = tt
 refused-from fs l (Err e) h s = let t = through fs l s in only-memory e (Refuses-by e _ _ h (λ none. none-some t.end (sym none ∙ t.gives)))

@@ -24,9 +24,10 @@ pub record Headline : Type 0 where
   -- where some package has a checksum: `Lockfile::survives`
   pub plain : PlainSurvives
   -- there, from V2 on with distinct identities, a listed dependency stands in the shortest form
-  -- that names it in every order of the packages, one sourceless case excepted: `Lockfile::to_table`
+  -- that names it in every order of the packages, one sourceless case excepted:
+  -- `Lockfile::to_table`
   pub shortest : ShortestReferences
-  -- and the table of a package depends on the packages that bear the names of its dependencies
+  -- and the table of a package depends on the packages with the names of its dependencies
   pub bearers : WrittenByBearers
   -- the edges of a tree are told by the packages: `Tree::new`
   pub edges : EdgesAreOne

@@ -14,8 +14,8 @@ IsMeant l = (text : List ℕ) × TextMeans text l
 -- has 4 GB or more; or running out of memory
 abbrev pub IsOfFile : Error → Type 0
 IsOfFile (Io kind) = Unit {0}
-IsOfFile (Parse said) = (text : List ℕ)
-    × RefusesUrls (Parse said) ((l : LockfileData) → ¬ TextMeans text l)
+IsOfFile (Parse message) = (text : List ℕ)
+    × RefusesUrls (Parse message) ((l : LockfileData) → ¬ TextMeans text l)
 IsOfFile (Version fault) = ⊥
-IsOfFile (Resolution said) = ⊥
+IsOfFile (Resolution message) = ⊥
 IsOfFile Memory = Unit {0}

@@ -8,7 +8,7 @@ use Rattle.cargo_lock_parts.specs.Identity.{Identity, PackageData, identity_of}
 use Rattle.cargo_lock_parts.specs.Source.{Source, is_registry}
 use Rattle.cargo_lock_parts.specs.SourceText.{text_of}
 use Rattle.cargo_lock_references.specs.declared.version.ResolveVersion.TheVariants.{V1, V2, V3, V4}
-use Rattle.cargo_lock_references.specs.Chosen.{marked}
+use Rattle.cargo_lock_references.specs.WrittenReference.{mark}
 use Rattle.cargo_lock_encoding.specs.Lockfiles.{LockfileData}
 use Rattle.cargo_lock.specs.Shortest.{IsAmong}
 use Rattle.cargo_lock_references.specs.ReadBack.{DigestReadsBack, TextReadsBack, VersionSurvives}
@@ -19,7 +19,7 @@ use Rattle.cargo_lock_references.specs.Words.{IsDense, IsWord}
 pub record IsPlainSource (s : Source) : Type 0 where
   pub registry : is_registry s.kind ≡ true
   pub dense : IsDense (text_of false s)
-  pub back : TextReadsBack (marked false s)
+  pub back : TextReadsBack (mark false s)
 
 -- no two places of the list have the same name and version
 abbrev pub HasNoTwins : List Identity → Type 0

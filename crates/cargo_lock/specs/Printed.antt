@@ -9,18 +9,19 @@ use Rattle.cargo_lock_references.specs.Metadata.{metadata_of}
 use Rattle.cargo_lock_encoding.specs.Lockfiles.{LockfileData}
 use Rattle.cargo_lock_references.specs.Records.{is_escaped}
 use Rattle.cargo_lock_encoding.specs.Survives.{Survives}
-use Rattle.cargo_lock_encoding.specs.Table.{entry_of, entry_value, metadata_value, patch_value, present, unless_empty, written_version}
-use Rattle.cargo_lock_encoding.specs.Text.{joined, lines_of}
+use Rattle.cargo_lock_encoding.specs.Table.{encoded_package_of, encoded_package_value, metadata_value, patch_value, present_members, unless_empty, written_version}
+use Rattle.cargo_lock_encoding.specs.Text.{join_lines, lines_of}
 
 -- The written table as the text has it: without the root, and without a list of packages where it
 -- is empty.
 abbrev pub printed_table : LockfileData → Members
-printed_table l = present (
+printed_table l = present_members (
     (codes "metadata", metadata_value (metadata_of l.version l.metadata l.packages))
     ∷ (
       codes "package",
       unless_empty
-          (map entry_value (map (entry_of l.version (map identity_of l.packages)) l.packages)),
+          (map encoded_package_value
+          (map (encoded_package_of l.version (map identity_of l.packages)) l.packages)),
     )
     ∷ (codes "patch", patch_value (is_escaped l.version) l.patch)
     ∷ (codes "version", option_map integer (written_version l.version)) ∷ [])
@@ -29,10 +30,10 @@ printed_table l = present (
 abbrev pub HasAllPrinted : PackageData → Type 0
 HasAllPrinted p = (p.dependencies ≡ []) ⊎ (p.replace ≡ None)
 
--- The premise: `toml` reads the printed text as that table. It is not proved; tests show it on every
--- text that they print.
+-- The premise: `toml` reads the printed text as that table. It is not proved; tests show it on
+-- every text that they print.
 abbrev pub IsReadAsPrinted : LockfileData → Type 0
-IsReadAsPrinted l = parse_document (joined (lines_of l)) ≡ Some (printed_table l)
+IsReadAsPrinted l = parse_document (join_lines (lines_of l)) ≡ Some (printed_table l)
 
 -- the format, equal packages and patches, the written metadata, and no root
 pub record IsPrintedBack (l x : LockfileData) : Type 0 where
@@ -47,4 +48,4 @@ pub record IsPrintedBack (l x : LockfileData) : Type 0 where
 abbrev pub PrintedBack : Type 0
 PrintedBack = (l : LockfileData) → Survives l l.version → AllByRecursion HasAllPrinted l.packages
     → IsReadAsPrinted l
-    → (x : LockfileData) × TextMeans (joined (lines_of l)) x × IsPrintedBack l x
+    → (x : LockfileData) × TextMeans (join_lines (lines_of l)) x × IsPrintedBack l x

@@ -1,21 +1,22 @@
--- References that name a dependency in every order of the packages, in as few words as there can be.
+-- References that name a dependency in every order of the packages, in as few words as there can
+-- be.
 use Rattle.std.specs.Prelude.{◌≡◌, ◌+◌, ◌<◌, Bool, ℕ, zero, suc, List, Option, Some, None, IsPermutation, codes, filter, map, slice_get}
 use Rattle.std.specs.List.{list_any}
 use Rattle.toml.specs.Data.{Data, Items, no_items, item, Members, get_member}
 use Rattle.cargo_lock_parts.specs.Identity.{Identity, PackageData, identity_key, identity_of}
 use Rattle.cargo_lock_references.specs.declared.version.ResolveVersion.{ResolveVersion}
 use Rattle.cargo_lock_references.specs.declared.version.ResolveVersion.TheVariants.{V1, V2, V3, V4}
-use Rattle.cargo_lock_references.specs.Form.{Form, form_of, form_text}
-use Rattle.cargo_lock_references.specs.FormOrder.{form_key}
+use Rattle.cargo_lock_references.specs.Reference.{Reference, reference_of, reference_text}
+use Rattle.cargo_lock_references.specs.ReferenceOrder.{reference_key}
 use Rattle.cargo_lock_references.specs.Optional.{◌>>=◌}
 use Rattle.cargo_lock_encoding.specs.Lockfiles.{LockfileData}
-use Rattle.cargo_lock_references.specs.Said.{same_text}
-use Rattle.cargo_lock_references.specs.ReadBack.{SaysEqual}
+use Rattle.cargo_lock_references.specs.ResolutionSearch.{same_text}
+use Rattle.cargo_lock_references.specs.ReadBack.{ResolvesToEqual}
 use Rattle.cargo_lock_encoding.specs.Survives.{Survives}
 use Rattle.cargo_lock_encoding.specs.Table.{table_of}
 use Rattle.cargo_lock_encoding.specs.TableReading.{members_in, required_list, text_in}
 
--- ---- forms that name
+-- ---- references that name
 
 -- an identity that is equal to this one stands in the list
 abbrev pub IsAmong : List Identity → Identity → Type 0
@@ -34,41 +35,44 @@ HasNoTwin list d = (k : ℕ) (i : Identity) → slice_get list k ≡ Some i → 
     ≡ d.version
     → identity_key i ≡ identity_key d
 
--- the form says this dependency in every order of the list
-abbrev pub Names : Form → List Identity → Identity → Type 0
-Names f list d = (order : List Identity) → IsPermutation list order → SaysEqual f order d
+-- the reference stands for this dependency in every order of the list
+abbrev pub Names : Reference → List Identity → Identity → Type 0
+Names f list d = (order : List Identity) → IsPermutation list order → ResolvesToEqual f order d
 
 -- 1 where a value is there
 abbrev pub one_if_some : {X : Type 0} → Option X → ℕ
 one_if_some None = 0
 one_if_some (Some x) = 1
 
--- how many words a form has
-abbrev pub words_in : Form → ℕ
+-- how many words a reference has
+abbrev pub words_in : Reference → ℕ
 words_in f = 1 + one_if_some f.version + one_if_some f.source
 
--- there is an order of the list in which the form does not say this dependency
-abbrev pub IsAmbiguous : Form → List Identity → Identity → Type 0
-IsAmbiguous f list d = (order : List Identity) × IsPermutation list order × ¬ SaysEqual f order d
+-- there is an order of the list in which the reference does not stand for this dependency
+abbrev pub IsAmbiguous : Reference → List Identity → Identity → Type 0
+IsAmbiguous f list d = (order : List Identity) × IsPermutation list order
+    × ¬ ResolvesToEqual f order d
 
--- each form of fewer words has an order of the list in which it does not say the dependency
-abbrev pub IsLeast : Form → List Identity → Identity → Type 0
-IsLeast f list d = (g : Form) → words_in g < words_in f → IsAmbiguous g list d
+-- each reference of fewer words has an order of the list in which it does not stand for the
+-- dependency
+abbrev pub IsLeast : Reference → List Identity → Identity → Type 0
+IsLeast f list d = (g : Reference) → words_in g < words_in f → IsAmbiguous g list d
 
--- the text of the form is read as a form that is equal to it
-abbrev pub IsReadBack : Form → Type 0
-IsReadBack f = (g : Form) × (form_of (form_text f) ≡ Some g) × (form_key g ≡ form_key f)
+-- the text of the reference is read as a reference that is equal to it
+abbrev pub IsReadBack : Reference → Type 0
+IsReadBack f = (g : Reference) × (reference_of (reference_text f) ≡ Some g)
+    × (reference_key g ≡ reference_key f)
 
--- The text is that of a form which names the dependency and is read back, and each form of fewer
--- words fails to say it in some order of the list. One case is excepted from naming it: a dependency
--- without a source, with whose name and version another package stands in the list. Two words are
--- then all that can be written.
+-- The text is that of a reference which names the dependency and is read back, and each reference
+-- of fewer words does not stand for it in some order of the list. One case is excepted from naming
+-- it: a dependency without a source, with whose name and version another package stands in the
+-- list. Two words are then all that can be written.
 pub record IsShortest (list : List Identity) (d : Identity) (text : Option (List ℕ)) : Type 0 where
-  pub form : Form
-  pub written : text ≡ Some (form_text form)
-  pub read : IsReadBack form
-  pub names : (d.source ≡ None → HasNoTwin list d) → Names form list d
-  pub least : IsLeast form list d
+  pub reference : Reference
+  pub written : text ≡ Some (reference_text reference)
+  pub read : IsReadBack reference
+  pub names : (d.source ≡ None → HasNoTwin list d) → Names reference list d
+  pub least : IsLeast reference list d
 
 -- ---- the texts of a table
 
@@ -85,9 +89,9 @@ package_at t k = required_list
 
 -- the text of a dependency of the package at a place
 abbrev pub reference_at : Members → ℕ → ℕ → Option (List ℕ)
-reference_at t k j = package_at t k >>= λ entry.
+reference_at t k j = package_at t k >>= λ encoded.
     required_list
-    (get_member (codes "dependencies") entry) >>= λ references. item_at references j >>= text_in
+    (get_member (codes "dependencies") encoded) >>= λ references. item_at references j >>= text_in
 
 -- from V2 on references are shortened
 abbrev pub IsShortening : ResolveVersion → Type 0
@@ -112,18 +116,18 @@ ShortestReferences = (l : LockfileData) → HasShortestReferences l (table_of l)
 
 -- ---- what the written table of a package depends on
 
--- the identity bears the name of one of the package's dependencies
+-- the identity has the name of one of the package's dependencies
 abbrev pub bears_some : PackageData → Identity → Bool
 bears_some p i = list_any (λ d. same_text i.name d.name) p.dependencies
 
--- those of the packages that bear the name of one of this package's dependencies
-abbrev pub bearers : PackageData → List PackageData → List Identity
-bearers p packages = filter (bears_some p) (map identity_of packages)
+-- those of the packages with the name of one of this package's dependencies
+abbrev pub namesakes : PackageData → List PackageData → List Identity
+namesakes p packages = filter (bears_some p) (map identity_of packages)
 
 -- The table of a package is the same in two lockfiles of one format where the same packages, each
--- as often, bear the names of its dependencies; their order does not count.
+-- as often, have the names of its dependencies; their order does not count.
 abbrev pub WrittenByBearers : Type 0
 WrittenByBearers = (l m : LockfileData) (j k : ℕ) (p : PackageData) → l.version ≡ m.version
     → slice_get l.packages j ≡ Some p → slice_get m.packages k ≡ Some p
-    → IsPermutation (bearers p l.packages) (bearers p m.packages)
+    → IsPermutation (namesakes p l.packages) (namesakes p m.packages)
     → package_at (table_of l) j ≡ package_at (table_of m) k

@@ -1,5 +1,5 @@
--- Translation of a lockfile over a list of formats: for each format in order the lockfile is written
--- as a table in that format, and the table is read.
+-- Translation of a lockfile over a list of formats: for each format in order the lockfile is
+-- written as a table in that format, and the table is read.
 use Rattle.std.specs.Prelude.{◌≡◌, ◌⊎◌, List, [], ◌∷◌, Option, Some}
 use Rattle.cargo_lock_parts.specs.Identity.{PackageData}
 use Rattle.cargo_lock_references.specs.declared.version.ResolveVersion.{ResolveVersion}
@@ -59,9 +59,10 @@ pub record KeepsThrough (formats : List ResolveVersion) (l x : LockfileData) : T
 -- ---- computed
 
 -- the lockfile that the chain gives
-abbrev pub translated : List ResolveVersion → LockfileData → Option LockfileData
-translated [] l = Some l
-translated (format ∷ formats) l = meaning (table_of (in_format format l)) >>= translated formats
+abbrev pub translate_in_turn : List ResolveVersion → LockfileData → Option LockfileData
+translate_in_turn [] l = Some l
+translate_in_turn (format ∷ formats) l = meaning
+    (table_of (in_format format l)) >>= translate_in_turn formats
 
 -- ---- laws
 

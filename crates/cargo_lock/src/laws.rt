@@ -35,8 +35,8 @@ pub fn table_means_one()
     ensures { MeansOne }
 {}
 
-/// Two lockfiles are equal by `==` exactly where their formats, their metadata and the keys of their
-/// packages, roots and unused patches are equal, in order.
+/// Two lockfiles are equal by `==` exactly where their formats, their metadata and the keys of
+/// their packages, roots and unused patches are equal, in order.
 pub fn lockfiles_are_equal_by_keys()
     ensures { EqualExactlyByKeys }
 {}
@@ -67,7 +67,7 @@ pub fn references_are_shortest()
 
 /// The table of a package depends on the format, on the package, and on the packages that bear the
 /// names of its dependencies, and not on the order of the packages.
-pub fn packages_are_written_by_bearers()
+pub fn packages_are_written_by_namesakes()
     ensures { WrittenByBearers }
 {}
 
@@ -95,7 +95,7 @@ pub fn headline()
     printed_survivors_are_read_back();
     plain_lockfiles_survive();
     references_are_shortest();
-    packages_are_written_by_bearers();
+    packages_are_written_by_namesakes();
     edges_are_one();
     drawings::drawing_exists();
     drawings::drawing_is_unique();

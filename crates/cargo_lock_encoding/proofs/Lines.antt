@@ -9,22 +9,22 @@ use Rattle.std.proofs.lemmas.List.Concat.{flat_map-cons}
 use Rattle.std.proofs.lemmas.List.{append-nil, map-append, take_more}
 use Rattle.semver.specs.Identifiers.{parts_text}
 use Rattle.cargo_lock_parts.specs.Identity.{Identity}
-use Rattle.cargo_lock_references.specs.Chosen.{written_source}
-use Rattle.cargo_lock_references.specs.Form.{Form}
-use Rattle.cargo_lock_references.specs.Records.{EntryData}
+use Rattle.cargo_lock_references.specs.WrittenReference.{written_source}
+use Rattle.cargo_lock_references.specs.Reference.{Reference}
+use Rattle.cargo_lock_references.specs.Records.{EncodedPackage}
 use Rattle.cargo_lock_encoding.specs.Lockfiles.{EncodedData, is_escaped_number}
-use Rattle.cargo_lock_encoding.specs.Text.{checksum_line, comment_lines, dependency_line, encoded_lines, entry_lines, field, is_nonempty_text, joined, metadata_lines, pair_line, patch_lines, reference_lines, source_line, version_lines}
+use Rattle.cargo_lock_encoding.specs.Text.{checksum_line, comment_lines, dependency_line, encoded_lines, package_lines, field, is_nonempty_text, join_lines, metadata_lines, pair_line, patch_lines, reference_lines, source_line, version_lines}
 
 -- what was put, and what was put after it
-pub then : (a b c : List ℕ) (l m : List (List ℕ)) → b ≡ a ++ joined l → c ≡ b ++ joined m → c ≡ a ++ joined (l ++ m)
-then a b c l m e f = f ∙ rw e (append_assoc a (joined l) (joined m)) ∙ ap (λ (x : List ℕ). a ++ x) (sym (flat_map-append _ l m))
+pub then : (a b c : List ℕ) (l m : List (List ℕ)) → b ≡ a ++ join_lines l → c ≡ b ++ join_lines m → c ≡ a ++ join_lines (l ++ m)
+then a b c l m e f = f ∙ rw e (append_assoc a (join_lines l) (join_lines m)) ∙ ap (λ (x : List ℕ). a ++ x) (sym (flat_map-append _ l m))
 
 -- one more line of a list of them
-pub then-one : {X : Type 0} (f : X → List ℕ) (xs : List X) (i : ℕ) (x : X) (a b c : List ℕ) → i < length xs → x ≡ get_or xs i x → b ≡ a ++ joined (map f (take i xs)) → c ≡ b ++ joined (f x ∷ []) → c ≡ a ++ joined (map f (take (i + 1) xs))
+pub then-one : {X : Type 0} (f : X → List ℕ) (xs : List X) (i : ℕ) (x : X) (a b c : List ℕ) → i < length xs → x ≡ get_or xs i x → b ≡ a ++ join_lines (map f (take i xs)) → c ≡ b ++ join_lines (f x ∷ []) → c ≡ a ++ join_lines (map f (take (i + 1) xs))
 then-one f xs i x a b c h is e g = then a b c (map f (take i xs)) (f x ∷ []) e g ∙ rw (take_more xs i x h, map-append f (take i xs) (get_or xs i x ∷ []), ← is)
 
 -- one more element's lines
-pub then-more : {X : Type 0} (f : X → List (List ℕ)) (xs : List X) (i : ℕ) (x : X) (a b c : List ℕ) → i < length xs → x ≡ get_or xs i x → b ≡ a ++ joined (flat_map f (take i xs)) → c ≡ b ++ joined (f x) → c ≡ a ++ joined (flat_map f (take (i + 1) xs))
+pub then-more : {X : Type 0} (f : X → List (List ℕ)) (xs : List X) (i : ℕ) (x : X) (a b c : List ℕ) → i < length xs → x ≡ get_or xs i x → b ≡ a ++ join_lines (flat_map f (take i xs)) → c ≡ b ++ join_lines (f x) → c ≡ a ++ join_lines (flat_map f (take (i + 1) xs))
 then-more f xs i x a b c h is e g = then a b c (flat_map f (take i xs)) (f x) e g ∙ rw (take_more xs i x h, flat_map-append f (take i xs) (get_or xs i x ∷ []), ← is, append-nil (f x))
 
 -- the lines of what each item becomes
@@ -34,23 +34,23 @@ flat_map-map f g (x ∷ xs) = flat_map-cons f (g x) (map g xs) ∙ ap (λ zs. f 
 
 -- ---- a package
 
-pub then-dependencies : (fs : List Form) (a b c d : List ℕ)
-    → b ≡ a ++ joined (codes "dependencies = [" ∷ [])
-    → c ≡ b ++ joined (map dependency_line fs)
-    → d ≡ c ++ joined (codes "]" ∷ [])
-    → d ≡ a ++ joined (codes "dependencies = [" ∷ (map dependency_line fs ++ codes "]" ∷ []))
+pub then-dependencies : (fs : List Reference) (a b c d : List ℕ)
+    → b ≡ a ++ join_lines (codes "dependencies = [" ∷ [])
+    → c ≡ b ++ join_lines (map dependency_line fs)
+    → d ≡ c ++ join_lines (codes "]" ∷ [])
+    → d ≡ a ++ join_lines (codes "dependencies = [" ∷ (map dependency_line fs ++ codes "]" ∷ []))
 then-dependencies fs a b c d h0 h1 h2 =
     then a b d (codes "dependencies = [" ∷ []) (map dependency_line fs ++ codes "]" ∷ []) h0
     (then b c d (map dependency_line fs) (codes "]" ∷ []) h1 h2)
 
-pub then-entry : (one : EntryData) (a b c d e f g : List ℕ)
-    → b ≡ a ++ joined ([] ∷ codes "[[package]]" ∷ [])
-    → c ≡ b ++ joined (field (codes "name") one.name ∷ [])
-    → d ≡ c ++ joined (field (codes "version") (parts_text one.version) ∷ [])
-    → e ≡ d ++ joined (option_to_list (option_map source_line one.source))
-    → f ≡ e ++ joined (option_to_list (option_map checksum_line one.checksum))
-    → g ≡ f ++ joined (reference_lines one.dependencies one.replace)
-    → g ≡ a ++ joined (entry_lines one)
+pub then-entry : (one : EncodedPackage) (a b c d e f g : List ℕ)
+    → b ≡ a ++ join_lines ([] ∷ codes "[[package]]" ∷ [])
+    → c ≡ b ++ join_lines (field (codes "name") one.name ∷ [])
+    → d ≡ c ++ join_lines (field (codes "version") (parts_text one.version) ∷ [])
+    → e ≡ d ++ join_lines (option_to_list (option_map source_line one.source))
+    → f ≡ e ++ join_lines (option_to_list (option_map checksum_line one.checksum))
+    → g ≡ f ++ join_lines (reference_lines one.dependencies one.replace)
+    → g ≡ a ++ join_lines (package_lines one)
 then-entry one a b c d e f g h0 h1 h2 h3 h4 h5 =
     let l0 : List (List ℕ) = [] ∷ codes "[[package]]" ∷ [] in
     let l1 : List (List ℕ) = field (codes "name") one.name ∷ [] in
@@ -64,12 +64,12 @@ then-entry one a b c d e f g h0 h1 h2 h3 h4 h5 =
 -- ---- an unused patch
 
 pub then-patch : (escaped : Bool) (i : Identity) (a b c d e f : List ℕ)
-    → b ≡ a ++ joined ([] ∷ codes "[[patch.unused]]" ∷ [])
-    → c ≡ b ++ joined (field (codes "name") i.name ∷ [])
-    → d ≡ c ++ joined (field (codes "version") (parts_text i.version) ∷ [])
-    → e ≡ d ++ joined (option_to_list (option_map source_line (written_source escaped i.source)))
-    → f ≡ e ++ joined ([] ∷ [])
-    → f ≡ a ++ joined (patch_lines escaped i)
+    → b ≡ a ++ join_lines ([] ∷ codes "[[patch.unused]]" ∷ [])
+    → c ≡ b ++ join_lines (field (codes "name") i.name ∷ [])
+    → d ≡ c ++ join_lines (field (codes "version") (parts_text i.version) ∷ [])
+    → e ≡ d ++ join_lines (option_to_list (option_map source_line (written_source escaped i.source)))
+    → f ≡ e ++ join_lines ([] ∷ [])
+    → f ≡ a ++ join_lines (patch_lines escaped i)
 then-patch escaped i a b c d e f h0 h1 h2 h3 h4 =
     let l0 : List (List ℕ) = [] ∷ codes "[[patch.unused]]" ∷ [] in
     let l1 : List (List ℕ) = field (codes "name") i.name ∷ [] in
@@ -91,25 +91,25 @@ metadata-some (m ∷ ms) h = refl
 
 pub then-metadata : (ms : List (List ℕ × List ℕ)) (a b c : List ℕ)
     → ¬ (length ms ≡ 0)
-    → b ≡ a ++ joined ([] ∷ codes "[metadata]" ∷ [])
-    → c ≡ b ++ joined (map pair_line ms)
-    → c ≡ a ++ joined (metadata_lines ms)
+    → b ≡ a ++ join_lines ([] ∷ codes "[metadata]" ∷ [])
+    → c ≡ b ++ join_lines (map pair_line ms)
+    → c ≡ a ++ join_lines (metadata_lines ms)
 then-metadata ms a b c some h0 h1 =
     then a b c ([] ∷ codes "[metadata]" ∷ []) (map pair_line ms) h0 h1
-    ∙ ap (λ (ls : List (List ℕ)). a ++ joined ls) (sym (metadata-some ms some))
+    ∙ ap (λ (ls : List (List ℕ)). a ++ join_lines ls) (sym (metadata-some ms some))
 
 -- ---- the whole
 
 pub then-encoded : (l : EncodedData) (a b c d e f : List ℕ)
-    → b ≡ a ++ joined comment_lines
-    → c ≡ b ++ joined (version_lines l.version)
-    → d ≡ c ++ joined (flat_map entry_lines l.entries)
-    → e ≡ d ++ joined (flat_map (patch_lines (is_escaped_number l.version)) l.patch)
-    → f ≡ e ++ joined (metadata_lines (entries l.metadata))
-    → f ≡ a ++ joined (encoded_lines l)
+    → b ≡ a ++ join_lines comment_lines
+    → c ≡ b ++ join_lines (version_lines l.version)
+    → d ≡ c ++ join_lines (flat_map package_lines l.entries)
+    → e ≡ d ++ join_lines (flat_map (patch_lines (is_escaped_number l.version)) l.patch)
+    → f ≡ e ++ join_lines (metadata_lines (entries l.metadata))
+    → f ≡ a ++ join_lines (encoded_lines l)
 then-encoded l a b c d e f h0 h1 h2 h3 h4 =
     let l1 : List (List ℕ) = version_lines l.version in
-    let l2 : List (List ℕ) = flat_map entry_lines l.entries in
+    let l2 : List (List ℕ) = flat_map package_lines l.entries in
     let l3 : List (List ℕ) = flat_map (patch_lines (is_escaped_number l.version)) l.patch in
     let l4 : List (List ℕ) = metadata_lines (entries l.metadata) in
     then a b f comment_lines (l1 ++ (l2 ++ (l3 ++ l4))) h0

@@ -10,15 +10,15 @@ use Rattle.cargo_lock_parts.specs.Error.{IsTooLong, Reads, ReadsUrls, Refuses}
 use Rattle.cargo_lock_parts.specs.Identity.{Identity, PackageData}
 use Rattle.cargo_lock_references.specs.Finds.{Finds, FindsUrls}
 use Rattle.cargo_lock_encoding.specs.Lockfiles.{format_of}
-use Rattle.cargo_lock_encoding.specs.Means.{IsLocked, IsPackage, Means, TextMeans, entry_checksum, reading_list}
-use Rattle.cargo_lock_encoding.specs.Meaning.{ResolvedData, all_packages, completed, entry_package, locked, meaning, package_of, resolved, root_package}
+use Rattle.cargo_lock_encoding.specs.Means.{IsLocked, IsPackage, Means, TextMeans, encoded_checksum, reading_list}
+use Rattle.cargo_lock_encoding.specs.Meaning.{ResolvedData, all_packages, completed_lockfile, listed_package, lockfile_of, meaning, package_of, resolved_values, root_package}
 use Rattle.cargo_lock_references.specs.Optional.{◌>>=◌, BothOrNone, map_all, map_some}
-use Rattle.cargo_lock_references.specs.Records.{EntryData, bare_source, entry_identity}
+use Rattle.cargo_lock_references.specs.Records.{EncodedPackage, unmarked_source, encoded_identity}
 use Rattle.cargo_lock_encoding.specs.Lockfiles.{EncodedData, LockfileData}
-use Rattle.cargo_lock_references.specs.Said.{said}
-use Rattle.cargo_lock_references.specs.Says.{Says}
+use Rattle.cargo_lock_references.specs.ResolutionSearch.{resolution_of}
+use Rattle.cargo_lock_references.specs.ResolvesTo.{ResolvesTo}
 use Rattle.cargo_lock_encoding.specs.TableReading.{encoded_at}
-use Rattle.cargo_lock_references.proofs.SaysLemmas.{Says-from, said-from}
+use Rattle.cargo_lock_references.proofs.ResolvesToLemmas.{ResolvesTo-from, resolution_of-from}
 use Rattle.cargo_lock_references.proofs.Walk.{Refuses-by, RefusesUrls-by}
 
 -- ---- lists
@@ -64,78 +64,78 @@ BothOrNone-from : {X Y : Type 0} (f : X → Option Y) (R : X → Y → Type 0) �
 BothOrNone-from f R each None p e = let s : None ≡ p = same_Some _ _ e in rw (← s) tt
 BothOrNone-from f R each (Some x) p e = let s = some-parts (f x) p e in rw (← s.2) (each x s.0 s.1)
 
-pub package_of-from : (list : List Identity) (c : Option (List ℕ)) (e : EntryData) (p : PackageData) → IsPackage list c e p → package_of list c e ≡ Some p
+pub package_of-from : (list : List Identity) (c : Option (List ℕ)) (e : EncodedPackage) (p : PackageData) → IsPackage list c e p → package_of list c e ≡ Some p
 package_of-from list c e p h =
     rw (
-      map_all-from (λ f. said f list) (λ f i. Says f list i) (λ f i s. said-from f list i s) e.dependencies p.dependencies h.dependencies,
-      map_some-from (λ f. said f []) (λ f i. Says f [] i) (λ f i s. said-from f [] i s) e.replace p.replace h.replace,
+      map_all-from (λ f. resolution_of f list) (λ f i. ResolvesTo f list i) (λ f i s. resolution_of-from f list i s) e.dependencies p.dependencies h.dependencies,
+      map_some-from (λ f. resolution_of f []) (λ f i. ResolvesTo f [] i) (λ f i s. resolution_of-from f [] i s) e.replace p.replace h.replace,
       ← h.name,
       ← h.version,
       ← h.source,
       ← h.checksum,
     )
 
-pub IsPackage-from : (list : List Identity) (c : Option (List ℕ)) (e : EntryData) (p : PackageData) → package_of list c e ≡ Some p → IsPackage list c e p
+pub IsPackage-from : (list : List Identity) (c : Option (List ℕ)) (e : EncodedPackage) (p : PackageData) → package_of list c e ≡ Some p → IsPackage list c e p
 IsPackage-from list c e p h =
-    let d = bind-parts (map_all (λ f. said f list) e.dependencies) _ p h in
-    let r = bind-parts (map_some (λ f. said f []) e.replace) _ p d.2 in
-    let s : ◌≡◌ {A = PackageData} (record { name = e.name; version = e.version; source = bare_source e.source; checksum = c; dependencies = d.0; replace = r.0 }) p = same_Some _ _ r.2 in
+    let d = bind-parts (map_all (λ f. resolution_of f list) e.dependencies) _ p h in
+    let r = bind-parts (map_some (λ f. resolution_of f []) e.replace) _ p d.2 in
+    let s : ◌≡◌ {A = PackageData} (record { name = e.name; version = e.version; source = unmarked_source e.source; checksum = c; dependencies = d.0; replace = r.0 }) p = same_Some _ _ r.2 in
     rw (← s) (record {
       name = refl;
       version = refl;
       source = refl;
       checksum = refl;
-      dependencies = AllZip-from (λ f. said f list) (λ f i. Says f list i) (λ f i q. Says-from f list i q) e.dependencies d.0 d.1;
-      replace = BothOrNone-from (λ f. said f []) (λ f i. Says f [] i) (λ f i q. Says-from f [] i q) e.replace r.0 r.1;
+      dependencies = AllZip-from (λ f. resolution_of f list) (λ f i. ResolvesTo f list i) (λ f i q. ResolvesTo-from f list i q) e.dependencies d.0 d.1;
+      replace = BothOrNone-from (λ f. resolution_of f []) (λ f i. ResolvesTo f [] i) (λ f i q. ResolvesTo-from f [] i q) e.replace r.0 r.1;
     })
 
 -- ---- lockfiles
 
-pub locked-from : (e : EncodedData) (l : LockfileData) → IsLocked e l → locked e ≡ Some l
-unfolding locked
-locked-from e l h =
+pub lockfile_of-from : (e : EncodedData) (l : LockfileData) → IsLocked e l → lockfile_of e ≡ Some l
+unfolding lockfile_of
+lockfile_of-from e l h =
     rw (
       h.format,
-      map_all-from (entry_package l.version (reading_list l.version (map entry_identity e.entries)) e.metadata) (λ entry p. IsPackage (reading_list l.version (map entry_identity e.entries)) (entry_checksum l.version e.metadata entry) entry p) (λ x y s. package_of-from _ _ x y s) e.entries l.packages h.packages,
+      map_all-from (listed_package l.version (reading_list l.version (map encoded_identity e.packages)) e.metadata) (λ entry p. IsPackage (reading_list l.version (map encoded_identity e.packages)) (encoded_checksum l.version e.metadata entry) entry p) (λ x y s. package_of-from _ _ x y s) e.packages l.packages h.packages,
       map_some-from root_package (λ entry p. IsPackage [] entry.checksum entry p) (λ x y s. package_of-from [] _ x y s) e.root l.root h.root,
       ← h.metadata,
       ← h.patch,
     )
 
-pub IsLocked-from : (e : EncodedData) (l : LockfileData) → locked e ≡ Some l → IsLocked e l
-unfolding locked
+pub IsLocked-from : (e : EncodedData) (l : LockfileData) → lockfile_of e ≡ Some l → IsLocked e l
+unfolding lockfile_of
 IsLocked-from e l h =
-    let w = map-parts (completed e) (resolved e) l h in
+    let w = map-parts (completed_lockfile e) (resolved_values e) l h in
     let v = bind-parts (format_of e) _ w.0 w.1 in
-    let ps = bind-parts (all_packages v.0 e.metadata e.entries) _ w.0 v.2 in
+    let ps = bind-parts (all_packages v.0 e.metadata e.packages) _ w.0 v.2 in
     let r = bind-parts (map_some root_package e.root) _ w.0 ps.2 in
     let t : ◌≡◌ {A = ResolvedData} (record { version = v.0; packages = ps.0; root = r.0 }) w.0 = same_Some _ _ r.2 in
-    let s : ◌≡◌ {A = LockfileData} (completed e (record { version = v.0; packages = ps.0; root = r.0 })) l = ap (completed e) t ∙ w.2 in
+    let s : ◌≡◌ {A = LockfileData} (completed_lockfile e (record { version = v.0; packages = ps.0; root = r.0 })) l = ap (completed_lockfile e) t ∙ w.2 in
     rw (← s) (record {
       format = v.1;
-      packages = AllZip-from (entry_package v.0 (reading_list v.0 (map entry_identity e.entries)) e.metadata) (λ entry p. IsPackage (reading_list v.0 (map entry_identity e.entries)) (entry_checksum v.0 e.metadata entry) entry p) (λ x y q. IsPackage-from _ _ x y q) e.entries ps.0 ps.1;
+      packages = AllZip-from (listed_package v.0 (reading_list v.0 (map encoded_identity e.packages)) e.metadata) (λ entry p. IsPackage (reading_list v.0 (map encoded_identity e.packages)) (encoded_checksum v.0 e.metadata entry) entry p) (λ x y q. IsPackage-from _ _ x y q) e.packages ps.0 ps.1;
       root = BothOrNone-from root_package (λ entry p. IsPackage [] entry.checksum entry p) (λ x y q. IsPackage-from [] _ x y q) e.root r.0 r.1;
       metadata = refl;
       patch = refl;
     })
 
-pub Finds-locked : (e : EncodedData) (r : Result LockfileData Error) → Reads (λ l. l) r (locked e) → Finds (IsLocked e) r
-Finds-locked e (Ok l) h = IsLocked-from e l h
-Finds-locked e (Err f) h = Refuses-by f _ _ h (λ none l m. none-some l (sym none ∙ locked-from e l m))
+pub Finds-lockfile_of : (e : EncodedData) (r : Result LockfileData Error) → Reads (λ l. l) r (lockfile_of e) → Finds (IsLocked e) r
+Finds-lockfile_of e (Ok l) h = IsLocked-from e l h
+Finds-lockfile_of e (Err f) h = Refuses-by f _ _ h (λ none l m. none-some l (sym none ∙ lockfile_of-from e l m))
 
-pub locked-none : (e : EncodedData) → resolved e ≡ None → locked e ≡ None
-unfolding locked
-locked-none e none = rw none
+pub lockfile_of-none : (e : EncodedData) → resolved_values e ≡ None → lockfile_of e ≡ None
+unfolding lockfile_of
+lockfile_of-none e none = rw none
 
 -- ---- tables
 
 pub meaning-from : (t : Members) (l : LockfileData) → Means t l → meaning t ≡ Some l
-meaning-from t l h = rw (h.values, locked-from h.encoded l h.locked)
+meaning-from t l h = rw (h.values, lockfile_of-from h.encoded l h.lockfile_of)
 
 pub Means-from : (t : Members) (l : LockfileData) → meaning t ≡ Some l → Means t l
 Means-from t l h =
-    let e = bind-parts (encoded_at t) locked l h in
-    record { encoded = e.0; values = e.1; locked = IsLocked-from e.0 l e.2 }
+    let e = bind-parts (encoded_at t) lockfile_of l h in
+    record { encoded = e.0; values = e.1; lockfile_of = IsLocked-from e.0 l e.2 }
 
 -- what is computed is what the table means
 pub FindsUrls-means : (t : Members) (r : Result LockfileData Error) → ReadsUrls (λ l. l) r (meaning t) → FindsUrls (Means t) r
@@ -158,9 +158,9 @@ FindsUrls-text text t (Err e) parsed h =
 pub FindsUrls-refused : (text : List ℕ) (e : Error) (P : Type 0) → Refuses e P → (P → parse_document text ≡ None)
     → FindsUrls (TextMeans text) (Err e)
 FindsUrls-refused text (Io kind) P h f = absurd h
-FindsUrls-refused text (Parse said) P h f = inl (λ l m. none-some m.table (sym (f h) ∙ m.parsed))
+FindsUrls-refused text (Parse message) P h f = inl (λ l m. none-some m.table (sym (f h) ∙ m.parsed))
 FindsUrls-refused text (Version fault) P h f = absurd h
-FindsUrls-refused text (Resolution said) P h f = absurd h
+FindsUrls-refused text (Resolution message) P h f = absurd h
 FindsUrls-refused text Memory P h f = tt
 
 -- ---- refusals for length
@@ -173,10 +173,10 @@ FindsUrls-kept P e kept Q h (inr same) = rw same.0 h
 
 Finds-not_long : (P : LockfileData → Type 0) (e : Error) → FindsUrls P (Err e) → ¬ IsTooLong e → Finds P (Err e)
 Finds-not_long P (Io kind) h other = absurd h
-Finds-not_long P (Parse said) (inl never) other = never
-Finds-not_long P (Parse said) (inr long) other = absurd (other long)
+Finds-not_long P (Parse message) (inl never) other = never
+Finds-not_long P (Parse message) (inr long) other = absurd (other long)
 Finds-not_long P (Version fault) h other = absurd h
-Finds-not_long P (Resolution said) h other = absurd h
+Finds-not_long P (Resolution message) h other = absurd h
 Finds-not_long P Memory h other = tt
 
 -- the same, where it is not kept for its length

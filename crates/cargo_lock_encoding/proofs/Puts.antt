@@ -11,7 +11,7 @@ use Rattle.std.specs.Ordering.{is_gt}
 use Rattle.std.specs.Cmp.Lexicographic.{slice_cmp}
 use Rattle.std.proofs.lemmas.Bool.{false≢true, and_parts}
 use Rattle.toml.specs.Data.{Data, Members, member, no_members}
-use Rattle.cargo_lock_encoding.specs.Table.{present, present_one, put, put_present}
+use Rattle.cargo_lock_encoding.specs.Table.{present_members, present_member, put, put_present}
 
 match_members : (o : Ordering) (a b c : List Entry) → members_view (match_ordering o a b c) ≡ match_ordering o (members_view a) (members_view b) (members_view c)
 match_members Less a b c = refl
@@ -33,27 +33,27 @@ greater Less h = absurd (false≢true h)
 greater Equal h = absurd (false≢true h)
 greater Greater h = refl
 
-put-after-one : (k : List ℕ) (d : Data) (l : List ℕ) (o : Option Data) (ms : List (List ℕ × Option Data)) → slice_cmp nat_cmp k l ≡ Greater → put k d (present ms) ≡ present (ms ++ (k, Some d) ∷ [])
-    → put k d (present_one l o (present ms)) ≡ present_one l o (present (ms ++ (k, Some d) ∷ []))
+put-after-one : (k : List ℕ) (d : Data) (l : List ℕ) (o : Option Data) (ms : List (List ℕ × Option Data)) → slice_cmp nat_cmp k l ≡ Greater → put k d (present_members ms) ≡ present_members (ms ++ (k, Some d) ∷ [])
+    → put k d (present_member l o (present_members ms)) ≡ present_member l o (present_members (ms ++ (k, Some d) ∷ []))
 put-after-one k d l None ms g e = e
 put-after-one k d l (Some x) ms g e = rw g (ap (member l x) e)
 
-put-after : (k : List ℕ) (d : Data) (ms : List (List ℕ × Option Data)) → is_after k ms ≡ true → put k d (present ms) ≡ present (ms ++ (k, Some d) ∷ [])
+put-after : (k : List ℕ) (d : Data) (ms : List (List ℕ × Option Data)) → is_after k ms ≡ true → put k d (present_members ms) ≡ present_members (ms ++ (k, Some d) ∷ [])
 put-after k d [] h = refl
 put-after k d (m ∷ ms) h =
     let (g, more) = and_parts _ _ h in
     put-after-one k d m.0 m.1 ms (greater _ g) (put-after k d ms more)
 
-present-last : (k : List ℕ) (ms : List (List ℕ × Option Data)) → present ms ≡ present (ms ++ (k, None) ∷ [])
-present-last k [] = refl
-present-last k (m ∷ ms) = ap (present_one m.0 m.1) (present-last k ms)
+present_members-last : (k : List ℕ) (ms : List (List ℕ × Option Data)) → present_members ms ≡ present_members (ms ++ (k, None) ∷ [])
+present_members-last k [] = refl
+present_members-last k (m ∷ ms) = ap (present_member m.0 m.1) (present_members-last k ms)
 
-pub put_present-after : (k : List ℕ) (o : Option Data) (ms : List (List ℕ × Option Data)) → is_after k ms ≡ true → put_present k o (present ms) ≡ present (ms ++ (k, o) ∷ [])
-put_present-after k None ms h = present-last k ms
+pub put_present-after : (k : List ℕ) (o : Option Data) (ms : List (List ℕ × Option Data)) → is_after k ms ≡ true → put_present k o (present_members ms) ≡ present_members (ms ++ (k, o) ∷ [])
+put_present-after k None ms h = present_members-last k ms
 put_present-after k (Some d) ms h = put-after k d ms h
 
 -- one more member, after those that stand
-pub then-put : (k : List ℕ) (o : Option Data) (ms : List (List ℕ × Option Data)) (t u : Members) → t ≡ present ms → u ≡ put_present k o t → is_after k ms ≡ true → u ≡ present (ms ++ (k, o) ∷ [])
+pub then-put : (k : List ℕ) (o : Option Data) (ms : List (List ℕ × Option Data)) (t u : Members) → t ≡ present_members ms → u ≡ put_present k o t → is_after k ms ≡ true → u ≡ present_members (ms ++ (k, o) ∷ [])
 then-put k o ms t u before step h = step ∙ ap (put_present k o) before ∙ put_present-after k o ms h
 
 -- the six puts of a package
@@ -64,13 +64,13 @@ pub entry-puts : (c d n r s v : Option Data) (t0 t1 t2 t3 t4 t5 t6 : Members) �
     → t4 ≡ put_present (codes "replace") r t3
     → t5 ≡ put_present (codes "source") s t4
     → t6 ≡ put_present (codes "version") v t5
-    → t6 ≡ present ((codes "checksum", c) ∷ (codes "dependencies", d) ∷ (codes "name", n) ∷ (codes "replace", r) ∷ (codes "source", s) ∷ (codes "version", v) ∷ [])
+    → t6 ≡ present_members ((codes "checksum", c) ∷ (codes "dependencies", d) ∷ (codes "name", n) ∷ (codes "replace", r) ∷ (codes "source", s) ∷ (codes "version", v) ∷ [])
 entry-puts c d n r s v t0 t1 t2 t3 t4 t5 t6 e0 e1 e2 e3 e4 e5 e6 =
-    let p1 : t1 ≡ present ((codes "checksum", c) ∷ []) = then-put (codes "checksum") c [] t0 t1 e0 e1 refl in
-    let p2 : t2 ≡ present ((codes "checksum", c) ∷ (codes "dependencies", d) ∷ []) = then-put (codes "dependencies") d ((codes "checksum", c) ∷ []) t1 t2 p1 e2 refl in
-    let p3 : t3 ≡ present ((codes "checksum", c) ∷ (codes "dependencies", d) ∷ (codes "name", n) ∷ []) = then-put (codes "name") n ((codes "checksum", c) ∷ (codes "dependencies", d) ∷ []) t2 t3 p2 e3 refl in
-    let p4 : t4 ≡ present ((codes "checksum", c) ∷ (codes "dependencies", d) ∷ (codes "name", n) ∷ (codes "replace", r) ∷ []) = then-put (codes "replace") r ((codes "checksum", c) ∷ (codes "dependencies", d) ∷ (codes "name", n) ∷ []) t3 t4 p3 e4 refl in
-    let p5 : t5 ≡ present ((codes "checksum", c) ∷ (codes "dependencies", d) ∷ (codes "name", n) ∷ (codes "replace", r) ∷ (codes "source", s) ∷ []) = then-put (codes "source") s ((codes "checksum", c) ∷ (codes "dependencies", d) ∷ (codes "name", n) ∷ (codes "replace", r) ∷ []) t4 t5 p4 e5 refl in
+    let p1 : t1 ≡ present_members ((codes "checksum", c) ∷ []) = then-put (codes "checksum") c [] t0 t1 e0 e1 refl in
+    let p2 : t2 ≡ present_members ((codes "checksum", c) ∷ (codes "dependencies", d) ∷ []) = then-put (codes "dependencies") d ((codes "checksum", c) ∷ []) t1 t2 p1 e2 refl in
+    let p3 : t3 ≡ present_members ((codes "checksum", c) ∷ (codes "dependencies", d) ∷ (codes "name", n) ∷ []) = then-put (codes "name") n ((codes "checksum", c) ∷ (codes "dependencies", d) ∷ []) t2 t3 p2 e3 refl in
+    let p4 : t4 ≡ present_members ((codes "checksum", c) ∷ (codes "dependencies", d) ∷ (codes "name", n) ∷ (codes "replace", r) ∷ []) = then-put (codes "replace") r ((codes "checksum", c) ∷ (codes "dependencies", d) ∷ (codes "name", n) ∷ []) t3 t4 p3 e4 refl in
+    let p5 : t5 ≡ present_members ((codes "checksum", c) ∷ (codes "dependencies", d) ∷ (codes "name", n) ∷ (codes "replace", r) ∷ (codes "source", s) ∷ []) = then-put (codes "source") s ((codes "checksum", c) ∷ (codes "dependencies", d) ∷ (codes "name", n) ∷ (codes "replace", r) ∷ []) t4 t5 p4 e5 refl in
     then-put (codes "version") v ((codes "checksum", c) ∷ (codes "dependencies", d) ∷ (codes "name", n) ∷ (codes "replace", r) ∷ (codes "source", s) ∷ []) t5 t6 p5 e6 refl
 
 -- the three puts of an unused patch
@@ -78,10 +78,10 @@ pub patch-puts : (n s v : Option Data) (t0 t1 t2 t3 : Members) → t0 ≡ no_mem
     → t1 ≡ put_present (codes "name") n t0
     → t2 ≡ put_present (codes "source") s t1
     → t3 ≡ put_present (codes "version") v t2
-    → t3 ≡ present ((codes "name", n) ∷ (codes "source", s) ∷ (codes "version", v) ∷ [])
+    → t3 ≡ present_members ((codes "name", n) ∷ (codes "source", s) ∷ (codes "version", v) ∷ [])
 patch-puts n s v t0 t1 t2 t3 e0 e1 e2 e3 =
-    let p1 : t1 ≡ present ((codes "name", n) ∷ []) = then-put (codes "name") n [] t0 t1 e0 e1 refl in
-    let p2 : t2 ≡ present ((codes "name", n) ∷ (codes "source", s) ∷ []) = then-put (codes "source") s ((codes "name", n) ∷ []) t1 t2 p1 e2 refl in
+    let p1 : t1 ≡ present_members ((codes "name", n) ∷ []) = then-put (codes "name") n [] t0 t1 e0 e1 refl in
+    let p2 : t2 ≡ present_members ((codes "name", n) ∷ (codes "source", s) ∷ []) = then-put (codes "source") s ((codes "name", n) ∷ []) t1 t2 p1 e2 refl in
     then-put (codes "version") v ((codes "name", n) ∷ (codes "source", s) ∷ []) t2 t3 p2 e3 refl
 
 -- the five puts of a lockfile
@@ -91,10 +91,10 @@ pub lockfile-puts : (m p q r v : Option Data) (t0 t1 t2 t3 t4 t5 : Members) → 
     → t3 ≡ put_present (codes "patch") q t2
     → t4 ≡ put_present (codes "root") r t3
     → t5 ≡ put_present (codes "version") v t4
-    → t5 ≡ present ((codes "metadata", m) ∷ (codes "package", p) ∷ (codes "patch", q) ∷ (codes "root", r) ∷ (codes "version", v) ∷ [])
+    → t5 ≡ present_members ((codes "metadata", m) ∷ (codes "package", p) ∷ (codes "patch", q) ∷ (codes "root", r) ∷ (codes "version", v) ∷ [])
 lockfile-puts m p q r v t0 t1 t2 t3 t4 t5 e0 e1 e2 e3 e4 e5 =
-    let p1 : t1 ≡ present ((codes "metadata", m) ∷ []) = then-put (codes "metadata") m [] t0 t1 e0 e1 refl in
-    let p2 : t2 ≡ present ((codes "metadata", m) ∷ (codes "package", p) ∷ []) = then-put (codes "package") p ((codes "metadata", m) ∷ []) t1 t2 p1 e2 refl in
-    let p3 : t3 ≡ present ((codes "metadata", m) ∷ (codes "package", p) ∷ (codes "patch", q) ∷ []) = then-put (codes "patch") q ((codes "metadata", m) ∷ (codes "package", p) ∷ []) t2 t3 p2 e3 refl in
-    let p4 : t4 ≡ present ((codes "metadata", m) ∷ (codes "package", p) ∷ (codes "patch", q) ∷ (codes "root", r) ∷ []) = then-put (codes "root") r ((codes "metadata", m) ∷ (codes "package", p) ∷ (codes "patch", q) ∷ []) t3 t4 p3 e4 refl in
+    let p1 : t1 ≡ present_members ((codes "metadata", m) ∷ []) = then-put (codes "metadata") m [] t0 t1 e0 e1 refl in
+    let p2 : t2 ≡ present_members ((codes "metadata", m) ∷ (codes "package", p) ∷ []) = then-put (codes "package") p ((codes "metadata", m) ∷ []) t1 t2 p1 e2 refl in
+    let p3 : t3 ≡ present_members ((codes "metadata", m) ∷ (codes "package", p) ∷ (codes "patch", q) ∷ []) = then-put (codes "patch") q ((codes "metadata", m) ∷ (codes "package", p) ∷ []) t2 t3 p2 e3 refl in
+    let p4 : t4 ≡ present_members ((codes "metadata", m) ∷ (codes "package", p) ∷ (codes "patch", q) ∷ (codes "root", r) ∷ []) = then-put (codes "root") r ((codes "metadata", m) ∷ (codes "package", p) ∷ (codes "patch", q) ∷ []) t3 t4 p3 e4 refl in
     then-put (codes "version") v ((codes "metadata", m) ∷ (codes "package", p) ∷ (codes "patch", q) ∷ (codes "root", r) ∷ []) t4 t5 p4 e5 refl

@@ -12,8 +12,8 @@ use Rattle.cargo_lock_references.specs.Optional.{◌>>=◌}
 use Rattle.cargo_lock_encoding.specs.Lockfiles.{EncodedData}
 use Rattle.cargo_lock_references.specs.Records.{Texts}
 use Rattle.cargo_lock_encoding.specs.TableMetadata.{HasTextsAlone, IsLastText, IsMetadata, IsTableOfTexts, MeansKeyByKey, ReadsKeyByKey, TextsAtKeys, pairs_of}
-use Rattle.cargo_lock_encoding.specs.TableReading.{EntriesData, all_entries_at, encoded_at, metadata_in, number_in, optional_by, pairs_at, patch_in, put_all, text_in, texts_at}
-use Rattle.cargo_lock_references.proofs.LeastKeys.{order, Pairs, itself-equal, same-key}
+use Rattle.cargo_lock_encoding.specs.TableReading.{EncodedPackages, all_encoded_packages_at, encoded_at, metadata_in, number_in, optional_by, pairs_at, patch_in, put_all, text_in, texts_at}
+use Rattle.cargo_lock_references.proofs.LeastKeys.{order, Pairs, own_words-equal, same-key}
 use Rattle.cargo_lock_references.proofs.Texts.{same_texts}
 use Rattle.cargo_lock_encoding.proofs.PutAll.{or_else}
 
@@ -88,11 +88,11 @@ last_at : List ℕ → Pairs → Option (List ℕ)
 last_at key [] = None
 last_at key (e ∷ es) = or_else (last_at key es) (at_pair key e)
 
-joined_or : (b : Bool) (o p : Option (List ℕ)) (v : List ℕ) → or_else o (cond b (Some v) p) ≡ or_else (or_else o (cond b (Some v) None)) p
-joined_or true None p v = refl
-joined_or true (Some w) p v = refl
-joined_or false None p v = refl
-joined_or false (Some w) p v = refl
+join_lines_or : (b : Bool) (o p : Option (List ℕ)) (v : List ℕ) → or_else o (cond b (Some v) p) ≡ or_else (or_else o (cond b (Some v) None)) p
+join_lines_or true None p v = refl
+join_lines_or true (Some w) p v = refl
+join_lines_or false None p v = refl
+join_lines_or false (Some w) p v = refl
 
 put_all-last : (es : Pairs) (m : Texts) (key : List ℕ) → get (put_all m es) key ≡ or_else (last_at key es) (get m key)
 unfolding last_at at_pair
@@ -100,7 +100,7 @@ put_all-last [] m key = refl
 put_all-last (e ∷ es) m key =
     put_all-last es (insert m e.0 e.1) key
     ∙ ap (or_else (last_at key es)) (get-insert nat_list_cmp_total m e.0 e.1 key)
-    ∙ joined_or (eq_by_cmp order key e.0) (last_at key es) (get m key) e.1
+    ∙ join_lines_or (eq_by_cmp order key e.0) (last_at key es) (get m key) e.1
 
 or_none : (o : Option (List ℕ)) → or_else o None ≡ o
 or_none None = refl
@@ -111,7 +111,7 @@ put-last es key = put_all-last es empty key ∙ ap (or_else (last_at key es)) (g
 
 at_pair-hit : (key : List ℕ) (e : List ℕ × List ℕ) → e.0 ≡ key → at_pair key e ≡ Some e.1
 unfolding at_pair
-at_pair-hit key e h = ap (λ b. cond b (Some e.1) None) (ap (eq_by_cmp order key) h ∙ itself-equal key)
+at_pair-hit key e h = ap (λ b. cond b (Some e.1) None) (ap (eq_by_cmp order key) h ∙ own_words-equal key)
 
 at_pair-found : (key : List ℕ) (e : List ℕ × List ℕ) (text : List ℕ) → at_pair key e ≡ Some text → (e.0 ≡ key) × (e.1 ≡ text)
 unfolding at_pair
@@ -249,9 +249,9 @@ reads_key_by_key value m = (is-read value m, is-there value m)
 
 -- ---- of the lockfile that a table means
 
-of-values : (v : Option (Option ℤ)) (es : Option EntriesData) (m : Option Texts) (p : Option (List Identity)) (e : EncodedData)
-    → (v >>= λ version. es >>= λ entries. m >>= λ metadata. p >>= λ patch.
-    Some (record { version = version; entries = entries.listed; root = entries.root; metadata = metadata; patch = patch })) ≡ Some e
+of-values : (v : Option (Option ℤ)) (es : Option EncodedPackages) (m : Option Texts) (p : Option (List Identity)) (e : EncodedData)
+    → (v >>= λ version. es >>= λ all. m >>= λ metadata. p >>= λ patch.
+    Some (record { version = version; packages = all.listed; root = all.root; metadata = metadata; patch = patch })) ≡ Some e
     → m ≡ Some e.metadata
 of-values None es m p e h = cc h
 of-values (Some v) None m p e h = cc h
@@ -262,10 +262,10 @@ of-values (Some v) (Some es) (Some m) (Some p) e h = ap (option_map (λ (d : Enc
 encoded-metadata : (t : Members) (e : EncodedData) → encoded_at t ≡ Some e → metadata_in (get_member (codes "metadata") t) ≡ Some e.metadata
 unfolding encoded_at
 encoded-metadata t e h =
-    of-values (optional_by number_in (get_member (codes "version") t)) (all_entries_at t)
+    of-values (optional_by number_in (get_member (codes "version") t)) (all_encoded_packages_at t)
     (metadata_in (get_member (codes "metadata") t)) (patch_in (get_member (codes "patch") t)) e h
 
 pub means_key_by_key : MeansKeyByKey
 means_key_by_key t l means =
     is-read (get_member (codes "metadata") t) l.metadata
-    (encoded-metadata t means.encoded means.values ∙ ap Some (sym means.locked.metadata))
+    (encoded-metadata t means.encoded means.values ∙ ap Some (sym means.lockfile_of.metadata))

@@ -3,13 +3,13 @@ use Rattle.std.specs.Prelude.{ℕ, ℤ, pos, negsuc, ◌==◌, Bool, false, List
 use Rattle.cargo_lock_parts.specs.Identity.{Identity, PackageData}
 use Rattle.cargo_lock_references.specs.declared.version.ResolveVersion.{ResolveVersion}
 use Rattle.cargo_lock_references.specs.Format.{format_by}
-use Rattle.cargo_lock_references.specs.Records.{EntryData, Texts}
+use Rattle.cargo_lock_references.specs.Records.{EncodedPackage, Texts}
 
--- a lockfile as its table has it: its number, entries, root, metadata and unused patches
+-- a lockfile as its table has it: its number, packages, root, metadata and unused patches
 pub record EncodedData : Type 0 where
   pub version : Option ℤ
-  pub entries : List EntryData
-  pub root : Option EntryData
+  pub packages : List EncodedPackage
+  pub root : Option EncodedPackage
   pub metadata : Texts
   pub patch : List Identity
 
@@ -23,7 +23,7 @@ pub record LockfileData : Type 0 where
 
 -- the format of the values of a table
 abbrev pub format_of : EncodedData → Option ResolveVersion
-format_of e = format_by e.version e.entries e.metadata
+format_of e = format_by e.version e.packages e.metadata
 
 -- the references of git sources are escaped where the number of the table is that of V4
 abbrev pub is_escaped_number : Option ℤ → Bool

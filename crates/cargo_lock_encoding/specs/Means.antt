@@ -9,9 +9,9 @@ use Rattle.cargo_lock_references.specs.declared.version.ResolveVersion.TheVarian
 use Rattle.cargo_lock_encoding.specs.Lockfiles.{format_of}
 use Rattle.cargo_lock_references.specs.Metadata.{checksum_in}
 use Rattle.cargo_lock_references.specs.Optional.{BothOrNone}
-use Rattle.cargo_lock_references.specs.Records.{EntryData, Texts, bare_source, entry_identity}
+use Rattle.cargo_lock_references.specs.Records.{EncodedPackage, Texts, unmarked_source, encoded_identity}
 use Rattle.cargo_lock_encoding.specs.Lockfiles.{EncodedData, LockfileData}
-use Rattle.cargo_lock_references.specs.Says.{Says}
+use Rattle.cargo_lock_references.specs.ResolvesTo.{ResolvesTo}
 use Rattle.cargo_lock_encoding.specs.TableReading.{encoded_at}
 
 -- the list in which the references of packages are looked up: in V1 they are in full
@@ -21,49 +21,50 @@ reading_list V2 list = list
 reading_list V3 list = list
 reading_list V4 list = list
 
--- the checksum of an entry: in V1 the metadata has it
-abbrev pub entry_checksum : ResolveVersion → Texts → EntryData → Option (List ℕ)
-entry_checksum V1 m e = checksum_in m e.name e.version
-entry_checksum V2 m e = e.checksum
-entry_checksum V3 m e = e.checksum
-entry_checksum V4 m e = e.checksum
+-- the checksum of an encoded package: in V1 the metadata has it
+abbrev pub encoded_checksum : ResolveVersion → Texts → EncodedPackage → Option (List ℕ)
+encoded_checksum V1 m e = checksum_in m e.name e.version
+encoded_checksum V2 m e = e.checksum
+encoded_checksum V3 m e = e.checksum
+encoded_checksum V4 m e = e.checksum
 
--- the package that an entry means, with this checksum and its dependencies looked up in this list;
--- its replacement is in full in every format
-pub record IsPackage (list : List Identity) (digest : Option (List ℕ)) (entry : EntryData)
+-- the package that an encoded package means, with this checksum and its dependencies looked up in
+-- this list; its replacement is in full in every format
+pub record IsPackage (list : List Identity) (digest : Option (List ℕ)) (encoded : EncodedPackage)
     (p : PackageData) : Type 0 where
-  pub name : p.name ≡ entry.name
-  pub version : p.version ≡ entry.version
-  pub source : p.source ≡ bare_source entry.source
+  pub name : p.name ≡ encoded.name
+  pub version : p.version ≡ encoded.version
+  pub source : p.source ≡ unmarked_source encoded.source
   pub checksum : p.checksum ≡ digest
   pub dependencies : AllZip
-      (λ form identity. Says form list identity) entry.dependencies p.dependencies
-  pub replace : BothOrNone (λ form identity. Says form [] identity) entry.replace p.replace
+      (λ reference identity. ResolvesTo reference list identity) encoded.dependencies p.dependencies
+  pub replace : BothOrNone
+    (λ reference identity. ResolvesTo reference [] identity) encoded.replace p.replace
 
--- the package of an entry of the list, in this format
-abbrev pub IsListed : ResolveVersion → List Identity → Texts → EntryData → PackageData → Type 0
-IsListed format list m entry p = IsPackage (reading_list format list)
-    (entry_checksum format m entry) entry p
+-- the package of an encoded package of the list, in this format
+abbrev pub IsListed : ResolveVersion → List Identity → Texts → EncodedPackage → PackageData → Type 0
+IsListed format list m encoded p = IsPackage (reading_list format list)
+    (encoded_checksum format m encoded) encoded p
 
 -- the root, whose references are in full and which keeps its own checksum
-abbrev pub IsRoot : EntryData → PackageData → Type 0
-IsRoot entry p = IsPackage [] entry.checksum entry p
+abbrev pub IsRoot : EncodedPackage → PackageData → Type 0
+IsRoot encoded p = IsPackage [] encoded.checksum encoded p
 
 -- the lockfile of these values
 pub record IsLocked (e : EncodedData) (l : LockfileData) : Type 0 where
   pub format : format_of e ≡ Some l.version
   pub packages : AllZip
-      (IsListed l.version (map entry_identity e.entries) e.metadata) e.entries l.packages
+      (IsListed l.version (map encoded_identity e.packages) e.metadata) e.packages l.packages
   pub root : BothOrNone IsRoot e.root l.root
   pub metadata : l.metadata ≡ e.metadata
   pub patch : l.patch ≡ e.patch
 
--- The table means the lockfile: its values are read key by key, package k is that of entry k, and
--- sources are taken to the letter.
+-- The table means the lockfile: its values are read key by key, package k is that of encoded
+-- package k, and sources are taken to the letter.
 pub record Means (t : Members) (l : LockfileData) : Type 0 where
   pub encoded : EncodedData
   pub values : encoded_at t ≡ Some encoded
-  pub locked : IsLocked encoded l
+  pub lockfile_of : IsLocked encoded l
 
 -- the text is that of a TOML table, which means the lockfile
 pub record TextMeans (text : List ℕ) (l : LockfileData) : Type 0 where

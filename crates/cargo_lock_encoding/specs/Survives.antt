@@ -5,8 +5,8 @@ use Rattle.std.specs.List.{AllByRecursion}
 use Rattle.cargo_lock_parts.specs.Identity.{Identity, PackageData, identity_key, identity_of, package_key}
 use Rattle.cargo_lock_references.specs.declared.version.ResolveVersion.{ResolveVersion}
 use Rattle.cargo_lock_references.specs.declared.version.ResolveVersion.TheVariants.{V1, V2, V3, V4}
-use Rattle.cargo_lock_references.specs.Chosen.{chosen_form, in_full}
-use Rattle.cargo_lock_references.specs.Form.{Form}
+use Rattle.cargo_lock_references.specs.WrittenReference.{written_reference, in_full}
+use Rattle.cargo_lock_references.specs.Reference.{Reference}
 use Rattle.cargo_lock_references.specs.Metadata.{checksum_in, has_checksum_key, metadata_of}
 use Rattle.cargo_lock_references.specs.ReadBack.{DigestReadsBack, ReferenceSurvives, SourceSurvives, VersionSurvives}
 use Rattle.cargo_lock_references.specs.Records.{Texts, is_escaped}
@@ -23,11 +23,12 @@ pub record OwnPartsSurvive (format : ResolveVersion) (p : PackageData) : Type 0 
   pub source : IfSome p.source (SourceSurvives (is_escaped format))
   pub replace : IfSome p.replace (λ d. ReferenceSurvives (in_full (is_escaped format) d) [] d)
 
--- a package whose dependencies are written in these forms, and looked up in this list
-pub record PackageSurvives (format : ResolveVersion) (form : Identity → Form) (list : List Identity)
+-- a package whose dependencies are written in these references, and looked up in this list
+pub record PackageSurvives (format : ResolveVersion) (reference : Identity → Reference)
+    (list : List Identity)
     (p : PackageData) : Type 0 where
   pub own : OwnPartsSurvive format p
-  pub dependencies : AllByRecursion (λ d. ReferenceSurvives (form d) list d) p.dependencies
+  pub dependencies : AllByRecursion (λ d. ReferenceSurvives (reference d) list d) p.dependencies
 
 -- the checksum is found again: in V1 in the written metadata
 abbrev pub ChecksumSurvives : ResolveVersion → Texts → PackageData → Type 0
@@ -37,9 +38,9 @@ ChecksumSurvives V3 m p = IfSome p.checksum DigestReadsBack
 ChecksumSurvives V4 m p = IfSome p.checksum DigestReadsBack
 
 -- a package among those of the lockfile, with the metadata that is written
-abbrev pub EntrySurvives : ResolveVersion → List Identity → Texts → PackageData → Type 0
-EntrySurvives format list m p =
-    PackageSurvives format (chosen_form format list) (reading_list format list) p
+abbrev pub ListedSurvives : ResolveVersion → List Identity → Texts → PackageData → Type 0
+ListedSurvives format list m p =
+    PackageSurvives format (written_reference format list) (reading_list format list) p
     × ChecksumSurvives format m p
 
 -- the root: its references are in full, and its checksum stands with it in every format
@@ -64,7 +65,8 @@ FormatSurvives V4 m = Unit {0}
 -- the lockfile survives the format
 pub record Survives (l : LockfileData) (format : ResolveVersion) : Type 0 where
   pub packages : AllByRecursion
-      (EntrySurvives format (map identity_of l.packages) (metadata_of format l.metadata l.packages))
+      (ListedSurvives format (map identity_of l.packages)
+      (metadata_of format l.metadata l.packages))
       l.packages
   pub root : IfSome l.root (RootSurvives format)
   pub patch : AllByRecursion (PatchSurvives format) l.patch

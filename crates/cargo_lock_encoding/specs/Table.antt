@@ -12,10 +12,10 @@ use Rattle.cargo_lock_parts.specs.Source.{MarkedSource}
 use Rattle.cargo_lock_parts.specs.SourceText.{marked_text}
 use Rattle.cargo_lock_references.specs.declared.version.ResolveVersion.{ResolveVersion}
 use Rattle.cargo_lock_references.specs.declared.version.ResolveVersion.TheVariants.{V1, V2, V3, V4}
-use Rattle.cargo_lock_references.specs.Chosen.{chosen_form, in_full, written_source}
-use Rattle.cargo_lock_references.specs.Form.{Form, form_text}
+use Rattle.cargo_lock_references.specs.WrittenReference.{written_reference, in_full, written_source}
+use Rattle.cargo_lock_references.specs.Reference.{Reference, reference_text}
 use Rattle.cargo_lock_references.specs.Metadata.{metadata_of}
-use Rattle.cargo_lock_references.specs.Records.{EntryData, Texts, is_escaped}
+use Rattle.cargo_lock_references.specs.Records.{EncodedPackage, Texts, is_escaped}
 use Rattle.cargo_lock_encoding.specs.Lockfiles.{EncodedData, LockfileData, is_escaped_number}
 
 -- ---- the values that are written
@@ -35,31 +35,32 @@ written_checksum V3 checksum = checksum
 written_checksum V4 checksum = checksum
 
 -- a package with this checksum and with its dependencies written so; a replacement is in full
-abbrev pub entry_with : ResolveVersion → Option (List ℕ) → (Identity → Form) → PackageData
-    → EntryData
-entry_with format checksum form p = record {
+abbrev pub encoded_package_with : ResolveVersion → Option (List ℕ) → (Identity → Reference)
+    → PackageData
+    → EncodedPackage
+encoded_package_with format checksum reference p = record {
   name = p.name;
   version = p.version;
   source = written_source (is_escaped format) p.source;
   checksum = checksum;
-  dependencies = map form p.dependencies;
+  dependencies = map reference p.dependencies;
   replace = option_map (in_full (is_escaped format)) p.replace;
 }
 
 -- a package among those of the lockfile
-abbrev pub entry_of : ResolveVersion → List Identity → PackageData → EntryData
-entry_of format list p = entry_with format (written_checksum format p.checksum)
-    (chosen_form format list) p
+abbrev pub encoded_package_of : ResolveVersion → List Identity → PackageData → EncodedPackage
+encoded_package_of format list p = encoded_package_with format (written_checksum format p.checksum)
+    (written_reference format list) p
 
 -- the root, whose references are in full and which keeps its checksum
-abbrev pub root_entry : ResolveVersion → PackageData → EntryData
-root_entry format p = entry_with format p.checksum (in_full (is_escaped format)) p
+abbrev pub encoded_root : ResolveVersion → PackageData → EncodedPackage
+encoded_root format p = encoded_package_with format p.checksum (in_full (is_escaped format)) p
 
 unfoldable pub encoded_of : LockfileData → EncodedData
 encoded_of l = record {
   version = written_version l.version;
-  entries = map (entry_of l.version (map identity_of l.packages)) l.packages;
-  root = option_map (root_entry l.version) l.root;
+  packages = map (encoded_package_of l.version (map identity_of l.packages)) l.packages;
+  root = option_map (encoded_root l.version) l.root;
   metadata = metadata_of l.version l.metadata l.packages;
   patch = l.patch;
 }
@@ -67,14 +68,14 @@ encoded_of l = record {
 -- ---- tables
 
 -- a member before others, where its value is there
-abbrev pub present_one : List ℕ → Option Data → Members → Members
-present_one k None rest = rest
-present_one k (Some d) rest = member k d rest
+abbrev pub present_member : List ℕ → Option Data → Members → Members
+present_member k None rest = rest
+present_member k (Some d) rest = member k d rest
 
 -- the members that are present, in this order
-abbrev pub present : List (List ℕ × Option Data) → Members
-present [] = no_members
-present (m ∷ ms) = present_one m.0 m.1 (present ms)
+abbrev pub present_members : List (List ℕ × Option Data) → Members
+present_members [] = no_members
+present_members (m ∷ ms) = present_member m.0 m.1 (present_members ms)
 
 -- a list that is left out where it is empty
 abbrev pub unless_empty : List Data → Option Data
@@ -82,8 +83,8 @@ unless_empty [] = None
 unless_empty (d ∷ ds) = Some (array (items_of (d ∷ ds)))
 
 -- a reference as a value
-abbrev pub form_value : Form → Data
-form_value f = string (form_text f)
+abbrev pub reference_value : Reference → Data
+reference_value f = string (reference_text f)
 
 -- a marked source as a value
 abbrev pub source_value : MarkedSource → Data
@@ -94,29 +95,29 @@ abbrev pub checksum_value : List ℕ → Data
 checksum_value c = string (digest_text c)
 
 -- the table of a package
-abbrev pub entry_table : EntryData → Members
-entry_table e = present (
+abbrev pub package_table : EncodedPackage → Members
+package_table e = present_members (
     (codes "checksum", option_map checksum_value e.checksum)
-    ∷ (codes "dependencies", unless_empty (map form_value e.dependencies))
+    ∷ (codes "dependencies", unless_empty (map reference_value e.dependencies))
     ∷ (codes "name", Some (string e.name))
-    ∷ (codes "replace", option_map form_value e.replace)
+    ∷ (codes "replace", option_map reference_value e.replace)
     ∷ (codes "source", option_map source_value e.source)
     ∷ (codes "version", Some (string (parts_text e.version))) ∷ [])
 
 -- a package as a value
-abbrev pub entry_value : EntryData → Data
-entry_value e = table (entry_table e)
+abbrev pub encoded_package_value : EncodedPackage → Data
+encoded_package_value e = table (package_table e)
 
 -- an unused patch, its source escaped or plain
 abbrev pub patch_table : Bool → Identity → Members
-patch_table escaped i = present (
+patch_table escaped i = present_members (
     (codes "name", Some (string i.name))
     ∷ (codes "source", option_map source_value (written_source escaped i.source))
     ∷ (codes "version", Some (string (parts_text i.version))) ∷ [])
 
 -- an unused patch as a value
-abbrev pub patch_entry_value : Bool → Identity → Data
-patch_entry_value escaped i = table (patch_table escaped i)
+abbrev pub unused_patch_value : Bool → Identity → Data
+unused_patch_value escaped i = table (patch_table escaped i)
 
 -- the table of a list of unused patches
 abbrev pub unused_table : List Data → Members
@@ -129,7 +130,7 @@ unless_no_patch (d ∷ ds) = Some (table (unused_table (d ∷ ds)))
 
 -- the unused patches, their sources escaped or plain
 abbrev pub patch_value : Bool → List Identity → Option Data
-patch_value escaped patch = unless_no_patch (map (patch_entry_value escaped) patch)
+patch_value escaped patch = unless_no_patch (map (unused_patch_value escaped) patch)
 
 -- the members of a table of texts
 abbrev pub text_members : List (List ℕ × List ℕ) → Members
@@ -146,16 +147,16 @@ abbrev pub metadata_value : Texts → Option Data
 metadata_value m = unless_no_text (entries m)
 
 -- the list of packages as a value
-abbrev pub packages_value : List EntryData → Data
-packages_value es = array (items_of (map entry_value es))
+abbrev pub packages_value : List EncodedPackage → Data
+packages_value es = array (items_of (map encoded_package_value es))
 
 -- the table of these values
 unfoldable pub encoded_table : EncodedData → Members
-encoded_table e = present (
+encoded_table e = present_members (
     (codes "metadata", metadata_value e.metadata)
-    ∷ (codes "package", Some (packages_value e.entries))
+    ∷ (codes "package", Some (packages_value e.packages))
     ∷ (codes "patch", patch_value (is_escaped_number e.version) e.patch)
-    ∷ (codes "root", option_map entry_value e.root)
+    ∷ (codes "root", option_map encoded_package_value e.root)
     ∷ (codes "version", option_map integer e.version) ∷ [])
 
 -- the table of a lockfile

@@ -8,9 +8,9 @@ use Rattle.cargo_lock_parts.specs.Checksum.{digest_in}
 use Rattle.cargo_lock_parts.specs.Identity.{Identity}
 use Rattle.cargo_lock_parts.specs.Source.{Source}
 use Rattle.cargo_lock_parts.specs.SourceReading.{source_of}
-use Rattle.cargo_lock_references.specs.Form.{Form, form_of, plainly, version_of}
+use Rattle.cargo_lock_references.specs.Reference.{Reference, reference_of, mark_plain, version_of}
 use Rattle.cargo_lock_references.specs.Optional.{◌>>=◌}
-use Rattle.cargo_lock_references.specs.Records.{EntryData, Texts}
+use Rattle.cargo_lock_references.specs.Records.{EncodedPackage, Texts}
 use Rattle.cargo_lock_encoding.specs.Lockfiles.{EncodedData}
 
 -- ---- values by their types
@@ -69,48 +69,48 @@ abbrev pub checksum_from : Data → Option (List ℕ)
 checksum_from d = text_in d >>= digest_in
 
 -- the reference that a value reads as
-abbrev pub form_in : Data → Option Form
-form_in d = text_in d >>= form_of
+abbrev pub reference_in : Data → Option Reference
+reference_in d = text_in d >>= reference_of
 
 -- ---- packages
 
-unfoldable pub entry_at : Members → Option EntryData
-entry_at ms = do
+unfoldable pub package_at_key : Members → Option EncodedPackage
+package_at_key ms = do
   name ← required_text (get_member (codes "name") ms)
   text ← required_text (get_member (codes "version") ms)
   version ← version_of text
   source ← optional_by source_in (get_member (codes "source") ms)
   checksum ← optional_by checksum_from (get_member (codes "checksum") ms)
   list ← optional_list (get_member (codes "dependencies") ms)
-  forms ← read_all form_in list
-  replace ← optional_by form_in (get_member (codes "replace") ms)
+  references ← read_all reference_in list
+  replace ← optional_by reference_in (get_member (codes "replace") ms)
   Some (record {
     name = name;
     version = version;
-    source = option_map plainly source;
+    source = option_map mark_plain source;
     checksum = checksum;
-    dependencies = forms;
+    dependencies = references;
     replace = replace;
   })
 
 -- the package that a value is
-abbrev pub entry_in : Data → Option EntryData
-entry_in d = members_in d >>= entry_at
+abbrev pub encoded_package_in : Data → Option EncodedPackage
+encoded_package_in d = members_in d >>= package_at_key
 
-unfoldable pub entries_at : Members → Option (List EntryData)
-entries_at ms = do
+unfoldable pub encoded_packages_at : Members → Option (List EncodedPackage)
+encoded_packages_at ms = do
   list ← optional_list (get_member (codes "package") ms)
-  read_all entry_in list
+  read_all encoded_package_in list
 
 -- the packages of a lockfile and its root
-pub record EntriesData : Type 0 where
-  pub listed : List EntryData
-  pub root : Option EntryData
+pub record EncodedPackages : Type 0 where
+  pub listed : List EncodedPackage
+  pub root : Option EncodedPackage
 
-unfoldable pub all_entries_at : Members → Option EntriesData
-all_entries_at ms = do
-  listed ← entries_at ms
-  root ← optional_by entry_in (get_member (codes "root") ms)
+unfoldable pub all_encoded_packages_at : Members → Option EncodedPackages
+all_encoded_packages_at ms = do
+  listed ← encoded_packages_at ms
+  root ← optional_by encoded_package_in (get_member (codes "root") ms)
   Some (record { listed = listed; root = root })
 
 -- ---- metadata: texts by keys
@@ -136,8 +136,8 @@ metadata_in (Some d) = members_in d >>= texts_at
 
 -- ---- patches that no package uses
 
-unfoldable pub patch_entry_at : Members → Option Identity
-patch_entry_at ms = do
+unfoldable pub unused_patch_at : Members → Option Identity
+unused_patch_at ms = do
   name ← required_text (get_member (codes "name") ms)
   text ← required_text (get_member (codes "version") ms)
   version ← version_of text
@@ -145,12 +145,12 @@ patch_entry_at ms = do
   Some (record { name = name; version = version; source = source })
 
 -- the unused patch that a value is
-abbrev pub patch_entry_in : Data → Option Identity
-patch_entry_in d = members_in d >>= patch_entry_at
+abbrev pub unused_patch_in : Data → Option Identity
+unused_patch_in d = members_in d >>= unused_patch_at
 
 -- the unused patches of a table
 abbrev pub patch_at : Members → Option (List Identity)
-patch_at ms = required_list (get_member (codes "unused") ms) >>= read_all patch_entry_in
+patch_at ms = required_list (get_member (codes "unused") ms) >>= read_all unused_patch_in
 
 -- the unused patches that a value is, where there is one
 abbrev pub patch_in : Option Data → Option (List Identity)
@@ -163,13 +163,13 @@ patch_in (Some d) = members_in d >>= patch_at
 unfoldable pub encoded_at : Members → Option EncodedData
 encoded_at ms = do
   version ← optional_by number_in (get_member (codes "version") ms)
-  entries ← all_entries_at ms
+  all ← all_encoded_packages_at ms
   metadata ← metadata_in (get_member (codes "metadata") ms)
   patch ← patch_in (get_member (codes "patch") ms)
   Some (record {
     version = version;
-    entries = entries.listed;
-    root = entries.root;
+    packages = all.listed;
+    root = all.root;
     metadata = metadata;
     patch = patch;
   })

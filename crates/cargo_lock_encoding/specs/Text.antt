@@ -10,9 +10,9 @@ use Rattle.cargo_lock_parts.specs.Checksum.{digest_text}
 use Rattle.cargo_lock_parts.specs.Identity.{Identity}
 use Rattle.cargo_lock_parts.specs.Source.{MarkedSource}
 use Rattle.cargo_lock_parts.specs.SourceText.{marked_text}
-use Rattle.cargo_lock_references.specs.Chosen.{written_source}
-use Rattle.cargo_lock_references.specs.Form.{Form, form_text}
-use Rattle.cargo_lock_references.specs.Records.{EntryData}
+use Rattle.cargo_lock_references.specs.WrittenReference.{written_source}
+use Rattle.cargo_lock_references.specs.Reference.{Reference, reference_text}
+use Rattle.cargo_lock_references.specs.Records.{EncodedPackage}
 use Rattle.cargo_lock_encoding.specs.Lockfiles.{EncodedData, LockfileData, is_escaped_number}
 use Rattle.cargo_lock_encoding.specs.Table.{encoded_of}
 
@@ -49,12 +49,12 @@ abbrev pub escape_char : ℕ → List ℕ
 escape_char c = escape_or (short_escape c) c
 
 -- the characters of the text, each as it is escaped
-unfoldable pub escaped : List ℕ → List ℕ
-escaped text = flat_map escape_char (chars text)
+unfoldable pub escape : List ℕ → List ℕ
+escape text = flat_map escape_char (chars text)
 
 -- a text between quotation marks
-abbrev pub quoted : List ℕ → List ℕ
-quoted text = 34 ∷ (escaped text ++ 34 ∷ [])
+abbrev pub quote : List ℕ → List ℕ
+quote text = 34 ∷ (escape text ++ 34 ∷ [])
 
 -- ---- keys of the metadata: bare where TOML allows it
 
@@ -75,13 +75,13 @@ is_bare_key key = is_nonempty_text key && list_all is_bare_byte key
 
 -- a key with quotation marks where it needs them
 abbrev pub key_text : List ℕ → List ℕ
-key_text key = if is_bare_key key then key else quoted key
+key_text key = if is_bare_key key then key else quote key
 
 -- ---- lines
 
 -- a line with a key and a text
 abbrev pub field : List ℕ → List ℕ → List ℕ
-field key text = key ++ (codes " = " ++ quoted text)
+field key text = key ++ (codes " = " ++ quote text)
 
 -- the line of a source
 abbrev pub source_line : MarkedSource → List ℕ
@@ -92,22 +92,22 @@ abbrev pub checksum_line : List ℕ → List ℕ
 checksum_line c = field (codes "checksum") (digest_text c)
 
 -- the line of a replacement
-abbrev pub replace_line : Form → List ℕ
-replace_line f = field (codes "replace") (form_text f)
+abbrev pub replace_line : Reference → List ℕ
+replace_line f = field (codes "replace") (reference_text f)
 
 -- the line of a dependency
-abbrev pub dependency_line : Form → List ℕ
-dependency_line f = 32 ∷ (quoted (form_text f) ++ 44 ∷ [])
+abbrev pub dependency_line : Reference → List ℕ
+dependency_line f = 32 ∷ (quote (reference_text f) ++ 44 ∷ [])
 
 -- the dependencies, or where there are none the replacement
-abbrev pub reference_lines : List Form → Option Form → List (List ℕ)
+abbrev pub reference_lines : List Reference → Option Reference → List (List ℕ)
 reference_lines [] replace = option_to_list (option_map replace_line replace)
 reference_lines (f ∷ fs) replace =
     codes "dependencies = [" ∷ (map dependency_line (f ∷ fs) ++ codes "]" ∷ [])
 
 -- an empty line, and a package
-abbrev pub entry_lines : EntryData → List (List ℕ)
-entry_lines e =
+abbrev pub package_lines : EncodedPackage → List (List ℕ)
+package_lines e =
     [] ∷ codes "[[package]]" ∷ field (codes "name") e.name
     ∷ field (codes "version") (parts_text e.version)
     ∷ (option_to_list (option_map source_line e.source)
@@ -123,7 +123,7 @@ patch_lines escaped i =
 
 -- the line of a key of the metadata
 abbrev pub pair_line : List ℕ × List ℕ → List ℕ
-pair_line m = key_text m.0 ++ (codes " = " ++ quoted m.1)
+pair_line m = key_text m.0 ++ (codes " = " ++ quote m.1)
 
 -- an empty line, and the metadata
 abbrev pub metadata_lines : List (List ℕ × List ℕ) → List (List ℕ)
@@ -145,7 +145,7 @@ comment_lines =
 -- the lines of the values of a table
 abbrev pub encoded_lines : EncodedData → List (List ℕ)
 encoded_lines e =
-    comment_lines ++ (version_lines e.version ++ (flat_map entry_lines e.entries
+    comment_lines ++ (version_lines e.version ++ (flat_map package_lines e.packages
     ++ (flat_map (patch_lines (is_escaped_number e.version)) e.patch
     ++ metadata_lines (entries e.metadata))))
 
@@ -154,8 +154,8 @@ abbrev pub lines_of : LockfileData → List (List ℕ)
 lines_of l = encoded_lines (encoded_of l)
 
 -- each line, and a newline after it
-abbrev pub joined : List (List ℕ) → List ℕ
-joined lines = flat_map (λ line. line ++ 10 ∷ []) lines
+abbrev pub join_lines : List (List ℕ) → List ℕ
+join_lines lines = flat_map (λ line. line ++ 10 ∷ []) lines
 
 -- ---- what is added to a text
 
@@ -165,4 +165,4 @@ Adds answer before after bytes = OnOk answer (string_bytes after ≡ string_byte
 
 -- the lines are, each with a newline after it
 abbrev pub AddsLines : {X Y Z : Type 0} → Result X Y → String Z → String Z → List (List ℕ) → Type 0
-AddsLines answer before after lines = Adds answer before after (joined lines)
+AddsLines answer before after lines = Adds answer before after (join_lines lines)

@@ -4,14 +4,14 @@
 //! The crate `cargo_lock` gives what its users need of this under its own paths. Use that one.
 #![tactic(auto)]
 
+mod encode;
 pub mod laws;
 mod meaning;
 mod read_sources;
-mod reading;
+mod read_table;
 mod survival;
 mod table;
 mod text;
 mod values;
-mod writing;
 
 pub use crate::values::{LockfileParts, LockfileRef, Values, ValuesRef};

@@ -4,11 +4,11 @@ ghost use Rattle.std.specs.Prelude.{◌≡◌, [], map, option_map};
 ghost use Rattle.cargo_lock_parts.specs.Checksum.{digest_of};
 ghost use Rattle.cargo_lock_parts.specs.Error.{Reads};
 ghost use Rattle.cargo_lock_references.specs.declared.version.ResolveVersion.TheVariants.{V1};
-ghost use Rattle.cargo_lock_encoding.specs.Meaning.{all_packages, completed, entry_package, locked, package_of, resolved, root_package};
+ghost use Rattle.cargo_lock_encoding.specs.Meaning.{all_packages, completed_lockfile, listed_package, lockfile_of, package_of, resolved_values, root_package};
 ghost use Rattle.cargo_lock_encoding.specs.Lockfiles.{format_of};
 ghost use Rattle.cargo_lock_references.specs.Optional.{map_all, map_some};
-ghost use Rattle.cargo_lock_references.specs.Records.{entry_identity, texts_of};
-ghost use Rattle.cargo_lock_references.specs.Said.{said};
+ghost use Rattle.cargo_lock_references.specs.Records.{encoded_identity, texts_of};
+ghost use Rattle.cargo_lock_references.specs.ResolutionSearch.{resolution_of};
 
 use crate::values::{LockfileParts, Values};
 use cargo_lock_parts::dependency::Dependency;
@@ -30,17 +30,17 @@ impl Values {
     /// the root are in full in every format.
     ///
     /// `Parse` says that the values have no format, or that a reference stands for nothing.
-    #[tactic(auto, unfolding(crate::specs::Meaning::locked))]
+    #[tactic(auto, unfolding(crate::specs::Meaning::lockfile_of))]
     pub fn resolve(self, alloc: Global) -> Result<LockfileParts>
-        ensures { Reads (λ l. l) result (locked self) }
+        ensures { Reads (λ l. l) result (lockfile_of self) }
     {
-        let found = self.resolved(alloc)?;
-        Ok(completed(self, found))
+        let found = self.resolved_values(alloc)?;
+        Ok(completed_lockfile(self, found))
     }
 
     // The format, the packages and the root.
-    fn resolved(&self, alloc: Global) -> Result<Resolved>
-        ensures { Reads (λ r. r) result (resolved self.now) }
+    fn resolved_values(&self, alloc: Global) -> Result<Resolved>
+        ensures { Reads (λ r. r) result (resolved_values self.now) }
     {
         let version = self.format(alloc)?;
         let packages = self.packages_in(alloc, version)?;
@@ -65,7 +65,7 @@ impl Values {
 
     fn packages_in(&self, alloc: Global, format: ResolveVersion) -> Result<Vec<Package>>
         ensures { Reads
-            (λ v. v.items) result (all_packages format self.now.metadata self.now.entries) }
+            (λ v. v.items) result (all_packages format self.now.metadata self.now.packages) }
     {
         all_packages(alloc, format, &self.metadata, self.packages.as_slice())
     }
@@ -74,7 +74,7 @@ impl Values {
         ensures { Reads (λ o. o) result (map_some root_package self.now.root) }
     {
         match &self.root {
-            Some(entry) => Ok(Some(root_package(alloc, entry)?)),
+            Some(encoded) => Ok(Some(root_package(alloc, encoded)?)),
             None => Ok(None),
         }
     }
@@ -93,12 +93,16 @@ impl Model for Resolved {
 
     ghost Value = { ResolvedData };
 
-    ghost view = { λ r. record { version = r.version; packages = r.packages.items; root = r.root } };
+    ghost view = { λ r. record {
+      version = r.version;
+      packages = r.packages.items;
+      root = r.root;
+    } };
 }
 
 // The lockfile of what was found out, with the other values kept.
-fn completed(values: Values, found: Resolved) -> LockfileParts
-    ensures { result ≡ completed values found }
+fn completed_lockfile(values: Values, found: Resolved) -> LockfileParts
+    ensures { result ≡ completed_lockfile values found }
 {
     let Values {
         version: _,
@@ -121,22 +125,22 @@ fn completed(values: Values, found: Resolved) -> LockfileParts
     }
 }
 
-// The packages of these entries in this format, with each reference looked up. In V1 the references
-// are in full, and the checksums are those that the metadata holds. From V2 on the references are
-// looked up among the entries. Replacements are in full in every format.
+// The packages of these encoded packages in this format, with each reference looked up. In V1 the
+// references are in full, and the checksums are those that the metadata holds. From V2 on the
+// references are looked up among the encoded packages. Replacements are in full in every format.
 fn all_packages(
     alloc: Global,
     format: ResolveVersion,
     metadata: &Metadata,
-    entries: &[EncodablePackage],
+    listed: &[EncodablePackage],
 ) -> Result<Vec<Package>>
     ensures { Reads
-        (λ v. v.items) result (all_packages format (texts_of metadata.now.entries) entries.now) }
+        (λ v. v.items) result (all_packages format (texts_of metadata.now.entries) listed.now) }
 {
     match format {
-        ResolveVersion::V1 => packages_in_full(alloc, metadata, entries),
+        ResolveVersion::V1 => packages_in_full(alloc, metadata, listed),
         ResolveVersion::V2 | ResolveVersion::V3 | ResolveVersion::V4 => {
-            packages_by_name(alloc, entries)
+            packages_by_name(alloc, listed)
         }
     }
 }
@@ -145,27 +149,27 @@ fn all_packages(
 fn packages_in_full(
     alloc: Global,
     metadata: &Metadata,
-    entries: &[EncodablePackage],
+    listed: &[EncodablePackage],
 ) -> Result<Vec<Package>>
     ensures { Reads
         (λ v. v.items) result
-        (map_all (entry_package V1 [] (texts_of metadata.now.entries)) entries.now) }
+        (map_all (listed_package V1 [] (texts_of metadata.now.entries)) listed.now) }
 {
     let read = ReadMetadata::of(alloc, metadata)?;
-    each_in_full(alloc, &read, entries)
+    each_in_full(alloc, &read, listed)
 }
 
 fn each_in_full(
     alloc: Global,
     metadata: &ReadMetadata<'_>,
-    entries: &[EncodablePackage],
+    listed: &[EncodablePackage],
 ) -> Result<Vec<Package>>
-    ensures { Reads (λ v. v.items) result (map_all (entry_package V1 [] metadata.now) entries.now) }
+    ensures { Reads (λ v. v.items) result (map_all (listed_package V1 [] metadata.now) listed.now) }
 {
-    let mut found = Vec::with_capacity(alloc, entries.len())?;
-    for entry in entries {
-        let one = package_in_full(alloc, metadata, entry)?;
-        found.push(one)?;
+    let mut found = Vec::with_capacity(alloc, listed.len())?;
+    for encoded in listed {
+        let package = package_in_full(alloc, metadata, encoded)?;
+        found.push(package)?;
     }
     Ok(found)
 }
@@ -173,68 +177,68 @@ fn each_in_full(
 fn package_in_full(
     alloc: Global,
     metadata: &ReadMetadata<'_>,
-    entry: &EncodablePackage,
+    encoded: &EncodablePackage,
 ) -> Result<Package>
-    ensures { Reads (λ p. p) result (entry_package V1 [] metadata.now entry.now) }
+    ensures { Reads (λ p. p) result (listed_package V1 [] metadata.now encoded.now) }
 {
-    let checksum = metadata.checksum(&entry.name, &entry.version)?;
-    with_references(alloc, entry, checksum, &Indexed::none(alloc))
+    let checksum = metadata.checksum(&encoded.name, &encoded.version)?;
+    with_references(alloc, encoded, checksum, &Indexed::none(alloc))
 }
 
 // The packages from V2 on: their references are looked up by name, and they have their checksums.
-fn packages_by_name(alloc: Global, entries: &[EncodablePackage]) -> Result<Vec<Package>>
+fn packages_by_name(alloc: Global, listed: &[EncodablePackage]) -> Result<Vec<Package>>
     ensures { Reads (λ v. v.items) result
-        (map_all (λ e. package_of (map entry_identity entries.now) e.checksum e) entries.now) }
+        (map_all (λ e. package_of (map encoded_identity listed.now) e.checksum e) listed.now) }
 {
-    let list = Indexed::of(alloc, entries)?;
-    each_by_name(alloc, entries, &list)
+    let list = Indexed::of(alloc, listed)?;
+    each_by_name(alloc, listed, &list)
 }
 
 fn each_by_name<'a>(
     alloc: Global,
-    entries: &'a [EncodablePackage],
+    listed: &'a [EncodablePackage],
     list: &Indexed<'a, EncodablePackage>,
 ) -> Result<Vec<Package>>
     ensures { Reads (λ v. v.items) result
-        (map_all (λ e. package_of (map entry_identity list.now) e.checksum e) entries.now) }
+        (map_all (λ e. package_of (map encoded_identity list.now) e.checksum e) listed.now) }
 {
-    let mut packages = Vec::with_capacity(alloc, entries.len())?;
-    for entry in entries {
-        let one = with_references(alloc, entry, own_checksum(entry), list)?;
-        packages.push(one)?;
+    let mut packages = Vec::with_capacity(alloc, listed.len())?;
+    for encoded in listed {
+        let package = with_references(alloc, encoded, own_checksum(encoded), list)?;
+        packages.push(package)?;
     }
     Ok(packages)
 }
 
 // The package of the root, whose references are in full in every format.
-fn root_package(alloc: Global, entry: &EncodablePackage) -> Result<Package>
-    ensures { Reads (λ p. p) result (root_package entry.now) }
+fn root_package(alloc: Global, encoded: &EncodablePackage) -> Result<Package>
+    ensures { Reads (λ p. p) result (root_package encoded.now) }
 {
-    with_references(alloc, entry, own_checksum(entry), &Indexed::none(alloc))
+    with_references(alloc, encoded, own_checksum(encoded), &Indexed::none(alloc))
 }
 
-fn own_checksum(entry: &EncodablePackage) -> Option<Checksum>
-    ensures { option_map digest_of result ≡ entry.now.checksum }
+fn own_checksum(encoded: &EncodablePackage) -> Option<Checksum>
+    ensures { option_map digest_of result ≡ encoded.now.checksum }
 {
-    entry.checksum
+    encoded.checksum
 }
 
-// The package of an entry, its references looked up in this list.
+// The package of an encoded package, its references looked up in this list.
 fn with_references<'a>(
     alloc: Global,
-    entry: &'a EncodablePackage,
+    encoded: &'a EncodablePackage,
     checksum: Option<Checksum>,
     list: &Indexed<'a, EncodablePackage>,
 ) -> Result<Package>
     ensures { Reads (λ p. p) result
-        (package_of (map entry_identity list.now) (option_map digest_of checksum) entry.now) }
+        (package_of (map encoded_identity list.now) (option_map digest_of checksum) encoded.now) }
 {
-    let dependencies = resolve_all(alloc, entry.dependencies.as_slice(), list)?;
-    let replace = resolve_some(alloc, &entry.replace)?;
+    let dependencies = resolve_all(alloc, encoded.dependencies.as_slice(), list)?;
+    let replace = resolve_some(alloc, &encoded.replace)?;
     Ok(Package {
-        name: entry.name.clone()?,
-        version: entry.version.clone()?,
-        source: copy_source(entry.source())?,
+        name: encoded.name.clone()?,
+        version: encoded.version.clone()?,
+        source: copy_source(encoded.source())?,
         checksum,
         dependencies,
         replace,
@@ -243,25 +247,29 @@ fn with_references<'a>(
 
 fn resolve_all<'a>(
     alloc: Global,
-    forms: &'a [EncodableDependency],
+    references: &'a [EncodableDependency],
     list: &Indexed<'a, EncodablePackage>,
 ) -> Result<Vec<Dependency>>
     ensures { Reads
-        (λ v. v.items) result (map_all (λ f. said f (map entry_identity list.now)) forms.now) }
+        (λ v. v.items)
+        result (map_all (λ f. resolution_of f (map encoded_identity list.now)) references.now) }
 {
-    let mut dependencies = Vec::with_capacity(alloc, forms.len())?;
-    for form in forms {
-        let dependency = resolve_among(alloc, form, list)?;
+    let mut dependencies = Vec::with_capacity(alloc, references.len())?;
+    for reference in references {
+        let dependency = resolve_among(alloc, reference, list)?;
         dependencies.push(dependency)?;
     }
     Ok(dependencies)
 }
 
-fn resolve_some(alloc: Global, form: &Option<EncodableDependency>) -> Result<Option<Dependency>>
-    ensures { Reads (λ o. o) result (map_some (λ f. said f []) form.now) }
+fn resolve_some(
+    alloc: Global,
+    reference: &Option<EncodableDependency>,
+) -> Result<Option<Dependency>>
+    ensures { Reads (λ o. o) result (map_some (λ f. resolution_of f []) reference.now) }
 {
-    match form {
-        Some(form) => Ok(Some(resolve_among(alloc, form, &Indexed::none(alloc))?)),
+    match reference {
+        Some(reference) => Ok(Some(resolve_among(alloc, reference, &Indexed::none(alloc))?)),
         None => Ok(None),
     }
 }

@@ -14,7 +14,8 @@ use std::marker::Model;
 // The sources by their texts.
 type Sources = BTreeMap<String, SourceId>;
 
-/// The sources of the texts that were read so far. Where a text is read again, its source is shared.
+/// The sources of the texts that were read so far. Where a text is read again, its source is
+/// shared.
 #[derive(Drop)]
 pub(crate) struct ReadSources {
     sources: Sources,
@@ -42,7 +43,7 @@ impl ReadSources {
     pub fn read(&mut self, alloc: Global, text: &str) -> Result<SourceId>
         ensures { ReadsUrls (λ source. source) result (source_of text.now) }
     {
-        if let Some(source) = known(&self.sources, text)? {
+        if let Some(source) = known_source(&self.sources, text)? {
             return Ok(source);
         }
         let source = SourceId::from_url(alloc, text)?;
@@ -58,7 +59,7 @@ fn no_sources(alloc: Global) -> Sources
 }
 
 // The source that the map has for a text.
-fn known(sources: &Sources, text: &str) -> std::result::Result<Option<SourceId>, AllocError>
+fn known_source(sources: &Sources, text: &str) -> std::result::Result<Option<SourceId>, AllocError>
     ensures { AreRead sources.now → IfOk result
         (λ found. IfSome found (λ source. source_of text.now ≡ Some source)) }
 {

@@ -6,14 +6,14 @@ ghost use Rattle.cargo_lock_parts.specs.declared.error.Error.TheVariants.{Memory
 ghost use Rattle.cargo_lock_parts.specs.Checksum.{digest_of};
 ghost use Rattle.cargo_lock_parts.specs.Identity.{identity_of};
 ghost use Rattle.cargo_lock_references.specs.declared.version.ResolveVersion.TheVariants.{V1};
-ghost use Rattle.cargo_lock_references.specs.Chosen.{chosen_form, in_full};
+ghost use Rattle.cargo_lock_references.specs.WrittenReference.{written_reference, in_full};
 ghost use Rattle.cargo_lock_encoding.specs.Means.{reading_list};
 ghost use Rattle.cargo_lock_references.specs.Records.{is_escaped, texts_of};
-ghost use Rattle.cargo_lock_encoding.specs.Survives.{ChecksumSurvives, EntrySurvives, FormatSurvives, OwnPartsSurvive, PackageSurvives, PatchSurvives, RootSurvives, Survives};
+ghost use Rattle.cargo_lock_encoding.specs.Survives.{ChecksumSurvives, ListedSurvives, FormatSurvives, OwnPartsSurvive, PackageSurvives, PatchSurvives, RootSurvives, Survives};
 ghost use Rattle.cargo_lock_references.specs.ReadBack.{DigestReadsBack, ReferenceSurvives};
 
+use crate::encode::written_reference;
 use crate::values::LockfileRef;
-use crate::writing::chosen_form;
 use cargo_lock_parts::dependency::Dependency;
 use cargo_lock_parts::error::Result;
 use cargo_lock_parts::laws::checksums_read_back;
@@ -26,7 +26,7 @@ use cargo_lock_references::read_back::{
     reference_survives, reference_survives_alone, source_survives, version_survives,
 };
 use cargo_lock_references::read_keys::ReadMetadata;
-use cargo_lock_references::written::metadata_of;
+use cargo_lock_references::written_metadata::metadata_of;
 use cargo_lock_references::{EncodableDependencyRef, ResolveVersion};
 use std::alloc::{AllocError, Global};
 
@@ -34,7 +34,7 @@ impl LockfileRef<'_> {
     /// Whether the lockfile survives a format: whether its table, written in this format, is read
     /// back as a lockfile of this format with equal packages, root and patches. It is told from
     /// the parts, without writing the table: every version and source reads back from its text,
-    /// each reference, in the form in which it is written, says the dependency that it stands for,
+    /// each reference, as it is written, resolves to the dependency that it stands for,
     /// checksums are found again, and V1 and V2 can be told apart.
     ///
     /// A path source is not written, so a package with one survives no format. Only want of
@@ -93,20 +93,20 @@ fn root_survives(alloc: Global, format: ResolveVersion, root: &Option<Package>) 
     ensures err { IsOkUnless result Memory }
 {
     match root {
-        Some(one) => one_root_survives(alloc, format, one),
+        Some(package) => one_root_survives(alloc, format, package),
         None => Ok(true),
     }
 }
 
 // The references of the root are in full.
-fn one_root_survives(alloc: Global, format: ResolveVersion, one: &Package) -> Result<bool>
-    ensures ok { IfOk result (λ b. IsTrue b ↔ RootSurvives format one.now) }
+fn one_root_survives(alloc: Global, format: ResolveVersion, package: &Package) -> Result<bool>
+    ensures ok { IfOk result (λ b. IsTrue b ↔ RootSurvives format «package».now) }
     ensures err { IsOkUnless result Memory }
 {
-    digest_reads_back(&one.checksum);
+    digest_reads_back(&package.checksum);
     Ok(
-        own_parts_survive(alloc, format, one)?
-            && full_references_survive(alloc, format, one.dependencies.as_slice())?,
+        own_parts_survive(alloc, format, package)?
+            && full_references_survive(alloc, format, package.dependencies.as_slice())?,
     )
 }
 
@@ -118,7 +118,7 @@ fn packages_survive(
 ) -> Result<bool>
     ensures ok { IfOk result (λ b. IsTrue b
         ↔ AllByRecursion
-        (EntrySurvives format (map identity_of list.now) (texts_of metadata.now.entries))
+        (ListedSurvives format (map identity_of list.now) (texts_of metadata.now.entries))
         list.now) }
     ensures err { IsOkUnless result Memory }
 {
@@ -135,61 +135,64 @@ fn packages_survive(
 fn first_format_survives(alloc: Global, metadata: &Metadata, list: &[Package]) -> Result<bool>
     ensures ok { IfOk result (λ b. IsTrue b
         ↔ AllByRecursion
-        (EntrySurvives V1 (map identity_of list.now) (texts_of metadata.now.entries)) list.now) }
+        (ListedSurvives V1 (map identity_of list.now) (texts_of metadata.now.entries)) list.now) }
     ensures err { IsOkUnless result Memory }
 {
     let packages = Indexed::of(alloc, list)?;
     let read = ReadMetadata::of(alloc, metadata)?;
-    let survive = first_entries_survive(alloc, &read, &packages, list)?;
+    let survive = first_packages_survive(alloc, &read, &packages, list)?;
     Ok(survive)
 }
 
-fn first_entries_survive<'a>(
+fn first_packages_survive<'a>(
     alloc: Global,
     metadata: &ReadMetadata<'_>,
     packages: &Indexed<'a, Package>,
     list: &'a [Package],
 ) -> Result<bool>
     ensures ok { IfOk result (λ b. IsTrue b
-        ↔ AllByRecursion (EntrySurvives V1 (map identity_of packages.now) metadata.now) list.now) }
+        ↔ AllByRecursion (ListedSurvives V1 (map identity_of packages.now) metadata.now) list.now) }
     ensures err { IsOkUnless result Memory }
 {
-    for one in list {
-        if !first_entry_survives(alloc, metadata, packages, one)? {
+    for package in list {
+        if !first_package_survives(alloc, metadata, packages, package)? {
             return Ok(false);
         }
     }
     Ok(true)
 }
 
-fn first_entry_survives<'a>(
+fn first_package_survives<'a>(
     alloc: Global,
     metadata: &ReadMetadata<'_>,
     list: &Indexed<'a, Package>,
-    one: &'a Package,
+    package: &'a Package,
 ) -> Result<bool>
     ensures ok { IfOk result
-        (λ b. IsTrue b ↔ EntrySurvives V1 (map identity_of list.now) metadata.now one.now) }
+        (λ b. IsTrue b ↔ ListedSurvives V1 (map identity_of list.now) metadata.now «package».now) }
     ensures err { IsOkUnless result Memory }
 {
-    Ok(package_survives(alloc, ResolveVersion::V1, list, one)? && checksum_survives(metadata, one)?)
+    Ok(
+        package_survives(alloc, ResolveVersion::V1, list, package)?
+            && checksum_survives(metadata, package)?,
+    )
 }
 
 // From V2 on every checksum survives.
 fn later_format_survives(alloc: Global, format: ResolveVersion, list: &[Package]) -> Result<bool>
     ensures ok { IfOk result (λ b. IsTrue b
         ↔ AllByRecursion
-        (λ p. PackageSurvives format (chosen_form format (map identity_of list.now))
+        (λ p. PackageSurvives format (written_reference format (map identity_of list.now))
         (reading_list format (map identity_of list.now)) p
         × IfSome p.checksum DigestReadsBack) list.now) }
     ensures err { IsOkUnless result Memory }
 {
     let packages = Indexed::of(alloc, list)?;
-    let survive = later_entries_survive(alloc, format, &packages, list)?;
+    let survive = later_packages_survive(alloc, format, &packages, list)?;
     Ok(survive)
 }
 
-fn later_entries_survive<'a>(
+fn later_packages_survive<'a>(
     alloc: Global,
     format: ResolveVersion,
     packages: &Indexed<'a, Package>,
@@ -197,33 +200,33 @@ fn later_entries_survive<'a>(
 ) -> Result<bool>
     ensures ok { IfOk result (λ b. IsTrue b
         ↔ AllByRecursion
-        (λ p. PackageSurvives format (chosen_form format (map identity_of packages.now))
+        (λ p. PackageSurvives format (written_reference format (map identity_of packages.now))
         (reading_list format (map identity_of packages.now)) p
         × IfSome p.checksum DigestReadsBack) list.now) }
     ensures err { IsOkUnless result Memory }
 {
-    for one in list {
-        if !later_entry_survives(alloc, format, packages, one)? {
+    for package in list {
+        if !later_package_survives(alloc, format, packages, package)? {
             return Ok(false);
         }
     }
     Ok(true)
 }
 
-fn later_entry_survives<'a>(
+fn later_package_survives<'a>(
     alloc: Global,
     format: ResolveVersion,
     list: &Indexed<'a, Package>,
-    one: &'a Package,
+    package: &'a Package,
 ) -> Result<bool>
     ensures ok { IfOk result (λ b. IsTrue b
-        ↔ (PackageSurvives format (chosen_form format (map identity_of list.now))
-        (reading_list format (map identity_of list.now)) one.now
-        × IfSome one.now.checksum DigestReadsBack)) }
+        ↔ (PackageSurvives format (written_reference format (map identity_of list.now))
+        (reading_list format (map identity_of list.now)) «package».now
+        × IfSome «package».now.checksum DigestReadsBack)) }
     ensures err { IsOkUnless result Memory }
 {
-    digest_reads_back(&one.checksum);
-    package_survives(alloc, format, list, one)
+    digest_reads_back(&package.checksum);
+    package_survives(alloc, format, list, package)
 }
 
 // Whether the parts of a package and its references survive.
@@ -231,28 +234,28 @@ fn package_survives<'a>(
     alloc: Global,
     format: ResolveVersion,
     list: &Indexed<'a, Package>,
-    one: &'a Package,
+    package: &'a Package,
 ) -> Result<bool>
     ensures ok { IfOk result (λ b. IsTrue b
-        ↔ PackageSurvives format (chosen_form format (map identity_of list.now))
-        (reading_list format (map identity_of list.now)) one.now) }
+        ↔ PackageSurvives format (written_reference format (map identity_of list.now))
+        (reading_list format (map identity_of list.now)) «package».now) }
     ensures err { IsOkUnless result Memory }
 {
     Ok(
-        own_parts_survive(alloc, format, one)?
-            && references_survive(alloc, format, list, one.dependencies.as_slice())?,
+        own_parts_survive(alloc, format, package)?
+            && references_survive(alloc, format, list, package.dependencies.as_slice())?,
     )
 }
 
 // Whether the version, the source and the replacement survive.
-fn own_parts_survive(alloc: Global, format: ResolveVersion, one: &Package) -> Result<bool>
-    ensures ok { IfOk result (λ b. IsTrue b ↔ OwnPartsSurvive format one.now) }
+fn own_parts_survive(alloc: Global, format: ResolveVersion, package: &Package) -> Result<bool>
+    ensures ok { IfOk result (λ b. IsTrue b ↔ OwnPartsSurvive format «package».now) }
     ensures err { IsOkUnless result Memory }
 {
     Ok(
-        version_survives(alloc, &one.version)?
-            && source_survives(alloc, is_escaped(format), &one.source)?
-            && replace_survives(alloc, format, &one.replace)?,
+        version_survives(alloc, &package.version)?
+            && source_survives(alloc, is_escaped(format), &package.source)?
+            && replace_survives(alloc, format, &package.replace)?,
     )
 }
 
@@ -275,12 +278,12 @@ fn replace_survives(
 // ---- checksums
 
 // Whether the checksum is found again in the written metadata.
-fn checksum_survives(metadata: &ReadMetadata<'_>, one: &Package) -> Result<bool>
-    ensures ok { IfOk result (λ b. IsTrue b ↔ ChecksumSurvives V1 metadata.now one.now) }
+fn checksum_survives(metadata: &ReadMetadata<'_>, package: &Package) -> Result<bool>
+    ensures ok { IfOk result (λ b. IsTrue b ↔ ChecksumSurvives V1 metadata.now «package».now) }
     ensures err { IsOkUnless result Memory }
 {
-    let found = metadata.checksum(&one.name, &one.version)?;
-    Ok(same_checksum(&found, &one.checksum))
+    let found = metadata.checksum(&package.name, &package.version)?;
+    Ok(same_checksum(&found, &package.checksum))
 }
 
 fn same_checksum(a: &Option<Checksum>, b: &Option<Checksum>) -> bool
@@ -318,31 +321,31 @@ fn references_survive<'a>(
 ) -> Result<bool>
     ensures ok { IfOk result (λ b. IsTrue b
         ↔ AllByRecursion
-        (λ d. ReferenceSurvives (chosen_form format (map identity_of list.now) d)
+        (λ d. ReferenceSurvives (written_reference format (map identity_of list.now) d)
         (reading_list format (map identity_of list.now)) d) dependencies.now) }
     ensures err { IsOkUnless result Memory }
 {
     for dependency in dependencies {
-        if !chosen_reference_survives(alloc, format, list, dependency)? {
+        if !written_reference_survives(alloc, format, list, dependency)? {
             return Ok(false);
         }
     }
     Ok(true)
 }
 
-fn chosen_reference_survives<'a>(
+fn written_reference_survives<'a>(
     alloc: Global,
     format: ResolveVersion,
     list: &Indexed<'a, Package>,
     dependency: &'a Dependency,
 ) -> Result<bool>
     ensures ok { IfOk result (λ b. IsTrue b
-        ↔ ReferenceSurvives (chosen_form format (map identity_of list.now) dependency.now)
+        ↔ ReferenceSurvives (written_reference format (map identity_of list.now) dependency.now)
         (reading_list format (map identity_of list.now)) dependency.now) }
     ensures err { IsOkUnless result Memory }
 {
-    let form = chosen_form(format, list, dependency);
-    let survives = survives_among(alloc, format, &form, list, dependency)?;
+    let reference = written_reference(format, list, dependency);
+    let survives = survives_among(alloc, format, &reference, list, dependency)?;
     Ok(survives)
 }
 
@@ -350,18 +353,18 @@ fn chosen_reference_survives<'a>(
 fn survives_among<'a>(
     alloc: Global,
     format: ResolveVersion,
-    form: &EncodableDependencyRef<'a>,
+    reference: &EncodableDependencyRef<'a>,
     list: &Indexed<'a, Package>,
     dependency: &Dependency,
 ) -> std::result::Result<bool, AllocError>
     ensures { IfOk result (λ b. IsTrue b
-        ↔ ReferenceSurvives form.now
+        ↔ ReferenceSurvives reference.now
         (reading_list format (map identity_of list.now)) dependency.now) }
 {
     match format {
-        ResolveVersion::V1 => reference_survives_alone(alloc, form, dependency),
+        ResolveVersion::V1 => reference_survives_alone(alloc, reference, dependency),
         ResolveVersion::V2 | ResolveVersion::V3 | ResolveVersion::V4 => {
-            let survives = reference_survives(alloc, form, list, dependency)?;
+            let survives = reference_survives(alloc, reference, list, dependency)?;
             Ok(survives)
         }
     }
@@ -394,7 +397,7 @@ fn full_reference_survives(
         ↔ ReferenceSurvives (in_full (is_escaped format) dependency.now) [] dependency.now) }
     ensures err { IsOkUnless result Memory }
 {
-    let form = EncodableDependencyRef::from_dependency(dependency, format);
-    let survives = reference_survives_alone(alloc, &form, dependency)?;
+    let reference = EncodableDependencyRef::from_dependency(dependency, format);
+    let survives = reference_survives_alone(alloc, &reference, dependency)?;
     Ok(survives)
 }

@@ -1,4 +1,4 @@
-//! From entries to the values of a table.
+//! From encoded packages to the values of a table.
 
 ghost use Rattle.std.specs.Prelude.{◌≡◌, ◌∷◌, [], Some, IfOk, IsOkUnless, OnOk, codes, map, option_map};
 ghost use Rattle.semver.specs.Identifiers.{parts_of, parts_text};
@@ -7,13 +7,13 @@ ghost use Rattle.toml.specs.View.{table_view, view};
 ghost use Rattle.cargo_lock_parts.specs.Checksum.{digest_of};
 ghost use Rattle.cargo_lock_parts.specs.Identity.{identity_of};
 ghost use Rattle.cargo_lock_references.specs.Records.{texts_of};
-ghost use Rattle.cargo_lock_encoding.specs.Table.{checksum_value, entry_of, entry_table, entry_value, form_value, metadata_value, packages_value, patch_entry_value, patch_table, present, put, put_present, root_entry, source_value, table_of, text_members, unless_empty, unless_no_patch};
+ghost use Rattle.cargo_lock_encoding.specs.Table.{checksum_value, encoded_package_of, package_table, encoded_package_value, reference_value, metadata_value, packages_value, unused_patch_value, patch_table, present_members, put, put_present, encoded_root, source_value, table_of, text_members, unless_empty, unless_no_patch};
 ghost use Rattle.cargo_lock_encoding.specs.Lockfiles.{is_escaped_number};
 ghost use Rattle.cargo_lock_parts.specs.declared.error.Error.TheVariants.{Memory};
 ghost use Rattle.cargo_lock_references.specs.Metadata.{metadata_of};
 
+use crate::encode::{encoded_package_of, encoded_root, written_version};
 use crate::values::LockfileRef;
-use crate::writing::{entry_of, root_entry, written_version};
 use cargo_lock_parts::dependency::Dependency;
 use cargo_lock_parts::error::Result;
 use cargo_lock_parts::package::source::SourceIdAsUrl;
@@ -23,13 +23,14 @@ use cargo_lock_references::borrowed::written_source;
 use cargo_lock_references::checksums::ordered;
 use cargo_lock_references::index::Indexed;
 use cargo_lock_references::metadata::{Metadata, MetadataKey, MetadataValue};
-use cargo_lock_references::written::metadata_of;
+use cargo_lock_references::written_metadata::metadata_of;
 use cargo_lock_references::{EncodableDependencyRef, EncodablePackageRef, ResolveVersion};
 use std::alloc::{AllocError, Global};
 use toml::{Table, Value};
 
 impl LockfileRef<'_> {
-    /// The table of the lockfile, in the lockfile's format, as Cargo writes it. The one error is `Memory`.
+    /// The table of the lockfile, in the lockfile's format, as Cargo writes it. The one error is
+    /// `Memory`.
     #[tactic(auto, unfolding(crate::specs::Table::encoded_of, crate::specs::Table::encoded_table))]
     pub fn to_table(&self, alloc: Global) -> Result<Table>
         ensures ok { IfOk result (λ t. table_view t ≡ table_of self.now) }
@@ -73,7 +74,7 @@ fn lockfile_members(
     root: Option<Value>,
     version: Option<Value>,
 ) -> std::result::Result<Table, AllocError>
-    ensures { IfOk result (λ t. table_view t ≡ present (
+    ensures { IfOk result (λ t. table_view t ≡ present_members (
         (codes "metadata", option_map view metadata)
         ∷ (codes "package", Some (view packages))
         ∷ (codes "patch", option_map view patch)
@@ -108,7 +109,8 @@ fn packages_value(
     list: &[Package],
 ) -> std::result::Result<Value, AllocError>
     ensures { IfOk result
-        (λ v. view v ≡ packages_value (map (entry_of format (map identity_of list.now)) list.now)) }
+        (λ v. view v
+        ≡ packages_value (map (encoded_package_of format (map identity_of list.now)) list.now)) }
 {
     let packages = Indexed::of(alloc, list)?;
     each_value(alloc, format, &packages, list)
@@ -122,11 +124,11 @@ fn each_value<'a>(
 ) -> std::result::Result<Value, AllocError>
     ensures { IfOk result
         (λ v. view v ≡ packages_value
-        (map (entry_of format (map identity_of packages.now)) list.now)) }
+        (map (encoded_package_of format (map identity_of packages.now)) list.now)) }
 {
     let mut values = Vec::with_capacity(alloc, list.len())?;
-    for one in list {
-        let value = package_value(alloc, format, packages, one)?;
+    for package in list {
+        let value = package_value(alloc, format, packages, package)?;
         values.push(value)?;
     }
     Ok(Value::from(values))
@@ -136,13 +138,14 @@ fn package_value<'a>(
     alloc: Global,
     format: ResolveVersion,
     packages: &Indexed<'a, Package>,
-    one: &'a Package,
+    package: &'a Package,
 ) -> std::result::Result<Value, AllocError>
     ensures { IfOk result
-        (λ v. view v ≡ entry_value (entry_of format (map identity_of packages.now) one.now)) }
+        (λ v. view v
+        ≡ encoded_package_value (encoded_package_of format (map identity_of packages.now) «package».now)) }
 {
-    let entry = entry_of(alloc, format, packages, one)?;
-    entry_value(alloc, &entry)
+    let encoded = encoded_package_of(alloc, format, packages, package)?;
+    encoded_package_value(alloc, &encoded)
 }
 
 // The table of the root of a lockfile, as it is written in a format, where there is one.
@@ -153,41 +156,41 @@ fn root_value(
 ) -> std::result::Result<Option<Value>, AllocError>
     ensures { IfOk result
         (λ v. option_map view v
-        ≡ option_map entry_value (option_map (root_entry format) root.now)) }
+        ≡ option_map encoded_package_value (option_map (encoded_root format) root.now)) }
 {
     match root {
-        Some(one) => {
-            let entry = root_entry(alloc, format, one)?;
-            Ok(Some(entry_value(alloc, &entry)?))
+        Some(package) => {
+            let encoded = encoded_root(alloc, format, package)?;
+            Ok(Some(encoded_package_value(alloc, &encoded)?))
         }
         None => Ok(None),
     }
 }
 
-fn entry_value(
+fn encoded_package_value(
     alloc: Global,
-    one: &EncodablePackageRef<'_>,
+    package: &EncodablePackageRef<'_>,
 ) -> std::result::Result<Value, AllocError>
-    ensures { IfOk result (λ v. view v ≡ entry_value one.now) }
+    ensures { IfOk result (λ v. view v ≡ encoded_package_value «package».now) }
 {
-    let table = entry_table(alloc, one)?;
+    let table = package_table(alloc, package)?;
     Ok(Value::from(table))
 }
 
-fn entry_table(
+fn package_table(
     alloc: Global,
-    one: &EncodablePackageRef<'_>,
+    package: &EncodablePackageRef<'_>,
 ) -> std::result::Result<Table, AllocError>
-    ensures { IfOk result (λ t. table_view t ≡ entry_table one.now) }
+    ensures { IfOk result (λ t. table_view t ≡ package_table «package».now) }
 {
-    let checksum = checksum_value(alloc, &one.checksum)?;
-    let dependencies = form_values(alloc, one.dependencies.as_slice())?;
+    let checksum = checksum_value(alloc, &package.checksum)?;
+    let dependencies = reference_values(alloc, package.dependencies.as_slice())?;
     let dependencies = unless_empty(dependencies);
-    let name = Value::string(alloc, one.name.as_str())?;
-    let replace = replace_value(alloc, &one.replace)?;
-    let source = source_value(alloc, &one.source)?;
-    let version = version_value(alloc, one.version)?;
-    entry_members(
+    let name = Value::string(alloc, package.name.as_str())?;
+    let replace = replace_value(alloc, &package.replace)?;
+    let source = source_value(alloc, &package.source)?;
+    let version = version_value(alloc, package.version)?;
+    package_members(
         alloc,
         checksum,
         dependencies,
@@ -199,7 +202,7 @@ fn entry_table(
 }
 
 // A table of the values of a package that are there.
-fn entry_members(
+fn package_members(
     alloc: Global,
     checksum: Option<Value>,
     dependencies: Option<Value>,
@@ -208,7 +211,7 @@ fn entry_members(
     source: Option<Value>,
     version: Value,
 ) -> std::result::Result<Table, AllocError>
-    ensures { IfOk result (λ t. table_view t ≡ present (
+    ensures { IfOk result (λ t. table_view t ≡ present_members (
         (codes "checksum", option_map view checksum)
         ∷ (codes "dependencies", option_map view dependencies)
         ∷ (codes "name", Some (view name))
@@ -243,27 +246,27 @@ fn checksum_value(
 }
 
 // The references, as texts.
-fn form_values(
+fn reference_values(
     alloc: Global,
-    forms: &[EncodableDependencyRef<'_>],
+    references: &[EncodableDependencyRef<'_>],
 ) -> std::result::Result<Vec<Value>, AllocError>
-    ensures { IfOk result (λ v. map view v.items ≡ map form_value forms.now) }
+    ensures { IfOk result (λ v. map view v.items ≡ map reference_value references.now) }
 {
     let mut values = Vec::new(alloc);
-    for form in forms {
-        let value = form_value(alloc, form)?;
+    for reference in references {
+        let value = reference_value(alloc, reference)?;
         values.push(value)?;
     }
     Ok(values)
 }
 
-fn form_value(
+fn reference_value(
     alloc: Global,
-    form: &EncodableDependencyRef<'_>,
+    reference: &EncodableDependencyRef<'_>,
 ) -> std::result::Result<Value, AllocError>
-    ensures { IfOk result (λ v. view v ≡ form_value form.now) }
+    ensures { IfOk result (λ v. view v ≡ reference_value reference.now) }
 {
-    let text = format!(in alloc; "{form}")?;
+    let text = format!(in alloc; "{reference}")?;
     Ok(Value::from(text))
 }
 
@@ -271,10 +274,10 @@ fn replace_value(
     alloc: Global,
     replace: &Option<EncodableDependencyRef<'_>>,
 ) -> std::result::Result<Option<Value>, AllocError>
-    ensures { IfOk result (λ v. option_map view v ≡ option_map form_value replace.now) }
+    ensures { IfOk result (λ v. option_map view v ≡ option_map reference_value replace.now) }
 {
     match replace {
-        Some(form) => Ok(Some(form_value(alloc, form)?)),
+        Some(reference) => Ok(Some(reference_value(alloc, reference)?)),
         None => Ok(None),
     }
 }
@@ -310,7 +313,7 @@ fn patch_value(
     patch: &Patch,
 ) -> std::result::Result<Option<Value>, AllocError>
     ensures { IfOk result
-        (λ v. option_map view v ≡ unless_no_patch (map (patch_entry_value escaped) patch.now)) }
+        (λ v. option_map view v ≡ unless_no_patch (map (unused_patch_value escaped) patch.now)) }
 {
     let unused = patch_values(alloc, escaped, patch.unused.as_slice())?;
     unused_value(alloc, unused)
@@ -333,11 +336,11 @@ fn patch_values(
     escaped: bool,
     unused: &[Dependency],
 ) -> std::result::Result<Vec<Value>, AllocError>
-    ensures { IfOk result (λ v. map view v.items ≡ map (patch_entry_value escaped) unused.now) }
+    ensures { IfOk result (λ v. map view v.items ≡ map (unused_patch_value escaped) unused.now) }
 {
     let mut values = Vec::new(alloc);
-    for one in unused {
-        let table = patch_table(alloc, escaped, one)?;
+    for dependency in unused {
+        let table = patch_table(alloc, escaped, dependency)?;
         values.push(Value::from(table))?;
     }
     Ok(values)
@@ -346,13 +349,13 @@ fn patch_values(
 fn patch_table(
     alloc: Global,
     escaped: bool,
-    one: &Dependency,
+    dependency: &Dependency,
 ) -> std::result::Result<Table, AllocError>
-    ensures { IfOk result (λ t. table_view t ≡ patch_table escaped one.now) }
+    ensures { IfOk result (λ t. table_view t ≡ patch_table escaped dependency.now) }
 {
-    let name = Value::string(alloc, one.name.as_str())?;
-    let source = source_value(alloc, &written_source(escaped, &one.source))?;
-    let version = version_value(alloc, &one.version)?;
+    let name = Value::string(alloc, dependency.name.as_str())?;
+    let source = source_value(alloc, &written_source(escaped, &dependency.source))?;
+    let version = version_value(alloc, &dependency.version)?;
     patch_members(alloc, name, source, version)
 }
 
@@ -363,7 +366,7 @@ fn patch_members(
     source: Option<Value>,
     version: Value,
 ) -> std::result::Result<Table, AllocError>
-    ensures { IfOk result (λ t. table_view t ≡ present (
+    ensures { IfOk result (λ t. table_view t ≡ present_members (
         (codes "name", Some (view name))
         ∷ (codes "source", option_map view source)
         ∷ (codes "version", Some (view version)) ∷ [])) }

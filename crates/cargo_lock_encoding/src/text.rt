@@ -11,14 +11,14 @@ ghost use Rattle.semver.specs.Identifiers.{parts_of, parts_text};
 ghost use Rattle.cargo_lock_parts.specs.Checksum.{digest_of};
 ghost use Rattle.cargo_lock_parts.specs.Identity.{identity_of};
 ghost use Rattle.cargo_lock_references.specs.Records.{texts_of};
-ghost use Rattle.cargo_lock_encoding.specs.Table.{entry_of};
+ghost use Rattle.cargo_lock_encoding.specs.Table.{encoded_package_of};
 ghost use Rattle.cargo_lock_parts.specs.declared.error.Error.TheVariants.{Memory};
 ghost use Rattle.cargo_lock_references.specs.Metadata.{metadata_of};
-ghost use Rattle.cargo_lock_encoding.specs.Text.{Adds, AddsLines, checksum_line, comment_lines, dependency_line, encoded_lines, entry_lines, escape_char, escaped, field, hex_digit, is_bare_byte, is_bare_key, joined, key_text, lines_of, metadata_lines, pair_line, patch_lines, quoted, reference_lines, replace_line, short_escape, source_line, version_lines};
+ghost use Rattle.cargo_lock_encoding.specs.Text.{Adds, AddsLines, checksum_line, comment_lines, dependency_line, encoded_lines, package_lines, escape_char, escape, field, hex_digit, is_bare_byte, is_bare_key, join_lines, key_text, lines_of, metadata_lines, pair_line, patch_lines, quote, reference_lines, replace_line, short_escape, source_line, version_lines};
 
+use crate::encode::{encoded_package_of, written_version};
 use crate::table::is_escaped_number;
 use crate::values::{LockfileRef, ValuesRef};
-use crate::writing::{entry_of, written_version};
 use cargo_lock_parts::dependency::Dependency;
 use cargo_lock_parts::error::Result;
 use cargo_lock_parts::package::source::SourceIdAsUrl;
@@ -28,7 +28,7 @@ use cargo_lock_references::borrowed::written_source;
 use cargo_lock_references::checksums::ordered;
 use cargo_lock_references::index::Indexed;
 use cargo_lock_references::metadata::{Metadata, MetadataKey, MetadataValue};
-use cargo_lock_references::written::metadata_of;
+use cargo_lock_references::written_metadata::metadata_of;
 use cargo_lock_references::{
     EncodableDependencyRef, EncodablePackage, EncodablePackageRef, ResolveVersion,
 };
@@ -85,9 +85,9 @@ fn put_char(out: &mut String, c: char) -> Put
 }
 
 // The characters of a string.
-#[tactic(auto, unfolding(crate::specs::Text::escaped))]
+#[tactic(auto, unfolding(crate::specs::Text::escape))]
 fn put_escaped(out: &mut String, text: &str) -> Put
-    ensures { Adds result out.old out.new (escaped text.now) }
+    ensures { Adds result out.old out.new (escape text.now) }
 {
     for c in text.chars() {
         put_char(out, c)?;
@@ -97,7 +97,7 @@ fn put_escaped(out: &mut String, text: &str) -> Put
 
 // A string between quotation marks.
 fn put_quoted(out: &mut String, text: &str) -> Put
-    ensures { Adds result out.old out.new (quoted text.now) }
+    ensures { Adds result out.old out.new (quote text.now) }
 {
     out.push('"')?;
     put_escaped(out, text)?;
@@ -236,33 +236,38 @@ fn put_references(
     Ok(())
 }
 
-fn put_package(alloc: Global, out: &mut String, one: &EncodablePackageRef<'_>) -> Put
-    ensures { AddsLines result out.old out.new (entry_lines one.now) }
+fn put_package(alloc: Global, out: &mut String, package: &EncodablePackageRef<'_>) -> Put
+    ensures { AddsLines result out.old out.new (package_lines «package».now) }
 {
     out.push_str("\n[[package]]\n")?;
-    put_name(out, one.name)?;
-    put_version(alloc, out, one.version)?;
-    put_marked_source(alloc, out, &one.source)?;
-    put_checksum(alloc, out, &one.checksum)?;
-    put_references(alloc, out, one.dependencies.as_slice(), &one.replace)?;
+    put_name(out, package.name)?;
+    put_version(alloc, out, package.version)?;
+    put_marked_source(alloc, out, &package.source)?;
+    put_checksum(alloc, out, &package.checksum)?;
+    put_references(
+        alloc,
+        out,
+        package.dependencies.as_slice(),
+        &package.replace,
+    )?;
     Ok(())
 }
 
 // Adds the packages, each after an empty line.
 fn put_packages(alloc: Global, out: &mut String, packages: &[EncodablePackage]) -> Put
-    ensures { AddsLines result out.old out.new (flat_map entry_lines packages.now) }
+    ensures { AddsLines result out.old out.new (flat_map package_lines packages.now) }
 {
-    for one in packages {
-        put_encoded(alloc, out, one)?;
+    for package in packages {
+        put_encoded(alloc, out, package)?;
     }
     Ok(())
 }
 
-fn put_encoded(alloc: Global, out: &mut String, one: &EncodablePackage) -> Put
-    ensures { AddsLines result out.old out.new (entry_lines one.now) }
+fn put_encoded(alloc: Global, out: &mut String, package: &EncodablePackage) -> Put
+    ensures { AddsLines result out.old out.new (package_lines «package».now) }
 {
-    let entry = one.by_ref(alloc)?;
-    put_package(alloc, out, &entry)
+    let encoded = package.by_ref(alloc)?;
+    put_package(alloc, out, &encoded)
 }
 
 // Adds the packages of a lockfile as they are written in a format, each after an empty line.
@@ -273,7 +278,8 @@ fn put_written_packages(
     list: &[Package],
 ) -> Put
     ensures { AddsLines result out.old out.new
-        (flat_map entry_lines (map (entry_of format (map identity_of list.now)) list.now)) }
+        (flat_map package_lines
+        (map (encoded_package_of format (map identity_of list.now)) list.now)) }
 {
     let packages = Indexed::of(alloc, list)?;
     put_each_written(alloc, out, format, &packages, list)
@@ -287,10 +293,11 @@ fn put_each_written<'a>(
     list: &'a [Package],
 ) -> Put
     ensures { AddsLines result out.old out.new
-        (flat_map (λ p. entry_lines (entry_of format (map identity_of packages.now) p)) list.now) }
+        (flat_map (λ p. package_lines
+        (encoded_package_of format (map identity_of packages.now) p)) list.now) }
 {
-    for one in list {
-        put_written(alloc, out, format, packages, one)?;
+    for package in list {
+        put_written(alloc, out, format, packages, package)?;
     }
     Ok(())
 }
@@ -300,13 +307,13 @@ fn put_written<'a>(
     out: &mut String,
     format: ResolveVersion,
     packages: &Indexed<'a, Package>,
-    one: &'a Package,
+    package: &'a Package,
 ) -> Put
     ensures { AddsLines result out.old out.new
-        (entry_lines (entry_of format (map identity_of packages.now) one.now)) }
+        (package_lines (encoded_package_of format (map identity_of packages.now) «package».now)) }
 {
-    let entry = entry_of(alloc, format, packages, one)?;
-    put_package(alloc, out, &entry)
+    let encoded = encoded_package_of(alloc, format, packages, package)?;
+    put_package(alloc, out, &encoded)
 }
 
 // ---- unused patches
@@ -419,7 +426,7 @@ impl LockfileRef<'_> {
     /// The text of the lockfile, in the lockfile's format, as Cargo writes it. The root is left
     /// out, and so is the replacement of a package with dependencies. The one error is `Memory`.
     pub fn to_string(&self, alloc: Global) -> Result<String>
-        ensures ok { IfOk result (λ text. string_bytes text ≡ joined (lines_of self.now)) }
+        ensures ok { IfOk result (λ text. string_bytes text ≡ join_lines (lines_of self.now)) }
         ensures err { IsOkUnless result Memory }
     {
         let mut out = String::new(alloc);
@@ -457,10 +464,10 @@ impl LockfileRef<'_> {
 
 impl ValuesRef<'_> {
     /// The text of the lockfile, as Cargo writes it: its packages, the patches that no package uses
-    /// and its metadata, and its number from the third format on. The sources of patches are escaped
-    /// where the number is 4. The root is not written. The one error is `Memory`.
+    /// and its metadata, and its number from the third format on. The sources of patches are
+    /// escaped where the number is 4. The root is not written. The one error is `Memory`.
     pub fn to_string(&self, alloc: Global) -> Result<String>
-        ensures ok { IfOk result (λ text. string_bytes text ≡ joined (encoded_lines self.now)) }
+        ensures ok { IfOk result (λ text. string_bytes text ≡ join_lines (encoded_lines self.now)) }
         ensures err { IsOkUnless result Memory }
     {
         let mut out = String::new(alloc);

@@ -1,4 +1,5 @@
-//! A lockfile, and the values of its table, as they are passed between this crate and the one above.
+//! A lockfile, and the values of its table, as they are passed between this crate and the one
+//! above.
 
 use cargo_lock_parts::package::Package;
 use cargo_lock_parts::patch::Patch;
@@ -35,7 +36,7 @@ impl Model for Values {
 
     ghost view = { λ v. record {
       version = v.version;
-      entries = v.packages.items;
+      packages = v.packages.items;
       root = v.root;
       metadata = texts_of v.metadata.entries;
       patch = v.patch;
@@ -72,7 +73,7 @@ impl<'a> Model for ValuesRef<'a> {
 
     ghost view = { λ v. record {
       version = v.version;
-      entries = v.packages.now;
+      packages = v.packages.now;
       root = v.root.now;
       metadata = texts_of v.metadata.now.entries;
       patch = v.patch.now;

@@ -11,8 +11,8 @@ use Rattle.cargo_lock_parts.specs.Source.{Source}
 use Rattle.cargo_lock_parts.specs.SourceKey.{key_of}
 use Rattle.cargo_lock_parts.proofs.RankLemmas.{rank_one_is_equal_keys}
 use Rattle.cargo_lock_graph.specs.declared.targets.Best.{Best}
-use Rattle.cargo_lock_graph.specs.Candidates.{AreLastPlaces, AreVersions, BestFrom, better, identity_as_key}
-use Rattle.cargo_lock_graph.specs.Targets.{Fits, FitsAt, HasIdentity, HoldsOf, IsLastBelow, IsLastWith, IsLost, IsTarget, rank_between}
+use Rattle.cargo_lock_graph.specs.Candidates.{AreLastPlaces, AreVersions, BestFrom, better_candidate, identity_as_key}
+use Rattle.cargo_lock_graph.specs.Targets.{Matches, MatchesAt, HasIdentity, HoldsOf, IsLastBelow, IsLastWith, IsLost, IsTarget, rank_between}
 use Rattle.cargo_lock_graph.proofs.MadeChains.{in_or_last}
 
 -- ---- the last place
@@ -130,13 +130,13 @@ rank_between-positive (Some a) (Some b) rank h =
     least_rank-positive (has_rank_1 a b) (has_rank_2 a b) (has_rank_3 a b) (has_rank_4 a b) rank h
 
 -- a package with the dependency's identity fits with rank 1, and no other package does
-fits-first : (d : Identity) (p : PackageData) → HasIdentity d p → Fits d 1 p
+fits-first : (d : Identity) (p : PackageData) → HasIdentity d p → Matches d 1 p
 fits-first d p same = record {
   named = record { name = sym (ap (λ (k : IdentityKey). k.name) same); version = sym (ap (λ (k : IdentityKey). k.version) same) };
   ranked = (rank_between-one d.source p.source).1 (sym (ap (λ (k : IdentityKey). k.source) same));
 }
 
-first-fits : (d : Identity) (p : PackageData) → Fits d 1 p → HasIdentity d p
+first-fits : (d : Identity) (p : PackageData) → Matches d 1 p → HasIdentity d p
 first-fits d p f =
     let source = (rank_between-one d.source p.source).0 f.ranked in
     λ i. record { name = sym f.named.name i; version = sym f.named.version i; source = sym source i }
@@ -198,23 +198,23 @@ versions-more packages bound last grown earlier pushed p o here is more grows so
 
 -- ---- the best so far
 
-fits-named : (packages : List PackageData) (d : Identity) (k rank : ℕ) → FitsAt packages d k rank → HoldsOf (HasNameAndVersion d) packages k
+fits-named : (packages : List PackageData) (d : Identity) (k rank : ℕ) → MatchesAt packages d k rank → HoldsOf (HasNameAndVersion d) packages k
 fits-named packages d k rank h = (h.0, h.1, h.2.named)
 
-fits-same : (packages : List PackageData) (d : Identity) (k rank other : ℕ) → FitsAt packages d k rank → FitsAt packages d k other → rank ≡ other
+fits-same : (packages : List PackageData) (d : Identity) (k rank other : ℕ) → MatchesAt packages d k rank → MatchesAt packages d k other → rank ≡ other
 fits-same packages d k rank other f g =
     let same : f.0 ≡ g.0 = same_Some f.0 g.0 (sym f.1 ∙ g.1) in
-    let e = subst (λ (p : PackageData). Fits d rank p) same f.2 in
+    let e = subst (λ (p : PackageData). Matches d rank p) same f.2 in
     same_Some rank other (sym e.ranked ∙ g.2.ranked)
 
-fits-of : (packages : List PackageData) (d : Identity) (k rank : ℕ) (p : PackageData) → slice_get packages k ≡ Some p → FitsAt packages d k rank → Fits d rank p
-fits-of packages d k rank p at f = subst (λ (q : PackageData). Fits d rank q) (same_Some f.0 p (sym f.1 ∙ at)) f.2
+fits-of : (packages : List PackageData) (d : Identity) (k rank : ℕ) (p : PackageData) → slice_get packages k ≡ Some p → MatchesAt packages d k rank → Matches d rank p
+fits-of packages d k rank p at f = subst (λ (q : PackageData). Matches d rank q) (same_Some f.0 p (sym f.1 ∙ at)) f.2
 
 pub best-start : (packages : List PackageData) (d : Identity) → BestFrom packages d (length packages) None
 best-start packages d k rank past f = let low = slice_get_within packages k f.0 f.1 in absurd (omega (arith, past, low))
 
 here-or-past : (packages : List PackageData) (d : Identity) (bound place : ℕ) → IsLastBelow (HoldsOf (HasNameAndVersion d) packages) bound (Some place)
-    → (k rank : ℕ) → place ≤ k → FitsAt packages d k rank → (k ≡ place) ⊎ (bound ≤ k)
+    → (k rank : ℕ) → place ≤ k → MatchesAt packages d k rank → (k ≡ place) ⊎ (bound ≤ k)
 here-or-past packages d bound place is k rank from f = elim (cases_Bool (nat_lt place k)) [
   | inl after ↦ elim (cases_Bool (nat_lt k bound)) [
     | inl below ↦ absurd (is.2 k (ltb-true place k after) (ltb-true k bound below) (fits-named packages d k rank f))
@@ -225,7 +225,7 @@ here-or-past packages d bound place is k rank from f = elim (cases_Bool (nat_lt 
 
 best-kept : (packages : List PackageData) (d : Identity) (bound place : ℕ) (p : PackageData) (best : Option Best)
     → IsLastBelow (HoldsOf (HasNameAndVersion d) packages) bound (Some place) → slice_get packages place ≡ Some p
-    → ((rank : ℕ) → ¬ Fits d rank p) → BestFrom packages d bound best → BestFrom packages d place best
+    → ((rank : ℕ) → ¬ Matches d rank p) → BestFrom packages d bound best → BestFrom packages d place best
 best-kept packages d bound place p None is at miss so_far = λ k rank from f. elim (here-or-past packages d bound place is k rank from f) [
   | inl same ↦ miss rank (fits-of packages d k rank p (ap (slice_get packages) same ∙ at) f)
   | inr past ↦ so_far k rank past f
@@ -242,28 +242,28 @@ best-kept packages d bound place p (Some best) is at miss so_far =
     )
 
 best-new : (packages : List PackageData) (d : Identity) (bound place rank : ℕ)
-    → IsLastBelow (HoldsOf (HasNameAndVersion d) packages) bound (Some place) → FitsAt packages d place rank
-    → ((k other : ℕ) → bound ≤ k → FitsAt packages d k other → rank < other)
+    → IsLastBelow (HoldsOf (HasNameAndVersion d) packages) bound (Some place) → MatchesAt packages d place rank
+    → ((k other : ℕ) → bound ≤ k → MatchesAt packages d k other → rank < other)
     → BestFrom packages d place (Some record { rank = rank; place = place })
 best-new packages d bound place rank is fits less = (
   omega arith,
   fits,
   λ k other from f. elim (here-or-past packages d bound place is k other from f) [
     | inl same ↦
-        let equal = fits-same packages d place rank other fits (subst (λ n. FitsAt packages d n other) same f) in
+        let equal = fits-same packages d place rank other fits (subst (λ n. MatchesAt packages d n other) same f) in
         (omega (arith, equal), λ after. absurd (omega (arith, after, same)))
     | inr past ↦ let h = less k other past f in (omega (arith, h), λ _. h)
   ],
 )
 
 best-better : (packages : List PackageData) (d : Identity) (bound place rank : ℕ) (best : Best)
-    → IsLastBelow (HoldsOf (HasNameAndVersion d) packages) bound (Some place) → FitsAt packages d place rank
+    → IsLastBelow (HoldsOf (HasNameAndVersion d) packages) bound (Some place) → MatchesAt packages d place rank
     → BestFrom packages d bound (Some best) → (b : Bool) → nat_lt rank best.rank ≡ b
     → BestFrom packages d place (cond b (Some record { rank = rank; place = place }) (Some best))
-best-better packages d bound place rank best is fits so_far true less =
+best-better_candidate packages d bound place rank best is fits so_far true less =
     let low = ltb-true rank best.rank less in
     best-new packages d bound place rank is fits (λ k other past f. let h = (so_far.2 k other past f).0 in omega (arith, h, low))
-best-better packages d bound place rank best is fits so_far false more =
+best-better_candidate packages d bound place rank best is fits so_far false more =
     let high = ltb-false rank best.rank more in
     let low = is.0 in
     let from = so_far.0 in (
@@ -271,7 +271,7 @@ best-better packages d bound place rank best is fits so_far false more =
       so_far.1,
       λ k other from2 f. elim (here-or-past packages d bound place is k other from2 f) [
         | inl same ↦
-            let equal = fits-same packages d place rank other fits (subst (λ n. FitsAt packages d n other) same f) in
+            let equal = fits-same packages d place rank other fits (subst (λ n. MatchesAt packages d n other) same f) in
             (omega (arith, equal, high), λ after. absurd (omega (arith, after, same, low, from)))
         | inr past ↦ so_far.2 k other past f
       ],
@@ -279,13 +279,13 @@ best-better packages d bound place rank best is fits so_far false more =
 
 pub best-step : (packages : List PackageData) (d : Identity) (bound place : ℕ) (p : PackageData) (best : Option Best) (rank : Option ℕ)
     → IsLastBelow (HoldsOf (HasNameAndVersion d) packages) bound (Some place) → slice_get packages place ≡ Some p
-    → MatchOption rank ((r : ℕ) → ¬ Fits d r p) (λ r. Fits d r p)
-    → BestFrom packages d bound best → BestFrom packages d place (better best rank place)
+    → MatchOption rank ((r : ℕ) → ¬ Matches d r p) (λ r. Matches d r p)
+    → BestFrom packages d bound best → BestFrom packages d place (better_candidate best rank place)
 best-step packages d bound place p best None is at miss so_far = best-kept packages d bound place p best is at miss so_far
 best-step packages d bound place p None (Some rank) is at fits so_far =
     best-new packages d bound place rank is (p, at, fits) (λ k other past f. absurd (so_far k other past f))
 best-step packages d bound place p (Some best) (Some rank) is at fits so_far =
-    best-better packages d bound place rank best is (p, at, fits) so_far (nat_lt rank best.rank) refl
+    best-better_candidate packages d bound place rank best is (p, at, fits) so_far (nat_lt rank best.rank) refl
 
 pub best-end : (packages : List PackageData) (d : Identity) (bound : ℕ) (best : Option Best)
     → IsLastBelow (HoldsOf (HasNameAndVersion d) packages) bound None → BestFrom packages d bound best
@@ -296,7 +296,7 @@ best-end packages d bound None none so_far = λ place rank f. elim (cases_Bool (
 ]
 best-end packages d bound (Some best) none so_far =
     let from = so_far.0 in
-    let past : (k rank : ℕ) → FitsAt packages d k rank → bound ≤ k = λ k rank f. elim (cases_Bool (nat_lt k bound)) [
+    let past : (k rank : ℕ) → MatchesAt packages d k rank → bound ≤ k = λ k rank f. elim (cases_Bool (nat_lt k bound)) [
       | inl below ↦ absurd (none k (ltb-true k bound below) (fits-named packages d k rank f))
       | inr past ↦ ltb-false k bound past
     ] in
@@ -336,16 +336,16 @@ find-next packages d last earlier bound place next versions within is next_is =
 
 -- a package with the dependency's name and version fits with the rank of the sources
 ranked-one : (d : Identity) (p : PackageData) (rank : Option ℕ) → HasNameAndVersion d p → rank ≡ rank_between d.source p.source
-    → MatchOption rank ((r : ℕ) → ¬ Fits d r p) (λ r. Fits d r p)
+    → MatchOption rank ((r : ℕ) → ¬ Matches d r p) (λ r. Matches d r p)
 ranked-one d p None named is = λ r f. let e = f.ranked in cc
 ranked-one d p (Some rank) named is = record { named = named; ranked = sym is }
 
 pub find-better : (packages : List PackageData) (d : Identity) (bound place : ℕ) (p : PackageData) (best grown : Option Best) (rank : Option ℕ)
     → bound ≤ length packages → IsLastBelow (HoldsOf (HasNameAndVersion d) packages) bound (Some place)
     → BestFrom packages d bound best → p ≡ get_or packages place p
-    → rank ≡ rank_between d.source p.source → grown ≡ better best rank place
+    → rank ≡ rank_between d.source p.source → grown ≡ better_candidate best rank place
     → BestFrom packages d place grown
-find-better packages d bound place p best grown rank within is so_far p_is ranks grows =
+find-better_candidate packages d bound place p best grown rank within is so_far p_is ranks grows =
     let low = is.0 in
     let q : PackageData = is.1.0 in
     let at : slice_get packages place ≡ Some p = slice_get_read packages (length packages) place p refl (omega (arith, low, within)) p_is in

@@ -7,7 +7,7 @@ use Rattle.cargo_lock_graph.specs.declared.graph.EdgeDirection.{EdgeDirection}
 use Rattle.cargo_lock_graph.specs.declared.drawing.entry.Entry.{Entry}
 use Rattle.cargo_lock_graph.specs.Drawing.{is_among, nodes_of}
 use Rattle.cargo_lock_graph.specs.DrawingPlaces.{children_count}
-use Rattle.cargo_lock_graph.specs.DrawingSteps.{expected, DrawsFrom}
+use Rattle.cargo_lock_graph.specs.DrawingSteps.{children_after, DrawsFrom}
 use Rattle.cargo_lock_graph.specs.Edges.{Edge, near_end, far_end, far_ends, edges_at, is_at}
 use Rattle.cargo_lock_graph.proofs.DrawingReach.{length_drawing}
 
@@ -67,7 +67,7 @@ children_leaving d edges (e ∷ es) earlier =
     let n : ℕ = e.node in
     let own : ℕ → Bool = λ m. cond (is_among n earlier) false (eqb m n) in
     let split = leaving_split d (fresh (n ∷ nodes_of es) earlier) (fresh (nodes_of es) (n ∷ earlier)) own (λ m. bools (eqb m n) (is_among m (nodes_of es)) (is_among m earlier) (is_among n earlier) (λ same. ap (λ (k : ℕ). is_among k earlier) (sym (eqb-true m n same)))) edges in
-    let mine : length (expected (far_ends d edges) earlier n) ≡ leaving d own edges = elim (cases_Bool (is_among n earlier)) [
+    let mine : length (children_after (far_ends d edges) earlier n) ≡ leaving d own edges = elim (cases_Bool (is_among n earlier)) [
       | inl t ↦ rw t (sym (leaving_none d (λ m. false) (λ m. refl) edges))
       | inr f ↦ rw f (length-far d n edges)
     ] in

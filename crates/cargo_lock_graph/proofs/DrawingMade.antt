@@ -5,17 +5,17 @@ use Rattle.std.proofs.lemmas.Bool.{cases_eq, cases_Bool, eq-eqb, ne_eqb}
 use Rattle.std.proofs.lemmas.List.{append-nil, length-set, length-replicate, get_or-set_same, get_or-set_other, get_or-replicate}
 use Rattle.std.proofs.lemmas.List.Elements.{recursion_from_All}
 use Rattle.cargo_lock_graph.specs.Drawing.{is_among, children, AreBelow}
-use Rattle.cargo_lock_graph.specs.DrawingSteps.{expected, HaveChildren, DrawsFrom}
+use Rattle.cargo_lock_graph.specs.DrawingSteps.{children_after, HaveChildren, DrawsFrom}
 use Rattle.cargo_lock_graph.specs.declared.drawing.entry.Entry.{Entry}
-use Rattle.cargo_lock_graph.specs.DrawingMade.{AreMarked, deeper, unmarked, draw, rest_of, drawing}
-use Rattle.cargo_lock_graph.proofs.DrawingRest.{at_level, Falls, Rest, same_entry, deep, deeper-falls, level-same, level-other, back, falls_on, one_rest}
+use Rattle.cargo_lock_graph.specs.DrawingMade.{AreMarked, entries_below, unmarked_count, draw, rest_of, drawing}
+use Rattle.cargo_lock_graph.proofs.DrawingRest.{at_level, Falls, Rest, same_entry, deep, entries_below-falls, level-same, level-other, back, falls_on, one_rest}
 
 -- ---- how many are left
 
-pub unmarked-set : (marks : List Bool) (m : ℕ) → get_or marks m true ≡ false → unmarked marks ≡ suc (unmarked (set marks m true))
-unmarked-set [] m h = absurd cc
-unmarked-set (b ∷ bs) zero h = rw h (omega arith)
-unmarked-set (b ∷ bs) (suc m) h = omega (arith, unmarked-set bs m h)
+pub unmarked_count-set : (marks : List Bool) (m : ℕ) → get_or marks m true ≡ false → unmarked_count marks ≡ suc (unmarked_count (set marks m true))
+unmarked_count-set [] m h = absurd cc
+unmarked_count-set (b ∷ bs) zero h = rw h (omega arith)
+unmarked_count-set (b ∷ bs) (suc m) h = omega (arith, unmarked_count-set bs m h)
 
 -- ---- one entry on
 
@@ -25,15 +25,15 @@ draw-seen_again far (suc fuel) marks e p h = rw h refl
 
 pub rest-seen : (far : ℕ → List ℕ) (marks : List Bool) (e : Entry) (p : List Entry) → get_or marks e.node true ≡ true → rest_of far marks (e ∷ p) ≡ e ∷ rest_of far marks p
 unfolding rest_of
-rest-seen far marks e p h = draw-seen_again far (unmarked marks) marks e p h
+rest-seen far marks e p h = draw-seen_again far (unmarked_count marks) marks e p h
 
-pub rest-new : (far : ℕ → List ℕ) (marks : List Bool) (e : Entry) (p : List Entry) → get_or marks e.node true ≡ false → rest_of far marks (e ∷ p) ≡ e ∷ rest_of far (set marks e.node true) (deeper (suc e.depth) (far e.node) ++ p)
+pub rest-new : (far : ℕ → List ℕ) (marks : List Bool) (e : Entry) (p : List Entry) → get_or marks e.node true ≡ false → rest_of far marks (e ∷ p) ≡ e ∷ rest_of far (set marks e.node true) (entries_below (suc e.depth) (far e.node) ++ p)
 unfolding rest_of
-rest-new far marks e p h = rw (unmarked-set marks e.node h, h) refl
+rest-new far marks e p h = rw (unmarked_count-set marks e.node h, h) refl
 
 pub rest-end : (far : ℕ → List ℕ) (marks : List Bool) → rest_of far marks [] ≡ []
 unfolding rest_of
-rest-end far marks = elim (unmarked marks) as (λ n. draw far n marks [] ≡ []) [ zero ↦ refl | suc n ↦ refl ]
+rest-end far marks = elim (unmarked_count marks) as (λ n. draw far n marks [] ≡ []) [ zero ↦ refl | suc n ↦ refl ]
 
 pub marked-more : (marks : List Bool) (earlier : List ℕ) (m : ℕ) → AreMarked marks earlier → AreMarked (set marks m true) (m ∷ earlier)
 marked-more marks earlier m h k lt =
@@ -60,25 +60,25 @@ below-append : (nodes : ℕ) (p q : List Entry) → Below nodes p → Below node
 below-append nodes [] q h k = k
 below-append nodes (e ∷ p) q h k = (h.0, below-append nodes p q h.1 k)
 
-below-deeper : (nodes d : ℕ) (ns : List ℕ) → AllByRecursion (λ j. j < nodes) ns → Below nodes (deeper d ns)
-below-deeper nodes d [] h = tt
-below-deeper nodes d (n ∷ ns) h = (h.0, below-deeper nodes d ns h.1)
+below-deeper : (nodes d : ℕ) (ns : List ℕ) → AllByRecursion (λ j. j < nodes) ns → Below nodes (entries_below d ns)
+below-entries_below nodes d [] h = tt
+below-entries_below nodes d (n ∷ ns) h = (h.0, below-entries_below nodes d ns h.1)
 
-below-expected : (far : ℕ → List ℕ) (nodes : ℕ) (earlier : List ℕ) (n d : ℕ) → AreBelow far nodes → Below nodes (deeper d (expected far earlier n))
-below-expected far nodes earlier n d h =
+below-expected : (far : ℕ → List ℕ) (nodes : ℕ) (earlier : List ℕ) (n d : ℕ) → AreBelow far nodes → Below nodes (entries_below d (children_after far earlier n))
+below-children_after far nodes earlier n d h =
     elim (cases_Bool (is_among n earlier)) [
       | inl t ↦ rw t tt
-      | inr f ↦ rw f (below-deeper nodes d (far n) (recursion_from_All (λ j. j < nodes) (far n) (h n)))
+      | inr f ↦ rw f (below-entries_below nodes d (far n) (recursion_from_All (λ j. j < nodes) (far n) (h n)))
     ]
 
-pub below_on : (far : ℕ → List ℕ) (nodes : ℕ) (earlier : List ℕ) (e : Entry) (p : List Entry) → AreBelow far nodes → Below nodes (e ∷ p) → Below nodes (deeper (suc e.depth) (expected far earlier e.node) ++ p)
-below_on far nodes earlier e p far_below h = below-append nodes (deeper (suc e.depth) (expected far earlier e.node)) p (below-expected far nodes earlier e.node (suc e.depth) far_below) h.1
+pub below_on : (far : ℕ → List ℕ) (nodes : ℕ) (earlier : List ℕ) (e : Entry) (p : List Entry) → AreBelow far nodes → Below nodes (e ∷ p) → Below nodes (entries_below (suc e.depth) (children_after far earlier e.node) ++ p)
+below_on far nodes earlier e p far_below h = below-append nodes (entries_below (suc e.depth) (children_after far earlier e.node)) p (below-children_after far nodes earlier e.node (suc e.depth) far_below) h.1
 
 pub record Step (far : ℕ → List ℕ) (marks : List Bool) (earlier : List ℕ) (e : Entry) (p : List Entry) : Type 0 where
   pub marks' : List Bool
   pub long : length marks' ≡ length marks
   pub agree : AreMarked marks' (e.node ∷ earlier)
-  pub is : rest_of far marks (e ∷ p) ≡ e ∷ rest_of far marks' (deeper (suc e.depth) (expected far earlier e.node) ++ p)
+  pub is : rest_of far marks (e ∷ p) ≡ e ∷ rest_of far marks' (entries_below (suc e.depth) (children_after far earlier e.node) ++ p)
 
 pub rest-step : (far : ℕ → List ℕ) (marks : List Bool) (earlier : List ℕ) (e : Entry) (p : List Entry) → AreMarked marks earlier → e.node < length marks → Step far marks earlier e p
 rest-step far marks earlier e p h lt =
@@ -100,27 +100,27 @@ made_rest far nodes far_below (x ∷ es) marks earlier before (e ∷ p) long agr
     let s = rest-step far marks earlier e p agree (subst (λ (n : ℕ). e.node < n) (sym long) below.0) in
     let w = sym s.is ∙ made in
     let same : e ≡ x = cc w in
-    let tail : rest_of far s.marks' (deeper (suc e.depth) (expected far earlier e.node) ++ p) ≡ es = cc w in
-    let rest = made_rest far nodes far_below es s.marks' (e.node ∷ earlier) e.depth _ (s.long ∙ long) s.agree (falls_on (suc before) e p (expected far earlier e.node) falls) (below_on far nodes earlier e p far_below below) tail in
+    let tail : rest_of far s.marks' (entries_below (suc e.depth) (children_after far earlier e.node) ++ p) ≡ es = cc w in
+    let rest = made_rest far nodes far_below es s.marks' (e.node ∷ earlier) e.depth _ (s.long ∙ long) s.agree (falls_on (suc before) e p (children_after far earlier e.node) falls) (below_on far nodes earlier e p far_below below) tail in
     subst (λ (y : Entry). Rest far earlier before (e ∷ p) (y ∷ es)) same (back far earlier before (suc before) e p es falls falls.1 rest)
 
 -- ---- the start
 
-pub first_falls : (ns : List ℕ) → Falls 1 (deeper 1 ns)
-first_falls ns = subst (λ (p : List Entry). Falls 1 p) (append-nil (deeper 1 ns)) (deeper-falls 0 ns [] tt)
+pub first_falls : (ns : List ℕ) → Falls 1 (entries_below 1 ns)
+first_falls ns = subst (λ (p : List Entry). Falls 1 p) (append-nil (entries_below 1 ns)) (entries_below-falls 0 ns [] tt)
 
 -- after the first entry, the drawing is the rest
-pub drawing_rest : (far : ℕ → List ℕ) (e : Entry) (es : List Entry) (start : ℕ) → DrawsFrom far start (e ∷ es) → Rest far (start ∷ []) 0 (deeper 1 (far start)) es
+pub drawing_rest : (far : ℕ → List ℕ) (e : Entry) (es : List Entry) (start : ℕ) → DrawsFrom far start (e ∷ es) → Rest far (start ∷ []) 0 (entries_below 1 (far start)) es
 drawing_rest far e es start d = record {
   steps = d.2;
   waits = λ k. elim (cases_eq k 0) [
-    | inl zero_ ↦ ap (λ (n : ℕ). children n es) (zero_ ∙ sym d.1) ∙ d.3.0 ∙ ap far d.0 ∙ sym (level-same 1 (far start)) ∙ ap (λ (n : ℕ). at_level (suc n) (deeper 1 (far start))) (sym zero_)
+    | inl zero_ ↦ ap (λ (n : ℕ). children n es) (zero_ ∙ sym d.1) ∙ d.3.0 ∙ ap far d.0 ∙ sym (level-same 1 (far start)) ∙ ap (λ (n : ℕ). at_level (suc n) (entries_below 1 (far start))) (sym zero_)
     | inr more ↦ deep k 0 es d.2 (omega arith) ∙ sym (level-other (suc k) 1 (far start) (λ x. omega arith))
   ];
   have = subst (λ (n : ℕ). HaveChildren far (n ∷ []) es) d.0 d.3.1;
 }
 
-pub rest_drawing : (far : ℕ → List ℕ) (es : List Entry) (start : ℕ) → Rest far (start ∷ []) 0 (deeper 1 (far start)) es → DrawsFrom far start (record { node = start; depth = 0 } ∷ es)
+pub rest_drawing : (far : ℕ → List ℕ) (es : List Entry) (start : ℕ) → Rest far (start ∷ []) 0 (entries_below 1 (far start)) es → DrawsFrom far start (record { node = start; depth = 0 } ∷ es)
 rest_drawing far es start r = (refl, refl, r.steps, (r.waits 0 ∙ level-same 1 (far start), r.have))
 
 pub is_drawing : (far : ℕ → List ℕ) (nodes start : ℕ) → AreBelow far nodes → start < nodes → DrawsFrom far start (drawing far nodes start)
@@ -130,8 +130,8 @@ is_drawing far nodes start far_below lt =
     let agree : AreMarked none [] = λ k k_in. get_or-replicate nodes k false true (subst (λ (n : ℕ). k < n) (length-replicate nodes false) k_in) in
     let long : length none ≡ nodes = length-replicate nodes false in
     let s = rest-step far none [] root [] agree (subst (λ (n : ℕ). start < n) (sym long) lt) in
-    let kids : List Entry = deeper 1 (far start) in
-    let below = below-deeper nodes 1 (far start) (recursion_from_All (λ j. j < nodes) (far start) (far_below start)) in
+    let kids : List Entry = entries_below 1 (far start) in
+    let below = below-entries_below nodes 1 (far start) (recursion_from_All (λ j. j < nodes) (far start) (far_below start)) in
     let rest = made_rest far nodes far_below _ s.marks' (start ∷ []) 0 kids (s.long ∙ long) s.agree (first_falls (far start)) below refl in
     let is : drawing far nodes start ≡ root ∷ rest_of far s.marks' kids = s.is ∙ ap (λ (p : List Entry). root ∷ rest_of far s.marks' p) (append-nil kids) in
     subst (DrawsFrom far start) (sym is) (rest_drawing far _ start rest)
@@ -140,6 +140,6 @@ pub one_drawing_only : (far : ℕ → List ℕ) (start : ℕ) (es fs : List Entr
 one_drawing_only far start [] fs d q = absurd d
 one_drawing_only far start (e ∷ es) [] d q = absurd q
 one_drawing_only far start (e ∷ es) (f ∷ fs) d q =
-    let rest : es ≡ fs = one_rest far es fs (start ∷ []) 0 1 (deeper 1 (far start)) (first_falls (far start)) (drawing_rest far e es start d) (drawing_rest far f fs start q) in
+    let rest : es ≡ fs = one_rest far es fs (start ∷ []) 0 1 (entries_below 1 (far start)) (first_falls (far start)) (drawing_rest far e es start d) (drawing_rest far f fs start q) in
     let first : e ≡ f = same_entry e f (d.0 ∙ sym q.0) (d.1 ∙ sym q.1) in
     ap (λ (x : Entry). x ∷ es) first ∙ ap (λ (xs : List Entry). f ∷ xs) rest

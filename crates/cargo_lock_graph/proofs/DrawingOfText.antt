@@ -8,7 +8,7 @@ use Rattle.cargo_lock_parts.specs.Identity.{PackageData}
 use Rattle.cargo_lock_graph.specs.declared.drawing.entry.Entry.{Entry}
 use Rattle.cargo_lock_graph.specs.Drawing.{Occurs, is_among}
 use Rattle.cargo_lock_graph.specs.DrawingLines.{AreApart, AreLines, HasNoNewline, Tell, TellAll, cut, ended_lines}
-use Rattle.cargo_lock_graph.specs.DrawingText.{SymbolTexts, depth_at, drawn, line_at, lines_from, prefix_at}
+use Rattle.cargo_lock_graph.specs.DrawingText.{SymbolTexts, depth_at, drawing_text, line_at, lines_from, prefix_at}
 use Rattle.cargo_lock_graph.specs.DrawingPlaces.{no_entry}
 use Rattle.cargo_lock_graph.specs.Labels.{exact_text, label_at, label_of}
 use Rattle.cargo_lock_graph.proofs.DrawingLines.{among-append}
@@ -76,9 +76,9 @@ lines-ended s label es k (suc count) =
     append_assoc p (l ++ 10 ∷ []) rest ∙ ap (λ (t : List ℕ). p ++ t) (append_assoc l (10 ∷ []) rest) ∙ sym (append_assoc p l (10 ∷ rest)) in
     subst (λ (t : List ℕ). t ≡ ended_lines (cut [] t)) (sym is) (ended [] (p ++ l) rest (lines-ended s label es (suc k) count))
 
-pub drawn-ended : (s : SymbolTexts) (label : ℕ → List ℕ) (es : List Entry) → drawn s label es ≡ ended_lines (cut [] (drawn s label es))
-unfolding drawn
-drawn-ended s label es = lines-ended s label es 0 (length es)
+pub drawing_text-ended : (s : SymbolTexts) (label : ℕ → List ℕ) (es : List Entry) → drawing_text s label es ≡ ended_lines (cut [] (drawing_text s label es))
+unfolding drawing_text
+drawing_text-ended s label es = lines-ended s label es 0 (length es)
 
 -- ---- labels without newlines
 

@@ -5,8 +5,8 @@ use Rattle.std.proofs.lemmas.Bool.{cases_eq, cases_Bool, eq-eqb, ne_eqb, eqb-tru
 use Rattle.std.proofs.lemmas.List.{length-append}
 use Rattle.cargo_lock_graph.specs.declared.drawing.entry.Entry.{Entry}
 use Rattle.cargo_lock_graph.specs.Drawing.{is_among, children, nodes_of, Occurs}
-use Rattle.cargo_lock_graph.specs.DrawingSteps.{expected, HaveChildren, DrawsFrom}
-use Rattle.cargo_lock_graph.specs.DrawingMade.{deeper}
+use Rattle.cargo_lock_graph.specs.DrawingSteps.{children_after, HaveChildren, DrawsFrom}
+use Rattle.cargo_lock_graph.specs.DrawingMade.{entries_below}
 use Rattle.cargo_lock_graph.specs.Paths.{IsPath, IsReachable}
 use Rattle.cargo_lock_graph.specs.DrawingPlaces.{children_count}
 use Rattle.cargo_lock_graph.proofs.DrawingRest.{Falls, Rest, none_waits, none_follows, next, falls_on}
@@ -21,11 +21,11 @@ all_append : (R : ℕ → Type 0) (p q : List Entry) → AllNodes R p → AllNod
 all_append R [] q h k = k
 all_append R (e ∷ p) q h k = (h.0, all_append R p q h.1 k)
 
-all_deeper : (R : ℕ → Type 0) (d : ℕ) (ns : List ℕ) → ((b : ℕ) → is_among b ns ≡ true → R b) → AllNodes R (deeper d ns)
+all_deeper : (R : ℕ → Type 0) (d : ℕ) (ns : List ℕ) → ((b : ℕ) → is_among b ns ≡ true → R b) → AllNodes R (entries_below d ns)
 all_deeper R d [] h = tt
 all_deeper R d (n ∷ ns) h = (h n (or_left (eqb n n) (is_among n ns) (eq-eqb n n refl)), all_deeper R d ns (λ b in'. h b (or_right (eqb b n) (is_among b ns) in')))
 
-expected_far : (far : ℕ → List ℕ) (earlier : List ℕ) (n b : ℕ) → is_among b (expected far earlier n) ≡ true → is_among b (far n) ≡ true
+expected_far : (far : ℕ → List ℕ) (earlier : List ℕ) (n b : ℕ) → is_among b (children_after far earlier n) ≡ true → is_among b (far n) ≡ true
 expected_far far earlier n b h =
     elim (cases_Bool (is_among n earlier)) [
       | inl t ↦ (let w : is_among b [] ≡ true = subst (λ (x : Bool). is_among b (cond x [] (far n)) ≡ true) t h in absurd cc)
@@ -37,9 +37,9 @@ all_reached far R on [] earlier before limit p h r all = tt
 all_reached far R on (e ∷ es) earlier before limit [] h r all = let w = none_waits far earlier before (e ∷ es) r in absurd cc
 all_reached far R on (e ∷ es) earlier before limit (f ∷ p) h r all =
     let n = next far earlier before limit f p e es h r in
-    let ns : List ℕ = expected far earlier f.node in
+    let ns : List ℕ = children_after far earlier f.node in
     let kids = all_deeper R (suc f.depth) ns (λ b in'. on f.node b all.0 (expected_far far earlier f.node b in')) in
-    (subst (λ (x : Entry). R x.node) (sym n.same) all.0, all_reached far R on es (f.node ∷ earlier) f.depth (suc f.depth) (deeper (suc f.depth) ns ++ p) (falls_on limit f p ns h) n.rest (all_append R (deeper (suc f.depth) ns) p kids all.1))
+    (subst (λ (x : Entry). R x.node) (sym n.same) all.0, all_reached far R on es (f.node ∷ earlier) f.depth (suc f.depth) (entries_below (suc f.depth) ns ++ p) (falls_on limit f p ns h) n.rest (all_append R (entries_below (suc f.depth) ns) p kids all.1))
 
 one_of_all : (R : ℕ → Type 0) (n : ℕ) (es : List Entry) → AllNodes R es → Occurs n es → R n
 one_of_all R n [] all h = absurd cc
@@ -60,7 +60,7 @@ occurs_reachable far start (e ∷ es) n d h =
     let on : (a b : ℕ) → R a → is_among b (far a) ≡ true → R b = λ a b r t. (r.0 ++ b ∷ [], leads_more far start r.0 a b r.1 t) in
     let root : R start = ([], refl) in
     let kids = all_deeper R 1 (far start) (λ b t. on start b root t) in
-    let all = all_reached far R on es (start ∷ []) 0 1 (deeper 1 (far start)) (first_falls (far start)) (drawing_rest far e es start d) kids in
+    let all = all_reached far R on es (start ∷ []) 0 1 (entries_below 1 (far start)) (first_falls (far start)) (drawing_rest far e es start d) kids in
     one_of_all R n (e ∷ es) (subst R (sym d.0) root, all) h
 
 -- ---- what is reachable occurs
@@ -85,7 +85,7 @@ far_occurs : (far : ℕ → List ℕ) (n b : ℕ) (es : List Entry) (earlier : L
 far_occurs far n b [] earlier have new h t = absurd cc
 far_occurs far n b (e ∷ es) earlier have new h t =
     elim (cases_eq n e.node) [
-      | inl same ↦ (let kids : children e.depth es ≡ far n = have.0 ∙ ap (expected far earlier) (sym same) ∙ rw new refl in
+      | inl same ↦ (let kids : children e.depth es ≡ far n = have.0 ∙ ap (children_after far earlier) (sym same) ∙ rw new refl in
           or_right (eqb b e.node) (is_among b (nodes_of es)) (child_in b e.depth es (subst (λ (ns : List ℕ). is_among b ns ≡ true) (sym kids) t)))
       | inr other ↦ (let later : Occurs n es = elim (or_cases (eqb n e.node) (is_among n (nodes_of es)) h) [ inl same ↦ absurd (other (eqb-true n e.node same)) | inr later ↦ later ] in
           or_right (eqb b e.node) (is_among b (nodes_of es)) (far_occurs far n b es (e.node ∷ earlier) have.1 (or_from (eqb n e.node) (is_among n earlier) (ne_eqb n e.node other) new) later t))
@@ -102,24 +102,24 @@ reachable_occurs far start (e ∷ es) n d r =
 
 -- ---- how many entries
 
-length-deeper : (d : ℕ) (ns : List ℕ) → length (deeper d ns) ≡ length ns
-length-deeper d [] = refl
-length-deeper d (n ∷ ns) = ap suc (length-deeper d ns)
+length-deeper : (d : ℕ) (ns : List ℕ) → length (entries_below d ns) ≡ length ns
+length-entries_below d [] = refl
+length-entries_below d (n ∷ ns) = ap suc (length-entries_below d ns)
 
 length_rest : (far : ℕ → List ℕ) (es : List Entry) (earlier : List ℕ) (before limit : ℕ) (p : List Entry) → Falls limit p → Rest far earlier before p es → length es ≡ length p + children_count far earlier es
 length_rest far [] earlier before limit p h r = let e = none_follows far earlier before limit p h r in omega (arith, ap length e)
 length_rest far (e ∷ es) earlier before limit [] h r = let w = none_waits far earlier before (e ∷ es) r in absurd cc
 length_rest far (e ∷ es) earlier before limit (f ∷ p) h r =
     let n = next far earlier before limit f p e es h r in
-    let ns : List ℕ = expected far earlier f.node in
-    let ih = length_rest far es (f.node ∷ earlier) f.depth (suc f.depth) (deeper (suc f.depth) ns ++ p) (falls_on limit f p ns h) n.rest in
+    let ns : List ℕ = children_after far earlier f.node in
+    let ih = length_rest far es (f.node ∷ earlier) f.depth (suc f.depth) (entries_below (suc f.depth) ns ++ p) (falls_on limit f p ns h) n.rest in
     let same : children_count far earlier (f ∷ es) ≡ children_count far earlier (e ∷ es) = ap (λ (x : Entry). children_count far earlier (x ∷ es)) (sym n.same) in
-    omega (arith, ih, same, length-append (deeper (suc f.depth) ns) p, length-deeper (suc f.depth) ns)
+    omega (arith, ih, same, length-append (entries_below (suc f.depth) ns) p, length-entries_below (suc f.depth) ns)
 
 -- one more than the children of all entries
 pub length_drawing : (far : ℕ → List ℕ) (start : ℕ) (es : List Entry) → DrawsFrom far start es → length es ≡ suc (children_count far [] es)
 length_drawing far start [] d = absurd d
 length_drawing far start (e ∷ es) d =
-    let r = length_rest far es (start ∷ []) 0 1 (deeper 1 (far start)) (first_falls (far start)) (drawing_rest far e es start d) in
+    let r = length_rest far es (start ∷ []) 0 1 (entries_below 1 (far start)) (first_falls (far start)) (drawing_rest far e es start d) in
     let a : children_count far [] (e ∷ es) ≡ length (far start) + children_count far (start ∷ []) es = ap (λ (n : ℕ). length (far n) + children_count far (n ∷ []) es) d.0 in
-    omega (arith, r, a, length-deeper 1 (far start))
+    omega (arith, r, a, length-entries_below 1 (far start))

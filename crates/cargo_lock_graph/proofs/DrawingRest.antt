@@ -3,9 +3,9 @@ use Rattle.std.proofs.Common.{◌≡◌, ℕ, suc, ◌-◌, ◌<◌, ◌≤◌, 
 use Rattle.std.proofs.lemmas.Bool.{cases_eq, cases_order, le-leb, lt-leb, eq-eqb, ne_eqb}
 use Rattle.std.proofs.lemmas.List.{append-nil}
 use Rattle.cargo_lock_graph.specs.Drawing.{children}
-use Rattle.cargo_lock_graph.specs.DrawingSteps.{AreSteps, expected, HaveChildren}
+use Rattle.cargo_lock_graph.specs.DrawingSteps.{AreSteps, children_after, HaveChildren}
 use Rattle.cargo_lock_graph.specs.declared.drawing.entry.Entry.{Entry}
-use Rattle.cargo_lock_graph.specs.DrawingMade.{deeper}
+use Rattle.cargo_lock_graph.specs.DrawingMade.{entries_below}
 
 pub same_entry : (e f : Entry) → e.node ≡ f.node → e.depth ≡ f.depth → e ≡ f
 same_entry e f p q = λ i. record { node = p i; depth = q i }
@@ -35,11 +35,11 @@ level-append k (e ∷ p) q =
       | inr other ↦ rw (ne_eqb e.depth k other) (level-append k p q)
     ]
 
-pub level-same : (k : ℕ) (ns : List ℕ) → at_level k (deeper k ns) ≡ ns
+pub level-same : (k : ℕ) (ns : List ℕ) → at_level k (entries_below k ns) ≡ ns
 level-same k [] = refl
 level-same k (n ∷ ns) = rw (eq-eqb k k refl) (ap (λ (ms : List ℕ). n ∷ ms) (level-same k ns))
 
-pub level-other : (k d : ℕ) (ns : List ℕ) → (d ≡ k → ⊥) → at_level k (deeper d ns) ≡ []
+pub level-other : (k d : ℕ) (ns : List ℕ) → (d ≡ k → ⊥) → at_level k (entries_below d ns) ≡ []
 level-other k d [] h = refl
 level-other k d (n ∷ ns) h = rw (ne_eqb d k h) (level-other k d ns h)
 
@@ -68,19 +68,19 @@ pub level-past : (k : ℕ) (e : Entry) (p : List Entry) → (e.depth ≡ k → �
 level-past k e p h = rw (ne_eqb e.depth k h) refl
 
 -- the children that are put before what is still to come
-pub level-new : (k d : ℕ) (ns : List ℕ) (p : List Entry) → (suc d ≡ k → ⊥) → at_level k (deeper (suc d) ns ++ p) ≡ at_level k p
-level-new k d ns p h = level-append k (deeper (suc d) ns) p ∙ ap (λ (ms : List ℕ). ms ++ at_level k p) (level-other k (suc d) ns h)
+pub level-new : (k d : ℕ) (ns : List ℕ) (p : List Entry) → (suc d ≡ k → ⊥) → at_level k (entries_below (suc d) ns ++ p) ≡ at_level k p
+level-new k d ns p h = level-append k (entries_below (suc d) ns) p ∙ ap (λ (ms : List ℕ). ms ++ at_level k p) (level-other k (suc d) ns h)
 
-pub level-kids : (d : ℕ) (ns : List ℕ) (p : List Entry) → Falls d p → at_level (suc d) (deeper (suc d) ns ++ p) ≡ ns
-level-kids d ns p h = level-append (suc d) (deeper (suc d) ns) p ∙ ap (λ (ms : List ℕ). ms ++ at_level (suc d) p) (level-same (suc d) ns) ∙ ap (λ (ms : List ℕ). ns ++ ms) (level-above (suc d) d p h (omega arith)) ∙ append-nil ns
+pub level-kids : (d : ℕ) (ns : List ℕ) (p : List Entry) → Falls d p → at_level (suc d) (entries_below (suc d) ns ++ p) ≡ ns
+level-kids d ns p h = level-append (suc d) (entries_below (suc d) ns) p ∙ ap (λ (ms : List ℕ). ms ++ at_level (suc d) p) (level-same (suc d) ns) ∙ ap (λ (ms : List ℕ). ns ++ ms) (level-above (suc d) d p h (omega arith)) ∙ append-nil ns
 
 -- ---- one entry on
 
 -- what stands before the next entry's children are drawn_by_later
-pub deeper-falls : (d : ℕ) (ns : List ℕ) (p : List Entry) → Falls d p → Falls (suc d) (deeper (suc d) ns ++ p)
-deeper-falls d [] [] h = tt
-deeper-falls d [] (e ∷ p) h = (h.0, omega (arith, h.1), h.2)
-deeper-falls d (n ∷ ns) p h = (omega arith, omega arith, deeper-falls d ns p h)
+pub entries_below-falls : (d : ℕ) (ns : List ℕ) (p : List Entry) → Falls d p → Falls (suc d) (entries_below (suc d) ns ++ p)
+entries_below-falls d [] [] h = tt
+entries_below-falls d [] (e ∷ p) h = (h.0, omega (arith, h.1), h.2)
+entries_below-falls d (n ∷ ns) p h = (omega arith, omega arith, entries_below-falls d ns p h)
 
 -- where nothing is to come, nothing follows
 pub none_waits : (far : ℕ → List ℕ) (earlier : List ℕ) (before : ℕ) (es : List Entry) → Rest far earlier before [] es → es ≡ []
@@ -101,7 +101,7 @@ none_follows far earlier before limit (e ∷ p) h r =
 
 pub record Next (far : ℕ → List ℕ) (earlier : List ℕ) (f : Entry) (p : List Entry) (e : Entry) (es : List Entry) : Type 0 where
   pub same : e ≡ f
-  pub rest : Rest far (f.node ∷ earlier) f.depth (deeper (suc f.depth) (expected far earlier f.node) ++ p) es
+  pub rest : Rest far (f.node ∷ earlier) f.depth (entries_below (suc f.depth) (children_after far earlier f.node) ++ p) es
 
 -- the next entry is the first that is to come, and then its children are
 pub next : (far : ℕ → List ℕ) (earlier : List ℕ) (before limit : ℕ) (f : Entry) (p : List Entry) (e : Entry) (es : List Entry) → Falls limit (f ∷ p) → Rest far earlier before (f ∷ p) (e ∷ es) → Next far earlier f p e es
@@ -119,7 +119,7 @@ next far earlier before limit f p e es h r =
     let nodes : e.node ≡ f.node = cc both in
     let tails : children d es ≡ at_level (suc d) p = cc both in
     let same : e ≡ f = same_entry e f nodes depths in
-    let ns = expected far earlier f.node in
+    let ns = children_after far earlier f.node in
     record {
       same = same;
       rest = record {
@@ -128,7 +128,7 @@ next far earlier before limit f p e es h r =
           | inl eq ↦ (let dk : d ≡ k = omega arith in subst (λ (n : ℕ). children n es ≡ at_level (suc n) p) dk tails ∙ sym (level-new (suc k) f.depth ns p (λ x. omega arith)))
           | inr (inl lt) ↦ sym (children-past k e es (omega arith)) ∙ r.waits k ∙ level-past (suc k) f p (λ x. omega arith) ∙ sym (level-new (suc k) f.depth ns p (λ x. omega arith))
           | inr (inr gt) ↦ elim (cases_order k f.depth) [
-            | inl eq ↦ ap (λ (n : ℕ). children n es) (eq ∙ sym depths) ∙ r.have.0 ∙ ap (expected far earlier) nodes ∙ sym (level-kids f.depth ns p h.2) ∙ ap (λ (n : ℕ). at_level (suc n) (deeper (suc f.depth) ns ++ p)) (sym eq)
+            | inl eq ↦ ap (λ (n : ℕ). children n es) (eq ∙ sym depths) ∙ r.have.0 ∙ ap (children_after far earlier) nodes ∙ sym (level-kids f.depth ns p h.2) ∙ ap (λ (n : ℕ). at_level (suc n) (entries_below (suc f.depth) ns ++ p)) (sym eq)
             | inr (inl lt) ↦ absurd (omega arith)
             | inr (inr more) ↦ deep k e.depth es r.steps.2 (omega arith) ∙ sym (level-above (suc k) f.depth p h.2 (omega arith)) ∙ sym (level-new (suc k) f.depth ns p (λ x. omega arith))
           ]
@@ -138,9 +138,9 @@ next far earlier before limit f p e es h r =
     }
 
 -- the other way: an entry, and what is drawn_by_later of its children and then of the rest
-pub back : (far : ℕ → List ℕ) (earlier : List ℕ) (before limit : ℕ) (f : Entry) (p es : List Entry) → Falls limit (f ∷ p) → f.depth ≤ suc before → Rest far (f.node ∷ earlier) f.depth (deeper (suc f.depth) (expected far earlier f.node) ++ p) es → Rest far earlier before (f ∷ p) (f ∷ es)
+pub back : (far : ℕ → List ℕ) (earlier : List ℕ) (before limit : ℕ) (f : Entry) (p es : List Entry) → Falls limit (f ∷ p) → f.depth ≤ suc before → Rest far (f.node ∷ earlier) f.depth (entries_below (suc f.depth) (children_after far earlier f.node) ++ p) es → Rest far earlier before (f ∷ p) (f ∷ es)
 back far earlier before limit f p es h le r =
-    let ns = expected far earlier f.node in
+    let ns = children_after far earlier f.node in
     record {
       steps = (h.0, le, r.steps);
       waits = λ k. elim (cases_order (suc k) f.depth) [
@@ -151,8 +151,8 @@ back far earlier before limit f p es h le r =
       have = (r.waits f.depth ∙ level-kids f.depth ns p h.2, r.have);
     }
 
-pub falls_on : (limit : ℕ) (f : Entry) (p : List Entry) (ns : List ℕ) → Falls limit (f ∷ p) → Falls (suc f.depth) (deeper (suc f.depth) ns ++ p)
-falls_on limit f p ns h = deeper-falls f.depth ns p h.2
+pub falls_on : (limit : ℕ) (f : Entry) (p : List Entry) (ns : List ℕ) → Falls limit (f ∷ p) → Falls (suc f.depth) (entries_below (suc f.depth) ns ++ p)
+falls_on limit f p ns h = entries_below-falls f.depth ns p h.2
 
 -- ---- one way to go on
 
@@ -167,6 +167,6 @@ one_rest far (e ∷ es) (f ∷ fs) earlier before limit [] h r q = none_waits fa
 one_rest far (e ∷ es) (f ∷ fs) earlier before limit (g ∷ p) h r q =
     let a = next far earlier before limit g p e es h r in
     let b = next far earlier before limit g p f fs h q in
-    let rest : es ≡ fs = one_rest far es fs (g.node ∷ earlier) g.depth (suc g.depth) _ (falls_on limit g p (expected far earlier g.node) h) a.rest b.rest in
+    let rest : es ≡ fs = one_rest far es fs (g.node ∷ earlier) g.depth (suc g.depth) _ (falls_on limit g p (children_after far earlier g.node) h) a.rest b.rest in
     let first : e ≡ f = a.same ∙ sym b.same in
     ap (λ (x : Entry). x ∷ es) first ∙ ap (λ (xs : List Entry). f ∷ xs) rest

@@ -2,7 +2,7 @@
 use Rattle.std.proofs.Common.{◌≡◌, ℕ, suc, ◌<◌, ◌≤◌, Bool, true, false, ◌||◌, cond, eqb, List, [], ◌∷◌, ◌++◌, refl, sym, ap, subst, ◌∙◌}
 use Rattle.cargo_lock_graph.specs.declared.drawing.entry.Entry.{Entry}
 use Rattle.cargo_lock_graph.specs.Drawing.{is_among, children, nodes_of, IsDrawing}
-use Rattle.cargo_lock_graph.specs.DrawingSteps.{AreSteps, expected, HaveChildren, DrawsFrom}
+use Rattle.cargo_lock_graph.specs.DrawingSteps.{AreSteps, children_after, HaveChildren, DrawsFrom}
 
 -- nodes before, in the order in which a walk over the list adds them
 abbrev onto : List Entry → List ℕ → List ℕ
@@ -23,17 +23,17 @@ among_onto : (k : ℕ) (front : List Entry) (earlier : List ℕ) → is_among k 
 among_onto k [] earlier = refl
 among_onto k (e ∷ front) earlier = among_onto k front (e.node ∷ earlier) ∙ or_swap (is_among k (nodes_of front)) (eqb k e.node) (is_among k earlier)
 
-have_at : (far : ℕ → List ℕ) (front : List Entry) (es : List Entry) (earlier : List ℕ) (e : Entry) (later : List Entry) → HaveChildren far earlier es → es ≡ front ++ e ∷ later → children e.depth later ≡ expected far (onto front earlier) e.node
+have_at : (far : ℕ → List ℕ) (front : List Entry) (es : List Entry) (earlier : List ℕ) (e : Entry) (later : List Entry) → HaveChildren far earlier es → es ≡ front ++ e ∷ later → children e.depth later ≡ children_after far (onto front earlier) e.node
 have_at far [] [] earlier e later have is = absurd cc
 have_at far [] (x ∷ es) earlier e later have is =
     let same : x ≡ e = cc is in let rest : es ≡ later = cc is in
-    ap (λ (l : List Entry). children e.depth l) (sym rest) ∙ subst (λ (y : Entry). children y.depth es ≡ expected far earlier y.node) same have.0
+    ap (λ (l : List Entry). children e.depth l) (sym rest) ∙ subst (λ (y : Entry). children y.depth es ≡ children_after far earlier y.node) same have.0
 have_at far (y ∷ front) [] earlier e later have is = absurd cc
 have_at far (y ∷ front) (x ∷ es) earlier e later have is =
     let same : x ≡ y = cc is in let rest : es ≡ front ++ e ∷ later = cc is in
     have_at far front es (y.node ∷ earlier) e later (subst (λ (z : Entry). HaveChildren far (z.node ∷ earlier) es) same have.1) rest
 
-have_from : (far : ℕ → List ℕ) (es : List Entry) (earlier : List ℕ) → ((front later : List Entry) (e : Entry) → es ≡ front ++ e ∷ later → children e.depth later ≡ expected far (onto front earlier) e.node) → HaveChildren far earlier es
+have_from : (far : ℕ → List ℕ) (es : List Entry) (earlier : List ℕ) → ((front later : List Entry) (e : Entry) → es ≡ front ++ e ∷ later → children e.depth later ≡ children_after far (onto front earlier) e.node) → HaveChildren far earlier es
 have_from far [] earlier h = tt
 have_from far (e ∷ es) earlier h = (h [] es e refl, have_from far es (e.node ∷ earlier) (λ front later f is. h (e ∷ front) later f (ap (λ (l : List Entry). e ∷ l) is)))
 
@@ -52,7 +52,7 @@ steps_from x (y ∷ es) h =
     let one = h [] es x y refl in
     (one.0, one.1, steps_from y es (λ front later a b is. h (x ∷ front) later a b (ap (λ (l : List Entry). x ∷ l) is)))
 
-none_before : (far : ℕ → List ℕ) (front : List Entry) (n : ℕ) → expected far (onto front []) n ≡ cond (is_among n (nodes_of front)) [] (far n)
+none_before : (far : ℕ → List ℕ) (front : List Entry) (n : ℕ) → children_after far (onto front []) n ≡ cond (is_among n (nodes_of front)) [] (far n)
 none_before far front n = ap (λ (b : Bool). cond b [] (far n)) (among_onto n front [] ∙ or_none (is_among n (nodes_of front)))
 
 pub in_words : (far : ℕ → List ℕ) (start : ℕ) (es : List Entry) → DrawsFrom far start es → IsDrawing far start es

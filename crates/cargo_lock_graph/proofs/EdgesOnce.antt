@@ -4,7 +4,7 @@ use Rattle.std.specs.List.{AllZip}
 use Rattle.std.proofs.lemmas.Bool.{cases_Bool, ltb-true, ltb-false}
 use Rattle.cargo_lock_parts.specs.Identity.{Identity, PackageData, identity_of}
 use Rattle.cargo_lock_graph.specs.Edges.{Edge}
-use Rattle.cargo_lock_graph.specs.Targets.{EdgesAreOne, FitsAt, HasIdentity, HoldsOf, IsEdgeOf, IsLastBelow, IsTarget, Link, LostHaveNoEdges, links}
+use Rattle.cargo_lock_graph.specs.Targets.{EdgesAreOne, MatchesAt, HasIdentity, HoldsOf, IsEdgeOf, IsLastBelow, IsTarget, Link, LostHaveNoEdges, links}
 
 one-order : (a b : ℕ) → ¬ (a < b) → ¬ (b < a) → a ≡ b
 one-order a b p q = elim (cases_Bool (nat_lt a b)) [
@@ -23,8 +23,8 @@ target-one packages d j k a b =
     let low = a.least k b.rank b.fits in
     let high = b.least j a.rank a.fits in
     let same : a.rank ≡ b.rank = omega (arith, low, high) in
-    let back = a.last k (subst (λ r. FitsAt packages d k r) (sym same) b.fits) in
-    let forth = b.last j (subst (λ r. FitsAt packages d j r) same a.fits) in
+    let back = a.last k (subst (λ r. MatchesAt packages d k r) (sym same) b.fits) in
+    let forth = b.last j (subst (λ r. MatchesAt packages d j r) same a.fits) in
     omega (arith, back, forth)
 
 edge-one : (packages : List PackageData) (l : Link) (e f : Edge) → IsEdgeOf packages l e → IsEdgeOf packages l f → e ≡ f

@@ -6,7 +6,7 @@ use Rattle.cargo_lock_graph.specs.declared.drawing.entry.Entry.{Entry}
 use Rattle.cargo_lock_graph.specs.Drawing.{children}
 use Rattle.cargo_lock_graph.specs.DrawingSteps.{AreSteps, DrawsFrom}
 use Rattle.cargo_lock_graph.specs.DrawingPlaces.{child_places, no_entry}
-use Rattle.cargo_lock_graph.specs.DrawingText.{SymbolTexts, level_text, branch_text, depth_at, last_before, children_at, is_any_above, has_later_sibling, levels_at, prefix_at, lines_from, drawn}
+use Rattle.cargo_lock_graph.specs.DrawingText.{SymbolTexts, level_text, branch_text, depth_at, last_before, children_at, is_any_above, has_later_sibling, levels_at, prefix_at, lines_from, drawing_text}
 use Rattle.cargo_lock_graph.specs.DrawingByLater.{is_any, goes_on, levels_text, prefix_by_later, line_by_later, drawn_by_later}
 
 -- ---- depths
@@ -146,6 +146,6 @@ lines_same s label es c (suc count) k is =
     ∙ ap (λ (t : List ℕ). line_by_later s label e later ++ t) (lines_same s label es c count (suc k) (omega arith))
     ∙ sym (ap (drawn_by_later s label) split)
 
-pub drawn_same : (far : ℕ → List ℕ) (start : ℕ) (es : List Entry) (s : SymbolTexts) (label : ℕ → List ℕ) → DrawsFrom far start es → drawn s label es ≡ drawn_by_later s label es
-unfolding drawn
+pub drawn_same : (far : ℕ → List ℕ) (start : ℕ) (es : List Entry) (s : SymbolTexts) (label : ℕ → List ℕ) → DrawsFrom far start es → drawing_text s label es ≡ drawn_by_later s label es
+unfolding drawing_text
 drawn_same far start es s label d = lines_same s label es (climbs far start es d) (length es) 0 (omega arith)

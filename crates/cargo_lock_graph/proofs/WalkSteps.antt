@@ -9,31 +9,31 @@ use Rattle.cargo_lock_graph.specs.declared.graph.EdgeDirection.TheVariants.{Outg
 use Rattle.cargo_lock_graph.specs.declared.drawing.entry.Entry.{Entry}
 use Rattle.cargo_lock_graph.specs.Chains.{AreBetween}
 use Rattle.cargo_lock_graph.specs.Drawing.{AreBelow}
-use Rattle.cargo_lock_graph.specs.DrawingMade.{deeper, unmarked, rest_of, drawing}
+use Rattle.cargo_lock_graph.specs.DrawingMade.{entries_below, unmarked_count, rest_of, drawing}
 use Rattle.cargo_lock_graph.specs.Edges.{Edge, far_end, far_ends, far_ends_from, edges_at, edges_from, is_at}
-use Rattle.cargo_lock_graph.specs.WalkState.{waiting, coming, IsHeld}
-use Rattle.cargo_lock_graph.proofs.DrawingMade.{unmarked-set, rest-seen, rest-new, rest-end}
+use Rattle.cargo_lock_graph.specs.WalkState.{entries_waiting, entries_to_come, IsHeld}
+use Rattle.cargo_lock_graph.proofs.DrawingMade.{unmarked_count-set, rest-seen, rest-new, rest-end}
 
-waiting_push : (d : EdgeDirection) (edges : List Edge) (depth : ℕ) (fs : List (Option ℕ)) (f : Option ℕ) → waiting d edges depth (fs ++ f ∷ []) ≡ deeper (suc (depth + length fs)) (far_ends_from d edges f) ++ waiting d edges depth fs
-waiting_push d edges depth [] f = rw add-zero (sym (append-nil (deeper (suc depth) (far_ends_from d edges f))))
+waiting_push : (d : EdgeDirection) (edges : List Edge) (depth : ℕ) (fs : List (Option ℕ)) (f : Option ℕ) → entries_waiting d edges depth (fs ++ f ∷ []) ≡ entries_below (suc (depth + length fs)) (far_ends_from d edges f) ++ entries_waiting d edges depth fs
+waiting_push d edges depth [] f = rw add-zero (sym (append-nil (entries_below (suc depth) (far_ends_from d edges f))))
 waiting_push d edges depth (g ∷ fs) f =
     let n : suc depth + length fs ≡ depth + suc (length fs) = omega arith in
-    let own = deeper (suc depth) (far_ends_from d edges g) in
-    ap (λ (p : List Entry). p ++ own) (waiting_push d edges (suc depth) fs f) ∙ append_assoc (deeper (suc (suc depth + length fs)) (far_ends_from d edges f)) (waiting d edges (suc depth) fs) own
-    ∙ ap (λ (k : ℕ). deeper (suc k) (far_ends_from d edges f) ++ waiting d edges depth (g ∷ fs)) n
+    let own = entries_below (suc depth) (far_ends_from d edges g) in
+    ap (λ (p : List Entry). p ++ own) (waiting_push d edges (suc depth) fs f) ∙ append_assoc (entries_below (suc (suc depth + length fs)) (far_ends_from d edges f)) (entries_waiting d edges (suc depth) fs) own
+    ∙ ap (λ (k : ℕ). entries_below (suc k) (far_ends_from d edges f) ++ entries_waiting d edges depth (g ∷ fs)) n
 
 -- no frame is left
-pub coming_end : (d : EdgeDirection) (edges : List Edge) (marks : List Bool) → coming d edges marks [] ≡ []
-unfolding coming
+pub coming_end : (d : EdgeDirection) (edges : List Edge) (marks : List Bool) → entries_to_come d edges marks [] ≡ []
+unfolding entries_to_come
 coming_end d edges marks = rest-end (far_ends d edges) marks
 
 -- the last frame has no edge left
-pub coming_done : (d : EdgeDirection) (edges : List Edge) (marks : List Bool) (old fs : List (Option ℕ)) (f : Option ℕ) → old ≡ fs ++ f ∷ [] → f ≡ None → coming d edges marks old ≡ coming d edges marks fs
-unfolding coming
+pub coming_done : (d : EdgeDirection) (edges : List Edge) (marks : List Bool) (old fs : List (Option ℕ)) (f : Option ℕ) → old ≡ fs ++ f ∷ [] → f ≡ None → entries_to_come d edges marks old ≡ entries_to_come d edges marks fs
+unfolding entries_to_come
 coming_done d edges marks old fs f was none =
     let none_left : far_ends_from d edges f ≡ [] = ap (far_ends_from d edges) none in
-    ap (λ (gs : List (Option ℕ)). rest_of (far_ends d edges) marks (waiting d edges 0 gs)) was
-    ∙ ap (rest_of (far_ends d edges) marks) (waiting_push d edges 0 fs f ∙ ap (λ (ns : List ℕ). deeper (suc (0 + length fs)) ns ++ waiting d edges 0 fs) none_left)
+    ap (λ (gs : List (Option ℕ)). rest_of (far_ends d edges) marks (entries_waiting d edges 0 gs)) was
+    ∙ ap (rest_of (far_ends d edges) marks) (waiting_push d edges 0 fs f ∙ ap (λ (ns : List ℕ). entries_below (suc (0 + length fs)) ns ++ entries_waiting d edges 0 fs) none_left)
 
 -- the edge at a place, and the older ones
 pub ends_step : (d : EdgeDirection) (edges : List Edge) (i m : ℕ) (r : Option ℕ) (o : Option Edge) → IfSome o (λ e. edges_from d edges (Some i) ≡ e ∷ edges_from d edges r) → option_map (far_end d) o ≡ Some m → far_ends_from d edges (Some i) ≡ m ∷ far_ends_from d edges r
@@ -42,47 +42,47 @@ ends_step d edges i m r (Some e) older end = let same : far_end d e ≡ m = cc i
 
 -- the entry that the edge of the last frame leads to comes first
 pub followed : (d : EdgeDirection) (edges : List Edge) (marks : List Bool) (fs mid : List (Option ℕ)) (f f' : Option ℕ) (m depth : ℕ) → far_ends_from d edges f ≡ m ∷ far_ends_from d edges f' → mid ≡ fs ++ f' ∷ [] → depth ≡ suc (length fs)
-    → coming d edges marks (fs ++ f ∷ []) ≡ rest_of (far_ends d edges) marks (record { node = m; depth = depth } ∷ waiting d edges 0 mid)
-unfolding coming
+    → entries_to_come d edges marks (fs ++ f ∷ []) ≡ rest_of (far_ends d edges) marks (record { node = m; depth = depth } ∷ entries_waiting d edges 0 mid)
+unfolding entries_to_come
 followed d edges marks fs mid f f' m depth ends is deep =
     let n : suc (0 + length fs) ≡ depth = omega arith in
-    let first : waiting d edges 0 (fs ++ f ∷ []) ≡ record { node = m; depth = depth } ∷ waiting d edges 0 mid =
-    waiting_push d edges 0 fs f ∙ ap (λ (ns : List ℕ). deeper (suc (0 + length fs)) ns ++ waiting d edges 0 fs) ends
-    ∙ ap (λ (k : ℕ). record { node = m; depth = k } ∷ (deeper (suc (0 + length fs)) (far_ends_from d edges f') ++ waiting d edges 0 fs)) n
-    ∙ ap (λ (p : List Entry). record { node = m; depth = depth } ∷ p) (sym (waiting_push d edges 0 fs f') ∙ ap (waiting d edges 0) (sym is)) in
+    let first : entries_waiting d edges 0 (fs ++ f ∷ []) ≡ record { node = m; depth = depth } ∷ entries_waiting d edges 0 mid =
+    waiting_push d edges 0 fs f ∙ ap (λ (ns : List ℕ). entries_below (suc (0 + length fs)) ns ++ entries_waiting d edges 0 fs) ends
+    ∙ ap (λ (k : ℕ). record { node = m; depth = k } ∷ (entries_below (suc (0 + length fs)) (far_ends_from d edges f') ++ entries_waiting d edges 0 fs)) n
+    ∙ ap (λ (p : List Entry). record { node = m; depth = depth } ∷ p) (sym (waiting_push d edges 0 fs f') ∙ ap (entries_waiting d edges 0) (sym is)) in
     ap (rest_of (far_ends d edges) marks) first
 
 -- an entry of a node that was drawn before
 pub entered_again : (d : EdgeDirection) (edges : List Edge) (marks : List Bool) (fs : List (Option ℕ)) (m depth : ℕ) → get_or marks m true ≡ true
-    → rest_of (far_ends d edges) marks (record { node = m; depth = depth } ∷ waiting d edges 0 fs) ≡ record { node = m; depth = depth } ∷ coming d edges marks fs
-unfolding coming
-entered_again d edges marks fs m depth t = rest-seen (far_ends d edges) marks (record { node = m; depth = depth }) (waiting d edges 0 fs) t
+    → rest_of (far_ends d edges) marks (record { node = m; depth = depth } ∷ entries_waiting d edges 0 fs) ≡ record { node = m; depth = depth } ∷ entries_to_come d edges marks fs
+unfolding entries_to_come
+entered_again d edges marks fs m depth t = rest-seen (far_ends d edges) marks (record { node = m; depth = depth }) (entries_waiting d edges 0 fs) t
 
 -- the first entry of a node
 pub entered_new : (d : EdgeDirection) (edges : List Edge) (marks : List Bool) (fs new : List (Option ℕ)) (g : Option ℕ) (m depth : ℕ) → get_or marks m true ≡ false → depth ≡ length fs → far_ends_from d edges g ≡ far_ends d edges m → new ≡ fs ++ g ∷ []
-    → rest_of (far_ends d edges) marks (record { node = m; depth = depth } ∷ waiting d edges 0 fs) ≡ record { node = m; depth = depth } ∷ coming d edges (set marks m true) new
-unfolding coming
+    → rest_of (far_ends d edges) marks (record { node = m; depth = depth } ∷ entries_waiting d edges 0 fs) ≡ record { node = m; depth = depth } ∷ entries_to_come d edges (set marks m true) new
+unfolding entries_to_come
 entered_new d edges marks fs new g m depth t deep all is =
     let e : Entry = record { node = m; depth = depth } in
     let n : suc (0 + length fs) ≡ suc depth = omega arith in
-    let pushed : waiting d edges 0 new ≡ deeper (suc depth) (far_ends d edges m) ++ waiting d edges 0 fs =
-    ap (waiting d edges 0) is ∙ waiting_push d edges 0 fs g ∙ ap (λ (k : ℕ). deeper k (far_ends_from d edges g) ++ waiting d edges 0 fs) n ∙ ap (λ (ns : List ℕ). deeper (suc depth) ns ++ waiting d edges 0 fs) all in
-    rest-new (far_ends d edges) marks e (waiting d edges 0 fs) t
+    let pushed : entries_waiting d edges 0 new ≡ entries_below (suc depth) (far_ends d edges m) ++ entries_waiting d edges 0 fs =
+    ap (entries_waiting d edges 0) is ∙ waiting_push d edges 0 fs g ∙ ap (λ (k : ℕ). entries_below k (far_ends_from d edges g) ++ entries_waiting d edges 0 fs) n ∙ ap (λ (ns : List ℕ). entries_below (suc depth) ns ++ entries_waiting d edges 0 fs) all in
+    rest-new (far_ends d edges) marks e (entries_waiting d edges 0 fs) t
     ∙ ap (λ (q : List Entry). e ∷ rest_of (far_ends d edges) (set marks m true) q) (sym pushed)
 
 -- what a walk before its first entry has to draw
 pub drawing_starts : (d : EdgeDirection) (edges : List Edge) (nodes start : ℕ) (marks : List Bool) (fs : List (Option ℕ)) → marks ≡ replicate nodes false → fs ≡ []
-    → rest_of (far_ends d edges) marks (record { node = start; depth = 0 } ∷ waiting d edges 0 fs) ≡ drawing (far_ends d edges) nodes start
+    → rest_of (far_ends d edges) marks (record { node = start; depth = 0 } ∷ entries_waiting d edges 0 fs) ≡ drawing (far_ends d edges) nodes start
 drawing_starts d edges nodes start marks fs none empty =
     let e : Entry = record { node = start; depth = 0 } in
-    ap (λ (gs : List (Option ℕ)). rest_of (far_ends d edges) marks (e ∷ waiting d edges 0 gs)) empty
+    ap (λ (gs : List (Option ℕ)). rest_of (far_ends d edges) marks (e ∷ entries_waiting d edges 0 gs)) empty
     ∙ ap (λ (ms : List Bool). rest_of (far_ends d edges) ms (e ∷ [])) none
 
 -- ---- what is held
 
-unmarked-none : (n : ℕ) → unmarked (replicate n false) ≡ n
-unmarked-none zero = refl
-unmarked-none (suc n) = omega (arith, unmarked-none n)
+unmarked_count-none : (n : ℕ) → unmarked_count (replicate n false) ≡ n
+unmarked_count-none zero = refl
+unmarked_count-none (suc n) = omega (arith, unmarked_count-none n)
 
 abbrev Known : ℕ → Option ℕ → Type 0
 Known edges f = IfSome f (λ edge. edge < edges)
@@ -91,7 +91,7 @@ pub held_start : (nodes edges capacity : ℕ) (marks : List Bool) (fs : List (Op
 held_start nodes edges capacity marks fs none empty le = record {
   long = ap length none ∙ length-replicate nodes false;
   known = subst (All (Known edges)) (sym empty) (λ k d out. absurd (omega arith));
-  room = omega (arith, ap length empty, ap unmarked none, unmarked-none nodes);
+  room = omega (arith, ap length empty, ap unmarked_count none, unmarked_count-none nodes);
   reserved = le;
   at_most = omega (arith, ap length empty);
   bound = omega arith;
@@ -121,14 +121,14 @@ pub held_new : (nodes edges : ℕ) (marks : List Bool) (fs new : List (Option �
 held_new nodes edges marks fs new g m capacity capacity' most most' is le h t known held bound = record {
   long = length-set marks m true ∙ h.long;
   known = subst (All (Known edges)) (sym is) (All-push (Known edges) fs g h.known known);
-  room = omega (arith, h.room, ap length is, length_push fs g, unmarked-set marks m t);
+  room = omega (arith, h.room, ap length is, length_push fs g, unmarked_count-set marks m t);
   reserved = omega (arith, h.reserved);
   at_most = held;
   bound = bound;
 }
 
 pub room_new : (nodes edges : ℕ) (marks : List Bool) (fs : List (Option ℕ)) (m capacity most : ℕ) → IsHeld nodes edges marks fs capacity most → get_or marks m true ≡ false → suc (length fs) ≤ nodes
-room_new nodes edges marks fs m capacity most h t = omega (arith, h.room, unmarked-set marks m t)
+room_new nodes edges marks fs m capacity most h t = omega (arith, h.room, unmarked_count-set marks m t)
 
 pub read_mark : (marks : List Bool) (m : ℕ) (x b : Bool) → m < length marks → x ≡ get_or marks m x → x ≡ b → get_or marks m true ≡ b
 read_mark marks m x b lt h t = sym (get_or_read marks m x lt h true) ∙ t

@@ -5,7 +5,7 @@ use Rattle.std.specs.BTreeMap.{BTreeMap, get}
 use Rattle.cargo_lock_parts.specs.Identity.{HasNameAndVersion, Identity, PackageData, identity_of}
 use Rattle.cargo_lock_parts.specs.PartialIdentity.{PartialIdentity, name_and_version, partial_identity_cmp}
 use Rattle.cargo_lock_graph.specs.declared.targets.Best.{Best}
-use Rattle.cargo_lock_graph.specs.Targets.{FitsAt, HasIdentity, HoldsOf, IsLastBelow}
+use Rattle.cargo_lock_graph.specs.Targets.{MatchesAt, HasIdentity, HoldsOf, IsLastBelow}
 
 -- the key of an identity: a package without a source has a key without one
 abbrev pub identity_as_key : Identity → PartialIdentity
@@ -31,10 +31,10 @@ pub record AreVersions (packages : List PackageData) (bound : ℕ) (last : BTree
 
 -- the best of the places from a bound on: none of them has a lesser rank, and no later one the same
 abbrev pub BestFrom : List PackageData → Identity → ℕ → Option Best → Type 0
-BestFrom packages d bound None = (k rank : ℕ) → bound ≤ k → ¬ FitsAt packages d k rank
+BestFrom packages d bound None = (k rank : ℕ) → bound ≤ k → ¬ MatchesAt packages d k rank
 BestFrom packages d bound (Some best) = (bound ≤ best.place)
-    × FitsAt packages d best.place best.rank
-    × ((k rank : ℕ) → bound ≤ k → FitsAt packages d k rank → (best.rank ≤ rank)
+    × MatchesAt packages d best.place best.rank
+    × ((k rank : ℕ) → bound ≤ k → MatchesAt packages d k rank → (best.rank ≤ rank)
     × (best.place < k → best.rank < rank))
 
 -- the better of the best so far and an earlier place
@@ -43,7 +43,7 @@ better_one best rank place = cond (nat_lt rank best.rank)
     (Some record { rank = rank; place = place }) (Some best)
 
 -- the best so far or the candidate with this rank, if it has one, where that is less
-abbrev pub better : Option Best → Option ℕ → ℕ → Option Best
-better best None place = best
-better None (Some rank) place = Some record { rank = rank; place = place }
-better (Some best) (Some rank) place = better_one best rank place
+abbrev pub better_candidate : Option Best → Option ℕ → ℕ → Option Best
+better_candidate best None place = best
+better_candidate None (Some rank) place = Some record { rank = rank; place = place }
+better_candidate (Some best) (Some rank) place = better_one best rank place

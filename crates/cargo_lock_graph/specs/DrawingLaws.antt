@@ -9,7 +9,7 @@ use Rattle.cargo_lock_graph.specs.Drawing.{IsDrawing, IsFirst, Occurs, AreBelow,
 use Rattle.cargo_lock_graph.specs.DrawingSteps.{DrawsFrom}
 use Rattle.cargo_lock_graph.specs.DrawingPlaces.{EdgesMatchEntries}
 use Rattle.cargo_lock_graph.specs.Paths.{IsReachable}
-use Rattle.cargo_lock_graph.specs.DrawingText.{SymbolTexts, standard_symbols, drawn}
+use Rattle.cargo_lock_graph.specs.DrawingText.{SymbolTexts, standard_symbols, drawing_text}
 use Rattle.cargo_lock_graph.specs.DrawingByLater.{drawn_by_later}
 use Rattle.cargo_lock_graph.specs.DrawingLines.{AreApart, AreLines, HasNoNewline, TellAll, cut, ended_lines}
 use Rattle.cargo_lock_graph.specs.Labels.{label_at}
@@ -66,14 +66,14 @@ EdgesMatch = (far : ℕ → List ℕ) (start : ℕ) (es : List Entry) → IsDraw
 -- the text as it is defined is the text that looks at later entries
 abbrev pub TextByLater : Type 0
 TextByLater = (far : ℕ → List ℕ) (start : ℕ) (es : List Entry) (s : SymbolTexts)
-    (label : ℕ → List ℕ) → IsDrawing far start es → drawn s label es ≡ drawn_by_later s label es
+    (label : ℕ → List ℕ) → IsDrawing far start es → drawing_text s label es ≡ drawn_by_later s label es
 
 -- Where no label holds a newline, the text is one line an entry: the first is the first entry's
 -- label, and each later one tells its entry's depth and label.
 abbrev pub TextTellsDrawing : Type 0
 TextTellsDrawing = (far : ℕ → List ℕ) (start : ℕ) (label : ℕ → List ℕ) (es : List Entry)
     → IsDrawing far start es → AreLines label es
-    → TellAll label es (cut [] (drawn standard_symbols label es))
+    → TellAll label es (cut [] (drawing_text standard_symbols label es))
 
 -- Where no label holds a newline and different nodes have different labels, drawings with one text
 -- are one.
@@ -82,12 +82,12 @@ TextIsOfOneDrawing = (far gar : ℕ → List ℕ) (start other : ℕ) (label : �
     (es fs : List Entry)
     → IsDrawing far start es → IsDrawing gar other fs → AreLines label es → AreLines label fs
     → AreApart label es fs
-    → drawn standard_symbols label es ≡ drawn standard_symbols label fs → es ≡ fs
+    → drawing_text standard_symbols label es ≡ drawing_text standard_symbols label fs → es ≡ fs
 
 -- The text is its lines, each ended by a newline, and nothing stands after the last.
 abbrev pub TextIsEndedLines : Type 0
 TextIsEndedLines = (s : SymbolTexts) (label : ℕ → List ℕ) (es : List Entry)
-    → drawn s label es ≡ ended_lines (cut [] (drawn s label es))
+    → drawing_text s label es ≡ ended_lines (cut [] (drawing_text s label es))
 
 -- Where the packages of the entries hold no newline in name, version and exact text, no label does.
 abbrev pub EntriesAreLines : Type 0

@@ -4,14 +4,14 @@ use Rattle.cargo_lock_graph.specs.declared.drawing.entry.Entry.{Entry}
 use Rattle.cargo_lock_graph.specs.Drawing.{is_among}
 
 -- entries of these nodes at this depth
-abbrev pub deeper : ℕ → List ℕ → List Entry
-deeper depth [] = []
-deeper depth (n ∷ ns) = record { node = n; depth = depth } ∷ deeper depth ns
+abbrev pub entries_below : ℕ → List ℕ → List Entry
+entries_below depth [] = []
+entries_below depth (n ∷ ns) = record { node = n; depth = depth } ∷ entries_below depth ns
 
 -- how many marks are not set
-abbrev pub unmarked : List Bool → ℕ
-unmarked [] = 0
-unmarked (b ∷ bs) = cond b 0 1 + unmarked bs
+abbrev pub unmarked_count : List Bool → ℕ
+unmarked_count [] = 0
+unmarked_count (b ∷ bs) = cond b 0 1 + unmarked_count bs
 
 -- draws what is to come up to a node without a mark, and goes on from there
 abbrev pub draw_seen : (ℕ → List ℕ) → (List Bool → List Entry → List Entry) → List Bool → List Entry
@@ -19,7 +19,7 @@ abbrev pub draw_seen : (ℕ → List ℕ) → (List Bool → List Entry → List
 draw_seen far on marks [] = []
 draw_seen far on marks (e ∷ p) =
     e ∷ cond (get_or marks e.node true) (draw_seen far on marks p)
-    (on (set marks e.node true) (deeper (suc e.depth) (far e.node) ++ p))
+    (on (set marks e.node true) (entries_below (suc e.depth) (far e.node) ++ p))
 
 -- what is drawn where these nodes have marks, p is to come, and at most `fuel` nodes have no mark
 abbrev pub draw : (ℕ → List ℕ) → ℕ → List Bool → List Entry → List Entry
@@ -28,7 +28,7 @@ draw far (suc fuel) = draw_seen far (draw far fuel)
 
 -- what is drawn where these nodes have marks and p is to come
 unfoldable pub rest_of : (ℕ → List ℕ) → List Bool → List Entry → List Entry
-rest_of far marks p = draw far (unmarked marks) marks p
+rest_of far marks p = draw far (unmarked_count marks) marks p
 
 -- the drawing from a start
 abbrev pub drawing : (ℕ → List ℕ) → ℕ → ℕ → List Entry

@@ -2,7 +2,7 @@
 use Rattle.std.specs.Prelude.{◌≡◌, ℕ, suc, ◌+◌, ◌<◌, cond, eqb, leb, List, [], ◌∷◌, ◌++◌, length, get_or}
 use Rattle.cargo_lock_graph.specs.declared.drawing.entry.Entry.{Entry}
 use Rattle.cargo_lock_graph.specs.Drawing.{IsFirst}
-use Rattle.cargo_lock_graph.specs.DrawingSteps.{expected}
+use Rattle.cargo_lock_graph.specs.DrawingSteps.{children_after}
 use Rattle.cargo_lock_graph.specs.Paths.{IsReachable}
 
 -- the places of the children of an entry of this depth, where the later entries begin at this place
@@ -27,7 +27,7 @@ occurrences j (n ∷ ns) = cond (eqb n j) 1 0 + occurrences j ns
 abbrev pub children_count : (ℕ → List ℕ) → List ℕ → List Entry → ℕ
 children_count far earlier [] = 0
 children_count far earlier (e ∷ es) =
-    length (expected far earlier e.node) + children_count far (e.node ∷ earlier) es
+    length (children_after far earlier e.node) + children_count far (e.node ∷ earlier) es
 
 -- an entry where there is none
 abbrev pub no_entry : Entry

@@ -10,14 +10,14 @@ AreSteps before [] = Unit {0}
 AreSteps before (e ∷ later) = (0 < e.depth) × (e.depth ≤ suc before) × AreSteps e.depth later
 
 -- what the children of an entry of this node are, after entries of these nodes
-abbrev pub expected : (ℕ → List ℕ) → List ℕ → ℕ → List ℕ
-expected far earlier node = cond (is_among node earlier) [] (far node)
+abbrev pub children_after : (ℕ → List ℕ) → List ℕ → ℕ → List ℕ
+children_after far earlier node = cond (is_among node earlier) [] (far node)
 
 -- each entry has the children that are expected
 abbrev pub HaveChildren : (ℕ → List ℕ) → List ℕ → List Entry → Type 0
 HaveChildren far earlier [] = Unit {0}
 HaveChildren far earlier (e ∷ later) =
-    (children e.depth later ≡ expected far earlier e.node)
+    (children e.depth later ≡ children_after far earlier e.node)
     × HaveChildren far (e.node ∷ earlier) later
 
 -- the entries are the drawing from a start

@@ -79,5 +79,5 @@ lines_from s label es k zero = []
 lines_from s label es k (suc count) = line_at s label es k ++ lines_from s label es (suc k) count
 
 -- the text of a drawing, where `label` gives the label of a node
-unfoldable pub drawn : SymbolTexts → (ℕ → List ℕ) → List Entry → List ℕ
-drawn s label es = lines_from s label es 0 (length es)
+unfoldable pub drawing_text : SymbolTexts → (ℕ → List ℕ) → List Entry → List ℕ
+drawing_text s label es = lines_from s label es 0 (length es)

@@ -6,7 +6,8 @@ use Rattle.cargo_lock_parts.specs.Identity.{PackageData}
 use Rattle.cargo_lock_parts.specs.Source.{Source}
 use Rattle.cargo_lock_parts.specs.SourceText.{text_of}
 
--- what tells a package exactly: its checksum, or else the plain text of its source, or else `inexact`
+-- what tells a package exactly: its checksum, or else the plain text of its source, or else
+-- `inexact`
 abbrev pub exact_text : Option (List ℕ) → Option Source → List ℕ
 exact_text (Some digest) source = codes "checksum:" ++ digest_text digest
 exact_text None (Some source) = text_of false source

@@ -42,25 +42,25 @@ rank_between (Some a) None = None
 rank_between (Some a) (Some b) = rank_of a b
 
 -- the package has the dependency's name and version, and a source that matches with this rank
-pub record Fits (d : Identity) (rank : ℕ) (p : PackageData) : Type 0 where
+pub record Matches (d : Identity) (rank : ℕ) (p : PackageData) : Type 0 where
   pub named : HasNameAndVersion d p
   pub ranked : rank_between d.source p.source ≡ Some rank
 
 -- the package at the place does
-abbrev pub FitsAt : List PackageData → Identity → ℕ → ℕ → Type 0
-FitsAt packages d place rank = HoldsOf (Fits d rank) packages place
+abbrev pub MatchesAt : List PackageData → Identity → ℕ → ℕ → Type 0
+MatchesAt packages d place rank = HoldsOf (Matches d rank) packages place
 
 -- the place of the package that a dependency stands for: none that fits has a lesser rank, and no
 -- later one has the same
 pub record IsTarget (packages : List PackageData) (d : Identity) (place : ℕ) : Type 0 where
   pub rank : ℕ
-  pub fits : FitsAt packages d place rank
-  pub least : (k other : ℕ) → FitsAt packages d k other → rank ≤ other
-  pub last : (k : ℕ) → FitsAt packages d k rank → k ≤ place
+  pub fits : MatchesAt packages d place rank
+  pub least : (k other : ℕ) → MatchesAt packages d k other → rank ≤ other
+  pub last : (k : ℕ) → MatchesAt packages d k rank → k ≤ place
 
 -- no package fits the dependency
 abbrev pub IsLost : List PackageData → Identity → Type 0
-IsLost packages d = (place rank : ℕ) → ¬ FitsAt packages d place rank
+IsLost packages d = (place rank : ℕ) → ¬ MatchesAt packages d place rank
 
 -- ---- edges
 
@@ -115,18 +115,18 @@ lost_text d = codes "failed to find dependency: " ++ dependency_text d
 -- memory ran out, or no package fits the dependency, and the text names it
 abbrev pub IsLostFault : List PackageData → Identity → Error → Type 0
 IsLostFault packages d (Io kind) = ⊥
-IsLostFault packages d (Parse said) = ⊥
+IsLostFault packages d (Parse message) = ⊥
 IsLostFault packages d (Version fault) = ⊥
-IsLostFault packages d (Resolution said) = IsLost packages d × (string_bytes said ≡ lost_text d)
+IsLostFault packages d (Resolution message) = IsLost packages d × (string_bytes message ≡ lost_text d)
 IsLostFault packages d Memory = Unit {0}
 
 -- memory ran out, or no package fits some dependency among these, and the text names the first such
 abbrev pub IsUnresolved : List PackageData → List Link → Error → Type 0
 IsUnresolved packages among (Io kind) = ⊥
-IsUnresolved packages among (Parse said) = ⊥
+IsUnresolved packages among (Parse message) = ⊥
 IsUnresolved packages among (Version fault) = ⊥
-IsUnresolved packages among (Resolution said) = (d : Identity) × IsFirstLost packages among d
-    × (string_bytes said ≡ lost_text d)
+IsUnresolved packages among (Resolution message) = (d : Identity) × IsFirstLost packages among d
+    × (string_bytes message ≡ lost_text d)
 IsUnresolved packages among Memory = Unit {0}
 
 -- ---- the laws of edges

@@ -3,25 +3,27 @@ use Rattle.std.specs.Prelude.{◌≡◌, ℕ, suc, ◌+◌, ◌≤◌, ◌<◌, 
 use Rattle.cargo_lock_graph.specs.declared.graph.EdgeDirection.{EdgeDirection}
 use Rattle.cargo_lock_graph.specs.declared.drawing.entry.Entry.{Entry}
 use Rattle.cargo_lock_graph.specs.declared.drawing.walk.Walk.{Walk}
-use Rattle.cargo_lock_graph.specs.DrawingMade.{AreMarked, deeper, unmarked, rest_of}
+use Rattle.cargo_lock_graph.specs.DrawingMade.{AreMarked, entries_below, unmarked_count, rest_of}
 use Rattle.cargo_lock_graph.specs.DrawingLevels.{levels_with}
 use Rattle.cargo_lock_graph.specs.Edges.{Edge, GraphData, far_ends, far_ends_from}
 
 -- What the frames hold, where the first of them stands at this depth: a frame is the place of the
 -- next edge to draw, and stands for it and the older ones at its node.
-abbrev pub waiting : EdgeDirection → List Edge → ℕ → List (Option ℕ) → List Entry
-waiting direction edges depth [] = []
-waiting direction edges depth (f ∷ fs) =
-    waiting direction edges (suc depth) fs ++ deeper (suc depth) (far_ends_from direction edges f)
+abbrev pub entries_waiting : EdgeDirection → List Edge → ℕ → List (Option ℕ) → List Entry
+entries_waiting direction edges depth [] = []
+entries_waiting direction edges depth (f ∷ fs) =
+    entries_waiting direction edges (suc depth) fs
+    ++ entries_below (suc depth) (far_ends_from direction edges f)
 
 -- what is still to be drawn, where these nodes have marks
-unfoldable pub coming : EdgeDirection → List Edge → List Bool → List (Option ℕ) → List Entry
-coming direction edges marks frames = rest_of (far_ends direction edges) marks
-    (waiting direction edges 0 frames)
+unfoldable pub entries_to_come : EdgeDirection → List Edge → List Bool → List (Option ℕ)
+    → List Entry
+entries_to_come direction edges marks frames = rest_of (far_ends direction edges) marks
+    (entries_waiting direction edges 0 frames)
 
 -- what a walk has still to draw
 abbrev pub to_come : GraphData → Walk → List Entry
-to_come graph walk = coming walk.direction graph.edges walk.visited.items walk.stack.items
+to_come graph walk = entries_to_come walk.direction graph.edges walk.visited.items walk.stack.items
 
 -- Marks of so many nodes, frames that name edges, and room for a frame of each node that has no
 -- mark. There were never more frames than `most`.
@@ -29,7 +31,7 @@ pub record IsHeld (nodes edges : ℕ) (marks : List Bool) (frames : List (Option
     (capacity most : ℕ) : Type 0 where
   pub long : length marks ≡ nodes
   pub known : All (λ f. IfSome f (λ edge. edge < edges)) frames
-  pub room : length frames + unmarked marks ≤ nodes
+  pub room : length frames + unmarked_count marks ≤ nodes
   pub reserved : nodes ≤ capacity
   pub at_most : length frames ≤ most
   pub bound : most ≤ nodes

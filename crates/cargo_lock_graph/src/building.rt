@@ -24,20 +24,20 @@ fn nodes_of(alloc: Global, packages: &Vec<Package>) -> Result<Nodes>
     ensures err { IsOkUnless result Memory }
 {
     let mut nodes = BTreeMap::new(alloc);
-    for (place, one) in packages.iter().enumerate() {
-        put_node(&mut nodes, one, NodeIndex::new(place))?;
+    for (place, package) in packages.iter().enumerate() {
+        put_node(&mut nodes, package, NodeIndex::new(place))?;
     }
     Ok(nodes)
 }
 
 // Sets the node at the identity of a package.
-fn put_node(nodes: &mut Nodes, one: &Package, node: NodeIndex) -> Result<()>
+fn put_node(nodes: &mut Nodes, package: &Package, node: NodeIndex) -> Result<()>
     ensures ok { OnOk result ((q : Identity) → get identity_cmp nodes.new q
-        ≡ cond (is_at (identity_cmp (identity_of one.now)) q) (Some node)
+        ≡ cond (is_at (identity_cmp (identity_of «package».now)) q) (Some node)
         (get identity_cmp nodes.old q)) }
     ensures err { IsOkUnless result Memory }
 {
-    let identity = Dependency::of(one)?;
+    let identity = Dependency::of(package)?;
     nodes.insert(identity, node)?;
     Ok(())
 }
@@ -79,9 +79,9 @@ fn edges_of(alloc: Global, packages: &[Package]) -> Result<Vec<StoredEdge>>
 {
     let candidates = Candidates::of(alloc, packages)?;
     let mut edges = Vec::new(alloc);
-    for (place, one) in packages.iter().enumerate() {
+    for (place, package) in packages.iter().enumerate() {
         let source = candidates.node_of(place);
-        put_edges(alloc, &mut edges, &candidates, source, one)?;
+        put_edges(alloc, &mut edges, &candidates, source, package)?;
     }
     Ok(edges)
 }
@@ -92,15 +92,15 @@ fn put_edges<'a>(
     edges: &mut Vec<StoredEdge>,
     candidates: &Candidates<'a>,
     source: NodeIndex,
-    one: &'a Package,
+    package: &'a Package,
 ) -> Result<()>
-    requires { IsLastWith candidates.now (identity_of one.now) (Some source) }
+    requires { IsLastWith candidates.now (identity_of «package».now) (Some source) }
     ensures { MatchResult result
         (λ _. (added : List Edge) × (edges.new.items ≡ edges.old.items ++ added)
-        × AllZip (IsEdgeOf candidates.now) (links_of one.now) added)
-        (λ e. IsUnresolved candidates.now (links_of one.now) e) }
+        × AllZip (IsEdgeOf candidates.now) (links_of «package».now) added)
+        (λ e. IsUnresolved candidates.now (links_of «package».now) e) }
 {
-    for dependency in &one.dependencies {
+    for dependency in &package.dependencies {
         let edge = edge_of(alloc, candidates, source, dependency)?;
         edges.push(edge)?;
     }
@@ -140,12 +140,12 @@ fn target_of<'a>(
 {
     match candidates.find(dependency) {
         Some(place) => Ok(NodeIndex::new(place)),
-        None => Err(lost(alloc, candidates, dependency)),
+        None => Err(resolution_fault(alloc, candidates, dependency)),
     }
 }
 
 // The fault of a dependency that no package fits.
-fn lost(alloc: Global, candidates: &Candidates<'_>, dependency: &Dependency) -> Error
+fn resolution_fault(alloc: Global, candidates: &Candidates<'_>, dependency: &Dependency) -> Error
     requires { IsLost candidates.now dependency.now }
     ensures { IsLostFault candidates.now dependency.now result }
 {

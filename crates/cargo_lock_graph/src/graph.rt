@@ -113,8 +113,8 @@ impl StoredEdge {
 // The chains of the edges at each node, in one direction.
 #[derive(Debug, Drop)]
 struct Chains {
-    newest: Vec<Option<usize>>,
-    older: Vec<Option<usize>>,
+    newest_edge: Vec<Option<usize>>,
+    older_edge: Vec<Option<usize>>,
 }
 
 /// A graph of packages.
@@ -138,21 +138,23 @@ impl Model for Graph {
 
     ghost invariant = { λ g. AreBetween (length g.packages.items) g.edges.items
         × AreChains Outgoing
-        (length g.packages.items) g.edges.items g.leaving.newest.items g.leaving.older.items
+        (length g.packages.items) g.edges.items
+        g.leaving.newest_edge.items g.leaving.older_edge.items
         × AreChains Incoming
-        (length g.packages.items) g.edges.items g.entering.newest.items g.entering.older.items };
+        (length g.packages.items) g.edges.items
+        g.entering.newest_edge.items g.entering.older_edge.items };
 }
 
 impl Clone for Chains {
     ghost use Rattle.std.specs.Prelude.{◌≡◌};
 
-    ghost is_clone = { λ one copy. (copy.newest.items ≡ one.newest.items)
-        × (copy.older.items ≡ one.older.items) };
+    ghost is_clone = { λ one copy. (copy.newest_edge.items ≡ one.newest_edge.items)
+        × (copy.older_edge.items ≡ one.older_edge.items) };
 
     fn clone(&self) -> Result<Chains, AllocError> {
         Ok(Chains {
-            newest: self.newest.clone()?,
-            older: self.older.clone()?,
+            newest_edge: self.newest_edge.clone()?,
+            older_edge: self.older_edge.clone()?,
         })
     }
 }
@@ -167,34 +169,38 @@ impl Chains {
     ) -> Result<Chains, AllocError>
         requires { AreBetween count edges.now.items }
         ensures { IfOk result (λ chains.
-            AreChains direction count edges.now.items chains.newest.items chains.older.items) }
+            AreChains direction count edges.now.items
+            chains.newest_edge.items chains.older_edge.items) }
     {
-        let mut newest = vec![in alloc; None; count]?;
-        let mut older = Vec::with_capacity(alloc, edges.len())?;
+        let mut newest_edge = vec![in alloc; None; count]?;
+        let mut older_edge = Vec::with_capacity(alloc, edges.len())?;
         for edge in edges {
             let node = edge.near_end(direction).0;
-            let place = older.len();
-            older.push(newest[node])?;
-            newest[node] = Some(place);
+            let place = older_edge.len();
+            older_edge.push(newest_edge[node])?;
+            newest_edge[node] = Some(place);
         }
-        Ok(Chains { newest, older })
+        Ok(Chains {
+            newest_edge,
+            older_edge,
+        })
     }
 
     // The place of the newest edge at a node, if there is one.
-    fn newest(&self, node: NodeIndex) -> Option<usize>
-        ensures { result ≡ unwrap_or (slice_get self.now.newest.items node) None }
+    fn newest_edge(&self, node: NodeIndex) -> Option<usize>
+        ensures { result ≡ unwrap_or (slice_get self.now.newest_edge.items node) None }
     {
-        match self.newest.get(node.0) {
+        match self.newest_edge.get(node.0) {
             Some(place) => *place,
             None => None,
         }
     }
 
     // The place of the next older edge at the same node, if there is one.
-    fn older(&self, edge: usize) -> Option<usize>
-        ensures { result ≡ unwrap_or (slice_get self.now.older.items edge) None }
+    fn older_edge(&self, edge: usize) -> Option<usize>
+        ensures { result ≡ unwrap_or (slice_get self.now.older_edge.items edge) None }
     {
-        match self.older.get(edge) {
+        match self.older_edge.get(edge) {
             Some(place) => *place,
             None => None,
         }
@@ -270,7 +276,7 @@ impl Graph {
         DirectedEdges {
             graph: self,
             direction,
-            next: self.newest(index, direction),
+            next: self.newest_edge(index, direction),
         }
     }
 
@@ -289,14 +295,14 @@ impl Graph {
 
     // The place of the newest edge at a node. There is none where no edge is at the node, and none
     // at a number that is no node.
-    pub(crate) fn newest(&self, node: NodeIndex, direction: EdgeDirection) -> Option<usize>
+    pub(crate) fn newest_edge(&self, node: NodeIndex, direction: EdgeDirection) -> Option<usize>
         ensures edges { edges_from direction self.now.edges result
             ≡ edges_at direction self.now.edges node }
         ensures within { IfSome result (λ place. place < length self.now.edges) }
     {
         match direction {
-            EdgeDirection::Outgoing => self.leaving.newest(node),
-            EdgeDirection::Incoming => self.entering.newest(node),
+            EdgeDirection::Outgoing => self.leaving.newest_edge(node),
+            EdgeDirection::Incoming => self.entering.newest_edge(node),
         }
     }
 
@@ -309,7 +315,7 @@ impl Graph {
         ensures fits { IfSome result (λ node. node + 1 < 2 ^ 64) }
     {
         for node in from..self.node_count() {
-            if self.newest(NodeIndex(node), direction).is_none() {
+            if self.newest_edge(NodeIndex(node), direction).is_none() {
                 return Some(node);
             }
         }
@@ -317,7 +323,7 @@ impl Graph {
     }
 
     // The place of the next older edge at the node of an edge.
-    pub(crate) fn older(&self, edge: usize, direction: EdgeDirection) -> Option<usize>
+    pub(crate) fn older_edge(&self, edge: usize, direction: EdgeDirection) -> Option<usize>
         requires { edge < length self.now.edges }
         ensures edges { IfSome (slice_get self.now.edges edge) (λ e.
             edges_from direction self.now.edges (Some edge) ≡ e
@@ -325,8 +331,8 @@ impl Graph {
         ensures earlier { IfSome result (λ place. place < edge) }
     {
         match direction {
-            EdgeDirection::Outgoing => self.leaving.older(edge),
-            EdgeDirection::Incoming => self.entering.older(edge),
+            EdgeDirection::Outgoing => self.leaving.older_edge(edge),
+            EdgeDirection::Incoming => self.entering.older_edge(edge),
         }
     }
 
@@ -492,7 +498,7 @@ impl<'g> Iterator for DirectedEdges<'g> {
     fn next(&mut self) -> Option<EdgeRef<'g>> {
         let graph = self.graph;
         let place = self.next?;
-        self.next = graph.older(place, self.direction);
+        self.next = graph.older_edge(place, self.direction);
         Some(graph.edge(place))
     }
 }

@@ -104,8 +104,8 @@ impl<'a> Candidates<'a> {
             (λ p. IsLastWith self.now (identity_of p) (Some result)) }
     {
         let packages = self.packages;
-        let one = &packages[place];
-        NodeIndex::new(self.last[&identity(&one.name, &one.version, &one.source)])
+        let package = &packages[place];
+        NodeIndex::new(self.last[&identity(&package.name, &package.version, &package.source)])
     }
 }
 
@@ -117,8 +117,8 @@ impl<'a> Versions<'a> {
     {
         let mut last = BTreeMap::new(alloc);
         let mut earlier = Vec::with_capacity(alloc, packages.len())?;
-        for (place, one) in packages.iter().enumerate() {
-            let key = PartialIdentity::name_and_version(&one.name, &one.version);
+        for (place, package) in packages.iter().enumerate() {
+            let key = PartialIdentity::name_and_version(&package.name, &package.version);
             let before = last.get(&key).copied();
             earlier.push(before)?;
             put(&mut last, key, place)?;
@@ -137,9 +137,9 @@ impl<'a> Versions<'a> {
         let mut best = None;
         let mut next = self.last(dependency);
         while let Some(place) = next {
-            let one = &packages[place];
-            let rank = rank_between(&dependency.source, &one.source);
-            best = better(best, rank, place);
+            let package = &packages[place];
+            let rank = rank_between(&dependency.source, &package.source);
+            best = better_candidate(best, rank, place);
             next = self.earlier[place];
         }
         place_of(best)
@@ -160,8 +160,8 @@ fn last_places<'a>(alloc: Global, packages: &'a [Package]) -> Result<Places<'a>,
     ensures { IfOk result (λ places. AreLastPlaces packages.now (length packages.now) places) }
 {
     let mut places = BTreeMap::new(alloc);
-    for (place, one) in packages.iter().enumerate() {
-        let key = identity(&one.name, &one.version, &one.source);
+    for (place, package) in packages.iter().enumerate() {
+        let key = identity(&package.name, &package.version, &package.source);
         put(&mut places, key, place)?;
     }
     Ok(places)
@@ -205,8 +205,8 @@ fn place_of(best: Option<Best>) -> Option<usize>
 }
 
 // The better of the best so far and an earlier package.
-fn better(best: Option<Best>, rank: Option<u8>, place: usize) -> Option<Best>
-    ensures { result ≡ spec.better best rank place }
+fn better_candidate(best: Option<Best>, rank: Option<u8>, place: usize) -> Option<Best>
+    ensures { result ≡ spec.better_candidate best rank place }
 {
     match (best, rank) {
         (best, None) => best,

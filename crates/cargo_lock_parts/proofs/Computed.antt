@@ -5,7 +5,7 @@ use Rattle.std.specs.Str.Lossy.{utf8_lossy, utf8_valid_len}
 use Rattle.url.proofs.OnLiterals.{url_on_literals}
 use Rattle.percent_encoding.specs.Percent.{percent_encode_byte}
 use Rattle.cargo_lock_parts.specs.Source.{Path}
-use Rattle.cargo_lock_parts.specs.SourceReading.{source_of, reference_in}
+use Rattle.cargo_lock_parts.specs.SourceReading.{source_of, git_reference_in}
 use Rattle.cargo_lock_parts.specs.SourceText.{text_of}
 use Rattle.cargo_lock_parts.specs.SourceShown.{default_registry, is_default_registry, index_text, registry_name_text}
 use Rattle.cargo_lock_parts.specs.FileUrl.{file_url_text, source_at}
@@ -33,7 +33,7 @@ in_registry = codes "registry+https://e.org/x"
 pub ranks : (rank at_commit at_commit ≡ Some 1) × (rank at_commit at_revision ≡ Some 2)
     × (rank on_branch at_other_commit ≡ Some 3) × (rank at_commit on_branch ≡ Some 4)
     × (rank at_commit at_other_commit ≡ None) × (rank on_branch in_registry ≡ None)
-unfolding url_on_literals percent_encode_byte utf8_lossy utf8_valid_len source_of reference_in
+unfolding url_on_literals percent_encode_byte utf8_lossy utf8_valid_len source_of git_reference_in
 ranks = (refl, refl, refl, refl, refl, refl)
 
 pub paths : (file_url_text (codes "/a b/./c/") ≡ Some (codes "file:///a%20b/c"))
@@ -54,5 +54,5 @@ pub registries : (option_map is_default_registry default_registry ≡ Some true)
     × (option_map index_text default_registry ≡ Some (codes "crates.io index"))
     × (option_map index_text (source_of in_registry) ≡ Some (codes "`https://e.org/x` index"))
     × (option_map registry_name_text (source_of in_registry) ≡ Some (codes "https://e.org/x"))
-unfolding url_on_literals percent_encode_byte source_of reference_in default_registry
+unfolding url_on_literals percent_encode_byte source_of git_reference_in default_registry
 registries = (refl, refl, refl, refl, refl, refl)

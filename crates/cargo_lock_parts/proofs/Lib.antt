@@ -4,5 +4,5 @@ pub mod DefaultRegistry
 pub mod EqualityLemmas
 pub mod FileUrlLemmas
 pub mod FileUrlRead
-pub mod LastReference
+pub mod LastGitReference
 pub mod RankLemmas

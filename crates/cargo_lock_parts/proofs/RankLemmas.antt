@@ -11,7 +11,7 @@ use Rattle.std.proofs.lemmas.Bool.{and_parts}
 use Rattle.std.proofs.lemmas.Bool.Decides.{nat_tests}
 use Rattle.url.specs.Parts.{serialize}
 use Rattle.cargo_lock_parts.specs.Source.{Kind, Source, Git, Path, Registry, SparseRegistry, LocalRegistry, Directory, is_git}
-use Rattle.cargo_lock_parts.specs.SourceKey.{place, reference_text, precise_if_git, key_of, is_same_source}
+use Rattle.cargo_lock_parts.specs.SourceKey.{kind_number, git_reference_text, precise_if_git, key_of, is_same_source}
 use Rattle.cargo_lock_parts.specs.SourceLaws.{source_total, is_same_source-Decides}
 use Rattle.cargo_lock_parts.specs.Rank.{revision, commit_of, are_equal_texts, are_different_texts, same_url_and_name, both_git, same_kind, has_rank_1, has_rank_2, has_rank_3, has_rank_4, is_open_git, is_same_other_kind, least_rank, RankIsSymmetric, RankOneIsEqualKeys, NoRankIsNoMatch, RanksImplyLast}
 
@@ -59,7 +59,7 @@ both_git-symm a b = and_comm (is_git a.kind) (is_git b.kind)
 
 same_kind-symm : (j k : Kind) → same_kind j k ≡ same_kind k j
 same_kind-symm j k =
-    λ i. nat_eq-symm (place j) (place k) i && bytes_eq-symm (reference_text j) (reference_text k) i
+    λ i. nat_eq-symm (kind_number j) (kind_number k) i && bytes_eq-symm (git_reference_text j) (git_reference_text k) i
 
 other_kind-symm : (x y z : Bool) → (not x && not y && z) ≡ (not y && not x && z)
 other_kind-symm true true z = refl

@@ -8,17 +8,17 @@ use Rattle.cargo_lock_parts.specs.declared.error.Error.TheVariants.{Io, Parse, V
 -- the fault is `Parse` with this text
 abbrev pub IsParse : Error → List ℕ → Type 0
 IsParse (Io kind) text = ⊥
-IsParse (Parse said) text = string_bytes said ≡ text
+IsParse (Parse message) text = string_bytes message ≡ text
 IsParse (Version fault) text = ⊥
-IsParse (Resolution said) text = ⊥
+IsParse (Resolution message) text = ⊥
 IsParse Memory text = ⊥
 
 -- the fault is `Parse` or running out of memory
 abbrev pub IsParseOrMemory : Error → Type 0
 IsParseOrMemory (Io kind) = ⊥
-IsParseOrMemory (Parse said) = Unit {0}
+IsParseOrMemory (Parse message) = Unit {0}
 IsParseOrMemory (Version fault) = ⊥
-IsParseOrMemory (Resolution said) = ⊥
+IsParseOrMemory (Resolution message) = ⊥
 IsParseOrMemory Memory = Unit {0}
 
 -- the fault of `semver` as a fault of this crate: out of memory stays out of memory
@@ -49,9 +49,9 @@ IsTooLong e = IsParse e too_long
 -- comes.
 abbrev pub Refuses : Error → Type 0 → Type 0
 Refuses (Io kind) P = ⊥
-Refuses (Parse said) P = P
+Refuses (Parse message) P = P
 Refuses (Version fault) P = ⊥
-Refuses (Resolution said) P = ⊥
+Refuses (Resolution message) P = ⊥
 Refuses Memory P = Unit {0}
 
 -- `Ok` with the meaning alone, and `Parse` only where there is none
@@ -62,9 +62,9 @@ Reads view (Err e) meaning = Refuses e (meaning ≡ None)
 -- A refusal of a reader of URLs, one of which may also have 4 GB or more.
 abbrev pub RefusesUrls : Error → Type 0 → Type 0
 RefusesUrls (Io kind) P = ⊥
-RefusesUrls (Parse said) P = P ⊎ (string_bytes said ≡ too_long)
+RefusesUrls (Parse message) P = P ⊎ (string_bytes message ≡ too_long)
 RefusesUrls (Version fault) P = ⊥
-RefusesUrls (Resolution said) P = ⊥
+RefusesUrls (Resolution message) P = ⊥
 RefusesUrls Memory P = Unit {0}
 
 -- `Ok` with the meaning alone, and `Parse` only where there is none or a URL has 4 GB or more

@@ -7,7 +7,7 @@ use Rattle.std.specs.Prelude.{◌≡◌, ◌↔◌, ℕ, Bool, true, false, not,
 use Rattle.std.specs.Option.{option_eq, option_or}
 use Rattle.url.specs.Parts.{serialize}
 use Rattle.cargo_lock_parts.specs.Source.{Kind, Source, DefaultBranch, Tag, Branch, Rev, Git, Path, Registry, SparseRegistry, LocalRegistry, Directory, is_git}
-use Rattle.cargo_lock_parts.specs.SourceKey.{place, reference_text, key_of, is_same_source}
+use Rattle.cargo_lock_parts.specs.SourceKey.{kind_number, git_reference_text, key_of, is_same_source}
 
 -- ---- what the conditions look at
 
@@ -50,7 +50,8 @@ both_git a b = is_git a.kind && is_git b.kind
 
 -- the same kind, which for a repository means the same sort of reference with the same value
 abbrev pub same_kind : Kind → Kind → Bool
-same_kind j k = (place j == place k) && bytes_eq (reference_text j) (reference_text k)
+same_kind j k = (kind_number j == kind_number k)
+    && bytes_eq (git_reference_text j) (git_reference_text k)
 
 -- ---- the conditions
 

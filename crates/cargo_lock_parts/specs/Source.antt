@@ -1,21 +1,21 @@
 -- What contracts see of a source: where a package of a lockfile comes from.
 use Rattle.std.specs.Prelude.{ℕ, Bool, List, Option, Some, None, string_bytes, true, false}
 use Rattle.url.specs.Parts.{Parts}
-use Rattle.cargo_lock_parts.specs.declared.package.source.reference.GitReference.{GitReference}
+use Rattle.cargo_lock_parts.specs.declared.package.source.reference.GitReference as declared_reference
 use Rattle.cargo_lock_parts.specs.declared.package.source.reference.GitReference.TheVariants as reference
 use Rattle.cargo_lock_parts.specs.declared.package.source.SourceKind.{SourceKind}
 use Rattle.cargo_lock_parts.specs.declared.package.source.SourceKind.TheVariants as kind
 
 -- what is checked out of a repository
-pub data Reference : Type 0 where
-  DefaultBranch : Reference
-  Tag : List ℕ → Reference
-  Branch : List ℕ → Reference
-  Rev : List ℕ → Reference
+pub data GitReference : Type 0 where
+  DefaultBranch : GitReference
+  Tag : List ℕ → GitReference
+  Branch : List ℕ → GitReference
+  Rev : List ℕ → GitReference
 
 -- the kind of a source
 pub data Kind : Type 0 where
-  Git : Reference → Kind
+  Git : GitReference → Kind
   Path : Kind
   Registry : Kind
   SparseRegistry : Kind
@@ -35,20 +35,20 @@ pub record MarkedSource : Type 0 where
   pub escaped : Bool
 
 -- a reference that is to be written, escaped or plain
-pub record MarkedReference : Type 0 where
-  pub reference : Reference
+pub record MarkedGitReference : Type 0 where
+  pub reference : GitReference
   pub escaped : Bool
 
 -- the reference without the room that its text keeps
-abbrev pub reference_of : GitReference → Reference
-reference_of reference.DefaultBranch = DefaultBranch
-reference_of (reference.Tag text) = Tag (string_bytes text)
-reference_of (reference.Branch text) = Branch (string_bytes text)
-reference_of (reference.Rev text) = Rev (string_bytes text)
+abbrev pub git_reference_of : declared_reference.GitReference → GitReference
+git_reference_of reference.DefaultBranch = DefaultBranch
+git_reference_of (reference.Tag text) = Tag (string_bytes text)
+git_reference_of (reference.Branch text) = Branch (string_bytes text)
+git_reference_of (reference.Rev text) = Rev (string_bytes text)
 
 -- the kind without the room that its texts keep
 abbrev pub kind_of : SourceKind → Kind
-kind_of (kind.Git reference) = Git (reference_of reference)
+kind_of (kind.Git reference) = Git (git_reference_of reference)
 kind_of kind.Path = Path
 kind_of kind.Registry = Registry
 kind_of kind.SparseRegistry = SparseRegistry
@@ -92,7 +92,7 @@ is_remote_registry LocalRegistry = false
 is_remote_registry Directory = false
 
 -- what is checked out, if the source is a repository
-abbrev pub git_reference : Kind → Option Reference
+abbrev pub git_reference : Kind → Option GitReference
 git_reference (Git reference) = Some reference
 git_reference Path = None
 git_reference Registry = None

@@ -2,7 +2,8 @@
 --
 -- The precise text of a git source pins a commit, and so tells two git sources apart. That of any
 -- other source does not count. A registry that was read from a text has the word `locked`, which
--- only says that it stood in a lockfile, one that a call made has none, and a call may set any text.
+-- only says that it stood in a lockfile, one that a call made has none, and a call may set any
+-- text.
 use Rattle.std.specs.Prelude.{ℕ, Bool, List, [], ◌++◌, Option, None, unwrap_or}
 use Rattle.std.specs.Option.{option_cmp}
 use Rattle.std.specs.declared.cmp.Ordering.{Ordering}
@@ -14,28 +15,28 @@ use Rattle.url.specs.Parts.{serialize}
 use Rattle.cargo_lock_parts.specs.Source.{Kind, Source, DefaultBranch, Tag, Branch, Rev, Git, Path, Registry, SparseRegistry, LocalRegistry, Directory}
 
 -- where a kind with its reference stands in the order
-abbrev pub place : Kind → ℕ
-place (Git DefaultBranch) = 0
-place (Git (Tag text)) = 1
-place (Git (Branch text)) = 2
-place (Git (Rev text)) = 3
-place Path = 4
-place Registry = 5
-place SparseRegistry = 6
-place LocalRegistry = 7
-place Directory = 8
+abbrev pub kind_number : Kind → ℕ
+kind_number (Git DefaultBranch) = 0
+kind_number (Git (Tag text)) = 1
+kind_number (Git (Branch text)) = 2
+kind_number (Git (Rev text)) = 3
+kind_number Path = 4
+kind_number Registry = 5
+kind_number SparseRegistry = 6
+kind_number LocalRegistry = 7
+kind_number Directory = 8
 
 -- the text of the reference, which is empty where there is none
-abbrev pub reference_text : Kind → List ℕ
-reference_text (Git DefaultBranch) = []
-reference_text (Git (Tag text)) = text
-reference_text (Git (Branch text)) = text
-reference_text (Git (Rev text)) = text
-reference_text Path = []
-reference_text Registry = []
-reference_text SparseRegistry = []
-reference_text LocalRegistry = []
-reference_text Directory = []
+abbrev pub git_reference_text : Kind → List ℕ
+git_reference_text (Git DefaultBranch) = []
+git_reference_text (Git (Tag text)) = text
+git_reference_text (Git (Branch text)) = text
+git_reference_text (Git (Rev text)) = text
+git_reference_text Path = []
+git_reference_text Registry = []
+git_reference_text SparseRegistry = []
+git_reference_text LocalRegistry = []
+git_reference_text Directory = []
 
 -- the precise text of a git source
 abbrev pub precise_if_git : Kind → Option (List ℕ) → Option (List ℕ)
@@ -72,8 +73,8 @@ key_cmp =
     then_cmp (then_cmp (then_cmp (then_cmp
     (on (λ k. k.url) text_cmp)
     (on (λ k. k.name) (option_cmp text_cmp)))
-    (on (λ k. place k.kind) nat_cmp))
-    (on (λ k. reference_text k.kind) text_cmp))
+    (on (λ k. kind_number k.kind) nat_cmp))
+    (on (λ k. git_reference_text k.kind) text_cmp))
     (on (λ k. k.precise) (option_cmp text_cmp))
 
 -- sources compare by their keys
@@ -86,5 +87,5 @@ is_same_source = eq_by_cmp source_cmp
 
 -- what a hasher is fed of a source
 abbrev pub key_hash : Key → HashWrites
-key_hash k = fed.str k.url ++ fed.str (unwrap_or k.name []) ++ fed.u8 (place k.kind)
-    ++ fed.str (reference_text k.kind) ++ fed.str (unwrap_or k.precise [])
+key_hash k = fed.str k.url ++ fed.str (unwrap_or k.name []) ++ fed.u8 (kind_number k.kind)
+    ++ fed.str (git_reference_text k.kind) ++ fed.str (unwrap_or k.precise [])

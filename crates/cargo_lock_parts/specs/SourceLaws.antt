@@ -10,7 +10,7 @@ use Rattle.std.specs.Cmp.Lexicographic.{nat_list_cmp_total, options_total, texts
 use Rattle.std.proofs.Common.{sym, ◌∙◌, ap, subst, true≢false}
 use Rattle.std.proofs.lemmas.Cmp.{tied_itself}
 use Rattle.cargo_lock_parts.specs.Source.{Kind, Source, DefaultBranch, Tag, Branch, Rev, Git, Path, Registry, SparseRegistry, LocalRegistry, Directory}
-use Rattle.cargo_lock_parts.specs.SourceKey.{Key, place, reference_text, text_cmp, key_cmp, key_of, key_hash, source_cmp, is_same_source}
+use Rattle.cargo_lock_parts.specs.SourceKey.{Key, kind_number, git_reference_text, text_cmp, key_cmp, key_of, key_hash, source_cmp, is_same_source}
 
 -- the order of keys is total
 pub key_total : IsTotalOrder key_cmp
@@ -18,8 +18,8 @@ key_total =
     then_total (then_total (then_total (then_total
     (on_total (λ (k : Key). k.url) nat_list_cmp_total)
     (on_total (λ (k : Key). k.name) (options_total nat_list_cmp_total)))
-    (on_total (λ (k : Key). place k.kind) nat_cmp_total))
-    (on_total (λ (k : Key). reference_text k.kind) nat_list_cmp_total))
+    (on_total (λ (k : Key). kind_number k.kind) nat_cmp_total))
+    (on_total (λ (k : Key). git_reference_text k.kind) nat_list_cmp_total))
     (on_total (λ (k : Key). k.precise) (options_total nat_list_cmp_total))
 
 -- the order of sources is total
@@ -60,20 +60,20 @@ kind_at n text =
     else (if n == 7 then LocalRegistry
     else Directory)))))))
 
-kind_at-place : (k : Kind) → kind_at (place k) (reference_text k) ≡ k
+kind_at-kind_number : (k : Kind) → kind_at (kind_number k) (git_reference_text k) ≡ k
 unfolding kind_at
-kind_at-place (Git DefaultBranch) = refl
-kind_at-place (Git (Tag text)) = refl
-kind_at-place (Git (Branch text)) = refl
-kind_at-place (Git (Rev text)) = refl
-kind_at-place Path = refl
-kind_at-place Registry = refl
-kind_at-place SparseRegistry = refl
-kind_at-place LocalRegistry = refl
-kind_at-place Directory = refl
+kind_at-kind_number (Git DefaultBranch) = refl
+kind_at-kind_number (Git (Tag text)) = refl
+kind_at-kind_number (Git (Branch text)) = refl
+kind_at-kind_number (Git (Rev text)) = refl
+kind_at-kind_number Path = refl
+kind_at-kind_number Registry = refl
+kind_at-kind_number SparseRegistry = refl
+kind_at-kind_number LocalRegistry = refl
+kind_at-kind_number Directory = refl
 
-kind_same : (j k : Kind) → place j ≡ place k → reference_text j ≡ reference_text k → j ≡ k
-kind_same j k p t = sym (kind_at-place j) ∙ (λ i. kind_at (p i) (t i)) ∙ kind_at-place k
+kind_same : (j k : Kind) → kind_number j ≡ kind_number k → git_reference_text j ≡ git_reference_text k → j ≡ k
+kind_same j k p t = sym (kind_at-kind_number j) ∙ (λ i. kind_at (p i) (t i)) ∙ kind_at-kind_number k
 
 -- keys that tie are one
 pub key_same : (j k : Key) → eq_by_cmp key_cmp j k ≡ true → j ≡ k

@@ -7,9 +7,9 @@ use Rattle.form_urlencoded.specs.Form.{raw_pairs, decode}
 use Rattle.url.specs.Parts.{Parts}
 use Rattle.url.specs.Parser.{parse_url}
 use Rattle.url.specs.Head.{without_tail}
-use Rattle.cargo_lock_parts.specs.declared.package.source.reading.Protocol.{Protocol}
-use Rattle.cargo_lock_parts.specs.declared.package.source.reading.Protocol.TheVariants as protocol
-use Rattle.cargo_lock_parts.specs.Source.{Kind, Reference, Source, DefaultBranch, Tag, Branch, Rev, Git, Path, Registry, SparseRegistry}
+use Rattle.cargo_lock_parts.specs.declared.package.source.parse.Protocol.{Protocol}
+use Rattle.cargo_lock_parts.specs.declared.package.source.parse.Protocol.TheVariants as protocol
+use Rattle.cargo_lock_parts.specs.Source.{Kind, GitReference, Source, DefaultBranch, Tag, Branch, Rev, Git, Path, Registry, SparseRegistry}
 
 -- ---- the reference of a git source, which its query holds as a form
 
@@ -22,8 +22,8 @@ abbrev pub form_pairs : List ℕ → List (List ℕ × List ℕ)
 form_pairs query = map pair_as_text (raw_pairs query)
 
 -- the reference that a pair names by its key: `branch` and `ref` a branch, `rev`, `tag`
-abbrev pub reference_named : List ℕ × List ℕ → Option Reference
-reference_named pair =
+abbrev pub git_reference_named : List ℕ × List ℕ → Option GitReference
+git_reference_named pair =
     if bytes_eq pair.0 (codes "branch") then Some (Branch pair.1)
     else (if bytes_eq pair.0 (codes "ref") then Some (Branch pair.1)
     else (if bytes_eq pair.0 (codes "rev") then Some (Rev pair.1)
@@ -32,8 +32,9 @@ reference_named pair =
 
 -- the reference of the last pair that names one, the pair after which none does, or the default
 -- branch
-unfoldable pub reference_in : List (List ℕ × List ℕ) → Reference
-reference_in pairs = unwrap_or (last_or None (filter_map reference_named pairs)) DefaultBranch
+unfoldable pub git_reference_in : List (List ℕ × List ℕ) → GitReference
+git_reference_in pairs = unwrap_or
+    (last_or None (filter_map git_reference_named pairs)) DefaultBranch
 
 -- ---- the source
 
@@ -41,7 +42,7 @@ reference_in pairs = unwrap_or (last_or None (filter_map reference_named pairs))
 abbrev pub git_source : Parts → Source
 git_source url = record {
   url = without_tail url;
-  kind = Git (reference_in (form_pairs (unwrap_or url.query [])));
+  kind = Git (git_reference_in (form_pairs (unwrap_or url.query [])));
   precise = url.fragment;
   name = None;
 }

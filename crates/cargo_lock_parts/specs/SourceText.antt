@@ -3,21 +3,21 @@
 use Rattle.std.specs.Prelude.{ℕ, Bool, List, [], ◌++◌, codes, Option, Some, None, if◌then◌else◌}
 use Rattle.form_urlencoded.specs.Form.{byte_serialize}
 use Rattle.url.specs.Parts.{serialize}
-use Rattle.cargo_lock_parts.specs.Source.{Kind, Reference, Source, MarkedSource, MarkedReference, DefaultBranch, Tag, Branch, Rev, Git, Path, Registry, SparseRegistry, LocalRegistry, Directory}
+use Rattle.cargo_lock_parts.specs.Source.{Kind, GitReference, Source, MarkedSource, MarkedGitReference, DefaultBranch, Tag, Branch, Rev, Git, Path, Registry, SparseRegistry, LocalRegistry, Directory}
 
 -- a reference's value, as it is or escaped as in a form
 abbrev pub value_text : Bool → List ℕ → List ℕ
 value_text escaped value = if escaped then byte_serialize value else value
 
 -- the reference as a pair
-abbrev pub pair_text : Bool → Reference → List ℕ
+abbrev pub pair_text : Bool → GitReference → List ℕ
 pair_text escaped DefaultBranch = []
 pair_text escaped (Tag value) = codes "tag=" ++ value_text escaped value
 pair_text escaped (Branch value) = codes "branch=" ++ value_text escaped value
 pair_text escaped (Rev value) = codes "rev=" ++ value_text escaped value
 
 -- the query of a git source
-abbrev pub query_text : Bool → Reference → List ℕ
+abbrev pub query_text : Bool → GitReference → List ℕ
 query_text escaped DefaultBranch = []
 query_text escaped (Tag value) = codes "?" ++ pair_text escaped (Tag value)
 query_text escaped (Branch value) = codes "?" ++ pair_text escaped (Branch value)
@@ -47,5 +47,5 @@ abbrev pub marked_text : MarkedSource → List ℕ
 marked_text m = text_of m.escaped m.source
 
 -- the text of a reference as it is marked
-abbrev pub marked_pair_text : MarkedReference → List ℕ
+abbrev pub marked_pair_text : MarkedGitReference → List ℕ
 marked_pair_text m = pair_text m.escaped m.reference

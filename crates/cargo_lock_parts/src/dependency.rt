@@ -41,22 +41,22 @@ impl Dependency {
     ghost use Rattle.cargo_lock_parts.specs.Identity.{HasNameAndVersion, identity_of};
 
     /// The dependency on a package: its name, version and source.
-    pub fn of(one: &Package) -> Result<Dependency>
-        ensures ok { IfOk result (λ d. d ≡ identity_of one.now) }
+    pub fn of(package: &Package) -> Result<Dependency>
+        ensures ok { IfOk result (λ d. d ≡ identity_of «package».now) }
         ensures err { IsOkUnless result Memory }
     {
         Ok(Dependency {
-            name: one.name.clone()?,
-            version: one.version.clone()?,
-            source: one.source.clone()?,
+            name: package.name.clone()?,
+            version: package.version.clone()?,
+            source: package.source.clone()?,
         })
     }
 
     /// Whether the package has this name and this version. Its source is not compared.
-    pub fn matches(&self, one: &Package) -> bool
-        ensures { IsTrue result ↔ HasNameAndVersion self.now one.now }
+    pub fn matches(&self, package: &Package) -> bool
+        ensures { IsTrue result ↔ HasNameAndVersion self.now «package».now }
     {
-        self.name == one.name && self.version == one.version
+        self.name == package.name && self.version == package.version
     }
 }
 

@@ -41,14 +41,14 @@ pub fn sources_are_equal_by_keys()
     ensures { EqualSources }
 {}
 
-/// Two dependencies are equal exactly where their names, their versions and the keys of their sources
-/// are.
+/// Two dependencies are equal exactly where their names, their versions and the keys of their
+/// sources are.
 pub fn dependencies_are_equal_by_keys()
     ensures { EqualDependencies }
 {}
 
-/// Two packages are equal exactly where their names, versions, keys of sources and checksums are, and
-/// the keys of their dependencies, in order, and of their replacements.
+/// Two packages are equal exactly where their names, versions, keys of sources and checksums are,
+/// and the keys of their dependencies, in order, and of their replacements.
 pub fn packages_are_equal_by_keys()
     ensures { EqualPackages }
 {}

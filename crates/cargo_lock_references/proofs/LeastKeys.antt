@@ -46,8 +46,8 @@ is_equal Greater e = cc e
 pub same-key : (j k : List ℕ) → eq_by_cmp order j k ≡ true → j ≡ k
 same-key j k e = texts_tie j k (is_equal (order j k) e)
 
-pub itself-equal : (k : List ℕ) → eq_by_cmp order k k ≡ true
-itself-equal k = ap is_eq (tied_itself nat_list_cmp_total k)
+pub own_words-equal : (k : List ℕ) → eq_by_cmp order k k ≡ true
+own_words-equal k = ap is_eq (tied_itself nat_list_cmp_total k)
 
 one-value : (x y : List ℕ) → Some x ≡ Some y → x ≡ y
 one-value x y e = ap (λ o. unwrap_or o y) e
@@ -55,7 +55,7 @@ one-value x y e = ap (λ o. unwrap_or o y) e
 -- ---- the keys of a list
 
 has-first : (e : List ℕ × List ℕ) (es : Pairs) → is_some (stored.find order e.0 (e ∷ es)) ≡ true
-has-first e es = ap (λ b. is_some (cond b (Some e.1) (stored.find order e.0 es))) (itself-equal e.0)
+has-first e es = ap (λ b. is_some (cond b (Some e.1) (stored.find order e.0 es))) (own_words-equal e.0)
 
 has-later : (b : Bool) (v : List ℕ) (o : Option (List ℕ)) → is_some o ≡ true → is_some (cond b (Some v) o) ≡ true
 has-later true v o h = refl

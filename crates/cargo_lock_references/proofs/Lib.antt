@@ -1,11 +1,11 @@
 pub mod ChecksumKeys
-pub mod ChosenLemmas
+pub mod WrittenReferenceLemmas
 pub mod DenseWords
 pub mod LeastKeys
 pub mod Occurrences
 pub mod ReadBackLemmas
 pub mod ReadKeys
-pub mod SaysLemmas
+pub mod ResolvesToLemmas
 pub mod Texts
 pub mod Walk
 pub mod WordLemmas

@@ -13,11 +13,11 @@ use Rattle.cargo_lock_parts.specs.Identity.{Identity}
 use Rattle.cargo_lock_parts.specs.PartialIdentity.{PartialIdentity, PartialKey, is_same_partial_identity, is_same_partial_identity-Decides, name_alone, name_and_version, partial_identity_cmp, partial_key}
 use Rattle.cargo_lock_references.specs.declared.index.Occurrence.{Occurrence}
 use Rattle.cargo_lock_references.specs.declared.index.Occurrence.TheVariants.{Only, First}
-use Rattle.cargo_lock_references.specs.Chosen.{bears_both, bears_name, one}
-use Rattle.cargo_lock_references.specs.Form.{Form}
+use Rattle.cargo_lock_references.specs.WrittenReference.{has_name_and_version, has_name, exactly_one}
+use Rattle.cargo_lock_references.specs.Reference.{Reference}
 use Rattle.cargo_lock_references.specs.Index.{AreOccurrences, first_item, first_place, is_of, is_only, occurrence, occurrence_at, occurrence_from, with_one_more}
-use Rattle.cargo_lock_references.specs.Said.{fits, has_version, same_parts, same_text}
-use Rattle.cargo_lock_references.proofs.SaysLemmas.{same_parts-refl, same_parts-yes, same_text-refl, same_text-yes}
+use Rattle.cargo_lock_references.specs.ResolutionSearch.{fits, has_version, same_parts, same_text}
+use Rattle.cargo_lock_references.proofs.ResolvesToLemmas.{same_parts-refl, same_parts-yes, same_text-refl, same_text-yes}
 
 -- ---- one more item at the end
 
@@ -162,10 +162,10 @@ first_or : (c : Bool) (i : ℕ) → first_place (if c then First i else Only i) 
 first_or true i = refl
 first_or false i = refl
 
-one-find : {X : Type 0} (b c : Bool) (i : ℕ) (x : X) (all : List X) (o : Option Occurrence) (f : Option X) → slice_get all i ≡ Some x → f ≡ first_item all o
+exactly_one-find : {X : Type 0} (b c : Bool) (i : ℕ) (x : X) (all : List X) (o : Option Occurrence) (f : Option X) → slice_get all i ≡ Some x → f ≡ first_item all o
     → cond b (Some x) f ≡ first_item all (if b then Some (if c then First i else Only i) else o)
-one-find true c i x all o f at e = sym at ∙ ap (slice_get all) (sym (first_or c i))
-one-find false c i x all o f at e = e
+exactly_one-find true c i x all o f at e = sym at ∙ ap (slice_get all) (sym (first_or c i))
+exactly_one-find false c i x all o f at e = e
 
 find-from : {X : Type 0} (p : X → Bool) (ys xs : List X) → find p xs ≡ first_item (ys ++ xs) (occurrence_from p (length ys) xs)
 find-from p ys [] = refl
@@ -175,21 +175,21 @@ find-from {X} p ys (x ∷ xs) =
     find-from p (ys ++ x ∷ []) xs
     ∙ ap (λ (k : ℕ). first_item ((ys ++ x ∷ []) ++ xs) (occurrence_from p k xs)) n
     ∙ ap (λ (zs : List X). first_item zs (occurrence_from p (length ys + 1) xs)) (append_assoc ys (x ∷ []) xs) in
-    one-find (p x) (list_any p xs) (length ys) x (ys ++ x ∷ xs) _ (find p xs) (at_length ys x xs) rest
+    exactly_one-find (p x) (list_any p xs) (length ys) x (ys ++ x ∷ xs) _ (find p xs) (at_length ys x xs) rest
 
 pub find-first : {X : Type 0} (p : X → Bool) (xs : List X) → find p xs ≡ first_item xs (occurrence p xs)
 find-first p xs = find-from p [] xs
 
 -- ---- whether there is one alone
 
-one-zero : (n : ℕ) → (1 + n == 0) ≡ false
-one-zero n = grind (arith, nat_tests)
+exactly_one-zero : (n : ℕ) → (1 + n == 0) ≡ false
+exactly_one-zero n = grind (arith, nat_tests)
 
-one-one : (n : ℕ) → (1 + n == 1) ≡ (n == 0)
-one-one n = grind (arith, nat_tests)
+exactly_one-exactly_one : (n : ℕ) → (1 + n == 1) ≡ (n == 0)
+exactly_one-exactly_one n = grind (arith, nat_tests)
 
 none-more : (b c : Bool) (n : ℕ) → (n == 0) ≡ not c → (cond b 1 0 + n == 0) ≡ not (b || c)
-none-more true c n e = one-zero n
+none-more true c n e = exactly_one-zero n
 none-more false c n e = (let z : 0 + n ≡ n = omega arith in ap (λ m. m == 0) z) ∙ e
 
 -- none passes exactly where none is counted
@@ -203,15 +203,15 @@ is_only-or : (c : Bool) (i : ℕ) → is_only (Some (if c then First i else Only
 is_only-or true i = refl
 is_only-or false i = refl
 
-one-more : (b c : Bool) (i n : ℕ) (o : Option Occurrence) → (n == 0) ≡ not c → is_only o ≡ (n == 1)
+exactly_one-more : (b c : Bool) (i n : ℕ) (o : Option Occurrence) → (n == 0) ≡ not c → is_only o ≡ (n == 1)
     → is_only (if b then Some (if c then First i else Only i) else o) ≡ (cond b 1 0 + n == 1)
-one-more true c i n o none e = is_only-or c i ∙ sym none ∙ sym (one-one n)
-one-more false c i n o none e = e ∙ (let z : n ≡ 0 + n = omega arith in ap (λ m. m == 1) z)
+exactly_one-more true c i n o none e = is_only-or c i ∙ sym none ∙ sym (exactly_one-exactly_one n)
+exactly_one-more false c i n o none e = e ∙ (let z : n ≡ 0 + n = omega arith in ap (λ m. m == 1) z)
 
 only-from : {X Y : Type 0} (f : X → Y) (p : Y → Bool) (i : ℕ) (xs : List X) → is_only (occurrence_from (λ x. p (f x)) i xs) ≡ (count_by p (map f xs) == 1)
 only-from f p i [] = refl
 only-from f p i (x ∷ xs) =
-    one-more (p (f x)) (list_any (λ y. p (f y)) xs) i (count_by p (map f xs)) _ (none-counted f p xs) (only-from f p (i + 1) xs)
+    exactly_one-more (p (f x)) (list_any (λ y. p (f y)) xs) i (count_by p (map f xs)) _ (none-counted f p xs) (only-from f p (i + 1) xs)
     ∙ ap (λ n. n == 1) (sym (sum_by-cons (λ y. cond (p y) 1 0) (f x) (map f xs)))
 
 and-true : (b : Bool) → (b && true) ≡ b
@@ -219,16 +219,16 @@ and-true true = refl
 and-true false = refl
 
 pub only-name : {X : Type 0} (identity : X → Identity) (name : List ℕ) (xs : List X) (o : Option Occurrence) (b : Bool)
-    → o ≡ occurrence (λ x. is_of name None (identity x)) xs → b ≡ is_only o → b ≡ one (bears_name name) (map identity xs)
+    → o ≡ occurrence (λ x. is_of name None (identity x)) xs → b ≡ is_only o → b ≡ exactly_one (has_name name) (map identity xs)
 only-name {X} identity name xs o b is only =
-    let e : (λ (x : X). is_of name None (identity x)) ≡ (λ (x : X). bears_name name (identity x)) = λ i x. and-true (same_text (identity x).name name) i in
-    only ∙ ap is_only is ∙ ap (λ (p : X → Bool). is_only (occurrence p xs)) e ∙ only-from identity (bears_name name) 0 xs
+    let e : (λ (x : X). is_of name None (identity x)) ≡ (λ (x : X). has_name name (identity x)) = λ i x. and-true (same_text (identity x).name name) i in
+    only ∙ ap is_only is ∙ ap (λ (p : X → Bool). is_only (occurrence p xs)) e ∙ only-from identity (has_name name) 0 xs
 
 pub only-version : {X : Type 0} (identity : X → Identity) (name : List ℕ) (version : Parts) (xs : List X) (o : Option Occurrence) (b : Bool)
-    → o ≡ occurrence (λ x. is_of name (Some version) (identity x)) xs → b ≡ is_only o → b ≡ one (bears_both name version) (map identity xs)
-only-version identity name version xs o b is only = only ∙ ap is_only is ∙ only-from identity (bears_both name version) 0 xs
+    → o ≡ occurrence (λ x. is_of name (Some version) (identity x)) xs → b ≡ is_only o → b ≡ exactly_one (has_name_and_version name version) (map identity xs)
+only-version identity name version xs o b is only = only ∙ ap is_only is ∙ only-from identity (has_name_and_version name version) 0 xs
 
-pub fit-first : {X : Type 0} (identity : X → Identity) (f : Form) (name : List ℕ) (version : Option Parts) (xs : List X) (found : Option Occurrence) (o : Option X)
+pub fit-first : {X : Type 0} (identity : X → Identity) (f : Reference) (name : List ℕ) (version : Option Parts) (xs : List X) (found : Option Occurrence) (o : Option X)
     → name ≡ f.name → version ≡ f.version → found ≡ occurrence (λ x. is_of name version (identity x)) xs → o ≡ first_item xs found
     → o ≡ find (λ x. fits f (identity x)) xs
 fit-first identity f name version xs found o named versioned is first =

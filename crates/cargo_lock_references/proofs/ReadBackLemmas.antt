@@ -8,10 +8,10 @@ use Rattle.cargo_lock_parts.specs.IdentityOrder.{is_same_identity}
 use Rattle.cargo_lock_parts.specs.Source.{Source}
 use Rattle.cargo_lock_parts.specs.SourceKey.{is_same_source, key_of}
 use Rattle.cargo_lock_parts.specs.SourceLaws.{is_same_source-Decides}
-use Rattle.cargo_lock_references.specs.Form.{Form}
-use Rattle.cargo_lock_references.specs.ReadBack.{ReferenceSurvives, SaysEqual}
-use Rattle.cargo_lock_references.specs.Said.{said, same_parts}
-use Rattle.cargo_lock_references.proofs.SaysLemmas.{Says-from, said-from, same_parts-refl, same_parts-yes}
+use Rattle.cargo_lock_references.specs.Reference.{Reference}
+use Rattle.cargo_lock_references.specs.ReadBack.{ReferenceSurvives, ResolvesToEqual}
+use Rattle.cargo_lock_references.specs.ResolutionSearch.{resolution_of, same_parts}
+use Rattle.cargo_lock_references.proofs.ResolvesToLemmas.{ResolvesTo-from, resolution_of-from, same_parts-refl, same_parts-yes}
 
 -- ---- what a form says, by its key
 
@@ -20,10 +20,10 @@ some-parts f None b e = absurd (none-some _ e)
 some-parts f (Some a) b e = (a, refl, same_Some _ _ e)
 
 -- a form says an equal identity exactly where the key of what it says is that identity's
-pub says-equal : (f : Form) (list : List Identity) (d : Identity) → SaysEqual f list d ↔ (option_map identity_key (said f list) ≡ Some (identity_key d))
-says-equal f list d = (
-  λ h. ap (option_map identity_key) (said-from f list h.0 h.1) ∙ ap Some h.2,
-  λ e. let p = some-parts identity_key (said f list) (identity_key d) e in (p.0, Says-from f list p.0 p.1, p.2),
+pub resolves-equal : (f : Reference) (list : List Identity) (d : Identity) → ResolvesToEqual f list d ↔ (option_map identity_key (resolution_of f list) ≡ Some (identity_key d))
+resolves-equal f list d = (
+  λ h. ap (option_map identity_key) (resolution_of-from f list h.0 h.1) ∙ ap Some h.2,
+  λ e. let p = some-parts identity_key (resolution_of f list) (identity_key d) e in (p.0, ResolvesTo-from f list p.0 p.1, p.2),
 )
 
 -- ---- what was read, compared with what was written
@@ -40,17 +40,17 @@ same-source o r s b read same = (
   λ e. same ∙ (is_same_source-Decides r s).1 (same_Some _ _ (sym (ap (option_map key_of) read) ∙ e)),
 )
 
-pub says-same : (f : Form) (list : List Identity) (d i : Identity) (b : Bool) → said f list ≡ Some i → b ≡ is_same_identity i d → IsTrue b ↔ SaysEqual f list d
-says-same f list d i b says same = (
-  λ t. (says-equal f list d).1 (ap (option_map identity_key) says ∙ ap Some ((is_same_identity-Decides i d).0 (sym same ∙ t))),
-  λ h. same ∙ (is_same_identity-Decides i d).1 (same_Some _ _ (sym (ap (option_map identity_key) says) ∙ (says-equal f list d).0 h)),
+pub resolves-same : (f : Reference) (list : List Identity) (d i : Identity) (b : Bool) → resolution_of f list ≡ Some i → b ≡ is_same_identity i d → IsTrue b ↔ ResolvesToEqual f list d
+resolves-same f list d i b resolves same = (
+  λ t. (resolves-equal f list d).1 (ap (option_map identity_key) resolves ∙ ap Some ((is_same_identity-Decides i d).0 (sym same ∙ t))),
+  λ h. same ∙ (is_same_identity-Decides i d).1 (same_Some _ _ (sym (ap (option_map identity_key) resolves) ∙ (resolves-equal f list d).0 h)),
 )
 
-pub says-nothing : (f : Form) (list : List Identity) (d : Identity) → said f list ≡ None → SaysEqual f list d → ⊥
-says-nothing f list d none h = none-some (identity_key d) (sym (ap (option_map identity_key) none) ∙ (says-equal f list d).0 h)
+pub resolves-nothing : (f : Reference) (list : List Identity) (d : Identity) → resolution_of f list ≡ None → ResolvesToEqual f list d → ⊥
+resolves-nothing f list d none h = none-some (identity_key d) (sym (ap (option_map identity_key) none) ∙ (resolves-equal f list d).0 h)
 
 -- the same test of an equal form in an equal list
-pub survives-by : (b : Bool) (f g : Form) (list other : List Identity) (d : Identity) → f ≡ g → list ≡ other
+pub survives-by : (b : Bool) (f g : Reference) (list other : List Identity) (d : Identity) → f ≡ g → list ≡ other
     → IsTrue b ↔ ReferenceSurvives f list d → IsTrue b ↔ ReferenceSurvives g other d
 survives-by b f g list other d e s h =
-    subst (λ (x : Form). IsTrue b ↔ ReferenceSurvives x other d) e (subst (λ (l : List Identity). IsTrue b ↔ ReferenceSurvives f l d) s h)
+    subst (λ (x : Reference). IsTrue b ↔ ReferenceSurvives x other d) e (subst (λ (l : List Identity). IsTrue b ↔ ReferenceSurvives f l d) s h)

@@ -12,17 +12,17 @@ after done o = option_map (λ xs. done ++ xs) o
 -- a refusal for another reason
 pub Refuses-by : (e : Error) (P Q : Type 0) → Refuses e P → (P → Q) → Refuses e Q
 Refuses-by (Io kind) P Q h f = absurd h
-Refuses-by (Parse said) P Q h f = f h
+Refuses-by (Parse message) P Q h f = f h
 Refuses-by (Version fault) P Q h f = absurd h
-Refuses-by (Resolution said) P Q h f = absurd h
+Refuses-by (Resolution message) P Q h f = absurd h
 Refuses-by Memory P Q h f = tt
 
 pub RefusesUrls-by : (e : Error) (P Q : Type 0) → RefusesUrls e P → (P → Q) → RefusesUrls e Q
 RefusesUrls-by (Io kind) P Q h f = absurd h
-RefusesUrls-by (Parse said) P Q (inl p) f = inl (f p)
-RefusesUrls-by (Parse said) P Q (inr long) f = inr long
+RefusesUrls-by (Parse message) P Q (inl p) f = inl (f p)
+RefusesUrls-by (Parse message) P Q (inr long) f = inr long
 RefusesUrls-by (Version fault) P Q h f = absurd h
-RefusesUrls-by (Resolution said) P Q h f = absurd h
+RefusesUrls-by (Resolution message) P Q h f = absurd h
 RefusesUrls-by Memory P Q h f = tt
 
 -- one more item, mapped on both sides

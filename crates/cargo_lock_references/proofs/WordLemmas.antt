@@ -11,7 +11,7 @@ use Rattle.std.proofs.lemmas.List.Splits.{slice_split_none, slice_split_at, slic
 use Rattle.std.proofs.lemmas.Bool.Decides.{nat_tests}
 use Rattle.std.specs.Prelude.{Result}
 use Rattle.cargo_lock_parts.specs.declared.error.Error.{Error}
-use Rattle.cargo_lock_references.specs.Form.{Form, ReadsForm, ReadsFormExactly, form_of_words, form_or_refusal}
+use Rattle.cargo_lock_references.specs.Reference.{Reference, ReadsReference, ReadsReferenceExactly, reference_of_words, reference_or_refusal}
 use Rattle.cargo_lock_references.specs.Words.{words, text_words, words_of_chars, is_nonempty}
 
 white_from_not : (b : Bool) → not b ≡ false → b ≡ true
@@ -100,13 +100,13 @@ unfolding words
 words-text t u = rw (is_utf8-from_IsUtf8 t u)
 
 -- what the words of a text read as, the text reads as
-pub ReadsForm-text : (t : List ℕ) (r : Result Form Error) → IsUtf8 t → ReadsForm r (form_of_words (text_words t))
-    → ReadsForm r (form_or_refusal t)
-unfolding form_or_refusal
-ReadsForm-text t r u h = subst (λ ws. ReadsForm r (form_of_words ws)) (sym (words-text t u)) h
+pub ReadsReference-text : (t : List ℕ) (r : Result Reference Error) → IsUtf8 t → ReadsReference r (reference_of_words (text_words t))
+    → ReadsReference r (reference_or_refusal t)
+unfolding reference_or_refusal
+ReadsReference-text t r u h = subst (λ ws. ReadsReference r (reference_of_words ws)) (sym (words-text t u)) h
 
-pub ReadsFormExactly-text : (t : List ℕ) (r : Result Form Error) → IsUtf8 t
-    → ReadsFormExactly r (form_of_words (text_words t)) → ReadsFormExactly r (form_or_refusal t)
-unfolding form_or_refusal
-ReadsFormExactly-text t r u h =
-    subst (λ ws. ReadsFormExactly r (form_of_words ws)) (sym (words-text t u)) h
+pub ReadsReferenceExactly-text : (t : List ℕ) (r : Result Reference Error) → IsUtf8 t
+    → ReadsReferenceExactly r (reference_of_words (text_words t)) → ReadsReferenceExactly r (reference_or_refusal t)
+unfolding reference_or_refusal
+ReadsReferenceExactly-text t r u h =
+    subst (λ ws. ReadsReferenceExactly r (reference_of_words ws)) (sym (words-text t u)) h

@@ -13,11 +13,11 @@ use Rattle.cargo_lock_parts.specs.Identity.{PackageData, identity_of}
 use Rattle.cargo_lock_references.specs.declared.version.ResolveVersion.TheVariants.{V1, V2, V3, V4}
 use Rattle.cargo_lock_references.specs.Metadata.{checksum_key, checksum_pairs, has_key, pairs_before, with_checksums, without_checksums}
 use Rattle.cargo_lock_references.specs.Records.{Texts}
-use Rattle.cargo_lock_references.specs.Said.{same_text}
+use Rattle.cargo_lock_references.specs.ResolutionSearch.{same_text}
 use Rattle.cargo_lock_references.specs.WrittenMetadata.{ChecksumsAtKeys, HasChecksumAt, HasNoChecksum, IsKeyOf, IsOfPackage, NoChecksumKeys}
 use Rattle.cargo_lock_references.proofs.ChecksumKeys.{get-without}
-use Rattle.cargo_lock_references.proofs.LeastKeys.{order, Pairs, itself-equal, same-key}
-use Rattle.cargo_lock_references.proofs.SaysLemmas.{same_text-refl, same_text-yes}
+use Rattle.cargo_lock_references.proofs.LeastKeys.{order, Pairs, own_words-equal, same-key}
+use Rattle.cargo_lock_references.proofs.ResolvesToLemmas.{same_text-refl, same_text-yes}
 
 -- ---- V1
 
@@ -37,7 +37,7 @@ found-first base p ps key = ap (stored.find order key) (before p p.checksum (che
 
 -- a pair before others
 hit : (key value : List ℕ) (base : Pairs) → stored.find order key ((key, value) ∷ base) ≡ Some value
-hit key value base = ap (λ b. cond b (Some value) (stored.find order key base)) (itself-equal key)
+hit key value base = ap (λ b. cond b (Some value) (stored.find order key base)) (own_words-equal key)
 
 pass : (key other value : List ℕ) (base : Pairs) → other ≢ key → stored.find order key ((other, value) ∷ base) ≡ stored.find order key base
 pass key other value base h = elim (cases_Bool (eq_by_cmp order key other)) [

@@ -6,11 +6,11 @@ use Rattle.std.specs.Str.Parse.{IsNumeral, digits_value, without_leading_plus}
 use Rattle.cargo_lock_references.specs.declared.version.ResolveVersion.{ResolveVersion}
 use Rattle.cargo_lock_references.specs.declared.version.ResolveVersion.TheVariants.{V1, V2, V3, V4}
 use Rattle.cargo_lock_references.specs.Metadata.{has_checksum_key}
-use Rattle.cargo_lock_references.specs.Records.{EntryData, Texts}
+use Rattle.cargo_lock_references.specs.Records.{EncodedPackage, Texts}
 
 -- the format with that number
-abbrev pub numbered : ℕ → Option ResolveVersion
-numbered n =
+abbrev pub format_numbered : ℕ → Option ResolveVersion
+format_numbered n =
     if n == 1 then Some V1
     else (if n == 2 then Some V2
     else (if n == 3 then Some V3
@@ -25,15 +25,15 @@ number_of V3 = 3
 number_of V4 = 4
 
 -- the format with that number, which may be below 0
-abbrev pub numbered_int : ℤ → Option ResolveVersion
-numbered_int (pos n) = numbered n
-numbered_int (negsuc n) = None
+abbrev pub format_of_number : ℤ → Option ResolveVersion
+format_of_number (pos n) = format_numbered n
+format_of_number (negsuc n) = None
 
 -- the text is a whole number as Rust reads one, perhaps after a plus sign, and it is that of the
 -- format
 pub record IsFormatText (text : List ℕ) (v : ResolveVersion) : Type 0 where
   pub digits : IsNumeral 10 (without_leading_plus text)
-  pub number : numbered (digits_value 10 (without_leading_plus text)) ≡ Some v
+  pub number : format_numbered (digits_value 10 (without_leading_plus text)) ≡ Some v
 
 -- the text is the number of some format
 abbrev pub HasFormat : List ℕ → Type 0
@@ -47,24 +47,24 @@ IsNumberText text =
 
 -- why what is quoted is no number of a format
 abbrev pub format_refusal : List ℕ → List ℕ
-format_refusal quoted = codes "invalid Cargo.lock format version: `" ++ quoted ++ codes "`"
+format_refusal quote = codes "invalid Cargo.lock format version: `" ++ quote ++ codes "`"
 
 -- some package has a checksum
-abbrev pub has_checksum : List EntryData → Bool
+abbrev pub has_checksum : List EncodedPackage → Bool
 has_checksum entries = list_any (λ e. is_some e.checksum) entries
 
 -- by whether some key of the metadata begins `checksum `, and whether some package has a checksum:
 -- both at once is no format
-abbrev pub detected : Bool → Bool → Option ResolveVersion
-detected true true = None
-detected true false = Some V1
-detected false b = Some V2
+abbrev pub format_by_checksums : Bool → Bool → Option ResolveVersion
+format_by_checksums true true = None
+format_by_checksums true false = Some V1
+format_by_checksums false b = Some V2
 
 -- the format of values without a number; the root does not count
-abbrev pub format_without_number : List EntryData → Texts → Option ResolveVersion
-format_without_number entries m = detected (has_checksum_key m) (has_checksum entries)
+abbrev pub format_without_number : List EncodedPackage → Texts → Option ResolveVersion
+format_without_number entries m = format_by_checksums (has_checksum_key m) (has_checksum entries)
 
 -- the format of a number, or else the one that packages and metadata tell
-abbrev pub format_by : Option ℤ → List EntryData → Texts → Option ResolveVersion
-format_by (Some z) entries m = numbered_int z
+abbrev pub format_by : Option ℤ → List EncodedPackage → Texts → Option ResolveVersion
+format_by (Some z) entries m = format_of_number z
 format_by None entries m = format_without_number entries m

@@ -7,7 +7,7 @@ use Rattle.cargo_lock_parts.specs.Identity.{Identity}
 use Rattle.cargo_lock_parts.specs.PartialIdentity.{PartialIdentity, partial_identity_cmp}
 use Rattle.cargo_lock_references.specs.declared.index.Occurrence.{Occurrence}
 use Rattle.cargo_lock_references.specs.declared.index.Occurrence.TheVariants.{Only, First}
-use Rattle.cargo_lock_references.specs.Said.{has_version, same_text}
+use Rattle.cargo_lock_references.specs.ResolutionSearch.{has_version, same_text}
 
 -- the place of the only item, or of the first of several
 abbrev pub first_place : Occurrence → ℕ

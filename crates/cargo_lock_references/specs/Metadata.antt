@@ -9,10 +9,10 @@ use Rattle.cargo_lock_parts.specs.Checksum.{digest_in, digest_text}
 use Rattle.cargo_lock_parts.specs.Identity.{Identity, PackageData, identity_of, dependency_text}
 use Rattle.cargo_lock_references.specs.declared.version.ResolveVersion.{ResolveVersion}
 use Rattle.cargo_lock_references.specs.declared.version.ResolveVersion.TheVariants.{V1, V2, V3, V4}
-use Rattle.cargo_lock_references.specs.Form.{Form, Refusal, NoForm, form_or_refusal}
+use Rattle.cargo_lock_references.specs.Reference.{Reference, Refusal, NoReference, reference_or_refusal}
 use Rattle.cargo_lock_references.specs.Optional.{◌>>=◌}
 use Rattle.cargo_lock_references.specs.Records.{Texts}
-use Rattle.cargo_lock_references.specs.Said.{itself, same_text, same_parts}
+use Rattle.cargo_lock_references.specs.ResolutionSearch.{own_words, same_text, same_parts}
 
 -- ---- keys
 
@@ -26,17 +26,18 @@ is_checksum k = same_text (codes "checksum ") (take 9 k)
 
 -- an identity, or the refusal where there is none
 abbrev pub or_refused : Option Identity → Result Identity Refusal
-or_refused None = Err NoForm
+or_refused None = Err NoReference
 or_refused (Some i) = Ok i
 
 -- the identity that a reference is by itself: without a version it is none
-abbrev pub own_identity : Result Form Refusal → Result Identity Refusal
+abbrev pub own_identity : Result Reference Refusal → Result Identity Refusal
 own_identity (Err refusal) = Err refusal
-own_identity (Ok f) = or_refused (itself f)
+own_identity (Ok f) = or_refused (own_words f)
 
 -- the identity that a key reads as, or why it reads as none
 unfoldable pub key_or_refusal : List ℕ → Result Identity Refusal
-key_or_refusal k = if is_checksum k then own_identity (form_or_refusal (drop 9 k)) else Err NoForm
+key_or_refusal k = if is_checksum k then own_identity (reference_or_refusal (drop 9 k))
+    else Err NoReference
 
 -- the identity that a key reads as
 abbrev pub key_identity : List ℕ → Option Identity

@@ -8,9 +8,9 @@ use Rattle.cargo_lock_parts.specs.Source.{MarkedSource, Source, is_path}
 use Rattle.cargo_lock_parts.specs.SourceKey.{key_of}
 use Rattle.cargo_lock_parts.specs.SourceReading.{source_of}
 use Rattle.cargo_lock_parts.specs.SourceText.{marked_text}
-use Rattle.cargo_lock_references.specs.Chosen.{marked}
-use Rattle.cargo_lock_references.specs.Form.{Form, version_of}
-use Rattle.cargo_lock_references.specs.Says.{Says}
+use Rattle.cargo_lock_references.specs.WrittenReference.{mark}
+use Rattle.cargo_lock_references.specs.Reference.{Reference, version_of}
+use Rattle.cargo_lock_references.specs.ResolvesTo.{ResolvesTo}
 use Rattle.cargo_lock_references.specs.Words.{IsDense, IsWord}
 
 -- ---- texts that read back
@@ -25,7 +25,7 @@ TextReadsBack m = option_map key_of (source_of (marked_text m)) ≡ Some (key_of
 
 -- the source is no path, so it is written, and its text reads back
 abbrev pub SourceSurvives : Bool → Source → Type 0
-SourceSurvives escaped s = (is_path s.kind ≡ false) × TextReadsBack (marked escaped s)
+SourceSurvives escaped s = (is_path s.kind ≡ false) × TextReadsBack (mark escaped s)
 
 -- the digest reads back from its text, as the 32 bytes of every checksum do
 abbrev pub DigestReadsBack : List ℕ → Type 0
@@ -33,17 +33,17 @@ DigestReadsBack digest = digest_in (digest_text digest) ≡ Some digest
 
 -- ---- references
 
--- each part of the form is one word that reads back
-pub record FormSurvives (f : Form) : Type 0 where
+-- each part of the reference is one word that reads back
+pub record WordsReadBack (f : Reference) : Type 0 where
   pub name : IsWord f.name
   pub version : IfSome f.version (λ v. IsWord (parts_text v) × VersionSurvives v)
   pub source : IfSome f.source (λ m. IsDense (marked_text m) × TextReadsBack m)
 
--- the form says an identity that is equal to this one
-abbrev pub SaysEqual : Form → List Identity → Identity → Type 0
-SaysEqual f list d = (i : Identity) × Says f list i × (identity_key i ≡ identity_key d)
+-- the reference stands for an identity that is equal to this one
+abbrev pub ResolvesToEqual : Reference → List Identity → Identity → Type 0
+ResolvesToEqual f list d = (i : Identity) × ResolvesTo f list i × (identity_key i ≡ identity_key d)
 
--- a reference to this dependency: its text reads back, and says the dependency in this list
-pub record ReferenceSurvives (f : Form) (list : List Identity) (d : Identity) : Type 0 where
-  pub written : FormSurvives f
-  pub says : SaysEqual f list d
+-- a reference to this dependency: its text reads back, and stands for the dependency in this list
+pub record ReferenceSurvives (f : Reference) (list : List Identity) (d : Identity) : Type 0 where
+  pub written : WordsReadBack f
+  pub resolves : ResolvesToEqual f list d

@@ -5,8 +5,8 @@ use Rattle.std.specs.List.{find}
 use Rattle.semver.specs.Parse.{Parts}
 use Rattle.cargo_lock_parts.specs.declared.package.checksum.Checksum.{Checksum}
 use Rattle.cargo_lock_parts.specs.Checksum.{digest_in, digest_of}
-use Rattle.cargo_lock_references.specs.Form.{Form, of_two}
-use Rattle.cargo_lock_references.specs.FormOrder.{form_cmp}
+use Rattle.cargo_lock_references.specs.Reference.{Reference, two_words}
+use Rattle.cargo_lock_references.specs.ReferenceOrder.{reference_cmp}
 use Rattle.cargo_lock_references.specs.Metadata.{reads_as}
 
 -- what the value of the first of the pairs, whose key reads as this name and this version, is as a
@@ -16,10 +16,12 @@ first_value pairs name version = option_map
     (λ e. digest_in e.1) (find (λ e. reads_as name version e.0) pairs)
 
 -- what the map holds for a name and a version
-abbrev pub value_at : BTreeMap Form (Option Checksum) → List ℕ → Parts → Option (Option (List ℕ))
-value_at m name version = option_map (option_map digest_of) (get form_cmp m (of_two name version))
+abbrev pub value_at : BTreeMap Reference (Option Checksum) → List ℕ → Parts
+    → Option (Option (List ℕ))
+value_at m name version = option_map (option_map digest_of)
+    (get reference_cmp m (two_words name version))
 
 -- the map holds, for each name and version, the first value among the pairs
-abbrev pub AreFirstValues : List (List ℕ × List ℕ) → BTreeMap Form (Option Checksum) → Type 0
+abbrev pub AreFirstValues : List (List ℕ × List ℕ) → BTreeMap Reference (Option Checksum) → Type 0
 AreFirstValues pairs m = (name : List ℕ) (version : Parts) → value_at m name version
     ≡ first_value pairs name version

@@ -9,24 +9,25 @@ use Rattle.cargo_lock_parts.specs.Identity.{Identity, PackageData}
 use Rattle.cargo_lock_parts.specs.Source.{MarkedSource, Source}
 use Rattle.cargo_lock_references.specs.declared.version.ResolveVersion.{ResolveVersion}
 use Rattle.cargo_lock_references.specs.declared.version.ResolveVersion.TheVariants.{V1, V2, V3, V4}
-use Rattle.cargo_lock_references.specs.Form.{Form}
+use Rattle.cargo_lock_references.specs.Reference.{Reference}
 
 -- a package as its table has it: its references are not looked up yet
-pub record EntryData : Type 0 where
+pub record EncodedPackage : Type 0 where
   pub name : List ℕ
   pub version : Parts
   pub source : Option MarkedSource
   pub checksum : Option (List ℕ)
-  pub dependencies : List Form
-  pub replace : Option Form
+  pub dependencies : List Reference
+  pub replace : Option Reference
 
 -- a source without its mark
-abbrev pub bare_source : Option MarkedSource → Option Source
-bare_source s = option_map (λ m. m.source) s
+abbrev pub unmarked_source : Option MarkedSource → Option Source
+unmarked_source s = option_map (λ m. m.source) s
 
--- the identity of an entry
-abbrev pub entry_identity : EntryData → Identity
-entry_identity e = record { name = e.name; version = e.version; source = bare_source e.source }
+-- the identity of an encoded package
+abbrev pub encoded_identity : EncodedPackage → Identity
+encoded_identity e =
+    record { name = e.name; version = e.version; source = unmarked_source e.source }
 
 -- texts by texts
 abbrev pub Texts : Type 0

@@ -1,9 +1,9 @@
-//! References and packages that borrow their parts, so that what is only printed or looked up is not
-//! copied.
+//! References and packages that borrow their parts, so that what is only printed or looked up is
+//! not copied.
 
 ghost use Rattle.std.specs.Prelude.{◌≡◌, IfOk, option_map};
 ghost use Rattle.semver.specs.Identifiers.{parts_of};
-ghost use Rattle.cargo_lock_references.specs.Chosen.{written_source};
+ghost use Rattle.cargo_lock_references.specs.WrittenReference.{written_source};
 ghost use Rattle.cargo_lock_references.specs.Records.{is_escaped};
 
 use crate::version::ResolveVersion;
@@ -31,9 +31,9 @@ pub struct EncodableDependencyRef<'a> {
 impl<'a> Model for EncodableDependencyRef<'a> {
     ghost use Rattle.std.specs.Prelude.{option_map};
     ghost use Rattle.semver.specs.Identifiers.{parts_of};
-    ghost use Rattle.cargo_lock_references.specs.Form.{Form};
+    ghost use Rattle.cargo_lock_references.specs.Reference.{Reference};
 
-    ghost Value = { Form };
+    ghost Value = { Reference };
 
     ghost view = { λ d. record {
       name = d.name.now;
@@ -44,12 +44,12 @@ impl<'a> Model for EncodableDependencyRef<'a> {
 
 impl<'a> EncodableDependencyRef<'a> {
     ghost use Rattle.semver.specs.Identifiers.{parts_of};
-    ghost use Rattle.cargo_lock_references.specs.Chosen.{in_full};
-    ghost use Rattle.cargo_lock_references.specs.Form.{of_one, of_two};
+    ghost use Rattle.cargo_lock_references.specs.WrittenReference.{in_full};
+    ghost use Rattle.cargo_lock_references.specs.Reference.{one_word, two_words};
 
     /// The name alone.
     pub fn of_name(name: &'a Name) -> EncodableDependencyRef<'a>
-        ensures { result ≡ of_one name.now }
+        ensures { result ≡ one_word name.now }
     {
         EncodableDependencyRef {
             name,
@@ -60,7 +60,7 @@ impl<'a> EncodableDependencyRef<'a> {
 
     /// The name and the version.
     pub fn of_name_and_version(name: &'a Name, version: &'a Version) -> EncodableDependencyRef<'a>
-        ensures { result ≡ of_two name.now (parts_of version.now) }
+        ensures { result ≡ two_words name.now (parts_of version.now) }
     {
         EncodableDependencyRef {
             name,
@@ -122,9 +122,9 @@ impl<'a> Model for EncodablePackageRef<'a> {
     ghost use Rattle.std.specs.Prelude.{option_map};
     ghost use Rattle.semver.specs.Identifiers.{parts_of};
     ghost use Rattle.cargo_lock_parts.specs.Checksum.{digest_of};
-    ghost use Rattle.cargo_lock_references.specs.Records.{EntryData};
+    ghost use Rattle.cargo_lock_references.specs.Records.{EncodedPackage};
 
-    ghost Value = { EntryData };
+    ghost Value = { EncodedPackage };
 
     ghost view = { λ e. record {
       name = e.name.now;
@@ -141,38 +141,38 @@ impl<'a> EncodablePackageRef<'a> {
     pub fn to_owned(&self, alloc: Global) -> std::result::Result<EncodablePackage, AllocError>
         ensures { IfOk result (λ copy. copy ≡ self.now) }
     {
-        let dependencies = own_forms(alloc, self.dependencies.as_slice())?;
+        let dependencies = own_references(alloc, self.dependencies.as_slice())?;
         Ok(EncodablePackage {
             name: self.name.clone()?,
             version: self.version.clone()?,
             source: own_source(&self.source)?,
             checksum: self.checksum,
             dependencies,
-            replace: own_form(&self.replace)?,
+            replace: own_reference(&self.replace)?,
         })
     }
 }
 
-fn own_form(
-    form: &Option<EncodableDependencyRef<'_>>,
+fn own_reference(
+    reference: &Option<EncodableDependencyRef<'_>>,
 ) -> std::result::Result<Option<EncodableDependency>, AllocError>
-    ensures { IfOk result (λ copy. copy ≡ form.now) }
+    ensures { IfOk result (λ copy. copy ≡ reference.now) }
 {
-    match form {
-        Some(form) => Ok(Some(form.to_owned()?)),
+    match reference {
+        Some(reference) => Ok(Some(reference.to_owned()?)),
         None => Ok(None),
     }
 }
 
-fn own_forms(
+fn own_references(
     alloc: Global,
-    forms: &[EncodableDependencyRef<'_>],
+    references: &[EncodableDependencyRef<'_>],
 ) -> std::result::Result<Vec<EncodableDependency>, AllocError>
-    ensures { IfOk result (λ copies. copies.items ≡ forms.now) }
+    ensures { IfOk result (λ copies. copies.items ≡ references.now) }
 {
-    let mut copies = Vec::with_capacity(alloc, forms.len())?;
-    for form in forms {
-        let copy = form.to_owned()?;
+    let mut copies = Vec::with_capacity(alloc, references.len())?;
+    for reference in references {
+        let copy = reference.to_owned()?;
         copies.push(copy)?;
     }
     Ok(copies)
@@ -195,12 +195,12 @@ pub(crate) fn own_source(
     ensures { IfOk result (λ copy. copy ≡ source.now) }
 {
     match source {
-        Some(source) => Ok(Some(marked(source.source().clone()?, source.is_escaped()))),
+        Some(source) => Ok(Some(mark(source.source().clone()?, source.is_escaped()))),
         None => Ok(None),
     }
 }
 
-fn marked(source: SourceId, escaped: bool) -> EncodableSourceId
+fn mark(source: SourceId, escaped: bool) -> EncodableSourceId
     ensures { result ≡ record { source = source; escaped = escaped } }
 {
     if escaped {
@@ -231,12 +231,12 @@ pub fn is_escaped(format: ResolveVersion) -> bool
     }
 }
 
-#[tactic(auto, unfolding(crate::specs::Form::form_text))]
+#[tactic(auto, unfolding(crate::specs::Reference::reference_text))]
 impl fmt::Display for EncodableDependencyRef<'_> {
     ghost use Rattle.std.specs.Prelude.{Some};
-    ghost use Rattle.cargo_lock_references.specs.Form.{form_text};
+    ghost use Rattle.cargo_lock_references.specs.Reference.{reference_text};
 
-    ghost output = { λ d. Some (form_text d) };
+    ghost output = { λ d. Some (reference_text d) };
 
     fn fmt<W: fmt::Write>(&self, f: &mut fmt::Formatter<W>) -> fmt::Result {
         let name = self.name;
@@ -266,24 +266,24 @@ impl EncodablePackage {
     }
 }
 
-fn by_ref(form: &Option<EncodableDependency>) -> Option<EncodableDependencyRef<'_>>
-    ensures { result ≡ form.now }
+fn by_ref(reference: &Option<EncodableDependency>) -> Option<EncodableDependencyRef<'_>>
+    ensures { result ≡ reference.now }
 {
-    match form {
-        Some(form) => Some(form.by_ref()),
+    match reference {
+        Some(reference) => Some(reference.by_ref()),
         None => None,
     }
 }
 
 fn by_refs(
     alloc: Global,
-    forms: &[EncodableDependency],
+    references: &[EncodableDependency],
 ) -> std::result::Result<Vec<EncodableDependencyRef<'_>>, AllocError>
-    ensures { IfOk result (λ borrowed. borrowed.items ≡ forms.now) }
+    ensures { IfOk result (λ borrowed. borrowed.items ≡ references.now) }
 {
-    let mut borrowed = Vec::with_capacity(alloc, forms.len())?;
-    for form in forms {
-        borrowed.push(form.by_ref())?;
+    let mut borrowed = Vec::with_capacity(alloc, references.len())?;
+    for reference in references {
+        borrowed.push(reference.by_ref())?;
     }
     Ok(borrowed)
 }

@@ -15,8 +15,8 @@ use cargo_lock_parts::error::Error;
 use cargo_lock_parts::package::{Checksum, Name, Version};
 use std::alloc::{AllocError, Global};
 
-/// The checksum that the metadata holds at the first key, in byte order, that reads as this name and
-/// version. Keys that do not read are passed over, and a value that is no checksum is none.
+/// The checksum that the metadata holds at the first key, in byte order, that reads as this name
+/// and version. Keys that do not read are passed over, and a value that is no checksum is none.
 #[tactic(auto, unfolding(crate::specs::Metadata::checksum_in))]
 pub fn find_checksum(
     alloc: Global,
@@ -58,8 +58,8 @@ pub fn ordered(metadata: &Metadata)
     let _length = metadata.len();
 }
 
-// Whether a key reads as this name and version. Running out of memory is not passed over, and neither is
-// a URL of 4 GB or more, which is told as out of memory.
+// Whether a key reads as this name and version. Running out of memory is not passed over, and
+// neither is a URL of 4 GB or more, which is told as out of memory.
 fn reads_as(
     alloc: Global,
     key: &MetadataKey,

@@ -48,9 +48,9 @@ impl Identified for Package {
 }
 
 impl Identified for EncodablePackage {
-    ghost use Rattle.cargo_lock_references.specs.Records.{entry_identity};
+    ghost use Rattle.cargo_lock_references.specs.Records.{encoded_identity};
 
-    ghost identity = { entry_identity };
+    ghost identity = { encoded_identity };
 
     fn name(&self) -> &Name {
         &self.name

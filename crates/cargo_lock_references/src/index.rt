@@ -7,10 +7,10 @@ ghost use Rattle.std.specs.List.{find};
 ghost use Rattle.semver.specs.Identifiers.{parts_of};
 ghost use Rattle.semver.specs.Parse.{Parts};
 ghost use Rattle.cargo_lock_parts.specs.PartialIdentity.{PartialIdentity, partial_identity_cmp};
-ghost use Rattle.cargo_lock_references.specs.Chosen.{bears_both, bears_name, one};
+ghost use Rattle.cargo_lock_references.specs.WrittenReference.{has_name_and_version, has_name, exactly_one};
 ghost use Rattle.cargo_lock_references.specs.Index.{AreOccurrences, is_of, occurrence_at};
 ghost use Rattle.cargo_lock_references.specs.Index as spec;
-ghost use Rattle.cargo_lock_references.specs.Said.{fits, has_version, same_text};
+ghost use Rattle.cargo_lock_references.specs.ResolutionSearch.{fits, has_version, same_text};
 
 use crate::EncodableDependencyRef;
 use crate::identified::Identified;
@@ -157,7 +157,7 @@ impl<'a, T: Identified> Indexed<'a, T> {
 
     /// Whether exactly one item has the name.
     pub fn is_name_unique(&self, name: &'a Name) -> bool
-        ensures { result ≡ one (bears_name name.now) (map T.identity self.now) }
+        ensures { result ≡ exactly_one (has_name name.now) (map T.identity self.now) }
     {
         is_only(self.occurrence(name, None))
     }
@@ -165,16 +165,17 @@ impl<'a, T: Identified> Indexed<'a, T> {
     /// Whether exactly one item has the name and the version.
     pub fn is_version_unique(&self, name: &'a Name, version: &'a Version) -> bool
         ensures { result
-            ≡ one (bears_both name.now (parts_of version.now)) (map T.identity self.now) }
+            ≡ exactly_one (has_name_and_version name.now (parts_of version.now))
+            (map T.identity self.now) }
     {
         is_only(self.occurrence(name, Some(version)))
     }
 
     /// The first item that a reference fits.
-    pub fn first_fit(&self, form: &EncodableDependencyRef<'a>) -> Option<&'a T>
-        ensures { option_copied result ≡ find (λ x. fits form.now (T.identity x)) self.now }
+    pub fn first_fit(&self, reference: &EncodableDependencyRef<'a>) -> Option<&'a T>
+        ensures { option_copied result ≡ find (λ x. fits reference.now (T.identity x)) self.now }
     {
-        self.first_item(self.occurrence(form.name, form.version))
+        self.first_item(self.occurrence(reference.name, reference.version))
     }
 
     // The item that stands first.

@@ -1,7 +1,7 @@
 //! Laws of references and of the metadata, each the contract of a function without a body.
 
-ghost use Rattle.cargo_lock_references.specs.Chosen.{ShortenedByPlaces, ShortenedTwice};
-ghost use Rattle.cargo_lock_references.specs.FormOrder.{EqualMarkedSources, EqualReferences};
+ghost use Rattle.cargo_lock_references.specs.WrittenReference.{ShortenedByPlaces, ShortenedTwice};
+ghost use Rattle.cargo_lock_references.specs.ReferenceOrder.{EqualMarkedSources, EqualReferences};
 ghost use Rattle.cargo_lock_references.specs.LeastKey.{ChecksumAtLeastKey};
 ghost use Rattle.cargo_lock_references.specs.WrittenMetadata.{ChecksumsAtKeys, NoChecksumKeys};
 

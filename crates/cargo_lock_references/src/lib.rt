@@ -6,7 +6,7 @@
 
 pub mod borrowed;
 pub mod checksums;
-pub mod entry;
+pub mod encodable_package;
 pub mod identified;
 pub mod index;
 pub mod laws;
@@ -19,10 +19,10 @@ pub mod resolution;
 mod serialization;
 pub mod source;
 pub mod version;
-pub mod written;
+pub mod written_metadata;
 
 pub use crate::borrowed::{EncodableDependencyRef, EncodablePackageRef};
-pub use crate::entry::EncodablePackage;
+pub use crate::encodable_package::EncodablePackage;
 pub use crate::metadata::{Metadata, MetadataKey, MetadataValue};
 pub use crate::reference::EncodableDependency;
 pub use crate::source::EncodableSourceId;

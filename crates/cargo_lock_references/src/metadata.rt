@@ -12,7 +12,7 @@ ghost use Rattle.std.specs.Ordering.{nat_cmp};
 ghost use Rattle.cargo_lock_parts.specs.declared.error.Error.TheVariants.{Memory};
 ghost use Rattle.cargo_lock_parts.specs.Checksum.{IsDigestText, checksum_refusal, digest_in, digest_of};
 ghost use Rattle.cargo_lock_parts.specs.Error.{IsShort, Reads, RefusesWith};
-ghost use Rattle.cargo_lock_references.specs.Form.{ReadsForm, ReadsFormExactly};
+ghost use Rattle.cargo_lock_references.specs.Reference.{ReadsReference, ReadsReferenceExactly};
 ghost use Rattle.cargo_lock_references.specs.Metadata.{checksum_key, is_checksum, key_or_refusal};
 
 use crate::EncodableDependency;
@@ -84,8 +84,8 @@ impl MetadataKey {
     /// too, which is never so where the key is shorter than 2^24 bytes.
     #[tactic(auto, unfolding(crate::specs::Metadata::key_or_refusal, crate::specs::Metadata::is_checksum))]
     pub fn checksum_dependency(&self, alloc: Global) -> Result<Dependency>
-        ensures read { ReadsForm result (key_or_refusal self.now) }
-        ensures short { IsShort self.now → ReadsFormExactly result (key_or_refusal self.now) }
+        ensures read { ReadsReference result (key_or_refusal self.now) }
+        ensures short { IsShort self.now → ReadsReferenceExactly result (key_or_refusal self.now) }
     {
         let Some(text) = self.as_str().strip_prefix("checksum ") else {
             let message = String::from_str(
@@ -231,8 +231,8 @@ impl MetadataValue {
         Ok(MetadataValue(String::from_str(alloc, text)?))
     }
 
-    /// The value as a checksum, read as `Checksum::from_str` reads it: 64 hex digits take no memory,
-    /// and `Parse` refuses anything else.
+    /// The value as a checksum, read as `Checksum::from_str` reads it: 64 hex digits take no
+    /// memory, and `Parse` refuses anything else.
     pub fn checksum(&self, alloc: Global) -> Result<Checksum>
         ensures read { Reads digest_of result (digest_in self.now) }
         ensures accepted { IsOk result ↔ IsDigestText self.now }

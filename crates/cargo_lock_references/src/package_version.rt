@@ -4,8 +4,8 @@ ghost use Rattle.std.specs.Prelude.{◌≡◌, ◌↔◌, IsTrue};
 ghost use Rattle.semver.specs.Identifiers.{parts_of};
 ghost use Rattle.semver.specs.Parse.{memory_error};
 ghost use Rattle.cargo_lock_parts.specs.Error.{IsParseOrMemory, ReadsUrls};
-ghost use Rattle.cargo_lock_references.specs.Form.{version_of};
-ghost use Rattle.cargo_lock_references.specs.Said.{same_parts};
+ghost use Rattle.cargo_lock_references.specs.Reference.{version_of};
+ghost use Rattle.cargo_lock_references.specs.ResolutionSearch.{same_parts};
 
 use cargo_lock_parts::error::{Error, Result};
 use cargo_lock_parts::package::Version;
@@ -20,7 +20,7 @@ pub fn same_version(a: &Version, b: &Version) -> bool
 }
 
 /// The version that a text is. A fault of `semver` is a `Parse` here.
-#[tactic(auto, unfolding(crate::specs::Form::version_of))]
+#[tactic(auto, unfolding(crate::specs::Reference::version_of))]
 pub fn version_of(alloc: Global, text: &str) -> Result<Version>
     ensures { ReadsUrls parts_of result (version_of text.now) }
 {

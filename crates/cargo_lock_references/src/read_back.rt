@@ -8,8 +8,8 @@ ghost use Rattle.cargo_lock_parts.specs.Identity.{identity_of};
 ghost use Rattle.cargo_lock_parts.specs.SourceKey.{key_of};
 ghost use Rattle.cargo_lock_parts.specs.SourceReading.{source_of};
 ghost use Rattle.cargo_lock_parts.specs.SourceText.{marked_text};
-ghost use Rattle.cargo_lock_references.specs.ReadBack.{FormSurvives, ReferenceSurvives, SaysEqual, SourceSurvives, TextReadsBack, VersionSurvives};
-ghost use Rattle.cargo_lock_references.specs.Form.{version_of};
+ghost use Rattle.cargo_lock_references.specs.ReadBack.{WordsReadBack, ReferenceSurvives, ResolvesToEqual, SourceSurvives, TextReadsBack, VersionSurvives};
+ghost use Rattle.cargo_lock_references.specs.Reference.{version_of};
 ghost use Rattle.cargo_lock_references.specs.Words.{IsDense, IsWord};
 
 use crate::EncodableDependencyRef;
@@ -123,40 +123,44 @@ fn source_word_survives(alloc: Global, source: &SourceIdAsUrl<'_>) -> Result<boo
 
 // ---- references
 
-/// Whether a reference reads back, and says this dependency among these packages.
+/// Whether a reference reads back, and stands for this dependency among these packages.
 pub fn reference_survives<'a>(
     alloc: Global,
-    form: &EncodableDependencyRef<'a>,
+    reference: &EncodableDependencyRef<'a>,
     list: &Indexed<'a, Package>,
     dependency: &Dependency,
 ) -> Result<bool, AllocError>
     ensures { IfOk result
-        (λ b. IsTrue b ↔ ReferenceSurvives form.now (map identity_of list.now) dependency.now) }
+        (λ b. IsTrue b
+        ↔ ReferenceSurvives reference.now (map identity_of list.now) dependency.now) }
 {
-    Ok(form_survives(alloc, form)? && says_equal(form, list, dependency)?)
+    Ok(words_read_back(alloc, reference)? && resolves_to_equal(reference, list, dependency)?)
 }
 
-/// Whether a reference reads back, and says this dependency by itself.
+/// Whether a reference reads back, and stands for this dependency by itself.
 pub fn reference_survives_alone(
     alloc: Global,
-    form: &EncodableDependencyRef<'_>,
+    reference: &EncodableDependencyRef<'_>,
     dependency: &Dependency,
 ) -> Result<bool, AllocError>
-    ensures { IfOk result (λ b. IsTrue b ↔ ReferenceSurvives form.now [] dependency.now) }
+    ensures { IfOk result (λ b. IsTrue b ↔ ReferenceSurvives reference.now [] dependency.now) }
 {
     let empty = Indexed::none(alloc);
-    let survives = reference_survives(alloc, form, &empty, dependency)?;
+    let survives = reference_survives(alloc, reference, &empty, dependency)?;
     Ok(survives)
 }
 
 // Whether each part of the reference is one word that reads back.
-fn form_survives(alloc: Global, form: &EncodableDependencyRef<'_>) -> Result<bool, AllocError>
-    ensures { IfOk result (λ b. IsTrue b ↔ FormSurvives form.now) }
+fn words_read_back(
+    alloc: Global,
+    reference: &EncodableDependencyRef<'_>,
+) -> Result<bool, AllocError>
+    ensures { IfOk result (λ b. IsTrue b ↔ WordsReadBack reference.now) }
 {
     Ok(
-        is_word(form.name.as_str())
-            && written_version_survives(alloc, form.version)?
-            && written_source_survives(alloc, &form.source)?,
+        is_word(reference.name.as_str())
+            && written_version_survives(alloc, reference.version)?
+            && written_source_survives(alloc, &reference.source)?,
     )
 }
 
@@ -184,16 +188,16 @@ fn written_source_survives(
     }
 }
 
-// Whether the reference says a dependency that is equal to this one.
-fn says_equal<'a>(
-    form: &EncodableDependencyRef<'a>,
+// Whether the reference stands for a dependency that is equal to this one.
+fn resolves_to_equal<'a>(
+    reference: &EncodableDependencyRef<'a>,
     list: &Indexed<'a, Package>,
     dependency: &Dependency,
 ) -> Result<bool, AllocError>
     ensures { IfOk result
-        (λ b. IsTrue b ↔ SaysEqual form.now (map identity_of list.now) dependency.now) }
+        (λ b. IsTrue b ↔ ResolvesToEqual reference.now (map identity_of list.now) dependency.now) }
 {
-    match dependency_among(form, list)? {
+    match dependency_among(reference, list)? {
         Some(found) => Ok(found == *dependency),
         None => Ok(false),
     }

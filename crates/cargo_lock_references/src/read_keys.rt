@@ -6,8 +6,8 @@ ghost use Rattle.std.specs.Option.{option_or};
 ghost use Rattle.semver.specs.Identifiers.{parts_of};
 ghost use Rattle.semver.specs.Parse.{Parts};
 ghost use Rattle.cargo_lock_parts.specs.Checksum.{digest_in, digest_of};
-ghost use Rattle.cargo_lock_references.specs.Form.{Form, of_two};
-ghost use Rattle.cargo_lock_references.specs.FormOrder.{form_cmp};
+ghost use Rattle.cargo_lock_references.specs.Reference.{Reference, two_words};
+ghost use Rattle.cargo_lock_references.specs.ReferenceOrder.{reference_cmp};
 ghost use Rattle.cargo_lock_references.specs.Metadata.{checksum_in, is_named, key_identity, reads_as};
 ghost use Rattle.cargo_lock_references.specs.ReadKeys.{AreFirstValues, value_at};
 ghost use Rattle.cargo_lock_references.specs.Records.{texts_of};
@@ -57,8 +57,8 @@ impl<'a> ReadMetadata<'a> {
         })
     }
 
-    /// The checksum that the metadata holds at the first key, in byte order, that reads as this name
-    /// and version. A value that is no checksum is none.
+    /// The checksum that the metadata holds at the first key, in byte order, that reads as this
+    /// name and version. A value that is no checksum is none.
     #[tactic(auto, unfolding(crate::specs::Metadata::checksum_in))]
     pub fn checksum(&self, name: &Name, version: &Version) -> Result<Option<Checksum>, AllocError>
         ensures { IfOk result
@@ -102,8 +102,8 @@ fn read_pair(
     }
 }
 
-// What a key reads as. Running out of memory is not passed over, and neither is a URL of 4 GB or more,
-// which is told as out of memory.
+// What a key reads as. Running out of memory is not passed over, and neither is a URL of 4 GB or
+// more, which is told as out of memory.
 fn read_key(alloc: Global, key: &MetadataKey) -> Result<Option<Dependency>, AllocError>
     ensures { IfOk result (λ d. d ≡ key_identity key.now) }
 {
@@ -141,8 +141,8 @@ fn put(
     checksum: Option<Checksum>,
 ) -> Result<(), AllocError>
     ensures { OnOk result
-        ((q : Form) → get form_cmp checksums.new q
-        ≡ cond (is_at (form_cmp key) q) (Some checksum) (get form_cmp checksums.old q)) }
+        ((q : Reference) → get reference_cmp checksums.new q
+        ≡ cond (is_at (reference_cmp key) q) (Some checksum) (get reference_cmp checksums.old q)) }
 {
     checksums.insert(key, checksum)?;
     Ok(())
@@ -150,7 +150,7 @@ fn put(
 
 // The name and the version of a dependency.
 fn key_of(dependency: Dependency) -> EncodableDependency
-    ensures { result ≡ of_two dependency.name dependency.version }
+    ensures { result ≡ two_words dependency.name dependency.version }
 {
     let Dependency {
         name,
@@ -165,7 +165,7 @@ fn key_of(dependency: Dependency) -> EncodableDependency
 }
 
 fn wanted_key(name: &Name, version: &Version) -> Result<EncodableDependency, AllocError>
-    ensures { IfOk result (λ key. key ≡ of_two name.now (parts_of version.now)) }
+    ensures { IfOk result (λ key. key ≡ two_words name.now (parts_of version.now)) }
 {
     Ok(EncodableDependency {
         name: name.clone()?,

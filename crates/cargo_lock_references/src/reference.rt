@@ -10,15 +10,15 @@ ghost use Rattle.cargo_lock_parts.specs.Error.{IsParse, IsParseOrMemory, IsShort
 ghost use Rattle.cargo_lock_parts.specs.Identity.{identity_of};
 ghost use Rattle.cargo_lock_parts.specs.IdentityOrder.{version_cmp};
 ghost use Rattle.cargo_lock_references.specs.Words.{text_words};
-ghost use Rattle.cargo_lock_references.specs.Form as spec;
-ghost use Rattle.cargo_lock_references.specs.Records.{bare_source, entry_identity, is_escaped};
-ghost use Rattle.cargo_lock_references.specs.Said.{fits, itself, said, same_parts};
-ghost use Rattle.cargo_lock_references.specs.Chosen.{bears_both, bears_name, in_full, one};
+ghost use Rattle.cargo_lock_references.specs.Reference as spec;
+ghost use Rattle.cargo_lock_references.specs.Records.{unmarked_source, encoded_identity, is_escaped};
+ghost use Rattle.cargo_lock_references.specs.ResolutionSearch.{fits, own_words, resolution_of, same_parts};
+ghost use Rattle.cargo_lock_references.specs.WrittenReference.{has_name_and_version, has_name, in_full, exactly_one};
 
 use crate::borrowed::EncodableDependencyRef;
 use crate::index::Indexed;
 use crate::package_version::same_version;
-use crate::resolution::{dependency_by_first, own_dependency, required};
+use crate::resolution::{dependency_by_first, own_dependency, require};
 use crate::version::ResolveVersion;
 use crate::{EncodablePackage, EncodableSourceId};
 use cargo_lock_parts::dependency::Dependency;
@@ -49,16 +49,16 @@ pub struct EncodableDependency {
 impl Model for EncodableDependency {
     ghost use Rattle.std.specs.Prelude.{option_map};
     ghost use Rattle.semver.specs.Identifiers.{parts_of};
-    ghost use Rattle.cargo_lock_references.specs.Form.{Form};
+    ghost use Rattle.cargo_lock_references.specs.Reference.{Reference};
 
-    ghost Value = { Form };
+    ghost Value = { Reference };
 
     ghost view = { λ d.
         record { name = d.name; version = option_map parts_of d.version; source = d.source } };
 }
 
 impl EncodableDependency {
-    ghost use Rattle.cargo_lock_references.specs.Form.{ReadsForm, ReadsFormExactly, form_of_words, form_or_refusal};
+    ghost use Rattle.cargo_lock_references.specs.Reference.{ReadsReference, ReadsReferenceExactly, reference_of_words, reference_or_refusal};
 
     /// Reads one to three words with white space between: a name, a version, a source in round
     /// brackets, as `foo 1.0.0 (registry+https://github.com/rust-lang/crates.io-index)`. A source
@@ -68,17 +68,18 @@ impl EncodableDependency {
     /// `Parse`. A URL of 4 GB or more is refused too, which is never so where the text is shorter
     /// than 2^24 bytes.
     pub fn from_str(alloc: Global, text: &str) -> Result<EncodableDependency>
-        ensures read { ReadsForm result (form_or_refusal text.now) }
-        ensures short { IsShort text.now → ReadsFormExactly result (form_or_refusal text.now) }
+        ensures read { ReadsReference result (reference_or_refusal text.now) }
+        ensures short { IsShort text.now → ReadsReferenceExactly
+            result (reference_or_refusal text.now) }
     {
         EncodableDependency::read(alloc, text)
     }
 
     // Reads a reference word by word.
     fn read(alloc: Global, text: &str) -> Result<EncodableDependency>
-        ensures read { ReadsForm result (form_of_words (text_words text.now)) }
+        ensures read { ReadsReference result (reference_of_words (text_words text.now)) }
         ensures short { IsShort text.now
-            → ReadsFormExactly result (form_of_words (text_words text.now)) }
+            → ReadsReferenceExactly result (reference_of_words (text_words text.now)) }
     {
         let mut words = text.split_whitespace();
         let Some(name) = next_word(&mut words) else {
@@ -135,7 +136,7 @@ fn next_word<'a>(rest: &mut SplitWhitespace<'a>) -> Option<&'a str>
 }
 
 // The source between round brackets.
-#[tactic(auto, unfolding(crate::specs::Form::bracketed_source))]
+#[tactic(auto, unfolding(crate::specs::Reference::bracketed_source))]
 fn bracketed_source(alloc: Global, word: &str) -> Result<SourceId>
     ensures read { ReadsUrls (λ source. source) result (spec.bracketed_source word.now) }
     ensures short { IsShort word.now → Reads
@@ -153,9 +154,9 @@ fn bracketed_source(alloc: Global, word: &str) -> Result<SourceId>
 
 impl fmt::Display for EncodableDependency {
     ghost use Rattle.std.specs.Prelude.{Some};
-    ghost use Rattle.cargo_lock_references.specs.Form.{form_text};
+    ghost use Rattle.cargo_lock_references.specs.Reference.{reference_text};
 
-    ghost output = { λ d. Some (form_text d) };
+    ghost output = { λ d. Some (reference_text d) };
 
     fn fmt<W: fmt::Write>(&self, f: &mut fmt::Formatter<W>) -> fmt::Result {
         fmt::Display::fmt(&self.by_ref(), f)
@@ -163,8 +164,8 @@ impl fmt::Display for EncodableDependency {
 }
 
 impl EncodableDependency {
-    ghost use Rattle.cargo_lock_references.specs.Says.{Says};
-    ghost use Rattle.cargo_lock_references.specs.Chosen.{ShortensTo, shortened};
+    ghost use Rattle.cargo_lock_references.specs.ResolvesTo.{ResolvesTo};
+    ghost use Rattle.cargo_lock_references.specs.WrittenReference.{ShortensTo, shorten};
     ghost use Rattle.cargo_lock_references.specs.Finds.{Finds};
 
     /// The package that the reference stands for among these: without a source, the first one that
@@ -173,35 +174,35 @@ impl EncodableDependency {
     ///
     /// `Parse` says that the reference then has no version.
     pub fn resolve(&self, alloc: Global, list: &[EncodablePackage]) -> Result<Dependency>
-        ensures { Finds (Says self.now (map entry_identity list.now)) result }
+        ensures { Finds (ResolvesTo self.now (map encoded_identity list.now)) result }
     {
         self.dependency_in(alloc, list)
     }
 
     // The same, as it is looked up.
     fn dependency_in(&self, alloc: Global, list: &[EncodablePackage]) -> Result<Dependency>
-        ensures { Reads (λ d. d) result (said self.now (map entry_identity list.now)) }
+        ensures { Reads (λ d. d) result (resolution_of self.now (map encoded_identity list.now)) }
     {
         let found = dependency_by_first(&self.by_ref(), self.first_fit(list))?;
-        required(alloc, &self.name, found)
+        require(alloc, &self.name, found)
     }
 
     // The first package that the reference fits.
     fn first_fit<'a>(&self, list: &'a [EncodablePackage]) -> Option<&'a EncodablePackage>
-        ensures { option_copied result ≡ find (λ e. fits self.now (entry_identity e)) list.now }
+        ensures { option_copied result ≡ find (λ e. fits self.now (encoded_identity e)) list.now }
     {
-        list.iter().find(|entry| {
-            let entry: &EncodablePackage = entry;
-            self.fits(entry)
+        list.iter().find(|encoded| {
+            let encoded: &EncodablePackage = encoded;
+            self.fits(encoded)
         })
     }
 
-    fn fits(&self, entry: &EncodablePackage) -> bool
-        ensures { result ≡ fits self.now (entry_identity entry.now) }
+    fn fits(&self, encoded: &EncodablePackage) -> bool
+        ensures { result ≡ fits self.now (encoded_identity encoded.now) }
     {
-        entry.name.as_str() == self.name.as_str()
+        encoded.name.as_str() == self.name.as_str()
             && match &self.version {
-                Some(version) => same_version(&entry.version, version),
+                Some(version) => same_version(&encoded.version, version),
                 None => true,
             }
     }
@@ -216,9 +217,9 @@ impl EncodableDependency {
     }
 
     // The same, by how many packages have the name, and name and version.
-    #[tactic(auto, unfolding(crate::specs::Chosen::shortened))]
+    #[tactic(auto, unfolding(crate::specs::WrittenReference::shorten))]
     fn by_counts(self, list: &[Package]) -> EncodableDependency
-        ensures { result ≡ shortened (map identity_of list.now) self }
+        ensures { result ≡ shorten (map identity_of list.now) self }
     {
         if self.name_is_unique(list) {
             self.by_name()
@@ -238,35 +239,35 @@ impl EncodableDependency {
         ensures ok { IfOk result (λ d. d ≡ in_full (is_escaped format) dependency.now) }
         ensures err { IsOkUnless result Memory }
     {
-        let form = EncodableDependencyRef::from_dependency(dependency, format);
-        Ok(form.to_owned()?)
+        let reference = EncodableDependencyRef::from_dependency(dependency, format);
+        Ok(reference.to_owned()?)
     }
 }
 
 impl EncodableDependency {
     ghost use Rattle.std.specs.Prelude.{Ok};
-    ghost use Rattle.cargo_lock_references.specs.Form.{ReadsForm, ReadsFormExactly};
+    ghost use Rattle.cargo_lock_references.specs.Reference.{ReadsReference, ReadsReferenceExactly};
     ghost use Rattle.cargo_lock_references.specs.Metadata.{own_identity};
 
     // The reference's own words as an identity.
     pub(crate) fn own_identity(&self, alloc: Global) -> Result<Dependency>
-        ensures read { ReadsForm result (own_identity (Ok self.now)) }
-        ensures exact { ReadsFormExactly result (own_identity (Ok self.now)) }
+        ensures read { ReadsReference result (own_identity (Ok self.now)) }
+        ensures exact { ReadsReferenceExactly result (own_identity (Ok self.now)) }
     {
         let found = own_dependency(&self.by_ref())?;
-        required(alloc, &self.name, found)
+        require(alloc, &self.name, found)
     }
 }
 
-// ---- the form that is written
+// ---- the reference that is written
 
 impl EncodableDependency {
-    ghost use Rattle.cargo_lock_references.specs.Form.{of_one};
-    ghost use Rattle.cargo_lock_references.specs.Chosen.{is_version_unique, without_source};
+    ghost use Rattle.cargo_lock_references.specs.Reference.{one_word};
+    ghost use Rattle.cargo_lock_references.specs.WrittenReference.{is_version_unique, without_source};
 
     // Whether exactly one package has the name.
     fn name_is_unique(&self, list: &[Package]) -> bool
-        ensures { result ≡ one (bears_name self.now.name) (map identity_of list.now) }
+        ensures { result ≡ exactly_one (has_name self.now.name) (map identity_of list.now) }
     {
         count_named(&self.name, list) == 1
     }
@@ -284,7 +285,7 @@ impl EncodableDependency {
 
     // The name alone.
     fn by_name(self) -> EncodableDependency
-        ensures { result ≡ of_one self.name }
+        ensures { result ≡ one_word self.name }
     {
         let EncodableDependency {
             name,
@@ -317,12 +318,12 @@ impl EncodableDependency {
 
 // How many packages have the name.
 fn count_named(name: &Name, list: &[Package]) -> usize
-    ensures { result ≡ count_by (bears_name name.now) (map identity_of list.now) }
+    ensures { result ≡ count_by (has_name name.now) (map identity_of list.now) }
 {
     list.iter()
-        .filter(|one| {
-            let one: &Package = one;
-            one.name.as_str() == name.as_str()
+        .filter(|package| {
+            let package: &Package = package;
+            package.name.as_str() == name.as_str()
         })
         .count()
 }
@@ -330,12 +331,13 @@ fn count_named(name: &Name, list: &[Package]) -> usize
 // How many packages have the name and the version.
 fn count_versions(name: &Name, version: &Version, list: &[Package]) -> usize
     ensures { result
-        ≡ count_by (bears_both name.now (parts_of version.now)) (map identity_of list.now) }
+        ≡ count_by (has_name_and_version name.now (parts_of version.now))
+        (map identity_of list.now) }
 {
     list.iter()
-        .filter(|one| {
-            let one: &Package = one;
-            one.name.as_str() == name.as_str() && same_version(&one.version, version)
+        .filter(|package| {
+            let package: &Package = package;
+            package.name.as_str() == name.as_str() && same_version(&package.version, version)
         })
         .count()
 }
@@ -365,12 +367,12 @@ fn clone_version(version: &Option<Version>) -> std::result::Result<Option<Versio
 
 impl PartialEq for EncodableDependency {
     ghost use Rattle.std.specs.Cmp.{partial_equiv_from_equiv, eq_by_cmp_equiv};
-    ghost use Rattle.cargo_lock_references.specs.FormOrder.{is_same_form};
-    ghost use Rattle.cargo_lock_references.specs.FormLaws.{form_total};
+    ghost use Rattle.cargo_lock_references.specs.ReferenceOrder.{is_same_reference};
+    ghost use Rattle.cargo_lock_references.specs.ReferenceLaws.{reference_total};
 
-    ghost eq = { is_same_form };
+    ghost eq = { is_same_reference };
 
-    ghost laws = { partial_equiv_from_equiv (eq_by_cmp_equiv form_total) };
+    ghost laws = { partial_equiv_from_equiv (eq_by_cmp_equiv reference_total) };
 
     fn eq(&self, other: &EncodableDependency) -> bool {
         self.cmp(other) == Ordering::Equal
@@ -379,20 +381,20 @@ impl PartialEq for EncodableDependency {
 
 impl Eq for EncodableDependency {
     ghost use Rattle.std.specs.Cmp.{eq_by_cmp_equiv};
-    ghost use Rattle.cargo_lock_references.specs.FormLaws.{form_total};
+    ghost use Rattle.cargo_lock_references.specs.ReferenceLaws.{reference_total};
 
-    ghost laws = { eq_by_cmp_equiv form_total };
+    ghost laws = { eq_by_cmp_equiv reference_total };
 }
 
 impl PartialOrd for EncodableDependency {
     ghost use Rattle.std.specs.Ordering.{as_partial_cmp};
     ghost use Rattle.std.specs.Cmp.{partial_order_from_total};
-    ghost use Rattle.cargo_lock_references.specs.FormOrder.{form_cmp};
-    ghost use Rattle.cargo_lock_references.specs.FormLaws.{form_total};
+    ghost use Rattle.cargo_lock_references.specs.ReferenceOrder.{reference_cmp};
+    ghost use Rattle.cargo_lock_references.specs.ReferenceLaws.{reference_total};
 
-    ghost partial_cmp = { as_partial_cmp form_cmp };
+    ghost partial_cmp = { as_partial_cmp reference_cmp };
 
-    ghost laws = { partial_order_from_total form_total };
+    ghost laws = { partial_order_from_total reference_total };
 
     fn partial_cmp(&self, other: &EncodableDependency) -> Option<Ordering> {
         Some(self.cmp(other))
@@ -401,12 +403,12 @@ impl PartialOrd for EncodableDependency {
 
 impl Ord for EncodableDependency {
     ghost use Rattle.std.specs.Prelude.{refl};
-    ghost use Rattle.cargo_lock_references.specs.FormOrder.{form_cmp};
-    ghost use Rattle.cargo_lock_references.specs.FormLaws.{form_total};
+    ghost use Rattle.cargo_lock_references.specs.ReferenceOrder.{reference_cmp};
+    ghost use Rattle.cargo_lock_references.specs.ReferenceLaws.{reference_total};
 
-    ghost cmp = { form_cmp };
+    ghost cmp = { reference_cmp };
 
-    ghost total = { form_total };
+    ghost total = { reference_total };
 
     ghost matches_partial_cmp = { λ a b. refl };
 
@@ -438,12 +440,12 @@ fn cmp_versions(a: &Option<Version>, b: &Option<Version>) -> Ordering
 }
 
 impl Hash for EncodableDependency {
-    ghost use Rattle.cargo_lock_references.specs.FormOrder.{form_hash};
-    ghost use Rattle.cargo_lock_references.specs.FormLaws.{form_alike};
+    ghost use Rattle.cargo_lock_references.specs.ReferenceOrder.{reference_hash};
+    ghost use Rattle.cargo_lock_references.specs.ReferenceLaws.{reference_alike};
 
-    ghost hash_input = { form_hash };
+    ghost hash_input = { reference_hash };
 
-    ghost respects_eq = { form_alike };
+    ghost respects_eq = { reference_alike };
 
     fn hash<H: Hasher>(&self, state: &mut H) {
         self.name.hash(state);

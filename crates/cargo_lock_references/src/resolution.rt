@@ -4,8 +4,8 @@ ghost use Rattle.std.specs.Prelude.{◌≡◌, ◌↔◌, ◌⊎◌, ◌++◌, L
 ghost use Rattle.std.specs.List.{find};
 ghost use Rattle.cargo_lock_parts.specs.declared.error.Error.TheVariants.{Memory};
 ghost use Rattle.cargo_lock_parts.specs.Error.{IsParse, IsParseOrMemory, Reads};
-ghost use Rattle.cargo_lock_references.specs.Records.{bare_source, entry_identity};
-ghost use Rattle.cargo_lock_references.specs.Said.{fits, itself, said};
+ghost use Rattle.cargo_lock_references.specs.Records.{unmarked_source, encoded_identity};
+ghost use Rattle.cargo_lock_references.specs.ResolutionSearch.{fits, own_words, resolution_of};
 
 use crate::identified::{Identified, copy_source, identity};
 use crate::index::Indexed;
@@ -19,51 +19,51 @@ use std::alloc::{AllocError, Global};
 /// The dependency that a reference stands for: without a source the first item that it fits, and
 /// with one, or where it fits none, its own words. It is `None` where these have no version.
 pub fn dependency_among<'a, T: Identified>(
-    form: &EncodableDependencyRef<'a>,
+    reference: &EncodableDependencyRef<'a>,
     list: &Indexed<'a, T>,
 ) -> std::result::Result<Option<Dependency>, AllocError>
-    ensures { IfOk result (λ found. found ≡ said form.now (map T.identity list.now)) }
+    ensures { IfOk result (λ found. found ≡ resolution_of reference.now (map T.identity list.now)) }
 {
-    dependency_by_first(form, list.first_fit(form))
+    dependency_by_first(reference, list.first_fit(reference))
 }
 
 /// The same, where the first item that the reference fits was looked up.
 pub fn dependency_by_first<T: Identified>(
-    form: &EncodableDependencyRef<'_>,
+    reference: &EncodableDependencyRef<'_>,
     first: Option<&T>,
 ) -> std::result::Result<Option<Dependency>, AllocError>
     ensures { (list : List T) → option_copied first.entry ≡ find
-        (λ x. fits form.now (T.identity x)) list
-        → IfOk result (λ found. found ≡ said form.now (map T.identity list)) }
+        (λ x. fits reference.now (T.identity x)) list
+        → IfOk result (λ found. found ≡ resolution_of reference.now (map T.identity list)) }
 {
-    if form.source.is_some() {
-        return own_dependency(form);
+    if reference.source.is_some() {
+        return own_dependency(reference);
     }
     match first {
         Some(item) => Ok(Some(identity(item)?)),
-        None => own_dependency(form),
+        None => own_dependency(reference),
     }
 }
 
 /// The reference's own words as a dependency, where a version is written.
 pub fn own_dependency(
-    form: &EncodableDependencyRef<'_>,
+    reference: &EncodableDependencyRef<'_>,
 ) -> std::result::Result<Option<Dependency>, AllocError>
-    ensures { IfOk result (λ found. found ≡ itself form.now) }
+    ensures { IfOk result (λ found. found ≡ own_words reference.now) }
 {
-    match form.version {
+    match reference.version {
         Some(version) => Ok(Some(Dependency {
-            name: form.name.clone()?,
+            name: reference.name.clone()?,
             version: version.clone()?,
-            source: copy_source(unmarked(&form.source))?,
+            source: copy_source(without_mark(&reference.source))?,
         })),
         None => Ok(None),
     }
 }
 
 // The source without its mark.
-fn unmarked<'a>(source: &'a Option<SourceIdAsUrl<'_>>) -> Option<&'a SourceId>
-    ensures { option_map (λ s. s.now) result ≡ bare_source source.now }
+fn without_mark<'a>(source: &'a Option<SourceIdAsUrl<'_>>) -> Option<&'a SourceId>
+    ensures { option_map (λ s. s.now) result ≡ unmarked_source source.now }
 {
     match source {
         Some(source) => Some(source.source()),
@@ -75,18 +75,18 @@ fn unmarked<'a>(source: &'a Option<SourceIdAsUrl<'_>>) -> Option<&'a SourceId>
 /// says that it stands for none.
 pub fn resolve_among<'a>(
     alloc: Global,
-    form: &'a EncodableDependency,
+    reference: &'a EncodableDependency,
     list: &Indexed<'a, EncodablePackage>,
 ) -> Result<Dependency>
-    ensures { Reads (λ d. d) result (said form.now (map entry_identity list.now)) }
+    ensures { Reads (λ d. d) result (resolution_of reference.now (map encoded_identity list.now)) }
 {
-    let found = dependency_among(&form.by_ref(), list)?;
-    required(alloc, &form.name, found)
+    let found = dependency_among(&reference.by_ref(), list)?;
+    require(alloc, &reference.name, found)
 }
 
-/// The dependency that was found for a reference of this name. `Parse` says that there is none; what
-/// was found is answered without memory.
-pub fn required(alloc: Global, name: &Name, found: Option<Dependency>) -> Result<Dependency>
+/// The dependency that was found for a reference of this name. `Parse` says that there is none;
+/// what was found is answered without memory.
+pub fn require(alloc: Global, name: &Name, found: Option<Dependency>) -> Result<Dependency>
     ensures read { Reads (λ d. d) result found }
     ensures accepted { IsOk result ↔ IsSome found }
     ensures refused { found ≡ None → IfErr result (λ fault. (fault ≡ Memory)
@@ -94,12 +94,12 @@ pub fn required(alloc: Global, name: &Name, found: Option<Dependency>) -> Result
 {
     match found {
         Some(dependency) => Ok(dependency),
-        None => Err(unresolved(alloc, name)),
+        None => Err(resolution_refusal(alloc, name)),
     }
 }
 
 // The refusal of a reference that needs a version.
-fn unresolved(alloc: Global, name: &Name) -> Error
+fn resolution_refusal(alloc: Global, name: &Name) -> Error
     ensures kind { IsParseOrMemory result }
     ensures text { (result ≡ Memory)
         ⊎ IsParse result (codes "couldn't resolve dependency: " ++ name.now) }

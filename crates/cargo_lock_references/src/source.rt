@@ -78,8 +78,8 @@ impl Clone for EncodableSourceId {
 
 impl PartialEq for EncodableSourceId {
     ghost use Rattle.std.specs.Cmp.{partial_equiv_from_equiv, eq_by_cmp_equiv};
-    ghost use Rattle.cargo_lock_references.specs.FormOrder.{is_same_marked};
-    ghost use Rattle.cargo_lock_references.specs.FormLaws.{marked_total};
+    ghost use Rattle.cargo_lock_references.specs.ReferenceOrder.{is_same_marked};
+    ghost use Rattle.cargo_lock_references.specs.ReferenceLaws.{marked_total};
 
     ghost eq = { is_same_marked };
 
@@ -92,7 +92,7 @@ impl PartialEq for EncodableSourceId {
 
 impl Eq for EncodableSourceId {
     ghost use Rattle.std.specs.Cmp.{eq_by_cmp_equiv};
-    ghost use Rattle.cargo_lock_references.specs.FormLaws.{marked_total};
+    ghost use Rattle.cargo_lock_references.specs.ReferenceLaws.{marked_total};
 
     ghost laws = { eq_by_cmp_equiv marked_total };
 }
@@ -100,8 +100,8 @@ impl Eq for EncodableSourceId {
 impl PartialOrd for EncodableSourceId {
     ghost use Rattle.std.specs.Ordering.{as_partial_cmp};
     ghost use Rattle.std.specs.Cmp.{partial_order_from_total};
-    ghost use Rattle.cargo_lock_references.specs.FormOrder.{marked_cmp};
-    ghost use Rattle.cargo_lock_references.specs.FormLaws.{marked_total};
+    ghost use Rattle.cargo_lock_references.specs.ReferenceOrder.{marked_cmp};
+    ghost use Rattle.cargo_lock_references.specs.ReferenceLaws.{marked_total};
 
     ghost partial_cmp = { as_partial_cmp marked_cmp };
 
@@ -114,8 +114,8 @@ impl PartialOrd for EncodableSourceId {
 
 impl Ord for EncodableSourceId {
     ghost use Rattle.std.specs.Prelude.{refl};
-    ghost use Rattle.cargo_lock_references.specs.FormOrder.{marked_cmp};
-    ghost use Rattle.cargo_lock_references.specs.FormLaws.{marked_total};
+    ghost use Rattle.cargo_lock_references.specs.ReferenceOrder.{marked_cmp};
+    ghost use Rattle.cargo_lock_references.specs.ReferenceLaws.{marked_total};
 
     ghost cmp = { marked_cmp };
 
@@ -131,8 +131,8 @@ impl Ord for EncodableSourceId {
 }
 
 impl Hash for EncodableSourceId {
-    ghost use Rattle.cargo_lock_references.specs.FormOrder.{marked_hash};
-    ghost use Rattle.cargo_lock_references.specs.FormLaws.{marked_alike};
+    ghost use Rattle.cargo_lock_references.specs.ReferenceOrder.{marked_hash};
+    ghost use Rattle.cargo_lock_references.specs.ReferenceLaws.{marked_alike};
 
     ghost hash_input = { marked_hash };
 

@@ -5,7 +5,7 @@ ghost use Rattle.std.specs.Str.Parse.{digits_value, without_leading_plus};
 ghost use Rattle.cargo_lock_parts.specs.declared.error.Error.TheVariants.{Memory};
 ghost use Rattle.cargo_lock_parts.specs.Error.{IsParse, IsParseOrMemory, Reads, RefusesWith};
 ghost use Rattle.cargo_lock_references.specs.Finds.{Finds};
-ghost use Rattle.cargo_lock_references.specs.Format.{HasFormat, IsFormatText, IsNumberText, format_by, format_refusal, format_without_number, has_checksum, numbered, numbered_int};
+ghost use Rattle.cargo_lock_references.specs.Format.{HasFormat, IsFormatText, IsNumberText, format_by, format_refusal, format_without_number, has_checksum, format_numbered, format_of_number};
 ghost use Rattle.cargo_lock_references.specs.Records.{texts_of};
 
 use crate::EncodablePackage;
@@ -63,18 +63,18 @@ impl ResolveVersion {
     /// The format with this number. `Parse` refuses a number outside 1 to 4 and quotes it, which is
     /// the one case that takes memory.
     pub fn from_number(alloc: Global, number: u32) -> Result<ResolveVersion>
-        ensures read { Reads (λ version. version) result (numbered number) }
+        ensures read { Reads (λ version. version) result (format_numbered number) }
         ensures accepted { IsOk result ↔ ((1 ≤ number) × (number ≤ 4)) }
         ensures refused { RefusesWith result (format_refusal (decimal number)) }
     {
-        match numbered(number) {
+        match format_numbered(number) {
             Some(version) => Ok(version),
             None => Err(invalid_format(alloc, number)),
         }
     }
 
-    /// The format whose number the text is, as Rust reads a `u32`: `3`, `+3` and `03` are V3. It takes
-    /// no memory.
+    /// The format whose number the text is, as Rust reads a `u32`: `3`, `+3` and `03` are V3. It
+    /// takes no memory.
     ///
     /// `Parse` refuses any other text. It quotes the number of a text that is one, so `5` for `05`,
     /// and a text that is no number as it stands.
@@ -92,8 +92,8 @@ impl ResolveVersion {
     }
 
     /// The format of a lockfile whose table has no `version`: V1 where some key of the metadata
-    /// begins `checksum `, else V2. It takes no memory. `Parse` refuses checksums in both places. The
-    /// root's checksum does not count.
+    /// begins `checksum `, else V2. It takes no memory. `Parse` refuses checksums in both places.
+    /// The root's checksum does not count.
     pub fn detect(
         alloc: Global,
         packages: &[EncodablePackage],
@@ -119,8 +119,8 @@ impl ResolveVersion {
 
     // The format with this number, which may be below 0.
     fn from_table_number(alloc: Global, number: i64) -> Result<ResolveVersion>
-        ensures read { Reads (λ version. version) result (numbered_int number) }
-        ensures accepted { IsOk result ↔ IsSome (numbered_int number) }
+        ensures read { Reads (λ version. version) result (format_of_number number) }
+        ensures accepted { IsOk result ↔ IsSome (format_of_number number) }
     {
         match number {
             1 => Ok(ResolveVersion::V1),
@@ -152,8 +152,8 @@ pub fn format_of_values(
 }
 
 // The format with this number.
-fn numbered(number: u32) -> Option<ResolveVersion>
-    ensures { result ≡ numbered number }
+fn format_numbered(number: u32) -> Option<ResolveVersion>
+    ensures { result ≡ format_numbered number }
 {
     match number {
         1 => Some(ResolveVersion::V1),
@@ -180,8 +180,8 @@ fn invalid_format<T: fmt::Display + Drop>(alloc: Global, number: T) -> Error
 fn has_checksum(packages: &[EncodablePackage]) -> bool
     ensures { result ≡ has_checksum packages.now }
 {
-    for entry in packages {
-        if entry.checksum.is_some() {
+    for encoded in packages {
+        if encoded.checksum.is_some() {
             return true;
         }
     }

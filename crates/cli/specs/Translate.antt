@@ -6,7 +6,7 @@ use Rattle.std.specs.Io.KnownBytes.{Appends, Keeps}
 use Rattle.cargo_lock_references.specs.declared.version.ResolveVersion.{ResolveVersion}
 use Rattle.cargo_lock_references.specs.Format.{IsFormatText}
 use Rattle.cargo_lock_encoding.specs.Lockfiles.{LockfileData}
-use Rattle.cargo_lock_encoding.specs.Text.{joined, lines_of}
+use Rattle.cargo_lock_encoding.specs.Text.{join_lines, lines_of}
 use Rattle.cargo_lock.specs.Loads.{IsMeant}
 use Rattle.cargo_lock_encoding.specs.Survives.{Survives, in_format}
 
@@ -24,10 +24,11 @@ TakesText output text old new = (IsPrinted output → Appends old new (text ++ 1
 abbrev pub IsCheckAsked : Found → Type 0
 IsCheckAsked found = one_text found (codes "check") ≡ Some (codes "true")
 
--- the text is that of a lockfile that some text means, in the format that the words name or else V3,
--- which the lockfile survives if they ask for that
+-- the text is that of a lockfile that some text means, in the format that the words name or else
+-- V3, which the lockfile survives if they ask for that
 abbrev pub PrintsTranslation : Found → Option (List ℕ) → Option (List ℕ) → Type 0
 PrintsTranslation found old new = (l : LockfileData) × (format : ResolveVersion) × IsMeant l
     × IsFormatText (unwrap_or (first_value found (codes "version")) (codes "3")) format
     × (IsCheckAsked found → Survives l format)
-    × TakesText (first_value found (codes "output")) (joined (lines_of (in_format format l))) old new
+    × TakesText (first_value found (codes "output"))
+    (join_lines (lines_of (in_format format l))) old new

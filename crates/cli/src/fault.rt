@@ -19,14 +19,14 @@ pub enum Fault {
     #[error("error: {0}\n")]
     Library(Error),
 
-    /// The words are none that the program takes. The parser's text begins so too, and ends its last
-    /// line.
+    /// The words are none that the program takes. The parser's text begins so too, and ends its
+    /// last line.
     #[error("{0}")]
     Words(clap::Error),
 
     /// The lockfile does not survive the format of this number.
     #[error("error: lockfile does not survive format `{0}`\n")]
-    Lost(u32),
+    DoesNotSurvive(u32),
 
     /// A specification fits no package.
     #[error("error: invalid dependency name: `{0}`\n")]
@@ -40,8 +40,8 @@ pub enum Fault {
 impl Fault {
     ghost use Rattle.std.specs.declared.io.ErrorKind.TheVariants.{OutOfMemory};
 
-    /// The fault of a call of the system that takes memory, as the one that reads the words. Refused
-    /// memory is told as that.
+    /// The fault of a call of the system that takes memory, as the one that reads the words.
+    /// Refused memory is told as that.
     pub fn of_start(error: io::Error) -> Fault
         ensures memory { error_kind error ≡ OutOfMemory → result ≡ Library Memory }
         ensures other { error_kind error ≢ OutOfMemory → result ≡ Library (Io (error_kind error)) }

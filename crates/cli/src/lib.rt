@@ -24,8 +24,8 @@ use std::process::ExitCode;
 use std::rt::Files;
 
 /// Runs the command that `words` name, which stand without the program's own name. What it answers
-/// goes to `out`, which is then flushed, and a fault goes to `err`, as one message. Where it answers
-/// success, nothing was written to `err`.
+/// goes to `out`, which is then flushed, and a fault goes to `err`, as one message. Where it
+/// answers success, nothing was written to `err`.
 pub fn run<R: Files + AllocGlobal, S: AsStr, W: Write, E: Write>(
     rt: &R,
     words: &[S],

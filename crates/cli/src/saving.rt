@@ -37,7 +37,7 @@ pub(crate) fn save<R: Files + AllocGlobal>(
     match OpenOptions::new().write(true).open(rt, path) {
         Ok(file) => save_into(rt, path, file, text),
         Err(error) if error.kind() == ErrorKind::NotFound => {
-            let target = followed(rt, path)?;
+            let target = follow_links(rt, path)?;
             replace(rt, target.as_path(), None, text)
         }
         Err(error) => Err(Fault::from(error)),
@@ -54,7 +54,7 @@ fn save_into<R: Files + AllocGlobal>(
 ) -> Result<(), Fault> {
     let old = file.metadata()?;
     if old.is_file() {
-        let target = followed(rt, path)?;
+        let target = follow_links(rt, path)?;
         if is_at(rt, target.as_path(), &old)? {
             return replace(rt, target.as_path(), Some(&old), text);
         }
@@ -66,7 +66,7 @@ fn save_into<R: Files + AllocGlobal>(
 }
 
 /// Where the links at the end of a path lead, whether or not a file is there.
-fn followed<R: Files + AllocGlobal>(rt: &R, path: Path<'_>) -> Result<PathBuf, Fault> {
+fn follow_links<R: Files + AllocGlobal>(rt: &R, path: Path<'_>) -> Result<PathBuf, Fault> {
     let mut target = path.to_path_buf(rt.alloc())?;
     for _ in 0..LINKS {
         if !is_link(rt, target.as_path())? {
@@ -117,16 +117,16 @@ fn replace<R: Files + AllocGlobal>(
     let (path, file) = new_beside(rt, target, rights)?;
     match complete(rt, path.as_path(), file, old, text) {
         Ok(()) => {}
-        Err(error) => return Err(removed(rt, path.as_path(), error)),
+        Err(error) => return Err(remove_after(rt, path.as_path(), error)),
     }
     match fs::rename(rt, path.as_path(), target) {
         Ok(()) => Ok(()),
-        Err(error) => Err(removed(rt, path.as_path(), error)),
+        Err(error) => Err(remove_after(rt, path.as_path(), error)),
     }
 }
 
 /// Removes a new file that is not to stay. The fault stays the one that there was before.
-fn removed<R: Files>(rt: &R, path: Path<'_>, error: io::Error) -> Fault {
+fn remove_after<R: Files>(rt: &R, path: Path<'_>, error: io::Error) -> Fault {
     let _ = fs::remove_file(rt, path);
     Fault::from(error)
 }
@@ -172,7 +172,7 @@ fn new_beside<R: Files + AllocGlobal>(
     rights: u32,
 ) -> Result<(PathBuf, R::File), Fault> {
     for number in 0..NAMES {
-        let path = beside(rt.alloc(), target, number)?;
+        let path = temporary_path(rt.alloc(), target, number)?;
         match create_new(rt, path.as_path(), rights) {
             Ok(file) => return Ok((path, file)),
             Err(error) if error.kind() == ErrorKind::AlreadyExists => {}
@@ -183,7 +183,7 @@ fn new_beside<R: Files + AllocGlobal>(
 }
 
 /// The path of a new file in the folder of this path.
-fn beside(alloc: Global, target: Path<'_>, number: u32) -> Result<PathBuf, AllocError>
+fn temporary_path(alloc: Global, target: Path<'_>, number: u32) -> Result<PathBuf, AllocError>
     ensures { IfOk result (λ new. path_buf_bytes new ≡ path_with_file_name (path_bytes target.entry)
         (codes ".cargo-lock-" ++ decimal number ++ codes ".new")) }
 {

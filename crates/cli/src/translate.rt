@@ -4,9 +4,9 @@ ghost use Rattle.clap.specs.Matches.{first_value, found_of};
 ghost use Rattle.std.specs.Io.KnownBytes.{Appends};
 ghost use Rattle.cargo_lock_parts.specs.declared.error.Error.TheVariants.{Memory};
 ghost use Rattle.cargo_lock_references.specs.Format.{number_of};
-ghost use Rattle.cargo_lock_encoding.specs.Text.{joined, lines_of};
+ghost use Rattle.cargo_lock_encoding.specs.Text.{join_lines, lines_of};
 ghost use Rattle.cargo_lock_encoding.specs.Survives.{Survives, in_format};
-ghost use Rattle.cli.specs.declared.fault.Fault.TheVariants.{Library, Lost};
+ghost use Rattle.cli.specs.declared.fault.Fault.TheVariants.{Library, DoesNotSurvive};
 ghost use Rattle.cli.specs.Translate.{IsCheckAsked, PrintsTranslation, TakesText};
 
 use crate::fault::Fault;
@@ -58,19 +58,19 @@ fn check_if_asked(
 fn check(alloc: Global, lockfile: &Lockfile, format: ResolveVersion) -> Result<(), Fault>
     ensures ok { OnOk result (Survives lockfile.now format) }
     ensures err { IfErr result (λ fault. (fault ≡ Library Memory)
-        ⊎ ((fault ≡ Lost (number_of format)) × (¬ Survives lockfile.now format))) }
+        ⊎ ((fault ≡ DoesNotSurvive (number_of format)) × (¬ Survives lockfile.now format))) }
 {
     if lockfile.survives(alloc, format)? {
         Ok(())
     } else {
-        Err(Fault::Lost(u32::from(format)))
+        Err(Fault::DoesNotSurvive(u32::from(format)))
     }
 }
 
 /// The text of the lockfile in another format.
 fn text_in(alloc: Global, lockfile: Lockfile, format: ResolveVersion) -> Result<String, Error>
     ensures ok { IfOk result
-        (λ text. string_bytes text ≡ joined (lines_of (in_format format lockfile))) }
+        (λ text. string_bytes text ≡ join_lines (lines_of (in_format format lockfile))) }
     ensures err { IsOkUnless result Memory }
 {
     let mut lockfile = lockfile;

@@ -30,9 +30,9 @@ impl Style {
 }
 
 /// Prints the trees of the packages that the specifications name, or without any those of all
-/// roots, with an empty line between two trees. Fails where the lockfile is not read or has no tree,
-/// where a specification fits no package, or where `out` fails; a beginning of the text was then
-/// written in the last case, and nothing in the others.
+/// roots, with an empty line between two trees. Fails where the lockfile is not read or has no
+/// tree, where a specification fits no package, or where `out` fails; a beginning of the text was
+/// then written in the last case, and nothing in the others.
 pub(crate) fn run<R: Files + AllocGlobal, W: Write>(
     rt: &R,
     options: &ArgMatches<'_>,

@@ -86,8 +86,8 @@ fn doubled(alloc: Global) -> Result<String, Error> {
     Ok(text)
 }
 
-// The root is one line of 8 bytes, `a 1.0.0` and a newline. Each edge is one of 18: 10 for the branch,
-// whose three symbols have 3 bytes each, and 8 for `b 1.0.0` and a newline.
+// The root is one line of 8 bytes, `a 1.0.0` and a newline. Each edge is one of 18: 10 for the
+// branch, whose three symbols have 3 bytes each, and 8 for `b 1.0.0` and a newline.
 #[test]
 fn thousand_edges_between_two_packages(rt: HostRuntime) {
     let text = or_fault(rt.alloc(), doubled(rt.alloc()));
@@ -119,8 +119,9 @@ fn add_link(text: &mut String, i: u32) -> Result<(), Error> {
 }
 
 // Of n packages the entry at place k stands at depth k. Its line has 13 bytes for the label and the
-// newline, after the first 10 for the branch, and 4 for each level above, which are k - 1 and of which
-// none goes on. So there are 13 n + 10 (n - 1) + 2 (n - 1) (n - 2) bytes, either way along the chain.
+// newline, after the first 10 for the branch, and 4 for each level above, which are k - 1 and of
+// which none goes on. So there are 13 n + 10 (n - 1) + 2 (n - 1) (n - 2) bytes, either way along
+// the chain.
 #[test]
 fn chain_of_twenty_thousand_packages(rt: HostRuntime) {
     let text = or_fault(rt.alloc(), chain(rt.alloc(), 20_000));

@@ -1,5 +1,5 @@
-//! Generated lockfiles of all formats: what reading and writing gave for their references agrees with
-//! `resolve` and `v2`, which walk the packages.
+//! Generated lockfiles of all formats: what reading and writing gave for their references agrees
+//! with `resolve` and `v2`, which walk the packages.
 
 use crate::references::{dependencies, reference_in, resolved, shortened, written};
 use crate::shared::{or_fault, text_of};
@@ -161,7 +161,8 @@ fn read(alloc: Global, text: &str) -> Result<String, Error> {
     dependencies(alloc, &lockfile)
 }
 
-// How many of the generated lockfiles are read, and how many are read, or refused, as the walk has it.
+// How many of the generated lockfiles are read, and how many are read, or refused, as the walk has
+// it.
 fn count_read(alloc: Global) -> (u64, u64) {
     let mut meant = 0u64;
     let mut agreed = 0u64;

@@ -15,8 +15,8 @@ fn long(alloc: Global) -> Result<String, Error> {
     Ok("a".repeat(alloc, LONG)?)
 }
 
-// The format, and the lengths of the names of packages and of their dependencies, and of the keys of
-// the metadata.
+// The format, and the lengths of the names of packages and of their dependencies, and of the keys
+// of the metadata.
 fn lengths(alloc: Global, text: &str) -> Result<String, Error> {
     let lockfile = Lockfile::from_str(alloc, text)?;
     lengths_in(alloc, &lockfile)
@@ -157,8 +157,9 @@ fn deep(alloc: Global, lists: usize, tables: usize) -> Result<String, Error> {
     lengths(alloc, text.as_str())
 }
 
-// What is read has 80 lists with a table in each, and below them 80 times 80 tables. None of its keys
-// is one of a lockfile. Tried without a proof it needs a larger stack than 8 MiB (`ulimit -s 262144`).
+// What is read has 80 lists with a table in each, and below them 80 times 80 tables. None of its
+// keys is one of a lockfile. Tried without a proof it needs a larger stack than 8 MiB (`ulimit -s
+// 262144`).
 #[test]
 fn deepest_tables(rt: HostRuntime) {
     let answer = or_fault(rt.alloc(), deep(rt.alloc(), DEEPEST, DEEPEST));

@@ -1,5 +1,5 @@
-//! Large lockfiles whose packages share their names: a ring of 500 names in four versions each, in V3
-//! and in V1, and a chain of 5,000 versions of one name.
+//! Large lockfiles whose packages share their names: a ring of 500 names in four versions each, in
+//! V3 and in V1, and a chain of 5,000 versions of one name.
 
 use crate::references::{shortened, sizes, written};
 use crate::shared::{HEAD, or_fault, text_of};
@@ -40,9 +40,9 @@ fn ring(alloc: Global) -> Result<String, Error> {
     Ok(text)
 }
 
-// Of the lockfile of a text: whether the references that are printed are those of the text, and those
-// of the first packages are `v2`'s; whether what is printed is read back as equal packages; and the
-// sizes of its tree.
+// Of the lockfile of a text: whether the references that are printed are those of the text, and
+// those of the first packages are `v2`'s; whether what is printed is read back as equal packages;
+// and the sizes of its tree.
 fn written_and_read(alloc: Global, text: &str, most: usize) -> Result<String, Error> {
     let lockfile = Lockfile::from_str(alloc, text)?;
     let written = text_of(alloc, &lockfile)?;

@@ -236,7 +236,8 @@ fn is_told(alloc: Global, tree: &Tree, call: Call, writer: Broken, wanted: usize
         && DRAWN.as_bytes().starts_with(taken)
 }
 
-// Whether each call tells this answer of a writer that takes so many bytes a call for so many calls.
+// Whether each call tells this answer of a writer that takes so many bytes a call for so many
+// calls.
 fn each_tells(
     alloc: Global,
     tree: &Tree,

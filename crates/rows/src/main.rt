@@ -1,8 +1,8 @@
-//! The program `rows`: asks the library what the case files beside it ask, and tells each case whose
-//! answer is another than the one that stands there.
+//! The program `rows`: asks the library what the case files beside it ask, and tells each case
+//! whose answer is another than the one that stands there.
 //!
-//! A case file is one whose name ends in `.md`. In one whose name begins with `failing` each case is
-//! to fail, so that what is told of failing cases is tested too.
+//! A case file is one whose name ends in `.md`. In one whose name begins with `failing` each case
+//! is to fail, so that what is told of failing cases is tested too.
 #![tactic(auto)]
 
 mod calls;

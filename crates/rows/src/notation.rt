@@ -1,5 +1,5 @@
-//! The notation of rows: `\n` is a newline, `\u{3000}` the character of that number, and `''` an empty
-//! word.
+//! The notation of rows: `\n` is a newline, `\u{3000}` the character of that number, and `''` an
+//! empty word.
 
 use cargo_lock::Error;
 use std::alloc::Global;

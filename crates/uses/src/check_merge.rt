@@ -1,10 +1,10 @@
-//! What a merge check begins with: the text of a lockfile is read, its own format keeps it, and it is
-//! printed as it stands.
+//! What a merge check begins with: the text of a lockfile is read, its own format keeps it, and it
+//! is printed as it stands.
 
 ghost use Rattle.std.specs.Prelude.{◌≡◌, IfOk, IsTrue};
 ghost use Rattle.cargo_lock.specs.Means.{TextMeans};
 ghost use Rattle.cargo_lock.specs.Lockfiles.{LockfileData};
-ghost use Rattle.cargo_lock.specs.Text.{joined, lines_of};
+ghost use Rattle.cargo_lock.specs.Text.{join_lines, lines_of};
 ghost use Rattle.cargo_lock.specs.Survives.{Survives};
 
 use cargo_lock::{Error, Lockfile};
@@ -23,7 +23,7 @@ pub fn is_kept(alloc: Global, text: &str) -> Result<bool, Error>
     ensures kept { IfOk result (λ kept. IsTrue kept → (lockfile : LockfileData)
         × TextMeans text.now lockfile
         × Survives lockfile lockfile.version
-        × (joined (lines_of lockfile) ≡ text.now)) }
+        × (join_lines (lines_of lockfile) ≡ text.now)) }
 {
     let lockfile = Lockfile::from_str(alloc, text)?;
     if !is_kept_by_its_format(alloc, &lockfile)? {

@@ -8,7 +8,7 @@ ghost use Rattle.cargo_lock_parts.specs.IdentityOrder.{identity_cmp};
 ghost use Rattle.cargo_lock_graph.specs.declared.drawing.entry.Entry.{Entry};
 ghost use Rattle.cargo_lock_graph.specs.declared.graph.EdgeDirection.TheVariants.{Incoming};
 ghost use Rattle.cargo_lock_graph.specs.Drawing.{IsDrawing};
-ghost use Rattle.cargo_lock_graph.specs.DrawingText.{drawn, standard_symbols};
+ghost use Rattle.cargo_lock_graph.specs.DrawingText.{drawing_text, standard_symbols};
 ghost use Rattle.cargo_lock_graph.specs.Edges.{externals, far_ends};
 ghost use Rattle.cargo_lock_graph.specs.Labels.{label_at};
 ghost use Rattle.cargo_lock_graph.specs.Sinks.{IsRenderedInto, IsRenderedTo};
@@ -118,9 +118,10 @@ impl Tree {
     /// the node's edges, newest first. A label is the name and the version, and where it is exact
     /// also the checksum, or else the source, or else `inexact`.
     ///
-    /// All memory is asked for before the first byte, so `Memory` means that nothing was taken. `Io`
-    /// means that the sink failed once, and that a beginning of the text was taken. No other fault
-    /// comes. The index is below the node count, and the sink's count of faults below 2^64 - 1.
+    /// All memory is asked for before the first byte, so `Memory` means that nothing was taken.
+    /// `Io` means that the sink failed once, and that a beginning of the text was taken. No other
+    /// fault comes. The index is below the node count, and the sink's count of faults below 2^64 -
+    /// 1.
     pub fn render_into<S: Sink>(
         &self,
         alloc: Global,
@@ -136,7 +137,8 @@ impl Tree {
             × IsDrawing (far_ends direction self.now.graph.edges) index entries
             × IsRenderedInto (S.taken sink.old) (S.taken sink.new) (S.failures sink.old)
             (S.failures sink.new)
-            (drawn standard_symbols (label_at exact self.now.graph.packages) entries) result }
+            (drawing_text standard_symbols (label_at exact self.now.graph.packages) entries)
+            result }
     {
         render_into(alloc, sink, &self.graph, index, direction, symbols, exact)
     }
@@ -156,7 +158,8 @@ impl Tree {
         ensures { (entries : List Entry)
             × IsDrawing (far_ends direction self.now.graph.edges) index entries
             × IsRenderedTo (W.contents w.old) (W.contents w.new)
-            (drawn standard_symbols (label_at exact self.now.graph.packages) entries) result }
+            (drawing_text standard_symbols (label_at exact self.now.graph.packages) entries)
+            result }
     {
         render_onto(alloc, w, &self.graph, index, direction, symbols, exact)
     }
@@ -175,7 +178,8 @@ impl Tree {
         ensures { (entries : List Entry)
             × IsDrawing (far_ends direction self.now.graph.edges) index entries
             × IsRenderedTo (W.contents w.old) (W.contents w.new)
-            (drawn standard_symbols (label_at exact self.now.graph.packages) entries) result }
+            (drawing_text standard_symbols (label_at exact self.now.graph.packages) entries)
+            result }
     {
         self.render_with_symbols(alloc, w, index, direction, &Symbols::default(), exact)
     }

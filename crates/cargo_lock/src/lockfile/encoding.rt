@@ -9,9 +9,9 @@ ghost use Rattle.cargo_lock_references.specs.Finds.{Finds};
 ghost use Rattle.cargo_lock_references.specs.LeastKey.{IsFoundAtLeastKey};
 ghost use Rattle.cargo_lock_references.specs.Metadata.{checksum_in};
 ghost use Rattle.cargo_lock_encoding.specs.Means.{IsLocked};
-ghost use Rattle.cargo_lock_encoding.specs.Meaning.{locked};
+ghost use Rattle.cargo_lock_encoding.specs.Meaning.{lockfile_of};
 ghost use Rattle.cargo_lock_encoding.specs.Table.{encoded_of};
-ghost use Rattle.cargo_lock_encoding.specs.Text.{encoded_lines, joined};
+ghost use Rattle.cargo_lock_encoding.specs.Text.{encoded_lines, join_lines};
 
 use crate::error::Result;
 use crate::lockfile::Lockfile;
@@ -54,7 +54,7 @@ impl Model for EncodableLockfile {
 
     ghost view = { λ e. record {
       version = e.version;
-      entries = e.«package».items;
+      packages = e.«package».items;
       root = e.root;
       metadata = texts_of e.metadata.entries;
       patch = e.patch;
@@ -75,7 +75,7 @@ impl EncodableLockfile {
     }
 
     fn resolve(self, alloc: Global) -> Result<Lockfile>
-        ensures { Reads (λ l. l) result (locked self) }
+        ensures { Reads (λ l. l) result (lockfile_of self) }
     {
         let parts = self.into_values().resolve(alloc)?;
         Ok(Lockfile::from_parts(parts))
@@ -93,12 +93,12 @@ impl EncodableLockfile {
     }
 
     /// The text of the lockfile, as Cargo writes it: its packages, the patches that no package uses
-    /// and its metadata, and its number from the third format on. The sources of patches are escaped
-    /// where the number is 4. The root is not written.
+    /// and its metadata, and its number from the third format on. The sources of patches are
+    /// escaped where the number is 4. The root is not written.
     ///
     /// The one error is `Memory`.
     pub fn to_string(&self, alloc: Global) -> Result<String>
-        ensures ok { IfOk result (λ text. string_bytes text ≡ joined (encoded_lines self.now)) }
+        ensures ok { IfOk result (λ text. string_bytes text ≡ join_lines (encoded_lines self.now)) }
         ensures err { IsOkUnless result Memory }
     {
         self.by_ref().to_string(alloc)
@@ -107,14 +107,14 @@ impl EncodableLockfile {
     /// The checksum that the metadata holds for a package: the value at the first key, in byte
     /// order, that reads as the package's name and version. Keys that do not read are passed over,
     /// and a value that is no checksum is none.
-    pub fn find_checksum(&self, alloc: Global, one: &Package) -> Result<Option<Checksum>>
+    pub fn find_checksum(&self, alloc: Global, package: &Package) -> Result<Option<Checksum>>
         ensures ok { IfOk result (λ found. option_map digest_of found
-            ≡ checksum_in self.now.metadata one.now.name one.now.version) }
-        ensures least { IfOk result (λ found. IsFoundAtLeastKey self.now.metadata one.now.name
-            one.now.version (option_map digest_of found)) }
+            ≡ checksum_in self.now.metadata «package».now.name «package».now.version) }
+        ensures least { IfOk result (λ found. IsFoundAtLeastKey self.now.metadata «package».now.name
+            «package».now.version (option_map digest_of found)) }
         ensures err { IsOkUnless result Memory }
     {
-        let found = find_checksum(alloc, &self.metadata, &one.name, &one.version)?;
+        let found = find_checksum(alloc, &self.metadata, &package.name, &package.version)?;
         Ok(found)
     }
 

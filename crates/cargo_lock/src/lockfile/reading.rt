@@ -52,10 +52,10 @@ impl Lockfile {
         }
     }
 
-    /// Reads the table of a lockfile in any format. `Parse` says what is refused, the first of these:
-    /// a value that is missing, of another type or no text of its kind, then the format, then a
-    /// reference that stands for nothing. A URL of 4 GB or more is refused too, which is never so
-    /// where each text of the table is shorter than 2^24 bytes.
+    /// Reads the table of a lockfile in any format. `Parse` says what is refused, the first of
+    /// these: a value that is missing, of another type or no text of its kind, then the format,
+    /// then a reference that stands for nothing. A URL of 4 GB or more is refused too, which is
+    /// never so where each text of the table is shorter than 2^24 bytes.
     ///
     /// Values are read in this order, however the keys stand in the table: `version`, each package,
     /// `root`, `metadata` by its keys, `patch` with each patch; of a package or a patch `name`,

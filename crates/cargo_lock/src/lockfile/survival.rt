@@ -12,7 +12,7 @@ impl Lockfile {
     /// Whether the lockfile survives a format: whether its table, written in this format, is read
     /// back as a lockfile of this format with equal packages, root and patches. It is told from
     /// the parts, without writing the table: every version and source reads back from its text,
-    /// each reference, in the form in which it is written, says the dependency that it stands for,
+    /// each reference, as it is written, resolves to the dependency that it stands for,
     /// checksums are found again, and V1 and V2 can be told apart.
     ///
     /// A path source is not written, so a package with one survives no format. Only want of

@@ -7,7 +7,7 @@ ghost use Rattle.cargo_lock_parts.specs.Error.{Reads, Refuses};
 ghost use Rattle.cargo_lock_encoding.specs.Meaning.{meaning};
 ghost use Rattle.cargo_lock_encoding.specs.Survives.{in_format};
 ghost use Rattle.cargo_lock_encoding.specs.Table.{table_of};
-ghost use Rattle.cargo_lock.specs.Translation.{IsStuck, KeepsThrough, LeadsTo, SurvivesEach, translated};
+ghost use Rattle.cargo_lock.specs.Translation.{IsStuck, KeepsThrough, LeadsTo, SurvivesEach, translate_in_turn};
 
 use crate::error::{Error, Result};
 use crate::lockfile::Lockfile;
@@ -30,11 +30,11 @@ impl Lockfile {
             → IfOk result (KeepsThrough formats.now self.now) }
         ensures refused { SurvivesEach formats.now self.now → IsOkUnless result Memory }
     {
-        self.translated(alloc, formats)
+        self.translate_in_turn(alloc, formats)
     }
 
-    fn translated(&self, alloc: Global, formats: &[ResolveVersion]) -> Result<Lockfile>
-        ensures { Reads (λ x. x) result (translated formats.now self.now) }
+    fn translate_in_turn(&self, alloc: Global, formats: &[ResolveVersion]) -> Result<Lockfile>
+        ensures { Reads (λ x. x) result (translate_in_turn formats.now self.now) }
     {
         let mut lockfile = self.clone()?;
         for format in formats {

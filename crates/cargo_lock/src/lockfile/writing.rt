@@ -5,7 +5,7 @@ ghost use Rattle.toml.specs.View.{table_view};
 ghost use Rattle.cargo_lock_parts.specs.declared.error.Error.TheVariants.{Memory};
 ghost use Rattle.cargo_lock.specs.Shortest.{HasShortestReferences};
 ghost use Rattle.cargo_lock_encoding.specs.Table.{table_of};
-ghost use Rattle.cargo_lock_encoding.specs.Text.{joined, lines_of};
+ghost use Rattle.cargo_lock_encoding.specs.Text.{join_lines, lines_of};
 
 use crate::error::Result;
 use crate::lockfile::Lockfile;
@@ -13,7 +13,8 @@ use std::alloc::Global;
 use toml::Table;
 
 impl Lockfile {
-    /// The table of the lockfile, in the lockfile's format, as Cargo writes it. The one error is `Memory`.
+    /// The table of the lockfile, in the lockfile's format, as Cargo writes it. The one error is
+    /// `Memory`.
     ///
     /// Where the lockfile survives its format, which is V2 or later, and no two packages are equal
     /// in identity, a dependency that is among the packages stands in the shortest form that names
@@ -29,7 +30,7 @@ impl Lockfile {
     /// The text of the lockfile, in the lockfile's format, as Cargo writes it. The root is left
     /// out, and so is the replacement of a package with dependencies. The one error is `Memory`.
     pub fn to_string(&self, alloc: Global) -> Result<String>
-        ensures ok { IfOk result (λ text. string_bytes text ≡ joined (lines_of self.now)) }
+        ensures ok { IfOk result (λ text. string_bytes text ≡ join_lines (lines_of self.now)) }
         ensures err { IsOkUnless result Memory }
     {
         self.by_ref().to_string(alloc)

@@ -5,7 +5,7 @@ ghost use Rattle.std.specs.Prelude.{◌-◌, ◌^◌, ◌<◌, ◌≡◌, ◌++�
 ghost use Rattle.semver.specs.Identifiers.{marked, parts_of, parts_text};
 ghost use Rattle.std.specs.Prelude.{decimal};
 ghost use Rattle.cargo_lock_parts.specs.Checksum.{digest_of, digest_text};
-ghost use Rattle.cargo_lock_parts.specs.Source.{reference_of};
+ghost use Rattle.cargo_lock_parts.specs.Source.{git_reference_of};
 ghost use Rattle.cargo_lock_parts.specs.SourceText.{fragment_text, query_text, text_of};
 ghost use Rattle.cargo_lock_graph.specs.Labels.{exact_text, label_of};
 ghost use Rattle.cargo_lock_graph.specs.Sinks.{IsWritten};
@@ -86,7 +86,7 @@ fn put_checksum<T: Target>(out: &mut T, checksum: &Checksum) -> Put
 fn put_query<T: Target>(out: &mut T, reference: &GitReference) -> Put
     requires { (T.state out.old).failures < 2 ^ 64 - 1 }
     ensures { IsWritten (T.state out.old) (T.state out.new)
-        (query_text false (reference_of reference.now)) result }
+        (query_text false (git_reference_of reference.now)) result }
 {
     match reference {
         GitReference::DefaultBranch => Ok(()),
@@ -112,7 +112,7 @@ fn put_fragment<T: Target>(out: &mut T, precise: Option<&str>) -> Put
 fn put_place<T: Target>(out: &mut T, reference: &GitReference, precise: Option<&str>) -> Put
     requires { (T.state out.old).failures < 2 ^ 64 - 1 }
     ensures { IsWritten (T.state out.old) (T.state out.new)
-        (query_text false (reference_of reference.now)
+        (query_text false (git_reference_of reference.now)
         ++ fragment_text (option_copied precise.entry)) result }
 {
     put_query(out, reference)?;
@@ -130,7 +130,7 @@ fn put_git<T: Target>(
     ensures { IsWritten (T.state out.old) (T.state out.new)
         (codes "git+"
         ++ (url.now ++
-        (query_text false (reference_of reference.now)
+        (query_text false (git_reference_of reference.now)
         ++ fragment_text (option_copied precise.entry)))) result }
 {
     put_both(out, b"git+", url.as_bytes())?;
@@ -154,12 +154,12 @@ fn put_source<T: Target>(out: &mut T, source: &SourceId) -> Put
     }
 }
 
-fn put_exact_text<T: Target>(out: &mut T, one: &Package) -> Put
+fn put_exact_text<T: Target>(out: &mut T, package: &Package) -> Put
     requires { (T.state out.old).failures < 2 ^ 64 - 1 }
     ensures { IsWritten (T.state out.old) (T.state out.new)
-        (exact_text one.now.checksum one.now.source) result }
+        (exact_text «package».now.checksum «package».now.source) result }
 {
-    match (&one.checksum, &one.source) {
+    match (&package.checksum, &package.source) {
         (Some(checksum), _) => put_checksum(out, checksum),
         (None, Some(source)) => put_source(out, source),
         (None, None) => put_all(out, b"inexact"),
@@ -169,13 +169,13 @@ fn put_exact_text<T: Target>(out: &mut T, one: &Package) -> Put
 // ---- the label
 
 // A space, and what tells the package exactly.
-fn put_exactly<T: Target>(out: &mut T, one: &Package) -> Put
+fn put_exactly<T: Target>(out: &mut T, package: &Package) -> Put
     requires { (T.state out.old).failures < 2 ^ 64 - 1 }
     ensures { IsWritten (T.state out.old) (T.state out.new)
-        (codes " " ++ exact_text one.now.checksum one.now.source) result }
+        (codes " " ++ exact_text «package».now.checksum «package».now.source) result }
 {
     put_all(out, b" ")?;
-    put_exact_text(out, one)
+    put_exact_text(out, package)
 }
 
 // A name, a space and a version.
@@ -189,22 +189,22 @@ fn put_name<T: Target>(out: &mut T, name: &Name, version: &Version) -> Put
 }
 
 // The name and the version of a package.
-fn put_identity<T: Target>(out: &mut T, one: &Package) -> Put
+fn put_identity<T: Target>(out: &mut T, package: &Package) -> Put
     requires { (T.state out.old).failures < 2 ^ 64 - 1 }
     ensures { IsWritten (T.state out.old) (T.state out.new)
-        (one.now.name ++ (codes " " ++ parts_text one.now.version)) result }
+        («package».now.name ++ (codes " " ++ parts_text «package».now.version)) result }
 {
-    put_name(out, &one.name, &one.version)
+    put_name(out, &package.name, &package.version)
 }
 
 // The label of a package.
-pub(crate) fn put_label<T: Target>(out: &mut T, one: &Package, exact: bool) -> Put
+pub(crate) fn put_label<T: Target>(out: &mut T, package: &Package, exact: bool) -> Put
     requires { (T.state out.old).failures < 2 ^ 64 - 1 }
-    ensures { IsWritten (T.state out.old) (T.state out.new) (label_of exact one.now) result }
+    ensures { IsWritten (T.state out.old) (T.state out.new) (label_of exact «package».now) result }
 {
-    put_identity(out, one)?;
+    put_identity(out, package)?;
     if exact {
-        return put_exactly(out, one);
+        return put_exactly(out, package);
     }
     Ok(())
 }

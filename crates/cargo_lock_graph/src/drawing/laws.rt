@@ -17,8 +17,8 @@ pub fn drawing_is_unique()
     ensures { DrawingIsUnique }
 {}
 
-/// From each start there is exactly one drawing of a graph in each direction, with cycles, edges from
-/// a node to itself and several edges between two nodes too.
+/// From each start there is exactly one drawing of a graph in each direction, with cycles, edges
+/// from a node to itself and several edges between two nodes too.
 pub fn graph_has_one_drawing()
     ensures { GraphHasOneDrawing }
 {}
@@ -57,8 +57,9 @@ pub fn text_tells_the_drawing()
     ensures { TextTellsDrawing }
 {}
 
-/// The text tells one drawing alone. Where no label holds a newline and different nodes have different
-/// labels, drawings with the same text are the same, so the text tells each reachable edge.
+/// The text tells one drawing alone. Where no label holds a newline and different nodes have
+/// different labels, drawings with the same text are the same, so the text tells each reachable
+/// edge.
 pub fn text_is_of_one_drawing()
     ensures { TextIsOfOneDrawing }
 {}

@@ -8,8 +8,8 @@ use crate::drawing::sink::{Sink, write_some};
 use itoa::Buffer;
 use std::io::{ErrorKind, Write};
 
-// Where the pieces of a text go: a sink or a writer that is borrowed for the time. It is seen as what
-// it took, how often it failed, and which borrow it is.
+// Where the pieces of a text go: a sink or a writer that is borrowed for the time. It is seen as
+// what it took, how often it failed, and which borrow it is.
 pub(crate) trait Target {
     ghost state: { Self → Taken };
 

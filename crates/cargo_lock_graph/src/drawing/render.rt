@@ -6,7 +6,7 @@ ghost use Rattle.cargo_lock_graph.specs.Drawing.{IsDrawing};
 ghost use Rattle.cargo_lock_graph.specs.DrawingByLater.{drawn_by_later, levels_text, line_by_later, prefix_by_later};
 ghost use Rattle.cargo_lock_graph.specs.DrawingLevels.{most_levels};
 ghost use Rattle.cargo_lock_graph.specs.DrawingMade.{AreMarked};
-ghost use Rattle.cargo_lock_graph.specs.DrawingText.{branch_text, drawn, level_text, standard_symbols};
+ghost use Rattle.cargo_lock_graph.specs.DrawingText.{branch_text, drawing_text, level_text, standard_symbols};
 ghost use Rattle.cargo_lock_graph.specs.Edges.{far_ends};
 ghost use Rattle.cargo_lock_graph.specs.Labels.{label_at};
 ghost use Rattle.cargo_lock_graph.specs.Sinks.{IsRendered, IsRenderedInto, IsRenderedTo, IsWritten};
@@ -183,7 +183,8 @@ fn draw<T: Target>(
     ensures drawn { (entries : List Entry)
         × IsDrawing (far_ends direction graph.now.edges) start entries
         × IsRendered (T.state out.old) (T.state out.new)
-        (drawn standard_symbols (label_at exact graph.now.packages) entries) result × IfOk result
+        (drawing_text standard_symbols (label_at exact graph.now.packages) entries) result
+        × IfOk result
         (λ most. most ≡ most_levels [] entries) }
     ensures frames { IfOk result (λ most. most ≤ length graph.now.packages) }
 {
@@ -217,7 +218,7 @@ pub fn render_into<S: Sink>(
     ensures { (entries : List Entry) × IsDrawing (far_ends direction graph.now.edges) start entries
         × IsRenderedInto (S.taken sink.old) (S.taken sink.new) (S.failures sink.old)
         (S.failures sink.new)
-        (drawn standard_symbols (label_at exact graph.now.packages) entries) result }
+        (drawing_text standard_symbols (label_at exact graph.now.packages) entries) result }
 {
     let mut out = OfSink { sink };
     let drawn = draw(alloc, &mut out, graph, start, direction, symbols, exact);
@@ -243,7 +244,7 @@ pub fn render_onto<W: Write>(
     requires { start < length graph.now.packages }
     ensures { (entries : List Entry) × IsDrawing (far_ends direction graph.now.edges) start entries
         × IsRenderedTo (W.contents writer.old) (W.contents writer.new)
-        (drawn standard_symbols (label_at exact graph.now.packages) entries) result }
+        (drawing_text standard_symbols (label_at exact graph.now.packages) entries) result }
 {
     let mut out = OfWriter { writer, faults: 0 };
     let drawn = draw(alloc, &mut out, graph, start, direction, symbols, exact);

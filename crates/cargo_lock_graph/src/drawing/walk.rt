@@ -4,15 +4,15 @@ ghost use Rattle.std.specs.Prelude.{◌≡◌, ℕ, ◌<◌, ◌≤◌, [], ◌�
 ghost use Rattle.cargo_lock_graph.specs.DrawingByLater.{goes_on};
 ghost use Rattle.cargo_lock_graph.specs.DrawingMade.{AreMarked, drawing, rest_of};
 ghost use Rattle.cargo_lock_graph.specs.Edges.{far_ends};
-ghost use Rattle.cargo_lock_graph.specs.WalkState.{HasDrawn, IsHeld, IsOn, coming, to_come, waiting};
+ghost use Rattle.cargo_lock_graph.specs.WalkState.{HasDrawn, IsHeld, IsOn, entries_to_come, to_come, entries_waiting};
 
 use crate::drawing::entry::Entry;
 use crate::graph::{EdgeDirection, Graph, NodeIndex};
 use std::alloc::{AllocError, Global};
 
 // A walk from a start. For each level above the next entry the stack has a frame: the place of the
-// next edge that leads to an entry of the level below, or none where no edge is left. The nodes that
-// were drawn are marked.
+// next edge that leads to an entry of the level below, or none where no edge is left. The nodes
+// that were drawn are marked.
 #[derive(Drop)]
 pub(crate) struct Walk {
     direction: EdgeDirection,
@@ -73,13 +73,13 @@ impl Walk {
         ensures entry { (depth : ℕ) → depth ≡ vec_len self.old.stack
             → rest_of (far_ends self.old.direction graph.now.edges) self.old.visited.items
             (record { node = node; depth = depth }
-            ∷ waiting self.old.direction graph.now.edges 0 self.old.stack.items)
+            ∷ entries_waiting self.old.direction graph.now.edges 0 self.old.stack.items)
             ≡ record { node = node; depth = depth } ∷ to_come graph.now self.new }
     {
         if !self.visited[node.index()] {
             self.visited[node.index()] = true;
-            let newest = graph.newest(node, self.direction);
-            put_frame(&mut self.stack, newest);
+            let newest_edge = graph.newest_edge(node, self.direction);
+            put_frame(&mut self.stack, newest_edge);
             self.most = self.most.max(self.stack.len());
         }
     }
@@ -94,12 +94,12 @@ impl Walk {
         ensures drawn { HasDrawn self.old self.new result }
         ensures fits { (0 < result.depth) × (result.depth ≤ vec_len self.new.stack)
             × (result.node < length graph.now.packages) }
-        ensures entry { coming self.old.direction graph.now.edges self.old.visited.items
+        ensures entry { entries_to_come self.old.direction graph.now.edges self.old.visited.items
             (self.old.stack.items ++ Some edge ∷ []) ≡ result ∷ to_come graph.now self.new }
     {
         let node = graph.far_end(edge, self.direction);
-        let older = graph.older(edge, self.direction);
-        put_frame(&mut self.stack, older);
+        let older_edge = graph.older_edge(edge, self.direction);
+        put_frame(&mut self.stack, older_edge);
         let depth = self.stack.len();
         self.enter(graph, node);
         Entry {

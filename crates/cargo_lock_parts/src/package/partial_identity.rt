@@ -10,9 +10,9 @@ use crate::package::{Name, SourceId, Version};
 use std::cmp::Ordering;
 use std::marker::Model;
 
-/// A name and, where they are meant, a version and a source: a key of maps over packages. It borrows
-/// its parts, so that a look-up copies none. Two compare part by part, and an absent part stands
-/// before a present one.
+/// A name and, where they are meant, a version and a source: a key of maps over packages. It
+/// borrows its parts, so that a look-up copies none. Two compare part by part, and an absent part
+/// stands before a present one.
 #[derive(Drop)]
 pub struct PartialIdentity<'a> {
     /// The name.

@@ -4,12 +4,12 @@ ghost use Rattle.std.specs.Prelude.{◌≡◌, None, IfOk, IsOkUnless, option_co
 ghost use Rattle.std.specs.Option.{option_cmp};
 ghost use Rattle.std.specs.Ordering.{nat_cmp};
 ghost use Rattle.std.specs.Cmp.Lexicographic.{slice_cmp};
-ghost use Rattle.cargo_lock_parts.specs.Source.{kind_of, reference_of};
+ghost use Rattle.cargo_lock_parts.specs.Source.{kind_of, git_reference_of};
 ghost use Rattle.cargo_lock_parts.specs.declared.error.Error.TheVariants.{Memory};
 
 mod file_url;
+mod parse;
 mod rank;
-mod reading;
 mod reference;
 mod serialization;
 mod shown;
@@ -54,9 +54,9 @@ pub enum SourceKind {
     Directory,
 }
 
-/// Where a package comes from: a URL, a kind, and perhaps a precise text. A source that was read from
-/// its text has one where it is a registry, the word `locked`, or a git source with a fragment, which
-/// is mostly a commit. `with_precise` sets any text.
+/// Where a package comes from: a URL, a kind, and perhaps a precise text. A source that was read
+/// from its text has one where it is a registry, the word `locked`, or a git source with a
+/// fragment, which is mostly a commit. `with_precise` sets any text.
 ///
 /// Two sources are equal where their URLs, kinds and, for git, their precise texts are. So a
 /// registry that was read from a lockfile equals one that was made by a call.
@@ -131,7 +131,7 @@ impl SourceId {
 
     /// What is checked out of the repository, if the source is one.
     pub fn git_reference(&self) -> Option<&GitReference>
-        ensures { option_map (λ reference. reference_of reference.now) result
+        ensures { option_map (λ reference. git_reference_of reference.now) result
             ≡ git_reference self.now.kind }
     {
         match self.kind() {
@@ -143,7 +143,7 @@ impl SourceId {
     /// A repository at this URL, with no precise text.
     pub fn for_git(url: &Url, reference: GitReference) -> Result<SourceId>
         ensures ok { IfOk result
-            (λ source. source ≡ plain_source (Git (reference_of reference)) None url.now) }
+            (λ source. source ≡ plain_source (Git (git_reference_of reference)) None url.now) }
         ensures err { IsOkUnless result Memory }
     {
         SourceId::of(url, SourceKind::Git(reference))
@@ -230,11 +230,11 @@ impl SourceId {
 }
 
 impl SourceKind {
-    ghost use Rattle.cargo_lock_parts.specs.SourceKey.{place, reference_text};
+    ghost use Rattle.cargo_lock_parts.specs.SourceKey.{kind_number, git_reference_text};
 
     // Where the kind stands in the order.
-    fn place(&self) -> u8
-        ensures { result ≡ place (kind_of self.now) }
+    fn kind_number(&self) -> u8
+        ensures { result ≡ kind_number (kind_of self.now) }
     {
         match self {
             SourceKind::Git(GitReference::DefaultBranch) => 0,
@@ -250,8 +250,8 @@ impl SourceKind {
     }
 
     // The text of the reference, empty where there is none.
-    fn reference_text(&self) -> &str
-        ensures { result.now ≡ reference_text (kind_of self.now) }
+    fn git_reference_text(&self) -> &str
+        ensures { result.now ≡ git_reference_text (kind_of self.now) }
     {
         match self {
             SourceKind::Git(GitReference::Tag(text)) => text.as_str(),
@@ -370,14 +370,14 @@ impl Ord for SourceId {
         self.url()
             .cmp(other.url())
             .then_with(|| self.cmp_names(other))
-            .then_with(|| self.kind().place().cmp(&other.kind().place()))
-            .then_with(|| self.cmp_references(other))
+            .then_with(|| self.kind().kind_number().cmp(&other.kind().kind_number()))
+            .then_with(|| self.cmp_git_references(other))
             .then_with(|| self.cmp_precise(other))
     }
 }
 
 impl SourceId {
-    ghost use Rattle.cargo_lock_parts.specs.SourceKey.{precise_if_git, reference_text};
+    ghost use Rattle.cargo_lock_parts.specs.SourceKey.{precise_if_git, git_reference_text};
 
     fn cmp_names(&self, other: &SourceId) -> Ordering
         ensures { result ≡ option_cmp (slice_cmp nat_cmp) self.now.name other.now.name }
@@ -385,12 +385,13 @@ impl SourceId {
         cmp_texts(self.name(), other.name())
     }
 
-    fn cmp_references(&self, other: &SourceId) -> Ordering
+    fn cmp_git_references(&self, other: &SourceId) -> Ordering
         ensures { result
-            ≡ slice_cmp nat_cmp (reference_text self.now.kind) (reference_text other.now.kind) }
+            ≡ slice_cmp nat_cmp (git_reference_text self.now.kind)
+            (git_reference_text other.now.kind) }
     {
-        let text = self.kind().reference_text();
-        text.cmp(other.kind().reference_text())
+        let text = self.kind().git_reference_text();
+        text.cmp(other.kind().git_reference_text())
     }
 
     fn cmp_precise(&self, other: &SourceId) -> Ordering
@@ -426,8 +427,8 @@ impl Hash for SourceId {
     fn hash<H: Hasher>(&self, state: &mut H) {
         self.url().hash(state);
         self.name().unwrap_or("").hash(state);
-        self.kind().place().hash(state);
-        self.kind().reference_text().hash(state);
+        self.kind().kind_number().hash(state);
+        self.kind().git_reference_text().hash(state);
         self.precise_if_git().unwrap_or("").hash(state);
     }
 }

@@ -202,8 +202,8 @@ fn is_equal(alloc: Global, one: &Lockfile, other: &str) -> Result<String, Error>
     line(alloc, *one == other)
 }
 
-/// How many beginnings a text has that are shorter, and whether each of them is read or refused with
-/// `Parse`.
+/// How many beginnings a text has that are shorter, and whether each of them is read or refused
+/// with `Parse`.
 fn fronts(alloc: Global, text: &str) -> Result<String, Error> {
     let mut count = 0usize;
     for (end, _) in text.char_indices() {

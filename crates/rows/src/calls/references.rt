@@ -110,8 +110,8 @@ fn full_reference(alloc: Global, dependency: &Dependency, format: &str) -> Resul
     line(alloc, &reference)
 }
 
-/// Whether a dependency has the name and the version of the first package at hand, whether it is its
-/// identity, and the identity.
+/// Whether a dependency has the name and the version of the first package at hand, whether it is
+/// its identity, and the identity.
 fn matched(alloc: Global, list: &[Package], text: &str) -> Result<String, Error> {
     match list.first() {
         Some(package) => matched_with(alloc, package, text),

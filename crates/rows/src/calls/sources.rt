@@ -35,7 +35,8 @@ fn source_by_text(alloc: Global, text: &str) -> Result<SourceId, Error> {
     SourceId::from_str(alloc, text)
 }
 
-/// The parts of a source by `from_url`, if those of a copy of the source by `from_str` are the same.
+/// The parts of a source by `from_url`, if those of a copy of the source by `from_str` are the
+/// same.
 fn parts(alloc: Global, text: &str) -> Result<String, Error> {
     alike(alloc, parts_by_url(alloc, text), parts_of_copy(alloc, text))
 }
@@ -63,7 +64,7 @@ fn parts_text(alloc: Global, source: &SourceId) -> Result<String, Error> {
 
 fn kind_text(alloc: Global, kind: &SourceKind) -> Result<String, Error> {
     match kind {
-        SourceKind::Git(reference) => reference_text(alloc, reference),
+        SourceKind::Git(reference) => git_reference_text(alloc, reference),
         SourceKind::Path => Ok(String::from_str(alloc, "path")?),
         SourceKind::Registry => Ok(String::from_str(alloc, "registry")?),
         SourceKind::SparseRegistry => Ok(String::from_str(alloc, "sparse")?),
@@ -72,7 +73,7 @@ fn kind_text(alloc: Global, kind: &SourceKind) -> Result<String, Error> {
     }
 }
 
-fn reference_text(alloc: Global, reference: &GitReference) -> Result<String, Error> {
+fn git_reference_text(alloc: Global, reference: &GitReference) -> Result<String, Error> {
     match reference {
         GitReference::DefaultBranch => Ok(String::from_str(alloc, "git")?),
         GitReference::Tag(value) => Ok(format!(in alloc; "git tag {value}")?),

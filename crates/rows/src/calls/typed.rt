@@ -33,8 +33,8 @@ struct Place {
     source: Option<SourceId>,
 }
 
-/// What is written of the value of a type that a text is read as, or the message of the error in its
-/// place.
+/// What is written of the value of a type that a text is read as, or the message of the error in
+/// its place.
 pub fn asked(alloc: Global, how: &[&str], text: &str) -> Result<String, Error> {
     match how {
         ["texts"] => all_words(alloc, text),

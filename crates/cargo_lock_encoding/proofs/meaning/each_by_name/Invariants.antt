@@ -1,11 +1,11 @@
 use Rattle.std.proofs.Common.{◌≡◌, drop, map}
 use Rattle.cargo_lock_encoding.specs.Meaning.{package_of}
 use Rattle.cargo_lock_references.specs.Optional.{map_all}
-use Rattle.cargo_lock_references.specs.Records.{entry_identity}
+use Rattle.cargo_lock_references.specs.Records.{encoded_identity}
 use Rattle.cargo_lock_references.proofs.Walk.{after}
 use Rattle.cargo_lock_encoding.proofs.meaning.each_by_name.Given as goal
 
 abbrev pub invariant-loop-entry : goal.invariant-loop-entry
 invariant-loop-entry l =
-    after l.packages.items (map_all (λ e. package_of (map entry_identity l.list) e.checksum e) (drop l.entry-index l.entries))
-    ≡ map_all (λ e. package_of (map entry_identity l.list) e.checksum e) l.entries
+    after l.packages.items (map_all (λ e. package_of (map encoded_identity l.list) e.checksum e) (drop l.encoded-index l.listed))
+    ≡ map_all (λ e. package_of (map encoded_identity l.list) e.checksum e) l.listed

@@ -1,11 +1,11 @@
 use Rattle.std.proofs.Common.{◌≡◌, [], drop}
 use Rattle.cargo_lock_references.specs.declared.version.ResolveVersion.TheVariants.{V1}
-use Rattle.cargo_lock_encoding.specs.Meaning.{entry_package}
+use Rattle.cargo_lock_encoding.specs.Meaning.{listed_package}
 use Rattle.cargo_lock_references.specs.Optional.{map_all}
 use Rattle.cargo_lock_references.proofs.Walk.{after}
 use Rattle.cargo_lock_encoding.proofs.meaning.each_in_full.Given as goal
 
 abbrev pub invariant-loop-entry : goal.invariant-loop-entry
 invariant-loop-entry l =
-    after l.found.items (map_all (entry_package V1 [] l.metadata) (drop l.entry-index l.entries))
-    ≡ map_all (entry_package V1 [] l.metadata) l.entries
+    after l.found.items (map_all (listed_package V1 [] l.metadata) (drop l.encoded-index l.listed))
+    ≡ map_all (listed_package V1 [] l.metadata) l.listed

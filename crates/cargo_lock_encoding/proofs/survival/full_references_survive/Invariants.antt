@@ -1,6 +1,6 @@
 use Rattle.std.proofs.Common.{◌↔◌, drop, []}
 use Rattle.std.specs.List.{AllByRecursion}
-use Rattle.cargo_lock_references.specs.Chosen.{in_full}
+use Rattle.cargo_lock_references.specs.WrittenReference.{in_full}
 use Rattle.cargo_lock_references.specs.Records.{is_escaped}
 use Rattle.cargo_lock_references.specs.ReadBack.{ReferenceSurvives}
 use Rattle.cargo_lock_encoding.proofs.survival.full_references_survive.Given as goal

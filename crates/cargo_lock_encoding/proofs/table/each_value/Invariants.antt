@@ -1,9 +1,9 @@
 use Rattle.std.proofs.Common.{◌≡◌, take, map}
 use Rattle.toml.specs.View.{view}
 use Rattle.cargo_lock_parts.specs.Identity.{identity_of}
-use Rattle.cargo_lock_encoding.specs.Table.{entry_of, entry_value}
+use Rattle.cargo_lock_encoding.specs.Table.{encoded_package_of, encoded_package_value}
 use Rattle.cargo_lock_encoding.proofs.table.each_value.Given as goal
 
 abbrev pub invariant-loop-one : goal.invariant-loop-one
 invariant-loop-one l =
-    map view l.values.items ≡ map entry_value (map (entry_of l.format (map identity_of l.packages)) (take l.one-index l.list))
+    map view l.values.items ≡ map encoded_package_value (map (encoded_package_of l.format (map identity_of l.packages)) (take l.«package»-index l.list))

@@ -1,8 +1,8 @@
 use Rattle.std.proofs.Common.{string_bytes}
-use Rattle.cargo_lock_encoding.specs.Text.{entry_lines}
+use Rattle.cargo_lock_encoding.specs.Text.{package_lines}
 use Rattle.cargo_lock_encoding.proofs.Lines.{then-more}
 use Rattle.cargo_lock_encoding.proofs.text.put_packages.Goals as goal
 
 pub loop-one-preserved : goal.loop-one-preserved
 loop-one-preserved c =
-    then-more entry_lines c.args.packages.now _ c.one-item.result (string_bytes c.args.out.now) (string_bytes c.loop-one.out) _ c.loop-one-test.true c.one-item.is c.loop-one.invariant c.in_ok-put_encoded.ensures
+    then-more package_lines c.args.packages.now _ c.«package»-item.result (string_bytes c.args.out.now) (string_bytes c.loop-one.out) _ c.loop-one-test.true c.«package»-item.is c.loop-one.invariant c.in_ok-put_encoded.ensures

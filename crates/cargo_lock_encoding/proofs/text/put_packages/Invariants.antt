@@ -1,7 +1,7 @@
 use Rattle.std.proofs.Common.{◌≡◌, ◌++◌, take, string_bytes}
 use Rattle.std.specs.List.{flat_map}
-use Rattle.cargo_lock_encoding.specs.Text.{entry_lines, joined}
+use Rattle.cargo_lock_encoding.specs.Text.{package_lines, join_lines}
 use Rattle.cargo_lock_encoding.proofs.text.put_packages.Given as goal
 
 abbrev pub invariant-loop-one : goal.invariant-loop-one
-invariant-loop-one l = string_bytes l.out ≡ string_bytes l.fn.out ++ joined (flat_map entry_lines (take l.one-index l.packages))
+invariant-loop-one l = string_bytes l.out ≡ string_bytes l.fn.out ++ join_lines (flat_map package_lines (take l.«package»-index l.packages))

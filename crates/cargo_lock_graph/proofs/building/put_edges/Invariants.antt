@@ -6,4 +6,4 @@ use Rattle.cargo_lock_graph.proofs.building.put_edges.Given as goal
 -- the edges of the dependencies so far are added
 abbrev pub invariant-loop-dependency : goal.invariant-loop-dependency
 invariant-loop-dependency l =
-    HasAdded l.candidates (links_to l.one (take l.dependency-index l.dependency-items)) l.initial.edges.items l.edges.items
+    HasAdded l.candidates (links_to l.«package» (take l.dependency-index l.dependency-items)) l.initial.edges.items l.edges.items

@@ -8,7 +8,7 @@ ghost use Rattle.cargo_lock_parts.specs.Source.{kind_of};
 ghost use Rattle.cargo_lock_parts.specs.FileUrl.{begins_with_slash, invalid_path, kept_text, parts_of, parts_text, text_of_parts, source_at};
 
 use crate::error::{Error, Result};
-use crate::package::source::reading::parse_url;
+use crate::package::source::parse::parse_url;
 use crate::package::source::{SourceId, SourceKind};
 use percent_encoding::{AsciiSet, NON_ALPHANUMERIC, ascii_set, utf8_percent_encode};
 use std::alloc::{AllocError, Global};

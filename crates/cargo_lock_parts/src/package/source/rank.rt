@@ -111,7 +111,7 @@ impl SourceKind {
 fn same_kind(a: &SourceKind, b: &SourceKind) -> bool
     ensures { result ≡ spec.same_kind (kind_of a.now) (kind_of b.now) }
 {
-    a.place() == b.place() && a.reference_text() == b.reference_text()
+    a.kind_number() == b.kind_number() && a.git_reference_text() == b.git_reference_text()
 }
 
 // The same kind, and no repository.

@@ -27,9 +27,9 @@ pub enum GitReference {
 
 impl Clone for GitReference {
     ghost use Rattle.std.specs.Prelude.{◌≡◌};
-    ghost use Rattle.cargo_lock_parts.specs.Source.{reference_of};
+    ghost use Rattle.cargo_lock_parts.specs.Source.{git_reference_of};
 
-    ghost is_clone = { λ reference copy. reference_of copy ≡ reference_of reference };
+    ghost is_clone = { λ reference copy. git_reference_of copy ≡ git_reference_of reference };
 
     fn clone(&self) -> std::result::Result<GitReference, AllocError> {
         match self {
@@ -42,14 +42,14 @@ impl Clone for GitReference {
 }
 
 impl GitReference {
-    ghost use Rattle.cargo_lock_parts.specs.Source.{Reference, DefaultBranch, reference_of};
+    ghost use Rattle.cargo_lock_parts.specs.Source.{GitReference, DefaultBranch, git_reference_of};
 
     /// The reference as the query of a URL has it, such as `tag=v1.0`: with its value as it is, or
     /// escaped as in a form. None for the default branch, which has no such text.
     pub fn pretty_ref(&self, escaped: bool) -> Option<PrettyRef<'_>>
-        ensures { MatchOption result (reference_of self.now ≡ DefaultBranch)
-            (λ shown. (reference_of self.now ≢ DefaultBranch)
-            × (shown ≡ record { reference = reference_of self.now; escaped = escaped })) }
+        ensures { MatchOption result (git_reference_of self.now ≡ DefaultBranch)
+            (λ shown. (git_reference_of self.now ≢ DefaultBranch)
+            × (shown ≡ record { reference = git_reference_of self.now; escaped = escaped })) }
     {
         match self {
             GitReference::DefaultBranch => None,
@@ -71,12 +71,12 @@ pub struct PrettyRef<'a> {
 }
 
 impl<'a> Model for PrettyRef<'a> {
-    ghost use Rattle.cargo_lock_parts.specs.Source.{MarkedReference, reference_of};
+    ghost use Rattle.cargo_lock_parts.specs.Source.{MarkedGitReference, git_reference_of};
 
-    ghost Value = { MarkedReference };
+    ghost Value = { MarkedGitReference };
 
     ghost view = { λ shown.
-        record { reference = reference_of shown.reference.now; escaped = shown.escaped } };
+        record { reference = git_reference_of shown.reference.now; escaped = shown.escaped } };
 }
 
 impl fmt::Display for PrettyRef<'_> {

@@ -2,7 +2,7 @@
 
 ghost use Rattle.std.specs.Prelude.{◌≡◌, Some, IfOk, IsOkUnless, false, option_copied, string_bytes};
 ghost use Rattle.std.specs.Fmt.{DisplaysOnOk};
-ghost use Rattle.cargo_lock_parts.specs.Source.{reference_of};
+ghost use Rattle.cargo_lock_parts.specs.Source.{git_reference_of};
 ghost use Rattle.cargo_lock_parts.specs.SourceText.{fragment_text, query_text, text_of};
 ghost use Rattle.cargo_lock_parts.specs.declared.error.Error.TheVariants.{Memory};
 
@@ -107,7 +107,7 @@ fn write_query<W: fmt::Write>(
     f: &mut fmt::Formatter<W>,
 ) -> fmt::Result
     ensures { DisplaysOnOk W.write_str_gives f.old result
-        (Some (query_text escaped (reference_of reference.now))) f.new }
+        (Some (query_text escaped (git_reference_of reference.now))) f.new }
 {
     match reference.pretty_ref(escaped) {
         None => Ok(()),

@@ -1,5 +1,5 @@
 use Rattle.std.proofs.Common.{◌≡◌, take}
 use Rattle.cargo_lock_references.proofs.borrowed.by_refs.Given as goal
 
-abbrev pub invariant-loop-form : goal.invariant-loop-form
-invariant-loop-form l = l.borrowed.items ≡ take l.form-index l.forms
+abbrev pub invariant-loop-reference : goal.invariant-loop-reference
+invariant-loop-reference l = l.borrowed.items ≡ take l.reference-index l.references

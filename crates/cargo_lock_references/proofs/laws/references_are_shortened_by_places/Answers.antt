@@ -1,5 +1,5 @@
-use Rattle.cargo_lock_references.proofs.ChosenLemmas.{shortened-by_places}
+use Rattle.cargo_lock_references.proofs.WrittenReferenceLemmas.{shorten-by_places}
 use Rattle.cargo_lock_references.proofs.laws.references_are_shortened_by_places.Goals as goal
 
 pub returns : goal.returns
-returns c = shortened-by_places
+returns c = shorten-by_places

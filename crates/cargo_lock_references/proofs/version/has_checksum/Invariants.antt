@@ -3,4 +3,4 @@ use Rattle.cargo_lock_references.specs.Format.{has_checksum}
 use Rattle.cargo_lock_references.proofs.version.has_checksum.Given as goal
 
 abbrev pub invariant-loop-entry : goal.invariant-loop-entry
-invariant-loop-entry l = has_checksum (drop l.entry-index l.packages) ≡ has_checksum l.packages
+invariant-loop-entry l = has_checksum (drop l.encoded-index l.packages) ≡ has_checksum l.packages

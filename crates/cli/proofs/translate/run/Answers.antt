@@ -1,6 +1,6 @@
 use Rattle.std.proofs.Common.{◌≡◌, ℕ, List, codes, subst, ◌∙◌}
 use Rattle.cargo_lock_references.specs.Format.{IsFormatText}
-use Rattle.cargo_lock_encoding.specs.Text.{joined, lines_of}
+use Rattle.cargo_lock_encoding.specs.Text.{join_lines, lines_of}
 use Rattle.cargo_lock_encoding.specs.Survives.{in_format}
 use Rattle.clap.specs.Matches.{first_value, found_of}
 use Rattle.cli.specs.Translate.{TakesText}
@@ -14,6 +14,6 @@ returns g c =
     let new = g.W.Write.contents c.put_out.new.out in
     let l = c.in_ok-lockfile.lockfile in
     let format = c.in_ok-format.format in
-    let same : c.as_str.result.now ≡ joined (lines_of (in_format format l)) = c.as_str.ensures.value ∙ c.in_ok-text.ensures.ok in
+    let same : c.as_str.result.now ≡ join_lines (lines_of (in_format format l)) = c.as_str.ensures.value ∙ c.in_ok-text.ensures.ok in
     let said = subst (λ (text : List ℕ). IsFormatText text format) c.format.ensures c.in_ok-format.ensures.read in
     on_ok_weaken c.put_out.result _ _ (λ taken. (l, format, c.in_ok-lockfile.ensures.ok, said, c.in_ok-check_if_asked.ensures, subst (λ (text : List ℕ). TakesText output text old new) same taken)) c.put_out.ensures

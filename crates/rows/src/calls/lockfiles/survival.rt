@@ -6,8 +6,8 @@ use super::described;
 use cargo_lock::{Dependency, Error, Lockfile, Package, ResolveVersion, SourceId};
 use std::alloc::Global;
 
-/// Whether a lockfile survives V1, V2, V3 and V4: as it stands, where its first package also depends
-/// on itself, or where that package is from the default registry as it is made.
+/// Whether a lockfile survives V1, V2, V3 and V4: as it stands, where its first package also
+/// depends on itself, or where that package is from the default registry as it is made.
 pub fn asked(alloc: Global, how: &[&str], lockfile: &mut Lockfile) -> Result<String, Error> {
     match how {
         [] => {}

@@ -4,7 +4,7 @@ use Rattle.cargo_lock_references.specs.Metadata.{metadata_of}
 use Rattle.cargo_lock_encoding.specs.Lockfiles.{LockfileData}
 use Rattle.cargo_lock_references.specs.Records.{texts_of}
 use Rattle.cargo_lock_encoding.specs.Table.{encoded_of}
-use Rattle.cargo_lock_encoding.specs.Text.{joined, lines_of, metadata_lines}
+use Rattle.cargo_lock_encoding.specs.Text.{join_lines, lines_of, metadata_lines}
 use Rattle.cargo_lock_encoding.proofs.Lines.{then-encoded}
 use Rattle.cargo_lock_encoding.proofs.values.LockfileRef.put.Goals as goal
 
@@ -20,10 +20,10 @@ returns-clause-ok c =
     } in
     let before : List ℕ = string_bytes c.put_patches.new.out in
     let out : List ℕ = string_bytes c.put_metadata.new.out in
-    let metadata : out ≡ before ++ joined (metadata_lines (entries (metadata_of l.version l.metadata l.packages))) =
+    let metadata : out ≡ before ++ join_lines (metadata_lines (entries (metadata_of l.version l.metadata l.packages))) =
     c.in_ok-put_metadata.ensures.ok
-    ∙ ap (λ (k : LockfileData). before ++ joined (metadata_lines (entries (metadata_of k.version k.metadata k.packages)))) (sym c.self.view_is) in
-    subst (λ (k : LockfileData). out ≡ string_bytes c.args.out.now ++ joined (lines_of k)) c.self.view_is
+    ∙ ap (λ (k : LockfileData). before ++ join_lines (metadata_lines (entries (metadata_of k.version k.metadata k.packages)))) (sym c.self.view_is) in
+    subst (λ (k : LockfileData). out ≡ string_bytes c.args.out.now ++ join_lines (lines_of k)) c.self.view_is
     (then-encoded (encoded_of l) (string_bytes c.args.out.now) _ _ _ _ _
     c.in_ok-put_comments.ensures
     (rw c.written_version-number.ensures at c.in_ok-put_format.ensures)

@@ -8,7 +8,7 @@ pub returns : goal.returns
 returns c =
     let seen : EncodedData = record {
       version = c.self.inside.version;
-      entries = c.self.inside.packages.now;
+      packages = c.self.inside.packages.now;
       root = c.self.inside.root.now;
       metadata = texts_of c.self.inside.metadata.now.entries;
       patch = c.self.inside.patch.now;

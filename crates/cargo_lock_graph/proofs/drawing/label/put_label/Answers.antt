@@ -6,14 +6,14 @@ use Rattle.cargo_lock_graph.proofs.drawing.label.put_label.Goals as goal
 
 pub returns-in_err-put_identity : goal.returns-in_err-put_identity
 returns-in_err-put_identity g c =
-    let one = c.args.one.now in
+    let one = c.args.«package».now in
     let name : List ℕ = one.name ++ (codes " " ++ parts_text one.version) in
     let more : List ℕ = cond c.args.exact (codes " " ++ exact_text one.checksum one.source) [] in
     fault_of c.from_residual.result _ _ (name ++ more) name more c.from_residual.ensures.0 refl c.in_err-put_identity.ensures
 
 pub returns-then-exact : goal.returns-then-exact
 returns-then-exact g c =
-    let one = c.args.one.now in
+    let one = c.args.«package».now in
     let name : List ℕ = one.name ++ (codes " " ++ parts_text one.version) in
     let exactly : List ℕ = codes " " ++ exact_text one.checksum one.source in
     written_of c.put_exactly.result _ _ _ (name ++ cond c.args.exact exactly []) name exactly

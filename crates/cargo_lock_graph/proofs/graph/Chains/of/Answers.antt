@@ -12,9 +12,9 @@ loop-edge-preserved c =
     let index = c.loop-edge.edge-index in
     let between : AreBetween c.args.count edges = subst (λ es. AreBetween c.args.count es) (sym c.deref-edge-items.ensures.value) c.requires in
     let inside = c.loop-edge-test.true in
-    chains-step c.args.direction c.args.count edges c.loop-edge.newest.items c.loop-edge.older.items c.push.new.self.items
+    chains-step c.args.direction c.args.count edges c.loop-edge.newest_edge.items c.loop-edge.older_edge.items c.push.new.self.items
     index c.node.inside.0 c.len-place.result e c.index.result.now
     inside c.edge-item.is (c.node.view_is ∙ c.near_end.ensures)
     (near_below c.args.direction c.args.count edges index e between inside c.edge-item.is)
-    (c.len-place.ensures ∙ c.loop-edge.older.ok.0) c.index.ensures c.in_ok-push.ensures.items
+    (c.len-place.ensures ∙ c.loop-edge.older_edge.ok.0) c.index.ensures c.in_ok-push.ensures.items
     c.loop-edge.invariant

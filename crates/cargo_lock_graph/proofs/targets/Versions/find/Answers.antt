@@ -1,7 +1,7 @@
 use Rattle.std.proofs.Common.{◌∙◌, List, Some, length, ap, subst, arith}
 use Rattle.cargo_lock_parts.specs.Identity.{HasNameAndVersion, Identity, PackageData}
 use Rattle.cargo_lock_graph.specs.Targets.{HoldsOf, IsLastBelow, rank_between}
-use Rattle.cargo_lock_graph.proofs.BestCandidates.{best-start, find-start, find-next, find-better, find-smaller, find-end}
+use Rattle.cargo_lock_graph.proofs.BestCandidates.{best-start, find-start, find-next, find-better_candidate, find-smaller, find-end}
 use Rattle.cargo_lock_graph.proofs.targets.Versions.find.Goals as goal
 
 pub loop-next-init : goal.loop-next-init
@@ -18,13 +18,13 @@ loop-next-preserved c =
     let here : IsLastBelow (HoldsOf (HasNameAndVersion d) packages) bound (Some c.in-Some.place) = subst (λ o. IsLastBelow (HoldsOf (HasNameAndVersion d) packages) bound o) c.in-Some.is is in
     let ranks =
     c.rank_between-rank.ensures
-    ∙ ap (λ (i : Identity). rank_between i.source c.one.inside.source) c.dependency.view_is
-    ∙ ap (λ (p : PackageData). rank_between d.source p.source) c.one.view_is in
+    ∙ ap (λ (i : Identity). rank_between i.source c.«package».inside.source) c.dependency.view_is
+    ∙ ap (λ (p : PackageData). rank_between d.source p.source) c.«package».view_is in
     let low = here.0 in (
       c.in-Some.place,
       omega (arith, low, within),
       find-next packages d c.args.self.now.last c.args.self.now.earlier.items bound c.in-Some.place c.index-next.result.now c.requires within here c.index-next.ensures,
-      find-better packages d bound c.in-Some.place c.index-packages-place.result c.loop-next.best c.better-best.result c.rank_between-rank.result within here so_far c.index-packages-place.is ranks c.better-best.ensures,
+      find-better_candidate packages d bound c.in-Some.place c.index-packages-place.result c.loop-next.best c.better_candidate-best.result c.rank_between-rank.result within here so_far c.index-packages-place.is ranks c.better_candidate-best.ensures,
     )
 
 pub loop-next-smaller : goal.loop-next-smaller

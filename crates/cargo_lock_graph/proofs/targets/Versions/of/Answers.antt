@@ -11,7 +11,7 @@ loop-place-preserved c =
     let p : PackageData = c.index-packages-place.result in
     let place = c.loop-place.place in
     let key : c.name_and_version-key.result ≡ name_and_version p.name p.version =
-    c.name_and_version-key.ensures ∙ ap (λ (q : PackageData). name_and_version q.name q.version) c.one.view_is in
+    c.name_and_version-key.ensures ∙ ap (λ (q : PackageData). name_and_version q.name q.version) c.«package».view_is in
     versions-step packages place c.loop-place.last c.put.new.places c.loop-place.earlier.items c.push.new.self.items p c.copied-before.result
     c.loop-place-test.true c.index-packages-place.is
     (c.copied-before.ensures ∙ c.get.ensures.value ∙ ap (λ k. get partial_identity_cmp c.loop-place.last k) key) c.in_ok-push.ensures.items

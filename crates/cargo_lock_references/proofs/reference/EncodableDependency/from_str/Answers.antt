@@ -1,9 +1,9 @@
-use Rattle.cargo_lock_references.proofs.WordLemmas.{ReadsForm-text, ReadsFormExactly-text}
+use Rattle.cargo_lock_references.proofs.WordLemmas.{ReadsReference-text, ReadsReferenceExactly-text}
 use Rattle.cargo_lock_references.proofs.reference.EncodableDependency.from_str.Goals as goal
 
 pub returns-clause-read : goal.returns-clause-read
-returns-clause-read c = ReadsForm-text c.args.text.now c.read.result c.utf8.text c.read.ensures.read
+returns-clause-read c = ReadsReference-text c.args.text.now c.read.result c.utf8.text c.read.ensures.read
 
 pub returns-clause-short : goal.returns-clause-short
 returns-clause-short c =
-    λ short. ReadsFormExactly-text c.args.text.now c.read.result c.utf8.text (c.read.ensures.short short)
+    λ short. ReadsReferenceExactly-text c.args.text.now c.read.result c.utf8.text (c.read.ensures.short short)

@@ -2,7 +2,7 @@ use Rattle.std.proofs.Common.{◌≡◌, ℕ, Bool, true, false, List, ◌∷◌
 use Rattle.std.proofs.lemmas.List.{length_push}
 use Rattle.cargo_lock_graph.specs.declared.drawing.entry.Entry.{Entry}
 use Rattle.cargo_lock_graph.specs.Edges.{far_end}
-use Rattle.cargo_lock_graph.specs.WalkState.{IsHeld, coming}
+use Rattle.cargo_lock_graph.specs.WalkState.{IsHeld, entries_to_come}
 use Rattle.cargo_lock_graph.proofs.WalkSteps.{entered_again, entered_new, held_new, room_new, read_mark}
 use Rattle.cargo_lock_graph.proofs.drawing.walk.Walk.enter.Goals as goal
 
@@ -26,9 +26,9 @@ returns-then-not-index-clause-on c =
     let new = c.put_frame.new.stack in
     let room = room_new _ _ marks walk.stack.items c.args.node _ _ held mark in
     let longer = ap length c.put_frame.ensures.items in
-    let more = length_push walk.stack.items c.newest-newest.result in
+    let more = length_push walk.stack.items c.newest_edge-newest_edge.result in
     subst (λ (k : ℕ). IsHeld (length graph.packages) (length graph.edges) (set marks k true) new.items (vec_capacity new) c.max-self.result) (sym c.index-then-not-index.ensures)
-    (held_new _ _ marks walk.stack.items new.items c.newest-newest.result c.args.node (vec_capacity walk.stack) (vec_capacity new) walk.most c.max-self.result c.put_frame.ensures.items c.put_frame.ensures.capacity held mark c.newest-newest.ensures.within
+    (held_new _ _ marks walk.stack.items new.items c.newest_edge-newest_edge.result c.args.node (vec_capacity walk.stack) (vec_capacity new) walk.most c.max-self.result c.put_frame.ensures.items c.put_frame.ensures.capacity held mark c.newest_edge-newest_edge.ensures.within
     (omega (arith, c.max-self.ensures, c.len.ensures, new.ok.0)) (omega (arith, c.max-self.ensures, c.len.ensures, new.ok.0, room, longer, more, held.bound)))
 
 pub returns-then-not-index-clause-entry : goal.returns-then-not-index-clause-entry
@@ -41,8 +41,8 @@ returns-then-not-index-clause-entry c depth deep =
     (read_mark marks c.index.result c.index-2.result.now false (omega (arith, held.long, c.index.ensures, c.requires.node)) c.index-2.ensures c.if-not-index.true) in
     let e : Entry = record { node = c.args.node; depth = depth } in
     let new : List (Option ℕ) = c.put_frame.new.stack.items in
-    entered_new walk.direction edges marks walk.stack.items new c.newest-newest.result c.args.node depth mark (omega (arith, deep, walk.stack.ok.0)) (ap (map (far_end walk.direction)) c.newest-newest.ensures.edges) c.put_frame.ensures.items
-    ∙ ap (λ (k : ℕ). e ∷ coming walk.direction edges (set marks k true) new) (sym c.index-then-not-index.ensures)
+    entered_new walk.direction edges marks walk.stack.items new c.newest_edge-newest_edge.result c.args.node depth mark (omega (arith, deep, walk.stack.ok.0)) (ap (map (far_end walk.direction)) c.newest_edge-newest_edge.ensures.edges) c.put_frame.ensures.items
+    ∙ ap (λ (k : ℕ). e ∷ entries_to_come walk.direction edges (set marks k true) new) (sym c.index-then-not-index.ensures)
 
 pub returns-else-not-index-clause-entry : goal.returns-else-not-index-clause-entry
 returns-else-not-index-clause-entry c depth deep =

@@ -14,8 +14,8 @@ returns-clause-entry c =
     let graph = c.args.graph.now in
     let d = walk.direction in
     let mid = c.put_frame.new.stack in
-    let ends = ends_step d graph.edges c.args.edge c.far_end-node.result c.older-older.result (slice_get graph.edges c.args.edge) c.older-older.ensures.edges c.far_end-node.ensures.end in
-    let deep : c.len-depth.result ≡ suc (length walk.stack.items) = omega (arith, c.len-depth.ensures, mid.ok.0, ap length c.put_frame.ensures.items, length_push walk.stack.items c.older-older.result) in
-    followed d graph.edges walk.visited.items walk.stack.items mid.items (Some c.args.edge) c.older-older.result c.far_end-node.result c.len-depth.result ends c.put_frame.ensures.items deep
+    let ends = ends_step d graph.edges c.args.edge c.far_end-node.result c.older_edge-older_edge.result (slice_get graph.edges c.args.edge) c.older_edge-older_edge.ensures.edges c.far_end-node.ensures.end in
+    let deep : c.len-depth.result ≡ suc (length walk.stack.items) = omega (arith, c.len-depth.ensures, mid.ok.0, ap length c.put_frame.ensures.items, length_push walk.stack.items c.older_edge-older_edge.result) in
+    followed d graph.edges walk.visited.items walk.stack.items mid.items (Some c.args.edge) c.older_edge-older_edge.result c.far_end-node.result c.len-depth.result ends c.put_frame.ensures.items deep
     ∙ c.enter.ensures.entry c.len-depth.result c.len-depth.ensures
     ∙ ap (λ (m : ℕ). record { node = m; depth = c.len-depth.result } ∷ to_come graph c.enter.new.self) (sym c.index.ensures)

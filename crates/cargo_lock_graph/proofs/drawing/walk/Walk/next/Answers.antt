@@ -1,6 +1,6 @@
 use Rattle.std.proofs.Common.{◌≡◌, ℕ, Bool, List, [], ◌∷◌, ◌++◌, length, Option, sym, ap, subst, ◌∙◌, vec_capacity, arith}
 use Rattle.std.proofs.lemmas.List.{nil_from_length}
-use Rattle.cargo_lock_graph.specs.WalkState.{IsHeld, coming}
+use Rattle.cargo_lock_graph.specs.WalkState.{IsHeld, entries_to_come}
 use Rattle.cargo_lock_graph.proofs.WalkSteps.{coming_end, coming_done, held_pop}
 use Rattle.cargo_lock_graph.proofs.drawing.walk.Walk.next.Goals as goal
 
@@ -27,4 +27,4 @@ returns-clause-entry c =
     let edges = c.args.graph.now.edges in
     let marks : List Bool = walk.visited.items in
     let empty : walk.stack.items ≡ [] = nil_from_length walk.stack.items (omega (arith, c.in_default.ensures.cases.0, walk.stack.ok.0)) in
-    sym c.loop-frame.invariant.same ∙ ap (coming walk.direction edges marks) empty ∙ coming_end walk.direction edges marks
+    sym c.loop-frame.invariant.same ∙ ap (entries_to_come walk.direction edges marks) empty ∙ coming_end walk.direction edges marks

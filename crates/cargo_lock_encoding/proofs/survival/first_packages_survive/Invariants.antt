@@ -1,0 +1,11 @@
+use Rattle.std.proofs.Common.{◌↔◌, drop, map}
+use Rattle.std.specs.List.{AllByRecursion}
+use Rattle.cargo_lock_parts.specs.Identity.{identity_of}
+use Rattle.cargo_lock_references.specs.declared.version.ResolveVersion.TheVariants.{V1}
+use Rattle.cargo_lock_encoding.specs.Survives.{ListedSurvives}
+use Rattle.cargo_lock_encoding.proofs.survival.first_packages_survive.Given as goal
+
+abbrev pub invariant-loop-one : goal.invariant-loop-one
+invariant-loop-one l =
+    AllByRecursion (ListedSurvives V1 (map identity_of l.packages) l.metadata) (drop l.«package»-index l.list)
+    ↔ AllByRecursion (ListedSurvives V1 (map identity_of l.packages) l.metadata) l.list

@@ -1,0 +1,484 @@
+//! The values of a table.
+//!
+//! The values are read in the order in which the keys are named here, and the first fault is
+//! answered. A fault of `semver` is a `Parse` here, so that a table is refused with `Parse` alone.
+
+ghost use Rattle.std.specs.Prelude.{◌≡◌, ◌⊎◌, ◌++◌, IsOkUnless, OnOk, codes, option_map};
+ghost use Rattle.std.specs.FinMap.{insert};
+ghost use Rattle.toml.specs.Data.{get_member};
+ghost use Rattle.toml.specs.View.{items_view, table_view, view};
+ghost use Rattle.cargo_lock_parts.specs.Checksum.{digest_of};
+ghost use Rattle.cargo_lock_parts.specs.Error.{IsParse, IsParseOrMemory, ReadsUrls};
+ghost use Rattle.cargo_lock_parts.specs.declared.error.Error.TheVariants.{Memory};
+ghost use Rattle.cargo_lock_references.specs.Reference.{reference_of, mark_plain};
+ghost use Rattle.cargo_lock_references.specs.Records.{texts_of};
+ghost use Rattle.cargo_lock_encoding.specs.TableReading.{all_encoded_packages_at, checksum_from, encoded_at, encoded_packages_at, package_at_key, encoded_package_in, reference_in, items_in, metadata_in, number_in, optional_by, optional_list, patch_at, unused_patch_at, unused_patch_in, patch_in, read_all, required_list, required_text, source_in, text_in, texts_at};
+
+use crate::read_sources::ReadSources;
+use crate::values::Values;
+use cargo_lock_parts::dependency::Dependency;
+use cargo_lock_parts::error::{Error, Result};
+use cargo_lock_parts::package::{Checksum, Name, SourceId, Version};
+use cargo_lock_parts::patch::Patch;
+use cargo_lock_references::metadata::{Metadata, MetadataKey, MetadataValue};
+use cargo_lock_references::package_version::{refused_version, version_of};
+use cargo_lock_references::written_metadata::set;
+use cargo_lock_references::{EncodableDependency, EncodablePackage, EncodableSourceId};
+use std::alloc::Global;
+use std::marker::Model;
+use toml::{Table, Value};
+
+impl Values {
+    /// Reads the values of a table. `Parse` says what is refused, the first in the order of the
+    /// keys here.
+    #[tactic(auto, unfolding(crate::specs::TableReading::encoded_at))]
+    pub fn read(alloc: Global, table: &Table) -> Result<Values>
+        ensures { ReadsUrls (λ e. e) result (encoded_at (table_view table.now)) }
+    {
+        let version = number_at(alloc, table, "version")?;
+        let all = all_encoded_packages_at(alloc, table)?;
+        let metadata = metadata_at(alloc, table, "metadata")?;
+        let patch = patch_at_key(alloc, table, "patch")?;
+        let AllEncodedPackages { listed, root } = all;
+        Ok(Values {
+            version,
+            packages: listed,
+            root,
+            metadata,
+            patch,
+        })
+    }
+}
+
+// The packages of a lockfile and its root.
+#[derive(Drop)]
+struct AllEncodedPackages {
+    listed: Vec<EncodablePackage>,
+    root: Option<EncodablePackage>,
+}
+
+impl Model for AllEncodedPackages {
+    ghost use Rattle.cargo_lock_encoding.specs.TableReading.{EncodedPackages};
+
+    ghost Value = { EncodedPackages };
+
+    ghost view = { λ e. record { listed = e.listed.items; root = e.root } };
+}
+
+// The packages of a table, under `package`, and its root, under `root`.
+#[tactic(auto, unfolding(crate::specs::TableReading::all_encoded_packages_at))]
+fn all_encoded_packages_at(alloc: Global, table: &Table) -> Result<AllEncodedPackages>
+    ensures { ReadsUrls (λ e. e) result (all_encoded_packages_at (table_view table.now)) }
+{
+    let mut sources = ReadSources::new(alloc);
+    let listed = encoded_packages_at(alloc, &mut sources, table)?;
+    let root = table_at_key(alloc, &mut sources, table, "root")?;
+    Ok(AllEncodedPackages { listed, root })
+}
+
+// ---- faults
+
+// The fault of a value or of an element of another type. The key is that of the list.
+fn wrong_type(alloc: Global, key: &str) -> Error
+    ensures kind { IsParseOrMemory result }
+    ensures text { (result ≡ Memory)
+        ⊎ IsParse result (codes "wrong type: `" ++ key.now ++ codes "`") }
+{
+    match format!(in alloc; "wrong type: `{key}`") {
+        Ok(text) => Error::Parse(text),
+        Err(_) => Error::Memory,
+    }
+}
+
+// The fault of a required key that is missing.
+fn missing_key(alloc: Global, key: &str) -> Error
+    ensures kind { IsParseOrMemory result }
+    ensures text { (result ≡ Memory)
+        ⊎ IsParse result (codes "missing key: `" ++ key.now ++ codes "`") }
+{
+    match format!(in alloc; "missing key: `{key}`") {
+        Ok(text) => Error::Parse(text),
+        Err(_) => Error::Memory,
+    }
+}
+
+// ---- values by their types
+
+// The value at a key.
+fn value_at<'a>(table: &'a Table, key: &str) -> Option<&'a Value>
+    ensures { option_map (λ v. view v.now) result ≡ get_member key.now (table_view table.now) }
+{
+    table.get(key)
+}
+
+// The text that a value is.
+fn text_in<'a>(alloc: Global, value: &'a Value, key: &str) -> Result<&'a str>
+    ensures { ReadsUrls (λ s. s.now) result (text_in (view value.now)) }
+{
+    match value.as_str() {
+        Some(text) => Ok(text),
+        None => Err(wrong_type(alloc, key)),
+    }
+}
+
+// The text at a key that may not be missing.
+fn required_text<'a>(alloc: Global, table: &'a Table, key: &str) -> Result<&'a str>
+    ensures { ReadsUrls
+        (λ s. s.now) result (required_text (get_member key.now (table_view table.now))) }
+{
+    match value_at(table, key) {
+        Some(value) => text_in(alloc, value, key),
+        None => Err(missing_key(alloc, key)),
+    }
+}
+
+// The whole number at a key, where the key is there.
+fn number_at(alloc: Global, table: &Table, key: &str) -> Result<Option<i64>>
+    ensures { ReadsUrls
+        (λ o. o) result (optional_by number_in (get_member key.now (table_view table.now))) }
+{
+    let Some(value) = value_at(table, key) else {
+        return Ok(None);
+    };
+    match value.as_integer() {
+        Some(number) => Ok(Some(number)),
+        None => Err(wrong_type(alloc, key)),
+    }
+}
+
+// The list that a value is.
+fn list_in<'a>(alloc: Global, value: &'a Value, key: &str) -> Result<&'a [Value]>
+    ensures { ReadsUrls (λ s. items_view s.now) result (items_in (view value.now)) }
+{
+    match value.as_array() {
+        Some(list) => Ok(list.as_slice()),
+        None => Err(wrong_type(alloc, key)),
+    }
+}
+
+// The list at a key, empty where it is missing.
+fn optional_list<'a>(alloc: Global, table: &'a Table, key: &str) -> Result<&'a [Value]>
+    ensures { ReadsUrls
+        (λ s. items_view s.now) result (optional_list (get_member key.now (table_view table.now))) }
+{
+    match value_at(table, key) {
+        Some(value) => list_in(alloc, value, key),
+        None => Ok(&[]),
+    }
+}
+
+// The list at a key that may not be missing.
+fn required_list<'a>(alloc: Global, table: &'a Table, key: &str) -> Result<&'a [Value]>
+    ensures { ReadsUrls
+        (λ s. items_view s.now) result (required_list (get_member key.now (table_view table.now))) }
+{
+    match value_at(table, key) {
+        Some(value) => list_in(alloc, value, key),
+        None => Err(missing_key(alloc, key)),
+    }
+}
+
+// ---- texts
+
+// The source that a value is the text of.
+fn source_in(alloc: Global, sources: &mut ReadSources, value: &Value, key: &str) -> Result<SourceId>
+    ensures { ReadsUrls (λ s. s) result (source_in (view value.now)) }
+{
+    let text = text_in(alloc, value, key)?;
+    let source = sources.read(alloc, text)?;
+    Ok(source)
+}
+
+// The source at a key that may be missing.
+fn source_at(
+    alloc: Global,
+    sources: &mut ReadSources,
+    table: &Table,
+    key: &str,
+) -> Result<Option<SourceId>>
+    ensures { ReadsUrls
+        (λ o. o) result (optional_by source_in (get_member key.now (table_view table.now))) }
+{
+    match value_at(table, key) {
+        Some(value) => Ok(Some(source_in(alloc, sources, value, key)?)),
+        None => Ok(None),
+    }
+}
+
+// A source that was read.
+fn mark_plain(source: Option<SourceId>) -> Option<EncodableSourceId>
+    ensures { result ≡ option_map mark_plain source }
+{
+    match source {
+        Some(source) => Some(EncodableSourceId::without_url_encoded(source)),
+        None => None,
+    }
+}
+
+// The checksum that a value is the text of.
+fn checksum_from(alloc: Global, value: &Value, key: &str) -> Result<Checksum>
+    ensures { ReadsUrls digest_of result (checksum_from (view value.now)) }
+{
+    let text = text_in(alloc, value, key)?;
+    let checksum = Checksum::from_str(alloc, text)?;
+    Ok(checksum)
+}
+
+// The checksum at a key that may be missing.
+fn checksum_at(alloc: Global, table: &Table, key: &str) -> Result<Option<Checksum>>
+    ensures { ReadsUrls (option_map digest_of) result
+        (optional_by checksum_from (get_member key.now (table_view table.now))) }
+{
+    match value_at(table, key) {
+        Some(value) => Ok(Some(checksum_from(alloc, value, key)?)),
+        None => Ok(None),
+    }
+}
+
+// The reference that a text is.
+fn reference_of(alloc: Global, text: &str) -> Result<EncodableDependency>
+    ensures { ReadsUrls (λ f. f) result (reference_of text.now) }
+{
+    match EncodableDependency::from_str(alloc, text) {
+        Err(Error::Version(fault)) => Err(refused_version(alloc, &fault)),
+        result => result,
+    }
+}
+
+// The reference that a value is the text of.
+fn reference_in(alloc: Global, value: &Value, key: &str) -> Result<EncodableDependency>
+    ensures { ReadsUrls (λ f. f) result (reference_in (view value.now)) }
+{
+    let text = text_in(alloc, value, key)?;
+    let reference = reference_of(alloc, text)?;
+    Ok(reference)
+}
+
+// The reference at a key that may be missing.
+fn reference_at_key(alloc: Global, table: &Table, key: &str) -> Result<Option<EncodableDependency>>
+    ensures { ReadsUrls
+        (λ o. o) result (optional_by reference_in (get_member key.now (table_view table.now))) }
+{
+    match value_at(table, key) {
+        Some(value) => Ok(Some(reference_in(alloc, value, key)?)),
+        None => Ok(None),
+    }
+}
+
+// The references of a list.
+fn references_of(alloc: Global, list: &[Value], key: &str) -> Result<Vec<EncodableDependency>>
+    ensures { ReadsUrls (λ v. v.items) result (read_all reference_in (items_view list.now)) }
+{
+    let mut references = Vec::with_capacity(alloc, list.len())?;
+    for value in list {
+        let reference = reference_in(alloc, value, key)?;
+        references.push(reference)?;
+    }
+    Ok(references)
+}
+
+// ---- packages
+
+// The package of a table.
+#[tactic(auto, unfolding(crate::specs::TableReading::package_at_key))]
+fn package_at_key(
+    alloc: Global,
+    sources: &mut ReadSources,
+    table: &Table,
+) -> Result<EncodablePackage>
+    ensures { ReadsUrls (λ e. e) result (package_at_key (table_view table.now)) }
+{
+    let written = required_text(alloc, table, "name")?;
+    let name = Name::from_str(alloc, written)?;
+    let version = required_text(alloc, table, "version")?;
+    let version = version_of(alloc, version)?;
+    let source = source_at(alloc, sources, table, "source")?;
+    let checksum = checksum_at(alloc, table, "checksum")?;
+    let dependencies = optional_list(alloc, table, "dependencies")?;
+    let dependencies = references_of(alloc, dependencies, "dependencies")?;
+    let replace = reference_at_key(alloc, table, "replace")?;
+    Ok(EncodablePackage {
+        name,
+        version,
+        source: mark_plain(source),
+        checksum,
+        dependencies,
+        replace,
+    })
+}
+
+// The package that a value is.
+fn encoded_package_in(
+    alloc: Global,
+    sources: &mut ReadSources,
+    value: &Value,
+    key: &str,
+) -> Result<EncodablePackage>
+    ensures { ReadsUrls (λ e. e) result (encoded_package_in (view value.now)) }
+{
+    match value.as_table() {
+        Some(table) => package_at_key(alloc, sources, table),
+        None => Err(wrong_type(alloc, key)),
+    }
+}
+
+// The packages of a list.
+fn encoded_packages_of(
+    alloc: Global,
+    sources: &mut ReadSources,
+    list: &[Value],
+    key: &str,
+) -> Result<Vec<EncodablePackage>>
+    ensures { ReadsUrls (λ v. v.items) result (read_all encoded_package_in (items_view list.now)) }
+{
+    let mut listed = Vec::with_capacity(alloc, list.len())?;
+    for value in list {
+        let encoded = encoded_package_in(alloc, sources, value, key)?;
+        listed.push(encoded)?;
+    }
+    Ok(listed)
+}
+
+// The packages of a table.
+#[tactic(auto, unfolding(crate::specs::TableReading::encoded_packages_at))]
+fn encoded_packages_at(
+    alloc: Global,
+    sources: &mut ReadSources,
+    table: &Table,
+) -> Result<Vec<EncodablePackage>>
+    ensures { ReadsUrls (λ v. v.items) result (encoded_packages_at (table_view table.now)) }
+{
+    let list = optional_list(alloc, table, "package")?;
+    encoded_packages_of(alloc, sources, list, "package")
+}
+
+// The package at a key that may be missing.
+fn table_at_key(
+    alloc: Global,
+    sources: &mut ReadSources,
+    table: &Table,
+    key: &str,
+) -> Result<Option<EncodablePackage>>
+    ensures { ReadsUrls
+        (λ o. o) result
+        (optional_by encoded_package_in (get_member key.now (table_view table.now))) }
+{
+    match value_at(table, key) {
+        Some(value) => Ok(Some(encoded_package_in(alloc, sources, value, key)?)),
+        None => Ok(None),
+    }
+}
+
+// ---- metadata
+
+// Sets a key to a text.
+fn put_text(alloc: Global, metadata: &mut Metadata, key: &str, value: &str) -> Result<()>
+    ensures ok { OnOk result
+        (texts_of metadata.new.entries ≡ insert (texts_of metadata.old.entries) key.now value.now) }
+    ensures err { IsOkUnless result Memory }
+{
+    let key = MetadataKey::from_str(alloc, key)?;
+    let value = MetadataValue::from_str(alloc, value)?;
+    set(metadata, key, value)?;
+    Ok(())
+}
+
+// The texts of a table, in the order of its keys.
+fn texts_at(alloc: Global, table: &Table) -> Result<Metadata>
+    ensures { ReadsUrls (λ m. texts_of m.entries) result (texts_at (table_view table.now)) }
+{
+    let mut metadata = Metadata::new(alloc);
+    for (key, value) in table {
+        let text = text_in(alloc, value, "metadata")?;
+        put_text(alloc, &mut metadata, key.as_str(), text)?;
+    }
+    Ok(metadata)
+}
+
+// The metadata at a key, empty where it is missing.
+fn metadata_at(alloc: Global, table: &Table, key: &str) -> Result<Metadata>
+    ensures { ReadsUrls
+        (λ m. texts_of m.entries) result (metadata_in (get_member key.now (table_view table.now))) }
+{
+    let Some(value) = value_at(table, key) else {
+        return Ok(Metadata::new(alloc));
+    };
+    match value.as_table() {
+        Some(table) => texts_at(alloc, table),
+        None => Err(wrong_type(alloc, key)),
+    }
+}
+
+// ---- patches
+
+// The unused patch of a table.
+#[tactic(auto, unfolding(crate::specs::TableReading::unused_patch_at))]
+fn unused_patch_at(alloc: Global, sources: &mut ReadSources, table: &Table) -> Result<Dependency>
+    ensures { ReadsUrls (λ e. e) result (unused_patch_at (table_view table.now)) }
+{
+    let name = required_text(alloc, table, "name")?;
+    let name = Name::from_str(alloc, name)?;
+    let version = required_text(alloc, table, "version")?;
+    let version = version_of(alloc, version)?;
+    let source = source_at(alloc, sources, table, "source")?;
+    Ok(Dependency {
+        name,
+        version,
+        source,
+    })
+}
+
+// The unused patch that a value is.
+fn unused_patch_in(
+    alloc: Global,
+    sources: &mut ReadSources,
+    value: &Value,
+    key: &str,
+) -> Result<Dependency>
+    ensures { ReadsUrls (λ e. e) result (unused_patch_in (view value.now)) }
+{
+    match value.as_table() {
+        Some(table) => unused_patch_at(alloc, sources, table),
+        None => Err(wrong_type(alloc, key)),
+    }
+}
+
+// The unused patches of a list.
+fn patches_of(
+    alloc: Global,
+    sources: &mut ReadSources,
+    list: &[Value],
+    key: &str,
+) -> Result<Vec<Dependency>>
+    ensures { ReadsUrls (λ v. v.items) result (read_all unused_patch_in (items_view list.now)) }
+{
+    let mut patches = Vec::with_capacity(alloc, list.len())?;
+    for value in list {
+        let patch = unused_patch_in(alloc, sources, value, key)?;
+        patches.push(patch)?;
+    }
+    Ok(patches)
+}
+
+// The unused patches of a table.
+fn patch_at(alloc: Global, table: &Table) -> Result<Patch>
+    ensures { ReadsUrls (λ p. p) result (patch_at (table_view table.now)) }
+{
+    let list = required_list(alloc, table, "unused")?;
+    let mut sources = ReadSources::new(alloc);
+    let unused = patches_of(alloc, &mut sources, list, "unused")?;
+    Ok(Patch { unused })
+}
+
+// The unused patches at a key, none where it is missing.
+fn patch_at_key(alloc: Global, table: &Table, key: &str) -> Result<Patch>
+    ensures { ReadsUrls (λ p. p) result (patch_in (get_member key.now (table_view table.now))) }
+{
+    let Some(value) = value_at(table, key) else {
+        return Ok(Patch::new(alloc));
+    };
+    match value.as_table() {
+        Some(table) => patch_at(alloc, table),
+        None => Err(wrong_type(alloc, key)),
+    }
+}
