@@ -106,8 +106,7 @@ abbrev pub HasShortestReferences : LockfileData → Members → Type 0
 HasShortestReferences l t = Survives l l.version → IsShortening l.version
     → AreDistinct (map identity_of l.packages)
     → (k j : ℕ) (p : PackageData) (d : Identity) → slice_get l.packages k ≡ Some p
-    → slice_get p.dependencies j ≡ Some d
-    → IsAmong (map identity_of l.packages) d
+    → slice_get p.dependencies j ≡ Some d → IsAmong (map identity_of l.packages) d
     → IsShortest (map identity_of l.packages) d (reference_at t k j)
 
 -- the table of each lockfile has the shortest references

@@ -39,7 +39,7 @@ pub record IsPackage (list : List Identity) (digest : Option (List ℕ)) (encode
   pub dependencies : AllZip
       (λ reference identity. ResolvesTo reference list identity) encoded.dependencies p.dependencies
   pub replace : BothOrNone
-    (λ reference identity. ResolvesTo reference [] identity) encoded.replace p.replace
+      (λ reference identity. ResolvesTo reference [] identity) encoded.replace p.replace
 
 -- the package of an encoded package of the list, in this format
 abbrev pub IsListed : ResolveVersion → List Identity → Texts → EncodedPackage → PackageData → Type 0

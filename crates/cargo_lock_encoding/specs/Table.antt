@@ -36,8 +36,7 @@ written_checksum V4 checksum = checksum
 
 -- a package with this checksum and with its dependencies written so; a replacement is in full
 abbrev pub encoded_package_with : ResolveVersion → Option (List ℕ) → (Identity → Reference)
-    → PackageData
-    → EncodedPackage
+    → PackageData → EncodedPackage
 encoded_package_with format checksum reference p = record {
   name = p.name;
   version = p.version;

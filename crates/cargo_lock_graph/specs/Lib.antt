@@ -11,6 +11,7 @@ pub mod DrawingLevels
 pub mod DrawingLaws
 pub mod Edges
 pub mod Chains
+pub mod Rendering
 pub mod Sinks
 pub mod Labels
 pub mod WalkState

@@ -47,6 +47,5 @@ ChecksumsAtKeys = (m : Texts) (packages : List PackageData) (key : List ℕ)
 -- from V2 on: nothing at the checksum key of a package, and at every other key the old value
 abbrev pub NoChecksumKeys : Type 0
 NoChecksumKeys = (format : ResolveVersion) (m : Texts) (packages : List PackageData) (key : List ℕ)
-    → format ≢ V1
-    → (IsOfPackage packages key → get (metadata_of format m packages) key ≡ None)
+    → format ≢ V1 → (IsOfPackage packages key → get (metadata_of format m packages) key ≡ None)
     × (¬ IsOfPackage packages key → get (metadata_of format m packages) key ≡ get m key)

@@ -1,16 +1,13 @@
 //! Trees of packages: what each package depends on.
 
-ghost use Rattle.std.specs.Prelude.{◌≡◌, ◌-◌, ◌^◌, ◌<◌, All, IfErr, IfOk, IsOkUnless, List, length};
+ghost use Rattle.std.specs.Prelude.{◌≡◌, ◌-◌, ◌^◌, ◌<◌, All, IfErr, IfOk, IsOkUnless, length};
 ghost use Rattle.std.specs.BTreeMap.{get};
 ghost use Rattle.cargo_lock_parts.specs.declared.error.Error.TheVariants.{Memory};
 ghost use Rattle.cargo_lock_parts.specs.Identity.{Identity};
 ghost use Rattle.cargo_lock_parts.specs.IdentityOrder.{identity_cmp};
-ghost use Rattle.cargo_lock_graph.specs.declared.drawing.entry.Entry.{Entry};
 ghost use Rattle.cargo_lock_graph.specs.declared.graph.EdgeDirection.TheVariants.{Incoming};
-ghost use Rattle.cargo_lock_graph.specs.Drawing.{IsDrawing};
-ghost use Rattle.cargo_lock_graph.specs.DrawingText.{drawing_text, standard_symbols};
-ghost use Rattle.cargo_lock_graph.specs.Edges.{externals, far_ends};
-ghost use Rattle.cargo_lock_graph.specs.Labels.{label_at};
+ghost use Rattle.cargo_lock_graph.specs.Edges.{externals};
+ghost use Rattle.cargo_lock_graph.specs.Rendering.{Draws};
 ghost use Rattle.cargo_lock_graph.specs.Sinks.{IsRenderedInto, IsRenderedTo};
 ghost use Rattle.cargo_lock_graph.specs.Targets.{AreEdgesOf, IsLastWith, IsUnresolved, links};
 
@@ -133,12 +130,9 @@ impl Tree {
     ) -> Result<()>
         requires sound { S.failures sink.old < 2 ^ 64 - 1 }
         requires start { index < length self.now.graph.packages }
-        ensures { (entries : List Entry)
-            × IsDrawing (far_ends direction self.now.graph.edges) index entries
-            × IsRenderedInto (S.taken sink.old) (S.taken sink.new) (S.failures sink.old)
-            (S.failures sink.new)
-            (drawing_text standard_symbols (label_at exact self.now.graph.packages) entries)
-            result }
+        ensures { Draws exact direction self.now.graph index (λ text.
+            IsRenderedInto (S.taken sink.old) (S.taken sink.new)
+            (S.failures sink.old) (S.failures sink.new) text result) }
     {
         render_into(alloc, sink, &self.graph, index, direction, symbols, exact)
     }
@@ -155,11 +149,8 @@ impl Tree {
         exact: bool,
     ) -> Result<()>
         requires { index < length self.now.graph.packages }
-        ensures { (entries : List Entry)
-            × IsDrawing (far_ends direction self.now.graph.edges) index entries
-            × IsRenderedTo (W.contents w.old) (W.contents w.new)
-            (drawing_text standard_symbols (label_at exact self.now.graph.packages) entries)
-            result }
+        ensures { Draws exact direction self.now.graph index
+            (λ text. IsRenderedTo (W.contents w.old) (W.contents w.new) text result) }
     {
         render_onto(alloc, w, &self.graph, index, direction, symbols, exact)
     }
@@ -175,11 +166,8 @@ impl Tree {
         exact: bool,
     ) -> Result<()>
         requires { index < length self.now.graph.packages }
-        ensures { (entries : List Entry)
-            × IsDrawing (far_ends direction self.now.graph.edges) index entries
-            × IsRenderedTo (W.contents w.old) (W.contents w.new)
-            (drawing_text standard_symbols (label_at exact self.now.graph.packages) entries)
-            result }
+        ensures { Draws exact direction self.now.graph index
+            (λ text. IsRenderedTo (W.contents w.old) (W.contents w.new) text result) }
     {
         self.render_with_symbols(alloc, w, index, direction, &Symbols::default(), exact)
     }

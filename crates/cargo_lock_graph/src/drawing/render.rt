@@ -9,6 +9,7 @@ ghost use Rattle.cargo_lock_graph.specs.DrawingMade.{AreMarked};
 ghost use Rattle.cargo_lock_graph.specs.DrawingText.{branch_text, drawing_text, level_text, standard_symbols};
 ghost use Rattle.cargo_lock_graph.specs.Edges.{far_ends};
 ghost use Rattle.cargo_lock_graph.specs.Labels.{label_at};
+ghost use Rattle.cargo_lock_graph.specs.Rendering.{Draws};
 ghost use Rattle.cargo_lock_graph.specs.Sinks.{IsRendered, IsRenderedInto, IsRenderedTo, IsWritten};
 ghost use Rattle.cargo_lock_graph.specs.WalkState.{IsOn, to_come};
 
@@ -215,10 +216,9 @@ pub fn render_into<S: Sink>(
 ) -> Result<()>
     requires sound { S.failures sink.old < 2 ^ 64 - 1 }
     requires start { start < length graph.now.packages }
-    ensures { (entries : List Entry) × IsDrawing (far_ends direction graph.now.edges) start entries
-        × IsRenderedInto (S.taken sink.old) (S.taken sink.new) (S.failures sink.old)
-        (S.failures sink.new)
-        (drawing_text standard_symbols (label_at exact graph.now.packages) entries) result }
+    ensures { Draws exact direction graph.now start (λ text.
+        IsRenderedInto (S.taken sink.old) (S.taken sink.new)
+        (S.failures sink.old) (S.failures sink.new) text result) }
 {
     let mut out = OfSink { sink };
     let drawn = draw(alloc, &mut out, graph, start, direction, symbols, exact);
@@ -242,9 +242,8 @@ pub fn render_onto<W: Write>(
     exact: bool,
 ) -> Result<()>
     requires { start < length graph.now.packages }
-    ensures { (entries : List Entry) × IsDrawing (far_ends direction graph.now.edges) start entries
-        × IsRenderedTo (W.contents writer.old) (W.contents writer.new)
-        (drawing_text standard_symbols (label_at exact graph.now.packages) entries) result }
+    ensures { Draws exact direction graph.now start
+        (λ text. IsRenderedTo (W.contents writer.old) (W.contents writer.new) text result) }
 {
     let mut out = OfWriter { writer, faults: 0 };
     let drawn = draw(alloc, &mut out, graph, start, direction, symbols, exact);
