@@ -247,7 +247,7 @@ package-parts list checksum e q h =
       replace = b.1 ∙ ap (λ (x : PackageData). Some x.replace) made;
     }
 
-bare-plainly : (s : Option Source) → unmarked_source (option_map mark_plain s) ≡ s
+bare-mark_plain : (s : Option Source) → unmarked_source (option_map mark_plain s) ≡ s
 bare-mark_plain None = refl
 bare-mark_plain (Some s) = refl
 

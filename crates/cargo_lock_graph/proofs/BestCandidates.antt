@@ -256,7 +256,7 @@ best-new packages d bound place rank is fits less = (
   ],
 )
 
-best-better : (packages : List PackageData) (d : Identity) (bound place rank : ℕ) (best : Best)
+best-better_candidate : (packages : List PackageData) (d : Identity) (bound place rank : ℕ) (best : Best)
     → IsLastBelow (HoldsOf (HasNameAndVersion d) packages) bound (Some place) → MatchesAt packages d place rank
     → BestFrom packages d bound (Some best) → (b : Bool) → nat_lt rank best.rank ≡ b
     → BestFrom packages d place (cond b (Some record { rank = rank; place = place }) (Some best))
@@ -340,7 +340,7 @@ ranked-one : (d : Identity) (p : PackageData) (rank : Option ℕ) → HasNameAnd
 ranked-one d p None named is = λ r f. let e = f.ranked in cc
 ranked-one d p (Some rank) named is = record { named = named; ranked = sym is }
 
-pub find-better : (packages : List PackageData) (d : Identity) (bound place : ℕ) (p : PackageData) (best grown : Option Best) (rank : Option ℕ)
+pub find-better_candidate : (packages : List PackageData) (d : Identity) (bound place : ℕ) (p : PackageData) (best grown : Option Best) (rank : Option ℕ)
     → bound ≤ length packages → IsLastBelow (HoldsOf (HasNameAndVersion d) packages) bound (Some place)
     → BestFrom packages d bound best → p ≡ get_or packages place p
     → rank ≡ rank_between d.source p.source → grown ≡ better_candidate best rank place

@@ -60,11 +60,11 @@ below-append : (nodes : ℕ) (p q : List Entry) → Below nodes p → Below node
 below-append nodes [] q h k = k
 below-append nodes (e ∷ p) q h k = (h.0, below-append nodes p q h.1 k)
 
-below-deeper : (nodes d : ℕ) (ns : List ℕ) → AllByRecursion (λ j. j < nodes) ns → Below nodes (entries_below d ns)
+below-entries_below : (nodes d : ℕ) (ns : List ℕ) → AllByRecursion (λ j. j < nodes) ns → Below nodes (entries_below d ns)
 below-entries_below nodes d [] h = tt
 below-entries_below nodes d (n ∷ ns) h = (h.0, below-entries_below nodes d ns h.1)
 
-below-expected : (far : ℕ → List ℕ) (nodes : ℕ) (earlier : List ℕ) (n d : ℕ) → AreBelow far nodes → Below nodes (entries_below d (children_after far earlier n))
+below-children_after : (far : ℕ → List ℕ) (nodes : ℕ) (earlier : List ℕ) (n d : ℕ) → AreBelow far nodes → Below nodes (entries_below d (children_after far earlier n))
 below-children_after far nodes earlier n d h =
     elim (cases_Bool (is_among n earlier)) [
       | inl t ↦ rw t tt

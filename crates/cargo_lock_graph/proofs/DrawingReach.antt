@@ -102,7 +102,7 @@ reachable_occurs far start (e ∷ es) n d r =
 
 -- ---- how many entries
 
-length-deeper : (d : ℕ) (ns : List ℕ) → length (entries_below d ns) ≡ length ns
+length-entries_below : (d : ℕ) (ns : List ℕ) → length (entries_below d ns) ≡ length ns
 length-entries_below d [] = refl
 length-entries_below d (n ∷ ns) = ap suc (length-entries_below d ns)
 

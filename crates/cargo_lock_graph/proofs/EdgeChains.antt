@@ -66,14 +66,14 @@ edges_at-past : (direction : EdgeDirection) (count node : ℕ) (edges : List Edg
 edges_at-past direction count node edges h past =
     ap reverse (filter_none (is_at direction node) edges (none-past direction count node edges h past))
 
--- ---- the newest edge
+-- ---- the newest_edge edge
 
-pub newest-edges : (direction : EdgeDirection) (count : ℕ) (edges : List Edge) (newest older : List (Option ℕ)) (node : ℕ) (place : Option ℕ)
-    → AreBetween count edges → AreChains direction count edges newest older
-    → place ≡ unwrap_or (slice_get newest node) None
+pub newest_edge-edges : (direction : EdgeDirection) (count : ℕ) (edges : List Edge) (newest_edge older_edge : List (Option ℕ)) (node : ℕ) (place : Option ℕ)
+    → AreBetween count edges → AreChains direction count edges newest_edge older_edge
+    → place ≡ unwrap_or (slice_get newest_edge node) None
     → edges_from direction edges place ≡ edges_at direction edges node
-newest-edges direction count edges newest older node place between chains is =
-    elim (slice_get_cases newest node).1 [
+newest_edge-edges direction count edges newest_edge older_edge node place between chains is =
+    elim (slice_get_cases newest_edge node).1 [
       | inl (found, low, w, same) ↦
           let e : place ≡ found = is ∙ ap (λ o. unwrap_or o None) w in
           chains.from_newest node place (w ∙ ap Some (sym e))
@@ -84,14 +84,14 @@ newest-edges direction count edges newest older node place between chains is =
           ap (edges_from direction edges) e ∙ sym (edges_at-past direction count node edges between past)
     ]
 
--- a node has an edge exactly where its newest one is there
-pub any-newest : (direction : EdgeDirection) (edges : List Edge) (node : ℕ) (place : Option ℕ)
+-- a node has an edge exactly where its newest_edge one is there
+pub any-newest_edge : (direction : EdgeDirection) (edges : List Edge) (node : ℕ) (place : Option ℕ)
     → edges_from direction edges place ≡ edges_at direction edges node → IfSome place (λ k. k < length edges)
     → list_any (is_at direction node) edges ≡ is_some place
 unfolding is_any
-any-newest direction edges node None same within =
+any-newest_edge direction edges node None same within =
     list_any-at direction edges node ∙ ap is_any (sym same)
-any-newest direction edges node (Some k) same within =
+any-newest_edge direction edges node (Some k) same within =
     elim (slice_get_cases edges k).1 [
       | inl (e, low, w, is) ↦
           list_any-at direction edges node ∙ ap is_any (sym same) ∙ rw w refl

@@ -35,10 +35,10 @@ coming_done d edges marks old fs f was none =
     ap (λ (gs : List (Option ℕ)). rest_of (far_ends d edges) marks (entries_waiting d edges 0 gs)) was
     ∙ ap (rest_of (far_ends d edges) marks) (waiting_push d edges 0 fs f ∙ ap (λ (ns : List ℕ). entries_below (suc (0 + length fs)) ns ++ entries_waiting d edges 0 fs) none_left)
 
--- the edge at a place, and the older ones
+-- the edge at a place, and the older_edge ones
 pub ends_step : (d : EdgeDirection) (edges : List Edge) (i m : ℕ) (r : Option ℕ) (o : Option Edge) → IfSome o (λ e. edges_from d edges (Some i) ≡ e ∷ edges_from d edges r) → option_map (far_end d) o ≡ Some m → far_ends_from d edges (Some i) ≡ m ∷ far_ends_from d edges r
-ends_step d edges i m r None older end = absurd cc
-ends_step d edges i m r (Some e) older end = let same : far_end d e ≡ m = cc in ap (map (far_end d)) older ∙ ap (λ (k : ℕ). k ∷ far_ends_from d edges r) same
+ends_step d edges i m r None older_edge end = absurd cc
+ends_step d edges i m r (Some e) older_edge end = let same : far_end d e ≡ m = cc in ap (map (far_end d)) older_edge ∙ ap (λ (k : ℕ). k ∷ far_ends_from d edges r) same
 
 -- the entry that the edge of the last frame leads to comes first
 pub followed : (d : EdgeDirection) (edges : List Edge) (marks : List Bool) (fs mid : List (Option ℕ)) (f f' : Option ℕ) (m depth : ℕ) → far_ends_from d edges f ≡ m ∷ far_ends_from d edges f' → mid ≡ fs ++ f' ∷ [] → depth ≡ suc (length fs)

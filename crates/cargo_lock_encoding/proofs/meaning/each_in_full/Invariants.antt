@@ -5,7 +5,7 @@ use Rattle.cargo_lock_references.specs.Optional.{map_all}
 use Rattle.cargo_lock_references.proofs.Walk.{after}
 use Rattle.cargo_lock_encoding.proofs.meaning.each_in_full.Given as goal
 
-abbrev pub invariant-loop-entry : goal.invariant-loop-entry
-invariant-loop-entry l =
+abbrev pub invariant-loop-encoded : goal.invariant-loop-encoded
+invariant-loop-encoded l =
     after l.found.items (map_all (listed_package V1 [] l.metadata) (drop l.encoded-index l.listed))
     ≡ map_all (listed_package V1 [] l.metadata) l.listed

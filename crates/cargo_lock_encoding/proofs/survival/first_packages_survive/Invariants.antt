@@ -5,7 +5,7 @@ use Rattle.cargo_lock_references.specs.declared.version.ResolveVersion.TheVarian
 use Rattle.cargo_lock_encoding.specs.Survives.{ListedSurvives}
 use Rattle.cargo_lock_encoding.proofs.survival.first_packages_survive.Given as goal
 
-abbrev pub invariant-loop-one : goal.invariant-loop-one
-invariant-loop-one l =
-    AllByRecursion (ListedSurvives V1 (map identity_of l.packages) l.metadata) (drop l.«package»-index l.list)
+abbrev pub invariant-loop-package : goal.invariant-loop-package
+invariant-loop-package l =
+    AllByRecursion (ListedSurvives V1 (map identity_of l.packages) l.metadata) (drop l.package-index l.list)
     ↔ AllByRecursion (ListedSurvives V1 (map identity_of l.packages) l.metadata) l.list

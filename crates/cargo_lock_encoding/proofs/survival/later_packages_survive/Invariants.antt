@@ -7,7 +7,7 @@ use Rattle.cargo_lock_references.specs.ReadBack.{DigestReadsBack}
 use Rattle.cargo_lock_encoding.specs.Survives.{PackageSurvives}
 use Rattle.cargo_lock_encoding.proofs.survival.later_packages_survive.Given as goal
 
-abbrev pub invariant-loop-one : goal.invariant-loop-one
-invariant-loop-one l =
-    AllByRecursion (λ p. PackageSurvives l.format (written_reference l.format (map identity_of l.packages)) (reading_list l.format (map identity_of l.packages)) p × IfSome p.checksum DigestReadsBack) (drop l.«package»-index l.list)
+abbrev pub invariant-loop-package : goal.invariant-loop-package
+invariant-loop-package l =
+    AllByRecursion (λ p. PackageSurvives l.format (written_reference l.format (map identity_of l.packages)) (reading_list l.format (map identity_of l.packages)) p × IfSome p.checksum DigestReadsBack) (drop l.package-index l.list)
     ↔ AllByRecursion (λ p. PackageSurvives l.format (written_reference l.format (map identity_of l.packages)) (reading_list l.format (map identity_of l.packages)) p × IfSome p.checksum DigestReadsBack) l.list

@@ -5,6 +5,6 @@ use Rattle.cargo_lock_encoding.specs.Table.{encoded_package_of}
 use Rattle.cargo_lock_encoding.specs.Text.{package_lines, join_lines}
 use Rattle.cargo_lock_encoding.proofs.text.put_each_written.Given as goal
 
-abbrev pub invariant-loop-one : goal.invariant-loop-one
-invariant-loop-one l = string_bytes l.out ≡ string_bytes l.fn.out
-    ++ join_lines (flat_map (λ p. package_lines (encoded_package_of l.format (map identity_of l.packages) p)) (take l.«package»-index l.list))
+abbrev pub invariant-loop-package : goal.invariant-loop-package
+invariant-loop-package l = string_bytes l.out ≡ string_bytes l.fn.out
+    ++ join_lines (flat_map (λ p. package_lines (encoded_package_of l.format (map identity_of l.packages) p)) (take l.package-index l.list))

@@ -3,6 +3,6 @@ use Rattle.cargo_lock_encoding.specs.Text.{package_lines}
 use Rattle.cargo_lock_encoding.proofs.Lines.{then-more}
 use Rattle.cargo_lock_encoding.proofs.text.put_packages.Goals as goal
 
-pub loop-one-preserved : goal.loop-one-preserved
-loop-one-preserved c =
-    then-more package_lines c.args.packages.now _ c.«package»-item.result (string_bytes c.args.out.now) (string_bytes c.loop-one.out) _ c.loop-one-test.true c.«package»-item.is c.loop-one.invariant c.in_ok-put_encoded.ensures
+pub loop-package-preserved : goal.loop-package-preserved
+loop-package-preserved c =
+    then-more package_lines c.args.packages.now _ c.package-item.result (string_bytes c.args.out.now) (string_bytes c.loop-package.out) _ c.loop-package-test.true c.package-item.is c.loop-package.invariant c.in_ok-put_encoded.ensures

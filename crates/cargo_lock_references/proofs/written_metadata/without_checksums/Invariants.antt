@@ -3,5 +3,5 @@ use Rattle.cargo_lock_references.specs.Metadata.{without_checksums}
 use Rattle.cargo_lock_references.specs.Records.{texts_of}
 use Rattle.cargo_lock_references.proofs.written_metadata.without_checksums.Given as goal
 
-abbrev pub invariant-loop-one : goal.invariant-loop-one
-invariant-loop-one l = texts_of l.metadata.entries ≡ without_checksums (texts_of l.fn.metadata.entries) (take l.«package»-index l.packages)
+abbrev pub invariant-loop-package : goal.invariant-loop-package
+invariant-loop-package l = texts_of l.metadata.entries ≡ without_checksums (texts_of l.fn.metadata.entries) (take l.package-index l.packages)

@@ -13,8 +13,8 @@ use Rattle.cargo_lock_graph.proofs.DrawingOfGraph.{drawing_of, text_of_drawing}
 use Rattle.cargo_lock_graph.proofs.SinkWrites.{rendered_memory}
 use Rattle.cargo_lock_graph.proofs.drawing.render.draw.Goals as goal
 
-pub returns-in_err-walk-clause-drawn : goal.returns-in_err-walk-clause-drawing_text
-returns-in_err-walk-clause-drawing_text g c =
+pub returns-in_err-walk-clause-drawn : goal.returns-in_err-walk-clause-drawn
+returns-in_err-walk-clause-drawn g c =
     let graph = c.args.graph.now in
     let es : List Entry = drawing (far_ends c.args.direction graph.edges) (length graph.packages) c.args.start in
     let p = err_from_is_err_and c.from_residual.result c.from_residual.ensures.1 in (
@@ -24,8 +24,8 @@ returns-in_err-walk-clause-drawing_text g c =
       rw (p.1) tt,
     )
 
-pub returns-in-Ok-clause-drawn : goal.returns-in-Ok-clause-drawing_text
-returns-in-Ok-clause-drawing_text g c =
+pub returns-in-Ok-clause-drawn : goal.returns-in-Ok-clause-drawn
+returns-in-Ok-clause-drawn g c =
     let graph = c.args.graph.now in
     let far : ℕ → List ℕ = far_ends c.args.direction graph.edges in
     let es : List Entry = record { node = c.args.start; depth = 0 } ∷ to_come graph c.in_ok-walk.walk in
@@ -38,8 +38,8 @@ returns-in-Ok-clause-drawing_text g c =
     let levels = c.most_frames.ensures.most ∙ c.in-Ok.ensures.levels (c.args.start ∷ []) first.0 ∙ ap (λ (n : ℕ). max n rest) first.1 in
     (es, d, (subst (λ (t : List ℕ). Appends old.bytes new.bytes t) (sym text) c.in-Ok.ensures.written.0, c.in-Ok.ensures.written.1), levels)
 
-pub returns-clause-drawn : goal.returns-clause-drawing_text
-returns-clause-drawing_text g c =
+pub returns-clause-drawn : goal.returns-clause-drawn
+returns-clause-drawn g c =
     let graph = c.args.graph.now in
     let far : ℕ → List ℕ = far_ends c.args.direction graph.edges in
     let es : List Entry = record { node = c.args.start; depth = 0 } ∷ to_come graph c.in_ok-walk.walk in
