@@ -1,6 +1,6 @@
 //! The dependency that a reference stands for among packages.
 
-ghost use Rattle.std.specs.Prelude.{◌≡◌, ◌⊎◌, ◌++◌, List, None, IfErr, IfOk, codes, map, option_copied, option_map};
+ghost use Rattle.std.specs.Prelude.{◌≡◌, ◌↔◌, ◌⊎◌, ◌++◌, List, None, IfErr, IfOk, IsOk, IsSome, codes, map, option_copied, option_map};
 ghost use Rattle.std.specs.List.{find};
 ghost use Rattle.cargo_lock_parts.specs.declared.error.Error.TheVariants.{Memory};
 ghost use Rattle.cargo_lock_parts.specs.Error.{IsParse, IsParseOrMemory, Reads};
@@ -84,9 +84,11 @@ pub fn resolve_among<'a>(
     required(alloc, &form.name, found)
 }
 
-/// The dependency that was found for a reference of this name. `Parse` says that there is none.
+/// The dependency that was found for a reference of this name. `Parse` says that there is none; what
+/// was found is answered without memory.
 pub fn required(alloc: Global, name: &Name, found: Option<Dependency>) -> Result<Dependency>
     ensures read { Reads (λ d. d) result found }
+    ensures accepted { IsOk result ↔ IsSome found }
     ensures refused { found ≡ None → IfErr result (λ fault. (fault ≡ Memory)
         ⊎ IsParse fault (codes "couldn't resolve dependency: " ++ name.now)) }
 {
