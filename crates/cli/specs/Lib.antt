@@ -1,2 +1,3 @@
+pub mod Bom
 pub mod Output
 pub mod Translate

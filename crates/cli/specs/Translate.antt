@@ -14,11 +14,14 @@ use Rattle.cargo_lock_encoding.specs.Survives.{Survives, in_format}
 abbrev pub IsPrinted : Option (List ℕ) → Type 0
 IsPrinted output = (output ≡ None) ⊎ (output ≡ Some (codes "-"))
 
--- standard output takes the text and one more newline where it is the output, and nothing where the
--- text goes to a file
-abbrev pub TakesText : Option (List ℕ) → List ℕ → Option (List ℕ) → Option (List ℕ) → Type 0
-TakesText output text old new = (IsPrinted output → Appends old new (text ++ 10 ∷ []))
+-- standard output takes the text where it is the output, and nothing where the text goes to a file
+abbrev pub TakesOutput : Option (List ℕ) → List ℕ → Option (List ℕ) → Option (List ℕ) → Type 0
+TakesOutput output text old new = (IsPrinted output → Appends old new text)
     × ((¬ IsPrinted output) → Keeps old new)
+
+-- the same of the text and one more newline
+abbrev pub TakesText : Option (List ℕ) → List ℕ → Option (List ℕ) → Option (List ℕ) → Type 0
+TakesText output text old new = TakesOutput output (text ++ 10 ∷ []) old new
 
 -- the words ask that only a lockfile that survives the format is written
 abbrev pub IsCheckAsked : Found → Type 0

@@ -1,5 +1,5 @@
 //! The program `cargo-lock` as a library: lists the packages of a lockfile, writes it in another
-//! format and draws its trees.
+//! format, draws its trees and writes its bill of materials.
 //!
 //! Whatever goes wrong is told in one message on standard error that begins `*** error: `, and the
 //! status is then 1. It is 0 where all of the output was written and flushed.
@@ -8,6 +8,7 @@
 ghost use Rattle.std.specs.Prelude.{◌≡◌};
 ghost use Rattle.std.specs.Io.KnownBytes.{Keeps};
 
+mod bom;
 mod fault;
 mod list;
 mod output;
@@ -76,6 +77,7 @@ fn dispatch<R: Files + AllocGlobal, W: Write>(
     out: &mut W,
 ) -> Result<(), Fault> {
     match matches.subcommand() {
+        Some(("bom", options)) => bom::run(rt, options, out),
         Some(("list", options)) => list::run(rt, options, out),
         Some(("translate", options)) => translate::run(rt, options, out),
         Some(("tree", options)) => tree::run(rt, options, out),

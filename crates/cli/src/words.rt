@@ -25,6 +25,12 @@ const CHECK_HELP: &str =
     "Refuses a lockfile whose table, written in the format, does not read back; \
 a root, or a replacement of a package with dependencies, is in the table and in no text";
 
+/// What `bom` leaves out, as help shows it.
+const BOM_HELP: &str =
+    "A lockfile says neither licences nor descriptions, and not whether a dependency is one of \
+tests or of builds, of some target or of some feature, so the bill says nothing of them. A package \
+without a source has no purl: pkg:cargo/NAME@VERSION would be the package of crates.io";
+
 /// The words as the parser reads them, the program's name first. A leading `lock` is left out, and
 /// `list` stands before the first option where no command does, unless it asks for help. Fails for
 /// running out of memory.
@@ -73,7 +79,7 @@ pub(crate) fn format<'a>(options: &ArgMatches<'a>) -> &'a str
     options.get_str("version").unwrap_or(DEFAULT_FORMAT)
 }
 
-/// The path of the file that `translate` writes, unless it prints.
+/// The path of the file that a command writes, unless it prints.
 pub(crate) fn output_file<'a>(options: &ArgMatches<'a>) -> Option<&'a str>
     ensures none { result ≡ None → IsPrinted (first_value (found_of options.now) (codes "output")) }
     ensures some { IfSome result (λ path.
@@ -93,9 +99,20 @@ pub(crate) fn command<'a>(alloc: Global) -> Result<Command<'a>, AllocError> {
         .about("Looks into lockfiles")
         .subcommand_required(true)
         .args_override_self(true)
+        .subcommand(bom(alloc)?)?
         .subcommand(list(alloc)?)?
         .subcommand(translate(alloc)?)?
         .subcommand(tree(alloc)?)
+}
+
+/// The command `bom` and its options.
+fn bom<'a>(alloc: Global) -> Result<Command<'a>, AllocError> {
+    Command::new(alloc, "bom")
+        .about("Writes a bill of materials, as CycloneDX 1.6 has it in JSON")
+        .after_help(BOM_HELP)
+        .arg(file(alloc))?
+        .arg(output(alloc))?
+        .arg(long_flag(alloc, "compact").help("Writes one line, without spaces"))
 }
 
 /// The command `list` and its options.
@@ -113,20 +130,13 @@ fn translate<'a>(alloc: Global) -> Result<Command<'a>, AllocError> {
     Command::new(alloc, "translate")
         .about("Writes a lockfile in another format")
         .arg(file(alloc))?
-        .arg(value(alloc, "output", 'o', "PATH").help(
-            "The file that is written, - for standard output",
-        ))?
+        .arg(output(alloc))?
         .arg(
             value(alloc, "version", 'v', "FORMAT")
                 .default_value(DEFAULT_FORMAT)
                 .help("The format, 1 to 4"),
         )?
-        .arg(
-            Arg::new(alloc, "check")
-                .long("check")
-                .action(ArgAction::SetTrue)
-                .help(CHECK_HELP),
-        )
+        .arg(long_flag(alloc, "check").help(CHECK_HELP))
 }
 
 /// The command `tree`, its options and its specifications.
@@ -154,6 +164,11 @@ fn file<'a>(alloc: Global) -> Arg<'a> {
         .help("The lockfile")
 }
 
+/// The option for the file that is written.
+fn output<'a>(alloc: Global) -> Arg<'a> {
+    value(alloc, "output", 'o', "PATH").help("The file that is written, - for standard output")
+}
+
 /// An option that takes a value, which help shows as `shown`. The value may begin with a hyphen.
 fn value<'a>(alloc: Global, name: &'a str, short: char, shown: &'a str) -> Arg<'a> {
     Arg::new(alloc, name)
@@ -166,8 +181,10 @@ fn value<'a>(alloc: Global, name: &'a str, short: char, shown: &'a str) -> Arg<'
 
 /// An option that takes no value.
 fn flag<'a>(alloc: Global, name: &'a str, short: char) -> Arg<'a> {
-    Arg::new(alloc, name)
-        .short(short)
-        .long(name)
-        .action(ArgAction::SetTrue)
+    long_flag(alloc, name).short(short)
+}
+
+/// An option that takes no value and has no letter.
+fn long_flag<'a>(alloc: Global, name: &'a str) -> Arg<'a> {
+    Arg::new(alloc, name).long(name).action(ArgAction::SetTrue)
 }

@@ -1,0 +1,5 @@
+pub mod Places
+pub mod Entries
+pub mod Escapes
+pub mod Seen
+pub mod Depths

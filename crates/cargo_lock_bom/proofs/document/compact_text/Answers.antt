@@ -1,0 +1,10 @@
+use Rattle.serde_json.specs.View.{view}
+use Rattle.cargo_lock_bom.proofs.Depths.{bill_low}
+use Rattle.cargo_lock_bom.proofs.document.compact_text.Goals as goal
+
+pub returns-clause-ok : goal.returns-clause-ok
+returns-clause-ok c = record {
+  bill = view c.in_ok-bill.bill;
+  is = c.in_ok-bill.ensures.ok;
+  reads = c.in_ok-text.ensures.reads_back (bill_low c.args.graph.now (view c.in_ok-bill.bill) c.in_ok-bill.ensures.ok);
+}

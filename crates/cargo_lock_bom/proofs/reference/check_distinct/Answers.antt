@@ -1,0 +1,37 @@
+use Rattle.std.proofs.Common.{◌≡◌, ◌≤◌, true, false, inl, inr, List, length, slice_get, sym, ap, subst, ◌∙◌, ⊎_elim}
+use Rattle.std.proofs.lemmas.List.{take_all}
+use Rattle.std.specs.BTreeSet.{contains_text}
+use Rattle.cargo_lock_parts.specs.Identity.{PackageData}
+use Rattle.cargo_lock_bom.specs.References.{package_reference}
+use Rattle.cargo_lock_bom.proofs.Seen.{AreSeen, next-seen, none-seen, not-false, not-true, seen-distinct, seen-repeated}
+use Rattle.cargo_lock_bom.proofs.reference.check_distinct.Goals as goal
+
+pub loop-node-init : goal.loop-node-init
+loop-node-init c = none-seen c.new-seen.result c.new-seen.ensures.empty
+
+pub loop-node-preserved : goal.loop-node-preserved
+loop-node-preserved c =
+    let packages = c.args.graph.now.packages in
+    let p = c.index-one.result.now in
+    let before = contains_text c.loop-node.seen in
+    let new : before (package_reference p) ≡ false =
+    not-true (before (package_reference p)) (sym c.in_ok-add.ensures.new ∙ c.if-not-branch.false) in
+    next-seen packages c.loop-node.node p before (contains_text c.add.new.seen) (sym (c.index-one.ensures ∙ ap (slice_get packages) c.new.ensures))
+    c.loop-node.invariant new c.in_ok-add.ensures.added
+
+pub returns-then-not-branch-clause-err : goal.returns-then-not-branch-clause-err
+returns-then-not-branch-clause-err c =
+    let packages = c.args.graph.now.packages in
+    let p = c.index-one.result.now in
+    let before = contains_text c.loop-node.seen in
+    let there : before (package_reference p) ≡ true =
+    not-false (before (package_reference p)) (sym c.in_ok-add.ensures.new ∙ c.if-not-branch.true) in
+    let repeated = seen-repeated packages c.loop-node.node p before (sym (c.index-one.ensures ∙ ap (slice_get packages) c.new.ensures)) c.loop-node.invariant there in
+    ⊎_elim (λ memory. inl memory) (λ said. inr (p, repeated, said)) c.repeated.ensures
+
+pub returns-clause-ok : goal.returns-clause-ok
+returns-clause-ok c =
+    let packages : List PackageData = c.args.graph.now.packages in
+    let past : length packages ≤ c.loop-node.node = subst (λ n. n ≤ c.loop-node.node) c.node_count-node-end.ensures c.loop-node-test.false in
+    let seen = subst (λ (ps : List PackageData). AreSeen ps (contains_text c.loop-node.seen)) (take_all c.loop-node.node packages past) c.loop-node.invariant in
+    seen-distinct packages (contains_text c.loop-node.seen) seen

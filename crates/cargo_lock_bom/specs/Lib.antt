@@ -1,0 +1,5 @@
+pub mod Purl
+pub mod References
+pub mod Component
+pub mod Dependencies
+pub mod Document

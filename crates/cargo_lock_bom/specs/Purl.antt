@@ -1,0 +1,83 @@
+-- Package URLs: `pkg:cargo/NAME@VERSION`, and after `?` where the package comes from, unless that
+-- is crates.io.
+use Rattle.std.specs.Prelude.{ℕ, Bool, ◌||◌, ◌==◌, List, [], ◌∷◌, ◌++◌, codes, Option, Some, None, if◌then◌else◌}
+use Rattle.std.specs.Char.{is_ascii_alphanumeric}
+use Rattle.std.specs.List.{flat_map, list_any}
+use Rattle.percent_encoding.specs.Percent.{percent_encode_byte}
+use Rattle.semver.specs.Identifiers.{parts_text}
+use Rattle.url.specs.Parts.{serialize}
+use Rattle.cargo_lock_parts.specs.Identity.{Identity}
+use Rattle.cargo_lock_parts.specs.Source.{Kind, GitReference, Source, DefaultBranch, Tag, Branch, Rev, Git, Path, Registry, SparseRegistry, LocalRegistry, Directory}
+use Rattle.cargo_lock_parts.specs.SourceShown.{is_default_registry}
+
+-- ---- escapes
+
+-- the marks that stand in a name and a version as they are
+abbrev pub plain_marks : List ℕ
+plain_marks = codes "-._~:"
+
+-- those that stand in a URL as they are
+abbrev pub plain_url_marks : List ℕ
+plain_url_marks = codes "-._~:/"
+
+-- the byte stands as it is: it is an ASCII letter, a digit or one of the marks
+abbrev pub is_plain : List ℕ → ℕ → Bool
+is_plain marks b = is_ascii_alphanumeric b || list_any (λ c. b == c) marks
+
+-- a text with every other byte as `%` and two upper-case hex digits
+abbrev pub escaped_but : List ℕ → List ℕ → List ℕ
+escaped_but marks text =
+    flat_map (λ b. if is_plain marks b then b ∷ [] else percent_encode_byte b) text
+
+-- a name or a version in a package URL
+unfoldable pub escaped : List ℕ → List ℕ
+escaped text = escaped_but plain_marks text
+
+-- a URL in a package URL
+unfoldable pub escaped_url : List ℕ → List ℕ
+escaped_url text = escaped_but plain_url_marks text
+
+-- ---- where a package comes from
+
+-- the commit, or else the tag, the branch or the revision
+abbrev pub revision : GitReference → Option (List ℕ) → Option (List ℕ)
+revision reference (Some commit) = Some commit
+revision DefaultBranch None = None
+revision (Tag name) None = Some name
+revision (Branch name) None = Some name
+revision (Rev name) None = Some name
+
+-- where a repository is, and what is checked out of it
+abbrev pub repository_text : List ℕ → Option (List ℕ) → List ℕ
+repository_text url None = codes "git+" ++ url
+repository_text url (Some revision) = codes "git+" ++ (url ++ (codes "@" ++ revision))
+
+-- what says where a package comes from, by the kind, the URL text and the precise text of its
+-- source
+abbrev pub qualifiers_by : Kind → List ℕ → Option (List ℕ) → List ℕ
+qualifiers_by (Git reference) url precise =
+    codes "?vcs_url=" ++ escaped_url (repository_text url (revision reference precise))
+qualifiers_by Path url precise = codes "?download_url=" ++ escaped_url url
+qualifiers_by Registry url precise = codes "?repository_url=" ++ escaped_url url
+qualifiers_by SparseRegistry url precise = codes "?repository_url=" ++ escaped_url url
+qualifiers_by LocalRegistry url precise = codes "?repository_url=" ++ escaped_url url
+qualifiers_by Directory url precise = codes "?repository_url=" ++ escaped_url url
+
+-- what says where a package comes from: nothing of crates.io
+unfoldable pub qualifiers : Source → List ℕ
+qualifiers s =
+    if is_default_registry s then []
+    else qualifiers_by s.kind (serialize s.url) s.precise
+
+-- ---- the URL
+
+-- the package URL of a name, a version and a source; without a source there is none
+abbrev pub purl_from : List ℕ → List ℕ → Option Source → Option (List ℕ)
+purl_from name version None = None
+purl_from name version (Some source) =
+    Some (codes "pkg:cargo/" ++ (escaped name
+    ++ (codes "@" ++ (escaped version ++ qualifiers source))))
+
+-- the package URL of a package
+abbrev pub purl_of : Identity → Option (List ℕ)
+purl_of d = purl_from d.name (parts_text d.version) d.source

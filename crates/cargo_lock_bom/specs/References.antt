@@ -1,0 +1,42 @@
+-- The texts by which a bill of materials refers to packages, each to one alone.
+use Rattle.std.specs.Prelude.{◌≡◌, ◌≢◌, ℕ, false, List, ◌++◌, codes, map, take, slice_get, Contains, AllPairs, Option, Some, None, ◌⊎◌}
+use Rattle.semver.specs.Identifiers.{parts_text}
+use Rattle.cargo_lock_parts.specs.declared.error.Error.{Error}
+use Rattle.cargo_lock_parts.specs.declared.error.Error.TheVariants.{Memory}
+use Rattle.cargo_lock_parts.specs.Error.{IsParse}
+use Rattle.cargo_lock_parts.specs.Identity.{Identity, PackageData, identity_of, dependency_text}
+use Rattle.cargo_lock_parts.specs.Source.{Source}
+use Rattle.cargo_lock_parts.specs.SourceText.{text_of}
+
+-- `NAME@VERSION`, after the source and `#` where there is one
+abbrev pub reference_from : List ℕ → List ℕ → Option Source → List ℕ
+reference_from name version None = name ++ (codes "@" ++ version)
+reference_from name version (Some source) =
+    text_of false source ++ (codes "#" ++ (name ++ (codes "@" ++ version)))
+
+-- the text that refers to a package of this identity
+abbrev pub reference_text : Identity → List ℕ
+reference_text d = reference_from d.name (parts_text d.version) d.source
+
+-- the text that refers to a package
+abbrev pub package_reference : PackageData → List ℕ
+package_reference p = reference_text (identity_of p)
+
+-- no two packages have one text
+abbrev pub HaveDistinctReferences : List PackageData → Type 0
+HaveDistinctReferences packages = AllPairs (λ x y. x ≢ y) (map package_reference packages)
+
+-- the package stands at a place, and one before it has its text
+pub record IsRepeated (packages : List PackageData) (p : PackageData) : Type 0 where
+  pub place : ℕ
+  pub stands : slice_get packages place ≡ Some p
+  pub earlier : Contains (map package_reference (take place packages)) (package_reference p)
+
+-- what is said of such a package
+abbrev pub repeated_text : PackageData → List ℕ
+repeated_text p = codes "two packages are " ++ dependency_text (identity_of p)
+
+-- memory ran out, or the fault is `Parse` and names a package whose text one before it has
+abbrev pub IsRepeatedFault : List PackageData → Error → Type 0
+IsRepeatedFault packages e = (e ≡ Memory)
+    ⊎ ((p : PackageData) × IsRepeated packages p × IsParse e (repeated_text p))

@@ -1,0 +1,101 @@
+//! The bill of materials of a lockfile.
+
+ghost use Rattle.std.specs.Prelude.{◌≡◌, IfErr, IfOk, map, string_bytes};
+ghost use Rattle.json.specs.Layout.{pretty};
+ghost use Rattle.json.specs.Lex.{tokens};
+ghost use Rattle.json.specs.Print.{print};
+ghost use Rattle.serde_json.specs.View.{view};
+ghost use Rattle.cargo_lock_bom.specs.Document.{IsBill, IsBillText, document_of};
+ghost use Rattle.cargo_lock_bom.specs.Document as spec;
+ghost use Rattle.cargo_lock_bom.specs.References.{IsRepeatedFault};
+
+use crate::component::components;
+use crate::dependencies::entries;
+use crate::reference::check_distinct;
+use cargo_lock_graph::graph::Graph;
+use cargo_lock_parts::Result;
+use serde_json::{Map, Value, json, put};
+use std::alloc::{AllocError, Global};
+
+/// The bill of materials of a graph: its packages, and what its edges say that each depends on. The
+/// graph of a lockfile is that of its tree.
+///
+/// `Parse` says that two packages have one text, by which the bill would refer to both:
+/// `two packages are NAME VERSION (SOURCE)`.
+pub fn document(alloc: Global, graph: &Graph) -> Result<Value>
+    ensures ok { IfOk result (λ v. IsBill graph.now (view v)) }
+    ensures err { IfErr result (IsRepeatedFault graph.now.packages) }
+{
+    check_distinct(alloc, graph)?;
+    let components = components(alloc, graph)?;
+    let entries = entries(alloc, graph)?;
+    let made = assembled(alloc, components, entries)?;
+    Ok(made)
+}
+
+/// The text of the bill of materials of a graph, with one member or item a line, indented. Fails as
+/// `document` does.
+pub fn pretty_text(alloc: Global, graph: &Graph) -> Result<String>
+    ensures ok { IfOk result (λ text. IsBillText graph.now (string_bytes text)) }
+    ensures layout { IfOk result
+        (λ text. string_bytes text ≡ pretty (tokens (string_bytes text))) }
+    ensures err { IfErr result (IsRepeatedFault graph.now.packages) }
+{
+    let bill = document(alloc, graph)?;
+    let text = bill.to_string_pretty(alloc)?;
+    Ok(text)
+}
+
+/// The text of the bill of materials of a graph, in one line without spaces between its parts.
+/// Fails as `document` does.
+pub fn compact_text(alloc: Global, graph: &Graph) -> Result<String>
+    ensures ok { IfOk result (λ text. IsBillText graph.now (string_bytes text)) }
+    ensures layout { IfOk result
+        (λ text. string_bytes text ≡ print (tokens (string_bytes text))) }
+    ensures err { IfErr result (IsRepeatedFault graph.now.packages) }
+{
+    let bill = document(alloc, graph)?;
+    let text = bill.to_string(alloc)?;
+    Ok(text)
+}
+
+// The document of components and entries.
+#[tactic(auto, unfolding(crate::specs::Document::document_of))]
+fn assembled(
+    alloc: Global,
+    components: Vec<Value>,
+    entries: Vec<Value>,
+) -> std::result::Result<Value, AllocError>
+    ensures { IfOk result (λ v.
+        view v ≡ document_of (map view components.items) (map view entries.items)) }
+{
+    let mut members = Map::new(alloc);
+    put(
+        &mut members,
+        alloc,
+        "bomFormat",
+        Value::String(String::from_str(alloc, "CycloneDX")?),
+    )?;
+    put(&mut members, alloc, "components", Value::Array(components))?;
+    put(&mut members, alloc, "dependencies", Value::Array(entries))?;
+    put(&mut members, alloc, "metadata", metadata(alloc)?)?;
+    put(
+        &mut members,
+        alloc,
+        "specVersion",
+        Value::String(String::from_str(alloc, "1.6")?),
+    )?;
+    put(&mut members, alloc, "version", Value::from(1u64))?;
+    Ok(Value::Object(members))
+}
+
+// The program that wrote the bill.
+fn metadata(alloc: Global) -> std::result::Result<Value, AllocError>
+    ensures { IfOk result (λ v. view v ≡ spec.metadata) }
+{
+    json!(in alloc;
+        {"tools": {"components": [
+            {"type": "application", "name": "cargo-lock", "version": "11.0.1"}
+        ]}}
+    )
+}

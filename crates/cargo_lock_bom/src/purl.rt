@@ -1,0 +1,166 @@
+//! Package URLs of packages.
+
+ghost use Rattle.std.specs.Prelude.{◌≡◌, ◌++◌, codes, IfOk, option_copied, option_map, string_bytes};
+ghost use Rattle.percent_encoding.specs.Iter.{encoded_text};
+ghost use Rattle.cargo_lock_parts.specs.Identity.{identity_of};
+ghost use Rattle.cargo_lock_parts.specs.Source.{kind_of, git_reference_of};
+ghost use Rattle.cargo_lock_bom.specs.Purl.{escaped, escaped_url, purl_of, repository_text, revision};
+ghost use Rattle.cargo_lock_bom.specs.Purl as spec;
+
+use cargo_lock_parts::package::{GitReference, Package, SourceId, SourceKind};
+use percent_encoding::{AsciiSet, NON_ALPHANUMERIC, PercentEncode, ascii_set, utf8_percent_encode};
+use std::alloc::{AllocError, Global};
+
+// The ASCII bytes that are escaped in a name and a version.
+const SEGMENT: AsciiSet = ascii_set!(
+    NON_ALPHANUMERIC
+        .remove(b'-')
+        .remove(b'.')
+        .remove(b'_')
+        .remove(b'~')
+        .remove(b':')
+);
+
+// Those that are escaped in a URL.
+const VALUE: AsciiSet = ascii_set!(
+    NON_ALPHANUMERIC
+        .remove(b'-')
+        .remove(b'.')
+        .remove(b'_')
+        .remove(b'~')
+        .remove(b':')
+        .remove(b'/')
+);
+
+/// The package URL of a package: `pkg:cargo/serde@1.0.203`. After `?` stands where the package comes
+/// from, unless that is crates.io: `vcs_url=git%2Bhttps://example.org/lib%40COMMIT` of a repository,
+/// with the commit, or else the tag, the branch or the revision, `repository_url=URL` of another
+/// registry, and `download_url=URL` of a folder.
+///
+/// A package without a source has none: `pkg:cargo/NAME@VERSION` names the package of crates.io,
+/// which is another one. Fails when out of memory.
+pub fn purl(alloc: Global, one: &Package) -> Result<Option<String>, AllocError>
+    ensures { IfOk result
+        (λ text. option_map string_bytes text ≡ purl_of (identity_of one.now)) }
+{
+    let name = escape(one.name.as_str());
+    let version = one.version.to_string(alloc)?;
+    let version = escape(version.as_str());
+    match &one.source {
+        Some(source) => {
+            let qualifiers = qualifiers(alloc, source)?;
+            let text = format!(in alloc; "pkg:cargo/{name}@{version}{qualifiers}")?;
+            Ok(Some(text))
+        }
+        None => Ok(None),
+    }
+}
+
+// A name or a version, escaped.
+fn escape(text: &str) -> PercentEncode<'_>
+    ensures { encoded_text result ≡ escaped text.now }
+{
+    utf8_percent_encode(text, SEGMENT)
+}
+
+// A URL, escaped.
+fn escape_url(text: &str) -> PercentEncode<'_>
+    ensures { encoded_text result ≡ escaped_url text.now }
+{
+    utf8_percent_encode(text, VALUE)
+}
+
+// What says where a package comes from.
+#[tactic(auto, unfolding(crate::specs::Purl::qualifiers))]
+fn qualifiers(alloc: Global, source: &SourceId) -> Result<String, AllocError>
+    ensures { IfOk result (λ text. string_bytes text ≡ spec.qualifiers source.now) }
+{
+    if source.is_default_registry() {
+        return Ok(String::new(alloc));
+    }
+    qualifiers_by(
+        alloc,
+        source.kind(),
+        source.url().as_str(),
+        source.precise(),
+    )
+}
+
+// The same by the parts of the source.
+fn qualifiers_by(
+    alloc: Global,
+    kind: &SourceKind,
+    url: &str,
+    precise: Option<&str>,
+) -> Result<String, AllocError>
+    ensures { IfOk result (λ text. string_bytes text
+        ≡ spec.qualifiers_by (kind_of kind.now) url.now (option_copied precise.entry)) }
+{
+    match kind {
+        SourceKind::Git(reference) => of_repository(alloc, reference, url, precise),
+        SourceKind::Path => of_folder(alloc, url),
+        SourceKind::Registry => of_registry(alloc, url),
+        SourceKind::SparseRegistry => of_registry(alloc, url),
+        SourceKind::LocalRegistry => of_registry(alloc, url),
+        SourceKind::Directory => of_registry(alloc, url),
+    }
+}
+
+// What says of a package that it comes from a folder.
+fn of_folder(alloc: Global, url: &str) -> Result<String, AllocError>
+    ensures { IfOk result
+        (λ text. string_bytes text ≡ codes "?download_url=" ++ escaped_url url.now) }
+{
+    let url = escape_url(url);
+    format!(in alloc; "?download_url={url}")
+}
+
+// What says of a package that it comes from a registry.
+fn of_registry(alloc: Global, url: &str) -> Result<String, AllocError>
+    ensures { IfOk result
+        (λ text. string_bytes text ≡ codes "?repository_url=" ++ escaped_url url.now) }
+{
+    let url = escape_url(url);
+    format!(in alloc; "?repository_url={url}")
+}
+
+// What says of a package that it comes from a repository.
+fn of_repository(
+    alloc: Global,
+    reference: &GitReference,
+    url: &str,
+    precise: Option<&str>,
+) -> Result<String, AllocError>
+    ensures { IfOk result (λ text. string_bytes text ≡ codes "?vcs_url=" ++ escaped_url
+        (repository_text url.now (revision (git_reference_of reference.now)
+        (option_copied precise.entry)))) }
+{
+    let place = place_of(alloc, url, revision_of(reference, precise))?;
+    let place = escape_url(place.as_str());
+    format!(in alloc; "?vcs_url={place}")
+}
+
+// Where a repository is, and what is checked out of it.
+fn place_of(alloc: Global, url: &str, revision: Option<&str>) -> Result<String, AllocError>
+    ensures { IfOk result (λ text. string_bytes text
+        ≡ repository_text url.now (option_copied revision.entry)) }
+{
+    match revision {
+        Some(revision) => format!(in alloc; "git+{url}@{revision}"),
+        None => format!(in alloc; "git+{url}"),
+    }
+}
+
+// The commit, or else the tag, the branch or the revision.
+fn revision_of<'a>(reference: &'a GitReference, precise: Option<&'a str>) -> Option<&'a str>
+    ensures { option_copied result
+        ≡ revision (git_reference_of reference.now) (option_copied precise.entry) }
+{
+    match (precise, reference) {
+        (Some(commit), _) => Some(commit),
+        (None, GitReference::DefaultBranch) => None,
+        (None, GitReference::Tag(name)) => Some(name.as_str()),
+        (None, GitReference::Branch(name)) => Some(name.as_str()),
+        (None, GitReference::Rev(name)) => Some(name.as_str()),
+    }
+}

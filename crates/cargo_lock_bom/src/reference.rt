@@ -1,0 +1,76 @@
+//! The texts by which a bill of materials refers to packages.
+
+ghost use Rattle.std.specs.Prelude.{◌≡◌, ◌≢◌, ◌⊎◌, ◌||◌, ◌++◌, not, ℕ, List, bytes_eq, IfErr, IfOk, IsOkUnless, OnErr, OnOk, string_bytes};
+ghost use Rattle.std.specs.BTreeSet.{contains_text};
+ghost use Rattle.cargo_lock_parts.specs.declared.error.Error.TheVariants.{Memory};
+ghost use Rattle.cargo_lock_parts.specs.Error.{IsParse};
+ghost use Rattle.cargo_lock_bom.specs.References.{HaveDistinctReferences, IsRepeatedFault, package_reference};
+ghost use Rattle.cargo_lock_bom.specs.References as spec;
+
+use cargo_lock_graph::graph::{Graph, NodeIndex};
+use cargo_lock_parts::{Dependency, Error, Package, Result};
+use std::alloc::{AllocError, Global};
+use std::collections::BTreeSet;
+
+/// The text by which a bill of materials refers to a package: `NAME@VERSION`, after the source and
+/// `#` where there is one, as in
+/// `registry+https://github.com/rust-lang/crates.io-index#serde@1.0.203`.
+/// Fails when out of memory.
+pub fn reference(alloc: Global, one: &Package) -> std::result::Result<String, AllocError>
+    ensures { IfOk result (λ text. string_bytes text ≡ package_reference one.now) }
+{
+    let name = &one.name;
+    let version = &one.version;
+    match &one.source {
+        Some(source) => format!(in alloc; "{source}#{name}@{version}"),
+        None => format!(in alloc; "{name}@{version}"),
+    }
+}
+
+/// Refuses a graph in which one text refers to two packages.
+pub(crate) fn check_distinct(alloc: Global, graph: &Graph) -> Result<()>
+    ensures ok { OnOk result (HaveDistinctReferences graph.now.packages) }
+    ensures err { IfErr result (IsRepeatedFault graph.now.packages) }
+{
+    let mut seen = BTreeSet::new(alloc);
+    for node in 0..graph.node_count() {
+        let one = &graph[NodeIndex::new(node)];
+        if !add(alloc, &mut seen, one)? {
+            return Err(repeated(alloc, one));
+        }
+    }
+    Ok(())
+}
+
+// Adds the text of a package, and answers whether it was new.
+fn add(alloc: Global, seen: &mut BTreeSet<String>, one: &Package) -> Result<bool>
+    ensures new { IfOk result
+        (λ new. new ≡ not (contains_text seen.old (package_reference one.now))) }
+    ensures added { OnOk result ((q : List ℕ) → contains_text seen.new q
+        ≡ (contains_text seen.old q || bytes_eq q (package_reference one.now))) }
+    ensures err { IsOkUnless result Memory }
+{
+    let text = reference(alloc, one)?;
+    let new = seen.insert(text)?;
+    Ok(new)
+}
+
+// The fault of a package whose text another one has.
+fn repeated(alloc: Global, one: &Package) -> Error
+    ensures { (result ≡ Memory) ⊎ IsParse result (spec.repeated_text one.now) }
+{
+    match repeated_text(alloc, one) {
+        Ok(text) => Error::Parse(text),
+        Err(error) => error,
+    }
+}
+
+// What is said of such a package.
+fn repeated_text(alloc: Global, one: &Package) -> Result<String>
+    ensures ok { IfOk result (λ text. string_bytes text ≡ spec.repeated_text one.now) }
+    ensures err { IsOkUnless result Memory }
+{
+    let identity = Dependency::of(one)?;
+    let text = format!(in alloc; "two packages are {identity}")?;
+    Ok(text)
+}

@@ -1,0 +1,84 @@
+//! The command `bom`: the bill of materials of a lockfile.
+ghost use Rattle.std.specs.Prelude.{◌≡◌, ◌∷◌, ◌++◌, [], IfOk, OnOk, codes, string_bytes};
+ghost use Rattle.clap.specs.Matches.{first_value, found_of};
+ghost use Rattle.cargo_lock_bom.specs.Document.{IsBillText};
+ghost use Rattle.cli.specs.Bom.{IsBillLine, PrintsBill};
+ghost use Rattle.cli.specs.Translate.{TakesOutput};
+
+use crate::fault::Fault;
+use crate::output::put;
+use crate::saving::save;
+use crate::words;
+use cargo_lock::dependency::graph::Graph;
+use cargo_lock::{Error, Lockfile};
+use cargo_lock_bom::document::{compact_text, pretty_text};
+use clap::ArgMatches;
+use std::alloc::{AllocError, Global};
+use std::io::Write;
+use std::path::Path;
+use std::rt::Files;
+
+/// Writes the bill of materials of the lockfile and a newline: into the output file, or to `out`.
+/// Fails where the lockfile is not read or has no tree, where one text would refer to two of its
+/// packages, and where the output fails.
+pub(crate) fn run<R: Files + AllocGlobal, W: Write>(
+    rt: &R,
+    options: &ArgMatches<'_>,
+    out: &mut W,
+) -> Result<(), Fault>
+    ensures { OnOk result
+        (PrintsBill (found_of options.now) (W.contents out.old) (W.contents out.new)) }
+{
+    let lockfile = words::lockfile(rt, options)?;
+    let text = line_of(rt.alloc(), &lockfile, options.get_flag("compact"))?;
+    put_out(rt, options, text.as_str(), out)
+}
+
+/// The text of the bill of materials of a lockfile, and a newline.
+fn line_of(alloc: Global, lockfile: &Lockfile, is_compact: bool) -> Result<String, Error>
+    ensures { IfOk result (λ text. IsBillLine lockfile.now (string_bytes text)) }
+{
+    let tree = lockfile.dependency_tree(alloc)?;
+    let text = text_of(alloc, tree.graph(), is_compact)?;
+    let line = ended(text)?;
+    Ok(line)
+}
+
+/// The text of the bill of materials of a graph.
+fn text_of(alloc: Global, graph: &Graph, is_compact: bool) -> Result<String, Error>
+    ensures { IfOk result (λ text. IsBillText graph.now (string_bytes text)) }
+{
+    if is_compact {
+        compact_text(alloc, graph)
+    } else {
+        pretty_text(alloc, graph)
+    }
+}
+
+/// The text and a newline.
+fn ended(text: String) -> Result<String, AllocError>
+    ensures { IfOk result (λ line. string_bytes line ≡ string_bytes text ++ 10 ∷ []) }
+{
+    let mut text = text;
+    text.push('\n')?;
+    Ok(text)
+}
+
+/// Writes the text into the output file, or prints it.
+fn put_out<R: Files + AllocGlobal, W: Write>(
+    rt: &R,
+    options: &ArgMatches<'_>,
+    text: &str,
+    out: &mut W,
+) -> Result<(), Fault>
+    ensures { OnOk result (TakesOutput (first_value (found_of options.now) (codes "output"))
+        text.now (W.contents out.old) (W.contents out.new)) }
+{
+    match words::output_file(options) {
+        Some(path) => save(rt, Path::new(path), text),
+        None => {
+            put(out, text)?;
+            Ok(())
+        }
+    }
+}
