@@ -1,0 +1,104 @@
+/* cargo_lock for callers in C: reads a Cargo.lock of any format, V1 to V4.
+ *
+ * Each call takes the bytes of a lockfile and keeps nothing: any number of threads may call at
+ * once, and there is nothing to free. A thread needs a stack of 2 MiB: the deepest text that is
+ * read takes 1,556 KiB.
+ *
+ * `text` points to `text_len` bytes, which are only read. `out` points to room for `out_len`
+ * items, and `length` and `format` to one number each. These are the caller's, are not null, also
+ * where they hold nothing, and do not overlap while a call runs.
+ *
+ * Each call answers a status. At CARGO_LOCK_DONE the answer stands at the front of `out`, and
+ * `*length` is how many items it has. At CARGO_LOCK_NO_ROOM the answer is longer than `out_len`,
+ * `*length` is how many items it has, and `out` is as it was: call again with that room. At any
+ * other status `out`, `*length` and `*format` are as they were. A text in `out` is UTF-8 and has
+ * no byte 0 at its end.
+ */
+#ifndef CARGO_LOCK_H
+#define CARGO_LOCK_H
+
+#include <stdbool.h>
+#include <stddef.h>
+#include <stdint.h>
+
+#ifdef __cplusplus
+extern "C" {
+#endif
+
+/* The number of the interface that this header has. */
+#define CARGO_LOCK_INTERFACE 1
+
+enum {
+    /* The call gave its answer. */
+    CARGO_LOCK_DONE = 0,
+    /* The text is no lockfile. cargo_lock_fault says why. */
+    CARGO_LOCK_NO_LOCKFILE = 1,
+    /* The bytes are no UTF-8. */
+    CARGO_LOCK_NO_TEXT = 2,
+    /* Memory was refused. So is a text of 2^24 bytes or more with a URL of 4 GB or more. */
+    CARGO_LOCK_NO_MEMORY = 3,
+    /* The number of the format is none of 1 to 4. */
+    CARGO_LOCK_NO_FORMAT = 4,
+    /* The answer is longer than the room for it. */
+    CARGO_LOCK_NO_ROOM = 5,
+    /* The lockfile does not survive the format: written in it, it would not be read back. */
+    CARGO_LOCK_LOST = 6,
+    /* No package fits some dependency. */
+    CARGO_LOCK_UNRESOLVED = 7,
+    /* There is no package of that number. */
+    CARGO_LOCK_NO_PACKAGE = 8,
+    /* A name or a source has a byte below 32, as a tab, and so can stand in no line. */
+    CARGO_LOCK_NO_LINE = 9
+};
+
+/* An edge, by the numbers of two packages in the lockfile's order, from 0: the package that depends,
+ * and the one on which it depends. */
+typedef struct {
+    size_t from;
+    size_t to;
+} cargo_lock_edge;
+
+/* CARGO_LOCK_INTERFACE of the library. */
+uint32_t cargo_lock_interface(void);
+
+/* The number of the lockfile's format, 1 to 4. DONE, NO_LOCKFILE, NO_TEXT or NO_MEMORY. */
+uint32_t cargo_lock_format(const uint8_t *text, size_t text_len, uint32_t *format);
+
+/* Why the text is no lockfile, in words. Where it is one, there are none: DONE, and a length of 0.
+ * DONE, NO_TEXT, NO_MEMORY or NO_ROOM. */
+uint32_t cargo_lock_fault(const uint8_t *text, size_t text_len, uint8_t *out, size_t out_len,
+                          size_t *length);
+
+/* Whether the lockfile survives the format of this number: DONE where it does, and LOST where it
+ * does not. Else NO_LOCKFILE, NO_TEXT, NO_MEMORY or NO_FORMAT. */
+uint32_t cargo_lock_survives(const uint8_t *text, size_t text_len, uint32_t format);
+
+/* The text of the lockfile in the format of this number, which it must survive. DONE, NO_LOCKFILE,
+ * NO_TEXT, NO_MEMORY, NO_FORMAT, NO_ROOM or LOST. */
+uint32_t cargo_lock_translate(const uint8_t *text, size_t text_len, uint32_t format, uint8_t *out,
+                              size_t out_len, size_t *length);
+
+/* The packages in the lockfile's order, a line each: name, version, source and checksum, with a tab
+ * between two and a newline at the end. A source or a checksum that is missing is empty. DONE,
+ * NO_LOCKFILE, NO_TEXT, NO_MEMORY, NO_ROOM or NO_LINE. */
+uint32_t cargo_lock_packages(const uint8_t *text, size_t text_len, uint8_t *out, size_t out_len,
+                             size_t *length);
+
+/* The edges of the graph of packages: those of package 0 first, and of each package the one for its
+ * last dependency first. Of equal packages the last has the edges of all. `out_len` and `*length`
+ * count edges. DONE, NO_LOCKFILE, NO_TEXT, NO_MEMORY, NO_ROOM or UNRESOLVED. */
+uint32_t cargo_lock_edges(const uint8_t *text, size_t text_len, cargo_lock_edge *out,
+                          size_t out_len, size_t *length);
+
+/* The drawing of the tree of a package, by its number in the lockfile's order, from 0: of what it
+ * depends on, or, where it is inverted, of what depends on it. Exact labels have the checksum
+ * too, or else the source. DONE, NO_LOCKFILE, NO_TEXT, NO_MEMORY, NO_ROOM, UNRESOLVED or
+ * NO_PACKAGE. */
+uint32_t cargo_lock_tree(const uint8_t *text, size_t text_len, size_t package, bool inverted,
+                         bool exact, uint8_t *out, size_t out_len, size_t *length);
+
+#ifdef __cplusplus
+}
+#endif
+
+#endif

@@ -1,0 +1,245 @@
+"""Reads a Cargo.lock of any format, V1 to V4, by the proved library `cargo_lock`.
+
+    import cargo_lock
+
+    text = open("Cargo.lock", "rb").read()
+    for package in cargo_lock.packages(text):
+        print(package.name, package.version)
+
+Each call takes the text of a lockfile, as `bytes` or `str`, and keeps nothing, so any number of
+threads may call at once. A thread needs a stack of 2 MiB, which Python's threads have by default on
+Linux. A call that fails raises a subclass of `Error`, or `MemoryError`.
+
+The library is `libcargo_lock.so`. It is looked for at the path that the variable
+`CARGO_LOCK_LIBRARY` of the environment names, or else beside this file, or else where the system
+looks for libraries. `bindings/build` of the repository makes it.
+"""
+from __future__ import annotations
+
+import ctypes
+import os
+from typing import Any, Callable, NamedTuple, Optional, Union
+
+__all__ = [
+    "Edge",
+    "Error",
+    "FormatError",
+    "LineError",
+    "LostError",
+    "NotALockfile",
+    "Package",
+    "PackageError",
+    "UnresolvedError",
+    "edges",
+    "fault",
+    "format_of",
+    "packages",
+    "survives",
+    "translate",
+    "tree",
+]
+
+Text = Union[bytes, str]
+
+
+class Error(Exception):
+    """A call gave no answer."""
+
+
+class NotALockfile(Error, ValueError):
+    """The text is no lockfile, or no UTF-8. It says why."""
+
+
+class FormatError(Error, ValueError):
+    """The number of the format is none of 1 to 4."""
+
+
+class LostError(Error):
+    """The lockfile does not survive the format: written in it, it would not be read back as
+    equal."""
+
+
+class UnresolvedError(Error):
+    """No package fits some dependency."""
+
+
+class PackageError(Error, IndexError):
+    """There is no package of that number."""
+
+
+class LineError(Error):
+    """A name or a source has a byte below 32, as a tab or a newline."""
+
+
+class Package(NamedTuple):
+    """A package of a lockfile. Its source and its checksum, 64 hex digits, may be missing."""
+
+    name: str
+    version: str
+    source: Optional[str]
+    checksum: Optional[str]
+
+
+class Edge(NamedTuple):
+    """An edge, by the numbers of two packages in the lockfile's order, from 0: `start` depends on
+    `end`."""
+
+    start: int
+    end: int
+
+
+# ---- the calls
+
+def format_of(text: Text) -> int:
+    """The number of the lockfile's format, 1 to 4. Raises `NotALockfile`."""
+    given = _bytes(text)
+    number = ctypes.c_uint32(0)
+    _stop_unless_done(given, _library().cargo_lock_format(given, len(given), number))
+    return number.value
+
+
+def fault(text: Text) -> Optional[str]:
+    """Why the text is no lockfile, in words, or `None` where it is one."""
+    given = _bytes(text)
+    try:
+        return _answer(given, _library().cargo_lock_fault).decode() or None
+    except NotALockfile as error:
+        return str(error)
+
+
+def survives(text: Text, number: int) -> bool:
+    """Whether the lockfile survives the format of this number, 1 to 4: whether its table, written
+    in it, is read back as a lockfile of this format with equal packages, root and patches. Raises
+    `NotALockfile` and `FormatError`."""
+    given = _bytes(text)
+    status = _library().cargo_lock_survives(given, len(given), _format(number))
+    if status == _LOST:
+        return False
+    _stop_unless_done(given, status)
+    return True
+
+
+def translate(text: Text, number: int) -> str:
+    """The text of the lockfile in the format of this number, 1 to 4. Raises `LostError` where the
+    lockfile does not survive it, `NotALockfile` and `FormatError`."""
+    return _answer(_bytes(text), _library().cargo_lock_translate, _format(number)).decode()
+
+
+def packages(text: Text) -> list[Package]:
+    """The packages in the lockfile's order. Raises `NotALockfile`, and `LineError` where a name or
+    a source has a control character."""
+    lines = _answer(_bytes(text), _library().cargo_lock_packages).decode().split("\n")[:-1]
+    rows = [line.split("\t") for line in lines]
+    return [Package(row[0], row[1], row[2] or None, row[3] or None) for row in rows]
+
+
+def edges(text: Text) -> list[Edge]:
+    """The edges of the graph of packages: those of package 0 first, and of each package the one for
+    its last dependency first. Raises `NotALockfile` and `UnresolvedError`."""
+    given = _bytes(text)
+    count = ctypes.c_size_t(0)
+    room = (_Edge * 0)()
+    status = _NO_ROOM
+    while status == _NO_ROOM:
+        room = (_Edge * count.value)()
+        status = _library().cargo_lock_edges(given, len(given), room, len(room), count)
+    _stop_unless_done(given, status)
+    return [Edge(it.start, it.end) for it in room[: count.value]]
+
+
+def tree(text: Text, package: int, inverted: bool = False, exact: bool = False) -> str:
+    """The drawing of the tree of a package, by its number in the lockfile's order: of what it
+    depends on, or, where it is inverted, of what depends on it. Exact labels have the checksum too, or else
+    the source. Raises `NotALockfile`, `UnresolvedError`, and `PackageError` where there is no
+    package of that number."""
+    if not 0 <= package < 2**64:
+        raise PackageError(f"there is no package {package}")
+    return _answer(_bytes(text), _library().cargo_lock_tree, package, inverted, exact).decode()
+
+
+# ---- how they are made
+
+_INTERFACE = 1
+_DONE, _NO_LOCKFILE, _NO_TEXT, _NO_MEMORY, _NO_FORMAT = range(5)
+_NO_ROOM, _LOST, _UNRESOLVED, _NO_PACKAGE, _NO_LINE = range(5, 10)
+
+_ERRORS: dict[int, tuple[type[Error], str]] = {
+    _NO_TEXT: (NotALockfile, "the bytes are no UTF-8"),
+    _NO_FORMAT: (FormatError, "the number of a format is 1 to 4"),
+    _LOST: (LostError, "the lockfile does not survive the format"),
+    _UNRESOLVED: (UnresolvedError, "no package fits some dependency"),
+    _NO_PACKAGE: (PackageError, "there is no package of that number"),
+    _NO_LINE: (LineError, "a name or a source has a control character"),
+}
+
+
+class _Edge(ctypes.Structure):
+    _fields_ = [("start", ctypes.c_size_t), ("end", ctypes.c_size_t)]
+
+
+# The parameters of each call after those of the text.
+_ROOM = [ctypes.c_void_p, ctypes.c_size_t, ctypes.POINTER(ctypes.c_size_t)]
+_CALLS: dict[str, list[Any]] = {
+    "format": [ctypes.POINTER(ctypes.c_uint32)],
+    "fault": _ROOM,
+    "survives": [ctypes.c_uint32],
+    "translate": [ctypes.c_uint32, *_ROOM],
+    "packages": _ROOM,
+    "edges": _ROOM,
+    "tree": [ctypes.c_size_t, ctypes.c_bool, ctypes.c_bool, *_ROOM],
+}
+
+_loaded: Optional[ctypes.CDLL] = None
+
+
+def _library() -> ctypes.CDLL:
+    """The library, which is loaded at the first call."""
+    global _loaded
+    if _loaded is None:
+        _loaded = _load()
+    return _loaded
+
+
+def _load() -> ctypes.CDLL:
+    beside = os.path.join(os.path.dirname(os.path.abspath(__file__)), "libcargo_lock.so")
+    path = os.environ.get("CARGO_LOCK_LIBRARY")
+    library = ctypes.CDLL(path or (beside if os.path.exists(beside) else "libcargo_lock.so"))
+    for name, parameters in _CALLS.items():
+        call = getattr(library, f"cargo_lock_{name}")
+        call.argtypes = [ctypes.c_char_p, ctypes.c_size_t, *parameters]
+        call.restype = ctypes.c_uint32
+    library.cargo_lock_interface.restype = ctypes.c_uint32
+    if library.cargo_lock_interface() != _INTERFACE:
+        raise ImportError(f"{library._name} does not have interface {_INTERFACE}")
+    return library
+
+
+def _bytes(text: Text) -> bytes:
+    return text.encode() if isinstance(text, str) else bytes(text)
+
+
+def _format(number: int) -> int:
+    """The number of a format as the library takes it: those of other widths are no format's."""
+    return number if 0 <= number < 2**32 else 0
+
+
+def _answer(given: bytes, call: Callable[..., int], *words: Any) -> bytes:
+    """The bytes that a call answers, in room that is made as long as it has to be."""
+    length = ctypes.c_size_t(4096)
+    status = _NO_ROOM
+    while status == _NO_ROOM:
+        room = ctypes.create_string_buffer(length.value)
+        status = call(given, len(given), *words, room, len(room), length)
+    _stop_unless_done(given, status)
+    return room.raw[: length.value]
+
+
+def _stop_unless_done(given: bytes, status: int) -> None:
+    if status == _DONE:
+        return
+    if status == _NO_MEMORY:
+        raise MemoryError
+    if status == _NO_LOCKFILE:
+        raise NotALockfile(fault(given) or "no lockfile")
+    kind, words = _ERRORS[status]
+    raise kind(words)

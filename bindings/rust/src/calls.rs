@@ -1,0 +1,151 @@
+//! The calls of the library, as its header `cargo_lock.h` has them. All that is unsafe is here.
+
+use crate::{Edge, Error};
+
+mod library {
+    use crate::Edge;
+
+    extern "C" {
+        pub fn cargo_lock_format(text: *const u8, text_len: usize, format: *mut u32) -> u32;
+        pub fn cargo_lock_fault(
+            text: *const u8,
+            text_len: usize,
+            out: *mut u8,
+            out_len: usize,
+            length: *mut usize,
+        ) -> u32;
+        pub fn cargo_lock_survives(text: *const u8, text_len: usize, format: u32) -> u32;
+        pub fn cargo_lock_translate(
+            text: *const u8,
+            text_len: usize,
+            format: u32,
+            out: *mut u8,
+            out_len: usize,
+            length: *mut usize,
+        ) -> u32;
+        pub fn cargo_lock_packages(
+            text: *const u8,
+            text_len: usize,
+            out: *mut u8,
+            out_len: usize,
+            length: *mut usize,
+        ) -> u32;
+        pub fn cargo_lock_edges(
+            text: *const u8,
+            text_len: usize,
+            out: *mut Edge,
+            out_len: usize,
+            length: *mut usize,
+        ) -> u32;
+        pub fn cargo_lock_tree(
+            text: *const u8,
+            text_len: usize,
+            package: usize,
+            inverted: bool,
+            exact: bool,
+            out: *mut u8,
+            out_len: usize,
+            length: *mut usize,
+        ) -> u32;
+    }
+}
+
+// The statuses that are not faults.
+const DONE: u32 = 0;
+const NO_ROOM: u32 = 5;
+
+pub(crate) fn format(text: &[u8]) -> Result<u32, Error> {
+    let mut number = 0;
+    // SAFETY: the pointers and the length are those of a slice and of a number that is borrowed.
+    let status = unsafe { library::cargo_lock_format(text.as_ptr(), text.len(), &mut number) };
+    told(text, status)?;
+    Ok(number)
+}
+
+pub(crate) fn survives(text: &[u8], number: u32) -> Result<(), Error> {
+    // SAFETY: the pointer and the length are those of a slice.
+    let status = unsafe { library::cargo_lock_survives(text.as_ptr(), text.len(), number) };
+    told(text, status)
+}
+
+pub(crate) fn fault(text: &[u8]) -> Result<String, Error> {
+    // SAFETY: the pointers and lengths are those of slices and of a number that are borrowed.
+    words(text, |out, length| unsafe {
+        library::cargo_lock_fault(text.as_ptr(), text.len(), out.as_mut_ptr(), out.len(), length)
+    })
+}
+
+pub(crate) fn translate(text: &[u8], number: u32) -> Result<String, Error> {
+    // SAFETY: as above.
+    words(text, |out, length| unsafe {
+        let (at, room) = (out.as_mut_ptr(), out.len());
+        library::cargo_lock_translate(text.as_ptr(), text.len(), number, at, room, length)
+    })
+}
+
+pub(crate) fn packages(text: &[u8]) -> Result<String, Error> {
+    // SAFETY: as above.
+    words(text, |out, length| unsafe {
+        library::cargo_lock_packages(text.as_ptr(), text.len(), out.as_mut_ptr(), out.len(), length)
+    })
+}
+
+pub(crate) fn edges(text: &[u8]) -> Result<Vec<Edge>, Error> {
+    // SAFETY: as above, and the library's edge has the fields of `Edge`.
+    items(text, |out: &mut [Edge], length| unsafe {
+        library::cargo_lock_edges(text.as_ptr(), text.len(), out.as_mut_ptr(), out.len(), length)
+    })
+}
+
+pub(crate) fn tree(
+    text: &[u8],
+    package: usize,
+    inverted: bool,
+    exact: bool,
+) -> Result<String, Error> {
+    // SAFETY: as above.
+    words(text, |out, length| unsafe {
+        let (at, room) = (out.as_mut_ptr(), out.len());
+        let (given, given_len) = (text.as_ptr(), text.len());
+        library::cargo_lock_tree(given, given_len, package, inverted, exact, at, room, length)
+    })
+}
+
+/// The text that a call answers.
+fn words(text: &[u8], call: impl FnMut(&mut [u8], &mut usize) -> u32) -> Result<String, Error> {
+    let bytes = items(text, call)?;
+    Ok(String::from_utf8(bytes).expect("the library answers UTF-8"))
+}
+
+/// The items that a call answers, in room that is made as long as it has to be.
+fn items<T: Clone + Default>(
+    text: &[u8],
+    mut call: impl FnMut(&mut [T], &mut usize) -> u32,
+) -> Result<Vec<T>, Error> {
+    let mut out = Vec::new();
+    let mut length = 0;
+    let mut status = call(&mut out, &mut length);
+    while status == NO_ROOM {
+        out.resize(length, T::default());
+        status = call(&mut out, &mut length);
+    }
+    told(text, status)?;
+    out.truncate(length);
+    Ok(out)
+}
+
+/// The fault of a status, if it is one.
+fn told(text: &[u8], status: u32) -> Result<(), Error> {
+    Err(match status {
+        DONE => return Ok(()),
+        1 => Error::NotALockfile(fault(text)?),
+        2 => Error::NotUtf8,
+        3 => Error::OutOfMemory,
+        4 => Error::NoFormat,
+        6 => Error::Lost,
+        7 => Error::Unresolved,
+        8 => Error::NoPackage,
+        9 => Error::NoLine,
+        status => Error::UnknownStatus(status),
+    })
+}

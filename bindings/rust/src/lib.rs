@@ -1,0 +1,167 @@
+//! Reads a `Cargo.lock` of any format, V1 to V4, by the proved library `cargo_lock`.
+//!
+//! Each call takes the text of a lockfile and keeps nothing, so any number of threads may call at
+//! once. A thread needs a stack of 2 MiB, which Rust's threads have by default.
+//!
+//! ```
+//! let text = "version = 3\n\n[[package]]\nname = \"app\"\nversion = \"0.1.0\"\n";
+//! for package in proved_cargo_lock::packages(text)? {
+//!     println!("{} {}", package.name, package.version);
+//! }
+//! # Ok::<(), proved_cargo_lock::Error>(())
+//! ```
+
+use std::error;
+use std::fmt;
+
+mod calls;
+
+/// A package of a lockfile.
+#[derive(Clone, Debug, PartialEq, Eq, Hash)]
+pub struct Package {
+    /// The name.
+    pub name: String,
+
+    /// The version.
+    pub version: String,
+
+    /// Where it comes from, as in the lockfile; none for a package of the workspace.
+    pub source: Option<String>,
+
+    /// The checksum as 64 hex digits, if there is one.
+    pub checksum: Option<String>,
+}
+
+/// An edge of the graph of packages, by their numbers in the lockfile's order, from 0.
+#[repr(C)]
+#[derive(Clone, Copy, Debug, Default, PartialEq, Eq, Hash)]
+pub struct Edge {
+    /// The package that depends.
+    pub from: usize,
+
+    /// The package on which it depends.
+    pub to: usize,
+}
+
+/// Which way a tree goes from its package.
+#[derive(Clone, Copy, Debug, PartialEq, Eq, Hash)]
+pub enum Direction {
+    /// To what the package depends on.
+    Dependencies,
+
+    /// To what depends on the package.
+    Dependents,
+}
+
+/// Why a call gives no answer.
+#[derive(Clone, Debug, PartialEq, Eq, Hash)]
+pub enum Error {
+    /// The text is no lockfile, for this reason.
+    NotALockfile(String),
+
+    /// The bytes are no UTF-8.
+    NotUtf8,
+
+    /// Memory was refused.
+    OutOfMemory,
+
+    /// The number of the format is none of 1 to 4.
+    NoFormat,
+
+    /// The lockfile does not survive the format: written in it, it would not be read back as equal.
+    Lost,
+
+    /// No package fits some dependency.
+    Unresolved,
+
+    /// There is no package of that number.
+    NoPackage,
+
+    /// A name or a source has a byte below 32, as a tab or a newline.
+    NoLine,
+
+    /// The library answered a status that this crate does not know.
+    UnknownStatus(u32),
+}
+
+impl fmt::Display for Error {
+    fn fmt(&self, f: &mut fmt::Formatter<'_>) -> fmt::Result {
+        match self {
+            Error::NotALockfile(why) => write!(f, "no lockfile: {why}"),
+            Error::NotUtf8 => f.write_str("the bytes are no UTF-8"),
+            Error::OutOfMemory => f.write_str("out of memory"),
+            Error::NoFormat => f.write_str("the number of a format is 1 to 4"),
+            Error::Lost => f.write_str("the lockfile does not survive the format"),
+            Error::Unresolved => f.write_str("no package fits some dependency"),
+            Error::NoPackage => f.write_str("there is no package of that number"),
+            Error::NoLine => f.write_str("a name or a source has a control character"),
+            Error::UnknownStatus(status) => write!(f, "unknown status {status}"),
+        }
+    }
+}
+
+impl error::Error for Error {}
+
+/// The number of the lockfile's format, 1 to 4.
+pub fn format(text: impl AsRef<[u8]>) -> Result<u32, Error> {
+    calls::format(text.as_ref())
+}
+
+/// Why the text is no lockfile, in words; none where it is one.
+pub fn fault(text: impl AsRef<[u8]>) -> Result<Option<String>, Error> {
+    let words = calls::fault(text.as_ref())?;
+    Ok(if words.is_empty() { None } else { Some(words) })
+}
+
+/// Whether the lockfile survives the format of this number, 1 to 4: whether its table, written in
+/// it, is read back as a lockfile of this format with equal packages, root and patches.
+pub fn survives(text: impl AsRef<[u8]>, number: u32) -> Result<bool, Error> {
+    match calls::survives(text.as_ref(), number) {
+        Ok(()) => Ok(true),
+        Err(Error::Lost) => Ok(false),
+        Err(error) => Err(error),
+    }
+}
+
+/// The text of the lockfile in the format of this number, 1 to 4. One that does not survive it is
+/// refused with `Lost`.
+pub fn translate(text: impl AsRef<[u8]>, number: u32) -> Result<String, Error> {
+    calls::translate(text.as_ref(), number)
+}
+
+/// The packages in the lockfile's order.
+pub fn packages(text: impl AsRef<[u8]>) -> Result<Vec<Package>, Error> {
+    let lines = calls::packages(text.as_ref())?;
+    Ok(lines.split_terminator('\n').map(package_of).collect())
+}
+
+/// The package of a line.
+fn package_of(line: &str) -> Package {
+    let mut fields = line.split('\t').map(str::to_owned);
+    let mut field = || fields.next().unwrap_or_default();
+    let (name, version, source, checksum) = (field(), field(), field(), field());
+    let unless_empty = |text: String| if text.is_empty() { None } else { Some(text) };
+    Package {
+        name,
+        version,
+        source: unless_empty(source),
+        checksum: unless_empty(checksum),
+    }
+}
+
+/// The edges of the graph of packages: those of package 0 first, and of each package the one for
+/// its last dependency first. Refused with `Unresolved` where a dependency has no package.
+pub fn edges(text: impl AsRef<[u8]>) -> Result<Vec<Edge>, Error> {
+    calls::edges(text.as_ref())
+}
+
+/// The drawing of the tree of a package, by its number in the lockfile's order, from 0. Exact
+/// labels have the checksum too, or else the source.
+pub fn tree(
+    text: impl AsRef<[u8]>,
+    package: usize,
+    direction: Direction,
+    exact: bool,
+) -> Result<String, Error> {
+    calls::tree(text.as_ref(), package, direction == Direction::Dependents, exact)
+}

@@ -1,0 +1,39 @@
+# Completions of `cargo-lock` for fish. `tests/words/run` compares them with the program's help.
+
+# Whether the command is this one; of an empty name, whether there is none yet.
+function __cargo_lock_runs
+    set -l words (commandline -opc)
+    test "$words[2]" = "$argv[1]"
+end
+
+# The names of the packages in the lockfile of the current folder.
+function __cargo_lock_packages
+    cargo-lock list 2>/dev/null | string split -f 2 ' ' | sort -u
+end
+
+complete -c cargo-lock -f
+complete -c cargo-lock -n '__cargo_lock_runs ""' -a list -d 'Lists the packages of a lockfile'
+complete -c cargo-lock -n '__cargo_lock_runs ""' -a translate -d 'Writes a lockfile in another format'
+complete -c cargo-lock -n '__cargo_lock_runs ""' -a tree -d 'Draws the trees of packages'
+complete -c cargo-lock -n '__cargo_lock_runs ""' -a help -d 'Print this message or the help of the given subcommand(s)'
+complete -c cargo-lock -n '__cargo_lock_runs ""' -s h -l help -d 'Print help'
+
+complete -c cargo-lock -n '__cargo_lock_runs list' -s f -l file -r -F -d 'The lockfile'
+complete -c cargo-lock -n '__cargo_lock_runs list' -s p -l package -x -a '(__cargo_lock_packages)' -d 'Lists only the packages of this name'
+complete -c cargo-lock -n '__cargo_lock_runs list' -s d -l dependencies -d 'Lists the dependencies of each package'
+complete -c cargo-lock -n '__cargo_lock_runs list' -s s -l sources -d 'Shows where each comes from'
+complete -c cargo-lock -n '__cargo_lock_runs list' -s h -l help -d 'Print help'
+
+complete -c cargo-lock -n '__cargo_lock_runs translate' -s f -l file -r -F -d 'The lockfile'
+complete -c cargo-lock -n '__cargo_lock_runs translate' -s o -l output -r -F -d 'The file that is written, - for standard output'
+complete -c cargo-lock -n '__cargo_lock_runs translate' -s v -l version -x -a '1 2 3 4' -d 'The format, 1 to 4'
+complete -c cargo-lock -n '__cargo_lock_runs translate' -l check -d 'Refuses a lockfile whose table, written in the format, does not read back'
+complete -c cargo-lock -n '__cargo_lock_runs translate' -s h -l help -d 'Print help'
+
+complete -c cargo-lock -n '__cargo_lock_runs tree' -s f -l file -r -F -d 'The lockfile'
+complete -c cargo-lock -n '__cargo_lock_runs tree' -s x -l exact -d 'Shows checksums, or else where each comes from'
+complete -c cargo-lock -n '__cargo_lock_runs tree' -s i -l invert -d 'Draws what depends on each package'
+complete -c cargo-lock -n '__cargo_lock_runs tree' -s h -l help -d 'Print help'
+complete -c cargo-lock -n '__cargo_lock_runs tree' -a '(__cargo_lock_packages)' -d SPEC
+
+complete -c cargo-lock -n '__cargo_lock_runs help' -a 'list translate tree help' -d COMMAND

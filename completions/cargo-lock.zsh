@@ -1,0 +1,58 @@
+#compdef cargo-lock
+# Completions of `cargo-lock` for zsh. `tests/words/run` compares them with the program's help.
+
+_cargo-lock() {
+    local curcontext=$curcontext context state state_descr line
+    local -A opt_args
+    local -a commands=(
+        'list:Lists the packages of a lockfile'
+        'translate:Writes a lockfile in another format'
+        'tree:Draws the trees of packages'
+        'help:Print this message or the help of the given subcommand(s)'
+    )
+    _arguments -C \
+        '(- *)'{-h,--help}'[Print help]' \
+        '1:COMMAND:->command' \
+        '*::WORD:->words' && return
+    if [[ $state == command ]]; then
+        _describe -t commands COMMAND commands
+        return
+    fi
+    case $words[1] in
+    list)
+        _arguments -s \
+            '(-f --file)'{-f,--file}'[The lockfile]:PATH:_files' \
+            '(-p --package)'{-p,--package}'[Lists only the packages of this name]:NAME:_cargo-lock-packages' \
+            '(-d --dependencies)'{-d,--dependencies}'[Lists the dependencies of each package]' \
+            '(-s --sources)'{-s,--sources}'[Shows where each comes from]' \
+            '(- *)'{-h,--help}'[Print help]'
+        ;;
+    translate)
+        _arguments -s \
+            '(-f --file)'{-f,--file}'[The lockfile]:PATH:_files' \
+            '(-o --output)'{-o,--output}'[The file that is written, - for standard output]:PATH:_files' \
+            '(-v --version)'{-v,--version}'[The format, 1 to 4]:FORMAT:(1 2 3 4)' \
+            '--check[Refuses a lockfile whose table, written in the format, does not read back]' \
+            '(- *)'{-h,--help}'[Print help]'
+        ;;
+    tree)
+        _arguments -s \
+            '(-f --file)'{-f,--file}'[The lockfile]:PATH:_files' \
+            '(-x --exact)'{-x,--exact}'[Shows checksums, or else where each comes from]' \
+            '(-i --invert)'{-i,--invert}'[Draws what depends on each package]' \
+            '(- *)'{-h,--help}'[Print help]' \
+            '*:SPEC:_cargo-lock-packages'
+        ;;
+    help)
+        _describe -t commands COMMAND commands
+        ;;
+    esac
+}
+
+# Offers the names of the packages in the lockfile of the current folder.
+_cargo-lock-packages() {
+    local -aU packages=(${${(f)"$(_call_program packages cargo-lock list 2> /dev/null)"}[(w)2]})
+    compadd -a packages
+}
+
+_cargo-lock "$@"

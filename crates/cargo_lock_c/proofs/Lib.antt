@@ -1,0 +1,4 @@
+mod HandedOut
+mod Refusals
+mod EdgeLists
+mod PackageLines

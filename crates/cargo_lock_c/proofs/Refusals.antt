@@ -1,0 +1,55 @@
+-- What the status of a fault says.
+use Rattle.std.proofs.Common.{◌≡◌, ◌∙◌, ℕ, List, Result, Ok, Err, IfErr, IfOk, ap, arith, subst, sym}
+use Rattle.std.specs.Result.{IsErrAnd}
+use Rattle.cargo_lock_parts.specs.declared.error.Error.{Error}
+use Rattle.cargo_lock_parts.specs.declared.error.Error.TheVariants.{Io, Parse, Version, Resolution, Memory}
+use Rattle.cargo_lock_parts.specs.Error.{IsParse, Refuses}
+use Rattle.cargo_lock_c.specs.declared.refusal.Refusal.{Refusal}
+use Rattle.cargo_lock_c.specs.declared.refusal.Refusal.TheVariants.{NoMemory}
+use Rattle.cargo_lock_c.specs.Statuses.{refusal_of, status_of}
+use Rattle.cargo_lock_c.specs.Texts.{MeansNothing, RefusesText}
+
+-- a fault of reading is told as its status says
+pub refused-text : (text : List ℕ) (fault : Error) → Refuses fault (MeansNothing text)
+    → RefusesText text (status_of (refusal_of fault))
+refused-text text (Parse said) nothing = record {
+  no_lockfile = λ _. nothing;
+  no_text = λ two. absurd (omega (arith, two));
+}
+refused-text text Memory _ = record {
+  no_lockfile = λ one. absurd (omega (arith, one));
+  no_text = λ two. absurd (omega (arith, two));
+}
+refused-text text (Io kind) impossible = absurd impossible
+refused-text text (Version fault) impossible = absurd impossible
+refused-text text (Resolution said) impossible = absurd impossible
+
+-- a fault that is `Parse` is a fault of the text
+pub refused-words : (P : Type 0) (fault : Error) (words : List ℕ) → IsParse fault words → Refuses fault P → P
+refused-words P (Parse said) words _ holds = holds
+refused-words P Memory words impossible _ = absurd impossible
+refused-words P (Io kind) words impossible _ = absurd impossible
+refused-words P (Version fault) words impossible _ = absurd impossible
+refused-words P (Resolution said) words impossible _ = absurd impossible
+
+-- what holds of the refusal that `?` passes on holds of the one that it came from
+pub refusal-passed : {T : Type 0} (P : Refusal → Type 0) (r : Result T Refusal) (first : Refusal)
+    → IsErrAnd r (λ passed. passed ≡ first) → P first → IfErr r P
+refusal-passed P (Ok x) first impossible holds = absurd impossible
+refusal-passed P (Err e) first same holds = subst P (sym same) holds
+
+-- refused memory is told as no other status
+pub memory-is-three : (refusal : Refusal) (status : ℕ) → refusal ≡ NoMemory → status_of refusal ≡ status → status ≡ 3
+memory-is-three refusal status memory told = sym told ∙ ap status_of memory
+
+-- refused memory says nothing of the text
+pub memory-text : (text : List ℕ) (refusal : Refusal) → refusal ≡ NoMemory → RefusesText text (status_of refusal)
+memory-text text refusal memory = record {
+  no_lockfile = λ one. let bad : 1 ≡ 3 = memory-is-three refusal 1 memory one in absurd (omega (arith, bad));
+  no_text = λ two. let bad : 2 ≡ 3 = memory-is-three refusal 2 memory two in absurd (omega (arith, bad));
+}
+
+-- what follows from what holds of an answer holds of it
+pub if_ok-follows : {T E : Type 0} (P Q : T → Type 0) (r : Result T E) → ((x : T) → P x → Q x) → IfOk r P → IfOk r Q
+if_ok-follows P Q (Ok x) follows holds = follows x holds
+if_ok-follows P Q (Err e) follows holds = holds

@@ -1,0 +1,5 @@
+pub mod Statuses
+pub mod Answers
+pub mod Texts
+pub mod Packages
+pub mod Graph

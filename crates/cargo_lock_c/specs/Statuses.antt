@@ -1,0 +1,27 @@
+-- The numbers that callers are told, and which fault of the library is told as which.
+use Rattle.std.specs.Prelude.{ℕ}
+use Rattle.cargo_lock_parts.specs.declared.error.Error.{Error}
+use Rattle.cargo_lock_parts.specs.declared.error.Error.TheVariants.{Io, Parse, Version, Resolution, Memory}
+use Rattle.cargo_lock_c.specs.declared.refusal.Refusal.{Refusal}
+use Rattle.cargo_lock_c.specs.declared.refusal.Refusal.TheVariants.{NoLockfile, NoText, NoMemory, NoFormat, Lost, Unresolved, NoPackage, NoLine}
+
+-- the status of a call that gives no answer; 0 is that of an answer, and 5 that of an answer for
+-- which there is no room
+abbrev pub status_of : Refusal → ℕ
+status_of NoLockfile = 1
+status_of NoText = 2
+status_of NoMemory = 3
+status_of NoFormat = 4
+status_of Lost = 6
+status_of Unresolved = 7
+status_of NoPackage = 8
+status_of NoLine = 9
+
+-- how a fault of the library is told; reading a text and drawing into memory have no `Io` and no
+-- `Version`
+abbrev pub refusal_of : Error → Refusal
+refusal_of (Io kind) = NoMemory
+refusal_of (Parse said) = NoLockfile
+refusal_of (Version fault) = NoLockfile
+refusal_of (Resolution said) = Unresolved
+refusal_of Memory = NoMemory

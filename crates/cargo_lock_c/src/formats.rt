@@ -1,0 +1,126 @@
+//! Formats: whether a lockfile survives one, and its text in one.
+
+ghost use Rattle.std.specs.Prelude.{◌≡◌, ◌≤◌, ◌↔◌, Some, IfErr, IfOk, IsOk, IsTrue, string_bytes};
+ghost use Rattle.cargo_lock_references.specs.Format.{numbered};
+ghost use Rattle.cargo_lock_encoding.specs.Survives.{Survives, in_format};
+ghost use Rattle.cargo_lock_encoding.specs.Text.{join_lines, lines_of};
+ghost use Rattle.cargo_lock_c.specs.declared.refusal.Refusal.TheVariants.{NoFormat, NoMemory};
+ghost use Rattle.cargo_lock_c.specs.Answers.{IsHandedOut};
+ghost use Rattle.cargo_lock_c.specs.Statuses.{status_of};
+ghost use Rattle.cargo_lock_c.specs.Texts.{IsLostInNumber, IsSurvivor, IsTranslation, RefusesText, SurvivesNumber};
+
+use crate::handing::hand_out;
+use crate::reading::read;
+use crate::refusal::{DONE, Refusal};
+use cargo_lock::{Lockfile, ResolveVersion};
+use std::alloc::Global;
+
+/// Whether the text is a lockfile that survives the format of a number: 0, or else 6.
+#[unsafe(no_mangle)]
+pub extern "C" fn cargo_lock_survives(alloc: Global, text: &[u8], format: u32) -> u32
+    ensures survives { result ≡ 0 → SurvivesNumber text.now format }
+    ensures lost { result ≡ 6 → IsLostInNumber text.now format }
+    ensures refused { RefusesText text.now result }
+    ensures no_format { (result ≡ 4) ↔ (¬ ((1 ≤ format) × (format ≤ 4))) }
+{
+    match survivor(alloc, text, format) {
+        Ok(lockfile) => {
+            drop(lockfile);
+            DONE
+        }
+        Err(refusal) => refusal.status(),
+    }
+}
+
+/// The text, in the format of a number, of a lockfile that survives it. One that does not is
+/// refused with 6.
+#[unsafe(no_mangle)]
+pub extern "C" fn cargo_lock_translate(
+    alloc: Global,
+    text: &[u8],
+    format: u32,
+    out: &mut [u8],
+    length: &mut usize,
+) -> u32
+    ensures translation { IsHandedOut (IsTranslation text.now format) result out.old out.new
+        length.old length.new }
+    ensures lost { result ≡ 6 → IsLostInNumber text.now format }
+    ensures refused { RefusesText text.now result }
+    ensures no_format { (result ≡ 4) ↔ (¬ ((1 ≤ format) × (format ≤ 4))) }
+{
+    match translation(alloc, text, format) {
+        Ok(written) => hand_out(written.as_bytes(), out, length),
+        Err(refusal) => refusal.status(),
+    }
+}
+
+/// The text, in the format of a number, of a lockfile that survives it.
+fn translation(alloc: Global, bytes: &[u8], number: u32) -> Result<String, Refusal>
+    ensures ok { IfOk result (λ written. IsTranslation bytes.now number (string_bytes written)) }
+    ensures lost { IfErr result (λ refusal. status_of refusal ≡ 6
+        → IsLostInNumber bytes.now number) }
+    ensures refused { IfErr result (λ refusal. RefusesText bytes.now (status_of refusal)) }
+    ensures no_format { IfErr result (λ refusal. (status_of refusal ≡ 4)
+        ↔ (¬ ((1 ≤ number) × (number ≤ 4)))) }
+    ensures number { IsOk result → (1 ≤ number) × (number ≤ 4) }
+{
+    let lockfile = survivor(alloc, bytes, number)?;
+    let text = written(alloc, &lockfile)?;
+    Ok(text)
+}
+
+/// The text of a lockfile.
+fn written(alloc: Global, lockfile: &Lockfile) -> Result<String, Refusal>
+    ensures ok { IfOk result (λ text. string_bytes text ≡ join_lines (lines_of lockfile.now)) }
+    ensures err { IfErr result (λ refusal. refusal ≡ NoMemory) }
+{
+    Ok(lockfile.to_string(alloc)?)
+}
+
+/// The lockfile of the bytes of a text, set to the format of a number, which it survives. The
+/// number is looked at before the text.
+fn survivor(alloc: Global, bytes: &[u8], number: u32) -> Result<Lockfile, Refusal>
+    ensures ok { IfOk result (IsSurvivor bytes.now number) }
+    ensures lost { IfErr result (λ refusal. status_of refusal ≡ 6
+        → IsLostInNumber bytes.now number) }
+    ensures refused { IfErr result (λ refusal. RefusesText bytes.now (status_of refusal)) }
+    ensures no_format { IfErr result (λ refusal. (status_of refusal ≡ 4)
+        ↔ (¬ ((1 ≤ number) × (number ≤ 4)))) }
+    ensures number { IsOk result → (1 ≤ number) × (number ≤ 4) }
+{
+    let format = format_of(alloc, number)?;
+    let lockfile = read(alloc, bytes)?;
+    if !is_survivor(alloc, &lockfile, format)? {
+        return Err(Refusal::Lost);
+    }
+    Ok(set_to(lockfile, format))
+}
+
+/// The format of a number, 1 to 4.
+fn format_of(alloc: Global, number: u32) -> Result<ResolveVersion, Refusal>
+    ensures ok { IfOk result (λ format. numbered number ≡ Some format) }
+    ensures accepted { IsOk result ↔ ((1 ≤ number) × (number ≤ 4)) }
+    ensures err { IfErr result (λ refusal. refusal ≡ NoFormat) }
+{
+    match ResolveVersion::from_number(alloc, number) {
+        Ok(format) => Ok(format),
+        Err(_) => Err(Refusal::NoFormat),
+    }
+}
+
+/// Whether a lockfile survives a format.
+fn is_survivor(alloc: Global, lockfile: &Lockfile, format: ResolveVersion) -> Result<bool, Refusal>
+    ensures ok { IfOk result (λ survives. IsTrue survives ↔ Survives lockfile.now format) }
+    ensures err { IfErr result (λ refusal. refusal ≡ NoMemory) }
+{
+    Ok(lockfile.survives(alloc, format)?)
+}
+
+/// A lockfile, set to a format.
+fn set_to(lockfile: Lockfile, format: ResolveVersion) -> Lockfile
+    ensures { result ≡ in_format format lockfile }
+{
+    let mut lockfile = lockfile;
+    lockfile.version = format;
+    lockfile
+}

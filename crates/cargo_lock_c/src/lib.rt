@@ -1,0 +1,25 @@
+//! The library for callers in C: the bytes of a lockfile in, a status out, and the answer in a
+//! buffer of the caller. Nothing is kept between two calls. `bindings/c/cargo_lock.h` is the
+//! header.
+#![tactic(auto)]
+
+ghost use Rattle.std.specs.Prelude.{◌≡◌};
+
+mod edges;
+mod formats;
+mod handing;
+mod packages;
+mod reading;
+mod refusal;
+mod tree;
+
+/// The number of this interface. It grows where a call changes.
+const INTERFACE: u32 = 1;
+
+/// The number of this interface, 1.
+#[unsafe(no_mangle)]
+pub extern "C" fn cargo_lock_interface() -> u32
+    ensures { result ≡ 1 }
+{
+    INTERFACE
+}

@@ -1,0 +1,111 @@
+//! The packages of a lockfile, line by line.
+
+ghost use Rattle.std.specs.Prelude.{◌≡◌, ◌⊎◌, true, false, All, Any, IfErr, IfOk, nat_le, option_map, string_bytes};
+ghost use Rattle.std.specs.List.{flat_map, list_all};
+ghost use Rattle.cargo_lock_parts.specs.Checksum.{digest_of};
+ghost use Rattle.cargo_lock_c.specs.declared.refusal.Refusal.TheVariants.{NoLine, NoMemory};
+ghost use Rattle.cargo_lock_c.specs.Answers.{IsHandedOut};
+ghost use Rattle.cargo_lock_c.specs.Packages.{IsPackageList, LacksLine, checksum_field, has_line, package_line, source_field};
+ghost use Rattle.cargo_lock_c.specs.Statuses.{status_of};
+ghost use Rattle.cargo_lock_c.specs.Texts.{RefusesText};
+
+use crate::handing::hand_out;
+use crate::reading::read;
+use crate::refusal::Refusal;
+use cargo_lock::{Checksum, Package, SourceId};
+use std::alloc::Global;
+
+/// The packages of a lockfile in its order, a line each: name, version, source and checksum, with
+/// a tab between two. A source or a checksum that is missing is empty. Status 9 where a name or a
+/// source has a byte below 32, as a tab or a newline.
+#[unsafe(no_mangle)]
+pub extern "C" fn cargo_lock_packages(
+    alloc: Global,
+    text: &[u8],
+    out: &mut [u8],
+    length: &mut usize,
+) -> u32
+    ensures packages { IsHandedOut (IsPackageList text.now) result out.old out.new
+        length.old length.new }
+    ensures no_line { result ≡ 9 → LacksLine text.now }
+    ensures refused { RefusesText text.now result }
+{
+    match package_lines(alloc, text) {
+        Ok(lines) => hand_out(lines.as_bytes(), out, length),
+        Err(refusal) => refusal.status(),
+    }
+}
+
+/// The lines of the packages of the lockfile of the bytes of a text.
+fn package_lines(alloc: Global, bytes: &[u8]) -> Result<String, Refusal>
+    ensures ok { IfOk result (λ lines. IsPackageList bytes.now (string_bytes lines)) }
+    ensures no_line { IfErr result (λ refusal. status_of refusal ≡ 9 → LacksLine bytes.now) }
+    ensures refused { IfErr result (λ refusal. RefusesText bytes.now (status_of refusal)) }
+{
+    let lockfile = read(alloc, bytes)?;
+    let lines = lines_of(alloc, lockfile.packages.as_slice())?;
+    Ok(lines)
+}
+
+/// The lines of packages.
+fn lines_of(alloc: Global, packages: &[Package]) -> Result<String, Refusal>
+    ensures ok { IfOk result (λ lines. All (λ p. has_line p ≡ true) packages.now
+        × (string_bytes lines ≡ flat_map package_line packages.now)) }
+    ensures err { IfErr result (λ refusal. (refusal ≡ NoMemory)
+        ⊎ ((refusal ≡ NoLine) × Any (λ p. has_line p ≡ false) packages.now)) }
+{
+    let mut lines = String::new(alloc);
+    for package in packages {
+        let line = line_of(alloc, package)?;
+        lines.push_str(line.as_str())?;
+    }
+    Ok(lines)
+}
+
+/// The line of a package.
+fn line_of(alloc: Global, package: &Package) -> Result<String, Refusal>
+    ensures ok { IfOk result (λ line. (has_line «package».now ≡ true)
+        × (string_bytes line ≡ package_line «package».now)) }
+    ensures err { IfErr result (λ refusal. (refusal ≡ NoMemory)
+        ⊎ ((refusal ≡ NoLine) × (has_line «package».now ≡ false))) }
+{
+    let name = package.name.as_str();
+    let version = &package.version;
+    let source = source_text(alloc, &package.source)?;
+    let checksum = checksum_text(alloc, &package.checksum)?;
+    if !(is_plain(name) && is_plain(source.as_str())) {
+        return Err(Refusal::NoLine);
+    }
+    let line = format!(in alloc; "{name}\t{version}\t{source}\t{checksum}\n")?;
+    Ok(line)
+}
+
+/// The text of a source, or none.
+fn source_text(alloc: Global, source: &Option<SourceId>) -> Result<String, Refusal>
+    ensures ok { IfOk result (λ text. string_bytes text ≡ source_field source.now) }
+    ensures err { IfErr result (λ refusal. refusal ≡ NoMemory) }
+{
+    match source {
+        Some(source) => Ok(source.to_text(alloc)?),
+        None => Ok(String::new(alloc)),
+    }
+}
+
+/// The text of a checksum, or none.
+fn checksum_text(alloc: Global, checksum: &Option<Checksum>) -> Result<String, Refusal>
+    ensures ok { IfOk result (λ text. string_bytes text
+        ≡ checksum_field (option_map digest_of checksum.now)) }
+    ensures err { IfErr result (λ refusal. refusal ≡ NoMemory) }
+{
+    match checksum {
+        Some(checksum) => Ok(checksum.to_lower_hex(alloc)?),
+        None => Ok(String::new(alloc)),
+    }
+}
+
+/// Whether a text has no byte below 32.
+fn is_plain(text: &str) -> bool
+    ensures { result ≡ list_all (nat_le 32) text.now }
+{
+    text.as_bytes().iter().all(|byte| 32 <= *byte)
+}

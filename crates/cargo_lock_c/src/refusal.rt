@@ -1,0 +1,95 @@
+//! Why a call gives no answer, and the status of each reason.
+
+ghost use Rattle.std.specs.Prelude.{◌≡◌};
+ghost use Rattle.cargo_lock_c.specs.Statuses.{status_of};
+
+use cargo_lock::Error;
+use std::alloc::{AllocError, AllocFailed};
+
+/// The status of a call that gave its answer.
+pub(crate) const DONE: u32 = 0;
+
+/// The status of a call whose answer is longer than the room for it.
+pub(crate) const NO_ROOM: u32 = 5;
+
+/// Why there is no answer.
+#[derive(Clone, Copy)]
+pub(crate) enum Refusal {
+    /// The text is no lockfile.
+    NoLockfile,
+
+    /// The bytes are no UTF-8.
+    NoText,
+
+    /// Memory was refused.
+    NoMemory,
+
+    /// There is no format of that number.
+    NoFormat,
+
+    /// The lockfile does not survive the format.
+    Lost,
+
+    /// A dependency has no package.
+    Unresolved,
+
+    /// There is no package of that number.
+    NoPackage,
+
+    /// A name or a source has a control character, and so can stand in no line.
+    NoLine,
+}
+
+impl Refusal {
+    /// The number that the caller is told.
+    pub(crate) fn status(self) -> u32
+        ensures { result ≡ status_of self }
+    {
+        match self {
+            Refusal::NoLockfile => 1,
+            Refusal::NoText => 2,
+            Refusal::NoMemory => 3,
+            Refusal::NoFormat => 4,
+            Refusal::Lost => 6,
+            Refusal::Unresolved => 7,
+            Refusal::NoPackage => 8,
+            Refusal::NoLine => 9,
+        }
+    }
+}
+
+impl From<Error> for Refusal {
+    ghost use Rattle.cargo_lock_c.specs.Statuses.{refusal_of};
+
+    ghost from_gives = { λ error refusal. refusal ≡ refusal_of error };
+
+    fn from(error: Error) -> Refusal {
+        match error {
+            Error::Parse(_) => Refusal::NoLockfile,
+            Error::Version(_) => Refusal::NoLockfile,
+            Error::Resolution(_) => Refusal::Unresolved,
+            Error::Io(_) => Refusal::NoMemory,
+            Error::Memory => Refusal::NoMemory,
+        }
+    }
+}
+
+impl From<AllocError> for Refusal {
+    ghost use Rattle.cargo_lock_c.specs.declared.refusal.Refusal.TheVariants.{NoMemory};
+
+    ghost from_gives = { λ _ refusal. refusal ≡ NoMemory };
+
+    fn from(_: AllocError) -> Refusal {
+        Refusal::NoMemory
+    }
+}
+
+impl<T: Drop> From<AllocFailed<T>> for Refusal {
+    ghost use Rattle.cargo_lock_c.specs.declared.refusal.Refusal.TheVariants.{NoMemory};
+
+    ghost from_gives = { λ _ refusal. refusal ≡ NoMemory };
+
+    fn from(_: AllocFailed<T>) -> Refusal {
+        Refusal::NoMemory
+    }
+}
