@@ -1,7 +1,7 @@
 -- What the statuses say of the text that a caller hands over.
 use Rattle.std.specs.Prelude.{◌≡◌, ℕ, List, Some, IsUtf8}
 use Rattle.cargo_lock_references.specs.declared.version.ResolveVersion.{ResolveVersion}
-use Rattle.cargo_lock_references.specs.Format.{number_of, numbered}
+use Rattle.cargo_lock_references.specs.Format.{number_of, format_numbered}
 use Rattle.cargo_lock_encoding.specs.Lockfiles.{LockfileData}
 use Rattle.cargo_lock_encoding.specs.Means.{TextMeans}
 use Rattle.cargo_lock_encoding.specs.Survives.{Survives, in_format}
@@ -23,18 +23,18 @@ IsInFormat text number = (l : LockfileData) × TextMeans text l × (number ≡ n
 -- the text is that of a lockfile that survives the format with this number
 abbrev pub SurvivesNumber : List ℕ → ℕ → Type 0
 SurvivesNumber text number = (l : LockfileData) × (format : ResolveVersion) × TextMeans text l
-    × (numbered number ≡ Some format) × Survives l format
+    × (format_numbered number ≡ Some format) × Survives l format
 
 -- the text is that of a lockfile that does not survive the format with this number
 abbrev pub IsLostInNumber : List ℕ → ℕ → Type 0
 IsLostInNumber text number = (l : LockfileData) × (format : ResolveVersion) × TextMeans text l
-    × (numbered number ≡ Some format) × (¬ Survives l format)
+    × (format_numbered number ≡ Some format) × (¬ Survives l format)
 
 -- the text is that of a lockfile that survives the format with this number, and x is that lockfile,
 -- set to the format
 abbrev pub IsSurvivor : List ℕ → ℕ → LockfileData → Type 0
 IsSurvivor text number x = (l : LockfileData) × (format : ResolveVersion) × TextMeans text l
-    × (numbered number ≡ Some format) × Survives l format × (x ≡ in_format format l)
+    × (format_numbered number ≡ Some format) × Survives l format × (x ≡ in_format format l)
 
 -- the text is that of a lockfile that survives the format with this number, and these bytes are its
 -- text in that format

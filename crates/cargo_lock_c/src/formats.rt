@@ -1,7 +1,7 @@
 //! Formats: whether a lockfile survives one, and its text in one.
 
 ghost use Rattle.std.specs.Prelude.{◌≡◌, ◌≤◌, ◌↔◌, Some, IfErr, IfOk, IsOk, IsTrue, string_bytes};
-ghost use Rattle.cargo_lock_references.specs.Format.{numbered};
+ghost use Rattle.cargo_lock_references.specs.Format.{format_numbered};
 ghost use Rattle.cargo_lock_encoding.specs.Survives.{Survives, in_format};
 ghost use Rattle.cargo_lock_encoding.specs.Text.{join_lines, lines_of};
 ghost use Rattle.cargo_lock_c.specs.declared.refusal.Refusal.TheVariants.{NoFormat, NoMemory};
@@ -98,7 +98,7 @@ fn survivor(alloc: Global, bytes: &[u8], number: u32) -> Result<Lockfile, Refusa
 
 /// The format of a number, 1 to 4.
 fn format_of(alloc: Global, number: u32) -> Result<ResolveVersion, Refusal>
-    ensures ok { IfOk result (λ format. numbered number ≡ Some format) }
+    ensures ok { IfOk result (λ format. format_numbered number ≡ Some format) }
     ensures accepted { IsOk result ↔ ((1 ≤ number) × (number ≤ 4)) }
     ensures err { IfErr result (λ refusal. refusal ≡ NoFormat) }
 {
