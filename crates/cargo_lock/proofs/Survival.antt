@@ -366,7 +366,7 @@ value-parts format l e h =
     let made : ◌≡◌ {A = EncodedData} (record { version = n.0; packages = all.0.listed; root = all.0.root; metadata = m.0; patch = p.0 }) e = same_Some _ _ p.2 in
     record {
       number = sym (ap (λ (x : EncodedData). x.version) made) ∙ same_Some _ _ (sym n.1 ∙ number-read format);
-      listed = es.1 ∙ ap (λ (x : EncodedPackages). Some x.listed) both ∙ ap (λ (x : EncodedData). Some x.entries) made;
+      listed = es.1 ∙ ap (λ (x : EncodedPackages). Some x.listed) both ∙ ap (λ (x : EncodedData). Some x.packages) made;
       base = r.1 ∙ ap (λ (x : EncodedPackages). Some x.root) both ∙ ap (λ (x : EncodedData). Some x.root) made;
       metadata = sym (ap (λ (x : EncodedData). x.metadata) made) ∙ same_Some _ _ (sym m.1 ∙ metadata-read (written_metadata format l));
       patch = sym (patch-value format l.patch) ∙ p.1 ∙ ap (λ (x : EncodedData). Some x.patch) made;
@@ -413,7 +413,7 @@ reading l format h =
     let qs = es.means (map encoded_identity es.entries) es.identities in
     let root = root-reads format l.root h.root in
     let patch = patches-read format l.patch h.patch in
-    let e : EncodedData = record { version = written_version format; entries = es.entries; root = root.0; metadata = md; patch = patch.0 } in
+    let e : EncodedData = record { version = written_version format; packages = es.entries; root = root.0; metadata = md; patch = patch.0 } in
     let x : LockfileData = record { version = format; packages = qs.0; root = root.1; metadata = md; patch = patch.0 } in
     let read : values format l ≡ Some e = rw (number-read format, es.read, root.2, metadata-read md, patch-value format l.patch, patch.1) refl in
     let found : lockfile_of e ≡ Some x = rw (format-read format es.entries md es.none h.told, qs.1, root.3) refl in

@@ -103,13 +103,13 @@ then-metadata ms a b c some h0 h1 =
 pub then-encoded : (l : EncodedData) (a b c d e f : List ℕ)
     → b ≡ a ++ join_lines comment_lines
     → c ≡ b ++ join_lines (version_lines l.version)
-    → d ≡ c ++ join_lines (flat_map package_lines l.entries)
+    → d ≡ c ++ join_lines (flat_map package_lines l.packages)
     → e ≡ d ++ join_lines (flat_map (patch_lines (is_escaped_number l.version)) l.patch)
     → f ≡ e ++ join_lines (metadata_lines (entries l.metadata))
     → f ≡ a ++ join_lines (encoded_lines l)
 then-encoded l a b c d e f h0 h1 h2 h3 h4 =
     let l1 : List (List ℕ) = version_lines l.version in
-    let l2 : List (List ℕ) = flat_map package_lines l.entries in
+    let l2 : List (List ℕ) = flat_map package_lines l.packages in
     let l3 : List (List ℕ) = flat_map (patch_lines (is_escaped_number l.version)) l.patch in
     let l4 : List (List ℕ) = metadata_lines (entries l.metadata) in
     then a b f comment_lines (l1 ++ (l2 ++ (l3 ++ l4))) h0
