@@ -35,7 +35,7 @@ use Rattle.cargo_lock_references.specs.WrittenMetadata.{HasChecksumAt, HasNoChec
 use Rattle.cargo_lock.proofs.KeyTexts.{text_of-key}
 use Rattle.cargo_lock_references.proofs.LeastKeys.{checksum_at_least_key}
 use Rattle.cargo_lock.proofs.PlainLockfiles.{IsSound, listed-at, no_path, own-parts, plain-fourth, plain-second, plain-third, shown, sound-listed}
-use Rattle.cargo_lock.proofs.ReferenceTexts.{IsWhole, reference-reads}
+use Rattle.cargo_lock.proofs.ReferenceTexts.{IsWhole, whole-reads}
 use Rattle.cargo_lock_references.proofs.ResolvesToLemmas.{ResolvesTo-from, same_parts-refl, same_parts-yes, same_text-refl, same_text-yes}
 use Rattle.cargo_lock.proofs.ShortestReferences.{all-at, map-at}
 use Rattle.cargo_lock_references.proofs.Texts.{texts_tie}
@@ -149,7 +149,7 @@ from-reference q g name version read =
 
 key-reads : (list : List Identity) (q : PackageData) → IsPlainPackage list q → KeyReads q
 key-reads list q h =
-    let r = reference-reads (key_reference q) (whole q.version (option_map mark_plain q.source)) (record { name = h.name; version = (h.word, h.version); source = plain-parts q.source h.source }) in
+    let r = whole-reads (key_reference q) (whole q.version (option_map mark_plain q.source)) (record { name = h.name; version = (h.word, h.version); source = plain-parts q.source h.source }) in
     let text : drop 9 (checksum_key (identity_of q)) ≡ reference_text (key_reference q) = after-key q ∙ key-text q in
     from-reference q r.0 r.2.name r.2.version (ap reference_or_refusal text ∙ ok-is (reference_or_refusal (reference_text (key_reference q))) r.0 r.1)
 

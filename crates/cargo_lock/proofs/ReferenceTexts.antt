@@ -256,8 +256,8 @@ parted : (f : Reference) → reference_from (reference_text f) ≡ reference_fro
 unfolding reference_text
 parted f = ap reference_from (append_assoc f.name (version_part f.version) (marked_source_part f.source))
 
-pub reference-survives : (f g : Reference) → IsWhole f.version f.source → reference_of (reference_text f) ≡ Some g → Agrees f g → WordsReadBack f
-reference-survives f g whole e a =
+pub whole-survives : (f g : Reference) → IsWhole f.version f.source → reference_of (reference_text f) ≡ Some g → Agrees f g → WordsReadBack f
+whole-survives f g whole e a =
     let r = by-parts f.name f.version f.source g whole (sym (reference_of-at (reference_text f) ∙ parted f) ∙ e) a.name a.version a.source in
     record { name = r.0; version = r.1; source = r.2 }
 
@@ -304,7 +304,7 @@ pub record Alike (f g : Reference) : Type 0 where
   pub version : g.version ≡ f.version
   pub source : option_map marked_key g.source ≡ option_map marked_key f.source
 
-pub reference-reads : (f : Reference) → IsWhole f.version f.source → WordsReadBack f → (g : Reference) × (reference_of (reference_text f) ≡ Some g) × Alike f g
-reference-reads f whole h =
+pub whole-reads : (f : Reference) → IsWhole f.version f.source → WordsReadBack f → (g : Reference) × (reference_of (reference_text f) ≡ Some g) × Alike f g
+whole-reads f whole h =
     let r = reads-by f.name f.version f.source whole h.name h.version h.source in
     (reference_with f.name f.version r.0, reference_of-at (reference_text f) ∙ parted f ∙ r.1, record { name = refl; version = refl; source = r.2 })

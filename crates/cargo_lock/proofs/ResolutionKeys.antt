@@ -17,7 +17,7 @@ use Rattle.cargo_lock_references.specs.Records.{unmarked_source}
 use Rattle.cargo_lock_references.specs.ResolutionSearch.{fits, has_version, own_words, or_own_words, resolution_of, resolution_by, same_text, with_version}
 use Rattle.cargo_lock_references.specs.ReadBack.{ReferenceSurvives, ResolvesToEqual}
 use Rattle.cargo_lock_encoding.proofs.MeansLemmas.{map-parts}
-use Rattle.cargo_lock.proofs.ReferenceTexts.{Agrees, Alike, IsWhole, reference-survives, reference-reads}
+use Rattle.cargo_lock.proofs.ReferenceTexts.{Agrees, Alike, IsWhole, whole-survives, whole-reads}
 use Rattle.cargo_lock_references.proofs.ReadBackLemmas.{resolves-equal}
 use Rattle.cargo_lock_references.proofs.ResolvesToLemmas.{ResolvesTo-from, find-found, find-map, has_version-yes, resolution_of-from, same_text-yes}
 
@@ -179,13 +179,13 @@ pub reference-survives : (f g : Reference) (list other : List Identity) (d : Ide
     → ReferenceReads f other d g → ReferenceSurvives f list d
 reference-survives f g list other d of same h =
     let resolves = resolves-key g.name g.version (source_keys g.source) (map identity_key other) (identity_key d) (sym (resolution_of-key g other) ∙ h.resolves) in
-    let made = reference-survives f g of.whole h.read (agreeing f g d of resolves) in
-    let r = reference-reads f of.whole made in
-    let exactly_one : r.0 ≡ g = same_Some _ _ (sym r.1 ∙ h.read) in
-    record { written = made; resolves = (resolves-equal f list d).1 (sym (resolution_of-alike f g list other (subst (Alike f) exactly_one r.2) same) ∙ h.resolves) }
+    let made = whole-survives f g of.whole h.read (agreeing f g d of resolves) in
+    let r = whole-reads f of.whole made in
+    let one : r.0 ≡ g = same_Some _ _ (sym r.1 ∙ h.read) in
+    record { written = made; resolves = (resolves-equal f list d).1 (sym (resolution_of-alike f g list other (subst (Alike f) one r.2) same) ∙ h.resolves) }
 
 pub reference-reads : (f : Reference) (list : List Identity) (d : Identity) → IsOf f d → ReferenceSurvives f list d
     → (g : Reference) × (reference_of (reference_text f) ≡ Some g) × ((other : List Identity) → map identity_key other ≡ map identity_key list → option_map identity_key (resolution_of g other) ≡ Some (identity_key d))
 reference-reads f list d of h =
-    let r = reference-reads f of.whole h.written in
+    let r = whole-reads f of.whole h.written in
     (r.0, r.1, λ other same. resolution_of-alike f r.0 list other r.2 same ∙ (resolves-equal f list d).0 h.resolves)

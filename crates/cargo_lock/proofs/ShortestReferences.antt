@@ -27,7 +27,7 @@ use Rattle.cargo_lock_references.specs.ReadBack.{SourceSurvives}
 use Rattle.cargo_lock_encoding.specs.Table.{checksum_value, encoded_of, encoded_table, encoded_package_of, package_table, encoded_package_value, reference_value, metadata_value, packages_value, patch_value, present_members, encoded_root, source_value, table_of, unless_empty, written_version}
 use Rattle.cargo_lock_encoding.specs.TableReading.{members_in, required_list, text_in}
 use Rattle.cargo_lock_references.proofs.WrittenReferenceLemmas.{count-miss}
-use Rattle.cargo_lock.proofs.ReferenceTexts.{Alike, reference-reads}
+use Rattle.cargo_lock.proofs.ReferenceTexts.{Alike, whole-reads}
 use Rattle.cargo_lock.proofs.ResolutionKeys.{written_reference-of}
 use Rattle.cargo_lock.proofs.ShortestWords.{IsWrittenWell, IsWritten, chosen-well}
 
@@ -147,7 +147,7 @@ shortest-references l h later apart k j p d here there among =
     let w = chosen-case l.version list d later (among-written l d h among) apart among in
     let s = all-at (ListedSurvives l.version list (metadata_of l.version l.metadata l.packages)) l.packages k p h.packages here in
     let r = all-at _ p.dependencies j d s.0.dependencies there in
-    let g = reference-reads f (written_reference-of l.version list d).whole r.written in
+    let g = whole-reads f (written_reference-of l.version list d).whole r.written in
     record {
       reference = f;
       written = reference-at l k j p d here there;
