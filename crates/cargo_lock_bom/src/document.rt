@@ -20,6 +20,13 @@ use std::alloc::{AllocError, Global};
 /// The bill of materials of a graph: its packages, and what its edges say that each depends on. The
 /// graph of a lockfile is that of its tree.
 ///
+/// The member `components` has a package of crates.io as
+/// `{"bom-ref": "registry+https://github.com/rust-lang/crates.io-index#serde@1.0.203",
+/// "hashes": [{"alg": "SHA-256", "content": "7253ab.."}], "name": "serde",
+/// "purl": "pkg:cargo/serde@1.0.203", "type": "library", "version": "1.0.203"}`, without `hashes`
+/// where there is no checksum, and without `purl` where there is no source. The member
+/// `dependencies` has, for each component, `{"dependsOn": [..], "ref": ".."}`, by their `bom-ref`.
+///
 /// `Parse` says that two packages have one text, by which the bill would refer to both:
 /// `two packages are NAME VERSION (SOURCE)`.
 pub fn document(alloc: Global, graph: &Graph) -> Result<Value>
