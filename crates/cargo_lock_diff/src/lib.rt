@@ -1,0 +1,13 @@
+//! What differs between the packages of two lockfiles.
+//!
+//! Packages are told apart by name, version, source and checksum. What they depend on, what stands in
+//! for them, and what a lockfile has beside its packages is not compared.
+#![tactic(auto)]
+
+pub mod difference;
+pub mod laws;
+pub mod likeness;
+mod matching;
+
+pub use crate::difference::Difference;
+pub use crate::likeness::Likeness;
