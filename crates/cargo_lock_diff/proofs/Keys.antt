@@ -3,28 +3,24 @@ use Rattle.std.proofs.Common.{◌≡◌, ℕ, ◌+◌, ◌-◌, Bool, true, cond
 use Rattle.std.specs.declared.cmp.Ordering.{Ordering}
 use Rattle.std.specs.Ordering.{on, then_cmp, ordering_then, is_eq}
 use Rattle.std.specs.Option.{option_cmp}
-use Rattle.std.specs.Cmp.{Equal-is, IsEquivalence, IsTotalOrder, eq_by_cmp_equiv, on_total, then_total}
-use Rattle.std.specs.Cmp.Lexicographic.{nat_list_cmp_total, options_total}
+use Rattle.std.specs.Cmp.{Equal-is, IsEquivalence, eq_by_cmp_equiv}
 use Rattle.std.specs.FinMap.{IsAntisymmetric}
 use Rattle.std.proofs.lemmas.List.{append-nil}
 use Rattle.std.proofs.lemmas.List.Elements.{All-head, All-tail}
 use Rattle.std.proofs.lemmas.List.Sorted.{IsPermutation-map, IsPermutation-sym, IsPermutation-trans}
-use Rattle.cargo_lock_parts.specs.Identity.{PackageData, identity_of}
+use Rattle.cargo_lock_parts.specs.Identity.{PackageData}
 use Rattle.cargo_lock_parts.specs.IdentityOrder.{version_cmp}
-use Rattle.cargo_lock_parts.specs.IdentityLaws.{option_cmp-anti, option_cmp-by, text_cmp-anti, tied-first, tied-second, identity_total, version_cmp-anti, key_cmp-anti}
+use Rattle.cargo_lock_parts.specs.IdentityLaws.{option_cmp-anti, option_cmp-by, text_cmp-anti, tied-first, tied-second, version_cmp-anti, key_cmp-anti}
 use Rattle.cargo_lock_parts.specs.SourceKey.{key_cmp, key_of, source_cmp, text_cmp}
 use Rattle.cargo_lock_diff.specs.declared.likeness.Likeness.TheVariants.{Whole}
 use Rattle.cargo_lock_diff.specs.Likeness.{WholeKey, is_alike, likeness_cmp, whole_key}
 use Rattle.cargo_lock_diff.specs.Matching.{firsts, seconds}
 use Rattle.cargo_lock_diff.specs.Difference.{AreAlike, DifferenceData, EmptyIfPermuted, IsDifference, IsEmpty, ToldByCount, count_of, new_told, old_told}
+use Rattle.cargo_lock_diff.proofs.Orders.{likeness_total}
 use Rattle.cargo_lock_diff.proofs.Counts.{count-cons, count-permutation, left-counts}
 
-pub whole_total : IsTotalOrder (likeness_cmp Whole)
-whole_total = then_total (on_total identity_of identity_total)
-    (on_total (λ (p : PackageData). p.checksum) (options_total nat_list_cmp_total))
-
 pub whole_laws : IsEquivalence (is_alike Whole)
-whole_laws = eq_by_cmp_equiv whole_total
+whole_laws = eq_by_cmp_equiv (likeness_total Whole)
 
 pub told_by_count : ToldByCount
 told_by_count olds news d h p = left-counts (is_alike Whole) whole_laws p olds news d.kept (old_told d) (new_told d) h.olds_told h.news_told h.kept (h.apart Whole)

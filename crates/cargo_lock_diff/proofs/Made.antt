@@ -1,39 +1,22 @@
 -- Four pairings in turn are a difference.
-use Rattle.std.proofs.Common.{◌≡◌, true, false, List, [], ◌∷◌, ◌++◌, refl, ap, subst, ◌∙◌, IsPermutation}
+use Rattle.std.proofs.Common.{◌≡◌, false, List, ◌++◌, subst, IsPermutation}
 use Rattle.std.specs.Borrow.{Bor}
-use Rattle.std.proofs.lemmas.List.{map-append}
-use Rattle.std.proofs.lemmas.List.Elements.{All-map, All-weaker}
-use Rattle.std.proofs.lemmas.List.Sorted.{All-permutation, IsPermutation-append_right, IsPermutation-map, IsPermutation-trans}
+use Rattle.std.proofs.lemmas.List.Elements.{All-weaker}
+use Rattle.std.proofs.lemmas.List.Sorted.{All-permutation, IsPermutation-append_right, IsPermutation-trans}
 use Rattle.cargo_lock_parts.specs.Identity.{PackageData}
 use Rattle.cargo_lock_diff.specs.declared.likeness.Likeness.{Likeness}
 use Rattle.cargo_lock_diff.specs.declared.likeness.Likeness.TheVariants.{Name, Version, Identity as ByIdentity, Whole}
 use Rattle.cargo_lock_diff.specs.Likeness.{is_alike}
 use Rattle.cargo_lock_diff.specs.Matching.{AreMatched, PassesWithNone, is_alike_at, firsts, seconds}
+use Rattle.cargo_lock_diff.proofs.Matched.{matched-map}
 use Rattle.cargo_lock_diff.specs.Difference.{AreApart, DifferenceData, IsDifference, new_below, old_below, packages_at, pairs_at}
 
 -- ---- from references to packages
 
-firsts-at : (pairs : List (Bor PackageData × Bor PackageData)) → packages_at (firsts pairs) ≡ firsts (pairs_at pairs)
-firsts-at [] = refl
-firsts-at (p ∷ ps) = ap (λ zs. p.0.now ∷ zs) (firsts-at ps)
-
-seconds-at : (pairs : List (Bor PackageData × Bor PackageData)) → packages_at (seconds pairs) ≡ seconds (pairs_at pairs)
-seconds-at [] = refl
-seconds-at (p ∷ ps) = ap (λ zs. p.1.now ∷ zs) (seconds-at ps)
-
 pub matched-at : (likeness : Likeness) (olds news : List (Bor PackageData)) (pairs : List (Bor PackageData × Bor PackageData)) (old new : List (Bor PackageData))
     → AreMatched (is_alike_at likeness) olds news pairs old new
     → AreMatched (is_alike likeness) (packages_at olds) (packages_at news) (pairs_at pairs) (packages_at old) (packages_at new)
-matched-at likeness olds news pairs old new m = record {
-  olds_told = subst (λ zs. IsPermutation (packages_at olds) zs) (map-append (λ (b : Bor PackageData). b.now) (firsts pairs) old ∙ ap (λ zs. zs ++ packages_at old) (firsts-at pairs))
-      (IsPermutation-map (λ (b : Bor PackageData). b.now) olds (firsts pairs ++ old) m.olds_told);
-  news_told = subst (λ zs. IsPermutation (packages_at news) zs) (map-append (λ (b : Bor PackageData). b.now) (seconds pairs) new ∙ ap (λ zs. zs ++ packages_at new) (seconds-at pairs))
-      (IsPermutation-map (λ (b : Bor PackageData). b.now) news (seconds pairs ++ new) m.news_told);
-  paired = All-map (λ (p : PackageData × PackageData). is_alike likeness p.0 p.1 ≡ true) (λ (p : Bor PackageData × Bor PackageData). (p.0.now, p.1.now)) pairs m.paired;
-  apart = All-map (λ (o : PackageData). PassesWithNone (is_alike likeness) o (packages_at new)) (λ (b : Bor PackageData). b.now) old
-      (All-weaker (λ (o : Bor PackageData). PassesWithNone (is_alike_at likeness) o new) (λ (o : Bor PackageData). PassesWithNone (is_alike likeness) o.now (packages_at new))
-      (λ o none. All-map (λ (n : PackageData). is_alike likeness o.now n ≡ false) (λ (b : Bor PackageData). b.now) new none) old m.apart);
-}
+matched-at likeness = matched-map (λ (b : Bor PackageData). b.now) (is_alike likeness)
 
 -- ---- one pairing after another
 

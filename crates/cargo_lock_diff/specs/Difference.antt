@@ -55,10 +55,10 @@ AreAlike likeness pairs = All (λ p. is_alike likeness p.0 p.1 ≡ true) pairs
 abbrev pub AreApart : Likeness → List PackageData → List PackageData → Type 0
 AreApart likeness olds news = All (λ o. PassesWithNone (is_alike likeness) o news) olds
 
--- Each old package stands in one of the lists of the difference as often as in the old list, and each
--- new one as often as in the new list. The packages that are kept stand in pairs that are wholly
--- alike, and the pairs of another list are so much alike as their list says. What is told below a
--- likeness has no pair that is so much alike: so each package is told in the first list that fits.
+-- Each old package stands in the lists of the difference as often as in the old list, and each new
+-- one as often as in the new list. The packages that are kept stand in pairs that are wholly alike,
+-- and the pairs of another list are so much alike as their list says. What is told below a likeness
+-- has no pair that is so much alike: so each package is told in the first list that fits.
 pub record IsDifference (olds news : List PackageData) (d : DifferenceData) : Type 0 where
   pub olds_told : IsPermutation olds (firsts d.kept ++ old_told d)
   pub news_told : IsPermutation news (seconds d.kept ++ new_told d)
@@ -66,7 +66,8 @@ pub record IsDifference (olds news : List PackageData) (d : DifferenceData) : Ty
   pub altered : AreAlike ByIdentity d.altered
   pub moved : AreAlike Version d.moved
   pub changed : AreAlike Name d.changed
-  pub apart : (likeness : Likeness) → AreApart likeness (old_below likeness d) (new_below likeness d)
+  pub apart : (likeness : Likeness)
+      → AreApart likeness (old_below likeness d) (new_below likeness d)
 
 -- nothing is told
 pub record IsEmpty (d : DifferenceData) : Type 0 where
@@ -82,8 +83,8 @@ pub record IsEmpty (d : DifferenceData) : Type 0 where
 abbrev pub count_of : PackageData → List PackageData → ℕ
 count_of p = count_by (is_alike Whole p)
 
--- of each package as many old ones are told as the old list has more of it than the new list, and as
--- many new ones as the new list has more
+-- of each package as many old ones are told as the old list has more of it than the new list, and
+-- as many new ones as the new list has more
 abbrev pub ToldByCount : Type 0
 ToldByCount = (olds news : List PackageData) (d : DifferenceData) → IsDifference olds news d
     → (p : PackageData) → (count_of p (old_told d) ≡ count_of p olds - count_of p news)

@@ -1,4 +1,5 @@
--- How alike two packages are: by name, by name and version, by identity, or by identity and checksum.
+-- How alike two packages are: by name, by name and version, by identity, or by identity and
+-- checksum.
 use Rattle.std.specs.Prelude.{Bool, List, Option, ℕ}
 use Rattle.std.specs.Option.{option_cmp}
 use Rattle.std.specs.declared.cmp.Ordering.{Ordering}
@@ -9,8 +10,8 @@ use Rattle.cargo_lock_parts.specs.SourceKey.{text_cmp}
 use Rattle.cargo_lock_diff.specs.declared.likeness.Likeness.{Likeness}
 use Rattle.cargo_lock_diff.specs.declared.likeness.Likeness.TheVariants.{Name, Version, Identity as ByIdentity, Whole}
 
--- the order by what a likeness looks at: the name, then the version, then the source by its key, then
--- the checksum, an absent one before a present one
+-- the order by what a likeness looks at: the name, then the version, then the source by its key,
+-- then the checksum, an absent one before a present one
 abbrev pub likeness_cmp : Likeness → PackageData → PackageData → Ordering
 likeness_cmp Name = on (λ p. p.name) text_cmp
 likeness_cmp Version = then_cmp (on (λ p. p.name) text_cmp) (on (λ p. p.version) version_cmp)

@@ -17,8 +17,8 @@ seconds = map (λ p. p.1)
 abbrev pub PassesWithNone : {X : Type 0} → (X → X → Bool) → X → List X → Type 0
 PassesWithNone test x ys = All (λ y. test x y ≡ false) ys
 
--- Each of the old and of the new stands in a pair or is left, as often as it stood in its list; those
--- of a pair pass the test; and no old one that is left passes it with a new one that is left.
+-- Each of the old and of the new stands in a pair or is left, as often as it stood in its list;
+-- those of a pair pass the test; and no old one that is left passes it with a new one that is left.
 pub record AreMatched {X : Type 0} (test : X → X → Bool) (olds news : List X)
     (pairs : List (X × X)) (old new : List X) : Type 0 where
   pub olds_told : IsPermutation olds (firsts pairs ++ old)

@@ -3,6 +3,7 @@
 ghost use Rattle.std.specs.Prelude.{◌≡◌, IfOk, map};
 ghost use Rattle.cargo_lock_diff.specs.Difference.{IsDifference, packages_at};
 
+use crate::change::{self, Change};
 use crate::likeness::Likeness;
 use crate::matching::pair_off;
 use cargo_lock_parts::package::Package;
@@ -14,9 +15,9 @@ use std::marker::Model;
 /// another is told as altered, and not as removed and added.
 ///
 /// ```
-/// let difference = Difference::of(alloc, &old.packages, &new.packages)?;
-/// for (before, after) in &difference.changed {
-///     println!(rt; "{before.name} {before.version} -> {after.version}")?;
+/// let difference = Difference::of(rt.alloc(), &old.packages, &new.packages)?;
+/// for change in difference.changes(rt.alloc())?.as_slice() {
+///     println!(rt; "{change}")?;
 /// }
 /// ```
 #[derive(Drop)]
@@ -57,6 +58,8 @@ impl<'a> Model for Difference<'a> {
 
 impl<'a> Difference<'a> {
     ghost use Rattle.std.specs.Prelude.{◌↔◌, IsTrue};
+    ghost use Rattle.std.specs.List.{list_any};
+    ghost use Rattle.cargo_lock_diff.specs.Change.{change_of, changes_of, is_alarm};
     ghost use Rattle.cargo_lock_diff.specs.Difference.{IsEmpty};
 
     /// What differs between an old and a new list of packages. Fails when out of memory.
@@ -69,10 +72,10 @@ impl<'a> Difference<'a> {
     {
         let old = references_to(alloc, old)?;
         let new = references_to(alloc, new)?;
-        let same = pair_off(alloc, Likeness::Whole, old, new)?;
-        let altered = pair_off(alloc, Likeness::Identity, same.old, same.new)?;
-        let moved = pair_off(alloc, Likeness::Version, altered.old, altered.new)?;
-        let changed = pair_off(alloc, Likeness::Name, moved.old, moved.new)?;
+        let same = pair_off(alloc, Likeness::Whole, &old, &new)?;
+        let altered = pair_off(alloc, Likeness::Identity, &same.old, &same.new)?;
+        let moved = pair_off(alloc, Likeness::Version, &altered.old, &altered.new)?;
+        let changed = pair_off(alloc, Likeness::Name, &moved.old, &moved.new)?;
         Ok(Difference {
             kept: same.pairs,
             altered: altered.pairs,
@@ -92,6 +95,34 @@ impl<'a> Difference<'a> {
             && self.changed.is_empty()
             && self.removed.is_empty()
             && self.added.is_empty()
+    }
+
+    /// Whether a pair of one identity has two digests: the archive is another one.
+    pub fn has_alarm(&self) -> bool
+        ensures { result ≡ list_any (λ p. is_alarm p.0 p.1) self.now.altered }
+    {
+        for pair in &self.altered {
+            if change::is_alarm(pair.0, pair.1) {
+                return true;
+            }
+        }
+        false
+    }
+
+    /// The changes that are told, in their order: alarms first, then checksums that came or went,
+    /// other sources, other versions, packages that went and packages that came. Fails when out of
+    /// memory.
+    pub fn changes(&self, alloc: Global) -> Result<Vec<Change<'a>>, AllocError>
+        ensures { IfOk result (λ all. map change_of all.items ≡ changes_of self.now) }
+    {
+        let mut all = Vec::new(alloc);
+        change::add_alarms(&mut all, &self.altered)?;
+        change::add_other_checksums(&mut all, &self.altered)?;
+        change::add_moved(&mut all, &self.moved)?;
+        change::add_changed(&mut all, &self.changed)?;
+        change::add_removed(&mut all, &self.removed)?;
+        change::add_added(&mut all, &self.added)?;
+        Ok(all)
     }
 }
 

@@ -1,7 +1,7 @@
 //! How alike two packages are.
 
 ghost use Rattle.std.specs.Prelude.{◌≡◌};
-ghost use Rattle.cargo_lock_diff.specs.Likeness.{is_alike, likeness_cmp};
+ghost use Rattle.cargo_lock_diff.specs.Likeness.{likeness_cmp};
 
 use cargo_lock_parts::package::{Checksum, Package};
 use std::cmp::Ordering;
@@ -23,38 +23,35 @@ pub enum Likeness {
 }
 
 impl Likeness {
-    /// Whether two packages have so much in common. Sources are compared by their keys, as `==` does.
-    pub fn holds(self, one: &Package, other: &Package) -> bool
-        ensures { result ≡ is_alike self one.now other.now }
-    {
-        self.compare(one, other) == Ordering::Equal
-    }
-
     /// The order of two packages by what they are to have in common: they tie where they have it.
-    /// An absent source stands before a present one, and an absent checksum too.
+    /// Sources compare by their keys, as elsewhere. An absent source stands before a present one,
+    /// and an absent checksum too.
     pub fn compare(self, one: &Package, other: &Package) -> Ordering
         ensures { result ≡ likeness_cmp self one.now other.now }
     {
         match self {
             Likeness::Name => one.name.cmp(&other.name),
-            Likeness::Version => one
-                .name
-                .cmp(&other.name)
-                .then(one.version.cmp(&other.version)),
+            Likeness::Version => cmp_versions(one, other),
             Likeness::Identity => cmp_identities(one, other),
             Likeness::Whole => cmp_identities(one, other).then(digest(one).cmp(&digest(other))),
         }
     }
 }
 
-// The order by name, version and source.
-fn cmp_identities(one: &Package, other: &Package) -> Ordering
-    ensures { result ≡ likeness_cmp Likeness.Identity one.now other.now }
+// The order by name and version.
+fn cmp_versions(one: &Package, other: &Package) -> Ordering
+    ensures { result ≡ likeness_cmp Likeness.Version one.now other.now }
 {
     one.name
         .cmp(&other.name)
         .then(one.version.cmp(&other.version))
-        .then(one.source.cmp(&other.source))
+}
+
+// The order by name, version and source.
+fn cmp_identities(one: &Package, other: &Package) -> Ordering
+    ensures { result ≡ likeness_cmp Likeness.Identity one.now other.now }
+{
+    cmp_versions(one, other).then(one.source.cmp(&other.source))
 }
 
 // The bytes of the checksum.
