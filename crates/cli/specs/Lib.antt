@@ -1,3 +1,4 @@
 pub mod Bom
 pub mod Output
 pub mod Translate
+pub mod Diff

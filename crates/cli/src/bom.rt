@@ -29,7 +29,7 @@ pub(crate) fn run<R: Files + AllocGlobal, W: Write>(
     ensures { OnOk result
         (PrintsBill (found_of options.now) (W.contents out.old) (W.contents out.new)) }
 {
-    let lockfile = words::lockfile(rt, options)?;
+    let lockfile = words::lockfile(rt, options, "file")?;
     let text = line_of(rt.alloc(), &lockfile, options.get_flag("compact"))?;
     put_out(rt, options, text.as_str(), out)
 }

@@ -1,14 +1,16 @@
 //! The program `cargo-lock` as a library: lists the packages of a lockfile, writes it in another
-//! format, draws its trees and writes its bill of materials.
+//! format, draws its trees, writes its bill of materials and tells what differs between two.
 //!
 //! Whatever goes wrong is told in one message on standard error that begins `*** error: `, and the
-//! status is then 1. It is 0 where all of the output was written and flushed.
+//! status is then 1. It is 0 where all of the output was written and flushed, unless what differs
+//! between two lockfiles asks for 1.
 #![tactic(auto)]
 
 ghost use Rattle.std.specs.Prelude.{◌≡◌};
 ghost use Rattle.std.specs.Io.KnownBytes.{Keeps};
 
 mod bom;
+mod diff;
 mod fault;
 mod list;
 mod output;
@@ -36,7 +38,7 @@ pub fn run<R: Files + AllocGlobal, S: AsStr, W: Write, E: Write>(
     ensures { result ≡ ExitCode.SUCCESS → Keeps (E.contents err.old) (E.contents err.new) }
 {
     match execute(rt, words, out) {
-        Ok(()) => ExitCode::SUCCESS,
+        Ok(status) => status,
         Err(fault) => report(err, &fault),
     }
 }
@@ -50,37 +52,40 @@ pub fn report<E: Write>(err: &mut E, fault: &Fault) -> ExitCode
     ExitCode::FAILURE
 }
 
-/// Reads the words, and runs their command or prints the help that they ask for.
+/// Reads the words, and runs their command or prints the help that they ask for. Answers the status.
 fn execute<R: Files + AllocGlobal, S: AsStr, W: Write>(
     rt: &R,
     words: &[S],
     out: &mut W,
-) -> Result<(), Fault> {
+) -> Result<ExitCode, Fault> {
     let words = words::with_command(rt.alloc(), words)?;
-    match words::command(rt.alloc())?.try_get_matches_from(words.as_slice()) {
+    let status = match words::command(rt.alloc())?.try_get_matches_from(words.as_slice()) {
         Ok(matches) => dispatch(rt, &matches, out)?,
         Err(error) => {
             if error.use_stderr() {
                 return Err(Fault::from(error));
             }
             output::put(out, format_args!("{error}"))?;
+            ExitCode::SUCCESS
         }
-    }
+    };
     out.flush()?;
-    Ok(())
+    Ok(status)
 }
 
-/// Runs the command that the parser found.
+/// Runs the command that the parser found. Answers the status.
 fn dispatch<R: Files + AllocGlobal, W: Write>(
     rt: &R,
     matches: &ArgMatches<'_>,
     out: &mut W,
-) -> Result<(), Fault> {
+) -> Result<ExitCode, Fault> {
     match matches.subcommand() {
-        Some(("bom", options)) => bom::run(rt, options, out),
-        Some(("list", options)) => list::run(rt, options, out),
-        Some(("translate", options)) => translate::run(rt, options, out),
-        Some(("tree", options)) => tree::run(rt, options, out),
-        _ => Err(Fault::NoCommand),
+        Some(("bom", options)) => bom::run(rt, options, out)?,
+        Some(("diff", options)) => return diff::run(rt, options, out),
+        Some(("list", options)) => list::run(rt, options, out)?,
+        Some(("translate", options)) => translate::run(rt, options, out)?,
+        Some(("tree", options)) => tree::run(rt, options, out)?,
+        _ => return Err(Fault::NoCommand),
     }
+    Ok(ExitCode::SUCCESS)
 }

@@ -31,7 +31,7 @@ pub(crate) fn run<R: Files + AllocGlobal, W: Write>(
     options: &ArgMatches<'_>,
     out: &mut W,
 ) -> Result<(), Fault> {
-    let lockfile = words::lockfile(rt, options)?;
+    let lockfile = words::lockfile(rt, options, "file")?;
     let wanted = options.get_str("package");
     let detail = Detail::of(options);
     for package in lockfile.packages.as_slice() {

@@ -32,7 +32,7 @@ pub(crate) fn run<R: Files + AllocGlobal, W: Write>(
         (PrintsTranslation (found_of options.now) (W.contents out.old) (W.contents out.new)) }
 {
     let format = ResolveVersion::from_str(rt.alloc(), words::format(options))?;
-    let lockfile = words::lockfile(rt, options)?;
+    let lockfile = words::lockfile(rt, options, "file")?;
     check_if_asked(rt.alloc(), options, &lockfile, format)?;
     let text = text_in(rt.alloc(), lockfile, format)?;
     put_out(rt, options, text.as_str(), out)

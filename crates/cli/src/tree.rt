@@ -38,7 +38,7 @@ pub(crate) fn run<R: Files + AllocGlobal, W: Write>(
     options: &ArgMatches<'_>,
     out: &mut W,
 ) -> Result<(), Fault> {
-    let lockfile = words::lockfile(rt, options)?;
+    let lockfile = words::lockfile(rt, options, "file")?;
     let tree = tree_of(rt.alloc(), &lockfile)?;
     let starts = starts(rt.alloc(), &lockfile, &tree, options)?;
     let style = Style::of(options);

@@ -31,6 +31,17 @@ const BOM_HELP: &str =
 tests or of builds, of some target or of some feature, so the bill says nothing of them. A package \
 without a source has no purl: pkg:cargo/NAME@VERSION would be the package of crates.io";
 
+/// The lines of `diff`, as help shows them.
+const DIFF_HELP: &str = "\
+Each change is a line, in this order:
+  ! NAME VERSION (SOURCE): checksum OLD -> NEW   another archive: an alarm, with status 1
+  ? NAME VERSION (SOURCE): checksum OLD -> NEW   a checksum came or went, which is no alarm
+  > NAME VERSION: OLD -> NEW                     another source
+  ~ NAME OLD -> NEW                              another version; a source that differs follows
+  - NAME VERSION                                 a package that went
+  + NAME VERSION                                 a package that came
+A missing source or checksum is none. The order of the packages and the format do not count.";
+
 /// The words as the parser reads them, the program's name first. A leading `lock` is left out, and
 /// `list` stands before the first option where no command does, unless it asks for help. Fails for
 /// running out of memory.
@@ -59,15 +70,16 @@ fn is_option(word: &str) -> bool {
     word.starts_with('-') && word != "-h" && word != "--help"
 }
 
-/// The lockfile that a command reads. Fails where it is not read.
+/// The lockfile whose path the option or argument `name` has. Fails where it is not read.
 pub(crate) fn lockfile<R: Files + AllocGlobal>(
     rt: &R,
     options: &ArgMatches<'_>,
+    name: &str,
 ) -> Result<Lockfile, Error>
     ensures ok { IfOk result IsMeant }
     ensures err { IfErr result IsOfFile }
 {
-    let path = Path::new(options.get_str("file").unwrap_or(DEFAULT_PATH));
+    let path = Path::new(options.get_str(name).unwrap_or(DEFAULT_PATH));
     Lockfile::load(rt, rt.alloc(), path)
 }
 
@@ -102,7 +114,8 @@ pub(crate) fn command<'a>(alloc: Global) -> Result<Command<'a>, AllocError> {
         .subcommand(bom(alloc)?)?
         .subcommand(list(alloc)?)?
         .subcommand(translate(alloc)?)?
-        .subcommand(tree(alloc)?)
+        .subcommand(tree(alloc)?)?
+        .subcommand(diff(alloc)?)
 }
 
 /// The command `bom` and its options.
@@ -147,6 +160,29 @@ fn tree<'a>(alloc: Global) -> Result<Command<'a>, AllocError> {
         .arg(flag(alloc, "exact", 'x').help("Shows checksums, or else where each comes from"))?
         .arg(flag(alloc, "invert", 'i').help("Draws what depends on each package"))?
         .arg(specs(alloc))
+}
+
+/// The command `diff`, its options and the paths of two lockfiles.
+fn diff<'a>(alloc: Global) -> Result<Command<'a>, AllocError> {
+    Command::new(alloc, "diff")
+        .about("Tells what differs between the packages of two lockfiles")
+        .after_help(DIFF_HELP)
+        .arg(path(alloc, "old", "OLD").help("The old lockfile"))?
+        .arg(path(alloc, "new", "NEW").help("The new lockfile"))?
+        .arg(
+            Arg::new(alloc, "exit-code")
+                .long("exit-code")
+                .action(ArgAction::SetTrue)
+                .help("Ends with status 1 where anything differs"),
+        )
+}
+
+/// The path of a lockfile, which help shows as `shown`.
+fn path<'a>(alloc: Global, name: &'a str, shown: &'a str) -> Arg<'a> {
+    Arg::new(alloc, name)
+        .value_name(shown)
+        .required(true)
+        .action(ArgAction::Set)
 }
 
 /// The specifications of packages.

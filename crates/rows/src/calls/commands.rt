@@ -1,4 +1,5 @@
-//! Commands of the program, run in this folder, where the text at hand is the file `Cargo.lock`.
+//! Commands of the program, run in this folder, where the text at hand is the file `Cargo.lock`, and
+//! the text beside it the file `beside.lock`.
 
 use super::{Texts, line};
 use crate::notation;
@@ -11,6 +12,7 @@ use std::process::ExitCode;
 /// of a row follow those of the call.
 pub fn asked(rt: &HostRuntime, how: &[&str], texts: Texts<'_>) -> Result<String, Error> {
     fs::write(rt, "Cargo.lock", texts.at_hand)?;
+    fs::write(rt, "beside.lock", texts.beside)?;
     let words = words_of(rt.alloc(), how, texts)?;
     run(rt, words.as_slice())
 }

@@ -1,0 +1,90 @@
+-- The changes that a difference tells, and the line of each.
+use Rattle.std.specs.Prelude.{ℕ, ◌&&◌, Bool, not, List, [], ◌++◌, codes, filter, map, Option, Some, None, is_some, false, if◌then◌else◌}
+use Rattle.std.specs.Option.{option_cmp}
+use Rattle.std.specs.Ordering.{eq_by_cmp}
+use Rattle.semver.specs.Identifiers.{parts_text}
+use Rattle.cargo_lock_parts.specs.Checksum.{digest_text}
+use Rattle.cargo_lock_parts.specs.Identity.{PackageData}
+use Rattle.cargo_lock_parts.specs.Source.{Source}
+use Rattle.cargo_lock_parts.specs.SourceKey.{source_cmp}
+use Rattle.cargo_lock_parts.specs.SourceText.{text_of}
+use Rattle.cargo_lock_diff.specs.declared.change.Change.{Change}
+use Rattle.cargo_lock_diff.specs.declared.change.Change.TheVariants.{Altered as AlteredAt, Moved as MovedAt, Changed as ChangedAt, Removed as RemovedAt, Added as AddedAt}
+use Rattle.cargo_lock_diff.specs.Difference.{DifferenceData}
+
+-- one thing that differs: a pair with other checksums, other sources or other versions, or a package
+-- that went or came
+pub data ChangeData : Type 0 where
+  Altered : PackageData → PackageData → ChangeData
+  Moved : PackageData → PackageData → ChangeData
+  Changed : PackageData → PackageData → ChangeData
+  Removed : PackageData → ChangeData
+  Added : PackageData → ChangeData
+
+-- the change of the packages that references lead to
+abbrev pub change_of : Change → ChangeData
+change_of (AlteredAt old new) = Altered old.now new.now
+change_of (MovedAt old new) = Moved old.now new.now
+change_of (ChangedAt old new) = Changed old.now new.now
+change_of (RemovedAt old) = Removed old.now
+change_of (AddedAt new) = Added new.now
+
+-- both packages have a checksum: where they are of one identity and the checksums differ, the archive
+-- is another one
+abbrev pub is_alarm : PackageData → PackageData → Bool
+is_alarm old new = is_some old.checksum && is_some new.checksum
+
+-- the pairs that are alarms
+abbrev pub alarms : List (PackageData × PackageData) → List ChangeData
+alarms pairs = map (λ p. Altered p.0 p.1) (filter (λ p. is_alarm p.0 p.1) pairs)
+
+-- the pairs where one package has no checksum
+abbrev pub other_checksums : List (PackageData × PackageData) → List ChangeData
+other_checksums pairs = map (λ p. Altered p.0 p.1) (filter (λ p. not (is_alarm p.0 p.1)) pairs)
+
+-- the changes of a difference, in the order in which they are told: alarms first, then checksums that
+-- came or went, other sources, other versions, packages that went and packages that came
+abbrev pub changes_of : DifferenceData → List ChangeData
+changes_of d = alarms d.altered ++ (other_checksums d.altered
+    ++ (map (λ p. Moved p.0 p.1) d.moved ++ (map (λ p. Changed p.0 p.1) d.changed
+    ++ (map Removed d.removed ++ map Added d.added))))
+
+-- ---- lines
+
+-- the text of a source, or `none`
+abbrev pub source_text : Option Source → List ℕ
+source_text None = codes "none"
+source_text (Some source) = text_of false source
+
+-- the text of a checksum, or `none`
+abbrev pub checksum_text : Option (List ℕ) → List ℕ
+checksum_text None = codes "none"
+checksum_text (Some digest) = digest_text digest
+
+-- the sign of a pair with other checksums
+abbrev pub checksum_sign : PackageData → PackageData → List ℕ
+checksum_sign old new = if is_alarm old new then codes "!" else codes "?"
+
+-- the name and the version
+abbrev pub package_text : PackageData → List ℕ
+package_text p = p.name ++ (codes " " ++ parts_text p.version)
+
+-- the sources tie
+abbrev pub have_one_source : PackageData → PackageData → Bool
+have_one_source old new = eq_by_cmp (option_cmp source_cmp) old.source new.source
+
+-- both sources of a pair, where they differ
+abbrev pub other_sources : PackageData → PackageData → List ℕ
+other_sources old new = if have_one_source old new then []
+    else codes ": " ++ (source_text old.source ++ (codes " -> " ++ source_text new.source))
+
+-- the line of a change
+abbrev pub line_of : ChangeData → List ℕ
+line_of (Altered old new) = checksum_sign old new ++ (codes " " ++ (package_text old
+    ++ (codes " (" ++ (source_text old.source ++ (codes "): checksum "
+    ++ (checksum_text old.checksum ++ (codes " -> " ++ checksum_text new.checksum)))))))
+line_of (Moved old new) = codes "> " ++ (package_text old ++ other_sources old new)
+line_of (Changed old new) = codes "~ " ++ (package_text old
+    ++ (codes " -> " ++ (parts_text new.version ++ other_sources old new)))
+line_of (Removed old) = codes "- " ++ package_text old
+line_of (Added new) = codes "+ " ++ package_text new

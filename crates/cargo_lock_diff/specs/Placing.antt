@@ -1,0 +1,21 @@
+-- Packages with their places in a list. No public contract cites these.
+use Rattle.std.specs.Prelude.{Bool}
+use Rattle.std.specs.Borrow.{Bor}
+use Rattle.std.specs.declared.cmp.Ordering.{Ordering}
+use Rattle.std.specs.Ordering.{on, eq_by_cmp}
+use Rattle.cargo_lock_parts.specs.Identity.{PackageData}
+use Rattle.cargo_lock_diff.specs.declared.likeness.Likeness.{Likeness}
+use Rattle.cargo_lock_diff.specs.declared.matching.Placed.{Placed}
+use Rattle.cargo_lock_diff.specs.Likeness.{likeness_cmp}
+
+-- the order of the packages by what a likeness looks at
+abbrev pub placed_cmp : Likeness → Placed → Placed → Ordering
+placed_cmp likeness = on (λ p. p.item.now) (likeness_cmp likeness)
+
+-- the packages are alike
+abbrev pub are_alike : Likeness → Placed → Placed → Bool
+are_alike likeness = eq_by_cmp (placed_cmp likeness)
+
+-- the packages of a pair
+abbrev pub pair_of : Placed × Placed → Bor PackageData × Bor PackageData
+pair_of p = (p.0.item, p.1.item)

@@ -1,0 +1,14 @@
+//! Laws of differences, each the contract of a function without a body.
+
+ghost use Rattle.cargo_lock_diff.specs.Difference.{EmptyIfPermuted, ToldByCount};
+
+/// Of each package as many old ones are told as the old list has more of it than the new list, and
+/// as many new ones as the new list has more.
+pub fn packages_are_told_by_count()
+    ensures { ToldByCount }
+{}
+
+/// Nothing is told exactly where both lists have the same packages, each as often, in any order.
+pub fn equal_packages_have_no_difference()
+    ensures { EmptyIfPermuted }
+{}

@@ -1,0 +1,161 @@
+//! Pairs off the packages of two lists that are alike.
+//!
+//! Both lists are sorted by what is looked at and then merged, and what comes out is put back into
+//! the order of the lists. So n packages take about n log n comparisons.
+
+ghost use Rattle.std.specs.Prelude.{◌≡◌, IfOk, IsPermutation, IsSorted, map};
+ghost use Rattle.cargo_lock_diff.specs.Matching.{AreMatched, is_alike_at};
+ghost use Rattle.cargo_lock_diff.specs.Placing.{are_alike, pair_of, placed_cmp};
+
+use crate::likeness::Likeness;
+use cargo_lock_parts::package::Package;
+use std::alloc::{AllocError, Global};
+use std::cmp::Ordering;
+
+/// The packages of an old and a new list: those that are alike, in pairs, and those that are left.
+#[derive(Drop)]
+pub struct Matching<'a> {
+    /// An old and a new package that are alike, in the order of the old ones.
+    pub pairs: Vec<(&'a Package, &'a Package)>,
+
+    /// The old packages that are left, in their order.
+    pub old: Vec<&'a Package>,
+
+    /// The new packages that are left, in their order.
+    pub new: Vec<&'a Package>,
+}
+
+// A package and its place in its list.
+#[derive(Clone, Copy)]
+struct Placed<'a> {
+    place: usize,
+    item: &'a Package,
+}
+
+// A matching of packages with their places.
+#[derive(Drop)]
+struct PlacedMatching<'a> {
+    pairs: Vec<(Placed<'a>, Placed<'a>)>,
+    old: Vec<Placed<'a>>,
+    new: Vec<Placed<'a>>,
+}
+
+/// Pairs off the packages that are alike: each old one, in order, with the first new one that is
+/// left. Fails when out of memory.
+pub fn pair_off<'a>(
+    alloc: Global,
+    likeness: Likeness,
+    olds: &Vec<&'a Package>,
+    news: &Vec<&'a Package>,
+) -> Result<Matching<'a>, AllocError>
+    ensures { IfOk result (λ m. AreMatched (is_alike_at likeness) olds.now.items news.now.items
+        m.pairs.items m.old.items m.new.items) }
+{
+    let olds = sort(alloc, likeness, olds)?;
+    let news = sort(alloc, likeness, news)?;
+    let merged = merge(alloc, likeness, olds.as_slice(), news.as_slice())?;
+    let pairs = pairs_by_place(alloc, merged.pairs)?;
+    let old = items_by_place(alloc, merged.old)?;
+    let new = items_by_place(alloc, merged.new)?;
+    Ok(Matching { pairs, old, new })
+}
+
+// The packages with their places, in the order by what is looked at.
+fn sort<'a>(
+    alloc: Global,
+    likeness: Likeness,
+    packages: &Vec<&'a Package>,
+) -> Result<Vec<Placed<'a>>, AllocError>
+    ensures items { IfOk result
+        (λ all. IsPermutation packages.now.items (map (λ p. p.item) all.items)) }
+    ensures sorted { IfOk result (λ all. IsSorted (placed_cmp likeness) all.items) }
+{
+    let mut all = with_places(alloc, packages)?;
+    all.sort_by(|one, other| likeness.compare(one.item, other.item))?;
+    Ok(all)
+}
+
+// The packages with their places, in order.
+fn with_places<'a>(
+    alloc: Global,
+    packages: &Vec<&'a Package>,
+) -> Result<Vec<Placed<'a>>, AllocError>
+    ensures { IfOk result (λ all. map (λ p. p.item) all.items ≡ packages.now.items) }
+{
+    let mut all = Vec::with_capacity(alloc, packages.len())?;
+    for (place, item) in packages.iter().enumerate() {
+        all.push(Placed { place, item: *item })?;
+    }
+    Ok(all)
+}
+
+// Pairs off what is alike in two lists that are sorted by what is looked at.
+fn merge<'a>(
+    alloc: Global,
+    likeness: Likeness,
+    olds: &[Placed<'a>],
+    news: &[Placed<'a>],
+) -> Result<PlacedMatching<'a>, AllocError>
+    requires olds_sorted { IsSorted (placed_cmp likeness) olds.now }
+    requires news_sorted { IsSorted (placed_cmp likeness) news.now }
+    ensures { IfOk result (λ m. AreMatched (are_alike likeness) olds.now news.now
+        m.pairs.items m.old.items m.new.items) }
+{
+    let mut pairs = Vec::new(alloc);
+    let mut old = Vec::new(alloc);
+    let mut new = Vec::new(alloc);
+    let mut olds_done = 0;
+    let mut news_done = 0;
+    while olds_done < olds.len() && news_done < news.len() {
+        let one = olds[olds_done];
+        let other = news[news_done];
+        match likeness.compare(one.item, other.item) {
+            Ordering::Less => {
+                old.push(one)?;
+                olds_done += 1;
+            }
+            Ordering::Equal => {
+                pairs.push((one, other))?;
+                olds_done += 1;
+                news_done += 1;
+            }
+            Ordering::Greater => {
+                new.push(other)?;
+                news_done += 1;
+            }
+        }
+    }
+    old.extend_from_slice(&olds[olds_done..])?;
+    new.extend_from_slice(&news[news_done..])?;
+    Ok(PlacedMatching { pairs, old, new })
+}
+
+// The packages of pairs, in the order of the places of the first ones.
+fn pairs_by_place<'a>(
+    alloc: Global,
+    mut pairs: Vec<(Placed<'a>, Placed<'a>)>,
+) -> Result<Vec<(&'a Package, &'a Package)>, AllocError>
+    ensures { IfOk result (λ all. IsPermutation (map pair_of pairs.entry.items) all.items) }
+{
+    pairs.sort_by_key(|pair| pair.0.place)?;
+    let mut all = Vec::with_capacity(alloc, pairs.len())?;
+    for pair in &pairs {
+        all.push((pair.0.item, pair.1.item))?;
+    }
+    Ok(all)
+}
+
+// The packages, in the order of their places.
+fn items_by_place<'a>(
+    alloc: Global,
+    mut list: Vec<Placed<'a>>,
+) -> Result<Vec<&'a Package>, AllocError>
+    ensures { IfOk result (λ all. IsPermutation (map (λ p. p.item) list.entry.items) all.items) }
+{
+    list.sort_by_key(|one| one.place)?;
+    let mut all = Vec::with_capacity(alloc, list.len())?;
+    for one in &list {
+        all.push(one.item)?;
+    }
+    Ok(all)
+}
