@@ -4,7 +4,7 @@ _cargo_lock() {
     local current=${COMP_WORDS[COMP_CWORD]} previous=${COMP_WORDS[COMP_CWORD - 1]}
     COMPREPLY=()
     if [ "$COMP_CWORD" = 1 ]; then
-        _cargo_lock_offer 'list translate tree help -h --help'
+        _cargo_lock_offer 'list translate tree bom diff help -h --help'
         return
     fi
     if [ "$previous" = = ]; then
@@ -39,7 +39,20 @@ _cargo_lock() {
             ;;
         esac
         ;;
-    help) _cargo_lock_offer 'list translate tree help' ;;
+    bom)
+        case $previous in
+        -f | --file | -o | --output) _cargo_lock_files ;;
+        *) _cargo_lock_offer '-f --file -o --output --compact -h --help' ;;
+        esac
+        ;;
+    diff)
+        if [[ $current == -* ]]; then
+            _cargo_lock_offer '--exit-code -h --help'
+        else
+            _cargo_lock_files
+        fi
+        ;;
+    help) _cargo_lock_offer 'list translate tree bom diff help' ;;
     esac
 }
 

@@ -15,6 +15,8 @@ complete -c cargo-lock -f
 complete -c cargo-lock -n '__cargo_lock_runs ""' -a list -d 'Lists the packages of a lockfile'
 complete -c cargo-lock -n '__cargo_lock_runs ""' -a translate -d 'Writes a lockfile in another format'
 complete -c cargo-lock -n '__cargo_lock_runs ""' -a tree -d 'Draws the trees of packages'
+complete -c cargo-lock -n '__cargo_lock_runs ""' -a bom -d 'Writes a bill of materials, as CycloneDX 1.6 has it in JSON'
+complete -c cargo-lock -n '__cargo_lock_runs ""' -a diff -d 'Tells what differs between the packages of two lockfiles'
 complete -c cargo-lock -n '__cargo_lock_runs ""' -a help -d 'Print this message or the help of the given subcommand(s)'
 complete -c cargo-lock -n '__cargo_lock_runs ""' -s h -l help -d 'Print help'
 
@@ -36,4 +38,13 @@ complete -c cargo-lock -n '__cargo_lock_runs tree' -s i -l invert -d 'Draws what
 complete -c cargo-lock -n '__cargo_lock_runs tree' -s h -l help -d 'Print help'
 complete -c cargo-lock -n '__cargo_lock_runs tree' -a '(__cargo_lock_packages)' -d SPEC
 
-complete -c cargo-lock -n '__cargo_lock_runs help' -a 'list translate tree help' -d COMMAND
+complete -c cargo-lock -n '__cargo_lock_runs bom' -s f -l file -r -F -d 'The lockfile'
+complete -c cargo-lock -n '__cargo_lock_runs bom' -s o -l output -r -F -d 'The file that is written, - for standard output'
+complete -c cargo-lock -n '__cargo_lock_runs bom' -l compact -d 'Writes one line, without spaces'
+complete -c cargo-lock -n '__cargo_lock_runs bom' -s h -l help -d 'Print help'
+
+complete -c cargo-lock -n '__cargo_lock_runs diff' -l exit-code -d 'Ends with status 1 where anything differs'
+complete -c cargo-lock -n '__cargo_lock_runs diff' -s h -l help -d 'Print help'
+complete -c cargo-lock -n '__cargo_lock_runs diff' -F -d 'The lockfile'
+
+complete -c cargo-lock -n '__cargo_lock_runs help' -a 'list translate tree bom diff help' -d COMMAND

@@ -8,6 +8,8 @@ _cargo-lock() {
         'list:Lists the packages of a lockfile'
         'translate:Writes a lockfile in another format'
         'tree:Draws the trees of packages'
+        'bom:Writes a bill of materials, as CycloneDX 1.6 has it in JSON'
+        'diff:Tells what differs between the packages of two lockfiles'
         'help:Print this message or the help of the given subcommand(s)'
     )
     _arguments -C \
@@ -42,6 +44,20 @@ _cargo-lock() {
             '(-i --invert)'{-i,--invert}'[Draws what depends on each package]' \
             '(- *)'{-h,--help}'[Print help]' \
             '*:SPEC:_cargo-lock-packages'
+        ;;
+    bom)
+        _arguments -s \
+            '(-f --file)'{-f,--file}'[The lockfile]:PATH:_files' \
+            '(-o --output)'{-o,--output}'[The file that is written, - for standard output]:PATH:_files' \
+            '--compact[Writes one line, without spaces]' \
+            '(- *)'{-h,--help}'[Print help]'
+        ;;
+    diff)
+        _arguments -s \
+            '--exit-code[Ends with status 1 where anything differs]' \
+            '(- *)'{-h,--help}'[Print help]' \
+            '1:OLD:_files' \
+            '2:NEW:_files'
         ;;
     help)
         _describe -t commands COMMAND commands

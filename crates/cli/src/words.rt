@@ -111,10 +111,10 @@ pub(crate) fn command<'a>(alloc: Global) -> Result<Command<'a>, AllocError> {
         .about("Looks into lockfiles")
         .subcommand_required(true)
         .args_override_self(true)
-        .subcommand(bom(alloc)?)?
         .subcommand(list(alloc)?)?
         .subcommand(translate(alloc)?)?
         .subcommand(tree(alloc)?)?
+        .subcommand(bom(alloc)?)?
         .subcommand(diff(alloc)?)
 }
 
