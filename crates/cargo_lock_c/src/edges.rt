@@ -1,6 +1,6 @@
 //! The edges of a lockfile's graph.
 
-ghost use Rattle.std.specs.Prelude.{◌≡◌, IfErr, IfOk, length};
+ghost use Rattle.std.specs.Prelude.{◌≡◌, ◌≤◌, ◌⊎◌, IfErr, IfOk, length};
 ghost use Rattle.cargo_lock_c.specs.declared.refusal.Refusal.TheVariants.{NoMemory};
 ghost use Rattle.cargo_lock_c.specs.Answers.{IsHandedOut};
 ghost use Rattle.cargo_lock_c.specs.Graph.{IsEdgeList, IsUnresolvedText, edge_list, node_edges};
@@ -37,6 +37,7 @@ pub extern "C" fn cargo_lock_edges(
         length.old length.new }
     ensures unresolved { result ≡ 7 → IsUnresolvedText text.now }
     ensures refused { RefusesText text.now result }
+    ensures status { (result ≤ 3) ⊎ (result ≡ 5) ⊎ (result ≡ 7) }
 {
     match edges(alloc, text) {
         Ok(edges) => hand_out(edges.as_slice(), out, length),
@@ -50,6 +51,7 @@ fn edges(alloc: Global, bytes: &[u8]) -> Result<Vec<Edge>, Refusal>
     ensures unresolved { IfErr result (λ refusal. status_of refusal ≡ 7
         → IsUnresolvedText bytes.now) }
     ensures refused { IfErr result (λ refusal. RefusesText bytes.now (status_of refusal)) }
+    ensures kind { IfErr result (λ refusal. (status_of refusal ≤ 3) ⊎ (status_of refusal ≡ 7)) }
 {
     let lockfile = read(alloc, bytes)?;
     let tree = tree_of(alloc, &lockfile)?;

@@ -1,6 +1,6 @@
 //! Formats: whether a lockfile survives one, and its text in one.
 
-ghost use Rattle.std.specs.Prelude.{◌≡◌, ◌≤◌, ◌↔◌, Some, IfErr, IfOk, IsOk, IsTrue, string_bytes};
+ghost use Rattle.std.specs.Prelude.{◌≡◌, ◌≢◌, ◌≤◌, ◌↔◌, Some, IfErr, IfOk, IsOk, IsTrue, string_bytes};
 ghost use Rattle.cargo_lock_references.specs.Format.{format_numbered};
 ghost use Rattle.cargo_lock_encoding.specs.Survives.{Survives, in_format};
 ghost use Rattle.cargo_lock_encoding.specs.Text.{join_lines, lines_of};
@@ -21,6 +21,7 @@ pub extern "C" fn cargo_lock_survives(alloc: Global, text: &[u8], format: u32) -
     ensures survives { result ≡ 0 → SurvivesNumber text.now format }
     ensures lost { result ≡ 6 → IsLostInNumber text.now format }
     ensures refused { RefusesText text.now result }
+    ensures status { (result ≤ 6) × (result ≢ 5) }
     ensures no_format { (result ≡ 4) ↔ (¬ ((1 ≤ format) × (format ≤ 4))) }
 {
     match survivor(alloc, text, format) {
@@ -46,6 +47,7 @@ pub extern "C" fn cargo_lock_translate(
         length.old length.new }
     ensures lost { result ≡ 6 → IsLostInNumber text.now format }
     ensures refused { RefusesText text.now result }
+    ensures status { result ≤ 6 }
     ensures no_format { (result ≡ 4) ↔ (¬ ((1 ≤ format) × (format ≤ 4))) }
 {
     match translation(alloc, text, format) {
@@ -60,6 +62,7 @@ fn translation(alloc: Global, bytes: &[u8], number: u32) -> Result<String, Refus
     ensures lost { IfErr result (λ refusal. status_of refusal ≡ 6
         → IsLostInNumber bytes.now number) }
     ensures refused { IfErr result (λ refusal. RefusesText bytes.now (status_of refusal)) }
+    ensures kind { IfErr result (λ refusal. status_of refusal ≤ 6) }
     ensures no_format { IfErr result (λ refusal. (status_of refusal ≡ 4)
         ↔ (¬ ((1 ≤ number) × (number ≤ 4)))) }
     ensures number { IsOk result → (1 ≤ number) × (number ≤ 4) }
@@ -84,6 +87,7 @@ fn survivor(alloc: Global, bytes: &[u8], number: u32) -> Result<Lockfile, Refusa
     ensures lost { IfErr result (λ refusal. status_of refusal ≡ 6
         → IsLostInNumber bytes.now number) }
     ensures refused { IfErr result (λ refusal. RefusesText bytes.now (status_of refusal)) }
+    ensures kind { IfErr result (λ refusal. status_of refusal ≤ 6) }
     ensures no_format { IfErr result (λ refusal. (status_of refusal ≡ 4)
         ↔ (¬ ((1 ≤ number) × (number ≤ 4)))) }
     ensures number { IsOk result → (1 ≤ number) × (number ≤ 4) }

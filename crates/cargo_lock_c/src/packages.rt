@@ -1,6 +1,6 @@
 //! The packages of a lockfile, line by line.
 
-ghost use Rattle.std.specs.Prelude.{◌≡◌, ◌⊎◌, true, false, All, Any, IfErr, IfOk, nat_le, option_map, string_bytes};
+ghost use Rattle.std.specs.Prelude.{◌≡◌, ◌≤◌, ◌⊎◌, true, false, All, Any, IfErr, IfOk, nat_le, option_map, string_bytes};
 ghost use Rattle.std.specs.List.{flat_map, list_all};
 ghost use Rattle.cargo_lock_parts.specs.Checksum.{digest_of};
 ghost use Rattle.cargo_lock_c.specs.declared.refusal.Refusal.TheVariants.{NoLine, NoMemory};
@@ -29,6 +29,7 @@ pub extern "C" fn cargo_lock_packages(
         length.old length.new }
     ensures no_line { result ≡ 9 → LacksLine text.now }
     ensures refused { RefusesText text.now result }
+    ensures status { (result ≤ 3) ⊎ (result ≡ 5) ⊎ (result ≡ 9) }
 {
     match package_lines(alloc, text) {
         Ok(lines) => hand_out(lines.as_bytes(), out, length),
@@ -41,6 +42,7 @@ fn package_lines(alloc: Global, bytes: &[u8]) -> Result<String, Refusal>
     ensures ok { IfOk result (λ lines. IsPackageList bytes.now (string_bytes lines)) }
     ensures no_line { IfErr result (λ refusal. status_of refusal ≡ 9 → LacksLine bytes.now) }
     ensures refused { IfErr result (λ refusal. RefusesText bytes.now (status_of refusal)) }
+    ensures kind { IfErr result (λ refusal. (status_of refusal ≤ 3) ⊎ (status_of refusal ≡ 9)) }
 {
     let lockfile = read(alloc, bytes)?;
     let lines = lines_of(alloc, lockfile.packages.as_slice())?;

@@ -48,6 +48,7 @@ pub extern "C" fn cargo_lock_format(alloc: Global, text: &[u8], format: &mut u32
     ensures read { result ≡ 0 → IsInFormat text.now format.new }
     ensures refused { RefusesText text.now result }
     ensures kept { result ≢ 0 → format.new ≡ format.old }
+    ensures status { result ≤ 3 }
 {
     match read(alloc, text) {
         Ok(lockfile) => {
@@ -69,7 +70,7 @@ pub extern "C" fn cargo_lock_fault(
     ensures words { IsHandedOut (λ words. words ≢ [] → MeansNothing text.now) result
         out.old out.new length.old length.new }
     ensures refused { RefusesText text.now result }
-    ensures never { result ≢ 1 }
+    ensures status { (result ≡ 0) ⊎ (result ≡ 2) ⊎ (result ≡ 3) ⊎ (result ≡ 5) }
 {
     match fault_words(alloc, text) {
         Ok(words) => hand_out(words.as_bytes(), out, length),

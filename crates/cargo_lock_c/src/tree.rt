@@ -1,6 +1,6 @@
 //! The tree of a package, as it is drawn.
 
-ghost use Rattle.std.specs.Prelude.{◌≡◌, ◌<◌, ◌⊎◌, IfErr, IfOk, List, cond, length};
+ghost use Rattle.std.specs.Prelude.{◌≡◌, ◌<◌, ◌≤◌, ◌⊎◌, IfErr, IfOk, List, cond, length};
 ghost use Rattle.cargo_lock_parts.specs.Identity.{Identity};
 ghost use Rattle.cargo_lock_graph.specs.declared.drawing.entry.Entry.{Entry};
 ghost use Rattle.cargo_lock_graph.specs.declared.graph.EdgeDirection.TheVariants.{Incoming, Outgoing};
@@ -43,6 +43,7 @@ pub extern "C" fn cargo_lock_tree(
     ensures unresolved { result ≡ 7 → IsUnresolvedText text.now }
     ensures no_package { result ≡ 8 → LacksPackage text.now number }
     ensures refused { RefusesText text.now result }
+    ensures status { (result ≤ 3) ⊎ (result ≡ 5) ⊎ (result ≡ 7) ⊎ (result ≡ 8) }
 {
     let node = NodeIndex::new(number);
     match drawing(alloc, text, node, direction(inverted), exact) {
@@ -76,6 +77,8 @@ fn drawing(
     ensures no_package { IfErr result (λ refusal. status_of refusal ≡ 8
         → LacksPackage bytes.now node) }
     ensures refused { IfErr result (λ refusal. RefusesText bytes.now (status_of refusal)) }
+    ensures kind { IfErr result (λ refusal. (status_of refusal ≤ 3) ⊎ (status_of refusal ≡ 7)
+        ⊎ (status_of refusal ≡ 8)) }
 {
     let lockfile = read(alloc, bytes)?;
     let tree = tree_of(alloc, &lockfile)?;

@@ -1,4 +1,4 @@
-use Rattle.std.proofs.Common.{◌≡◌, ◌≤◌, ◌<◌, length, rules, arith, inl, inr}
+use Rattle.std.proofs.Common.{◌≡◌, ◌≤◌, ◌<◌, ◌⊎◌, ap, length, rules, arith, inl, inr}
 use Rattle.cargo_lock_c.specs.Graph.{IsUnresolvedText, LacksPackage}
 use Rattle.cargo_lock_c.specs.Statuses.{status_of}
 use Rattle.cargo_lock_c.specs.Texts.{RefusesText}
@@ -44,3 +44,11 @@ returns-clause-ok c =
     let packages = c.in_ok-tree.ensures.packages in
     let within : c.args.node < length c.in_ok-tree.tree.graph.packages = search rules in
     (c.in_ok-lockfile.lockfile, c.in_ok-tree.tree.graph.edges, drawn.0, c.in_ok-lockfile.ensures.ok, c.in_ok-tree.ensures.edges, rw (← packages) within, drawn.1, rw (← packages) drawn.2)
+
+pub returns-in_err-drawing-clause-kind : goal.returns-in_err-drawing-clause-kind
+returns-in_err-drawing-clause-kind c =
+    let refusal = c.in_err-drawing.field-0.0 in
+    let three : status_of refusal ≡ 3 = ap status_of c.in_err-drawing.ensures.err in
+    let most : status_of refusal ≤ 3 = omega (arith, three) in
+    refusal-passed (λ refusal. (status_of refusal ≤ 3) ⊎ (status_of refusal ≡ 7) ⊎ (status_of refusal ≡ 8)) c.from_residual-in_err-drawing.result refusal c.from_residual-in_err-drawing.ensures.1
+    (inl most)
