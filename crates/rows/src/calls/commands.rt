@@ -44,7 +44,7 @@ fn told(alloc: Global, status: ExitCode, out: &[u8], err: &[u8]) -> Result<Strin
         return Ok(String::from_str(alloc, out)?);
     }
     let status = if status == ExitCode::SUCCESS { 0 } else { 1 };
-    let end = if err.ends_with('\n') {
+    let end = if err.is_empty() || err.ends_with('\n') {
         ""
     } else {
         ", not a whole line"
