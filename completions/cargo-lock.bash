@@ -4,7 +4,7 @@ _cargo_lock() {
     local current=${COMP_WORDS[COMP_CWORD]} previous=${COMP_WORDS[COMP_CWORD - 1]}
     COMPREPLY=()
     if [ "$COMP_CWORD" = 1 ]; then
-        _cargo_lock_offer 'list translate tree bom diff help -h --help'
+        _cargo_lock_offer 'list translate tree bom diff check help -h --help'
         return
     fi
     if [ "$previous" = = ]; then
@@ -47,12 +47,18 @@ _cargo_lock() {
         ;;
     diff)
         if [[ $current == -* ]]; then
-            _cargo_lock_offer '--exit-code -h --help'
+            _cargo_lock_offer '-d --dependencies --exit-code -h --help'
         else
             _cargo_lock_files
         fi
         ;;
-    help) _cargo_lock_offer 'list translate tree bom diff help' ;;
+    check)
+        case $previous in
+        -f | --file) _cargo_lock_files ;;
+        *) _cargo_lock_offer '-f --file -h --help' ;;
+        esac
+        ;;
+    help) _cargo_lock_offer 'list translate tree bom diff check help' ;;
     esac
 }
 

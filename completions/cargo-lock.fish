@@ -17,6 +17,7 @@ complete -c cargo-lock -n '__cargo_lock_runs ""' -a translate -d 'Writes a lockf
 complete -c cargo-lock -n '__cargo_lock_runs ""' -a tree -d 'Draws the trees of packages'
 complete -c cargo-lock -n '__cargo_lock_runs ""' -a bom -d 'Writes a bill of materials, as CycloneDX 1.6 has it in JSON'
 complete -c cargo-lock -n '__cargo_lock_runs ""' -a diff -d 'Tells what differs between the packages of two lockfiles'
+complete -c cargo-lock -n '__cargo_lock_runs ""' -a check -d 'Tells what is wrong with a lockfile'
 complete -c cargo-lock -n '__cargo_lock_runs ""' -a help -d 'Print this message or the help of the given subcommand(s)'
 complete -c cargo-lock -n '__cargo_lock_runs ""' -s h -l help -d 'Print help'
 
@@ -43,8 +44,12 @@ complete -c cargo-lock -n '__cargo_lock_runs bom' -s o -l output -r -F -d 'The f
 complete -c cargo-lock -n '__cargo_lock_runs bom' -l compact -d 'Writes one line, without spaces'
 complete -c cargo-lock -n '__cargo_lock_runs bom' -s h -l help -d 'Print help'
 
-complete -c cargo-lock -n '__cargo_lock_runs diff' -l exit-code -d 'Ends with status 1 where anything differs'
+complete -c cargo-lock -n '__cargo_lock_runs diff' -s d -l dependencies -d 'Tells other dependencies of packages too'
+complete -c cargo-lock -n '__cargo_lock_runs diff' -l exit-code -d 'Ends with status 1 where anything differs, dependencies only with -d'
 complete -c cargo-lock -n '__cargo_lock_runs diff' -s h -l help -d 'Print help'
 complete -c cargo-lock -n '__cargo_lock_runs diff' -F -d 'The lockfile'
 
-complete -c cargo-lock -n '__cargo_lock_runs help' -a 'list translate tree bom diff help' -d COMMAND
+complete -c cargo-lock -n '__cargo_lock_runs check' -s f -l file -r -F -d 'The lockfile'
+complete -c cargo-lock -n '__cargo_lock_runs check' -s h -l help -d 'Print help'
+
+complete -c cargo-lock -n '__cargo_lock_runs help' -a 'list translate tree bom diff check help' -d COMMAND

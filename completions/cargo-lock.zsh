@@ -10,6 +10,7 @@ _cargo-lock() {
         'tree:Draws the trees of packages'
         'bom:Writes a bill of materials, as CycloneDX 1.6 has it in JSON'
         'diff:Tells what differs between the packages of two lockfiles'
+        'check:Tells what is wrong with a lockfile'
         'help:Print this message or the help of the given subcommand(s)'
     )
     _arguments -C \
@@ -54,10 +55,16 @@ _cargo-lock() {
         ;;
     diff)
         _arguments -s \
-            '--exit-code[Ends with status 1 where anything differs]' \
+            '(-d --dependencies)'{-d,--dependencies}'[Tells other dependencies of packages too]' \
+            '--exit-code[Ends with status 1 where anything differs, dependencies only with -d]' \
             '(- *)'{-h,--help}'[Print help]' \
             '1:OLD:_files' \
             '2:NEW:_files'
+        ;;
+    check)
+        _arguments -s \
+            '(-f --file)'{-f,--file}'[The lockfile]:PATH:_files' \
+            '(- *)'{-h,--help}'[Print help]'
         ;;
     help)
         _describe -t commands COMMAND commands

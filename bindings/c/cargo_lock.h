@@ -1,11 +1,11 @@
 /* cargo_lock for callers in C: reads a Cargo.lock of any format, V1 to V4.
  *
- * Each call takes the bytes of a lockfile and keeps nothing: any number of threads may call at
- * once, and there is nothing to free. A thread needs a stack of 2 MiB: the deepest text that is
+ * Each call takes the bytes of a lockfile, or of two, and keeps nothing: any number of threads may
+ * call at once, and there is nothing to free. A thread needs a stack of 2 MiB: the deepest text that is
  * read takes 1,556 KiB.
  *
- * `text` points to `text_len` bytes, which are only read. `out` points to room for `out_len`
- * items, and `length` and `format` to one number each. These are the caller's, are not null, also
+ * `text` points to `text_len` bytes, which are only read; so do `old` and `new_`, which may be the
+ * same bytes. `out` points to room for `out_len` items, and `length` and `format` to one number each. These are the caller's, are not null, also
  * where they hold nothing, and do not overlap while a call runs.
  *
  * Each call answers a status. At CARGO_LOCK_DONE the answer stands at the front of `out`, and
@@ -48,7 +48,11 @@ enum {
     /* There is no package of that number. */
     CARGO_LOCK_NO_PACKAGE = 8,
     /* A name or a source has a byte below 32, as a tab, and so can stand in no line. */
-    CARGO_LOCK_NO_LINE = 9
+    CARGO_LOCK_NO_LINE = 9,
+    /* The second of two texts is no lockfile. cargo_lock_fault says why. */
+    CARGO_LOCK_NO_NEW_LOCKFILE = 10,
+    /* The second of two texts is no UTF-8. */
+    CARGO_LOCK_NO_NEW_TEXT = 11
 };
 
 /* An edge, by the numbers of two packages in the lockfile's order, from 0: the package that depends,
@@ -96,6 +100,14 @@ uint32_t cargo_lock_edges(const uint8_t *text, size_t text_len, cargo_lock_edge 
  * NO_PACKAGE. */
 uint32_t cargo_lock_tree(const uint8_t *text, size_t text_len, size_t package, bool inverted,
                          bool exact, uint8_t *out, size_t out_len, size_t *length);
+
+/* What differs between the packages of two lockfiles, a line for each change with a newline at the
+ * end, as `cargo-lock diff` prints it; with `dependencies` also other dependencies of packages, as
+ * under `-d`. Where nothing differs the length is 0. The old text is read first, and NO_LOCKFILE and
+ * NO_TEXT are said of it. DONE, NO_LOCKFILE, NO_TEXT, NO_MEMORY, NO_ROOM, NO_NEW_LOCKFILE or
+ * NO_NEW_TEXT. */
+uint32_t cargo_lock_diff(const uint8_t *old, size_t old_len, const uint8_t *new_, size_t new_len,
+                         bool dependencies, uint8_t *out, size_t out_len, size_t *length);
 
 #ifdef __cplusplus
 }

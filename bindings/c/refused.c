@@ -105,12 +105,21 @@ static uint32_t tree(void)
     return cargo_lock_tree(text, text_len, 0, false, true, (uint8_t *)room, ROOM, &length);
 }
 
+/* A lockfile with one package, which others are compared with. */
+static const char other[] = "[[package]]\nname = \"app\"\nversion = \"0.1.0\"\n";
+
+static uint32_t diff(void)
+{
+    return cargo_lock_diff(text, text_len, (const uint8_t *)other, sizeof other - 1, true,
+                           (uint8_t *)room, ROOM, &length);
+}
+
 static const struct {
     const char *name;
     uint32_t (*call)(void);
 } calls[] = {{"format", format},       {"fault", fault}, {"survives", survives},
              {"translate", translate}, {"edges", edges}, {"packages", packages},
-             {"tree", tree}};
+             {"tree", tree},           {"diff", diff}};
 
 /* ---- what is asked of each */
 

@@ -104,6 +104,33 @@ static uint32_t tree_of_third(text given, uint8_t *out, size_t out_len, size_t *
     return cargo_lock_tree(given.bytes, given.length, 2, false, false, out, out_len, length);
 }
 
+/* The lockfile that others are compared with. */
+static text other;
+
+static uint32_t changes(text given, uint8_t *out, size_t out_len, size_t *length)
+{
+    return cargo_lock_diff(given.bytes, given.length, other.bytes, other.length, false, out, out_len,
+                           length);
+}
+
+static uint32_t all_changes(text given, uint8_t *out, size_t out_len, size_t *length)
+{
+    return cargo_lock_diff(given.bytes, given.length, other.bytes, other.length, true, out, out_len,
+                           length);
+}
+
+static uint32_t changes_back(text given, uint8_t *out, size_t out_len, size_t *length)
+{
+    return cargo_lock_diff(other.bytes, other.length, given.bytes, given.length, true, out, out_len,
+                           length);
+}
+
+static uint32_t changes_of_itself(text given, uint8_t *out, size_t out_len, size_t *length)
+{
+    return cargo_lock_diff(given.bytes, given.length, given.bytes, given.length, true, out, out_len,
+                           length);
+}
+
 static uint32_t edges(text given, uint8_t *out, size_t out_len, size_t *length)
 {
     size_t size = sizeof(cargo_lock_edge);
@@ -206,13 +233,17 @@ static void ask_answers(text third)
     ANSWERS(third, exact_tree_against,
             "left 1.0.0 checksum:" CHECKSUM "\n└── app 0.1.0 inexact\n");
     answers(third, edges, &wanted, sizeof wanted, __LINE__);
+    ANSWERS(third, changes, "- left 1.0.0\n");
+    ANSWERS(third, all_changes, "- left 1.0.0\n= app 0.1.0: dependencies - left 1.0.0\n");
+    ANSWERS(third, changes_back, "+ left 1.0.0\n= app 0.1.0: dependencies + left 1.0.0\n");
+    ANSWERS(third, changes_of_itself, "");
     free(written);
     free(fourth.bytes);
 }
 
 static void ask_refusals(text third, text none, text bytes)
 {
-    static const call calls[] = {as_fourth, packages, edges, tree};
+    static const call calls[] = {as_fourth, packages, edges, tree, changes};
     text without = text_of(unresolved, ""), tab = text_of(tabbed, "");
     for (size_t at = 0; at < sizeof calls / sizeof *calls; at++) {
         REFUSES(none, calls[at], CARGO_LOCK_NO_LOCKFILE);
@@ -224,6 +255,10 @@ static void ask_refusals(text third, text none, text bytes)
     REFUSES(without, tree, CARGO_LOCK_UNRESOLVED);
     REFUSES(third, tree_of_third, CARGO_LOCK_NO_PACKAGE);
     REFUSES(tab, packages, CARGO_LOCK_NO_LINE);
+    REFUSES(none, changes_back, CARGO_LOCK_NO_NEW_LOCKFILE);
+    REFUSES(bytes, changes_back, CARGO_LOCK_NO_NEW_TEXT);
+    REFUSES(none, changes_of_itself, CARGO_LOCK_NO_LOCKFILE);
+    REFUSES(bytes, changes_of_itself, CARGO_LOCK_NO_TEXT);
     free(without.bytes);
     free(tab.bytes);
 }
@@ -297,6 +332,7 @@ int main(void)
 {
     text third = lockfile("version = 3\n"), none = text_of("[[package]]\nname = \"a\"\n", "");
     text bytes = text_of("\xff", "");
+    other = text_of(bare, "");
     ask_formats(third, none, bytes);
     ask_answers(third);
     ask_refusals(third, none, bytes);
@@ -304,6 +340,7 @@ int main(void)
     free(third.bytes);
     free(none.bytes);
     free(bytes.bytes);
+    free(other.bytes);
     printf("%ld hold, %ld fail\n", done - failed, failed);
     return failed != 0;
 }

@@ -30,6 +30,7 @@ __all__ = [
     "Package",
     "PackageError",
     "UnresolvedError",
+    "diff",
     "edges",
     "fault",
     "format_of",
@@ -149,12 +150,29 @@ def edges(text: Text) -> list[Edge]:
 
 def tree(text: Text, package: int, inverted: bool = False, exact: bool = False) -> str:
     """The drawing of the tree of a package, by its number in the lockfile's order: of what it
-    depends on, or, where it is inverted, of what depends on it. Exact labels have the checksum too, or else
-    the source. Raises `NotALockfile`, `UnresolvedError`, and `PackageError` where there is no
-    package of that number."""
+    depends on, or, where it is inverted, of what depends on it. Exact labels have the checksum
+    too, or else the source. Raises `NotALockfile`, `UnresolvedError`, and `PackageError` where
+    there is no package of that number."""
     if not 0 <= package < 2**64:
         raise PackageError(f"there is no package {package}")
     return _answer(_bytes(text), _library().cargo_lock_tree, package, inverted, exact).decode()
+
+
+def diff(old: Text, new: Text, dependencies: bool = False) -> str:
+    """What differs between the packages of two lockfiles, a line for each change, as `cargo-lock
+    diff` prints it; with `dependencies` also other dependencies of packages, as under `-d`. Raises
+    `NotALockfile`, whose words begin `old: ` or `new: ` by the text that is refused."""
+    before, after = _bytes(old), _bytes(new)
+
+    def call(given: bytes, length: int, *words: Any) -> int:
+        return _library().cargo_lock_diff(given, length, after, len(after), dependencies, *words)
+
+    try:
+        return _answer(before, call).decode()
+    except _NewText as refusal:
+        raise NotALockfile(f"new: {_why_not(after, refusal.status)}") from None
+    except NotALockfile as refusal:
+        raise NotALockfile(f"old: {refusal}") from None
 
 
 # ---- how they are made
@@ -162,6 +180,8 @@ def tree(text: Text, package: int, inverted: bool = False, exact: bool = False) 
 _INTERFACE = 1
 _DONE, _NO_LOCKFILE, _NO_TEXT, _NO_MEMORY, _NO_FORMAT = range(5)
 _NO_ROOM, _LOST, _UNRESOLVED, _NO_PACKAGE, _NO_LINE = range(5, 10)
+# What is said of the second of two texts, and what is said of a text alone.
+_OF_NEW = {10: _NO_LOCKFILE, 11: _NO_TEXT}
 
 _ERRORS: dict[int, tuple[type[Error], str]] = {
     _NO_TEXT: (NotALockfile, "the bytes are no UTF-8"),
@@ -171,6 +191,14 @@ _ERRORS: dict[int, tuple[type[Error], str]] = {
     _NO_PACKAGE: (PackageError, "there is no package of that number"),
     _NO_LINE: (LineError, "a name or a source has a control character"),
 }
+
+
+class _NewText(Exception):
+    """The second of two texts is refused, with the status that a text alone would have."""
+
+    def __init__(self, status: int) -> None:
+        super().__init__(status)
+        self.status = status
 
 
 class _Edge(ctypes.Structure):
@@ -187,6 +215,7 @@ _CALLS: dict[str, list[Any]] = {
     "packages": _ROOM,
     "edges": _ROOM,
     "tree": [ctypes.c_size_t, ctypes.c_bool, ctypes.c_bool, *_ROOM],
+    "diff": [ctypes.c_char_p, ctypes.c_size_t, ctypes.c_bool, *_ROOM],
 }
 
 _loaded: Optional[ctypes.CDLL] = None
@@ -239,7 +268,14 @@ def _stop_unless_done(given: bytes, status: int) -> None:
         return
     if status == _NO_MEMORY:
         raise MemoryError
+    if status in _OF_NEW:
+        raise _NewText(_OF_NEW[status])
     if status == _NO_LOCKFILE:
-        raise NotALockfile(fault(given) or "no lockfile")
+        raise NotALockfile(_why_not(given, status))
     kind, words = _ERRORS[status]
     raise kind(words)
+
+
+def _why_not(given: bytes, status: int) -> str:
+    """Why a text is no lockfile, by the status that says so."""
+    return _ERRORS[status][1] if status in _ERRORS else fault(given) or "no lockfile"

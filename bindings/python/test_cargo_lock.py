@@ -153,6 +153,34 @@ class Graph(unittest.TestCase):
                 cargo_lock.tree(LOCKFILE, number)
 
 
+class Differences(unittest.TestCase):
+    NEW = LOCKFILE.replace('"2.0.0+build"', '"2.1.0"').replace(' "left",\n', "")
+    CHANGED = "~ right 2.0.0+build -> 2.1.0\n"
+
+    def test_packages(self):
+        self.assertEqual(cargo_lock.diff(LOCKFILE, self.NEW), self.CHANGED)
+        self.assertEqual(cargo_lock.diff(LOCKFILE, LOCKFILE.encode()), "")
+
+    def test_dependencies(self):
+        self.assertEqual(
+            cargo_lock.diff(LOCKFILE, self.NEW, dependencies=True),
+            self.CHANGED
+            + f"= app 0.1.0: dependencies - left 1.0.0 - right 2.0.0+build ({RIGHT})"
+            + f" + right 2.1.0 ({RIGHT})\n"
+            + f"= left 1.0.0: dependencies - right 2.0.0+build ({RIGHT}) + right 2.1.0 ({RIGHT})\n",
+        )
+
+    def test_which_text_is_refused(self):
+        for old, new, words in (
+            ("version = 5", LOCKFILE, "^old: invalid Cargo.lock format version: `5`$"),
+            (LOCKFILE, "version = 5", "^new: invalid Cargo.lock format version: `5`$"),
+            (b"\xff", b"\xff", "^old: the bytes are no UTF-8$"),
+            (LOCKFILE, b"\xff", "^new: the bytes are no UTF-8$"),
+        ):
+            with self.assertRaisesRegex(cargo_lock.NotALockfile, words):
+                cargo_lock.diff(old, new)
+
+
 class Room(unittest.TestCase):
     """What the library leaves of the room that it is given."""
 

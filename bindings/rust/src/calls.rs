@@ -1,6 +1,6 @@
 //! The calls of the library, as its header `cargo_lock.h` has them. All that is unsafe is here.
 
-use crate::{Edge, Error};
+use crate::{DiffError, Edge, Error};
 
 mod library {
     use crate::Edge;
@@ -47,12 +47,26 @@ mod library {
             out_len: usize,
             length: *mut usize,
         ) -> u32;
+        pub fn cargo_lock_diff(
+            old: *const u8,
+            old_len: usize,
+            new: *const u8,
+            new_len: usize,
+            dependencies: bool,
+            out: *mut u8,
+            out_len: usize,
+            length: *mut usize,
+        ) -> u32;
     }
 }
 
 // The statuses that are not faults.
 const DONE: u32 = 0;
 const NO_ROOM: u32 = 5;
+
+// What is said of the second of two texts.
+const NO_NEW_LOCKFILE: u32 = 10;
+const NO_NEW_TEXT: u32 = 11;
 
 pub(crate) fn format(text: &[u8]) -> Result<u32, Error> {
     let mut number = 0;
@@ -111,17 +125,42 @@ pub(crate) fn tree(
     })
 }
 
+pub(crate) fn diff(old: &[u8], new: &[u8], dependencies: bool) -> Result<String, DiffError> {
+    // SAFETY: as above.
+    let answer = room_for(|out, length| unsafe {
+        let (at, room) = (out.as_mut_ptr(), out.len());
+        let (before, before_len) = (old.as_ptr(), old.len());
+        let (after, after_len) = (new.as_ptr(), new.len());
+        library::cargo_lock_diff(
+            before, before_len, after, after_len, dependencies, at, room, length,
+        )
+    });
+    match answer {
+        Ok(bytes) => Ok(String::from_utf8(bytes).expect("the library answers UTF-8")),
+        Err(NO_NEW_LOCKFILE) => Err(DiffError::New(fault_of(new, 1))),
+        Err(NO_NEW_TEXT) => Err(DiffError::New(fault_of(new, 2))),
+        Err(status) => Err(DiffError::Old(fault_of(old, status))),
+    }
+}
+
 /// The text that a call answers.
 fn words(text: &[u8], call: impl FnMut(&mut [u8], &mut usize) -> u32) -> Result<String, Error> {
     let bytes = items(text, call)?;
     Ok(String::from_utf8(bytes).expect("the library answers UTF-8"))
 }
 
-/// The items that a call answers, in room that is made as long as it has to be.
+/// The items that a call answers.
 fn items<T: Clone + Default>(
     text: &[u8],
-    mut call: impl FnMut(&mut [T], &mut usize) -> u32,
+    call: impl FnMut(&mut [T], &mut usize) -> u32,
 ) -> Result<Vec<T>, Error> {
+    room_for(call).map_err(|status| fault_of(text, status))
+}
+
+/// The items that a call answers, in room that is made as long as it has to be, or its status.
+fn room_for<T: Clone + Default>(
+    mut call: impl FnMut(&mut [T], &mut usize) -> u32,
+) -> Result<Vec<T>, u32> {
     let mut out = Vec::new();
     let mut length = 0;
     let mut status = call(&mut out, &mut length);
@@ -129,16 +168,25 @@ fn items<T: Clone + Default>(
         out.resize(length, T::default());
         status = call(&mut out, &mut length);
     }
-    told(text, status)?;
+    if status != DONE {
+        return Err(status);
+    }
     out.truncate(length);
     Ok(out)
 }
 
 /// The fault of a status, if it is one.
 fn told(text: &[u8], status: u32) -> Result<(), Error> {
-    Err(match status {
-        DONE => return Ok(()),
-        1 => Error::NotALockfile(fault(text)?),
+    match status {
+        DONE => Ok(()),
+        status => Err(fault_of(text, status)),
+    }
+}
+
+/// The fault of a status other than 0 that is said of a text.
+fn fault_of(text: &[u8], status: u32) -> Error {
+    match status {
+        1 => fault(text).map_or_else(|error| error, Error::NotALockfile),
         2 => Error::NotUtf8,
         3 => Error::OutOfMemory,
         4 => Error::NoFormat,
@@ -147,5 +195,5 @@ fn told(text: &[u8], status: u32) -> Result<(), Error> {
         8 => Error::NoPackage,
         9 => Error::NoLine,
         status => Error::UnknownStatus(status),
-    })
+    }
 }

@@ -102,6 +102,33 @@ impl fmt::Display for Error {
 
 impl error::Error for Error {}
 
+/// Why two lockfiles are not compared.
+#[derive(Clone, Debug, PartialEq, Eq, Hash)]
+pub enum DiffError {
+    /// The old text, which is read first, is refused; or else memory was.
+    Old(Error),
+
+    /// The new text is refused.
+    New(Error),
+}
+
+impl fmt::Display for DiffError {
+    fn fmt(&self, f: &mut fmt::Formatter<'_>) -> fmt::Result {
+        match self {
+            DiffError::Old(error) => write!(f, "old lockfile: {error}"),
+            DiffError::New(error) => write!(f, "new lockfile: {error}"),
+        }
+    }
+}
+
+impl error::Error for DiffError {
+    fn source(&self) -> Option<&(dyn error::Error + 'static)> {
+        match self {
+            DiffError::Old(error) | DiffError::New(error) => Some(error),
+        }
+    }
+}
+
 /// The number of the lockfile's format, 1 to 4.
 pub fn format(text: impl AsRef<[u8]>) -> Result<u32, Error> {
     calls::format(text.as_ref())
@@ -164,4 +191,15 @@ pub fn tree(
     exact: bool,
 ) -> Result<String, Error> {
     calls::tree(text.as_ref(), package, direction == Direction::Dependents, exact)
+}
+
+/// What differs between the packages of two lockfiles, a line for each change, as `cargo-lock diff`
+/// prints it; with `dependencies` also other dependencies of packages, as under `-d`. The text is
+/// empty where nothing differs.
+pub fn diff(
+    old: impl AsRef<[u8]>,
+    new: impl AsRef<[u8]>,
+    dependencies: bool,
+) -> Result<String, DiffError> {
+    calls::diff(old.as_ref(), new.as_ref(), dependencies)
 }

@@ -1,7 +1,8 @@
 //! Tests of the calls over small lockfiles. `bindings/run` runs them.
 
 use proved_cargo_lock::{
-    edges, fault, format, packages, survives, translate, tree, Direction, Edge, Error, Package,
+    diff, edges, fault, format, packages, survives, translate, tree, DiffError, Direction, Edge,
+    Error, Package,
 };
 use std::thread;
 
@@ -119,6 +120,31 @@ fn drawings() {
     }
     let unresolved = tree(UNRESOLVED, 0, Direction::Dependencies, false);
     assert_eq!(unresolved, Err(Error::Unresolved));
+}
+
+#[test]
+fn differences() {
+    let old = lockfile();
+    let new = old.replace("\"2.0.0+build\"", "\"2.1.0\"").replace(" \"left\",\n", "");
+    let changed = "~ right 2.0.0+build -> 2.1.0\n";
+    let right = "(git+https://example.org/right?branch=main#0123abc)";
+    let dependencies = format!(
+        "= app 0.1.0: dependencies - left 1.0.0 - right 2.0.0+build {right} + right 2.1.0 {right}\n\
+         = left 1.0.0: dependencies - right 2.0.0+build {right} + right 2.1.0 {right}\n"
+    );
+    assert_eq!(diff(&old, &old, true), Ok(String::new()));
+    assert_eq!(diff(&old, &new, false), Ok(changed.to_owned()));
+    assert_eq!(diff(&old, &new, true), Ok(format!("{changed}{dependencies}")));
+    let words = "invalid Cargo.lock format version: `5`";
+    let refused = Error::NotALockfile(words.to_owned());
+    assert_eq!(diff("version = 5", &new, false), Err(DiffError::Old(refused.clone())));
+    assert_eq!(diff(&old, "version = 5", false), Err(DiffError::New(refused)));
+    assert_eq!(diff(b"\xff", b"\xff", false), Err(DiffError::Old(Error::NotUtf8)));
+    assert_eq!(diff(&old, b"\xff", false), Err(DiffError::New(Error::NotUtf8)));
+    assert_eq!(
+        diff(&old, b"\xff", false).unwrap_err().to_string(),
+        "new lockfile: the bytes are no UTF-8"
+    );
 }
 
 #[test]

@@ -22,7 +22,7 @@ use Rattle.cargo_lock_references.specs.ResolutionSearch.{resolution_of}
 use Rattle.cargo_lock_references.specs.ReadBack.{DigestReadsBack, ReferenceSurvives, SourceSurvives, TextReadsBack}
 use Rattle.cargo_lock_encoding.specs.Survives.{PackageSurvives}
 use Rattle.cargo_lock_encoding.specs.Table.{checksum_value, package_table, encoded_package_with, reference_value, present_members, source_value, unless_empty}
-use Rattle.cargo_lock_encoding.specs.TableReading.{checksum_from, package_at_key, reference_in, optional_by, optional_list, read_all, required_text, source_in}
+use Rattle.cargo_lock_encoding.specs.TableReading.{checksum_from, identity_at, package_at_key, reference_in, optional_by, optional_list, read_all, required_text, source_in}
 use Rattle.cargo_lock_references.specs.Reference.{version_of}
 use Rattle.cargo_lock_encoding.proofs.MeansLemmas.{bind-parts, map-parts}
 use Rattle.cargo_lock.proofs.ResolutionKeys.{IsOf, in_full-of, reference-survives, reference-reads}
@@ -33,23 +33,28 @@ cons-parts x y xs ys e = (cc, cc)
 pub not-cons : {A : Type 0} (x : A) (xs : List A) → [] ≡ x ∷ xs → ⊥
 not-cons x xs e = cc
 
-abbrev encoded_package_from : Option Data → Option Data → Option Data → Option Data → Option Data → Option Data → Option EncodedPackage
-encoded_package_from checksum dependencies name replace source version = do
+abbrev pub identity_from : Option Data → Option Data → Option Data → Option Identity
+identity_from name source version = do
   n ← required_text name
   text ← required_text version
   v ← version_of text
   s ← optional_by source_in source
+  Some (record { name = n; version = v; source = s })
+
+abbrev encoded_package_from : Option Data → Option Data → Option Data → Option Data → Option Data → Option Data → Option EncodedPackage
+encoded_package_from checksum dependencies name replace source version = do
+  i ← identity_from name source version
   c ← optional_by checksum_from checksum
   list ← optional_list dependencies
   fs ← read_all reference_in list
   r ← optional_by reference_in replace
-  Some (record { name = n; version = v; source = option_map mark_plain s; checksum = c; dependencies = fs; replace = r })
+  Some (record { name = i.name; version = i.version; source = option_map mark_plain i.source; checksum = c; dependencies = fs; replace = r })
 
 -- ---- the table of a package, and its parts
 
 pub entry-present_members : (c d r s : Option Data) (n v : Data)
     → package_at_key (present_members ((codes "checksum", c) ∷ (codes "dependencies", d) ∷ (codes "name", Some n) ∷ (codes "replace", r) ∷ (codes "source", s) ∷ (codes "version", Some v) ∷ [])) ≡ encoded_package_from c d (Some n) r s (Some v)
-unfolding package_at_key
+unfolding package_at_key identity_at
 entry-present_members None None None None n v = refl
 entry-present_members None None None (Some s) n v = refl
 entry-present_members None None (Some r) None n v = refl
@@ -82,19 +87,21 @@ pub record IsRead (c d r s : Option Data) (n : List ℕ) (v : Parts) (e : Encode
 
 read-parts : (c d r s : Option Data) (n : List ℕ) (v : Parts) (e : EncodedPackage) → encoded_package_from c d (Some (string n)) r s (Some (string (parts_text v))) ≡ Some e → IsRead c d r s n v e
 read-parts c d r s n v e h =
-    let a = bind-parts (version_of (parts_text v)) _ e h in
-    let b = bind-parts (optional_by source_in s) _ e a.2 in
-    let g = bind-parts (optional_by checksum_from c) _ e b.2 in
+    let o = bind-parts (identity_from (Some (string n)) s (Some (string (parts_text v)))) _ e h in
+    let a = bind-parts (version_of (parts_text v)) _ o.0 o.1 in
+    let b = bind-parts (optional_by source_in s) _ o.0 a.2 in
+    let own : ◌≡◌ {A = Identity} (record { name = n; version = a.0; source = b.0 }) o.0 = same_Some _ _ b.2 in
+    let g = bind-parts (optional_by checksum_from c) _ e o.2 in
     let items = bind-parts (optional_list d) _ e g.2 in
     let k = bind-parts (read_all reference_in items.0) _ e items.2 in
     let l = bind-parts (optional_by reference_in r) _ e k.2 in
-    let made : ◌≡◌ {A = EncodedPackage} (record { name = n; version = a.0; source = option_map mark_plain b.0; checksum = g.0; dependencies = k.0; replace = l.0 }) e = same_Some _ _ l.2 in
+    let made : ◌≡◌ {A = EncodedPackage} (record { name = o.0.name; version = o.0.version; source = option_map mark_plain o.0.source; checksum = g.0; dependencies = k.0; replace = l.0 }) e = same_Some _ _ l.2 in
     record {
-      name = ap (λ (x : EncodedPackage). x.name) made;
-      version = a.1 ∙ ap (λ (x : EncodedPackage). Some x.version) made;
+      name = ap (λ (x : Identity). x.name) own ∙ ap (λ (x : EncodedPackage). x.name) made;
+      version = a.1 ∙ ap (λ (x : Identity). Some x.version) own ∙ ap (λ (x : EncodedPackage). Some x.version) made;
       bare = b.0;
       source = b.1;
-      marked_plain = ap (λ (x : EncodedPackage). x.source) made;
+      marked_plain = ap (λ (x : Identity). option_map mark_plain x.source) own ∙ ap (λ (x : EncodedPackage). x.source) made;
       checksum = g.1 ∙ ap (λ (x : EncodedPackage). Some x.checksum) made;
       items = items.0;
       listed = items.1;

@@ -1,6 +1,6 @@
 -- What references say is told by keys, and the written form of a dependency reads back exactly where
 -- it survives.
-use Rattle.std.proofs.Common.{inl, inr, ◌≡◌, ◌↔◌, ℕ, Bool, true, false, ◌&&◌, List, map, Option, Some, None, IfSome, option_map, refl, sym, subst, ◌∙◌, ap}
+use Rattle.std.proofs.Common.{inl, inr, ◌≡◌, ℕ, Bool, true, false, ◌&&◌, List, map, Option, Some, None, IfSome, option_map, refl, sym, subst, ◌∙◌, ap}
 use Rattle.std.specs.List.{find}
 use Rattle.std.proofs.lemmas.Bool.{cases_Bool, and_parts}
 use Rattle.std.proofs.lemmas.Option.{same_Some}
@@ -15,11 +15,11 @@ use Rattle.cargo_lock_references.specs.Reference.{Reference, reference_of, refer
 use Rattle.cargo_lock_references.specs.ReferenceOrder.{marked_key}
 use Rattle.cargo_lock_references.specs.Records.{unmarked_source}
 use Rattle.cargo_lock_references.specs.ResolutionSearch.{fits, has_version, own_words, or_own_words, resolution_of, resolution_by, same_text, with_version}
-use Rattle.cargo_lock_references.specs.ReadBack.{ReferenceSurvives, ResolvesToEqual}
+use Rattle.cargo_lock_references.specs.ReadBack.{ReferenceSurvives}
 use Rattle.cargo_lock_encoding.proofs.MeansLemmas.{map-parts}
 use Rattle.cargo_lock.proofs.ReferenceTexts.{Agrees, Alike, IsWhole, whole-survives, whole-reads}
 use Rattle.cargo_lock_references.proofs.ReadBackLemmas.{resolves-equal}
-use Rattle.cargo_lock_references.proofs.ResolvesToLemmas.{ResolvesTo-from, find-found, find-map, has_version-yes, resolution_of-from, same_text-yes}
+use Rattle.cargo_lock_references.proofs.ResolvesToLemmas.{find-found, find-map, has_version-yes, same_text-yes}
 
 -- ---- what a form says, of keys alone
 

@@ -23,30 +23,22 @@ use Rattle.cargo_lock_references.specs.Records.{EncodedPackage, Texts, encoded_i
 use Rattle.cargo_lock_encoding.specs.Survives.{ChecksumSurvives, ListedSurvives, FormatSurvives, HasSamePackages, PatchSurvives, ReadsBack, RootSurvives, Survives, SurvivesExactly, in_format}
 use Rattle.cargo_lock_references.specs.ReadBack.{DigestReadsBack}
 use Rattle.cargo_lock_encoding.specs.Table.{checksum_value, encoded_of, encoded_table, encoded_package_of, package_table, encoded_package_value, metadata_value, unused_patch_value, patch_table, patch_value, present_members, encoded_root, table_of, text_members, unless_no_text, written_checksum, written_version}
-use Rattle.cargo_lock_encoding.specs.TableReading.{EncodedPackages, all_encoded_packages_at, checksum_from, encoded_at, encoded_packages_at, package_at_key, encoded_package_in, metadata_in, number_in, optional_by, optional_list, pairs_at, unused_patch_at, unused_patch_in, patch_in, put_all, read_all, required_text, source_in}
+use Rattle.cargo_lock_encoding.specs.TableReading.{EncodedPackages, all_encoded_packages_at, checksum_from, encoded_at, encoded_packages_at, package_at_key, encoded_package_in, metadata_in, number_in, optional_by, optional_list, pairs_at, identity_at, unused_patch_in, patch_in, put_all, read_all, source_in}
 use Rattle.cargo_lock_references.specs.Reference.{version_of}
 use Rattle.cargo_lock_encoding.proofs.MeansLemmas.{Means-from, bind-parts, map-parts, meaning-from}
-use Rattle.cargo_lock.proofs.PackageTables.{all-parts, all-made, cons-parts, digest-survives, not-cons, package-parts, package-reads, package-survives, source-reads, source-survives, source_data, table-read}
+use Rattle.cargo_lock.proofs.PackageTables.{all-parts, all-made, cons-parts, digest-survives, identity_from, not-cons, package-parts, package-reads, package-survives, source-reads, source-survives, source_data, table-read}
 use Rattle.cargo_lock.proofs.ResolutionKeys.{written_reference-of, in_full-of}
 use Rattle.cargo_lock_encoding.proofs.PutAll.{put_all-entries}
 
 -- ---- patches
 
-abbrev patch_from : Option Data → Option Data → Option Data → Option Identity
-patch_from name source version = do
-  n ← required_text name
-  text ← required_text version
-  v ← version_of text
-  s ← optional_by source_in source
-  Some (record { name = n; version = v; source = s })
-
 patch-present_members : (s : Option Data) (n v : Data)
-    → unused_patch_at (present_members ((codes "name", Some n) ∷ (codes "source", s) ∷ (codes "version", Some v) ∷ [])) ≡ patch_from (Some n) s (Some v)
-unfolding unused_patch_at
+    → identity_at (present_members ((codes "name", Some n) ∷ (codes "source", s) ∷ (codes "version", Some v) ∷ [])) ≡ identity_from (Some n) s (Some v)
+unfolding identity_at
 patch-present_members None n v = refl
 patch-present_members (Some s) n v = refl
 
-patch-survives : (format : ResolveVersion) (i j : Identity) → unused_patch_at (patch_table (is_escaped format) i) ≡ Some j → identity_key j ≡ identity_key i → PatchSurvives format i
+patch-survives : (format : ResolveVersion) (i j : Identity) → identity_at (patch_table (is_escaped format) i) ≡ Some j → identity_key j ≡ identity_key i → PatchSurvives format i
 patch-survives format i j h k =
     let e = sym (patch-present_members (source_data (is_escaped format) i.source) (string i.name) (string (parts_text i.version))) ∙ h in
     let a = bind-parts (version_of (parts_text i.version)) _ j e in
@@ -56,7 +48,7 @@ patch-survives format i j h k =
       source-survives (is_escaped format) i.source b.0 b.1 (ap (λ (x : Identity). option_map key_of x.source) made ∙ ap (λ (x : IdentityKey). x.source) k),
     )
 
-patch-reads : (format : ResolveVersion) (i : Identity) → PatchSurvives format i → (j : Identity) × (unused_patch_at (patch_table (is_escaped format) i) ≡ Some j) × (identity_key j ≡ identity_key i)
+patch-reads : (format : ResolveVersion) (i : Identity) → PatchSurvives format i → (j : Identity) × (identity_at (patch_table (is_escaped format) i) ≡ Some j) × (identity_key j ≡ identity_key i)
 patch-reads format i h =
     let s = source-reads (is_escaped format) i.source h.1 in (
       record { name = i.name; version = i.version; source = s.0 },
@@ -70,7 +62,7 @@ patch_items format is = items_of (map (unused_patch_value (is_escaped format)) i
 patches-survive : (format : ResolveVersion) (is js : List Identity) → read_all unused_patch_in (patch_items format is) ≡ Some js → map identity_key js ≡ map identity_key is → AllByRecursion (PatchSurvives format) is
 patches-survive format [] js r k = tt
 patches-survive format (i ∷ is) js r k =
-    let a = all-parts (unused_patch_at (patch_table (is_escaped format) i)) (read_all unused_patch_in (patch_items format is)) js r in
+    let a = all-parts (identity_at (patch_table (is_escaped format) i)) (read_all unused_patch_in (patch_items format is)) js r in
     let keys = cons-parts (identity_key a.0) (identity_key i) (map identity_key a.1) (map identity_key is) (ap (map identity_key) (sym a.4) ∙ k) in
     (patch-survives format i a.0 a.2 keys.0, patches-survive format is a.1 a.3 keys.1)
 

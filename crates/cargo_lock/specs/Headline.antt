@@ -1,6 +1,8 @@
 -- What this library promises of lockfiles and their trees, as one statement. Each field is a law of
 -- its own; a contract of the call that is named beside it speaks of the same definition.
-use Rattle.cargo_lock_graph.specs.DrawingLaws.{DrawingExists, DrawingIsUnique, EdgesMatch, EntriesAreCounted, OccursWhereReachable, ReachableIsExpanded, TextTellsDrawing}
+use Rattle.cargo_lock_graph.specs.DrawingLaws.{DrawingExists, DrawingIsUnique, EdgesMatch}
+use Rattle.cargo_lock_graph.specs.DrawingLaws.{EntriesAreCounted, OccursWhereReachable}
+use Rattle.cargo_lock_graph.specs.DrawingLaws.{ReachableIsExpanded, TextTellsDrawing}
 use Rattle.cargo_lock_encoding.specs.Means.{MeansOne}
 use Rattle.cargo_lock.specs.Plain.{PlainSurvives}
 use Rattle.cargo_lock.specs.Printed.{PrintedBack}

@@ -1,7 +1,7 @@
 -- What loading a file answers. What the file holds is no part of it: no contract can say that.
 use Rattle.std.specs.Prelude.{ℕ, List}
 use Rattle.cargo_lock_parts.specs.declared.error.Error.{Error}
-use Rattle.cargo_lock_parts.specs.declared.error.Error.TheVariants.{Io, Parse, Version, Resolution, Memory}
+use Rattle.cargo_lock_parts.specs.declared.error.Error.TheVariants.{Io, Parse, Memory}
 use Rattle.cargo_lock_parts.specs.Error.{RefusesUrls}
 use Rattle.cargo_lock_encoding.specs.Means.{TextMeans}
 use Rattle.cargo_lock_encoding.specs.Lockfiles.{LockfileData}
@@ -16,6 +16,5 @@ abbrev pub IsOfFile : Error → Type 0
 IsOfFile (Io kind) = Unit {0}
 IsOfFile (Parse message) = (text : List ℕ)
     × RefusesUrls (Parse message) ((l : LockfileData) → ¬ TextMeans text l)
-IsOfFile (Version fault) = ⊥
-IsOfFile (Resolution message) = ⊥
 IsOfFile Memory = Unit {0}
+IsOfFile other = ⊥

@@ -1,6 +1,7 @@
 -- Tables some text of which has 2^24 bytes or more.
 use Rattle.std.specs.Prelude.{◌≡◌, ◌||◌, nat_le, length, Bool, false}
-use Rattle.toml.specs.Data.{Data, string, array, table, Items, no_items, item, Members, no_members, member}
+use Rattle.toml.specs.Data.{Data, string, array, table, Items, no_items, item, Members, no_members}
+use Rattle.toml.specs.Data.{member}
 
 -- some text in a value has 2^24 bytes or more; keys do not count
 abbrev mutual

@@ -9,7 +9,9 @@ use Rattle.cargo_lock_references.specs.Metadata.{metadata_of}
 use Rattle.cargo_lock_encoding.specs.Lockfiles.{LockfileData}
 use Rattle.cargo_lock_references.specs.Records.{is_escaped}
 use Rattle.cargo_lock_encoding.specs.Survives.{Survives}
-use Rattle.cargo_lock_encoding.specs.Table.{encoded_package_of, encoded_package_value, metadata_value, patch_value, present_members, unless_empty, written_version}
+use Rattle.cargo_lock_encoding.specs.Table.{encoded_package_of, encoded_package_value}
+use Rattle.cargo_lock_encoding.specs.Table.{metadata_value, patch_value, present_members}
+use Rattle.cargo_lock_encoding.specs.Table.{unless_empty, written_version}
 use Rattle.cargo_lock_encoding.specs.Text.{join_lines, lines_of}
 
 -- The written table as the text has it: without the root, and without a list of packages where it

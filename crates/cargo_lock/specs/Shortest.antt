@@ -1,6 +1,7 @@
 -- References that name a dependency in every order of the packages, in as few words as there can
 -- be.
-use Rattle.std.specs.Prelude.{◌≡◌, ◌+◌, ◌<◌, Bool, ℕ, zero, suc, List, Option, Some, None, IsPermutation, codes, filter, map, slice_get}
+use Rattle.std.specs.Prelude.{◌≡◌, ◌+◌, ◌<◌, Bool, ℕ, zero, suc, List, Option, Some, None}
+use Rattle.std.specs.Prelude.{IsPermutation, codes, filter, map, slice_get}
 use Rattle.std.specs.List.{list_any}
 use Rattle.toml.specs.Data.{Data, Items, no_items, item, Members, get_member}
 use Rattle.cargo_lock_parts.specs.Identity.{Identity, PackageData, identity_key, identity_of}

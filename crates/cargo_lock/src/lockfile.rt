@@ -17,7 +17,7 @@ mod writing;
 use crate::metadata::Metadata;
 use cargo_lock_parts::package::Package;
 use cargo_lock_parts::patch::Patch;
-use cargo_lock_references::checksums::ordered;
+use cargo_lock_references::checksums::keys_ascend;
 pub use cargo_lock_references::{ResolveVersion, version};
 use std::alloc::AllocError;
 use std::marker::Model;
@@ -123,8 +123,8 @@ impl Eq for Lockfile {
 fn same_metadata(a: &Metadata, b: &Metadata) -> bool
     ensures { result ≡ is_same_metadata (texts_of a.now.entries) (texts_of b.now.entries) }
 {
-    ordered(a);
-    ordered(b);
+    keys_ascend(a);
+    keys_ascend(b);
     same_entries(a, b)
 }
 

@@ -12,7 +12,7 @@ use Rattle.percent_encoding.specs.AsciiSet.{contains, should_percent_encode}
 use Rattle.percent_encoding.specs.Percent.{percent_encode, percent_encode_byte, encode_byte}
 use Rattle.percent_encoding.proofs.AsciiSetLemmas.{kept_from_outside, escaped_from_inside}
 use Rattle.cargo_lock_bom.specs.declared.purl.TheConstants.{SEGMENT, VALUE}
-use Rattle.cargo_lock_bom.specs.Purl.{plain_marks, plain_url_marks, is_plain, escaped_but, escaped, escaped_url}
+use Rattle.cargo_lock_bom.specs.Purl.{plain_segment_marks, plain_url_marks, is_plain, escaped_but, escaped_text, escaped_url}
 
 -- the set holds the ASCII byte exactly if it does not stand as it is
 is_right : AsciiSet → List ℕ → ℕ → Bool
@@ -64,7 +64,7 @@ module _ (set : AsciiSet) (marks : List ℕ) (right : all_below (is_right set ma
   all_right [] = refl
   all_right (b ∷ bytes) = λ i. encode_byte_right b i ++ all_right bytes i
 
-segment_right : all_below (is_right SEGMENT plain_marks) 128 ≡ true
+segment_right : all_below (is_right SEGMENT plain_segment_marks) 128 ≡ true
 unfolding is_right
 segment_right = refl
 
@@ -73,9 +73,9 @@ unfolding is_right
 value_right = refl
 
 -- what is escaped of a name or a version
-pub percent_encode-segment : (text : List ℕ) → percent_encode SEGMENT text ≡ escaped text
-unfolding escaped
-percent_encode-segment text = all_right SEGMENT plain_marks segment_right refl text
+pub percent_encode-segment : (text : List ℕ) → percent_encode SEGMENT text ≡ escaped_text text
+unfolding escaped_text
+percent_encode-segment text = all_right SEGMENT plain_segment_marks segment_right refl text
 
 -- what is escaped of a URL
 pub percent_encode-value : (text : List ℕ) → percent_encode VALUE text ≡ escaped_url text

@@ -1,7 +1,8 @@
 -- The components of a bill of materials: one for each package.
 use Rattle.std.specs.Prelude.{ℕ, List, codes, Option, Some, None, option_map}
 use Rattle.semver.specs.Identifiers.{parts_text}
-use Rattle.serde_json.specs.Data.{Data, Members, string, array, object, item, no_items, member, no_members, put}
+use Rattle.serde_json.specs.Data.{Data, Members, string, array, object, item, no_items, member}
+use Rattle.serde_json.specs.Data.{no_members, put}
 use Rattle.cargo_lock_parts.specs.Checksum.{digest_text}
 use Rattle.cargo_lock_parts.specs.Identity.{PackageData, identity_of}
 use Rattle.cargo_lock_bom.specs.Purl.{purl_of}

@@ -1,7 +1,8 @@
 -- The bill of materials of a graph, as CycloneDX 1.6 has it in JSON.
 use Rattle.std.specs.Prelude.{◌≡◌, ℕ, List, map, length, codes, Some}
 use Rattle.std.specs.List.{AllZip, range_with_len}
-use Rattle.serde_json.specs.Data.{Data, number, unsigned, string, array, object, item, no_items, member, no_members}
+use Rattle.serde_json.specs.Data.{Data, number, unsigned, string, array, object, item, no_items}
+use Rattle.serde_json.specs.Data.{member, no_members}
 use Rattle.serde_json.specs.Read.{read}
 use Rattle.serde_json.specs.View.{items_of}
 use Rattle.cargo_lock_graph.specs.Edges.{GraphData}

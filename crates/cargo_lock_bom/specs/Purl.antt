@@ -1,20 +1,23 @@
 -- Package URLs: `pkg:cargo/NAME@VERSION`, and after `?` where the package comes from, unless that
 -- is crates.io.
-use Rattle.std.specs.Prelude.{ℕ, Bool, ◌||◌, ◌==◌, List, [], ◌∷◌, ◌++◌, codes, Option, Some, None, if◌then◌else◌}
+use Rattle.std.specs.Prelude.{ℕ, Bool, ◌||◌, ◌==◌, List, [], ◌∷◌, ◌++◌, codes, Option, Some, None}
+use Rattle.std.specs.Prelude.{if◌then◌else◌}
 use Rattle.std.specs.Char.{is_ascii_alphanumeric}
 use Rattle.std.specs.List.{flat_map, list_any}
 use Rattle.percent_encoding.specs.Percent.{percent_encode_byte}
 use Rattle.semver.specs.Identifiers.{parts_text}
 use Rattle.url.specs.Parts.{serialize}
 use Rattle.cargo_lock_parts.specs.Identity.{Identity}
-use Rattle.cargo_lock_parts.specs.Source.{Kind, GitReference, Source, DefaultBranch, Tag, Branch, Rev, Git, Path, Registry, SparseRegistry, LocalRegistry, Directory}
+use Rattle.cargo_lock_parts.specs.Source.{Kind, GitReference, Source, DefaultBranch, Tag, Branch}
+use Rattle.cargo_lock_parts.specs.Source.{Rev, Git, Path, Registry, SparseRegistry, LocalRegistry}
+use Rattle.cargo_lock_parts.specs.Source.{Directory}
 use Rattle.cargo_lock_parts.specs.SourceShown.{is_default_registry}
 
 -- ---- escapes
 
 -- the marks that stand in a name and a version as they are
-abbrev pub plain_marks : List ℕ
-plain_marks = codes "-._~:"
+abbrev pub plain_segment_marks : List ℕ
+plain_segment_marks = codes "-._~:"
 
 -- those that stand in a URL as they are
 abbrev pub plain_url_marks : List ℕ
@@ -30,8 +33,8 @@ escaped_but marks text =
     flat_map (λ b. if is_plain marks b then b ∷ [] else percent_encode_byte b) text
 
 -- a name or a version in a package URL
-unfoldable pub escaped : List ℕ → List ℕ
-escaped text = escaped_but plain_marks text
+unfoldable pub escaped_text : List ℕ → List ℕ
+escaped_text text = escaped_but plain_segment_marks text
 
 -- a URL in a package URL
 unfoldable pub escaped_url : List ℕ → List ℕ
@@ -40,12 +43,12 @@ escaped_url text = escaped_but plain_url_marks text
 -- ---- where a package comes from
 
 -- the commit, or else the tag, the branch or the revision
-abbrev pub revision : GitReference → Option (List ℕ) → Option (List ℕ)
-revision reference (Some commit) = Some commit
-revision DefaultBranch None = None
-revision (Tag name) None = Some name
-revision (Branch name) None = Some name
-revision (Rev name) None = Some name
+abbrev pub commit_or_reference : GitReference → Option (List ℕ) → Option (List ℕ)
+commit_or_reference reference (Some commit) = Some commit
+commit_or_reference DefaultBranch None = None
+commit_or_reference (Tag name) None = Some name
+commit_or_reference (Branch name) None = Some name
+commit_or_reference (Rev name) None = Some name
 
 -- where a repository is, and what is checked out of it
 abbrev pub repository_text : List ℕ → Option (List ℕ) → List ℕ
@@ -56,7 +59,7 @@ repository_text url (Some revision) = codes "git+" ++ (url ++ (codes "@" ++ revi
 -- source
 abbrev pub qualifiers_by : Kind → List ℕ → Option (List ℕ) → List ℕ
 qualifiers_by (Git reference) url precise =
-    codes "?vcs_url=" ++ escaped_url (repository_text url (revision reference precise))
+    codes "?vcs_url=" ++ escaped_url (repository_text url (commit_or_reference reference precise))
 qualifiers_by Path url precise = codes "?download_url=" ++ escaped_url url
 qualifiers_by Registry url precise = codes "?repository_url=" ++ escaped_url url
 qualifiers_by SparseRegistry url precise = codes "?repository_url=" ++ escaped_url url
@@ -75,8 +78,8 @@ qualifiers s =
 abbrev pub purl_from : List ℕ → List ℕ → Option Source → Option (List ℕ)
 purl_from name version None = None
 purl_from name version (Some source) =
-    Some (codes "pkg:cargo/" ++ (escaped name
-    ++ (codes "@" ++ (escaped version ++ qualifiers source))))
+    Some (codes "pkg:cargo/" ++ (escaped_text name
+    ++ (codes "@" ++ (escaped_text version ++ qualifiers source))))
 
 -- the package URL of a package
 abbrev pub purl_of : Identity → Option (List ℕ)

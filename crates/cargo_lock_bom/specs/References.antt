@@ -1,5 +1,6 @@
 -- The texts by which a bill of materials refers to packages, each to one alone.
-use Rattle.std.specs.Prelude.{◌≡◌, ◌≢◌, ℕ, false, List, ◌++◌, codes, map, take, slice_get, Contains, AllPairs, Option, Some, None, ◌⊎◌}
+use Rattle.std.specs.Prelude.{◌≡◌, ◌≢◌, ℕ, false, List, ◌++◌, codes, map, take, slice_get, Contains}
+use Rattle.std.specs.Prelude.{AllPairs, Option, Some, None, ◌⊎◌}
 use Rattle.semver.specs.Identifiers.{parts_text}
 use Rattle.cargo_lock_parts.specs.declared.error.Error.{Error}
 use Rattle.cargo_lock_parts.specs.declared.error.Error.TheVariants.{Memory}
@@ -15,12 +16,12 @@ reference_from name version (Some source) =
     text_of false source ++ (codes "#" ++ (name ++ (codes "@" ++ version)))
 
 -- the text that refers to a package of this identity
-abbrev pub reference_text : Identity → List ℕ
-reference_text d = reference_from d.name (parts_text d.version) d.source
+abbrev pub identity_reference : Identity → List ℕ
+identity_reference d = reference_from d.name (parts_text d.version) d.source
 
 -- the text that refers to a package
 abbrev pub package_reference : PackageData → List ℕ
-package_reference p = reference_text (identity_of p)
+package_reference p = identity_reference (identity_of p)
 
 -- no two packages have one text
 abbrev pub HaveDistinctReferences : List PackageData → Type 0

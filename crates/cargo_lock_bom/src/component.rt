@@ -30,33 +30,33 @@ pub(crate) fn components(alloc: Global, graph: &Graph) -> Result<Vec<Value>, All
 
 // The component of a package.
 #[tactic(auto, unfolding(crate::specs::Component::component_of))]
-fn component(alloc: Global, one: &Package) -> Result<Value, AllocError>
-    ensures { IfOk result (λ v. view v ≡ component_of one.now) }
+fn component(alloc: Global, package: &Package) -> Result<Value, AllocError>
+    ensures { IfOk result (λ v. view v ≡ component_of «package».now) }
 {
-    let mut members = base(alloc, one)?;
-    let purl = purl_value(alloc, one)?;
+    let mut members = base(alloc, package)?;
+    let purl = purl_value(alloc, package)?;
     put_some(&mut members, alloc, "purl", purl)?;
-    let hashes = hashes(alloc, &one.checksum)?;
+    let hashes = hashes(alloc, &package.checksum)?;
     put_some(&mut members, alloc, "hashes", hashes)?;
     Ok(Value::Object(members))
 }
 
 // The members that each component has.
-fn base(alloc: Global, one: &Package) -> Result<Map<String, Value>, AllocError>
-    ensures { IfOk result (λ m. members_view m.entries ≡ base_members one.now) }
+fn base(alloc: Global, package: &Package) -> Result<Map<String, Value>, AllocError>
+    ensures { IfOk result (λ m. members_view m.entries ≡ base_members «package».now) }
 {
     let mut members = Map::new(alloc);
     put(
         &mut members,
         alloc,
         "bom-ref",
-        Value::String(reference(alloc, one)?),
+        Value::String(reference(alloc, package)?),
     )?;
     put(
         &mut members,
         alloc,
         "name",
-        Value::String(one.name.to_string(alloc)?),
+        Value::String(package.name.to_string(alloc)?),
     )?;
     put(
         &mut members,
@@ -68,17 +68,17 @@ fn base(alloc: Global, one: &Package) -> Result<Map<String, Value>, AllocError>
         &mut members,
         alloc,
         "version",
-        Value::String(one.version.to_string(alloc)?),
+        Value::String(package.version.to_string(alloc)?),
     )?;
     Ok(members)
 }
 
 // The package URL, if there is one.
-fn purl_value(alloc: Global, one: &Package) -> Result<Option<Value>, AllocError>
+fn purl_value(alloc: Global, package: &Package) -> Result<Option<Value>, AllocError>
     ensures { IfOk result (λ v.
-        option_map view v ≡ option_map string (purl_of (identity_of one.now))) }
+        option_map view v ≡ option_map string (purl_of (identity_of «package».now))) }
 {
-    match purl(alloc, one)? {
+    match purl(alloc, package)? {
         Some(text) => Ok(Some(Value::String(text))),
         None => Ok(None),
     }

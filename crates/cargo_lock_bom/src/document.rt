@@ -5,7 +5,7 @@ ghost use Rattle.json.specs.Layout.{pretty};
 ghost use Rattle.json.specs.Lex.{tokens};
 ghost use Rattle.json.specs.Print.{print};
 ghost use Rattle.serde_json.specs.View.{view};
-ghost use Rattle.cargo_lock_bom.specs.Document.{IsBill, IsBillText, document_of};
+ghost use Rattle.cargo_lock_bom.specs.Document.{IsBill, IsBillText};
 ghost use Rattle.cargo_lock_bom.specs.Document as spec;
 ghost use Rattle.cargo_lock_bom.specs.References.{IsRepeatedFault};
 
@@ -36,8 +36,8 @@ pub fn document(alloc: Global, graph: &Graph) -> Result<Value>
     check_distinct(alloc, graph)?;
     let components = components(alloc, graph)?;
     let entries = entries(alloc, graph)?;
-    let made = assembled(alloc, components, entries)?;
-    Ok(made)
+    let bill = document_of(alloc, components, entries)?;
+    Ok(bill)
 }
 
 /// The text of the bill of materials of a graph, with one member or item a line, indented. Fails as
@@ -68,13 +68,13 @@ pub fn compact_text(alloc: Global, graph: &Graph) -> Result<String>
 
 // The document of components and entries.
 #[tactic(auto, unfolding(crate::specs::Document::document_of))]
-fn assembled(
+fn document_of(
     alloc: Global,
     components: Vec<Value>,
     entries: Vec<Value>,
 ) -> std::result::Result<Value, AllocError>
     ensures { IfOk result (λ v.
-        view v ≡ document_of (map view components.items) (map view entries.items)) }
+        view v ≡ spec.document_of (map view components.items) (map view entries.items)) }
 {
     let mut members = Map::new(alloc);
     put(

@@ -1,10 +1,12 @@
 //! Package URLs of packages.
 
-ghost use Rattle.std.specs.Prelude.{◌≡◌, ◌++◌, codes, IfOk, option_copied, option_map, string_bytes};
+ghost use Rattle.std.specs.Prelude.{◌≡◌, ◌++◌, codes, IfOk, option_copied, option_map};
+ghost use Rattle.std.specs.Prelude.{string_bytes};
 ghost use Rattle.percent_encoding.specs.Iter.{encoded_text};
 ghost use Rattle.cargo_lock_parts.specs.Identity.{identity_of};
 ghost use Rattle.cargo_lock_parts.specs.Source.{kind_of, git_reference_of};
-ghost use Rattle.cargo_lock_bom.specs.Purl.{escaped, escaped_url, purl_of, repository_text, revision};
+ghost use Rattle.cargo_lock_bom.specs.Purl.{commit_or_reference, escaped_text, escaped_url};
+ghost use Rattle.cargo_lock_bom.specs.Purl.{purl_of, repository_text};
 ghost use Rattle.cargo_lock_bom.specs.Purl as spec;
 
 use cargo_lock_parts::package::{GitReference, Package, SourceId, SourceKind};
@@ -21,32 +23,24 @@ const SEGMENT: AsciiSet = ascii_set!(
         .remove(b':')
 );
 
-// Those that are escaped in a URL.
-const VALUE: AsciiSet = ascii_set!(
-    NON_ALPHANUMERIC
-        .remove(b'-')
-        .remove(b'.')
-        .remove(b'_')
-        .remove(b'~')
-        .remove(b':')
-        .remove(b'/')
-);
+// Those that are escaped in a URL: the same but `/`.
+const VALUE: AsciiSet = ascii_set!(SEGMENT.remove(b'/'));
 
-/// The package URL of a package: `pkg:cargo/serde@1.0.203`. After `?` stands where the package comes
-/// from, unless that is crates.io: `vcs_url=git%2Bhttps://example.org/lib%40COMMIT` of a repository,
-/// with the commit, or else the tag, the branch or the revision, `repository_url=URL` of another
-/// registry, and `download_url=URL` of a folder.
+/// The package URL of a package: `pkg:cargo/serde@1.0.203`. After `?` stands where the package
+/// comes from, unless that is crates.io: `vcs_url=git%2Bhttps://example.org/lib%40COMMIT` of a
+/// repository, with the commit, or else the tag, the branch or the revision, `repository_url=URL`
+/// of another registry, and `download_url=URL` of a folder.
 ///
 /// A package without a source has none: `pkg:cargo/NAME@VERSION` names the package of crates.io,
 /// which is another one. Fails when out of memory.
-pub fn purl(alloc: Global, one: &Package) -> Result<Option<String>, AllocError>
+pub fn purl(alloc: Global, package: &Package) -> Result<Option<String>, AllocError>
     ensures { IfOk result
-        (λ text. option_map string_bytes text ≡ purl_of (identity_of one.now)) }
+        (λ text. option_map string_bytes text ≡ purl_of (identity_of «package».now)) }
 {
-    let name = escape(one.name.as_str());
-    let version = one.version.to_string(alloc)?;
+    let name = escape(package.name.as_str());
+    let version = package.version.to_string(alloc)?;
     let version = escape(version.as_str());
-    match &one.source {
+    match &package.source {
         Some(source) => {
             let qualifiers = qualifiers(alloc, source)?;
             let text = format!(in alloc; "pkg:cargo/{name}@{version}{qualifiers}")?;
@@ -58,7 +52,7 @@ pub fn purl(alloc: Global, one: &Package) -> Result<Option<String>, AllocError>
 
 // A name or a version, escaped.
 fn escape(text: &str) -> PercentEncode<'_>
-    ensures { encoded_text result ≡ escaped text.now }
+    ensures { encoded_text result ≡ escaped_text text.now }
 {
     utf8_percent_encode(text, SEGMENT)
 }
@@ -132,7 +126,7 @@ fn of_repository(
     precise: Option<&str>,
 ) -> Result<String, AllocError>
     ensures { IfOk result (λ text. string_bytes text ≡ codes "?vcs_url=" ++ escaped_url
-        (repository_text url.now (revision (git_reference_of reference.now)
+        (repository_text url.now (commit_or_reference (git_reference_of reference.now)
         (option_copied precise.entry)))) }
 {
     let place = place_of(alloc, url, revision_of(reference, precise))?;
@@ -154,7 +148,7 @@ fn place_of(alloc: Global, url: &str, revision: Option<&str>) -> Result<String, 
 // The commit, or else the tag, the branch or the revision.
 fn revision_of<'a>(reference: &'a GitReference, precise: Option<&'a str>) -> Option<&'a str>
     ensures { option_copied result
-        ≡ revision (git_reference_of reference.now) (option_copied precise.entry) }
+        ≡ commit_or_reference (git_reference_of reference.now) (option_copied precise.entry) }
 {
     match (precise, reference) {
         (Some(commit), _) => Some(commit),

@@ -1,10 +1,12 @@
 //! The texts by which a bill of materials refers to packages.
 
-ghost use Rattle.std.specs.Prelude.{◌≡◌, ◌≢◌, ◌⊎◌, ◌||◌, ◌++◌, not, ℕ, List, bytes_eq, IfErr, IfOk, IsOkUnless, OnErr, OnOk, string_bytes};
+ghost use Rattle.std.specs.Prelude.{◌≡◌, ◌⊎◌, ◌||◌, not, ℕ, List, bytes_eq, IfErr, IfOk};
+ghost use Rattle.std.specs.Prelude.{IsOkUnless, OnOk, string_bytes};
 ghost use Rattle.std.specs.BTreeSet.{contains_text};
 ghost use Rattle.cargo_lock_parts.specs.declared.error.Error.TheVariants.{Memory};
 ghost use Rattle.cargo_lock_parts.specs.Error.{IsParse};
-ghost use Rattle.cargo_lock_bom.specs.References.{HaveDistinctReferences, IsRepeatedFault, package_reference};
+ghost use Rattle.cargo_lock_bom.specs.References.{HaveDistinctReferences, IsRepeatedFault};
+ghost use Rattle.cargo_lock_bom.specs.References.{package_reference};
 ghost use Rattle.cargo_lock_bom.specs.References as spec;
 
 use cargo_lock_graph::graph::{Graph, NodeIndex};
@@ -16,12 +18,12 @@ use std::collections::BTreeSet;
 /// `#` where there is one, as in
 /// `registry+https://github.com/rust-lang/crates.io-index#serde@1.0.203`.
 /// Fails when out of memory.
-pub fn reference(alloc: Global, one: &Package) -> std::result::Result<String, AllocError>
-    ensures { IfOk result (λ text. string_bytes text ≡ package_reference one.now) }
+pub fn reference(alloc: Global, package: &Package) -> std::result::Result<String, AllocError>
+    ensures { IfOk result (λ text. string_bytes text ≡ package_reference «package».now) }
 {
-    let name = &one.name;
-    let version = &one.version;
-    match &one.source {
+    let name = &package.name;
+    let version = &package.version;
+    match &package.source {
         Some(source) => format!(in alloc; "{source}#{name}@{version}"),
         None => format!(in alloc; "{name}@{version}"),
     }
@@ -34,43 +36,43 @@ pub(crate) fn check_distinct(alloc: Global, graph: &Graph) -> Result<()>
 {
     let mut seen = BTreeSet::new(alloc);
     for node in 0..graph.node_count() {
-        let one = &graph[NodeIndex::new(node)];
-        if !add(alloc, &mut seen, one)? {
-            return Err(repeated(alloc, one));
+        let package = &graph[NodeIndex::new(node)];
+        if !add(alloc, &mut seen, package)? {
+            return Err(repeated_fault(alloc, package));
         }
     }
     Ok(())
 }
 
 // Adds the text of a package, and answers whether it was new.
-fn add(alloc: Global, seen: &mut BTreeSet<String>, one: &Package) -> Result<bool>
+fn add(alloc: Global, seen: &mut BTreeSet<String>, package: &Package) -> Result<bool>
     ensures new { IfOk result
-        (λ new. new ≡ not (contains_text seen.old (package_reference one.now))) }
+        (λ new. new ≡ not (contains_text seen.old (package_reference «package».now))) }
     ensures added { OnOk result ((q : List ℕ) → contains_text seen.new q
-        ≡ (contains_text seen.old q || bytes_eq q (package_reference one.now))) }
+        ≡ (contains_text seen.old q || bytes_eq q (package_reference «package».now))) }
     ensures err { IsOkUnless result Memory }
 {
-    let text = reference(alloc, one)?;
+    let text = reference(alloc, package)?;
     let new = seen.insert(text)?;
     Ok(new)
 }
 
 // The fault of a package whose text another one has.
-fn repeated(alloc: Global, one: &Package) -> Error
-    ensures { (result ≡ Memory) ⊎ IsParse result (spec.repeated_text one.now) }
+fn repeated_fault(alloc: Global, package: &Package) -> Error
+    ensures { (result ≡ Memory) ⊎ IsParse result (spec.repeated_text «package».now) }
 {
-    match repeated_text(alloc, one) {
+    match repeated_text(alloc, package) {
         Ok(text) => Error::Parse(text),
         Err(error) => error,
     }
 }
 
 // What is said of such a package.
-fn repeated_text(alloc: Global, one: &Package) -> Result<String>
-    ensures ok { IfOk result (λ text. string_bytes text ≡ spec.repeated_text one.now) }
+fn repeated_text(alloc: Global, package: &Package) -> Result<String>
+    ensures ok { IfOk result (λ text. string_bytes text ≡ spec.repeated_text «package».now) }
     ensures err { IsOkUnless result Memory }
 {
-    let identity = Dependency::of(one)?;
+    let identity = Dependency::of(package)?;
     let text = format!(in alloc; "two packages are {identity}")?;
     Ok(text)
 }

@@ -1,12 +1,13 @@
 -- What the status of a fault says.
-use Rattle.std.proofs.Common.{◌≡◌, ◌∙◌, ℕ, List, Result, Ok, Err, IfErr, IfOk, ap, arith, subst, sym}
+use Rattle.std.proofs.Common.{◌≡◌, ◌∙◌, ◌≤◌, ◌⊎◌, ℕ, List, Result, Ok, Err, IfErr, IfOk, ap, arith, inl, inr, refl, subst, sym}
 use Rattle.std.specs.Result.{IsErrAnd}
 use Rattle.cargo_lock_parts.specs.declared.error.Error.{Error}
 use Rattle.cargo_lock_parts.specs.declared.error.Error.TheVariants.{Io, Parse, Version, Resolution, Memory}
 use Rattle.cargo_lock_parts.specs.Error.{IsParse, Refuses}
 use Rattle.cargo_lock_c.specs.declared.refusal.Refusal.{Refusal}
-use Rattle.cargo_lock_c.specs.declared.refusal.Refusal.TheVariants.{NoMemory}
-use Rattle.cargo_lock_c.specs.Statuses.{refusal_of, status_of}
+use Rattle.cargo_lock_c.specs.declared.refusal.Refusal.TheVariants.{NoLockfile, NoText, NoMemory, NoFormat, Lost, Unresolved, NoPackage, NoLine, NoNewLockfile, NoNewText}
+use Rattle.cargo_lock_c.specs.Differences.{ReadsOldText, RefusesNewText}
+use Rattle.cargo_lock_c.specs.Statuses.{refusal_of, refusal_of_new, status_of}
 use Rattle.cargo_lock_c.specs.Texts.{MeansNothing, RefusesText}
 
 -- a fault of reading is told as its status says
@@ -53,3 +54,55 @@ memory-text text refusal memory = record {
 pub if_ok-follows : {T E : Type 0} (P Q : T → Type 0) (r : Result T E) → ((x : T) → P x → Q x) → IfOk r P → IfOk r Q
 if_ok-follows P Q (Ok x) follows holds = follows x holds
 if_ok-follows P Q (Err e) follows holds = holds
+
+-- ---- the second of two texts
+
+-- a refusal of reading a text says of the second one what it said of the text
+pub refused-new : (text : List ℕ) (r : Refusal) → RefusesText text (status_of r) → status_of r ≤ 3
+    → RefusesNewText text (status_of (refusal_of_new r))
+refused-new text NoLockfile h _ = record { no_lockfile = λ _. h.no_lockfile refl; no_text = λ e. absurd (omega (arith, e)) }
+refused-new text NoText h _ = record { no_lockfile = λ e. absurd (omega (arith, e)); no_text = λ _. h.no_text refl }
+refused-new text NoMemory h _ = record { no_lockfile = λ e. absurd (omega (arith, e)); no_text = λ e. absurd (omega (arith, e)) }
+refused-new text NoFormat h below = absurd (omega (arith, below))
+refused-new text Lost h below = absurd (omega (arith, below))
+refused-new text Unresolved h below = absurd (omega (arith, below))
+refused-new text NoPackage h below = absurd (omega (arith, below))
+refused-new text NoLine h below = absurd (omega (arith, below))
+refused-new text NoNewLockfile h below = absurd (omega (arith, below))
+refused-new text NoNewText h below = absurd (omega (arith, below))
+
+pub new-kind : (r : Refusal) → status_of r ≤ 3
+    → (status_of (refusal_of_new r) ≡ 3) ⊎ (status_of (refusal_of_new r) ≡ 10) ⊎ (status_of (refusal_of_new r) ≡ 11)
+new-kind NoLockfile _ = inr (inl refl)
+new-kind NoText _ = inr (inr refl)
+new-kind NoMemory _ = inl refl
+new-kind NoFormat below = absurd (omega (arith, below))
+new-kind Lost below = absurd (omega (arith, below))
+new-kind Unresolved below = absurd (omega (arith, below))
+new-kind NoPackage below = absurd (omega (arith, below))
+new-kind NoLine below = absurd (omega (arith, below))
+new-kind NoNewLockfile below = absurd (omega (arith, below))
+new-kind NoNewText below = absurd (omega (arith, below))
+
+-- a status of the first text says nothing of the second, and needs no first text that is read
+pub below-new : (text : List ℕ) (status : ℕ) → status ≤ 3 → RefusesNewText text status
+below-new text status below = record {
+  no_lockfile = λ ten. absurd (omega (arith, ten, below));
+  no_text = λ eleven. absurd (omega (arith, eleven, below));
+}
+
+pub below-old : (text : List ℕ) (status : ℕ) → status ≤ 3 → ReadsOldText text status
+below-old text status below = λ high. absurd (omega (arith, high, below))
+
+-- a status of the second text says nothing of the first
+pub new-says-nothing : (text : List ℕ) (status : ℕ) → (status ≡ 3) ⊎ (status ≡ 10) ⊎ (status ≡ 11) → RefusesText text status
+new-says-nothing text status (inl e) = record { no_lockfile = λ one. absurd (omega (arith, e, one)); no_text = λ two. absurd (omega (arith, e, two)) }
+new-says-nothing text status (inr (inl e)) = record { no_lockfile = λ one. absurd (omega (arith, e, one)); no_text = λ two. absurd (omega (arith, e, two)) }
+new-says-nothing text status (inr (inr e)) = record { no_lockfile = λ one. absurd (omega (arith, e, one)); no_text = λ two. absurd (omega (arith, e, two)) }
+
+-- refused memory says nothing of the second text
+pub memory-new : (text : List ℕ) (refusal : Refusal) → refusal ≡ NoMemory → RefusesNewText text (status_of refusal)
+memory-new text refusal memory = record {
+  no_lockfile = λ ten. let bad : 10 ≡ 3 = memory-is-three refusal 10 memory ten in absurd (omega (arith, bad));
+  no_text = λ eleven. let bad : 11 ≡ 3 = memory-is-three refusal 11 memory eleven in absurd (omega (arith, bad));
+}

@@ -3,3 +3,4 @@ pub mod Answers
 pub mod Texts
 pub mod Packages
 pub mod Graph
+pub mod Differences

@@ -1,21 +1,15 @@
 -- The packages of a lockfile, as callers have them: a line each.
-use Rattle.std.specs.Prelude.{◌≡◌, ◌++◌, ◌∷◌, [], ◌&&◌, ℕ, nat_le, Bool, true, false, List, Option, Some, None, Any}
+use Rattle.std.specs.Prelude.{◌≡◌, ◌++◌, ◌∷◌, [], ◌&&◌, ℕ, nat_le, Bool, true, false, List, Option}
+use Rattle.std.specs.Prelude.{Some, None, Any}
 use Rattle.std.specs.List.{All, flat_map, list_all}
 use Rattle.semver.specs.Identifiers.{parts_text}
+use Rattle.cargo_lock_parts.specs.Ascii.{newline, tab}
 use Rattle.cargo_lock_parts.specs.Checksum.{digest_text}
 use Rattle.cargo_lock_parts.specs.Identity.{PackageData}
 use Rattle.cargo_lock_parts.specs.Source.{Source}
 use Rattle.cargo_lock_parts.specs.SourceText.{text_of}
 use Rattle.cargo_lock_encoding.specs.Lockfiles.{LockfileData}
 use Rattle.cargo_lock_encoding.specs.Means.{TextMeans}
-
--- the number of a tab
-abbrev pub tab : ℕ
-tab = 9
-
--- the number of a newline
-abbrev pub newline : ℕ
-newline = 10
 
 -- the text of a source, or none
 abbrev pub source_field : Option Source → List ℕ

@@ -1,9 +1,13 @@
 -- The numbers that callers are told, and which fault of the library is told as which.
 use Rattle.std.specs.Prelude.{ℕ}
 use Rattle.cargo_lock_parts.specs.declared.error.Error.{Error}
-use Rattle.cargo_lock_parts.specs.declared.error.Error.TheVariants.{Io, Parse, Version, Resolution, Memory}
+use Rattle.cargo_lock_parts.specs.declared.error.Error.TheVariants.{Io, Parse, Version, Resolution}
+use Rattle.cargo_lock_parts.specs.declared.error.Error.TheVariants.{Memory}
 use Rattle.cargo_lock_c.specs.declared.refusal.Refusal.{Refusal}
-use Rattle.cargo_lock_c.specs.declared.refusal.Refusal.TheVariants.{NoLockfile, NoText, NoMemory, NoFormat, Lost, Unresolved, NoPackage, NoLine}
+use Rattle.cargo_lock_c.specs.declared.refusal.Refusal.TheVariants.{NoLockfile, NoText, NoMemory}
+use Rattle.cargo_lock_c.specs.declared.refusal.Refusal.TheVariants.{NoFormat, Lost, Unresolved}
+use Rattle.cargo_lock_c.specs.declared.refusal.Refusal.TheVariants.{NoPackage, NoLine}
+use Rattle.cargo_lock_c.specs.declared.refusal.Refusal.TheVariants.{NoNewLockfile, NoNewText}
 
 -- the status of a call that gives no answer; 0 is that of an answer, and 5 that of an answer for
 -- which there is no room
@@ -16,6 +20,14 @@ status_of Lost = 6
 status_of Unresolved = 7
 status_of NoPackage = 8
 status_of NoLine = 9
+status_of NoNewLockfile = 10
+status_of NoNewText = 11
+
+-- how a refusal of reading a text is told, where it is the second of two
+abbrev pub refusal_of_new : Refusal → Refusal
+refusal_of_new NoLockfile = NoNewLockfile
+refusal_of_new NoText = NoNewText
+refusal_of_new other = other
 
 -- how a fault of the library is told; reading a text and drawing into memory have no `Io` and no
 -- `Version`

@@ -1,13 +1,15 @@
 //! Formats: whether a lockfile survives one, and its text in one.
 
-ghost use Rattle.std.specs.Prelude.{◌≡◌, ◌≢◌, ◌≤◌, ◌↔◌, Some, IfErr, IfOk, IsOk, IsTrue, string_bytes};
+ghost use Rattle.std.specs.Prelude.{◌≡◌, ◌≢◌, ◌≤◌, ◌↔◌, Some, IfErr, IfOk, IsOk, IsTrue};
+ghost use Rattle.std.specs.Prelude.{string_bytes};
 ghost use Rattle.cargo_lock_references.specs.Format.{format_numbered};
 ghost use Rattle.cargo_lock_encoding.specs.Survives.{Survives, in_format};
 ghost use Rattle.cargo_lock_encoding.specs.Text.{join_lines, lines_of};
 ghost use Rattle.cargo_lock_c.specs.declared.refusal.Refusal.TheVariants.{NoFormat, NoMemory};
 ghost use Rattle.cargo_lock_c.specs.Answers.{IsHandedOut};
 ghost use Rattle.cargo_lock_c.specs.Statuses.{status_of};
-ghost use Rattle.cargo_lock_c.specs.Texts.{IsLostInNumber, IsSurvivor, IsTranslation, RefusesText, SurvivesNumber};
+ghost use Rattle.cargo_lock_c.specs.Texts.{IsLostInNumber, IsSurvivor, IsTranslation, RefusesText};
+ghost use Rattle.cargo_lock_c.specs.Texts.{SurvivesNumber};
 
 use crate::handing::hand_out;
 use crate::reading::read;
@@ -68,12 +70,12 @@ fn translation(alloc: Global, bytes: &[u8], number: u32) -> Result<String, Refus
     ensures number { IsOk result → (1 ≤ number) × (number ≤ 4) }
 {
     let lockfile = survivor(alloc, bytes, number)?;
-    let text = written(alloc, &lockfile)?;
+    let text = text_of(alloc, &lockfile)?;
     Ok(text)
 }
 
 /// The text of a lockfile.
-fn written(alloc: Global, lockfile: &Lockfile) -> Result<String, Refusal>
+fn text_of(alloc: Global, lockfile: &Lockfile) -> Result<String, Refusal>
     ensures ok { IfOk result (λ text. string_bytes text ≡ join_lines (lines_of lockfile.now)) }
     ensures err { IfErr result (λ refusal. refusal ≡ NoMemory) }
 {

@@ -5,6 +5,7 @@
 
 ghost use Rattle.std.specs.Prelude.{◌≡◌};
 
+mod difference;
 mod edges;
 mod formats;
 mod handing;

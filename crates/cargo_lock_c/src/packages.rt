@@ -1,11 +1,13 @@
 //! The packages of a lockfile, line by line.
 
-ghost use Rattle.std.specs.Prelude.{◌≡◌, ◌≤◌, ◌⊎◌, true, false, All, Any, IfErr, IfOk, nat_le, option_map, string_bytes};
+ghost use Rattle.std.specs.Prelude.{◌≡◌, ◌≤◌, ◌⊎◌, true, false, All, Any, IfErr, IfOk, nat_le};
+ghost use Rattle.std.specs.Prelude.{option_map, string_bytes};
 ghost use Rattle.std.specs.List.{flat_map, list_all};
 ghost use Rattle.cargo_lock_parts.specs.Checksum.{digest_of};
 ghost use Rattle.cargo_lock_c.specs.declared.refusal.Refusal.TheVariants.{NoLine, NoMemory};
 ghost use Rattle.cargo_lock_c.specs.Answers.{IsHandedOut};
-ghost use Rattle.cargo_lock_c.specs.Packages.{IsPackageList, LacksLine, checksum_field, has_line, package_line, source_field};
+ghost use Rattle.cargo_lock_c.specs.Packages.{IsPackageList, LacksLine, checksum_field, has_line};
+ghost use Rattle.cargo_lock_c.specs.Packages.{package_line, source_field};
 ghost use Rattle.cargo_lock_c.specs.Statuses.{status_of};
 ghost use Rattle.cargo_lock_c.specs.Texts.{RefusesText};
 

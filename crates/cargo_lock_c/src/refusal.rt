@@ -1,7 +1,7 @@
 //! Why a call gives no answer, and the status of each reason.
 
 ghost use Rattle.std.specs.Prelude.{◌≡◌};
-ghost use Rattle.cargo_lock_c.specs.Statuses.{status_of};
+ghost use Rattle.cargo_lock_c.specs.Statuses.{refusal_of_new, status_of};
 
 use cargo_lock::Error;
 use std::alloc::{AllocError, AllocFailed};
@@ -38,6 +38,12 @@ pub(crate) enum Refusal {
 
     /// A name or a source has a control character, and so can stand in no line.
     NoLine,
+
+    /// The second of two texts is no lockfile.
+    NoNewLockfile,
+
+    /// The second of two texts is no UTF-8.
+    NoNewText,
 }
 
 impl Refusal {
@@ -54,6 +60,19 @@ impl Refusal {
             Refusal::Unresolved => 7,
             Refusal::NoPackage => 8,
             Refusal::NoLine => 9,
+            Refusal::NoNewLockfile => 10,
+            Refusal::NoNewText => 11,
+        }
+    }
+
+    /// A refusal of reading a text, told of the second of two.
+    pub(crate) fn of_new(self) -> Refusal
+        ensures { result ≡ refusal_of_new self }
+    {
+        match self {
+            Refusal::NoLockfile => Refusal::NoNewLockfile,
+            Refusal::NoText => Refusal::NoNewText,
+            other => other,
         }
     }
 }

@@ -94,11 +94,11 @@ none-there (x ∷ xs) h =
     let e : count_of x (x ∷ xs) ≡ 1 + count_of x xs = count-cons (is_alike Whole x) x xs ∙ ap (λ b. cond b 1 0 + count_of x xs) (whole_laws.refl x) in
     absurd (omega (arith, e, h x))
 
-append-none : {X : Type 0} (xs ys : List X) → xs ++ ys ≡ [] → (xs ≡ []) × (ys ≡ [])
+pub append-none : {X : Type 0} (xs ys : List X) → xs ++ ys ≡ [] → (xs ≡ []) × (ys ≡ [])
 append-none [] ys e = (refl, e)
 append-none (x ∷ xs) ys e = cc e
 
-map-none : {X Y : Type 0} (f : X → Y) (xs : List X) → map f xs ≡ [] → xs ≡ []
+pub map-none : {X Y : Type 0} (f : X → Y) (xs : List X) → map f xs ≡ [] → xs ≡ []
 map-none f [] e = refl
 map-none f (x ∷ xs) e = cc e
 

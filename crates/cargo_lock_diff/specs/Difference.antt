@@ -1,9 +1,12 @@
 -- What differs between two lists of packages.
-use Rattle.std.specs.Prelude.{◌≡◌, ℕ, ◌-◌, ◌↔◌, true, List, [], ◌++◌, map, count_by, IsPermutation, All}
+use Rattle.std.specs.Prelude.{◌≡◌, ℕ, ◌-◌, ◌↔◌, true, List, [], ◌++◌, map, count_by, IsPermutation}
+use Rattle.std.specs.Prelude.{All}
 use Rattle.std.specs.Borrow.{Bor}
 use Rattle.cargo_lock_parts.specs.Identity.{PackageData}
 use Rattle.cargo_lock_diff.specs.declared.likeness.Likeness.{Likeness}
-use Rattle.cargo_lock_diff.specs.declared.likeness.Likeness.TheVariants.{Name, Version, Identity as ByIdentity, Whole}
+use Rattle.cargo_lock_diff.specs.declared.likeness.Likeness.TheVariants.{Name, Version}
+use Rattle.cargo_lock_diff.specs.declared.likeness.Likeness.TheVariants.{Identity as ByIdentity}
+use Rattle.cargo_lock_diff.specs.declared.likeness.Likeness.TheVariants.{Whole}
 use Rattle.cargo_lock_diff.specs.Likeness.{is_alike, whole_key}
 use Rattle.cargo_lock_diff.specs.Matching.{PassesWithNone, firsts, seconds}
 

@@ -8,7 +8,9 @@ use Rattle.cargo_lock_parts.specs.Identity.{IdentityKey, PackageData, identity_k
 use Rattle.cargo_lock_parts.specs.IdentityOrder.{identity_cmp, version_cmp}
 use Rattle.cargo_lock_parts.specs.SourceKey.{text_cmp}
 use Rattle.cargo_lock_diff.specs.declared.likeness.Likeness.{Likeness}
-use Rattle.cargo_lock_diff.specs.declared.likeness.Likeness.TheVariants.{Name, Version, Identity as ByIdentity, Whole}
+use Rattle.cargo_lock_diff.specs.declared.likeness.Likeness.TheVariants.{Name, Version}
+use Rattle.cargo_lock_diff.specs.declared.likeness.Likeness.TheVariants.{Identity as ByIdentity}
+use Rattle.cargo_lock_diff.specs.declared.likeness.Likeness.TheVariants.{Whole}
 
 -- the order by what a likeness looks at: the name, then the version, then the source by its key,
 -- then the checksum, an absent one before a present one

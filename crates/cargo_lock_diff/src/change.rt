@@ -1,10 +1,13 @@
 //! The changes that a difference tells, each as a line.
 
 ghost use Rattle.std.specs.Prelude.{◌≡◌, ◌++◌, OnOk, map};
-ghost use Rattle.cargo_lock_diff.specs.Change.{Added, Changed, Moved, Removed, alarms, change_of, other_checksums};
+ghost use Rattle.cargo_lock_diff.specs.Change.{Added, Changed, Moved, Removed, alarms, change_of};
+ghost use Rattle.cargo_lock_diff.specs.Change.{other_checksums, other_dependencies};
 ghost use Rattle.cargo_lock_diff.specs.Change as spec;
 ghost use Rattle.cargo_lock_diff.specs.Difference.{packages_at, pairs_at};
 
+use crate::dependencies::{have_other_dependencies, is_among};
+use cargo_lock_parts::dependency::Dependency;
 use cargo_lock_parts::package::Package;
 use std::alloc::AllocError;
 use std::cmp::Ordering;
@@ -15,8 +18,8 @@ use std::fmt;
 #[derive(Clone, Copy)]
 pub enum Change<'a> {
     /// An old and a new package of one identity whose checksums differ:
-    /// `! NAME VERSION (SOURCE): checksum OLD -> NEW`. That is an alarm, since the archive is another
-    /// one. Where one of them has none it is no alarm, and the line begins with `?`.
+    /// `! NAME VERSION (SOURCE): checksum OLD -> NEW`. That is an alarm, since the archive is
+    /// another one. Where one of them has none it is no alarm, and the line begins with `?`.
     Altered(&'a Package, &'a Package),
 
     /// An old and a new package of one name and version whose sources differ:
@@ -32,6 +35,12 @@ pub enum Change<'a> {
 
     /// A package that came: `+ NAME VERSION`.
     Added(&'a Package),
+
+    /// An old and a new package of a pair, of which one has a dependency that the other has not:
+    /// `= NAME VERSION: dependencies`, of the new one, then ` - NAME VERSION` for each dependency
+    /// that only the old one has, and ` + NAME VERSION` for each that only the new one has. The
+    /// source of a dependency follows in round brackets, unless it is the registry of crates.io.
+    OtherDependencies(&'a Package, &'a Package),
 }
 
 impl fmt::Display for Change<'_> {
@@ -44,30 +53,36 @@ impl fmt::Display for Change<'_> {
         match self {
             Change::Altered(old, new) => {
                 let sign = ChecksumSign(old, new);
-                let one = PackageText(old);
+                let package = PackageText(old);
                 let source = SourceText(old);
                 let from = ChecksumText(old);
                 let to = ChecksumText(new);
-                write!(f, "{sign} {one} ({source}): checksum {from} -> {to}")
+                write!(f, "{sign} {package} ({source}): checksum {from} -> {to}")
             }
             Change::Moved(old, new) => {
-                let one = PackageText(old);
+                let package = PackageText(old);
                 let sources = OtherSources(old, new);
-                write!(f, "> {one}{sources}")
+                write!(f, "> {package}{sources}")
             }
             Change::Changed(old, new) => {
-                let one = PackageText(old);
+                let package = PackageText(old);
                 let version = &new.version;
                 let sources = OtherSources(old, new);
-                write!(f, "~ {one} -> {version}{sources}")
+                write!(f, "~ {package} -> {version}{sources}")
             }
             Change::Removed(old) => {
-                let one = PackageText(old);
-                write!(f, "- {one}")
+                let package = PackageText(old);
+                write!(f, "- {package}")
             }
             Change::Added(new) => {
-                let one = PackageText(new);
-                write!(f, "+ {one}")
+                let package = PackageText(new);
+                write!(f, "+ {package}")
+            }
+            Change::OtherDependencies(old, new) => {
+                let package = PackageText(new);
+                let removed = OnlyIn("-", &old.dependencies, &new.dependencies);
+                let added = OnlyIn("+", &new.dependencies, &old.dependencies);
+                write!(f, "= {package}: dependencies{removed}{added}")
             }
         }
     }
@@ -149,8 +164,8 @@ pub(crate) fn add_removed<'a>(
     ensures { OnOk result (map change_of all.new.items
         ≡ map change_of all.old.items ++ map Removed (packages_at packages.now.items)) }
 {
-    for one in packages {
-        all.push(Change::Removed(one))?;
+    for package in packages {
+        all.push(Change::Removed(package))?;
     }
     Ok(())
 }
@@ -163,8 +178,24 @@ pub(crate) fn add_added<'a>(
     ensures { OnOk result (map change_of all.new.items
         ≡ map change_of all.old.items ++ map Added (packages_at packages.now.items)) }
 {
-    for one in packages {
-        all.push(Change::Added(one))?;
+    for package in packages {
+        all.push(Change::Added(package))?;
+    }
+    Ok(())
+}
+
+// Adds the pairs with other dependencies.
+pub(crate) fn add_other_dependencies<'a>(
+    all: &mut Vec<Change<'a>>,
+    pairs: &Vec<(&'a Package, &'a Package)>,
+) -> Result<(), AllocError>
+    ensures { OnOk result (map change_of all.new.items
+        ≡ map change_of all.old.items ++ other_dependencies (pairs_at pairs.now.items)) }
+{
+    for pair in pairs {
+        if have_other_dependencies(pair.0, pair.1) {
+            all.push(Change::OtherDependencies(pair.0, pair.1))?;
+        }
     }
     Ok(())
 }
@@ -228,9 +259,9 @@ impl fmt::Display for PackageText<'_> {
     ghost output = { λ shown. Some (package_text shown.0.now) };
 
     fn fmt<W: fmt::Write>(&self, f: &mut fmt::Formatter<W>) -> fmt::Result {
-        let PackageText(one) = *self;
-        let name = &one.name;
-        let version = &one.version;
+        let PackageText(package) = *self;
+        let name = &package.name;
+        let version = &package.version;
         write!(f, "{name} {version}")
     }
 }
@@ -246,8 +277,8 @@ impl fmt::Display for SourceText<'_> {
     ghost output = { λ shown. Some (source_text shown.0.now.source) };
 
     fn fmt<W: fmt::Write>(&self, f: &mut fmt::Formatter<W>) -> fmt::Result {
-        let SourceText(one) = *self;
-        match &one.source {
+        let SourceText(package) = *self;
+        match &package.source {
             Some(source) => write!(f, "{source}"),
             None => f.write_str("none"),
         }
@@ -265,10 +296,93 @@ impl fmt::Display for ChecksumText<'_> {
     ghost output = { λ shown. Some (checksum_text shown.0.now.checksum) };
 
     fn fmt<W: fmt::Write>(&self, f: &mut fmt::Formatter<W>) -> fmt::Result {
-        let ChecksumText(one) = *self;
-        match &one.checksum {
+        let ChecksumText(package) = *self;
+        match &package.checksum {
             Some(checksum) => write!(f, "{checksum}"),
             None => f.write_str("none"),
+        }
+    }
+}
+
+// The dependencies of the first list that are not among those of the second, with a sign.
+#[derive(Clone, Copy)]
+struct OnlyIn<'a>(&'a str, &'a Vec<Dependency>, &'a Vec<Dependency>);
+
+impl fmt::Display for OnlyIn<'_> {
+    ghost use Rattle.std.specs.Prelude.{Some};
+    ghost use Rattle.cargo_lock_diff.specs.Change.{only_in};
+
+    ghost output = { λ shown. Some (only_in shown.0.now shown.1.now.items shown.2.now.items) };
+
+    fn fmt<W: fmt::Write>(&self, f: &mut fmt::Formatter<W>) -> fmt::Result {
+        let OnlyIn(sign, these, others) = *self;
+        for dependency in these {
+            let part = UnlessAmong(sign, dependency, others);
+            write!(f, "{part}")?;
+        }
+        Ok(())
+    }
+}
+
+// A dependency with a sign, unless it is among others.
+#[derive(Clone, Copy)]
+struct UnlessAmong<'a>(&'a str, &'a Dependency, &'a Vec<Dependency>);
+
+impl fmt::Display for UnlessAmong<'_> {
+    ghost use Rattle.std.specs.Prelude.{Some};
+    ghost use Rattle.cargo_lock_diff.specs.Change.{shown_unless_among};
+
+    ghost output = { λ shown. Some (shown_unless_among shown.2.now.items shown.0.now shown.1.now) };
+
+    fn fmt<W: fmt::Write>(&self, f: &mut fmt::Formatter<W>) -> fmt::Result {
+        let UnlessAmong(sign, dependency, others) = *self;
+        if is_among(others, dependency) {
+            return Ok(());
+        }
+        let text = DependencyText(dependency);
+        write!(f, " {sign} {text}")
+    }
+}
+
+// The name, the version and the source, unless it is the registry of crates.io.
+#[derive(Clone, Copy)]
+struct DependencyText<'a>(&'a Dependency);
+
+impl fmt::Display for DependencyText<'_> {
+    ghost use Rattle.std.specs.Prelude.{Some};
+    ghost use Rattle.cargo_lock_diff.specs.Change.{dependency_shown};
+
+    ghost output = { λ shown. Some (dependency_shown shown.0.now) };
+
+    fn fmt<W: fmt::Write>(&self, f: &mut fmt::Formatter<W>) -> fmt::Result {
+        let DependencyText(dependency) = *self;
+        let name = &dependency.name;
+        let version = &dependency.version;
+        let source = BracketedSource(dependency);
+        write!(f, "{name} {version}{source}")
+    }
+}
+
+// The source in round brackets, unless it is the registry of crates.io.
+#[derive(Clone, Copy)]
+struct BracketedSource<'a>(&'a Dependency);
+
+impl fmt::Display for BracketedSource<'_> {
+    ghost use Rattle.std.specs.Prelude.{Some};
+    ghost use Rattle.cargo_lock_diff.specs.Change.{source_in_brackets};
+
+    ghost output = { λ shown. Some (source_in_brackets shown.0.now.source) };
+
+    fn fmt<W: fmt::Write>(&self, f: &mut fmt::Formatter<W>) -> fmt::Result {
+        let BracketedSource(dependency) = *self;
+        match &dependency.source {
+            Some(source) => {
+                if source.is_default_registry() {
+                    return Ok(());
+                }
+                write!(f, " ({source})")
+            }
+            None => f.write_str(" (none)"),
         }
     }
 }

@@ -59,16 +59,17 @@ impl<'a> Model for Difference<'a> {
 impl<'a> Difference<'a> {
     ghost use Rattle.std.specs.Prelude.{◌↔◌, IsTrue};
     ghost use Rattle.std.specs.List.{list_any};
-    ghost use Rattle.cargo_lock_diff.specs.Change.{change_of, changes_of, is_alarm};
+    ghost use Rattle.cargo_lock_diff.specs.Change.{change_of, changes_of, dependency_changes_of};
+    ghost use Rattle.cargo_lock_diff.specs.Change.{is_alarm, told_of};
     ghost use Rattle.cargo_lock_diff.specs.Difference.{IsEmpty};
 
     /// What differs between an old and a new list of packages. Fails when out of memory.
     pub fn of(
         alloc: Global,
-        old: &'a Vec<Package>,
-        new: &'a Vec<Package>,
+        old: &'a [Package],
+        new: &'a [Package],
     ) -> Result<Difference<'a>, AllocError>
-        ensures { IfOk result (λ d. IsDifference old.now.items new.now.items d) }
+        ensures { IfOk result (λ d. IsDifference old.now new.now d) }
     {
         let old = references_to(alloc, old)?;
         let new = references_to(alloc, new)?;
@@ -124,18 +125,41 @@ impl<'a> Difference<'a> {
         change::add_added(&mut all, &self.added)?;
         Ok(all)
     }
+
+    /// The pairs of which one package has a dependency that the other has not, each as
+    /// `Change::OtherDependencies`: of the pairs that are wholly alike, of those with other
+    /// checksums, other sources and other versions. Fails when out of memory.
+    pub fn dependency_changes(&self, alloc: Global) -> Result<Vec<Change<'a>>, AllocError>
+        ensures { IfOk result (λ all. map change_of all.items ≡ dependency_changes_of self.now) }
+    {
+        let mut all = Vec::new(alloc);
+        change::add_other_dependencies(&mut all, &self.kept)?;
+        change::add_other_dependencies(&mut all, &self.altered)?;
+        change::add_other_dependencies(&mut all, &self.moved)?;
+        change::add_other_dependencies(&mut all, &self.changed)?;
+        Ok(all)
+    }
+
+    /// The changes, and with `dependencies` then the dependency changes. Fails when out of memory.
+    pub fn told(&self, alloc: Global, dependencies: bool) -> Result<Vec<Change<'a>>, AllocError>
+        ensures { IfOk result (λ all. map change_of all.items ≡ told_of dependencies self.now) }
+    {
+        let mut all = self.changes(alloc)?;
+        if dependencies {
+            let others = self.dependency_changes(alloc)?;
+            all.extend_from_slice(others.as_slice())?;
+        }
+        Ok(all)
+    }
 }
 
 // References to some packages, in order.
-fn references_to<'a>(
-    alloc: Global,
-    packages: &'a Vec<Package>,
-) -> Result<Vec<&'a Package>, AllocError>
-    ensures { IfOk result (λ all. packages_at all.items ≡ packages.now.items) }
+fn references_to<'a>(alloc: Global, packages: &'a [Package]) -> Result<Vec<&'a Package>, AllocError>
+    ensures { IfOk result (λ all. packages_at all.items ≡ packages.now) }
 {
     let mut all = Vec::with_capacity(alloc, packages.len())?;
-    for one in packages {
-        all.push(one)?;
+    for package in packages {
+        all.push(package)?;
     }
     Ok(all)
 }

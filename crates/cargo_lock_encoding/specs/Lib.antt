@@ -5,5 +5,6 @@ pub mod Means
 pub mod TableMetadata
 pub mod Meaning
 pub mod Table
+pub mod Characters
 pub mod Text
 pub mod Survives

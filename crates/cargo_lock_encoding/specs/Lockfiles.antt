@@ -1,5 +1,5 @@
 -- What contracts see of a lockfile, and of a lockfile as its table has it.
-use Rattle.std.specs.Prelude.{ℕ, ℤ, pos, negsuc, ◌==◌, Bool, false, List, Option, Some, None}
+use Rattle.std.specs.Prelude.{ℤ, pos, negsuc, ◌==◌, Bool, false, List, Option, Some, None}
 use Rattle.cargo_lock_parts.specs.Identity.{Identity, PackageData}
 use Rattle.cargo_lock_references.specs.declared.version.ResolveVersion.{ResolveVersion}
 use Rattle.cargo_lock_references.specs.Format.{format_by}

@@ -6,7 +6,8 @@ use Rattle.cargo_lock_references.specs.declared.version.ResolveVersion.{ResolveV
 use Rattle.cargo_lock_encoding.specs.Lockfiles.{format_of}
 use Rattle.cargo_lock_encoding.specs.Means.{reading_list, encoded_checksum}
 use Rattle.cargo_lock_references.specs.Optional.{◌>>=◌, map_all, map_some}
-use Rattle.cargo_lock_references.specs.Records.{EncodedPackage, Texts, unmarked_source, encoded_identity}
+use Rattle.cargo_lock_references.specs.Records.{EncodedPackage, Texts, unmarked_source}
+use Rattle.cargo_lock_references.specs.Records.{encoded_identity}
 use Rattle.cargo_lock_encoding.specs.Lockfiles.{EncodedData, LockfileData}
 use Rattle.cargo_lock_references.specs.ResolutionSearch.{resolution_of}
 use Rattle.cargo_lock_encoding.specs.TableReading.{encoded_at}

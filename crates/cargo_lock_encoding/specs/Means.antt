@@ -9,7 +9,8 @@ use Rattle.cargo_lock_references.specs.declared.version.ResolveVersion.TheVarian
 use Rattle.cargo_lock_encoding.specs.Lockfiles.{format_of}
 use Rattle.cargo_lock_references.specs.Metadata.{checksum_in}
 use Rattle.cargo_lock_references.specs.Optional.{BothOrNone}
-use Rattle.cargo_lock_references.specs.Records.{EncodedPackage, Texts, unmarked_source, encoded_identity}
+use Rattle.cargo_lock_references.specs.Records.{EncodedPackage, Texts, unmarked_source}
+use Rattle.cargo_lock_references.specs.Records.{encoded_identity}
 use Rattle.cargo_lock_encoding.specs.Lockfiles.{EncodedData, LockfileData}
 use Rattle.cargo_lock_references.specs.ResolvesTo.{ResolvesTo}
 use Rattle.cargo_lock_encoding.specs.TableReading.{encoded_at}

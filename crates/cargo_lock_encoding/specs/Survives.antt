@@ -2,13 +2,15 @@
 -- parts, one by one. Each says that a written text is read as what it was written for.
 use Rattle.std.specs.Prelude.{◌≡◌, ◌↔◌, true, false, List, [], IfSome, option_map, map}
 use Rattle.std.specs.List.{AllByRecursion}
-use Rattle.cargo_lock_parts.specs.Identity.{Identity, PackageData, identity_key, identity_of, package_key}
+use Rattle.cargo_lock_parts.specs.Identity.{Identity, PackageData, identity_key, identity_of}
+use Rattle.cargo_lock_parts.specs.Identity.{package_key}
 use Rattle.cargo_lock_references.specs.declared.version.ResolveVersion.{ResolveVersion}
 use Rattle.cargo_lock_references.specs.declared.version.ResolveVersion.TheVariants.{V1, V2, V3, V4}
 use Rattle.cargo_lock_references.specs.WrittenReference.{written_reference, in_full}
 use Rattle.cargo_lock_references.specs.Reference.{Reference}
 use Rattle.cargo_lock_references.specs.Metadata.{checksum_in, has_checksum_key, metadata_of}
-use Rattle.cargo_lock_references.specs.ReadBack.{DigestReadsBack, ReferenceSurvives, SourceSurvives, VersionSurvives}
+use Rattle.cargo_lock_references.specs.ReadBack.{DigestReadsBack, ReferenceSurvives, SourceSurvives}
+use Rattle.cargo_lock_references.specs.ReadBack.{VersionSurvives}
 use Rattle.cargo_lock_references.specs.Records.{Texts, is_escaped}
 use Rattle.cargo_lock_encoding.specs.Lockfiles.{LockfileData}
 use Rattle.cargo_lock_encoding.specs.Means.{Means, reading_list}

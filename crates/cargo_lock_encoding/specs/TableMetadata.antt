@@ -1,6 +1,7 @@
 -- What the metadata of a table has at each key, said by the places of the table's pairs and without
 -- a fold over them.
-use Rattle.std.specs.Prelude.{◌≡◌, ◌≢◌, ◌↔◌, ◌<◌, ℕ, List, [], ◌∷◌, Option, Some, None, slice_get, codes}
+use Rattle.std.specs.Prelude.{◌≡◌, ◌≢◌, ◌↔◌, ◌<◌, ℕ, List, [], ◌∷◌, Option, Some, None, slice_get}
+use Rattle.std.specs.Prelude.{codes}
 use Rattle.std.specs.FinMap.{get}
 use Rattle.toml.specs.Data.{Data, string, table, Members, no_members, member, get_member}
 use Rattle.cargo_lock_encoding.specs.Means.{Means}

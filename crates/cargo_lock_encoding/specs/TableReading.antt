@@ -3,7 +3,8 @@
 use Rattle.std.specs.Prelude.{ℕ, ℤ, List, [], ◌∷◌, Option, Some, None, option_map, codes}
 use Rattle.std.specs.FinMap.{empty, insert}
 use Rattle.std.specs.Option.{option_and_then}
-use Rattle.toml.specs.Data.{Data, string, array, table, integer, Items, no_items, item, Members, no_members, member, get_member}
+use Rattle.toml.specs.Data.{Data, string, array, table, integer, Items, no_items, item, Members}
+use Rattle.toml.specs.Data.{no_members, member, get_member}
 use Rattle.cargo_lock_parts.specs.Checksum.{digest_in}
 use Rattle.cargo_lock_parts.specs.Identity.{Identity}
 use Rattle.cargo_lock_parts.specs.Source.{Source}
@@ -74,20 +75,27 @@ reference_in d = text_in d >>= reference_of
 
 -- ---- packages
 
-unfoldable pub package_at_key : Members → Option EncodedPackage
-package_at_key ms = do
+-- the name, the version and the source of a table: all that an unused patch has
+unfoldable pub identity_at : Members → Option Identity
+identity_at ms = do
   name ← required_text (get_member (codes "name") ms)
   text ← required_text (get_member (codes "version") ms)
   version ← version_of text
   source ← optional_by source_in (get_member (codes "source") ms)
+  Some (record { name = name; version = version; source = source })
+
+-- the package that a table is
+unfoldable pub package_at_key : Members → Option EncodedPackage
+package_at_key ms = do
+  identity ← identity_at ms
   checksum ← optional_by checksum_from (get_member (codes "checksum") ms)
   list ← optional_list (get_member (codes "dependencies") ms)
   references ← read_all reference_in list
   replace ← optional_by reference_in (get_member (codes "replace") ms)
   Some (record {
-    name = name;
-    version = version;
-    source = option_map mark_plain source;
+    name = identity.name;
+    version = identity.version;
+    source = option_map mark_plain identity.source;
     checksum = checksum;
     dependencies = references;
     replace = replace;
@@ -136,17 +144,9 @@ metadata_in (Some d) = members_in d >>= texts_at
 
 -- ---- patches that no package uses
 
-unfoldable pub unused_patch_at : Members → Option Identity
-unused_patch_at ms = do
-  name ← required_text (get_member (codes "name") ms)
-  text ← required_text (get_member (codes "version") ms)
-  version ← version_of text
-  source ← optional_by source_in (get_member (codes "source") ms)
-  Some (record { name = name; version = version; source = source })
-
 -- the unused patch that a value is
 abbrev pub unused_patch_in : Data → Option Identity
-unused_patch_in d = members_in d >>= unused_patch_at
+unused_patch_in d = members_in d >>= identity_at
 
 -- the unused patches of a table
 abbrev pub patch_at : Members → Option (List Identity)

@@ -1,11 +1,16 @@
 -- The text of a lockfile, line by line, as Cargo writes it.
-use Rattle.std.specs.Prelude.{◌≡◌, ℕ, ℤ, pos, negsuc, ◌+◌, ◌/◌, ◌%◌, ◌==◌, ◌&&◌, ◌||◌, nat_lt, nat_le, Bool, true, false, if◌then◌else◌, List, [], ◌∷◌, ◌++◌, Option, Some, None, OnOk, Result, String, option_map, map, codes, decimal, string_bytes}
+use Rattle.std.specs.Prelude.{◌≡◌, ℕ, ℤ, pos, negsuc, ◌+◌, ◌/◌, ◌%◌, ◌==◌, ◌&&◌, ◌||◌, nat_lt}
+use Rattle.std.specs.Prelude.{nat_le, Bool, true, false, if◌then◌else◌, List, [], ◌∷◌, ◌++◌, Option}
+use Rattle.std.specs.Prelude.{Some, None, OnOk, Result, String, option_map, map, codes, decimal}
+use Rattle.std.specs.Prelude.{string_bytes}
 use Rattle.std.specs.Char.{encode_utf8}
 use Rattle.std.specs.FinMap.{entries}
 use Rattle.std.specs.List.{flat_map, list_all}
 use Rattle.std.specs.Option.{option_to_list}
 use Rattle.std.specs.Str.{chars}
 use Rattle.semver.specs.Identifiers.{parts_text}
+use Rattle.cargo_lock_parts.specs.Ascii.{newline, space, quotation_mark, comma, hyphen, backslash}
+use Rattle.cargo_lock_parts.specs.Ascii.{tab, underscore}
 use Rattle.cargo_lock_parts.specs.Checksum.{digest_text}
 use Rattle.cargo_lock_parts.specs.Identity.{Identity}
 use Rattle.cargo_lock_parts.specs.Source.{MarkedSource}
@@ -13,15 +18,19 @@ use Rattle.cargo_lock_parts.specs.SourceText.{marked_text}
 use Rattle.cargo_lock_references.specs.WrittenReference.{written_source}
 use Rattle.cargo_lock_references.specs.Reference.{Reference, reference_text}
 use Rattle.cargo_lock_references.specs.Records.{EncodedPackage}
+use Rattle.cargo_lock_encoding.specs.Characters.{backspace, form_feed, carriage_return, delete}
+use Rattle.cargo_lock_encoding.specs.Characters.{digit_zero, digit_nine, upper_a, upper_z, lower_a}
+use Rattle.cargo_lock_encoding.specs.Characters.{lower_b, lower_f, lower_n, lower_r, lower_t}
+use Rattle.cargo_lock_encoding.specs.Characters.{lower_z}
 use Rattle.cargo_lock_encoding.specs.Lockfiles.{EncodedData, LockfileData, is_escaped_number}
 use Rattle.cargo_lock_encoding.specs.Table.{encoded_of}
 
 -- ---- strings: a TOML basic string. Escaped are the quotation mark, the backslash, the characters
 -- below U+0020 and U+007F. TOML asks for each of these but the tab, which it lets stand as it is.
 
--- an upper-case hexadecimal digit
+-- an upper-case hexadecimal digit: from ten on a letter, and 55 is ten less than `A`
 abbrev pub hex_digit : ℕ → ℕ
-hex_digit n = if nat_lt n 10 then 48 + n else 55 + n
+hex_digit n = if nat_lt n 10 then digit_zero + n else 55 + n
 
 -- a backslash, `u` and four digits
 abbrev pub control_escape : ℕ → List ℕ
@@ -30,19 +39,19 @@ control_escape c = codes "\\u00" ++ (hex_digit (c / 16) ∷ hex_digit (c % 16) �
 -- the letter after the backslash, where a character has one
 abbrev pub short_escape : ℕ → Option ℕ
 short_escape c =
-    if c == 34 then Some 34
-    else if c == 92 then Some 92
-    else if c == 8 then Some 98
-    else if c == 9 then Some 116
-    else if c == 10 then Some 110
-    else if c == 12 then Some 102
-    else if c == 13 then Some 114
+    if c == quotation_mark then Some quotation_mark
+    else if c == backslash then Some backslash
+    else if c == backspace then Some lower_b
+    else if c == tab then Some lower_t
+    else if c == newline then Some lower_n
+    else if c == form_feed then Some lower_f
+    else if c == carriage_return then Some lower_r
     else None
 
 -- an escape of one letter, or else the one by number
 abbrev pub escape_or : Option ℕ → ℕ → List ℕ
-escape_or (Some letter) c = 92 ∷ letter ∷ []
-escape_or None c = if nat_lt c 32 || (c == 127) then control_escape c else encode_utf8 c
+escape_or (Some letter) c = backslash ∷ letter ∷ []
+escape_or None c = if nat_lt c space || (c == delete) then control_escape c else encode_utf8 c
 
 -- a character as it stands in a string of TOML
 abbrev pub escape_char : ℕ → List ℕ
@@ -54,15 +63,15 @@ escape text = flat_map escape_char (chars text)
 
 -- a text between quotation marks
 abbrev pub quote : List ℕ → List ℕ
-quote text = 34 ∷ (escape text ++ 34 ∷ [])
+quote text = quotation_mark ∷ (escape text ++ quotation_mark ∷ [])
 
 -- ---- keys of the metadata: bare where TOML allows it
 
 -- a byte that stands in a key without quotation marks
 abbrev pub is_bare_byte : ℕ → Bool
 is_bare_byte b =
-    (nat_le 65 b && nat_le b 90) || (nat_le 97 b && nat_le b 122) || (nat_le 48 b && nat_le b 57)
-    || (b == 95) || (b == 45)
+    (nat_le upper_a b && nat_le b upper_z) || (nat_le lower_a b && nat_le b lower_z)
+    || (nat_le digit_zero b && nat_le b digit_nine) || (b == underscore) || (b == hyphen)
 
 -- the text has a byte
 abbrev pub is_nonempty_text : List ℕ → Bool
@@ -97,7 +106,7 @@ replace_line f = field (codes "replace") (reference_text f)
 
 -- the line of a dependency
 abbrev pub dependency_line : Reference → List ℕ
-dependency_line f = 32 ∷ (quote (reference_text f) ++ 44 ∷ [])
+dependency_line f = space ∷ (quote (reference_text f) ++ comma ∷ [])
 
 -- the dependencies, or where there are none the replacement
 abbrev pub reference_lines : List Reference → Option Reference → List (List ℕ)
@@ -155,7 +164,7 @@ lines_of l = encoded_lines (encoded_of l)
 
 -- each line, and a newline after it
 abbrev pub join_lines : List (List ℕ) → List ℕ
-join_lines lines = flat_map (λ line. line ++ 10 ∷ []) lines
+join_lines lines = flat_map (λ line. line ++ newline ∷ []) lines
 
 -- ---- what is added to a text
 

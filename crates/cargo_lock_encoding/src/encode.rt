@@ -1,14 +1,13 @@
 //! From a lockfile to the values of its table.
 
 ghost use Rattle.std.specs.Prelude.{◌≡◌, IfOk, IsOkUnless, map, option_map};
-ghost use Rattle.semver.specs.Identifiers.{parts_of};
 ghost use Rattle.cargo_lock_parts.specs.declared.error.Error.TheVariants.{Memory};
 ghost use Rattle.cargo_lock_parts.specs.Checksum.{digest_of};
 ghost use Rattle.cargo_lock_parts.specs.Identity.{identity_of};
 ghost use Rattle.cargo_lock_references.specs.WrittenReference.{written_reference, in_full, shorten};
-ghost use Rattle.cargo_lock_references.specs.Reference.{one_word, two_words};
 ghost use Rattle.cargo_lock_references.specs.Records.{is_escaped};
-ghost use Rattle.cargo_lock_encoding.specs.Table.{encoded_of, encoded_package_of, encoded_root, written_checksum, written_version};
+ghost use Rattle.cargo_lock_encoding.specs.Table.{encoded_of, encoded_package_of, encoded_root};
+ghost use Rattle.cargo_lock_encoding.specs.Table.{written_checksum, written_version};
 
 use crate::values::{LockfileRef, Values};
 use cargo_lock_parts::dependency::Dependency;

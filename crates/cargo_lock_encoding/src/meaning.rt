@@ -4,7 +4,9 @@ ghost use Rattle.std.specs.Prelude.{◌≡◌, [], map, option_map};
 ghost use Rattle.cargo_lock_parts.specs.Checksum.{digest_of};
 ghost use Rattle.cargo_lock_parts.specs.Error.{Reads};
 ghost use Rattle.cargo_lock_references.specs.declared.version.ResolveVersion.TheVariants.{V1};
-ghost use Rattle.cargo_lock_encoding.specs.Meaning.{all_packages, completed_lockfile, listed_package, lockfile_of, package_of, resolved_values, root_package};
+ghost use Rattle.cargo_lock_encoding.specs.Meaning.{all_packages, completed_lockfile};
+ghost use Rattle.cargo_lock_encoding.specs.Meaning.{listed_package, lockfile_of, package_of};
+ghost use Rattle.cargo_lock_encoding.specs.Meaning.{resolved_values, root_package};
 ghost use Rattle.cargo_lock_encoding.specs.Lockfiles.{format_of};
 ghost use Rattle.cargo_lock_references.specs.Optional.{map_all, map_some};
 ghost use Rattle.cargo_lock_references.specs.Records.{encoded_identity, texts_of};
@@ -182,7 +184,7 @@ fn package_in_full(
     ensures { Reads (λ p. p) result (listed_package V1 [] metadata.now encoded.now) }
 {
     let checksum = metadata.checksum(&encoded.name, &encoded.version)?;
-    with_references(alloc, encoded, checksum, &Indexed::none(alloc))
+    with_references(alloc, encoded, checksum, &Indexed::empty(alloc))
 }
 
 // The packages from V2 on: their references are looked up by name, and they have their checksums.
@@ -214,7 +216,8 @@ fn each_by_name<'a>(
 fn root_package(alloc: Global, encoded: &EncodablePackage) -> Result<Package>
     ensures { Reads (λ p. p) result (root_package encoded.now) }
 {
-    with_references(alloc, encoded, own_checksum(encoded), &Indexed::none(alloc))
+    let checksum = own_checksum(encoded);
+    with_references(alloc, encoded, checksum, &Indexed::empty(alloc))
 }
 
 fn own_checksum(encoded: &EncodablePackage) -> Option<Checksum>
@@ -269,7 +272,7 @@ fn resolve_some(
     ensures { Reads (λ o. o) result (map_some (λ f. resolution_of f []) reference.now) }
 {
     match reference {
-        Some(reference) => Ok(Some(resolve_among(alloc, reference, &Indexed::none(alloc))?)),
+        Some(reference) => Ok(Some(resolve_among(alloc, reference, &Indexed::empty(alloc))?)),
         None => Ok(None),
     }
 }

@@ -33,14 +33,14 @@ impl Model for ReadSources {
 
 impl ReadSources {
     /// No text was read so far.
-    pub fn new(alloc: Global) -> ReadSources {
+    pub(crate) fn new(alloc: Global) -> ReadSources {
         ReadSources {
             sources: no_sources(alloc),
         }
     }
 
     /// The source that a text reads as, from `SourceId::from_url` where the text is new.
-    pub fn read(&mut self, alloc: Global, text: &str) -> Result<SourceId>
+    pub(crate) fn read(&mut self, alloc: Global, text: &str) -> Result<SourceId>
         ensures { ReadsUrls (λ source. source) result (source_of text.now) }
     {
         if let Some(source) = known_source(&self.sources, text)? {

@@ -12,7 +12,15 @@ ghost use Rattle.cargo_lock_parts.specs.Error.{IsParse, IsParseOrMemory, ReadsUr
 ghost use Rattle.cargo_lock_parts.specs.declared.error.Error.TheVariants.{Memory};
 ghost use Rattle.cargo_lock_references.specs.Reference.{reference_of, mark_plain};
 ghost use Rattle.cargo_lock_references.specs.Records.{texts_of};
-ghost use Rattle.cargo_lock_encoding.specs.TableReading.{all_encoded_packages_at, checksum_from, encoded_at, encoded_packages_at, package_at_key, encoded_package_in, reference_in, items_in, metadata_in, number_in, optional_by, optional_list, patch_at, unused_patch_at, unused_patch_in, patch_in, read_all, required_list, required_text, source_in, text_in, texts_at};
+ghost use Rattle.cargo_lock_encoding.specs.TableReading.{all_encoded_packages_at, checksum_from};
+ghost use Rattle.cargo_lock_encoding.specs.TableReading.{encoded_at, encoded_packages_at};
+ghost use Rattle.cargo_lock_encoding.specs.TableReading.{package_at_key, encoded_package_in};
+ghost use Rattle.cargo_lock_encoding.specs.TableReading.{reference_in, items_in, metadata_in};
+ghost use Rattle.cargo_lock_encoding.specs.TableReading.{number_in, optional_by, optional_list};
+ghost use Rattle.cargo_lock_encoding.specs.TableReading.{patch_at, identity_at};
+ghost use Rattle.cargo_lock_encoding.specs.TableReading.{unused_patch_in, patch_in, read_all};
+ghost use Rattle.cargo_lock_encoding.specs.TableReading.{required_list, required_text, source_in};
+ghost use Rattle.cargo_lock_encoding.specs.TableReading.{text_in, texts_at};
 
 use crate::read_sources::ReadSources;
 use crate::values::Values;
@@ -21,7 +29,7 @@ use cargo_lock_parts::error::{Error, Result};
 use cargo_lock_parts::package::{Checksum, Name, SourceId, Version};
 use cargo_lock_parts::patch::Patch;
 use cargo_lock_references::metadata::{Metadata, MetadataKey, MetadataValue};
-use cargo_lock_references::package_version::{refused_version, version_of};
+use cargo_lock_references::package_version::version_of;
 use cargo_lock_references::written_metadata::set;
 use cargo_lock_references::{EncodableDependency, EncodablePackage, EncodableSourceId};
 use std::alloc::Global;
@@ -84,10 +92,7 @@ fn wrong_type(alloc: Global, key: &str) -> Error
     ensures text { (result ≡ Memory)
         ⊎ IsParse result (codes "wrong type: `" ++ key.now ++ codes "`") }
 {
-    match format!(in alloc; "wrong type: `{key}`") {
-        Ok(text) => Error::Parse(text),
-        Err(_) => Error::Memory,
-    }
+    Error::parse(format!(in alloc; "wrong type: `{key}`"))
 }
 
 // The fault of a required key that is missing.
@@ -96,10 +101,7 @@ fn missing_key(alloc: Global, key: &str) -> Error
     ensures text { (result ≡ Memory)
         ⊎ IsParse result (codes "missing key: `" ++ key.now ++ codes "`") }
 {
-    match format!(in alloc; "missing key: `{key}`") {
-        Ok(text) => Error::Parse(text),
-        Err(_) => Error::Memory,
-    }
+    Error::parse(format!(in alloc; "missing key: `{key}`"))
 }
 
 // ---- values by their types
@@ -240,7 +242,9 @@ fn reference_of(alloc: Global, text: &str) -> Result<EncodableDependency>
     ensures { ReadsUrls (λ f. f) result (reference_of text.now) }
 {
     match EncodableDependency::from_str(alloc, text) {
-        Err(Error::Version(fault)) => Err(refused_version(alloc, &fault)),
+        Err(Error::Version(fault)) => {
+            Err(Error::parse(format!(in alloc; "version error: {fault}")))
+        }
         result => result,
     }
 }
@@ -279,6 +283,23 @@ fn references_of(alloc: Global, list: &[Value], key: &str) -> Result<Vec<Encodab
 
 // ---- packages
 
+// The name, the version and the source of a table.
+#[tactic(auto, unfolding(crate::specs::TableReading::identity_at))]
+fn identity_at(alloc: Global, sources: &mut ReadSources, table: &Table) -> Result<Dependency>
+    ensures { ReadsUrls (λ e. e) result (identity_at (table_view table.now)) }
+{
+    let written = required_text(alloc, table, "name")?;
+    let name = Name::from_str(alloc, written)?;
+    let version = required_text(alloc, table, "version")?;
+    let version = version_of(alloc, version)?;
+    let source = source_at(alloc, sources, table, "source")?;
+    Ok(Dependency {
+        name,
+        version,
+        source,
+    })
+}
+
 // The package of a table.
 #[tactic(auto, unfolding(crate::specs::TableReading::package_at_key))]
 fn package_at_key(
@@ -288,11 +309,11 @@ fn package_at_key(
 ) -> Result<EncodablePackage>
     ensures { ReadsUrls (λ e. e) result (package_at_key (table_view table.now)) }
 {
-    let written = required_text(alloc, table, "name")?;
-    let name = Name::from_str(alloc, written)?;
-    let version = required_text(alloc, table, "version")?;
-    let version = version_of(alloc, version)?;
-    let source = source_at(alloc, sources, table, "source")?;
+    let Dependency {
+        name,
+        version,
+        source,
+    } = identity_at(alloc, sources, table)?;
     let checksum = checksum_at(alloc, table, "checksum")?;
     let dependencies = optional_list(alloc, table, "dependencies")?;
     let dependencies = references_of(alloc, dependencies, "dependencies")?;
@@ -411,23 +432,6 @@ fn metadata_at(alloc: Global, table: &Table, key: &str) -> Result<Metadata>
 
 // ---- patches
 
-// The unused patch of a table.
-#[tactic(auto, unfolding(crate::specs::TableReading::unused_patch_at))]
-fn unused_patch_at(alloc: Global, sources: &mut ReadSources, table: &Table) -> Result<Dependency>
-    ensures { ReadsUrls (λ e. e) result (unused_patch_at (table_view table.now)) }
-{
-    let name = required_text(alloc, table, "name")?;
-    let name = Name::from_str(alloc, name)?;
-    let version = required_text(alloc, table, "version")?;
-    let version = version_of(alloc, version)?;
-    let source = source_at(alloc, sources, table, "source")?;
-    Ok(Dependency {
-        name,
-        version,
-        source,
-    })
-}
-
 // The unused patch that a value is.
 fn unused_patch_in(
     alloc: Global,
@@ -438,7 +442,7 @@ fn unused_patch_in(
     ensures { ReadsUrls (λ e. e) result (unused_patch_in (view value.now)) }
 {
     match value.as_table() {
-        Some(table) => unused_patch_at(alloc, sources, table),
+        Some(table) => identity_at(alloc, sources, table),
         None => Err(wrong_type(alloc, key)),
     }
 }

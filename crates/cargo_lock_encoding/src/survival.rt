@@ -1,6 +1,7 @@
 //! Whether a lockfile survives a format.
 
-ghost use Rattle.std.specs.Prelude.{◌≡◌, ◌↔◌, [], IfOk, IfSome, IsOkUnless, IsTrue, map, option_map};
+ghost use Rattle.std.specs.Prelude.{◌≡◌, ◌↔◌, [], IfOk, IfSome, IsOkUnless, IsTrue, map};
+ghost use Rattle.std.specs.Prelude.{option_map};
 ghost use Rattle.std.specs.List.{AllByRecursion};
 ghost use Rattle.cargo_lock_parts.specs.declared.error.Error.TheVariants.{Memory};
 ghost use Rattle.cargo_lock_parts.specs.Checksum.{digest_of};
@@ -9,7 +10,10 @@ ghost use Rattle.cargo_lock_references.specs.declared.version.ResolveVersion.The
 ghost use Rattle.cargo_lock_references.specs.WrittenReference.{written_reference, in_full};
 ghost use Rattle.cargo_lock_encoding.specs.Means.{reading_list};
 ghost use Rattle.cargo_lock_references.specs.Records.{is_escaped, texts_of};
-ghost use Rattle.cargo_lock_encoding.specs.Survives.{ChecksumSurvives, ListedSurvives, FormatSurvives, OwnPartsSurvive, PackageSurvives, PatchSurvives, RootSurvives, Survives};
+ghost use Rattle.cargo_lock_encoding.specs.Survives.{ChecksumSurvives, ListedSurvives};
+ghost use Rattle.cargo_lock_encoding.specs.Survives.{FormatSurvives, OwnPartsSurvive};
+ghost use Rattle.cargo_lock_encoding.specs.Survives.{PackageSurvives, PatchSurvives, RootSurvives};
+ghost use Rattle.cargo_lock_encoding.specs.Survives.{Survives};
 ghost use Rattle.cargo_lock_references.specs.ReadBack.{DigestReadsBack, ReferenceSurvives};
 
 use crate::encode::written_reference;
@@ -37,8 +41,8 @@ impl LockfileRef<'_> {
     /// each reference, as it is written, resolves to the dependency that it stands for,
     /// checksums are found again, and V1 and V2 can be told apart.
     ///
-    /// A path source is not written, so a package with one survives no format. Only want of
-    /// memory is refused; a source of 4 GB or more counts as that.
+    /// A path source is not written, so a package with one survives no format. The one error is
+    /// `Memory`, and a source of 4 GB or more is refused with it too.
     pub fn survives(&self, alloc: Global, format: ResolveVersion) -> Result<bool>
         ensures ok { IfOk result (λ b. IsTrue b ↔ Survives self.now format) }
         ensures err { IsOkUnless result Memory }

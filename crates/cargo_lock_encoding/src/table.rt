@@ -1,13 +1,20 @@
 //! From encoded packages to the values of a table.
 
-ghost use Rattle.std.specs.Prelude.{◌≡◌, ◌∷◌, [], Some, IfOk, IsOkUnless, OnOk, codes, map, option_map};
+ghost use Rattle.std.specs.Prelude.{◌≡◌, ◌∷◌, [], Some, IfOk, IsOkUnless, OnOk, codes, map};
+ghost use Rattle.std.specs.Prelude.{option_map};
 ghost use Rattle.semver.specs.Identifiers.{parts_of, parts_text};
 ghost use Rattle.toml.specs.Data.{integer, string};
 ghost use Rattle.toml.specs.View.{table_view, view};
 ghost use Rattle.cargo_lock_parts.specs.Checksum.{digest_of};
 ghost use Rattle.cargo_lock_parts.specs.Identity.{identity_of};
 ghost use Rattle.cargo_lock_references.specs.Records.{texts_of};
-ghost use Rattle.cargo_lock_encoding.specs.Table.{checksum_value, encoded_package_of, package_table, encoded_package_value, reference_value, metadata_value, packages_value, unused_patch_value, patch_table, present_members, put, put_present, encoded_root, source_value, table_of, text_members, unless_empty, unless_no_patch};
+ghost use Rattle.cargo_lock_encoding.specs.Table.{checksum_value, encoded_package_of};
+ghost use Rattle.cargo_lock_encoding.specs.Table.{package_table, encoded_package_value};
+ghost use Rattle.cargo_lock_encoding.specs.Table.{reference_value, metadata_value, packages_value};
+ghost use Rattle.cargo_lock_encoding.specs.Table.{unused_patch_value, patch_table, present_members};
+ghost use Rattle.cargo_lock_encoding.specs.Table.{put, put_present, encoded_root, source_value};
+ghost use Rattle.cargo_lock_encoding.specs.Table.{table_of, text_members, unless_empty};
+ghost use Rattle.cargo_lock_encoding.specs.Table.{unless_no_patch};
 ghost use Rattle.cargo_lock_encoding.specs.Lockfiles.{is_escaped_number};
 ghost use Rattle.cargo_lock_parts.specs.declared.error.Error.TheVariants.{Memory};
 ghost use Rattle.cargo_lock_references.specs.Metadata.{metadata_of};
@@ -20,7 +27,7 @@ use cargo_lock_parts::package::source::SourceIdAsUrl;
 use cargo_lock_parts::package::{Checksum, Package, Version};
 use cargo_lock_parts::patch::Patch;
 use cargo_lock_references::borrowed::written_source;
-use cargo_lock_references::checksums::ordered;
+use cargo_lock_references::checksums::keys_ascend;
 use cargo_lock_references::index::Indexed;
 use cargo_lock_references::metadata::{Metadata, MetadataKey, MetadataValue};
 use cargo_lock_references::written_metadata::metadata_of;
@@ -140,9 +147,8 @@ fn package_value<'a>(
     packages: &Indexed<'a, Package>,
     package: &'a Package,
 ) -> std::result::Result<Value, AllocError>
-    ensures { IfOk result
-        (λ v. view v
-        ≡ encoded_package_value (encoded_package_of format (map identity_of packages.now) «package».now)) }
+    ensures { IfOk result (λ v. view v ≡ encoded_package_value
+        (encoded_package_of format (map identity_of packages.now) «package».now)) }
 {
     let encoded = encoded_package_of(alloc, format, packages, package)?;
     encoded_package_value(alloc, &encoded)
@@ -388,7 +394,7 @@ fn metadata_value(
     ensures { IfOk result
         (λ v. option_map view v ≡ metadata_value (texts_of metadata.now.entries)) }
 {
-    ordered(metadata);
+    keys_ascend(metadata);
     if metadata.is_empty() {
         return Ok(None);
     }

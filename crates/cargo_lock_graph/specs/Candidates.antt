@@ -1,9 +1,11 @@
 -- How the package of a dependency is found: as the last one with its identity, or else among the
 -- packages of its name and version, from the last to the first.
-use Rattle.std.specs.Prelude.{◌≡◌, ℕ, ◌<◌, ◌≤◌, nat_lt, cond, List, Option, Some, None, length, slice_get}
+use Rattle.std.specs.Prelude.{◌≡◌, ℕ, ◌<◌, ◌≤◌, nat_lt, cond, List, Option, Some, None, length}
+use Rattle.std.specs.Prelude.{slice_get}
 use Rattle.std.specs.BTreeMap.{BTreeMap, get}
 use Rattle.cargo_lock_parts.specs.Identity.{HasNameAndVersion, Identity, PackageData, identity_of}
-use Rattle.cargo_lock_parts.specs.PartialIdentity.{PartialIdentity, name_and_version, partial_identity_cmp}
+use Rattle.cargo_lock_parts.specs.PartialIdentity.{PartialIdentity, name_and_version}
+use Rattle.cargo_lock_parts.specs.PartialIdentity.{partial_identity_cmp}
 use Rattle.cargo_lock_graph.specs.declared.targets.Best.{Best}
 use Rattle.cargo_lock_graph.specs.Targets.{MatchesAt, HasIdentity, HoldsOf, IsLastBelow}
 

@@ -3,7 +3,8 @@
 -- A drawing starts at a node of a graph and goes along its edges in one direction. `far` gives the
 -- far ends of a node's edges in that direction, newest first. So a definition here speaks of every
 -- graph, with cycles, edges from a node to itself and several edges between two nodes.
-use Rattle.std.specs.Prelude.{◌≡◌, ℕ, suc, ◌<◌, ◌≤◌, Bool, true, false, ◌||◌, cond, eqb, leb, List, [], ◌∷◌, ◌++◌, All}
+use Rattle.std.specs.Prelude.{◌≡◌, ℕ, suc, ◌<◌, ◌≤◌, Bool, true, false, ◌||◌, cond, eqb, leb, List}
+use Rattle.std.specs.Prelude.{[], ◌∷◌, ◌++◌, All}
 use Rattle.cargo_lock_graph.specs.declared.drawing.entry.Entry.{Entry}
 
 -- the number is one of the list

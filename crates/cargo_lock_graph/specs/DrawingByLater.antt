@@ -1,6 +1,7 @@
 -- The text of a drawing, the prefix of each line told by the entries that come later. A lemma says
 -- that this and `drawn` are one text.
 use Rattle.std.specs.Prelude.{ℕ, zero, suc, Bool, true, false, List, [], ◌∷◌, ◌++◌}
+use Rattle.cargo_lock_parts.specs.Ascii.{newline}
 use Rattle.cargo_lock_graph.specs.declared.drawing.entry.Entry.{Entry}
 use Rattle.cargo_lock_graph.specs.Drawing.{children}
 use Rattle.cargo_lock_graph.specs.DrawingText.{SymbolTexts, level_text, branch_text}
@@ -26,7 +27,7 @@ prefix_by_later s (suc k) later = levels_text s k later ++ branch_text s (goes_o
 
 -- the line of an entry
 abbrev pub line_by_later : SymbolTexts → (ℕ → List ℕ) → Entry → List Entry → List ℕ
-line_by_later s label e later = prefix_by_later s e.depth later ++ (label e.node ++ 10 ∷ [])
+line_by_later s label e later = prefix_by_later s e.depth later ++ (label e.node ++ newline ∷ [])
 
 -- the text of the entries
 abbrev pub drawn_by_later : SymbolTexts → (ℕ → List ℕ) → List Entry → List ℕ

@@ -5,13 +5,15 @@ use Rattle.cargo_lock_parts.specs.Identity.{PackageData}
 use Rattle.cargo_lock_graph.specs.declared.graph.EdgeDirection.{EdgeDirection}
 use Rattle.cargo_lock_graph.specs.declared.drawing.entry.Entry.{Entry}
 use Rattle.cargo_lock_graph.specs.Edges.{GraphData, far_ends, near_end, Edge}
-use Rattle.cargo_lock_graph.specs.Drawing.{IsDrawing, IsFirst, Occurs, AreBelow, children, is_among, nodes_of}
+use Rattle.cargo_lock_graph.specs.Drawing.{IsDrawing, IsFirst, Occurs, AreBelow, children, is_among}
+use Rattle.cargo_lock_graph.specs.Drawing.{nodes_of}
 use Rattle.cargo_lock_graph.specs.DrawingSteps.{DrawsFrom}
 use Rattle.cargo_lock_graph.specs.DrawingPlaces.{EdgesMatchEntries}
 use Rattle.cargo_lock_graph.specs.Paths.{IsReachable}
 use Rattle.cargo_lock_graph.specs.DrawingText.{SymbolTexts, standard_symbols, drawing_text}
 use Rattle.cargo_lock_graph.specs.DrawingByLater.{drawn_by_later}
-use Rattle.cargo_lock_graph.specs.DrawingLines.{AreApart, AreLines, HasNoNewline, TellAll, cut, ended_lines}
+use Rattle.cargo_lock_graph.specs.DrawingLines.{AreApart, AreLines, HasNoNewline, TellAll, cut}
+use Rattle.cargo_lock_graph.specs.DrawingLines.{ended_lines}
 use Rattle.cargo_lock_graph.specs.Labels.{label_at}
 
 -- the drawing in words is the drawing by recursion
@@ -66,7 +68,8 @@ EdgesMatch = (far : ℕ → List ℕ) (start : ℕ) (es : List Entry) → IsDraw
 -- the text as it is defined is the text that looks at later entries
 abbrev pub TextByLater : Type 0
 TextByLater = (far : ℕ → List ℕ) (start : ℕ) (es : List Entry) (s : SymbolTexts)
-    (label : ℕ → List ℕ) → IsDrawing far start es → drawing_text s label es ≡ drawn_by_later s label es
+    (label : ℕ → List ℕ) → IsDrawing far start es
+    → drawing_text s label es ≡ drawn_by_later s label es
 
 -- Where no label holds a newline, the text is one line an entry: the first is the first entry's
 -- label, and each later one tells its entry's depth and label.

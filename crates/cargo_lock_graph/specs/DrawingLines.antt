@@ -1,6 +1,7 @@
 -- What the lines of a drawing's text tell.
 use Rattle.std.specs.Prelude.{◌≡◌, ℕ, false, cond, eqb, List, [], ◌∷◌, ◌++◌, Some}
 use Rattle.semver.specs.Identifiers.{parts_text}
+use Rattle.cargo_lock_parts.specs.Ascii.{newline}
 use Rattle.cargo_lock_parts.specs.Identity.{PackageData}
 use Rattle.cargo_lock_graph.specs.declared.drawing.entry.Entry.{Entry}
 use Rattle.cargo_lock_graph.specs.Drawing.{Occurs, is_among}
@@ -11,12 +12,12 @@ use Rattle.cargo_lock_graph.specs.ReadLine.{read_line}
 -- after the last newline is no line.
 abbrev pub cut : List ℕ → List ℕ → List (List ℕ)
 cut line [] = []
-cut line (x ∷ xs) = cond (eqb x 10) (line ∷ cut [] xs) (cut (line ++ x ∷ []) xs)
+cut line (x ∷ xs) = cond (eqb x newline) (line ∷ cut [] xs) (cut (line ++ x ∷ []) xs)
 
 -- no entry's label has a newline
 abbrev pub AreLines : (ℕ → List ℕ) → List Entry → Type 0
 AreLines label [] = Unit {0}
-AreLines label (e ∷ es) = (is_among 10 (label e.node) ≡ false) × AreLines label es
+AreLines label (e ∷ es) = (is_among newline (label e.node) ≡ false) × AreLines label es
 
 -- there are as many lines as entries, and each tells its entry's depth and label
 abbrev pub Tell : (ℕ → List ℕ) → List Entry → List (List ℕ) → Type 0
@@ -28,7 +29,7 @@ Tell label (e ∷ es) [] = ⊥
 -- the text of lines, each ended by a newline
 abbrev pub ended_lines : List (List ℕ) → List ℕ
 ended_lines [] = []
-ended_lines (l ∷ ls) = l ++ 10 ∷ ended_lines ls
+ended_lines (l ∷ ls) = l ++ newline ∷ ended_lines ls
 
 -- nodes of these entries that have one label are one
 abbrev pub AreApart : (ℕ → List ℕ) → List Entry → List Entry → Type 0
@@ -36,9 +37,9 @@ AreApart label es fs = (m n : ℕ) → Occurs m es → Occurs n fs → label m �
 
 -- the package's name, version and exact text hold no newline
 pub record HasNoNewline (p : PackageData) : Type 0 where
-  pub name : is_among 10 p.name ≡ false
-  pub version : is_among 10 (parts_text p.version) ≡ false
-  pub exact : is_among 10 (exact_text p.checksum p.source) ≡ false
+  pub name : is_among newline p.name ≡ false
+  pub version : is_among newline (parts_text p.version) ≡ false
+  pub exact : is_among newline (exact_text p.checksum p.source) ≡ false
 
 -- the first line is the first entry's label, and each later one tells its entry
 abbrev pub TellAll : (ℕ → List ℕ) → List Entry → List (List ℕ) → Type 0

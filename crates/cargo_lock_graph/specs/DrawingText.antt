@@ -1,6 +1,8 @@
 -- The text of a drawing: one line an entry, its prefix told by the entries before it and their
 -- children.
-use Rattle.std.specs.Prelude.{ℕ, zero, suc, ◌-◌, Bool, false, ◌||◌, cond, eqb, leb, List, [], ◌∷◌, ◌++◌, drop, length, get_or}
+use Rattle.std.specs.Prelude.{ℕ, zero, suc, ◌-◌, Bool, false, ◌||◌, cond, eqb, leb, List, [], ◌∷◌}
+use Rattle.std.specs.Prelude.{◌++◌, drop, length, get_or}
+use Rattle.cargo_lock_parts.specs.Ascii.{newline, space}
 use Rattle.cargo_lock_graph.specs.declared.drawing.entry.Entry.{Entry}
 use Rattle.cargo_lock_graph.specs.DrawingPlaces.{child_places, no_entry}
 
@@ -23,12 +25,12 @@ standard_symbols = record {
 -- what stands for a level above an entry: `down` where more follows on the level, otherwise a
 -- space, and then three spaces
 abbrev pub level_text : SymbolTexts → Bool → List ℕ
-level_text s more = cond more s.down (32 ∷ []) ++ (32 ∷ 32 ∷ 32 ∷ [])
+level_text s more = cond more s.down (space ∷ []) ++ (space ∷ space ∷ space ∷ [])
 
 -- what stands before an entry's label: `tee` where more follows on its own level, otherwise `ell`,
 -- and then `right` twice and a space
 abbrev pub branch_text : SymbolTexts → Bool → List ℕ
-branch_text s more = (cond more s.tee s.ell ++ s.right) ++ (s.right ++ 32 ∷ [])
+branch_text s more = (cond more s.tee s.ell ++ s.right) ++ (s.right ++ space ∷ [])
 
 -- the depth of the entry at a place
 abbrev pub depth_at : List Entry → ℕ → ℕ
@@ -71,7 +73,7 @@ prefix_at s es k (suc level) = levels_at s es k level ++ branch_text s (has_late
 -- the line of the entry at a place: its prefix, its label and a newline
 abbrev pub line_at : SymbolTexts → (ℕ → List ℕ) → List Entry → ℕ → List ℕ
 line_at s label es k =
-    prefix_at s es k (depth_at es k) ++ (label (get_or es k no_entry).node ++ 10 ∷ [])
+    prefix_at s es k (depth_at es k) ++ (label (get_or es k no_entry).node ++ newline ∷ [])
 
 -- the lines of so many entries from a place on
 abbrev pub lines_from : SymbolTexts → (ℕ → List ℕ) → List Entry → ℕ → ℕ → List ℕ

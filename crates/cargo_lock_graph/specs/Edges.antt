@@ -4,7 +4,8 @@
 -- the package's node to the node of the package that the dependency stands for. Edges are looked at
 -- in one of two directions: along them, from a package to what it depends on, or against them, from
 -- a package to what depends on it.
-use Rattle.std.specs.Prelude.{ℕ, ◌-◌, Bool, not, ◌==◌, List, [], ◌∷◌, Option, Some, None, length, map, reverse, take, slice_get}
+use Rattle.std.specs.Prelude.{ℕ, ◌-◌, Bool, not, ◌==◌, List, [], ◌∷◌, Option, Some, None, length}
+use Rattle.std.specs.Prelude.{map, reverse, take, slice_get}
 use Rattle.std.specs.List.{filter, list_any, range_with_len}
 use Rattle.cargo_lock_parts.specs.Identity.{Identity, PackageData}
 use Rattle.cargo_lock_graph.specs.declared.graph.EdgeDirection.{EdgeDirection}

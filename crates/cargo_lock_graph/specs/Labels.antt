@@ -1,10 +1,17 @@
 -- The labels of the entries of a drawing.
-use Rattle.std.specs.Prelude.{ℕ, Bool, List, [], ◌++◌, Option, Some, None, codes, cond, get_or, map, false}
-use Rattle.semver.specs.Identifiers.{parts_text}
+use Rattle.std.specs.Prelude.{ℕ, Bool, List, [], ◌++◌, Option, Some, None, codes, cond, get_or, map}
+use Rattle.std.specs.Prelude.{false}
+use Rattle.semver.specs.Identifiers.{marked, parts_text}
+use Rattle.semver.specs.Parse.{Parts}
+use Rattle.cargo_lock_parts.specs.Ascii.{hyphen, plus_sign}
 use Rattle.cargo_lock_parts.specs.Checksum.{digest_text}
 use Rattle.cargo_lock_parts.specs.Identity.{PackageData}
 use Rattle.cargo_lock_parts.specs.Source.{Source}
 use Rattle.cargo_lock_parts.specs.SourceText.{text_of}
+
+-- the pre-release and the build metadata of a version, each after its mark
+abbrev pub tags_text : Parts → List ℕ
+tags_text v = marked hyphen v.3 ++ marked plus_sign v.4
 
 -- what tells a package exactly: its checksum, or else the plain text of its source, or else
 -- `inexact`

@@ -1,5 +1,6 @@
 -- The depth and the label that a line of a drawing tells, where no tree is known.
-use Rattle.std.specs.Prelude.{ℕ, zero, suc, true, false, cond, eqb, List, [], ◌∷◌, length, Option, Some, None}
+use Rattle.std.specs.Prelude.{ℕ, zero, suc, true, false, cond, eqb, List, [], ◌∷◌, length, Option}
+use Rattle.std.specs.Prelude.{Some, None}
 use Rattle.cargo_lock_graph.specs.DrawingText.{standard_symbols, level_text, branch_text}
 
 -- what follows this beginning, if a line has it

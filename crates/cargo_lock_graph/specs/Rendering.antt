@@ -7,8 +7,8 @@ use Rattle.cargo_lock_graph.specs.DrawingText.{drawing_text, standard_symbols}
 use Rattle.cargo_lock_graph.specs.Edges.{GraphData, far_ends}
 use Rattle.cargo_lock_graph.specs.Labels.{label_at}
 
--- There is a drawing of the tree of this node, along the edges in this direction, and its text, with
--- exact labels or plain ones, is as `P` says.
+-- There is a drawing of the tree of this node, along the edges in this direction, and `P` holds of
+-- its text, with exact labels or plain ones.
 abbrev pub Draws : Bool → EdgeDirection → GraphData → ℕ → (List ℕ → Type 0) → Type 0
 Draws exact direction graph start P = (entries : List Entry)
     × IsDrawing (far_ends direction graph.edges) start entries

@@ -1,9 +1,10 @@
 -- What a sink took, and how often it failed. The bytes that a sink took are known or not: where
 -- they are not, `Appends` and `Keeps` say nothing.
-use Rattle.std.specs.Prelude.{◌≡◌, ℕ, ◌+◌, ◌<◌, ◌≤◌, List, ◌++◌, length, take, Option, Result, Ok, Err}
+use Rattle.std.specs.Prelude.{◌≡◌, ℕ, ◌+◌, ◌<◌, ◌≤◌, List, ◌++◌, length, take, Option, Result, Ok}
+use Rattle.std.specs.Prelude.{Err}
 use Rattle.std.specs.Io.KnownBytes.{Appends, Keeps}
 use Rattle.cargo_lock_parts.specs.declared.error.Error.{Error}
-use Rattle.cargo_lock_parts.specs.declared.error.Error.TheVariants.{Io, Parse, Version, Resolution, Memory}
+use Rattle.cargo_lock_parts.specs.declared.error.Error.TheVariants.{Io, Memory}
 
 -- What putting bytes leaves: at Ok(n) the first n of them are taken, one at least, and no fault is
 -- added. Otherwise nothing is taken and one fault is added.
@@ -56,9 +57,7 @@ abbrev pub IsRendered : {T : Type 0} → Taken → Taken → List ℕ → Result
 IsRendered old new text (Ok _) = Appends old.bytes new.bytes text × IsSound old new
 IsRendered old new text (Err (Io kind)) = HasFailed old new text
 IsRendered old new text (Err Memory) = Keeps old.bytes new.bytes × IsSound old new
-IsRendered old new text (Err (Parse message)) = ⊥
-IsRendered old new text (Err (Version fault)) = ⊥
-IsRendered old new text (Err (Resolution message)) = ⊥
+IsRendered old new text (Err other) = ⊥
 
 -- The same of a sink, by the bytes that it took and its count of faults.
 abbrev pub IsRenderedInto : {T : Type 0} → Option (List ℕ) → Option (List ℕ) → ℕ → ℕ → List ℕ
@@ -67,9 +66,7 @@ IsRenderedInto old new before after text (Ok _) = Appends old new text × (after
 IsRenderedInto old new before after text (Err (Io kind)) =
     ((front rest : List ℕ) × (text ≡ front ++ rest) × Appends old new front) × (after ≡ before + 1)
 IsRenderedInto old new before after text (Err Memory) = Keeps old new × (after ≡ before)
-IsRenderedInto old new before after text (Err (Parse message)) = ⊥
-IsRenderedInto old new before after text (Err (Version fault)) = ⊥
-IsRenderedInto old new before after text (Err (Resolution message)) = ⊥
+IsRenderedInto old new before after text (Err other) = ⊥
 
 -- The same of a writer, which has no count of faults.
 abbrev pub IsRenderedTo : {T : Type 0} → Option (List ℕ) → Option (List ℕ) → List ℕ → Result T Error
@@ -78,6 +75,4 @@ IsRenderedTo old new text (Ok _) = Appends old new text
 IsRenderedTo old new text (Err (Io kind)) = (front rest : List ℕ) × (text ≡ front ++ rest)
     × Appends old new front
 IsRenderedTo old new text (Err Memory) = Keeps old new
-IsRenderedTo old new text (Err (Parse message)) = ⊥
-IsRenderedTo old new text (Err (Version fault)) = ⊥
-IsRenderedTo old new text (Err (Resolution message)) = ⊥
+IsRenderedTo old new text (Err other) = ⊥

@@ -3,11 +3,13 @@
 -- A dependency has the name and the version of its package. Its source may differ from that of the
 -- package, as one on a branch from one at a commit: of the packages with its name and version those
 -- are meant whose source matches best, and of these the last.
-use Rattle.std.specs.Prelude.{◌≡◌, ℕ, ◌<◌, ◌≤◌, List, ◌∷◌, ◌++◌, length, map, slice_get, Option, Some, None, string_bytes, codes}
+use Rattle.std.specs.Prelude.{◌≡◌, ℕ, ◌<◌, ◌≤◌, List, ◌∷◌, ◌++◌, length, map, slice_get, Option}
+use Rattle.std.specs.Prelude.{Some, None, string_bytes, codes}
 use Rattle.std.specs.List.{All, AllZip, flat_map}
 use Rattle.cargo_lock_parts.specs.declared.error.Error.{Error}
-use Rattle.cargo_lock_parts.specs.declared.error.Error.TheVariants.{Io, Parse, Version, Resolution, Memory}
-use Rattle.cargo_lock_parts.specs.Identity.{HasNameAndVersion, Identity, PackageData, dependency_text, identity_key, identity_of}
+use Rattle.cargo_lock_parts.specs.declared.error.Error.TheVariants.{Resolution, Memory}
+use Rattle.cargo_lock_parts.specs.Identity.{HasNameAndVersion, Identity, PackageData}
+use Rattle.cargo_lock_parts.specs.Identity.{dependency_text, identity_key, identity_of}
 use Rattle.cargo_lock_parts.specs.Rank.{rank_of}
 use Rattle.cargo_lock_parts.specs.Source.{Source}
 use Rattle.cargo_lock_graph.specs.Edges.{Edge}
@@ -114,20 +116,17 @@ lost_text d = codes "failed to find dependency: " ++ dependency_text d
 
 -- memory ran out, or no package fits the dependency, and the text names it
 abbrev pub IsLostFault : List PackageData → Identity → Error → Type 0
-IsLostFault packages d (Io kind) = ⊥
-IsLostFault packages d (Parse message) = ⊥
-IsLostFault packages d (Version fault) = ⊥
-IsLostFault packages d (Resolution message) = IsLost packages d × (string_bytes message ≡ lost_text d)
+IsLostFault packages d (Resolution message) =
+    IsLost packages d × (string_bytes message ≡ lost_text d)
 IsLostFault packages d Memory = Unit {0}
+IsLostFault packages d other = ⊥
 
 -- memory ran out, or no package fits some dependency among these, and the text names the first such
 abbrev pub IsUnresolved : List PackageData → List Link → Error → Type 0
-IsUnresolved packages among (Io kind) = ⊥
-IsUnresolved packages among (Parse message) = ⊥
-IsUnresolved packages among (Version fault) = ⊥
 IsUnresolved packages among (Resolution message) = (d : Identity) × IsFirstLost packages among d
     × (string_bytes message ≡ lost_text d)
 IsUnresolved packages among Memory = Unit {0}
+IsUnresolved packages among other = ⊥
 
 -- ---- the laws of edges
 

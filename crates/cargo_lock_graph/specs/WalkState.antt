@@ -1,5 +1,6 @@
 -- What a walk over a graph has still to draw, and what it holds.
-use Rattle.std.specs.Prelude.{◌≡◌, ℕ, suc, ◌+◌, ◌≤◌, ◌<◌, Bool, List, [], ◌∷◌, ◌++◌, length, IfSome, All, Option, max, vec_capacity}
+use Rattle.std.specs.Prelude.{◌≡◌, ℕ, suc, ◌+◌, ◌≤◌, ◌<◌, Bool, List, [], ◌∷◌, ◌++◌, length, IfSome}
+use Rattle.std.specs.Prelude.{All, Option, max, vec_capacity}
 use Rattle.cargo_lock_graph.specs.declared.graph.EdgeDirection.{EdgeDirection}
 use Rattle.cargo_lock_graph.specs.declared.drawing.entry.Entry.{Entry}
 use Rattle.cargo_lock_graph.specs.declared.drawing.walk.Walk.{Walk}

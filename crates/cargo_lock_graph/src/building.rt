@@ -1,13 +1,17 @@
-//! The graph of packages: their nodes and their edges.
+//! The graph of packages: their nodes and their edges. The package that an edge leads to is found
+//! by `Candidates::find` of `targets.rt`.
 
-ghost use Rattle.std.specs.Prelude.{◌≡◌, ◌++◌, cond, List, Some, IfErr, IfOk, IsOkUnless, MatchResult, OnOk};
+ghost use Rattle.std.specs.Prelude.{◌≡◌, ◌++◌, cond, List, Some, IfErr, IfOk, IsOkUnless};
+ghost use Rattle.std.specs.Prelude.{MatchResult, OnOk};
 ghost use Rattle.std.specs.BTreeMap.{get, is_at};
 ghost use Rattle.std.specs.List.{AllZip};
 ghost use Rattle.cargo_lock_parts.specs.declared.error.Error.TheVariants.{Memory};
 ghost use Rattle.cargo_lock_parts.specs.Identity.{Identity, identity_of};
 ghost use Rattle.cargo_lock_parts.specs.IdentityOrder.{identity_cmp};
 ghost use Rattle.cargo_lock_graph.specs.Edges.{Edge};
-ghost use Rattle.cargo_lock_graph.specs.Targets.{AreEdgesOf, IsEdgeOf, IsLastWith, IsLost, IsLostFault, IsTarget, IsUnresolved, links, links_of};
+ghost use Rattle.cargo_lock_graph.specs.Targets.{AreEdgesOf, IsEdgeOf, IsLastWith, IsLost};
+ghost use Rattle.cargo_lock_graph.specs.Targets.{IsLostFault, IsTarget, IsUnresolved, links};
+ghost use Rattle.cargo_lock_graph.specs.Targets.{links_of};
 
 use crate::graph::{Graph, NodeIndex, Nodes, StoredEdge, clone_packages};
 use crate::targets::Candidates;

@@ -4,11 +4,14 @@
 //! as two chains, of those that leave it and of those that enter it, so that they are found without
 //! a look at the others.
 
-ghost use Rattle.std.specs.Prelude.{◌≡◌, ◌+◌, ◌^◌, ◌<◌, ◌≤◌, [], ◌∷◌, All, IfOk, IfSome, MatchOption, Some, None, length, option_map, unwrap_or, slice_get};
+ghost use Rattle.std.specs.Prelude.{◌≡◌, ◌+◌, ◌^◌, ◌<◌, ◌≤◌, [], ◌∷◌, All, IfOk, IfSome};
+ghost use Rattle.std.specs.Prelude.{MatchOption, Some, None, length, option_map, unwrap_or};
+ghost use Rattle.std.specs.Prelude.{slice_get};
 ghost use Rattle.std.specs.Iterator.{YieldsFirst, item_count};
 ghost use Rattle.std.specs.List.{range_with_len};
 ghost use Rattle.cargo_lock_graph.specs.Chains.{AreBetween, AreChains};
-ghost use Rattle.cargo_lock_graph.specs.Edges.{edges_at, edges_from, externals, externals_from, far_end, near_end};
+ghost use Rattle.cargo_lock_graph.specs.Edges.{edges_at, edges_from, externals, externals_from};
+ghost use Rattle.cargo_lock_graph.specs.Edges.{far_end, near_end};
 
 use cargo_lock_parts::dependency::Dependency;
 use cargo_lock_parts::package::Package;
@@ -128,7 +131,8 @@ pub struct Graph {
 
 impl Model for Graph {
     ghost use Rattle.std.specs.Prelude.{length};
-    ghost use Rattle.cargo_lock_graph.specs.declared.graph.EdgeDirection.TheVariants.{Incoming, Outgoing};
+    ghost use Rattle.cargo_lock_graph.specs.declared.graph.EdgeDirection.TheVariants.{Incoming};
+    ghost use Rattle.cargo_lock_graph.specs.declared.graph.EdgeDirection.TheVariants.{Outgoing};
     ghost use Rattle.cargo_lock_graph.specs.Chains.{AreBetween, AreChains};
     ghost use Rattle.cargo_lock_graph.specs.Edges.{GraphData};
 

@@ -1,10 +1,12 @@
 //! Which package a dependency stands for.
 
-ghost use Rattle.std.specs.Prelude.{◌≡◌, ◌<◌, ℕ, cond, IfOk, IfSome, MatchOption, OnOk, Some, None, length, option_map, slice_get};
+ghost use Rattle.std.specs.Prelude.{◌≡◌, ◌<◌, cond, IfOk, IfSome, MatchOption, OnOk, Some, None};
+ghost use Rattle.std.specs.Prelude.{length, option_map, slice_get};
 ghost use Rattle.std.specs.BTreeMap.{get, is_at};
 ghost use Rattle.semver.specs.Identifiers.{parts_of};
 ghost use Rattle.cargo_lock_parts.specs.Identity.{identity_of};
-ghost use Rattle.cargo_lock_parts.specs.PartialIdentity.{PartialIdentity, name_and_version, partial_identity_cmp};
+ghost use Rattle.cargo_lock_parts.specs.PartialIdentity.{PartialIdentity, name_and_version};
+ghost use Rattle.cargo_lock_parts.specs.PartialIdentity.{partial_identity_cmp};
 ghost use Rattle.cargo_lock_graph.specs.Candidates.{AreLastPlaces, AreVersions};
 ghost use Rattle.cargo_lock_graph.specs.Candidates as spec;
 ghost use Rattle.cargo_lock_graph.specs.Targets.{IsLastWith, IsLost, IsTarget};

@@ -13,7 +13,7 @@ use Rattle.percent_encoding.specs.AsciiSet.{contains, should_percent_encode}
 use Rattle.percent_encoding.specs.Percent.{percent_encode, percent_encode_byte, encode_byte}
 use Rattle.percent_encoding.proofs.AsciiSetLemmas.{kept_from_outside, escaped_from_inside}
 use Rattle.cargo_lock_parts.specs.declared.package.source.file_url.TheConstants.{ESCAPED}
-use Rattle.cargo_lock_parts.specs.FileUrl.{is_slash, is_kept_part, plain_marks, is_plain_byte, escaped_part, part_text, kept_text, parts_text}
+use Rattle.cargo_lock_parts.specs.FileUrl.{is_slash, is_kept_part, plain_marks, is_plain_byte, escaped_part, part_text, kept_text, path_parts_text}
 
 -- ---- the parts
 
@@ -29,7 +29,7 @@ kept_text-cons part parts =
 
 -- the first part, and the others after it
 pub parts_text_first : (path : List ℕ) → position_or_len is_slash path < length path
-    → parts_text path ≡ kept_text (before_first is_slash path) ++ parts_text (after_first is_slash path)
+    → path_parts_text path ≡ kept_text (before_first is_slash path) ++ path_parts_text (after_first is_slash path)
 parts_text_first path within =
     ap (λ parts. flat_map part_text (filter is_kept_part parts)) (slice_split_first is_slash path 0 within)
     ∙ kept_text-cons (before_first is_slash path) (slice_split is_slash (after_first is_slash path))
@@ -43,7 +43,7 @@ no_slash (b ∷ bytes) none =
     (cases_Bool (is_slash b))
 
 -- the one part of a path without a slash
-pub parts_text_last : (path : List ℕ) → position_or_len is_slash path ≡ length path → parts_text path ≡ kept_text path
+pub parts_text_last : (path : List ℕ) → position_or_len is_slash path ≡ length path → path_parts_text path ≡ kept_text path
 parts_text_last path none =
     ap (λ parts. flat_map part_text (filter is_kept_part parts)) (slice_split_none is_slash path (no_slash path none))
     ∙ kept_text-cons path [] ∙ append-nil (kept_text path)
@@ -120,16 +120,16 @@ added_part part old slash new filled other at_slash at_part =
 -- a turn adds the first part of what is left
 pub parts_turn : (rest part more text new all : List ℕ) → position_or_len is_slash rest < length rest
     → part ≡ before_first is_slash rest → more ≡ after_first is_slash rest → new ≡ text ++ kept_text part
-    → text ++ parts_text rest ≡ all → new ++ parts_text more ≡ all
+    → text ++ path_parts_text rest ≡ all → new ++ path_parts_text more ≡ all
 parts_turn rest part more text new all within at_part at_more at_new so_far =
-    (λ i. at_new i ++ parts_text (at_more i))
-    ∙ append_assoc text (kept_text part) (parts_text (after_first is_slash rest))
-    ∙ ap (λ p. text ++ (kept_text p ++ parts_text (after_first is_slash rest))) at_part
+    (λ i. at_new i ++ path_parts_text (at_more i))
+    ∙ append_assoc text (kept_text part) (path_parts_text (after_first is_slash rest))
+    ∙ ap (λ p. text ++ (kept_text p ++ path_parts_text (after_first is_slash rest))) at_part
     ∙ ap (λ t. text ++ t) (sym (parts_text_first rest within))
     ∙ so_far
 
 -- what is left at the end is the last part
 pub parts_end : (rest text new all : List ℕ) → position_or_len is_slash rest ≡ length rest → new ≡ text ++ kept_text rest
-    → text ++ parts_text rest ≡ all → new ≡ all
+    → text ++ path_parts_text rest ≡ all → new ≡ all
 parts_end rest text new all none at_new so_far =
     at_new ∙ ap (λ t. text ++ t) (sym (parts_text_last rest none)) ∙ so_far

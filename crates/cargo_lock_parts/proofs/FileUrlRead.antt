@@ -18,7 +18,7 @@ use Rattle.url.proofs.SetLemmas.{passes_from_kept}
 use Rattle.cargo_lock_parts.specs.declared.package.source.file_url.TheConstants.{ESCAPED}
 use Rattle.cargo_lock_parts.specs.Source.{Kind}
 use Rattle.cargo_lock_parts.specs.SourceReading.{plain_source, url_of}
-use Rattle.cargo_lock_parts.specs.FileUrl.{escaped_part, part_text, text_of_parts, parts_of, begins_with_slash, source_at, RootedPathsHaveSources}
+use Rattle.cargo_lock_parts.specs.FileUrl.{escaped_part, part_text, file_url_of, path_parts, begins_with_slash, source_at, RootedPathsHaveSources}
 use Rattle.cargo_lock_parts.proofs.FileUrlLemmas.{escaped_right}
 
 -- ---- what stands in the text
@@ -49,7 +49,7 @@ record IsRooted (text : List ℕ) : Type 0 where
   clean : All (Passes is_clean) more
   shape : text ≡ root ++ more
 
-rooted : (parts : List (List ℕ)) → IsRooted (text_of_parts parts)
+rooted : (parts : List (List ℕ)) → IsRooted (file_url_of parts)
 rooted [] = record { more = []; clean = All-nil (Passes is_clean); shape = refl }
 rooted (part ∷ parts) = record {
   more = escaped_part part ++ flat_map part_text parts;
@@ -118,7 +118,7 @@ read_clean more clean =
     ap is_ok (by_scheme (root ++ more) (trimmed 102 _ all) (stripped _ all) (no_hash _ all) (no_question _ all))
     ∙ read_rooted more
 
-read_parts : (parts : List (List ℕ)) → is_ok (parse_url None (text_of_parts parts)) ≡ true
+read_parts : (parts : List (List ℕ)) → is_ok (parse_url None (file_url_of parts)) ≡ true
 read_parts parts =
     let text = rooted parts in
     ap (λ t. is_ok (parse_url None t)) text.shape ∙ read_clean text.more text.clean
@@ -131,5 +131,5 @@ pub rooted_paths_have_sources : RootedPathsHaveSources
 unfolding source_at
 rooted_paths_have_sources kind path begins =
     ap (λ text. is_some (option_map (plain_source kind None) (option_and_then url_of text)))
-    (cond-true (begins_with_slash path) (Some (text_of_parts (parts_of path))) None begins)
-    ∙ source_from_url kind (parse_url None (text_of_parts (parts_of path))) (read_parts (parts_of path))
+    (cond-true (begins_with_slash path) (Some (file_url_of (path_parts path))) None begins)
+    ∙ source_from_url kind (parse_url None (file_url_of (path_parts path))) (read_parts (path_parts path))

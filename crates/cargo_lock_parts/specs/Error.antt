@@ -1,25 +1,28 @@
 -- What a fault says, without the room that its text keeps.
-use Rattle.std.specs.Prelude.{◌≡◌, ℕ, ◌⊎◌, List, Result, Ok, Err, Option, Some, None, IfErr, ◌<◌, length, string_bytes, codes}
+use Rattle.std.specs.Prelude.{◌≡◌, ℕ, ◌⊎◌, List, String, Result, Ok, Err, Option, Some, None, IfErr}
+use Rattle.std.specs.Prelude.{◌<◌, length, string_bytes, codes}
+use Rattle.std.specs.declared.alloc.AllocError.{AllocError}
+use Rattle.std.specs.declared.alloc.Global.{Global}
 use Rattle.semver.specs.Parse.{memory_error}
 use Rattle.semver.specs.declared.error.Error.{Error as VersionError}
 use Rattle.cargo_lock_parts.specs.declared.error.Error.{Error}
-use Rattle.cargo_lock_parts.specs.declared.error.Error.TheVariants.{Io, Parse, Version, Resolution, Memory}
+use Rattle.cargo_lock_parts.specs.declared.error.Error.TheVariants.{Parse, Version, Memory}
 
 -- the fault is `Parse` with this text
 abbrev pub IsParse : Error → List ℕ → Type 0
-IsParse (Io kind) text = ⊥
 IsParse (Parse message) text = string_bytes message ≡ text
-IsParse (Version fault) text = ⊥
-IsParse (Resolution message) text = ⊥
-IsParse Memory text = ⊥
+IsParse other text = ⊥
+
+-- the fault that a text makes: `Parse` with it, or `Memory` where its memory was refused
+abbrev pub parse_fault : Result (String Global) AllocError → Error
+parse_fault (Ok text) = Parse text
+parse_fault (Err e) = Memory
 
 -- the fault is `Parse` or running out of memory
 abbrev pub IsParseOrMemory : Error → Type 0
-IsParseOrMemory (Io kind) = ⊥
 IsParseOrMemory (Parse message) = Unit {0}
-IsParseOrMemory (Version fault) = ⊥
-IsParseOrMemory (Resolution message) = ⊥
 IsParseOrMemory Memory = Unit {0}
+IsParseOrMemory other = ⊥
 
 -- the fault of `semver` as a fault of this crate: out of memory stays out of memory
 abbrev pub IsFromVersion : VersionError → Error → Type 0
@@ -48,11 +51,9 @@ IsTooLong e = IsParse e too_long
 -- A refusal: memory may run out at any time, and `Parse` comes only where P holds. No other fault
 -- comes.
 abbrev pub Refuses : Error → Type 0 → Type 0
-Refuses (Io kind) P = ⊥
 Refuses (Parse message) P = P
-Refuses (Version fault) P = ⊥
-Refuses (Resolution message) P = ⊥
 Refuses Memory P = Unit {0}
+Refuses other P = ⊥
 
 -- `Ok` with the meaning alone, and `Parse` only where there is none
 abbrev pub Reads : {X Y : Type 0} → (X → Y) → Result X Error → Option Y → Type 0
@@ -61,11 +62,9 @@ Reads view (Err e) meaning = Refuses e (meaning ≡ None)
 
 -- A refusal of a reader of URLs, one of which may also have 4 GB or more.
 abbrev pub RefusesUrls : Error → Type 0 → Type 0
-RefusesUrls (Io kind) P = ⊥
 RefusesUrls (Parse message) P = P ⊎ (string_bytes message ≡ too_long)
-RefusesUrls (Version fault) P = ⊥
-RefusesUrls (Resolution message) P = ⊥
 RefusesUrls Memory P = Unit {0}
+RefusesUrls other P = ⊥
 
 -- `Ok` with the meaning alone, and `Parse` only where there is none or a URL has 4 GB or more
 abbrev pub ReadsUrls : {X Y : Type 0} → (X → Y) → Result X Error → Option Y → Type 0

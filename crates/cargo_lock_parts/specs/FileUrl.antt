@@ -2,10 +2,15 @@
 -- are empty or `.` are dropped, and the others are escaped. What then stands after `file://` is
 -- read as any URL. There a part `..` takes back the part before it, if there is one, unless that
 -- part is the first and is a letter and `:`: `/a/../b` is `/b`, and `/C:/../b` is `/C:/b`.
-use Rattle.std.specs.Prelude.{◌≡◌, ℕ, Bool, true, false, not, ◌&&◌, ◌||◌, ◌==◌, List, [], ◌∷◌, ◌++◌, length, filter, codes, bytes_eq, Option, Some, None, is_some, option_map, option_and_then, if◌then◌else◌}
+use Rattle.std.specs.Prelude.{◌≡◌, ℕ, Bool, true, false, not, ◌&&◌, ◌||◌, ◌==◌, List, [], ◌∷◌, ◌++◌}
+use Rattle.std.specs.Prelude.{length, filter, codes, bytes_eq, Option, Some, None, is_some}
+use Rattle.std.specs.Prelude.{option_map, option_and_then, if◌then◌else◌, Result}
 use Rattle.std.specs.Char.{is_ascii_alphanumeric}
 use Rattle.std.specs.List.{flat_map, list_any, slice_split}
 use Rattle.percent_encoding.specs.Percent.{percent_encode_byte}
+use Rattle.cargo_lock_parts.specs.declared.error.Error.{Error}
+use Rattle.cargo_lock_parts.specs.Ascii.{slash}
+use Rattle.cargo_lock_parts.specs.Error.{IsShort, Reads, ReadsUrls, RefusesWith}
 use Rattle.cargo_lock_parts.specs.Source.{Kind, Source}
 use Rattle.cargo_lock_parts.specs.SourceReading.{plain_source, url_of}
 
@@ -13,7 +18,7 @@ use Rattle.cargo_lock_parts.specs.SourceReading.{plain_source, url_of}
 
 -- the byte is `/`
 abbrev pub is_slash : ℕ → Bool
-is_slash b = b == 47
+is_slash b = b == slash
 
 -- the path is one from the root
 abbrev pub begins_with_slash : List ℕ → Bool
@@ -25,8 +30,8 @@ abbrev pub is_kept_part : List ℕ → Bool
 is_kept_part part = not (length part == 0) && not (bytes_eq part (codes "."))
 
 -- the parts of a path that are kept
-abbrev pub parts_of : List ℕ → List (List ℕ)
-parts_of path = filter is_kept_part (slice_split is_slash path)
+abbrev pub path_parts : List ℕ → List (List ℕ)
+path_parts path = filter is_kept_part (slice_split is_slash path)
 
 -- ---- their text in a URL
 
@@ -51,18 +56,18 @@ abbrev pub kept_text : List ℕ → List ℕ
 kept_text part = if is_kept_part part then part_text part else []
 
 -- the parts of a path that are kept, one after the other
-abbrev pub parts_text : List ℕ → List ℕ
-parts_text path = flat_map part_text (parts_of path)
+abbrev pub path_parts_text : List ℕ → List ℕ
+path_parts_text path = flat_map part_text (path_parts path)
 
 -- `file://` and the parts, or one `/` where there is none
-abbrev pub text_of_parts : List (List ℕ) → List ℕ
-text_of_parts [] = codes "file:///"
-text_of_parts (part ∷ parts) = codes "file://" ++ flat_map part_text (part ∷ parts)
+abbrev pub file_url_of : List (List ℕ) → List ℕ
+file_url_of [] = codes "file:///"
+file_url_of (part ∷ parts) = codes "file://" ++ flat_map part_text (part ∷ parts)
 
 -- the text that is read as the URL of a path; there is none unless the path begins with `/`
 abbrev pub file_url_text : List ℕ → Option (List ℕ)
 file_url_text path =
-    if begins_with_slash path then Some (text_of_parts (parts_of path)) else None
+    if begins_with_slash path then Some (file_url_of (path_parts path)) else None
 
 -- ---- the source
 
@@ -74,6 +79,14 @@ source_at kind path =
 -- what is said of a path that does not begin with `/`
 abbrev pub invalid_path : List ℕ → List ℕ
 invalid_path path = codes "invalid path url `" ++ path ++ codes "`"
+
+-- The answer is the source of this kind at the path. `Parse` comes where there is none, and names a
+-- path that does not begin with `/`. It also comes of a URL of 4 GB or more, which the URL of a
+-- short path never has.
+abbrev pub ReadsFolder : Result Source Error → Kind → List ℕ → Type 0
+ReadsFolder result kind path = ReadsUrls (λ source. source) result (source_at kind path)
+    × (IsShort path → Reads (λ source. source) result (source_at kind path))
+    × (begins_with_slash path ≡ false → RefusesWith result (invalid_path path))
 
 -- each path from the root has a source
 abbrev pub RootedPathsHaveSources : Type 0

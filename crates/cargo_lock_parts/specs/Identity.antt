@@ -1,6 +1,7 @@
 -- What contracts see of dependencies and packages: texts are their bytes, a version is its numbers
 -- and texts, and a source is as `Source` has it.
-use Rattle.std.specs.Prelude.{◌≡◌, ℕ, List, [], ◌++◌, codes, map, Option, Some, None, option_map, false}
+use Rattle.std.specs.Prelude.{◌≡◌, ℕ, List, [], ◌++◌, codes, map, Option, Some, None, option_map}
+use Rattle.std.specs.Prelude.{false}
 use Rattle.semver.specs.Parse.{Parts}
 use Rattle.semver.specs.Identifiers.{parts_text}
 use Rattle.cargo_lock_parts.specs.Source.{Source}

@@ -1,3 +1,4 @@
+pub mod Ascii
 pub mod Error
 pub mod Source
 pub mod SourceKey

@@ -2,16 +2,16 @@
 use Rattle.std.specs.Prelude.{◌≡◌, ℕ, Bool, List, Option, Some, None, option_map, refl}
 use Rattle.std.specs.Option.{option_cmp}
 use Rattle.std.specs.declared.cmp.Ordering.{Ordering}
-use Rattle.std.specs.declared.cmp.Ordering.TheVariants.{Equal}
-use Rattle.std.specs.Ordering.{on, then_cmp, ordering_then, eq_by_cmp, is_eq}
+use Rattle.std.specs.Ordering.{on, then_cmp, ordering_then, eq_by_cmp}
 use Rattle.std.specs.Bool.{Decides}
-use Rattle.std.specs.Cmp.{Equal-is, IsTotalOrder, on_total, then_total}
+use Rattle.std.specs.Cmp.{IsTotalOrder, on_total, then_total}
 use Rattle.std.specs.Cmp.Lexicographic.{nat_list_cmp_total, options_total}
 use Rattle.std.specs.FinMap.{IsAntisymmetric}
-use Rattle.std.proofs.Common.{sym, ◌∙◌, ap, subst}
-use Rattle.std.proofs.lemmas.Cmp.{tied_itself}
+use Rattle.std.proofs.Common.{ap}
 use Rattle.semver.specs.Parse.{Parts}
-use Rattle.cargo_lock_parts.specs.IdentityLaws.{version_total, version_cmp-anti, text_cmp-anti, key_cmp-anti, option_cmp-anti, option_cmp-by, tied-first, tied-second}
+use Rattle.cargo_lock_parts.specs.IdentityLaws.{version_total, version_cmp-anti, text_cmp-anti}
+use Rattle.cargo_lock_parts.specs.IdentityLaws.{key_cmp-anti, option_cmp-anti, option_cmp-by}
+use Rattle.cargo_lock_parts.specs.IdentityLaws.{by_keys-Decides, tied-three}
 use Rattle.cargo_lock_parts.specs.IdentityOrder.{version_cmp}
 use Rattle.cargo_lock_parts.specs.Source.{Source}
 use Rattle.cargo_lock_parts.specs.SourceKey.{Key, key_cmp, key_of, source_cmp, text_cmp}
@@ -61,26 +61,29 @@ pub record PartialKey : Type 0 where
 abbrev pub partial_key : PartialIdentity → PartialKey
 partial_key i = record { name = i.name; version = i.version; source = option_map key_of i.source }
 
-partial_key_cmp : PartialKey → PartialKey → Ordering
+-- keys compare part by part
+unfoldable pub partial_key_cmp : PartialKey → PartialKey → Ordering
 partial_key_cmp = then_cmp (then_cmp
     (on (λ k. k.name) text_cmp)
     (on (λ k. k.version) (option_cmp version_cmp)))
     (on (λ k. k.source) (option_cmp key_cmp))
 
-partial_key-total : IsTotalOrder partial_key_cmp
+-- the order of keys is total
+pub partial_key-total : IsTotalOrder partial_key_cmp
 unfolding partial_key_cmp
 partial_key-total = then_total (then_total
     (on_total (λ (k : PartialKey). k.name) nat_list_cmp_total)
     (on_total (λ (k : PartialKey). k.version) (options_total version_total)))
     (on_total (λ (k : PartialKey). k.source) (options_total key_total))
 
-partial_key-anti : IsAntisymmetric partial_key_cmp
+-- keys that tie are one
+pub partial_key-anti : IsAntisymmetric partial_key_cmp
 unfolding partial_key_cmp
 partial_key-anti j k e =
-    let front = tied-first _ _ e in
-    let name = text_cmp-anti j.name k.name (tied-first _ _ front) in
-    let version = option_cmp-anti version_cmp-anti j.version k.version (tied-second _ _ front) in
-    let source = option_cmp-anti key_cmp-anti j.source k.source (tied-second _ _ e) in
+    let (names, versions, sources) = tied-three _ _ _ e in
+    let name = text_cmp-anti j.name k.name names in
+    let version = option_cmp-anti version_cmp-anti j.version k.version versions in
+    let source = option_cmp-anti key_cmp-anti j.source k.source sources in
     λ i. record { name = name i; version = version i; source = source i }
 
 partial_identity_cmp-key : (a b : PartialIdentity) → partial_identity_cmp a b
@@ -94,10 +97,5 @@ partial_identity_cmp-key a b =
 -- two are the same exactly where their keys are
 pub is_same_partial_identity-Decides : (a b : PartialIdentity)
     → Decides (is_same_partial_identity a b) (partial_key a ≡ partial_key b)
-is_same_partial_identity-Decides a b = (
-  λ h. partial_key-anti _ _
-      (sym (partial_identity_cmp-key a b) ∙ (Equal-is (partial_identity_cmp a b)).0 h),
-  λ e. ap is_eq (partial_identity_cmp-key a b
-      ∙ subst (λ k. partial_key_cmp (partial_key a) k ≡ Equal) e
-      (tied_itself partial_key-total (partial_key a))),
-)
+is_same_partial_identity-Decides = by_keys-Decides partial_identity_cmp partial_key_cmp partial_key
+    partial_key-total partial_key-anti partial_identity_cmp-key

@@ -3,25 +3,20 @@
 -- Rank 1 is the best. Each rank has a condition, those of the ranks 1 to 3 imply that of rank 4,
 -- and two sources match where the condition of rank 4 holds. A match is no equality: a dependency
 -- on a branch matches each commit of that branch.
-use Rattle.std.specs.Prelude.{◌≡◌, ◌↔◌, ℕ, Bool, true, false, not, ◌&&◌, ◌||◌, ◌==◌, List, bytes_eq, Option, Some, None, is_none, if◌then◌else◌}
+use Rattle.std.specs.Prelude.{◌≡◌, ◌↔◌, ℕ, Bool, true, false, not, ◌&&◌, ◌||◌, ◌==◌, List, bytes_eq}
+use Rattle.std.specs.Prelude.{Option, Some, None, is_none, if◌then◌else◌}
 use Rattle.std.specs.Option.{option_eq, option_or}
 use Rattle.url.specs.Parts.{serialize}
-use Rattle.cargo_lock_parts.specs.Source.{Kind, Source, DefaultBranch, Tag, Branch, Rev, Git, Path, Registry, SparseRegistry, LocalRegistry, Directory, is_git}
-use Rattle.cargo_lock_parts.specs.SourceKey.{kind_number, git_reference_text, key_of, is_same_source}
+use Rattle.cargo_lock_parts.specs.Source.{Kind, Source, Rev, Git, is_git}
+use Rattle.cargo_lock_parts.specs.SourceKey.{kind_number, git_reference_text, key_of}
+use Rattle.cargo_lock_parts.specs.SourceKey.{is_same_source}
 
 -- ---- what the conditions look at
 
 -- the value of `Rev`, where the source is a repository at one
 abbrev pub revision : Kind → Option (List ℕ)
-revision (Git DefaultBranch) = None
-revision (Git (Tag text)) = None
-revision (Git (Branch text)) = None
 revision (Git (Rev text)) = Some text
-revision Path = None
-revision Registry = None
-revision SparseRegistry = None
-revision LocalRegistry = None
-revision Directory = None
+revision other = None
 
 -- the commit of a git source: the precise text, or else the value of `Rev`
 abbrev pub commit_of : Source → Option (List ℕ)

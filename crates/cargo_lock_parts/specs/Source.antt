@@ -1,8 +1,7 @@
 -- What contracts see of a source: where a package of a lockfile comes from.
 use Rattle.std.specs.Prelude.{ℕ, Bool, List, Option, Some, None, string_bytes, true, false}
 use Rattle.url.specs.Parts.{Parts}
-use Rattle.cargo_lock_parts.specs.declared.package.source.reference.GitReference as declared_reference
-use Rattle.cargo_lock_parts.specs.declared.package.source.reference.GitReference.TheVariants as reference
+use Rattle.cargo_lock_parts.specs.declared.package.source.reference.GitReference as reference
 use Rattle.cargo_lock_parts.specs.declared.package.source.SourceKind.{SourceKind}
 use Rattle.cargo_lock_parts.specs.declared.package.source.SourceKind.TheVariants as kind
 
@@ -40,11 +39,11 @@ pub record MarkedGitReference : Type 0 where
   pub escaped : Bool
 
 -- the reference without the room that its text keeps
-abbrev pub git_reference_of : declared_reference.GitReference → GitReference
-git_reference_of reference.DefaultBranch = DefaultBranch
-git_reference_of (reference.Tag text) = Tag (string_bytes text)
-git_reference_of (reference.Branch text) = Branch (string_bytes text)
-git_reference_of (reference.Rev text) = Rev (string_bytes text)
+abbrev pub git_reference_of : reference.GitReference → GitReference
+git_reference_of reference.TheVariants.DefaultBranch = DefaultBranch
+git_reference_of (reference.TheVariants.Tag text) = Tag (string_bytes text)
+git_reference_of (reference.TheVariants.Branch text) = Branch (string_bytes text)
+git_reference_of (reference.TheVariants.Rev text) = Rev (string_bytes text)
 
 -- the kind without the room that its texts keep
 abbrev pub kind_of : SourceKind → Kind
@@ -57,45 +56,28 @@ kind_of kind.Directory = Directory
 
 -- the source is a path: it may be read from a lockfile, and is never written into one
 abbrev pub is_path : Kind → Bool
-is_path (Git reference) = false
 is_path Path = true
-is_path Registry = false
-is_path SparseRegistry = false
-is_path LocalRegistry = false
-is_path Directory = false
+is_path other = false
 
 -- the source is a repository
 abbrev pub is_git : Kind → Bool
 is_git (Git reference) = true
-is_git Path = false
-is_git Registry = false
-is_git SparseRegistry = false
-is_git LocalRegistry = false
-is_git Directory = false
+is_git other = false
 
 -- the source is a registry, remote or on this machine
 abbrev pub is_registry : Kind → Bool
-is_registry (Git reference) = false
-is_registry Path = false
 is_registry Registry = true
 is_registry SparseRegistry = true
 is_registry LocalRegistry = true
-is_registry Directory = false
+is_registry other = false
 
 -- the source is a registry that is asked over the network
 abbrev pub is_remote_registry : Kind → Bool
-is_remote_registry (Git reference) = false
-is_remote_registry Path = false
 is_remote_registry Registry = true
 is_remote_registry SparseRegistry = true
-is_remote_registry LocalRegistry = false
-is_remote_registry Directory = false
+is_remote_registry other = false
 
 -- what is checked out, if the source is a repository
 abbrev pub git_reference : Kind → Option GitReference
 git_reference (Git reference) = Some reference
-git_reference Path = None
-git_reference Registry = None
-git_reference SparseRegistry = None
-git_reference LocalRegistry = None
-git_reference Directory = None
+git_reference other = None

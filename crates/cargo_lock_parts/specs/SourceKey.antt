@@ -12,7 +12,8 @@ use Rattle.std.specs.Cmp.Lexicographic.{slice_cmp}
 use Rattle.std.specs.Hash.{HashWrites}
 use Rattle.std.specs.Hash as fed
 use Rattle.url.specs.Parts.{serialize}
-use Rattle.cargo_lock_parts.specs.Source.{Kind, Source, DefaultBranch, Tag, Branch, Rev, Git, Path, Registry, SparseRegistry, LocalRegistry, Directory}
+use Rattle.cargo_lock_parts.specs.Source.{Kind, Source, DefaultBranch, Tag, Branch, Rev, Git, Path}
+use Rattle.cargo_lock_parts.specs.Source.{Registry, SparseRegistry, LocalRegistry, Directory}
 
 -- where a kind with its reference stands in the order
 abbrev pub kind_number : Kind → ℕ
@@ -28,24 +29,15 @@ kind_number Directory = 8
 
 -- the text of the reference, which is empty where there is none
 abbrev pub git_reference_text : Kind → List ℕ
-git_reference_text (Git DefaultBranch) = []
 git_reference_text (Git (Tag text)) = text
 git_reference_text (Git (Branch text)) = text
 git_reference_text (Git (Rev text)) = text
-git_reference_text Path = []
-git_reference_text Registry = []
-git_reference_text SparseRegistry = []
-git_reference_text LocalRegistry = []
-git_reference_text Directory = []
+git_reference_text other = []
 
 -- the precise text of a git source
 abbrev pub precise_if_git : Kind → Option (List ℕ) → Option (List ℕ)
 precise_if_git (Git reference) precise = precise
-precise_if_git Path precise = None
-precise_if_git Registry precise = None
-precise_if_git SparseRegistry precise = None
-precise_if_git LocalRegistry precise = None
-precise_if_git Directory precise = None
+precise_if_git other precise = None
 
 -- what tells a source from others
 pub record Key : Type 0 where

@@ -5,12 +5,16 @@ use Rattle.std.specs.declared.cmp.Ordering.{Ordering}
 use Rattle.std.specs.declared.cmp.Ordering.TheVariants.{Less, Equal, Greater}
 use Rattle.std.specs.Ordering.{nat_cmp, is_eq, ordering_then, eq_by_cmp}
 use Rattle.std.specs.Bool.{Decides}
-use Rattle.std.specs.Cmp.{IsTotalOrder, then_total, on_total, nat_cmp_total, unsigned_tied, unsigned_Decides}
-use Rattle.std.specs.Cmp.Lexicographic.{nat_list_cmp_total, options_total, texts_ties, pointwise_decides}
+use Rattle.std.specs.Cmp.{IsTotalOrder, then_total, on_total, nat_cmp_total, unsigned_tied}
+use Rattle.std.specs.Cmp.{unsigned_Decides}
+use Rattle.std.specs.Cmp.Lexicographic.{nat_list_cmp_total, options_total, texts_ties}
+use Rattle.std.specs.Cmp.Lexicographic.{pointwise_decides}
 use Rattle.std.proofs.Common.{sym, ◌∙◌, ap, subst, true≢false}
 use Rattle.std.proofs.lemmas.Cmp.{tied_itself}
-use Rattle.cargo_lock_parts.specs.Source.{Kind, Source, DefaultBranch, Tag, Branch, Rev, Git, Path, Registry, SparseRegistry, LocalRegistry, Directory}
-use Rattle.cargo_lock_parts.specs.SourceKey.{Key, kind_number, git_reference_text, text_cmp, key_cmp, key_of, key_hash, source_cmp, is_same_source}
+use Rattle.cargo_lock_parts.specs.Source.{Kind, Source, DefaultBranch, Tag, Branch, Rev, Git, Path}
+use Rattle.cargo_lock_parts.specs.Source.{Registry, SparseRegistry, LocalRegistry, Directory}
+use Rattle.cargo_lock_parts.specs.SourceKey.{Key, kind_number, git_reference_text, text_cmp}
+use Rattle.cargo_lock_parts.specs.SourceKey.{key_cmp, key_of, key_hash, source_cmp, is_same_source}
 
 -- the order of keys is total
 pub key_total : IsTotalOrder key_cmp
@@ -72,7 +76,8 @@ kind_at-kind_number SparseRegistry = refl
 kind_at-kind_number LocalRegistry = refl
 kind_at-kind_number Directory = refl
 
-kind_same : (j k : Kind) → kind_number j ≡ kind_number k → git_reference_text j ≡ git_reference_text k → j ≡ k
+kind_same : (j k : Kind) → kind_number j ≡ kind_number k
+    → git_reference_text j ≡ git_reference_text k → j ≡ k
 kind_same j k p t = sym (kind_at-kind_number j) ∙ (λ i. kind_at (p i) (t i)) ∙ kind_at-kind_number k
 
 -- keys that tie are one
@@ -96,5 +101,6 @@ is_same_source-Decides a b = (
 )
 
 -- the same sources feed a hasher alike
-pub source_alike : (a b : Source) → is_same_source a b ≡ true → key_hash (key_of a) ≡ key_hash (key_of b)
+pub source_alike : (a b : Source)
+    → is_same_source a b ≡ true → key_hash (key_of a) ≡ key_hash (key_of b)
 source_alike a b h = ap key_hash ((is_same_source-Decides a b).0 h)

@@ -1,5 +1,6 @@
 -- The source that a text reads as: a word, `+` and a URL, as Cargo writes it.
-use Rattle.std.specs.Prelude.{ℕ, List, [], map, codes, bytes_eq, Option, Some, None, unwrap_or, option_map, ◌==◌, if◌then◌else◌}
+use Rattle.std.specs.Prelude.{ℕ, List, [], map, codes, bytes_eq, Option, Some, None, unwrap_or}
+use Rattle.std.specs.Prelude.{option_map, ◌==◌, if◌then◌else◌}
 use Rattle.std.specs.Str.Lossy.{utf8_lossy}
 use Rattle.std.specs.List.{list_any, before_first, after_first, filter_map, last_or}
 use Rattle.std.specs.Result.{result_ok}
@@ -9,7 +10,9 @@ use Rattle.url.specs.Parser.{parse_url}
 use Rattle.url.specs.Head.{without_tail}
 use Rattle.cargo_lock_parts.specs.declared.package.source.parse.Protocol.{Protocol}
 use Rattle.cargo_lock_parts.specs.declared.package.source.parse.Protocol.TheVariants as protocol
-use Rattle.cargo_lock_parts.specs.Source.{Kind, GitReference, Source, DefaultBranch, Tag, Branch, Rev, Git, Path, Registry, SparseRegistry}
+use Rattle.cargo_lock_parts.specs.Ascii.{plus_sign}
+use Rattle.cargo_lock_parts.specs.Source.{Kind, GitReference, Source, DefaultBranch, Tag, Branch}
+use Rattle.cargo_lock_parts.specs.Source.{Rev, Git, Path, Registry, SparseRegistry}
 
 -- ---- the reference of a git source, which its query holds as a form
 
@@ -79,7 +82,7 @@ source_by_word (Some protocol) url = option_map (source_by protocol) url
 -- the source that a text reads as: cut at the first `+`
 unfoldable pub source_of : List ℕ → Option Source
 source_of text =
-    if list_any (λ b. b == 43) text
-    then source_by_word (protocol_of (before_first (λ b. b == 43) text))
-    (url_of (after_first (λ b. b == 43) text))
+    if list_any (λ b. b == plus_sign) text
+    then source_by_word (protocol_of (before_first (λ b. b == plus_sign) text))
+    (url_of (after_first (λ b. b == plus_sign) text))
     else None

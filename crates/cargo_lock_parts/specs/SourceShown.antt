@@ -1,7 +1,9 @@
 -- What is said of a registry: whether it is that of crates.io, and how it is shown to people.
-use Rattle.std.specs.Prelude.{ℕ, Bool, false, List, ◌++◌, codes, bytes_eq, Option, None, unwrap_or, option_map, if◌then◌else◌}
+use Rattle.std.specs.Prelude.{ℕ, Bool, false, List, ◌++◌, codes, bytes_eq, Option, None, unwrap_or}
+use Rattle.std.specs.Prelude.{option_map, if◌then◌else◌}
 use Rattle.url.specs.Parts.{serialize}
-use Rattle.cargo_lock_parts.specs.Source.{Kind, Source, Git, Path, Registry, SparseRegistry, LocalRegistry, Directory}
+use Rattle.cargo_lock_parts.specs.Source.{Kind, Source, Git, Path, Registry, SparseRegistry}
+use Rattle.cargo_lock_parts.specs.Source.{LocalRegistry, Directory}
 use Rattle.cargo_lock_parts.specs.SourceReading.{plain_source, url_of}
 
 -- the URL text of the index of crates.io, as a git repository

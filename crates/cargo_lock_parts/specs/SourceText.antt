@@ -3,7 +3,9 @@
 use Rattle.std.specs.Prelude.{ℕ, Bool, List, [], ◌++◌, codes, Option, Some, None, if◌then◌else◌}
 use Rattle.form_urlencoded.specs.Form.{byte_serialize}
 use Rattle.url.specs.Parts.{serialize}
-use Rattle.cargo_lock_parts.specs.Source.{Kind, GitReference, Source, MarkedSource, MarkedGitReference, DefaultBranch, Tag, Branch, Rev, Git, Path, Registry, SparseRegistry, LocalRegistry, Directory}
+use Rattle.cargo_lock_parts.specs.Source.{Kind, GitReference, Source, MarkedSource}
+use Rattle.cargo_lock_parts.specs.Source.{MarkedGitReference, DefaultBranch, Tag, Branch, Rev, Git}
+use Rattle.cargo_lock_parts.specs.Source.{Path, Registry, SparseRegistry, LocalRegistry, Directory}
 
 -- a reference's value, as it is or escaped as in a form
 abbrev pub value_text : Bool → List ℕ → List ℕ

@@ -89,8 +89,18 @@ pub(crate) const TOO_LONG: &str = "invalid url: more than 4 GB";
 pub const SHORT_LENGTH: usize = 16777216;
 
 impl Error {
-    ghost use Rattle.std.specs.Prelude.{◌↔◌, IsTrue};
-    ghost use Rattle.cargo_lock_parts.specs.Error.{IsParseOrMemory, IsTooLong};
+    ghost use Rattle.std.specs.Prelude.{◌≡◌, ◌↔◌, IsTrue};
+    ghost use Rattle.cargo_lock_parts.specs.Error.{IsParseOrMemory, IsTooLong, parse_fault};
+
+    /// `Parse` with the text that was made, or `Memory` where its memory was refused.
+    pub fn parse(text: std::result::Result<String, AllocError>) -> Error
+        ensures { result ≡ parse_fault text }
+    {
+        match text {
+            Ok(text) => Error::Parse(text),
+            Err(_) => Error::Memory,
+        }
+    }
 
     /// Whether the fault is that of a URL of 4 GB or more, which is refused though it may be one.
     /// No text of fewer than 2^24 bytes is refused so.
@@ -107,9 +117,6 @@ impl Error {
     pub fn from_int(alloc: Global, fault: ParseIntError) -> Error
         ensures { IsParseOrMemory result }
     {
-        match fault.to_string(alloc) {
-            Ok(text) => Error::Parse(text),
-            Err(_) => Error::Memory,
-        }
+        Error::parse(fault.to_string(alloc))
     }
 }

@@ -1,9 +1,11 @@
 //! Laws of this crate, each the contract of a function without a body.
 
 ghost use Rattle.cargo_lock_parts.specs.Checksum.{DigestsReadBack};
-ghost use Rattle.cargo_lock_parts.specs.Equality.{EqualDependencies, EqualPackages, EqualPatches, EqualSources};
+ghost use Rattle.cargo_lock_parts.specs.Equality.{EqualDependencies, EqualPackages, EqualPatches};
+ghost use Rattle.cargo_lock_parts.specs.Equality.{EqualSources};
 ghost use Rattle.cargo_lock_parts.specs.FileUrl.{RootedPathsHaveSources};
-ghost use Rattle.cargo_lock_parts.specs.Rank.{RankIsSymmetric, RankOneIsEqualKeys, NoRankIsNoMatch, RanksImplyLast};
+ghost use Rattle.cargo_lock_parts.specs.Rank.{RankIsSymmetric, RankOneIsEqualKeys, NoRankIsNoMatch};
+ghost use Rattle.cargo_lock_parts.specs.Rank.{RanksImplyLast};
 
 /// Two sources match from both sides with one rank.
 pub fn rank_is_symmetric()

@@ -8,7 +8,11 @@ pub mod version;
 
 /// The format's error for a text that was refused. Its message is the refusal as it is displayed,
 /// and running out of memory is told as that.
-pub fn refused<F: Format>(alloc: Global, from: &Deserializer<'_, '_, F>, fault: Error) -> F::Error {
+pub fn format_error<F: Format>(
+    alloc: Global,
+    from: &Deserializer<'_, '_, F>,
+    fault: Error,
+) -> F::Error {
     if let Error::Memory = fault {
         return from.no_memory();
     }

@@ -10,7 +10,8 @@ use Rattle.cargo_lock_parts.specs.Checksum.{digest_of}
 use Rattle.cargo_lock_parts.specs.Identity.{Identity}
 use Rattle.cargo_lock_references.specs.Reference.{Reference, two_words}
 use Rattle.cargo_lock_references.specs.ReferenceLaws.{is_same_reference-Decides}
-use Rattle.cargo_lock_references.specs.ReferenceOrder.{ReferenceKey, reference_cmp, reference_key, is_same_reference}
+use Rattle.cargo_lock_parts.specs.PartialIdentity.{PartialKey}
+use Rattle.cargo_lock_references.specs.ReferenceOrder.{reference_cmp, reference_key, is_same_reference}
 use Rattle.cargo_lock_references.specs.Metadata.{is_named}
 use Rattle.cargo_lock_references.specs.ReadKeys.{value_at}
 use Rattle.cargo_lock_references.specs.ResolutionSearch.{same_parts, same_text}
@@ -33,8 +34,8 @@ same-two name n version v h =
 
 two-same : (name n : List ℕ) (version v : Parts) → reference_key (two_words name version) ≡ reference_key (two_words n v) → (same_text name n && same_parts version v) ≡ true
 two-same name n version v h =
-    let e : name ≡ n = ap (λ (k : ReferenceKey). k.name) h in
-    let f : version ≡ v = same_Some version v (ap (λ (k : ReferenceKey). k.version) h) in
+    let e : name ≡ n = ap (λ (k : PartialKey). k.name) h in
+    let f : version ≡ v = same_Some version v (ap (λ (k : PartialKey). k.version) h) in
     ap (λ t. same_text name t && same_parts version v) (sym e)
     ∙ ap (λ w. same_text name name && same_parts version w) (sym f)
     ∙ ap (λ b. b && same_parts version version) (same_text-refl name)

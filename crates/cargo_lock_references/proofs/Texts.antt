@@ -4,9 +4,9 @@ use Rattle.std.specs.BTreeMap.{BTreeMap, UpdatesBy, is_at}
 use Rattle.std.specs.Map.{lookup}
 use Rattle.std.specs.Ordering.{eq_by_cmp, is_eq, is_lt}
 use Rattle.std.specs.declared.cmp.Ordering.{Ordering}
-use Rattle.std.specs.Cmp.{Equal-is, eq_by_cmp_equiv}
+use Rattle.std.specs.Cmp.{eq_by_cmp_equiv}
 use Rattle.std.specs.Cmp.Lexicographic.{slice_cmp, nat_list_cmp_total}
-use Rattle.std.specs.FinMap.{empty, entries_sorted, find, is_sorted, from_sorted, entries-from_sorted, get-from_sorted, entries, get, get-empty, insert, remove, from_entries, get-entries, get-from_entries, get-insert, get-remove, same_map, IsAntisymmetric, nat_cmp-IsAntisymmetric, slice_cmp-IsAntisymmetric}
+use Rattle.std.specs.FinMap.{find, is_sorted, from_sorted, entries-from_sorted, get-from_sorted, entries, get, get-empty, insert, remove, from_entries, get-entries, get-from_entries, get-insert, get-remove, same_map, IsAntisymmetric, nat_cmp-IsAntisymmetric, slice_cmp-IsAntisymmetric}
 use Rattle.cargo_lock_references.specs.Records.{Texts, texts_of}
 use Rattle.std.specs.Prelude.{T}
 use Rattle.std.proofs.Common.{◌&&◌, Less, arith, length}

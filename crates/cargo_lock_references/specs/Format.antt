@@ -1,6 +1,8 @@
 -- The format of a lockfile: the number under `version`, or where there is none, what the checksums
 -- tell.
-use Rattle.std.specs.Prelude.{◌≡◌, ◌==◌, ◌<◌, ◌^◌, ◌++◌, codes, if◌then◌else◌, Bool, true, false, is_some, ℕ, ℤ, pos, negsuc, List, Option, Some, None}
+use Rattle.std.specs.Prelude.{◌≡◌, ◌==◌, ◌<◌, ◌^◌, ◌++◌, codes, if◌then◌else◌, Bool, true, false}
+use Rattle.std.specs.Prelude.{is_some, ℕ, ℤ, pos, negsuc, List, Option, Some, None}
+use Rattle.std.specs.Fmt.{signed_decimal}
 use Rattle.std.specs.List.{list_any}
 use Rattle.std.specs.Str.Parse.{IsNumeral, digits_value, without_leading_plus}
 use Rattle.cargo_lock_references.specs.declared.version.ResolveVersion.{ResolveVersion}
@@ -48,6 +50,16 @@ IsNumberText text =
 -- why what is quoted is no number of a format
 abbrev pub format_refusal : List ℕ → List ℕ
 format_refusal quote = codes "invalid Cargo.lock format version: `" ++ quote ++ codes "`"
+
+-- why a table with checksums in its packages and in its metadata has no format
+abbrev pub checksums_refusal : List ℕ
+checksums_refusal =
+    codes "malformed lockfile: contains checksums in both [[package]] and [[metadata]] sections"
+
+-- why values with that number, or with none, have no format
+abbrev pub refusal_by : Option ℤ → List ℕ
+refusal_by (Some z) = format_refusal (signed_decimal z)
+refusal_by None = checksums_refusal
 
 -- some package has a checksum
 abbrev pub has_checksum : List EncodedPackage → Bool

@@ -1,5 +1,6 @@
 -- An index of a list by name, and by name and version: where the items of each stand.
-use Rattle.std.specs.Prelude.{◌≡◌, ◌+◌, ◌&&◌, if◌then◌else◌, Bool, true, false, ℕ, List, [], ◌∷◌, Option, Some, None, slice_get}
+use Rattle.std.specs.Prelude.{◌≡◌, ◌+◌, ◌&&◌, if◌then◌else◌, Bool, true, false, ℕ, List, [], ◌∷◌}
+use Rattle.std.specs.Prelude.{Option, Some, None, slice_get}
 use Rattle.std.specs.BTreeMap.{BTreeMap, get}
 use Rattle.std.specs.List.{list_any}
 use Rattle.semver.specs.Parse.{Parts}

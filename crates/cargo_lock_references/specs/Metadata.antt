@@ -1,6 +1,7 @@
 -- The metadata of a lockfile. In V1 it holds the checksums of the packages: the key `checksum ` and
 -- the displayed identity of a package, and the digest in hex.
-use Rattle.std.specs.Prelude.{◌&&◌, not, if◌then◌else◌, Bool, false, ℕ, List, [], ◌∷◌, ◌++◌, Option, Some, None, Result, Ok, Err, codes, take, drop, reverse}
+use Rattle.std.specs.Prelude.{◌&&◌, not, if◌then◌else◌, Bool, false, ℕ, List, [], ◌∷◌, ◌++◌, Option}
+use Rattle.std.specs.Prelude.{Some, None, Result, Ok, Err, codes, take, drop, reverse}
 use Rattle.std.specs.FinMap.{entries, from_entries, insert, retain_keys}
 use Rattle.std.specs.List.{find, list_any}
 use Rattle.std.specs.Result.{result_ok}
@@ -9,7 +10,8 @@ use Rattle.cargo_lock_parts.specs.Checksum.{digest_in, digest_text}
 use Rattle.cargo_lock_parts.specs.Identity.{Identity, PackageData, identity_of, dependency_text}
 use Rattle.cargo_lock_references.specs.declared.version.ResolveVersion.{ResolveVersion}
 use Rattle.cargo_lock_references.specs.declared.version.ResolveVersion.TheVariants.{V1, V2, V3, V4}
-use Rattle.cargo_lock_references.specs.Reference.{Reference, Refusal, NoReference, reference_or_refusal}
+use Rattle.cargo_lock_references.specs.Reference.{Reference, Refusal, NoReference}
+use Rattle.cargo_lock_references.specs.Reference.{reference_or_refusal}
 use Rattle.cargo_lock_references.specs.Optional.{◌>>=◌}
 use Rattle.cargo_lock_references.specs.Records.{Texts}
 use Rattle.cargo_lock_references.specs.ResolutionSearch.{own_words, same_text, same_parts}

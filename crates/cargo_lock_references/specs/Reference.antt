@@ -1,14 +1,17 @@
 -- References: how a lockfile names the package that another one depends on. Cargo writes a
 -- reference as one to three words, a name, a version and a source in round brackets, and leaves
 -- out words that the lockfile's packages make needless.
-use Rattle.std.specs.Prelude.{◌≡◌, ℕ, ◌-◌, ◌&&◌, ◌==◌, nat_le, List, [], ◌∷◌, ◌++◌, codes, length, slice_index, slice_range, Option, Some, None, Result, Ok, Err, if◌then◌else◌, false}
+use Rattle.std.specs.Prelude.{◌≡◌, ℕ, ◌-◌, ◌&&◌, ◌==◌, nat_le, List, [], ◌∷◌, ◌++◌, codes, length}
+use Rattle.std.specs.Prelude.{slice_index, slice_range, Option, Some, None, Result, Ok, Err}
+use Rattle.std.specs.Prelude.{if◌then◌else◌, false}
 use Rattle.std.specs.Result.{result_ok}
 use Rattle.semver.specs.Identifiers.{parts_text}
 use Rattle.semver.specs.Parse.{Parts, version_parts}
 use Rattle.semver.specs.declared.error.Error.{Error as VersionError}
 use Rattle.cargo_lock_parts.specs.declared.error.Error.{Error}
-use Rattle.cargo_lock_parts.specs.declared.error.Error.TheVariants.{Io, Parse, Version, Resolution, Memory}
-use Rattle.cargo_lock_parts.specs.Error.{RefusesUrls}
+use Rattle.cargo_lock_parts.specs.declared.error.Error.TheVariants.{Version}
+use Rattle.cargo_lock_parts.specs.Ascii.{left_bracket, right_bracket}
+use Rattle.cargo_lock_parts.specs.Error.{Refuses, RefusesUrls}
 use Rattle.cargo_lock_parts.specs.Source.{Source, MarkedSource}
 use Rattle.cargo_lock_parts.specs.SourceReading.{source_of}
 use Rattle.cargo_lock_parts.specs.SourceText.{marked_text}
@@ -51,8 +54,8 @@ three_words name version source =
 -- the source between round brackets
 unfoldable pub bracketed_source : List ℕ → Option Source
 bracketed_source word =
-    if nat_le 2 (length word) && (slice_index word 0 == 40) &&
-    (slice_index word (length word - 1) == 41)
+    if nat_le 2 (length word) && (slice_index word 0 == left_bracket) &&
+    (slice_index word (length word - 1) == right_bracket)
     then source_of (slice_range word 1 (length word - 1)) else None
 
 -- what follows a version, if the word is one
@@ -88,31 +91,25 @@ reference_or_refusal text = reference_of_words (words text)
 abbrev pub reference_of : List ℕ → Option Reference
 reference_of text = result_ok (reference_or_refusal text)
 
--- a fault for this reason; a URL may also have 4 GB or more
-abbrev pub IsReferenceFault : {X : Type 0} → Error → Result X Refusal → Type 0
-IsReferenceFault (Version fault) expected = expected ≡ Err (NoVersion fault)
-IsReferenceFault (Io kind) expected = ⊥
-IsReferenceFault (Parse message) expected = RefusesUrls (Parse message) (expected ≡ Err NoReference)
-IsReferenceFault (Resolution message) expected = ⊥
-IsReferenceFault Memory expected = Unit {0}
+-- a fault for this reason: that of the version, or else as these refusals are
+abbrev pub IsReferenceFault : {X : Type 0} → (Error → Type 0 → Type 0) → Error → Result X Refusal
+    → Type 0
+IsReferenceFault refuses (Version fault) expected = expected ≡ Err (NoVersion fault)
+IsReferenceFault refuses other expected = refuses other (expected ≡ Err NoReference)
 
--- what the reader of a reference answers
+-- what a reader of references with such refusals answers
+abbrev pub ReadsReferenceOr : {X : Type 0} → (Error → Type 0 → Type 0) → Result X Error
+    → Result X Refusal → Type 0
+ReadsReferenceOr refuses (Ok f) expected = expected ≡ Ok f
+ReadsReferenceOr refuses (Err e) expected = IsReferenceFault refuses e expected
+
+-- what the reader of a reference answers; a URL may also have 4 GB or more
 abbrev pub ReadsReference : {X : Type 0} → Result X Error → Result X Refusal → Type 0
-ReadsReference (Ok f) expected = expected ≡ Ok f
-ReadsReference (Err e) expected = IsReferenceFault e expected
-
--- a fault for this reason alone
-abbrev pub IsExactReferenceFault : {X : Type 0} → Error → Result X Refusal → Type 0
-IsExactReferenceFault (Version fault) expected = expected ≡ Err (NoVersion fault)
-IsExactReferenceFault (Io kind) expected = ⊥
-IsExactReferenceFault (Parse message) expected = expected ≡ Err NoReference
-IsExactReferenceFault (Resolution message) expected = ⊥
-IsExactReferenceFault Memory expected = Unit {0}
+ReadsReference = ReadsReferenceOr RefusesUrls
 
 -- what the reader of a reference answers where no URL can have 4 GB or more
 abbrev pub ReadsReferenceExactly : {X : Type 0} → Result X Error → Result X Refusal → Type 0
-ReadsReferenceExactly (Ok f) expected = expected ≡ Ok f
-ReadsReferenceExactly (Err e) expected = IsExactReferenceFault e expected
+ReadsReferenceExactly = ReadsReferenceOr Refuses
 
 -- ---- writing
 

@@ -1,14 +1,14 @@
 -- The order of references: name, version, source by its key, and an absent value before a present
 -- one. Equality is exactly equality of keys.
-use Rattle.std.specs.Prelude.{ℕ, Bool, List, ◌++◌, Option, option_map}
+use Rattle.std.specs.Prelude.{Bool, ◌++◌, option_map}
 use Rattle.std.specs.Option.{option_cmp}
 use Rattle.std.specs.declared.cmp.Ordering.{Ordering}
 use Rattle.std.specs.Ordering.{on, then_cmp, eq_by_cmp}
 use Rattle.std.specs.Hash.{HashWrites}
 use Rattle.std.specs.Hash as fed
-use Rattle.semver.specs.Parse.{Parts}
 use Rattle.cargo_lock_parts.specs.Equality.{IsEqualityOfKeys}
 use Rattle.cargo_lock_parts.specs.IdentityOrder.{source_hash, version_cmp}
+use Rattle.cargo_lock_parts.specs.PartialIdentity.{PartialKey}
 use Rattle.cargo_lock_parts.specs.Source.{MarkedSource}
 use Rattle.cargo_lock_parts.specs.SourceKey.{Key, key_of, source_cmp, text_cmp}
 use Rattle.cargo_lock_references.specs.Reference.{Reference}
@@ -42,18 +42,12 @@ reference_hash f = fed.str f.name ++ fed.option marked_hash f.source
 
 -- ---- keys
 
--- what equality of references looks at
-pub record ReferenceKey : Type 0 where
-  pub name : List ℕ
-  pub version : Option Parts
-  pub source : Option Key
-
 -- the key of a marked source, which is that of the source
 abbrev pub marked_key : MarkedSource → Key
 marked_key m = key_of m.source
 
--- what equality looks at
-abbrev pub reference_key : Reference → ReferenceKey
+-- what equality of references looks at
+abbrev pub reference_key : Reference → PartialKey
 reference_key f =
     record { name = f.name; version = f.version; source = option_map marked_key f.source }
 

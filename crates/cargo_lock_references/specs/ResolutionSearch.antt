@@ -1,6 +1,7 @@
 -- `ResolvesTo` as it is computed: what a search of the list finds. The lemmas that the two agree
 -- are in proofs/.
-use Rattle.std.specs.Prelude.{◌&&◌, ◌==◌, Bool, true, ℕ, List, Option, Some, None, option_map, nat_eq}
+use Rattle.std.specs.Prelude.{◌&&◌, ◌==◌, Bool, true, ℕ, List, Option, Some, None, option_map}
+use Rattle.std.specs.Prelude.{nat_eq}
 use Rattle.std.specs.Cmp.Lexicographic.{pointwise}
 use Rattle.std.specs.List.{find}
 use Rattle.semver.specs.Parse.{Parts}

@@ -1,5 +1,6 @@
 -- The words of a text: what stands between the white space of Unicode.
-use Rattle.std.specs.Prelude.{◌≡◌, ℕ, Bool, List, [], ◌∷◌, map, true, false, chars, encode_utf8_all, filter, if◌then◌else◌}
+use Rattle.std.specs.Prelude.{◌≡◌, ℕ, Bool, List, [], ◌∷◌, map, true, false, chars, encode_utf8_all}
+use Rattle.std.specs.Prelude.{filter, if◌then◌else◌}
 use Rattle.std.specs.Char.{is_whitespace}
 use Rattle.std.specs.Str.{NonePass, all_scalars, is_utf8}
 use Rattle.std.specs.List.{slice_split}

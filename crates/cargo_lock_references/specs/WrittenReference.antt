@@ -1,6 +1,7 @@
 -- The reference that is written for a dependency: in V1 in full, and from V2 on without the words
 -- that the packages of the lockfile make needless.
-use Rattle.std.specs.Prelude.{◌≡◌, ◌⊎◌, ◌&&◌, ◌==◌, Bool, true, false, if◌then◌else◌, ℕ, List, Option, Some, None, option_map, slice_get, count_by}
+use Rattle.std.specs.Prelude.{◌≡◌, ◌⊎◌, ◌&&◌, ◌==◌, Bool, true, false, if◌then◌else◌, ℕ, List}
+use Rattle.std.specs.Prelude.{Option, Some, None, option_map, slice_get, count_by}
 use Rattle.semver.specs.Parse.{Parts}
 use Rattle.cargo_lock_parts.specs.Identity.{Identity}
 use Rattle.cargo_lock_parts.specs.Source.{Source, MarkedSource, is_path}

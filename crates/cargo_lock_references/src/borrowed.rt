@@ -269,10 +269,7 @@ impl EncodablePackage {
 fn by_ref(reference: &Option<EncodableDependency>) -> Option<EncodableDependencyRef<'_>>
     ensures { result ≡ reference.now }
 {
-    match reference {
-        Some(reference) => Some(reference.by_ref()),
-        None => None,
-    }
+    reference.as_ref().map(EncodableDependency::by_ref)
 }
 
 fn by_refs(
@@ -304,8 +301,5 @@ impl EncodableDependency {
 fn as_url(source: &Option<EncodableSourceId>) -> Option<SourceIdAsUrl<'_>>
     ensures { result ≡ source.now }
 {
-    match source {
-        Some(source) => Some(source.as_url()),
-        None => None,
-    }
+    source.as_ref().map(EncodableSourceId::as_url)
 }

@@ -6,7 +6,8 @@ ghost use Rattle.std.specs.List.{list_any};
 ghost use Rattle.semver.specs.Identifiers.{parts_of};
 ghost use Rattle.cargo_lock_parts.specs.Checksum.{digest_in, digest_of};
 ghost use Rattle.cargo_lock_references.specs.LeastKey.{IsFoundAtLeastKey};
-ghost use Rattle.cargo_lock_references.specs.Metadata.{checksum_among, checksum_in, has_checksum_key, is_checksum, reads_as};
+ghost use Rattle.cargo_lock_references.specs.Metadata.{checksum_among, checksum_in};
+ghost use Rattle.cargo_lock_references.specs.Metadata.{has_checksum_key, is_checksum, reads_as};
 ghost use Rattle.cargo_lock_references.specs.Records.{texts_of};
 
 use crate::metadata::{Metadata, MetadataKey, MetadataValue};
@@ -29,7 +30,7 @@ pub fn find_checksum(
     ensures least { IfOk result (λ found. IsFoundAtLeastKey (texts_of metadata.now.entries) name.now
         (parts_of version.now) (option_map digest_of found)) }
 {
-    ordered(metadata);
+    keys_ascend(metadata);
     find_among(alloc, metadata, name, version)
 }
 
@@ -52,7 +53,7 @@ fn find_among(
 }
 
 /// The keys of a map ascend: the contract says so, and nothing is done.
-pub fn ordered(metadata: &Metadata)
+pub fn keys_ascend(metadata: &Metadata)
     ensures { entries (texts_of metadata.now.entries) ≡ metadata.now.entries }
 {
     let _length = metadata.len();
@@ -97,7 +98,7 @@ pub(crate) fn checksum_in(
 pub fn has_checksum_key(metadata: &Metadata) -> bool
     ensures { result ≡ has_checksum_key (texts_of metadata.now.entries) }
 {
-    ordered(metadata);
+    keys_ascend(metadata);
     has_checksum_among(metadata)
 }
 

@@ -1,13 +1,15 @@
 //! A list of packages with an index, so that references are looked up and shortened without a walk
 //! over the list.
 
-ghost use Rattle.std.specs.Prelude.{◌≡◌, ◌&&◌, [], cond, if◌then◌else◌, ℕ, List, Option, Some, None, IfOk, OnOk, map, option_copied, option_map};
+ghost use Rattle.std.specs.Prelude.{◌≡◌, ◌&&◌, [], cond, if◌then◌else◌, ℕ, List, Option, Some};
+ghost use Rattle.std.specs.Prelude.{None, IfOk, OnOk, map, option_copied, option_map};
 ghost use Rattle.std.specs.BTreeMap.{get, is_at};
 ghost use Rattle.std.specs.List.{find};
 ghost use Rattle.semver.specs.Identifiers.{parts_of};
 ghost use Rattle.semver.specs.Parse.{Parts};
 ghost use Rattle.cargo_lock_parts.specs.PartialIdentity.{PartialIdentity, partial_identity_cmp};
-ghost use Rattle.cargo_lock_references.specs.WrittenReference.{has_name_and_version, has_name, exactly_one};
+ghost use Rattle.cargo_lock_references.specs.WrittenReference.{has_name_and_version, has_name};
+ghost use Rattle.cargo_lock_references.specs.WrittenReference.{exactly_one};
 ghost use Rattle.cargo_lock_references.specs.Index.{AreOccurrences, is_of, occurrence_at};
 ghost use Rattle.cargo_lock_references.specs.Index as spec;
 ghost use Rattle.cargo_lock_references.specs.ResolutionSearch.{fits, has_version, same_text};
@@ -132,7 +134,7 @@ impl<'a, T: Identified> Indexed<'a, T> {
     }
 
     /// The empty list.
-    pub fn none(alloc: Global) -> Indexed<'a, T>
+    pub fn empty(alloc: Global) -> Indexed<'a, T>
         ensures { result ≡ [] }
     {
         Indexed {

@@ -3,7 +3,7 @@
 ghost use Rattle.std.specs.Prelude.{◌≡◌, ◌↔◌, IsTrue};
 ghost use Rattle.semver.specs.Identifiers.{parts_of};
 ghost use Rattle.semver.specs.Parse.{memory_error};
-ghost use Rattle.cargo_lock_parts.specs.Error.{IsParseOrMemory, ReadsUrls};
+ghost use Rattle.cargo_lock_parts.specs.Error.{ReadsUrls};
 ghost use Rattle.cargo_lock_references.specs.Reference.{version_of};
 ghost use Rattle.cargo_lock_references.specs.ResolutionSearch.{same_parts};
 
@@ -27,17 +27,7 @@ pub fn version_of(alloc: Global, text: &str) -> Result<Version>
     match Version::parse(alloc, text) {
         Ok(version) => Ok(version),
         Err(fault) if is_memory(&fault) => Err(Error::Memory),
-        Err(fault) => Err(refused_version(alloc, &fault)),
-    }
-}
-
-/// The `Parse` that stands for a fault of `semver`.
-pub fn refused_version(alloc: Global, fault: &VersionError) -> Error
-    ensures { IsParseOrMemory result }
-{
-    match format!(in alloc; "version error: {fault}") {
-        Ok(text) => Error::Parse(text),
-        Err(_) => Error::Memory,
+        Err(fault) => Err(Error::parse(format!(in alloc; "version error: {fault}"))),
     }
 }
 

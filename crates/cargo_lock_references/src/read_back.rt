@@ -8,7 +8,9 @@ ghost use Rattle.cargo_lock_parts.specs.Identity.{identity_of};
 ghost use Rattle.cargo_lock_parts.specs.SourceKey.{key_of};
 ghost use Rattle.cargo_lock_parts.specs.SourceReading.{source_of};
 ghost use Rattle.cargo_lock_parts.specs.SourceText.{marked_text};
-ghost use Rattle.cargo_lock_references.specs.ReadBack.{WordsReadBack, ReferenceSurvives, ResolvesToEqual, SourceSurvives, TextReadsBack, VersionSurvives};
+ghost use Rattle.cargo_lock_references.specs.ReadBack.{WordsReadBack, ReferenceSurvives};
+ghost use Rattle.cargo_lock_references.specs.ReadBack.{ResolvesToEqual, SourceSurvives};
+ghost use Rattle.cargo_lock_references.specs.ReadBack.{TextReadsBack, VersionSurvives};
 ghost use Rattle.cargo_lock_references.specs.Reference.{version_of};
 ghost use Rattle.cargo_lock_references.specs.Words.{IsDense, IsWord};
 
@@ -145,7 +147,7 @@ pub fn reference_survives_alone(
 ) -> Result<bool, AllocError>
     ensures { IfOk result (λ b. IsTrue b ↔ ReferenceSurvives reference.now [] dependency.now) }
 {
-    let empty = Indexed::none(alloc);
+    let empty = Indexed::empty(alloc);
     let survives = reference_survives(alloc, reference, &empty, dependency)?;
     Ok(survives)
 }

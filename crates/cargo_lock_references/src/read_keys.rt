@@ -1,6 +1,7 @@
 //! The checksums that the metadata holds, by name and version, with each key read once.
 
-ghost use Rattle.std.specs.Prelude.{◌≡◌, if◌then◌else◌, ℕ, List, Some, None, IfOk, OnOk, cond, option_map};
+ghost use Rattle.std.specs.Prelude.{◌≡◌, if◌then◌else◌, ℕ, List, Some, None, IfOk, OnOk, cond};
+ghost use Rattle.std.specs.Prelude.{option_map};
 ghost use Rattle.std.specs.BTreeMap.{get, is_at};
 ghost use Rattle.std.specs.Option.{option_or};
 ghost use Rattle.semver.specs.Identifiers.{parts_of};
@@ -8,12 +9,13 @@ ghost use Rattle.semver.specs.Parse.{Parts};
 ghost use Rattle.cargo_lock_parts.specs.Checksum.{digest_in, digest_of};
 ghost use Rattle.cargo_lock_references.specs.Reference.{Reference, two_words};
 ghost use Rattle.cargo_lock_references.specs.ReferenceOrder.{reference_cmp};
-ghost use Rattle.cargo_lock_references.specs.Metadata.{checksum_in, is_named, key_identity, reads_as};
+ghost use Rattle.cargo_lock_references.specs.Metadata.{checksum_in, is_named, key_identity};
+ghost use Rattle.cargo_lock_references.specs.Metadata.{reads_as};
 ghost use Rattle.cargo_lock_references.specs.ReadKeys.{AreFirstValues, value_at};
 ghost use Rattle.cargo_lock_references.specs.Records.{texts_of};
 
 use crate::EncodableDependency;
-use crate::checksums::{checksum_in, ordered};
+use crate::checksums::{checksum_in, keys_ascend};
 use crate::metadata::{Metadata, MetadataKey, MetadataValue};
 use cargo_lock_parts::dependency::Dependency;
 use cargo_lock_parts::error::Error;
@@ -65,7 +67,7 @@ impl<'a> ReadMetadata<'a> {
             (λ found. option_map digest_of found
             ≡ checksum_in self.now name.now (parts_of version.now)) }
     {
-        ordered(self.metadata);
+        keys_ascend(self.metadata);
         let key = wanted_key(name, version)?;
         match self.checksums.get(&key) {
             Some(checksum) => Ok(*checksum),

@@ -1,19 +1,21 @@
 //! References: how a lockfile names the package that another one depends on.
 
-ghost use Rattle.std.specs.Prelude.{◌≡◌, ◌≤◌, ◌+◌, ◌⊎◌, ◌∷◌, ◌++◌, [], IfOk, IfSome, IsOkUnless, MatchOption, length, codes, count_by, map, option_copied, option_map};
+ghost use Rattle.std.specs.Prelude.{◌≡◌, ◌≤◌, ◌+◌, ◌∷◌, [], IfOk, IfSome, IsOkUnless, MatchOption};
+ghost use Rattle.std.specs.Prelude.{length, count_by, map, option_copied, option_map};
 ghost use Rattle.std.specs.List.{find};
 ghost use Rattle.std.specs.Option.{option_cmp};
 ghost use Rattle.std.specs.Str.Iter.{split_whitespace_rest};
 ghost use Rattle.semver.specs.Identifiers.{parts_of};
 ghost use Rattle.cargo_lock_parts.specs.declared.error.Error.TheVariants.{Memory};
-ghost use Rattle.cargo_lock_parts.specs.Error.{IsParse, IsParseOrMemory, IsShort, Reads, ReadsUrls};
+ghost use Rattle.cargo_lock_parts.specs.Error.{IsShort, Reads, ReadsUrls};
 ghost use Rattle.cargo_lock_parts.specs.Identity.{identity_of};
 ghost use Rattle.cargo_lock_parts.specs.IdentityOrder.{version_cmp};
 ghost use Rattle.cargo_lock_references.specs.Words.{text_words};
 ghost use Rattle.cargo_lock_references.specs.Reference as spec;
-ghost use Rattle.cargo_lock_references.specs.Records.{unmarked_source, encoded_identity, is_escaped};
-ghost use Rattle.cargo_lock_references.specs.ResolutionSearch.{fits, own_words, resolution_of, same_parts};
-ghost use Rattle.cargo_lock_references.specs.WrittenReference.{has_name_and_version, has_name, in_full, exactly_one};
+ghost use Rattle.cargo_lock_references.specs.Records.{encoded_identity, is_escaped};
+ghost use Rattle.cargo_lock_references.specs.ResolutionSearch.{fits, resolution_of};
+ghost use Rattle.cargo_lock_references.specs.WrittenReference.{has_name_and_version, has_name};
+ghost use Rattle.cargo_lock_references.specs.WrittenReference.{in_full, exactly_one};
 
 use crate::borrowed::EncodableDependencyRef;
 use crate::index::Indexed;
@@ -58,7 +60,9 @@ impl Model for EncodableDependency {
 }
 
 impl EncodableDependency {
-    ghost use Rattle.cargo_lock_references.specs.Reference.{ReadsReference, ReadsReferenceExactly, reference_of_words, reference_or_refusal};
+    ghost use Rattle.cargo_lock_references.specs.Reference.{ReadsReference, ReadsReferenceExactly};
+    ghost use Rattle.cargo_lock_references.specs.Reference.{reference_of_words};
+    ghost use Rattle.cargo_lock_references.specs.Reference.{reference_or_refusal};
 
     /// Reads one to three words with white space between: a name, a version, a source in round
     /// brackets, as `foo 1.0.0 (registry+https://github.com/rust-lang/crates.io-index)`. A source
@@ -83,8 +87,7 @@ impl EncodableDependency {
     {
         let mut words = text.split_whitespace();
         let Some(name) = next_word(&mut words) else {
-            let message = String::from_str(alloc, "empty dependency string")?;
-            return Err(Error::Parse(message));
+            return Err(Error::parse(String::from_str(alloc, "empty dependency string")));
         };
         let name = Name::from_str(alloc, name)?;
         let Some(version) = next_word(&mut words) else {
@@ -104,8 +107,7 @@ impl EncodableDependency {
         };
         let source = bracketed_source(alloc, source)?;
         if let Some(_) = next_word(&mut words) {
-            let message = format!(in alloc; "malformed dependency: {text}")?;
-            return Err(Error::Parse(message));
+            return Err(Error::parse(format!(in alloc; "malformed dependency: {text}")));
         }
         Ok(EncodableDependency {
             name,
@@ -145,8 +147,7 @@ fn bracketed_source(alloc: Global, word: &str) -> Result<SourceId>
     let bytes = word.as_bytes();
     let length = bytes.len();
     if length < 2 || bytes[0] != b'(' || bytes[length - 1] != b')' {
-        let message = format!(in alloc; "malformed source in dependency: {word}")?;
-        return Err(Error::Parse(message));
+        return Err(Error::parse(format!(in alloc; "malformed source in dependency: {word}")));
     }
     let source = SourceId::from_url(alloc, &word[1..length - 1])?;
     Ok(source)
@@ -263,7 +264,8 @@ impl EncodableDependency {
 
 impl EncodableDependency {
     ghost use Rattle.cargo_lock_references.specs.Reference.{one_word};
-    ghost use Rattle.cargo_lock_references.specs.WrittenReference.{is_version_unique, without_source};
+    ghost use Rattle.cargo_lock_references.specs.WrittenReference.{is_version_unique};
+    ghost use Rattle.cargo_lock_references.specs.WrittenReference.{without_source};
 
     // Whether exactly one package has the name.
     fn name_is_unique(&self, list: &[Package]) -> bool

@@ -1,6 +1,7 @@
 //! The dependency that a reference stands for among packages.
 
-ghost use Rattle.std.specs.Prelude.{◌≡◌, ◌↔◌, ◌⊎◌, ◌++◌, List, None, IfErr, IfOk, IsOk, IsSome, codes, map, option_copied, option_map};
+ghost use Rattle.std.specs.Prelude.{◌≡◌, ◌↔◌, ◌⊎◌, ◌++◌, List, None, IfErr, IfOk, IsOk, IsSome};
+ghost use Rattle.std.specs.Prelude.{codes, map, option_copied, option_map};
 ghost use Rattle.std.specs.List.{find};
 ghost use Rattle.cargo_lock_parts.specs.declared.error.Error.TheVariants.{Memory};
 ghost use Rattle.cargo_lock_parts.specs.Error.{IsParse, IsParseOrMemory, Reads};
@@ -104,8 +105,5 @@ fn resolution_refusal(alloc: Global, name: &Name) -> Error
     ensures text { (result ≡ Memory)
         ⊎ IsParse result (codes "couldn't resolve dependency: " ++ name.now) }
 {
-    match format!(in alloc; "couldn't resolve dependency: {name}") {
-        Ok(text) => Error::Parse(text),
-        Err(_) => Error::Memory,
-    }
+    Error::parse(format!(in alloc; "couldn't resolve dependency: {name}"))
 }

@@ -1,7 +1,7 @@
 //! References in the formats of `serde`.
 
 use crate::EncodableDependency;
-use cargo_lock_parts::serialization::refused;
+use cargo_lock_parts::serialization::format_error;
 use serde::{
     Described, Deserialize, DeserializeOwned, Deserializer, Format, Serialize, Serializer,
 };
@@ -33,7 +33,7 @@ impl DeserializeOwned for EncodableDependency {
         let text = from.string(alloc)?;
         match EncodableDependency::from_str(alloc, text.as_str()) {
             Ok(reference) => Ok(reference),
-            Err(fault) => Err(refused(alloc, from, fault)),
+            Err(fault) => Err(format_error(alloc, from, fault)),
         }
     }
 }

@@ -1,11 +1,15 @@
 //! The formats of lockfiles.
 
 ghost use Rattle.std.specs.Prelude.{◌≡◌, ◌≤◌, ◌↔◌, ◌⊎◌, IfSome, IsOk, IsSome, decimal};
+ghost use Rattle.std.specs.Fmt.{signed_decimal};
 ghost use Rattle.std.specs.Str.Parse.{digits_value, without_leading_plus};
 ghost use Rattle.cargo_lock_parts.specs.declared.error.Error.TheVariants.{Memory};
 ghost use Rattle.cargo_lock_parts.specs.Error.{IsParse, IsParseOrMemory, Reads, RefusesWith};
 ghost use Rattle.cargo_lock_references.specs.Finds.{Finds};
-ghost use Rattle.cargo_lock_references.specs.Format.{HasFormat, IsFormatText, IsNumberText, format_by, format_refusal, format_without_number, has_checksum, format_numbered, format_of_number};
+ghost use Rattle.cargo_lock_references.specs.Format.{HasFormat, IsFormatText, IsNumberText};
+ghost use Rattle.cargo_lock_references.specs.Format.{checksums_refusal, format_by, format_refusal};
+ghost use Rattle.cargo_lock_references.specs.Format.{format_without_number, has_checksum};
+ghost use Rattle.cargo_lock_references.specs.Format.{format_numbered, format_of_number, refusal_by};
 ghost use Rattle.cargo_lock_references.specs.Records.{texts_of};
 
 use crate::EncodablePackage;
@@ -103,6 +107,7 @@ impl ResolveVersion {
             (format_without_number packages.now (texts_of metadata.now.entries)) }
         ensures accepted { IsOk result
             ↔ IsSome (format_without_number packages.now (texts_of metadata.now.entries)) }
+        ensures refused { RefusesWith result checksums_refusal }
     {
         if !has_checksum_key(metadata) {
             return Ok(ResolveVersion::V2);
@@ -110,17 +115,17 @@ impl ResolveVersion {
         if !has_checksum(packages) {
             return Ok(ResolveVersion::V1);
         }
-        let message = String::from_str(
+        Err(Error::parse(String::from_str(
             alloc,
             "malformed lockfile: contains checksums in both [[package]] and [[metadata]] sections",
-        )?;
-        Err(Error::Parse(message))
+        )))
     }
 
     // The format with this number, which may be below 0.
     fn from_table_number(alloc: Global, number: i64) -> Result<ResolveVersion>
         ensures read { Reads (λ version. version) result (format_of_number number) }
         ensures accepted { IsOk result ↔ IsSome (format_of_number number) }
+        ensures refused { RefusesWith result (format_refusal (signed_decimal number)) }
     {
         match number {
             1 => Ok(ResolveVersion::V1),
@@ -144,6 +149,7 @@ pub fn format_of_values(
         (format_by version packages.now (texts_of metadata.now.entries)) }
     ensures accepted { IsOk result
         ↔ IsSome (format_by version packages.now (texts_of metadata.now.entries)) }
+    ensures refused { RefusesWith result (refusal_by version) }
 {
     match version {
         Some(number) => ResolveVersion::from_table_number(alloc, number),
@@ -170,10 +176,7 @@ fn invalid_format<T: fmt::Display + Drop>(alloc: Global, number: T) -> Error
     ensures text { IfSome (T.output number)
         (λ shown. (result ≡ Memory) ⊎ IsParse result (format_refusal shown)) }
 {
-    match format!(in alloc; "invalid Cargo.lock format version: `{number}`") {
-        Ok(text) => Error::Parse(text),
-        Err(_) => Error::Memory,
-    }
+    Error::parse(format!(in alloc; "invalid Cargo.lock format version: `{number}`"))
 }
 
 // Whether some package has a checksum.

@@ -5,7 +5,8 @@ ghost use Rattle.std.specs.Prelude.{◌≡◌, IfOk, IsOkUnless, OnOk};
 ghost use Rattle.std.specs.FinMap.{insert, remove};
 ghost use Rattle.cargo_lock_parts.specs.declared.error.Error.TheVariants.{Memory};
 ghost use Rattle.cargo_lock_parts.specs.Identity.{identity_of};
-ghost use Rattle.cargo_lock_references.specs.Metadata.{checksum_key, metadata_of, put_checksum, with_checksums, without_checksums};
+ghost use Rattle.cargo_lock_references.specs.Metadata.{checksum_key, metadata_of, put_checksum};
+ghost use Rattle.cargo_lock_references.specs.Metadata.{with_checksums, without_checksums};
 ghost use Rattle.cargo_lock_references.specs.Records.{texts_of};
 
 use crate::metadata::{Metadata, MetadataKey, MetadataValue};
@@ -71,8 +72,8 @@ fn without_checksums(alloc: Global, metadata: Metadata, packages: &[Package]) ->
 
 // Sets the checksum key of a package, where the package has a checksum.
 fn put_checksum(alloc: Global, metadata: &mut Metadata, package: &Package) -> Result<()>
-    ensures ok { OnOk result
-        (texts_of metadata.new.entries ≡ put_checksum (texts_of metadata.old.entries) «package».now) }
+    ensures ok { OnOk result (texts_of metadata.new.entries
+        ≡ put_checksum (texts_of metadata.old.entries) «package».now) }
     ensures err { IsOkUnless result Memory }
 {
     let Some(checksum) = &package.checksum else {

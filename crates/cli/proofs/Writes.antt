@@ -1,6 +1,6 @@
 -- Texts that a writer takes in pieces.
 use Rattle.std.proofs.Common.{◌≡◌, ℕ, List, [], ◌∷◌, ◌++◌, Option, Some, None, Result, Ok, Err, refl, sym, ap, subst, take, map, length, get_or, ◌+◌, ◌<◌, ◌∙◌, append_assoc}
-use Rattle.std.specs.Prelude.{IfSome, IsErr, OnOk}
+use Rattle.std.specs.Prelude.{IfOk, IfSome, IsErr, OnOk}
 use Rattle.std.specs.Io.KnownBytes.{Appends, Keeps}
 use Rattle.std.specs.List.{flat_map}
 use Rattle.std.proofs.lemmas.List.{append-nil, map_more}
@@ -27,6 +27,10 @@ appends_keeps (Some xs) (Some ys) (Some zs) x h k = k ∙ h
 pub if_some_weaken : (o : Option (List ℕ)) (P Q : List ℕ → Type 0) → ((bs : List ℕ) → P bs → Q bs) → IfSome o P → IfSome o Q
 if_some_weaken None P Q k x = tt
 if_some_weaken (Some bs) P Q k x = k bs x
+
+pub if_ok_weaken : {T E : Type 0} (r : Result T E) (P Q : T → Type 0) → ((x : T) → P x → Q x) → IfOk r P → IfOk r Q
+if_ok_weaken (Ok x) P Q k h = k x h
+if_ok_weaken (Err e) P Q k h = tt
 
 -- a write of nothing
 pub appends_none : (a b c : Option (List ℕ)) (x y : List ℕ) (n : ℕ) → n ≡ 0 → Appends a b x → Appends b c (take n y) → Appends a c x

@@ -2,6 +2,7 @@
 use Rattle.std.specs.Prelude.{◌≡◌, ℕ, List, [], ◌∷◌, ◌++◌, Option, codes}
 use Rattle.clap.specs.Matches.{first_value}
 use Rattle.clap.specs.declared.parser.matches.Found.{Found}
+use Rattle.cargo_lock_parts.specs.Ascii.{newline}
 use Rattle.cargo_lock_bom.specs.Document.{IsBillText}
 use Rattle.cargo_lock_encoding.specs.Lockfiles.{LockfileData}
 use Rattle.cargo_lock_graph.specs.Edges.{Edge}
@@ -13,7 +14,8 @@ use Rattle.cli.specs.Translate.{TakesOutput}
 -- newline
 abbrev pub IsBillLine : LockfileData → List ℕ → Type 0
 IsBillLine l line = (edges : List Edge) × (text : List ℕ) × AreEdgesOf l.packages edges
-    × IsBillText (record { packages = l.packages; edges = edges }) text × (line ≡ text ++ 10 ∷ [])
+    × IsBillText (record { packages = l.packages; edges = edges }) text
+    × (line ≡ text ++ newline ∷ [])
 
 -- the line is that of a lockfile that some text means
 abbrev pub PrintsBill : Found → Option (List ℕ) → Option (List ℕ) → Type 0

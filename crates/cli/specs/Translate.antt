@@ -1,9 +1,11 @@
 -- What `translate` leaves in the writer that stands for standard output.
-use Rattle.std.specs.Prelude.{◌≡◌, ℕ, List, [], ◌∷◌, ◌++◌, ◌⊎◌, Option, Some, None, codes, unwrap_or}
+use Rattle.std.specs.Prelude.{◌≡◌, ℕ, List, [], ◌∷◌, ◌++◌, ◌⊎◌, Option, Some, None, codes}
+use Rattle.std.specs.Prelude.{unwrap_or}
 use Rattle.clap.specs.Matches.{first_value, one_text}
 use Rattle.clap.specs.declared.parser.matches.Found.{Found}
 use Rattle.std.specs.Io.KnownBytes.{Appends, Keeps}
 use Rattle.cargo_lock_references.specs.declared.version.ResolveVersion.{ResolveVersion}
+use Rattle.cargo_lock_parts.specs.Ascii.{newline}
 use Rattle.cargo_lock_references.specs.Format.{IsFormatText}
 use Rattle.cargo_lock_encoding.specs.Lockfiles.{LockfileData}
 use Rattle.cargo_lock_encoding.specs.Text.{join_lines, lines_of}
@@ -21,7 +23,7 @@ TakesOutput output text old new = (IsPrinted output → Appends old new text)
 
 -- the same of the text and one more newline
 abbrev pub TakesText : Option (List ℕ) → List ℕ → Option (List ℕ) → Option (List ℕ) → Type 0
-TakesText output text old new = TakesOutput output (text ++ 10 ∷ []) old new
+TakesText output text old new = TakesOutput output (text ++ newline ∷ []) old new
 
 -- the words ask that only a lockfile that survives the format is written
 abbrev pub IsCheckAsked : Found → Type 0

@@ -1,6 +1,7 @@
 //! The command `bom`: the bill of materials of a lockfile.
 ghost use Rattle.std.specs.Prelude.{◌≡◌, ◌∷◌, ◌++◌, [], IfOk, OnOk, codes, string_bytes};
 ghost use Rattle.clap.specs.Matches.{first_value, found_of};
+ghost use Rattle.cargo_lock_parts.specs.Ascii.{newline};
 ghost use Rattle.cargo_lock_bom.specs.Document.{IsBillText};
 ghost use Rattle.cli.specs.Bom.{IsBillLine, PrintsBill};
 ghost use Rattle.cli.specs.Translate.{TakesOutput};
@@ -40,7 +41,7 @@ fn line_of(alloc: Global, lockfile: &Lockfile, is_compact: bool) -> Result<Strin
 {
     let tree = lockfile.dependency_tree(alloc)?;
     let text = text_of(alloc, tree.graph(), is_compact)?;
-    let line = ended(text)?;
+    let line = with_newline(text)?;
     Ok(line)
 }
 
@@ -56,8 +57,8 @@ fn text_of(alloc: Global, graph: &Graph, is_compact: bool) -> Result<String, Err
 }
 
 /// The text and a newline.
-fn ended(text: String) -> Result<String, AllocError>
-    ensures { IfOk result (λ line. string_bytes line ≡ string_bytes text ++ 10 ∷ []) }
+fn with_newline(text: String) -> Result<String, AllocError>
+    ensures { IfOk result (λ line. string_bytes line ≡ string_bytes text ++ newline ∷ []) }
 {
     let mut text = text;
     text.push('\n')?;

@@ -2,22 +2,26 @@
 ghost use Rattle.std.specs.Prelude.{◌≡◌, IfOk, OnOk, map};
 ghost use Rattle.std.specs.Io.KnownBytes.{Appends};
 ghost use Rattle.clap.specs.Matches.{found_of};
-ghost use Rattle.cargo_lock_diff.specs.Change.{change_of};
-ghost use Rattle.cli.specs.Diff.{IsStatus, TellsDifference, lines_text};
+ghost use Rattle.cargo_lock_diff.specs.Change.{change_of, lines_text};
+ghost use Rattle.cli.specs.Diff.{IsStatus, IsTold, TellsChanges, TellsDifference};
+ghost use Rattle.cli.specs.Diff.{TellsDifferenceOf};
 
 use crate::fault::Fault;
 use crate::output::put;
 use crate::words;
+use cargo_lock::Lockfile;
 use cargo_lock_diff::{Change, Difference};
 use clap::ArgMatches;
+use std::alloc::Global;
 use std::io::Write;
 use std::process::ExitCode;
 use std::rt::Files;
 
-/// Prints what differs between the packages of two lockfiles, a line for each change. The status is
-/// 1 where a package of one name, version and source has another digest, and where the words ask for
-/// it, also where anything differs. Else it is 0. Fails where a lockfile is not read or `out` fails;
-/// a beginning of the text was then written in the last case, and nothing in the others.
+/// Prints what differs between the packages of two lockfiles, a line for each change, and where the
+/// words ask for it also what differs between their dependencies. The status is 1 where a package
+/// of one name, version and source has another digest, and where the words ask for it, also where
+/// anything is printed. Else it is 0. Fails where a lockfile is not read or `out` fails; a
+/// beginning of the text was then written in the last case, and nothing in the others.
 pub(crate) fn run<R: Files + AllocGlobal, W: Write>(
     rt: &R,
     options: &ArgMatches<'_>,
@@ -29,10 +33,53 @@ pub(crate) fn run<R: Files + AllocGlobal, W: Write>(
 {
     let old = words::lockfile(rt, options, "old")?;
     let new = words::lockfile(rt, options, "new")?;
-    let difference = Difference::of(rt.alloc(), &old.packages, &new.packages)?;
-    let changes = difference.changes(rt.alloc())?;
+    tell(rt.alloc(), options, &old, &new, out)
+}
+
+/// Prints what differs between the packages of two lockfiles. Answers the status.
+fn tell<W: Write>(
+    alloc: Global,
+    options: &ArgMatches<'_>,
+    old: &Lockfile,
+    new: &Lockfile,
+    out: &mut W,
+) -> Result<ExitCode, Fault>
+    ensures { IfOk result (λ status. TellsDifferenceOf (found_of options.now)
+        old.now.packages new.now.packages
+        (W.contents out.old) (W.contents out.new)
+        (status ≡ ExitCode.FAILURE) (status ≡ ExitCode.SUCCESS)) }
+{
+    let difference = Difference::of(alloc, &old.packages, &new.packages)?;
+    tell_changes(alloc, options, &difference, out)
+}
+
+/// Prints the changes that a difference tells. Answers the status.
+fn tell_changes<W: Write>(
+    alloc: Global,
+    options: &ArgMatches<'_>,
+    difference: &Difference<'_>,
+    out: &mut W,
+) -> Result<ExitCode, Fault>
+    ensures { IfOk result (λ status. TellsChanges (found_of options.now) difference.now
+        (W.contents out.old) (W.contents out.new)
+        (status ≡ ExitCode.FAILURE) (status ≡ ExitCode.SUCCESS)) }
+{
+    let changes = changes(alloc, options, difference)?;
     print_changes(out, changes.as_slice())?;
-    Ok(status(options, &difference))
+    Ok(status(options, difference, changes.as_slice()))
+}
+
+/// The changes that the words ask for: those of packages, and then those of dependencies.
+fn changes<'a>(
+    alloc: Global,
+    options: &ArgMatches<'_>,
+    difference: &Difference<'a>,
+) -> Result<Vec<Change<'a>>, Fault>
+    ensures { IfOk result (λ changes. IsTold (found_of options.now) difference.now
+        (map change_of changes.items)) }
+{
+    let changes = difference.told(alloc, options.get_flag("dependencies"))?;
+    Ok(changes)
 }
 
 /// Prints the changes in their order.
@@ -46,15 +93,15 @@ fn print_changes<W: Write>(out: &mut W, changes: &[Change<'_>]) -> Result<(), Fa
     Ok(())
 }
 
-/// The status that a difference asks for.
-fn status(options: &ArgMatches<'_>, difference: &Difference<'_>) -> ExitCode
-    ensures { IsStatus (found_of options.now) difference.now
+/// The status that a difference and the changes that are printed ask for.
+fn status(options: &ArgMatches<'_>, difference: &Difference<'_>, changes: &[Change<'_>]) -> ExitCode
+    ensures { IsStatus (found_of options.now) difference.now (map change_of changes.now)
         (result ≡ ExitCode.FAILURE) (result ≡ ExitCode.SUCCESS) }
 {
     if difference.has_alarm() {
         return ExitCode::FAILURE;
     }
-    if options.get_flag("exit-code") && !difference.is_empty() {
+    if options.get_flag("exit-code") && !changes.is_empty() {
         ExitCode::FAILURE
     } else {
         ExitCode::SUCCESS

@@ -1,15 +1,17 @@
 //! The program `cargo-lock` as a library: lists the packages of a lockfile, writes it in another
-//! format, draws its trees, writes its bill of materials and tells what differs between two.
+//! format, draws its trees, writes its bill of materials, tells what differs between two and what
+//! is wrong with one.
 //!
 //! Whatever goes wrong is told in one message on standard error that begins `*** error: `, and the
 //! status is then 1. It is 0 where all of the output was written and flushed, unless what differs
-//! between two lockfiles asks for 1.
+//! between two lockfiles, or what is wrong with one, asks for 1.
 #![tactic(auto)]
 
 ghost use Rattle.std.specs.Prelude.{◌≡◌};
 ghost use Rattle.std.specs.Io.KnownBytes.{Keeps};
 
 mod bom;
+mod check;
 mod diff;
 mod fault;
 mod list;
@@ -52,7 +54,8 @@ pub fn report<E: Write>(err: &mut E, fault: &Fault) -> ExitCode
     ExitCode::FAILURE
 }
 
-/// Reads the words, and runs their command or prints the help that they ask for. Answers the status.
+/// Reads the words, and runs their command or prints the help that they ask for. Answers the
+/// status.
 fn execute<R: Files + AllocGlobal, S: AsStr, W: Write>(
     rt: &R,
     words: &[S],
@@ -81,6 +84,7 @@ fn dispatch<R: Files + AllocGlobal, W: Write>(
 ) -> Result<ExitCode, Fault> {
     match matches.subcommand() {
         Some(("bom", options)) => bom::run(rt, options, out)?,
+        Some(("check", options)) => return check::run(rt, options, out),
         Some(("diff", options)) => return diff::run(rt, options, out),
         Some(("list", options)) => list::run(rt, options, out)?,
         Some(("translate", options)) => translate::run(rt, options, out)?,

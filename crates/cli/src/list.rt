@@ -33,8 +33,22 @@ pub(crate) fn run<R: Files + AllocGlobal, W: Write>(
 ) -> Result<(), Fault> {
     let lockfile = words::lockfile(rt, options, "file")?;
     let wanted = options.get_str("package");
-    let detail = Detail::of(options);
-    for package in lockfile.packages.as_slice() {
+    print_packages(
+        out,
+        lockfile.packages.as_slice(),
+        wanted,
+        Detail::of(options),
+    )
+}
+
+/// Prints each of the packages, or each that has the name that is asked for.
+fn print_packages<W: Write>(
+    out: &mut W,
+    packages: &[Package],
+    wanted: Option<&str>,
+    detail: Detail,
+) -> Result<(), Fault> {
+    for package in packages {
         if is_wanted(package, wanted) {
             print_package(out, package, detail)?;
         }

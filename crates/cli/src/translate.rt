@@ -1,8 +1,10 @@
 //! The command `translate`: a lockfile in another format.
-ghost use Rattle.std.specs.Prelude.{◌≡◌, ◌⊎◌, ◌∷◌, ◌++◌, [], IfErr, IfOk, IsOkUnless, OnOk, codes, string_bytes};
+ghost use Rattle.std.specs.Prelude.{◌≡◌, ◌⊎◌, ◌∷◌, ◌++◌, [], IfErr, IfOk, IsOkUnless, OnOk, codes};
+ghost use Rattle.std.specs.Prelude.{string_bytes};
 ghost use Rattle.clap.specs.Matches.{first_value, found_of};
 ghost use Rattle.std.specs.Io.KnownBytes.{Appends};
 ghost use Rattle.cargo_lock_parts.specs.declared.error.Error.TheVariants.{Memory};
+ghost use Rattle.cargo_lock_parts.specs.Ascii.{newline};
 ghost use Rattle.cargo_lock_references.specs.Format.{number_of};
 ghost use Rattle.cargo_lock_encoding.specs.Text.{join_lines, lines_of};
 ghost use Rattle.cargo_lock_encoding.specs.Survives.{Survives, in_format};
@@ -97,7 +99,7 @@ fn put_out<R: Files + AllocGlobal, W: Write>(
 /// Prints the text and one more newline.
 fn print<W: Write>(out: &mut W, text: &str) -> Result<(), Fault>
     ensures { OnOk result
-        (Appends (W.contents out.old) (W.contents out.new) (text.now ++ 10 ∷ [])) }
+        (Appends (W.contents out.old) (W.contents out.new) (text.now ++ newline ∷ [])) }
 {
     put(out, text)?;
     put(out, "\n")?;

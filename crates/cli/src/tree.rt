@@ -39,10 +39,31 @@ pub(crate) fn run<R: Files + AllocGlobal, W: Write>(
     out: &mut W,
 ) -> Result<(), Fault> {
     let lockfile = words::lockfile(rt, options, "file")?;
-    let tree = tree_of(rt.alloc(), &lockfile)?;
-    let starts = starts(rt.alloc(), &lockfile, &tree, options)?;
-    let style = Style::of(options);
-    print_trees(rt.alloc(), out, &tree, starts.as_slice(), style)
+    draw(rt.alloc(), out, &lockfile, options)
+}
+
+/// Prints the trees of a lockfile that the words ask for.
+fn draw<W: Write>(
+    alloc: Global,
+    out: &mut W,
+    lockfile: &Lockfile,
+    options: &ArgMatches<'_>,
+) -> Result<(), Fault> {
+    let tree = tree_of(alloc, lockfile)?;
+    let packages = lockfile.packages.as_slice();
+    draw_starts(alloc, out, packages, &tree, options)
+}
+
+/// Prints the trees of the nodes that the words name.
+fn draw_starts<W: Write>(
+    alloc: Global,
+    out: &mut W,
+    packages: &[Package],
+    tree: &Tree,
+    options: &ArgMatches<'_>,
+) -> Result<(), Fault> {
+    let starts = starts(alloc, packages, tree, options)?;
+    print_trees(alloc, out, tree, starts.as_slice(), Style::of(options))
 }
 
 /// The tree of the lockfile. Fails where a dependency has no package.
@@ -61,7 +82,7 @@ fn direction(inverted: bool) -> EdgeDirection {
 /// The nodes whose trees are printed.
 fn starts(
     alloc: Global,
-    lockfile: &Lockfile,
+    packages: &[Package],
     tree: &Tree,
     options: &ArgMatches<'_>,
 ) -> Result<Vec<NodeIndex>, Fault>
@@ -69,9 +90,7 @@ fn starts(
         All (λ start. start < length tree.now.graph.packages) starts.items) }
 {
     match options.get_strs("spec") {
-        Some(specs) if !specs.is_empty() => {
-            starts_of(alloc, lockfile.packages.as_slice(), tree, specs)
-        }
+        Some(specs) if !specs.is_empty() => { starts_of(alloc, packages, tree, specs) }
         _ => Ok(tree.roots(alloc)?),
     }
 }

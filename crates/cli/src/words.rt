@@ -1,13 +1,18 @@
 //! The words that the program is called with.
-ghost use Rattle.std.specs.Prelude.{◌≡◌, IfErr, IfOk, IfSome, None, Some, codes, option_map, unwrap_or};
+ghost use Rattle.std.specs.Prelude.{◌≡◌, ◌⊎◌, IfErr, IfOk, IfSome, None, Some, codes, option_map, unwrap_or};
+ghost use Rattle.std.specs.declared.io.ErrorKind.{ErrorKind};
 ghost use Rattle.clap.specs.Matches.{first_value, found_of};
 ghost use Rattle.cargo_lock.specs.Loads.{IsMeant, IsOfFile};
+ghost use Rattle.cargo_lock_parts.specs.declared.error.Error.TheVariants.{Io, Memory};
 ghost use Rattle.cli.specs.Translate.{IsPrinted};
+ghost use Rattle.cli.specs.declared.fault.Fault.TheVariants.{Library};
 
+use crate::fault::Fault;
 use cargo_lock::{Error, Lockfile};
 use clap::{Arg, ArgAction, ArgMatches, Command};
 use std::alloc::{AllocError, Global};
 use std::convert::AsStr;
+use std::fs;
 use std::path::Path;
 use std::rt::Files;
 
@@ -40,7 +45,23 @@ Each change is a line, in this order:
   ~ NAME OLD -> NEW                              another version; a source that differs follows
   - NAME VERSION                                 a package that went
   + NAME VERSION                                 a package that came
-A missing source or checksum is none. The order of the packages and the format do not count.";
+  = NAME VERSION: dependencies - OLD + NEW       with -d, what only the old or the new one needs
+A missing source or checksum is none. The source of a dependency follows it, unless it is crates.io.
+The order of the packages and the format do not count.";
+
+/// The lines of `check`, as help shows them.
+const FINDINGS_HELP: &str = "\
+Each finding is a line, in this order:
+  reference: PACKAGE depends on DEPENDENCY, which is no package
+  twice: PACKAGE stands more than once
+  orphan: PACKAGE: no package of the workspace leads to it
+  root: no package is of the workspace           in place of orphans
+  checksum: PACKAGE has none, though others of its registry have
+  stale: `KEY` is in the metadata, and is of no package
+  order: PACKAGE stands before PACKAGE
+  format: V4 does not keep this lockfile
+  text: line NUMBER is not as Cargo writes it: `LINE` for `CARGO'S LINE`
+A package of the workspace is one without a source. The status is 1 where anything is found.";
 
 /// The words as the parser reads them, the program's name first. A leading `lock` is left out, and
 /// `list` stands before the first option where no command does, unless it asks for help. Fails for
@@ -79,8 +100,28 @@ pub(crate) fn lockfile<R: Files + AllocGlobal>(
     ensures ok { IfOk result IsMeant }
     ensures err { IfErr result IsOfFile }
 {
-    let path = Path::new(options.get_str(name).unwrap_or(DEFAULT_PATH));
+    let path = path_of(options, name);
     Lockfile::load(rt, rt.alloc(), path)
+}
+
+/// The text of the lockfile whose path the option `name` has. Fails where the file is not read.
+pub(crate) fn text<R: Files + AllocGlobal>(
+    rt: &R,
+    options: &ArgMatches<'_>,
+    name: &str,
+) -> Result<String, Fault>
+    ensures { IfErr result (λ fault. (fault ≡ Library Memory)
+        ⊎ ((kind : ErrorKind) × (fault ≡ Library (Io kind)))) }
+{
+    match fs::read_to_string(&(rt, rt.alloc()), path_of(options, name)) {
+        Ok(text) => Ok(text),
+        Err(error) => Err(Fault::of_start(error)),
+    }
+}
+
+/// The path that the option or argument `name` has.
+fn path_of<'a>(options: &ArgMatches<'a>, name: &str) -> Path<'a> {
+    Path::new(options.get_str(name).unwrap_or(DEFAULT_PATH))
 }
 
 /// The text of the format that a command writes.
@@ -115,7 +156,16 @@ pub(crate) fn command<'a>(alloc: Global) -> Result<Command<'a>, AllocError> {
         .subcommand(translate(alloc)?)?
         .subcommand(tree(alloc)?)?
         .subcommand(bom(alloc)?)?
-        .subcommand(diff(alloc)?)
+        .subcommand(diff(alloc)?)?
+        .subcommand(check(alloc)?)
+}
+
+/// The command `check` and its option.
+fn check<'a>(alloc: Global) -> Result<Command<'a>, AllocError> {
+    Command::new(alloc, "check")
+        .about("Tells what is wrong with a lockfile")
+        .after_help(FINDINGS_HELP)
+        .arg(file(alloc))
 }
 
 /// The command `bom` and its options.
@@ -169,11 +219,12 @@ fn diff<'a>(alloc: Global) -> Result<Command<'a>, AllocError> {
         .after_help(DIFF_HELP)
         .arg(path(alloc, "old", "OLD").help("The old lockfile"))?
         .arg(path(alloc, "new", "NEW").help("The new lockfile"))?
+        .arg(flag(alloc, "dependencies", 'd').help("Tells other dependencies of packages too"))?
         .arg(
             Arg::new(alloc, "exit-code")
                 .long("exit-code")
                 .action(ArgAction::SetTrue)
-                .help("Ends with status 1 where anything differs"),
+                .help("Ends with status 1 where anything differs, dependencies only with -d"),
         )
 }
 

@@ -1,6 +1,6 @@
 //! The program over writers that fail, and a fault that comes before its words are read.
 
-use crate::shared::TWO_LOGS;
+use crate::shared::{REGISTRY_AND_GIT, TWO_LOGS};
 use cli::{Fault, report, run};
 use std::io::{self, ErrorKind, Write};
 use std::path::PathBuf;
@@ -17,37 +17,6 @@ source = \"registry+https://github.com/rust-lang/crates.io-index\"
 ";
 
 const FOO_LISTED: &str = "- foo 1.0.0\n";
-
-const EXAMPLE: &str = "version = 3
-
-[[package]]
-name = \"tower-buffer\"
-version = \"0.3.0\"
-source = \"registry+https://github.com/rust-lang/crates.io-index\"
-checksum = \"c4887dc2a65d464c8b9b66e0e4d51c2fd6cf5b3373afc72805b0a60bce00446a\"
-dependencies = [
- \"tracing 0.1.35\",
-]
-
-[[package]]
-name = \"tracing\"
-version = \"0.1.35\"
-source = \"registry+https://github.com/rust-lang/crates.io-index\"
-checksum = \"a400e31aa60b9d44a52a8ee0343b5b18566b03a8321e0d321f695cf56e940160\"
-
-[[package]]
-name = \"tracing\"
-version = \"0.2.0\"
-source = \"git+https://github.com/tokio-rs/tracing.git?rev=1e09e50e8d15580b5929adbade9c782a6833e4a0#1e09e50e8d15580b5929adbade9c782a6833e4a0\"
-
-[[package]]
-name = \"example\"
-version = \"0.1.0\"
-dependencies = [
- \"tower-buffer\",
- \"tracing 0.2.0\",
-]
-";
 
 const EXAMPLE_DRAWN: &str = "example 0.1.0
 ├── tracing 0.2.0
@@ -195,7 +164,7 @@ fn dependencies_onto_output_that_fails(rt: HostRuntime) -> Result<(), Fail> {
 
 #[test]
 fn tree_onto_output_that_fails(rt: HostRuntime) -> Result<(), Fail> {
-    let path = file_of(&rt, "tree_output", EXAMPLE.as_bytes())?;
+    let path = file_of(&rt, "tree_output", REGISTRY_AND_GIT.as_bytes())?;
     each_cut_off(&rt, &["tree", "-f", path.as_path().as_str()], EXAMPLE_DRAWN)?;
     fs::remove_file(&rt, path.as_path())?;
     Ok(())

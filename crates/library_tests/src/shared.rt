@@ -105,7 +105,7 @@ pub(crate) fn text_of(alloc: Global, lockfile: &Lockfile) -> Result<String, Erro
     if is_read_as(alloc, text.as_str(), &table) {
         Ok(text)
     } else {
-        Err(other_table(alloc))
+        Err(Error::parse(String::from_str(alloc, "the text is read as another table")))
     }
 }
 
@@ -122,13 +122,6 @@ fn is_read_as(alloc: Global, text: &str, table: &Table) -> bool {
     match toml::table_from_str(alloc, text) {
         Ok(read) => read == *table,
         Err(_) => false,
-    }
-}
-
-fn other_table(alloc: Global) -> Error {
-    match String::from_str(alloc, "the text is read as another table") {
-        Ok(text) => Error::Parse(text),
-        Err(_) => Error::Memory,
     }
 }
 

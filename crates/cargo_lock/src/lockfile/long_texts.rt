@@ -2,7 +2,8 @@
 
 ghost use Rattle.std.specs.Prelude.{◌≡◌};
 ghost use Rattle.toml.specs.View.{array_view, table_view, view};
-ghost use Rattle.cargo_lock.specs.LongTexts.{has_long_text, items_have_long_text, members_have_long_text};
+ghost use Rattle.cargo_lock.specs.LongTexts.{has_long_text, items_have_long_text};
+ghost use Rattle.cargo_lock.specs.LongTexts.{members_have_long_text};
 
 use cargo_lock_parts::error::SHORT_LENGTH;
 use toml::value::Array;

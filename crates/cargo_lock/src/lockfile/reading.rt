@@ -133,8 +133,5 @@ fn of_text(alloc: Global, fault: &TomlError) -> Error
     if fault.is_memory() {
         return Error::Memory;
     }
-    match format!(in alloc; "{fault}") {
-        Ok(text) => Error::Parse(text),
-        Err(_) => Error::Memory,
-    }
+    Error::parse(format!(in alloc; "{fault}"))
 }

@@ -1,7 +1,7 @@
 //! Lockfiles in the formats of `serde`.
 
 use crate::lockfile::Lockfile;
-use cargo_lock_parts::serialization::refused;
+use cargo_lock_parts::serialization::format_error;
 use serde::{
     Described, Deserialize, DeserializeOwned, Deserializer, Format, Serialize, Serializer,
 };
@@ -37,7 +37,7 @@ impl DeserializeOwned for Lockfile {
         let table = Table::deserialize_owned(alloc, from)?;
         match Lockfile::from_table(alloc, &table) {
             Ok(lockfile) => Ok(lockfile),
-            Err(fault) => Err(refused(alloc, from, fault)),
+            Err(fault) => Err(format_error(alloc, from, fault)),
         }
     }
 }

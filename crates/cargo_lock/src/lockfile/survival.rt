@@ -15,8 +15,8 @@ impl Lockfile {
     /// each reference, as it is written, resolves to the dependency that it stands for,
     /// checksums are found again, and V1 and V2 can be told apart.
     ///
-    /// A path source is not written, so a package with one survives no format. Only want of
-    /// memory is refused; a source of 4 GB or more counts as that.
+    /// A path source is not written, so a package with one survives no format. The one error is
+    /// `Memory`, and a source of 4 GB or more is refused with it too.
     pub fn survives(&self, alloc: Global, format: ResolveVersion) -> Result<bool>
         ensures decided { IfOk result (λ b. IsTrue b ↔ Survives self.now format) }
         ensures exact { Survives self.now format ↔ ReadsBack self.now format }

@@ -7,7 +7,8 @@ ghost use Rattle.cargo_lock_parts.specs.Error.{Reads, Refuses};
 ghost use Rattle.cargo_lock_encoding.specs.Meaning.{meaning};
 ghost use Rattle.cargo_lock_encoding.specs.Survives.{in_format};
 ghost use Rattle.cargo_lock_encoding.specs.Table.{table_of};
-ghost use Rattle.cargo_lock.specs.Translation.{IsStuck, KeepsThrough, LeadsTo, SurvivesEach, translate_in_turn};
+ghost use Rattle.cargo_lock.specs.Translation.{IsStuck, KeepsThrough, LeadsTo, SurvivesEach};
+ghost use Rattle.cargo_lock.specs.Translation.{translate_in_turn};
 
 use crate::error::{Error, Result};
 use crate::lockfile::Lockfile;

@@ -2,12 +2,13 @@
 //! pieces, which takes no memory.
 
 ghost use Rattle.std.specs.Prelude.{◌-◌, ◌^◌, ◌<◌, ◌≡◌, ◌++◌, ◌∷◌, codes, option_copied, false};
-ghost use Rattle.semver.specs.Identifiers.{marked, parts_of, parts_text};
+ghost use Rattle.semver.specs.Identifiers.{parts_of, parts_text};
 ghost use Rattle.std.specs.Prelude.{decimal};
+ghost use Rattle.cargo_lock_parts.specs.Ascii.{dot};
 ghost use Rattle.cargo_lock_parts.specs.Checksum.{digest_of, digest_text};
 ghost use Rattle.cargo_lock_parts.specs.Source.{git_reference_of};
 ghost use Rattle.cargo_lock_parts.specs.SourceText.{fragment_text, query_text, text_of};
-ghost use Rattle.cargo_lock_graph.specs.Labels.{exact_text, label_of};
+ghost use Rattle.cargo_lock_graph.specs.Labels.{exact_text, label_of, tags_text};
 ghost use Rattle.cargo_lock_graph.specs.Sinks.{IsWritten};
 
 use crate::drawing::put::{Put, Target, put_all, put_both, put_dotted, put_marked, put_number};
@@ -21,7 +22,7 @@ use cargo_lock_parts::package::{
 fn put_tags<T: Target>(out: &mut T, version: &Version) -> Put
     requires { (T.state out.old).failures < 2 ^ 64 - 1 }
     ensures { IsWritten (T.state out.old) (T.state out.new)
-        (marked 45 (parts_of version.now).3 ++ marked 43 (parts_of version.now).4) result }
+        (tags_text (parts_of version.now)) result }
 {
     put_marked(out, b'-', version.pre.as_str())?;
     put_marked(out, b'+', version.build.as_str())
@@ -31,8 +32,7 @@ fn put_tags<T: Target>(out: &mut T, version: &Version) -> Put
 fn put_patch<T: Target>(out: &mut T, version: &Version) -> Put
     requires { (T.state out.old).failures < 2 ^ 64 - 1 }
     ensures { IsWritten (T.state out.old) (T.state out.new)
-        (46 ∷ (decimal version.now.patch
-        ++ (marked 45 (parts_of version.now).3 ++ marked 43 (parts_of version.now).4))) result }
+        (dot ∷ (decimal version.now.patch ++ tags_text (parts_of version.now))) result }
 {
     put_dotted(out, version.patch)?;
     put_tags(out, version)
@@ -42,9 +42,8 @@ fn put_patch<T: Target>(out: &mut T, version: &Version) -> Put
 fn put_minor<T: Target>(out: &mut T, version: &Version) -> Put
     requires { (T.state out.old).failures < 2 ^ 64 - 1 }
     ensures { IsWritten (T.state out.old) (T.state out.new)
-        (46 ∷ (decimal version.now.minor
-        ++ (46 ∷ (decimal version.now.patch
-        ++ (marked 45 (parts_of version.now).3 ++ marked 43 (parts_of version.now).4))))) result }
+        (dot ∷ (decimal version.now.minor
+        ++ (dot ∷ (decimal version.now.patch ++ tags_text (parts_of version.now))))) result }
 {
     put_dotted(out, version.minor)?;
     put_patch(out, version)

@@ -1,6 +1,12 @@
 //! Laws of drawings, each the contract of a function without a body. They hold over every graph.
 
-ghost use Rattle.cargo_lock_graph.specs.DrawingLaws.{DrawingExists, DrawingIsUnique, DrawingsAreOneForm, EdgesMatch, EntriesAreCounted, FirstIsUnique, EntriesAreLines, GraphHasOneDrawing, OccursWhereReachable, ReachableIsExpanded, TextByLater, TextIsEndedLines, TextIsOfOneDrawing, TextTellsDrawing};
+ghost use Rattle.cargo_lock_graph.specs.DrawingLaws.{DrawingExists, DrawingIsUnique};
+ghost use Rattle.cargo_lock_graph.specs.DrawingLaws.{DrawingsAreOneForm, EdgesMatch};
+ghost use Rattle.cargo_lock_graph.specs.DrawingLaws.{EntriesAreCounted, FirstIsUnique};
+ghost use Rattle.cargo_lock_graph.specs.DrawingLaws.{EntriesAreLines, GraphHasOneDrawing};
+ghost use Rattle.cargo_lock_graph.specs.DrawingLaws.{OccursWhereReachable, ReachableIsExpanded};
+ghost use Rattle.cargo_lock_graph.specs.DrawingLaws.{TextByLater, TextIsEndedLines};
+ghost use Rattle.cargo_lock_graph.specs.DrawingLaws.{TextIsOfOneDrawing, TextTellsDrawing};
 
 /// What a drawing is in words, place by place, is what it is by recursion on its entries.
 pub fn drawings_are_one_form()

@@ -2,6 +2,7 @@
 
 ghost use Rattle.std.specs.Prelude.{◌-◌, ◌^◌, ◌<◌, ◌++◌, ◌∷◌, decimal, length};
 ghost use Rattle.semver.specs.Identifiers.{marked};
+ghost use Rattle.cargo_lock_parts.specs.Ascii.{dot};
 ghost use Rattle.cargo_lock_graph.specs.Sinks.{IsTaken, IsWritten, Taken};
 
 use crate::drawing::sink::{Sink, write_some};
@@ -98,7 +99,7 @@ pub(crate) fn put_number<T: Target>(out: &mut T, number: u64) -> Put
 // A dot and a number.
 pub(crate) fn put_dotted<T: Target>(out: &mut T, number: u64) -> Put
     requires { (T.state out.old).failures < 2 ^ 64 - 1 }
-    ensures { IsWritten (T.state out.old) (T.state out.new) (46 ∷ decimal number) result }
+    ensures { IsWritten (T.state out.old) (T.state out.new) (dot ∷ decimal number) result }
 {
     let mut digits = Buffer::new();
     put_both(out, b".", digits.format(number).as_bytes())

@@ -1,12 +1,17 @@
-//! The text of a drawing, put onto a target line by line.
+//! The text of a drawing, put onto a target line by line. `put_node` puts the label of an entry, by
+//! `put_label` of `label.rt`.
 
-ghost use Rattle.std.specs.Prelude.{◌-◌, ◌^◌, ◌<◌, ◌≤◌, ◌++◌, ◌∷◌, [], IfOk, List, ℕ, ◌≡◌, OnOk, length, max, vec_len};
+ghost use Rattle.std.specs.Prelude.{◌-◌, ◌^◌, ◌<◌, ◌≤◌, ◌++◌, ◌∷◌, [], IfOk, List, ℕ, ◌≡◌, OnOk};
+ghost use Rattle.std.specs.Prelude.{length, max, vec_len};
+ghost use Rattle.cargo_lock_parts.specs.Ascii.{newline};
 ghost use Rattle.cargo_lock_graph.specs.declared.drawing.entry.Entry.{Entry};
 ghost use Rattle.cargo_lock_graph.specs.Drawing.{IsDrawing};
-ghost use Rattle.cargo_lock_graph.specs.DrawingByLater.{drawn_by_later, levels_text, line_by_later, prefix_by_later};
+ghost use Rattle.cargo_lock_graph.specs.DrawingByLater.{drawn_by_later, levels_text, line_by_later};
+ghost use Rattle.cargo_lock_graph.specs.DrawingByLater.{prefix_by_later};
 ghost use Rattle.cargo_lock_graph.specs.DrawingLevels.{most_levels};
 ghost use Rattle.cargo_lock_graph.specs.DrawingMade.{AreMarked};
-ghost use Rattle.cargo_lock_graph.specs.DrawingText.{branch_text, drawing_text, level_text, standard_symbols};
+ghost use Rattle.cargo_lock_graph.specs.DrawingText.{branch_text, drawing_text, level_text};
+ghost use Rattle.cargo_lock_graph.specs.DrawingText.{standard_symbols};
 ghost use Rattle.cargo_lock_graph.specs.Edges.{far_ends};
 ghost use Rattle.cargo_lock_graph.specs.Labels.{label_at};
 ghost use Rattle.cargo_lock_graph.specs.Rendering.{Draws};
@@ -91,7 +96,7 @@ fn put_node<T: Target>(out: &mut T, graph: &Graph, node: NodeIndex, exact: bool)
     requires sound { (T.state out.old).failures < 2 ^ 64 - 1 }
     requires node { node < length graph.now.packages }
     ensures { IsWritten (T.state out.old) (T.state out.new)
-        (label_at exact graph.now.packages node ++ (10 ∷ [])) result }
+        (label_at exact graph.now.packages node ++ (newline ∷ [])) result }
 {
     put_label(out, &graph[node], exact)?;
     put_all(out, b"\n")

@@ -1,10 +1,12 @@
 //! The walk over a graph from a start, entry by entry, by a stack of frames.
 
-ghost use Rattle.std.specs.Prelude.{◌≡◌, ℕ, ◌<◌, ◌≤◌, [], ◌∷◌, ◌++◌, Some, length, vec_len, vec_capacity, MatchOption, IfOk, IfSome};
+ghost use Rattle.std.specs.Prelude.{◌≡◌, ℕ, ◌<◌, ◌≤◌, [], ◌∷◌, ◌++◌, Some, length, vec_len};
+ghost use Rattle.std.specs.Prelude.{vec_capacity, MatchOption, IfOk, IfSome};
 ghost use Rattle.cargo_lock_graph.specs.DrawingByLater.{goes_on};
 ghost use Rattle.cargo_lock_graph.specs.DrawingMade.{AreMarked, drawing, rest_of};
 ghost use Rattle.cargo_lock_graph.specs.Edges.{far_ends};
-ghost use Rattle.cargo_lock_graph.specs.WalkState.{HasDrawn, IsHeld, IsOn, entries_to_come, to_come, entries_waiting};
+ghost use Rattle.cargo_lock_graph.specs.WalkState.{HasDrawn, IsHeld, IsOn, entries_to_come};
+ghost use Rattle.cargo_lock_graph.specs.WalkState.{to_come, entries_waiting};
 
 use crate::drawing::entry::Entry;
 use crate::graph::{EdgeDirection, Graph, NodeIndex};

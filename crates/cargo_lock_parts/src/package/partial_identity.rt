@@ -67,7 +67,8 @@ impl<'a> PartialIdentity<'a> {
 
 impl<'a> PartialEq for PartialIdentity<'a> {
     ghost use Rattle.std.specs.Cmp.{partial_equiv_from_equiv, eq_by_cmp_equiv};
-    ghost use Rattle.cargo_lock_parts.specs.PartialIdentity.{is_same_partial_identity, partial_identity_total};
+    ghost use Rattle.cargo_lock_parts.specs.PartialIdentity.{is_same_partial_identity};
+    ghost use Rattle.cargo_lock_parts.specs.PartialIdentity.{partial_identity_total};
 
     ghost eq = { is_same_partial_identity };
 
@@ -88,7 +89,8 @@ impl<'a> Eq for PartialIdentity<'a> {
 impl<'a> PartialOrd for PartialIdentity<'a> {
     ghost use Rattle.std.specs.Ordering.{as_partial_cmp};
     ghost use Rattle.std.specs.Cmp.{partial_order_from_total};
-    ghost use Rattle.cargo_lock_parts.specs.PartialIdentity.{partial_identity_cmp, partial_identity_total};
+    ghost use Rattle.cargo_lock_parts.specs.PartialIdentity.{partial_identity_cmp};
+    ghost use Rattle.cargo_lock_parts.specs.PartialIdentity.{partial_identity_total};
 
     ghost partial_cmp = { as_partial_cmp partial_identity_cmp };
 
@@ -101,7 +103,8 @@ impl<'a> PartialOrd for PartialIdentity<'a> {
 
 impl<'a> Ord for PartialIdentity<'a> {
     ghost use Rattle.std.specs.Prelude.{refl};
-    ghost use Rattle.cargo_lock_parts.specs.PartialIdentity.{partial_identity_cmp, partial_identity_total};
+    ghost use Rattle.cargo_lock_parts.specs.PartialIdentity.{partial_identity_cmp};
+    ghost use Rattle.cargo_lock_parts.specs.PartialIdentity.{partial_identity_total};
 
     ghost cmp = { partial_identity_cmp };
 

@@ -1,6 +1,7 @@
 //! Package sources.
 
-ghost use Rattle.std.specs.Prelude.{◌≡◌, None, IfOk, IsOkUnless, option_copied, option_map, string_bytes};
+ghost use Rattle.std.specs.Prelude.{◌≡◌, None, IfOk, IsOkUnless, option_copied, option_map};
+ghost use Rattle.std.specs.Prelude.{string_bytes};
 ghost use Rattle.std.specs.Option.{option_cmp};
 ghost use Rattle.std.specs.Ordering.{nat_cmp};
 ghost use Rattle.std.specs.Cmp.Lexicographic.{slice_cmp};
@@ -100,9 +101,8 @@ impl Model for SourceParts {
 }
 
 impl SourceId {
-    ghost use Rattle.std.specs.Prelude.{codes};
     ghost use Rattle.cargo_lock_parts.specs.Source.{Source, Git, Registry, git_reference};
-    ghost use Rattle.cargo_lock_parts.specs.SourceReading.{plain_source, url_of};
+    ghost use Rattle.cargo_lock_parts.specs.SourceReading.{plain_source};
 
     /// The URL. That of a git source has no query and no fragment.
     pub fn url(&self) -> &Url

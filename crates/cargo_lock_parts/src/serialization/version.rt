@@ -17,11 +17,11 @@ pub fn deserialize<F: Format>(
     let text = from.string(alloc)?;
     match Version::parse(alloc, text.as_str()) {
         Ok(version) => Ok(version),
-        Err(fault) => Err(refused(alloc, from, &fault)),
+        Err(fault) => Err(format_error(alloc, from, &fault)),
     }
 }
 
-fn refused<F: Format>(
+fn format_error<F: Format>(
     alloc: Global,
     from: &Deserializer<'_, '_, F>,
     fault: &VersionError,

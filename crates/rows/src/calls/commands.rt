@@ -1,5 +1,5 @@
-//! Commands of the program, run in this folder, where the text at hand is the file `Cargo.lock`, and
-//! the text beside it the file `beside.lock`.
+//! Commands of the program, run in this folder, where the text at hand is the file `Cargo.lock`,
+//! and the text beside it the file `beside.lock`.
 
 use super::{Texts, line};
 use crate::notation;

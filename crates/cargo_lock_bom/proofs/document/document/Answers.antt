@@ -8,5 +8,5 @@ returns-clause-ok c = record {
   distinct = c.in_ok-check_distinct.ensures.ok;
   entries = map view c.in_ok-entries.entries.items;
   are_entries = c.in_ok-entries.ensures;
-  is = c.in_ok-made.ensures ∙ ap (λ cs. document_of cs (map view c.in_ok-entries.entries.items)) c.in_ok-components.ensures;
+  is = c.in_ok-bill.ensures ∙ ap (λ cs. document_of cs (map view c.in_ok-entries.entries.items)) c.in_ok-components.ensures;
 }

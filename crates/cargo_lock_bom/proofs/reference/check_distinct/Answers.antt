@@ -12,22 +12,22 @@ loop-node-init c = none-seen c.new-seen.result c.new-seen.ensures.empty
 pub loop-node-preserved : goal.loop-node-preserved
 loop-node-preserved c =
     let packages = c.args.graph.now.packages in
-    let p = c.index-one.result.now in
+    let p = c.index-package.result.now in
     let before = contains_text c.loop-node.seen in
     let new : before (package_reference p) ≡ false =
     not-true (before (package_reference p)) (sym c.in_ok-add.ensures.new ∙ c.if-not-branch.false) in
-    next-seen packages c.loop-node.node p before (contains_text c.add.new.seen) (sym (c.index-one.ensures ∙ ap (slice_get packages) c.new.ensures))
+    next-seen packages c.loop-node.node p before (contains_text c.add.new.seen) (sym (c.index-package.ensures ∙ ap (slice_get packages) c.new.ensures))
     c.loop-node.invariant new c.in_ok-add.ensures.added
 
 pub returns-then-not-branch-clause-err : goal.returns-then-not-branch-clause-err
 returns-then-not-branch-clause-err c =
     let packages = c.args.graph.now.packages in
-    let p = c.index-one.result.now in
+    let p = c.index-package.result.now in
     let before = contains_text c.loop-node.seen in
     let there : before (package_reference p) ≡ true =
     not-false (before (package_reference p)) (sym c.in_ok-add.ensures.new ∙ c.if-not-branch.true) in
-    let repeated = seen-repeated packages c.loop-node.node p before (sym (c.index-one.ensures ∙ ap (slice_get packages) c.new.ensures)) c.loop-node.invariant there in
-    ⊎_elim (λ memory. inl memory) (λ said. inr (p, repeated, said)) c.repeated.ensures
+    let repeated = seen-repeated packages c.loop-node.node p before (sym (c.index-package.ensures ∙ ap (slice_get packages) c.new.ensures)) c.loop-node.invariant there in
+    ⊎_elim (λ memory. inl memory) (λ said. inr (p, repeated, said)) c.repeated_fault.ensures
 
 pub returns-clause-ok : goal.returns-clause-ok
 returns-clause-ok c =

@@ -1,11 +1,11 @@
 //! Sources that are folders on this machine.
 
-ghost use Rattle.std.specs.Prelude.{◌≡◌, ◌++◌, Some, OnOk, IfOk, IsOkUnless, false, string_bytes};
+ghost use Rattle.std.specs.Prelude.{◌≡◌, ◌++◌, OnOk, IfOk, IsOkUnless, string_bytes};
 ghost use Rattle.std.specs.Path.{path_bytes};
 ghost use Rattle.cargo_lock_parts.specs.declared.error.Error.TheVariants.{Memory};
-ghost use Rattle.cargo_lock_parts.specs.Error.{IsShort, Reads, ReadsUrls, RefusesWith};
 ghost use Rattle.cargo_lock_parts.specs.Source.{kind_of};
-ghost use Rattle.cargo_lock_parts.specs.FileUrl.{begins_with_slash, invalid_path, kept_text, parts_of, parts_text, text_of_parts, source_at};
+ghost use Rattle.cargo_lock_parts.specs.FileUrl.{ReadsFolder, begins_with_slash, kept_text};
+ghost use Rattle.cargo_lock_parts.specs.FileUrl.{path_parts, path_parts_text, file_url_of};
 
 use crate::error::{Error, Result};
 use crate::package::source::parse::parse_url;
@@ -45,12 +45,7 @@ impl SourceId {
     /// `Parse` says that the path does not begin with `/`. A URL of 4 GB or more is
     /// refused too, which is never so where the path is shorter than 2^24 bytes.
     pub fn for_path(alloc: Global, path: Path<'_>) -> Result<SourceId>
-        ensures reads { ReadsUrls (λ source. source) result
-            (source_at seen.Path (path_bytes path.entry)) }
-        ensures short { IsShort (path_bytes path.entry) → Reads (λ source. source) result
-            (source_at seen.Path (path_bytes path.entry)) }
-        ensures refused { begins_with_slash (path_bytes path.entry) ≡ false
-            → RefusesWith result (invalid_path (path_bytes path.entry)) }
+        ensures { ReadsFolder result seen.Path (path_bytes path.entry) }
     {
         let source = at_path(alloc, path, SourceKind::Path)?;
         Ok(source)
@@ -60,12 +55,7 @@ impl SourceId {
     ///
     /// The path and the errors are those of `for_path`.
     pub fn for_local_registry(alloc: Global, path: Path<'_>) -> Result<SourceId>
-        ensures reads { ReadsUrls (λ source. source) result
-            (source_at seen.LocalRegistry (path_bytes path.entry)) }
-        ensures short { IsShort (path_bytes path.entry) → Reads (λ source. source) result
-            (source_at seen.LocalRegistry (path_bytes path.entry)) }
-        ensures refused { begins_with_slash (path_bytes path.entry) ≡ false
-            → RefusesWith result (invalid_path (path_bytes path.entry)) }
+        ensures { ReadsFolder result seen.LocalRegistry (path_bytes path.entry) }
     {
         let source = at_path(alloc, path, SourceKind::LocalRegistry)?;
         Ok(source)
@@ -75,12 +65,7 @@ impl SourceId {
     ///
     /// The path and the errors are those of `for_path`.
     pub fn for_directory(alloc: Global, path: Path<'_>) -> Result<SourceId>
-        ensures reads { ReadsUrls (λ source. source) result
-            (source_at seen.Directory (path_bytes path.entry)) }
-        ensures short { IsShort (path_bytes path.entry) → Reads (λ source. source) result
-            (source_at seen.Directory (path_bytes path.entry)) }
-        ensures refused { begins_with_slash (path_bytes path.entry) ≡ false
-            → RefusesWith result (invalid_path (path_bytes path.entry)) }
+        ensures { ReadsFolder result seen.Directory (path_bytes path.entry) }
     {
         let source = at_path(alloc, path, SourceKind::Directory)?;
         Ok(source)
@@ -90,17 +75,11 @@ impl SourceId {
 // The source of this kind at a path.
 #[tactic(auto, unfolding(crate::specs::FileUrl::source_at))]
 fn at_path(alloc: Global, path: Path<'_>, kind: SourceKind) -> Result<SourceId>
-    ensures reads { ReadsUrls (λ source. source) result
-        (source_at (kind_of kind) (path_bytes path.entry)) }
-    ensures short { IsShort (path_bytes path.entry) → Reads (λ source. source) result
-        (source_at (kind_of kind) (path_bytes path.entry)) }
-    ensures refused { begins_with_slash (path_bytes path.entry) ≡ false
-        → RefusesWith result (invalid_path (path_bytes path.entry)) }
+    ensures { ReadsFolder result (kind_of kind) (path_bytes path.entry) }
 {
     let path = path.as_os_str();
     if !is_rooted(path) {
-        let message = format!(in alloc; "invalid path url `{path}`")?;
-        return Err(Error::Parse(message));
+        return Err(Error::parse(format!(in alloc; "invalid path url `{path}`")));
     }
     let text = file_url_text(alloc, path)?;
     let url = parse_url(alloc, text.as_str(), path.len())?;
@@ -116,7 +95,7 @@ fn is_rooted(path: &str) -> bool
 
 // The text of the URL of a path from the root.
 fn file_url_text(alloc: Global, path: &str) -> Result<String>
-    ensures ok { IfOk result (λ text. string_bytes text ≡ text_of_parts (parts_of path.now)) }
+    ensures ok { IfOk result (λ text. string_bytes text ≡ file_url_of (path_parts path.now)) }
     ensures err { IsOkUnless result Memory }
 {
     let mut text = String::from_str(alloc, "file://")?;
@@ -129,7 +108,8 @@ fn file_url_text(alloc: Global, path: &str) -> Result<String>
 
 // Adds the parts that are kept, each after a `/`.
 fn push_parts(path: &str, text: &mut String) -> std::result::Result<(), AllocError>
-    ensures { OnOk result (string_bytes text.new ≡ string_bytes text.old ++ parts_text path.now) }
+    ensures { OnOk result
+        (string_bytes text.new ≡ string_bytes text.old ++ path_parts_text path.now) }
 {
     let mut rest = path;
     while let Some((part, more)) = rest.split_once('/') {

@@ -1,6 +1,7 @@
 //! The source that a text reads as.
 
-ghost use Rattle.std.specs.Prelude.{◌≡◌, ◌<◌, ◌⊎◌, [], Some, None, IfOk, IsOkUnless, codes, unwrap_or, if◌then◌else◌};
+ghost use Rattle.std.specs.Prelude.{◌≡◌, ◌<◌, ◌⊎◌, [], Some, None, IfOk, IsOkUnless, codes};
+ghost use Rattle.std.specs.Prelude.{unwrap_or, if◌then◌else◌};
 ghost use Rattle.url.specs.Head.{without_tail};
 ghost use Rattle.cargo_lock_parts.specs.declared.error.Error.TheVariants.{Memory};
 ghost use Rattle.cargo_lock_parts.specs.Error.{IsShort, IsTooLong, Reads, ReadsUrls};
@@ -30,12 +31,11 @@ impl SourceId {
         ensures short { IsShort text.now → Reads (λ source. source) result (source_of text.now) }
     {
         let Some((word, url)) = text.split_once('+') else {
-            let message = format!(in alloc; "invalid source `{text}`")?;
-            return Err(Error::Parse(message));
+            return Err(Error::parse(format!(in alloc; "invalid source `{text}`")));
         };
         let Some(protocol) = protocol_of(word) else {
-            let message = format!(in alloc; "unsupported source protocol: `{word}` from `{text}`")?;
-            return Err(Error::Parse(message));
+            let message = format!(in alloc; "unsupported source protocol: `{word}` from `{text}`");
+            return Err(Error::parse(message));
         };
         let url = parse_url(alloc, url, text.len())?;
         let source = source_by(alloc, protocol, url)?;
@@ -82,10 +82,7 @@ pub(super) fn parse_url(alloc: Global, url: &str, size: usize) -> Result<Url>
         Ok(url) => Ok(url),
         Err(ParseError::OutOfMemory) => Err(Error::Memory),
         Err(ParseError::Overflow) => Err(too_long(alloc, size)),
-        Err(fault) => {
-            let message = format!(in alloc; "invalid url `{url}`: {fault}")?;
-            Err(Error::Parse(message))
-        }
+        Err(fault) => { Err(Error::parse(format!(in alloc; "invalid url `{url}`: {fault}"))) }
     }
 }
 
@@ -97,10 +94,7 @@ fn too_long(alloc: Global, size: usize) -> Error
     if size < SHORT_LENGTH {
         return Error::Memory;
     }
-    match String::from_str(alloc, TOO_LONG) {
-        Ok(message) => Error::Parse(message),
-        Err(_) => Error::Memory,
-    }
+    Error::parse(String::from_str(alloc, TOO_LONG))
 }
 
 // The source of a protocol and a URL.

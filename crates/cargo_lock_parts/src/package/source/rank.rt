@@ -8,7 +8,9 @@ ghost use Rattle.cargo_lock_parts.specs.Rank as spec;
 use crate::package::source::{GitReference, SourceId, SourceKind};
 
 impl SourceId {
-    ghost use Rattle.cargo_lock_parts.specs.Rank.{rank_of, has_rank_2, has_rank_3, has_rank_4, is_open_git, same_url_and_name, both_git, commit_of};
+    ghost use Rattle.cargo_lock_parts.specs.Rank.{rank_of, has_rank_2, has_rank_3, has_rank_4};
+    ghost use Rattle.cargo_lock_parts.specs.Rank.{is_open_git, same_url_and_name, both_git};
+    ghost use Rattle.cargo_lock_parts.specs.Rank.{commit_of};
 
     /// How well the sources match, from 1 for equal sources to 4. None where they do not match.
     ///

@@ -1,7 +1,7 @@
 //! Sources in the formats of `serde`.
 
 use crate::package::source::SourceId;
-use crate::serialization::refused;
+use crate::serialization::format_error;
 use serde::{
     Described, Deserialize, DeserializeOwned, Deserializer, Format, Serialize, Serializer,
 };
@@ -44,7 +44,7 @@ impl DeserializeOwned for SourceId {
         let text = from.string(alloc)?;
         match SourceId::from_url(alloc, text.as_str()) {
             Ok(source) => Ok(source),
-            Err(fault) => Err(refused(alloc, from, fault)),
+            Err(fault) => Err(format_error(alloc, from, fault)),
         }
     }
 }

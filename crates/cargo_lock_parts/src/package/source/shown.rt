@@ -24,7 +24,8 @@ impl SourceKind {
 }
 
 impl SourceId {
-    ghost use Rattle.cargo_lock_parts.specs.Source.{is_path, is_git, is_registry, is_remote_registry};
+    ghost use Rattle.cargo_lock_parts.specs.Source.{is_path, is_git, is_registry};
+    ghost use Rattle.cargo_lock_parts.specs.Source.{is_remote_registry};
     ghost use Rattle.cargo_lock_parts.specs.SourceShown.{is_default_registry};
 
     /// Whether the source is a folder on this machine, as a path dependency is.
@@ -75,7 +76,8 @@ impl SourceId {
 }
 
 impl SourceId {
-    ghost use Rattle.cargo_lock_parts.specs.SourceShown.{default_registry, is_default_registry, index_text, registry_name_text};
+    ghost use Rattle.cargo_lock_parts.specs.SourceShown.{default_registry, is_default_registry};
+    ghost use Rattle.cargo_lock_parts.specs.SourceShown.{index_text, registry_name_text};
 
     /// The registry of crates.io at `CRATES_IO_INDEX`, with no precise text.
     ///

@@ -1,6 +1,7 @@
 //! The text of a source.
 
-ghost use Rattle.std.specs.Prelude.{◌≡◌, Some, IfOk, IsOkUnless, false, option_copied, string_bytes};
+ghost use Rattle.std.specs.Prelude.{◌≡◌, Some, IfOk, IsOkUnless, false, option_copied};
+ghost use Rattle.std.specs.Prelude.{string_bytes};
 ghost use Rattle.std.specs.Fmt.{DisplaysOnOk};
 ghost use Rattle.cargo_lock_parts.specs.Source.{git_reference_of};
 ghost use Rattle.cargo_lock_parts.specs.SourceText.{fragment_text, query_text, text_of};

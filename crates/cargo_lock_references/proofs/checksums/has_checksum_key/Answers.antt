@@ -3,4 +3,4 @@ use Rattle.cargo_lock_references.proofs.checksums.has_checksum_key.Goals as goal
 
 pub returns : goal.returns
 unfolding has_checksum_key
-returns c = rw c.ordered.ensures c.has_checksum_among.ensures
+returns c = rw c.keys_ascend.ensures c.has_checksum_among.ensures

@@ -1,6 +1,5 @@
-use Rattle.std.proofs.Common.{◌≡◌, None, ap, arith, sym, ◌∙◌, subst, IfOk, Some, refl}
-use Rattle.std.specs.Prelude.{map, option_copied}
-use Rattle.cargo_lock_references.specs.ResolutionSearch.{resolution_of}
+use Rattle.std.proofs.Common.{◌≡◌, None, ap, arith, sym, ◌∙◌, Some}
+use Rattle.std.specs.Prelude.{option_copied}
 use Rattle.cargo_lock_references.proofs.ResolvesToLemmas.{resolution_of-found, resolution_of-unfound, no_source}
 use Rattle.cargo_lock_references.proofs.resolution.dependency_by_first.Goals as goal
 

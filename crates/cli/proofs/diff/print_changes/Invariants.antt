@@ -1,7 +1,6 @@
 use Rattle.std.proofs.Common.{map, take}
 use Rattle.std.specs.Io.KnownBytes.{Appends}
-use Rattle.cargo_lock_diff.specs.Change.{change_of}
-use Rattle.cli.specs.Diff.{lines_text}
+use Rattle.cargo_lock_diff.specs.Change.{change_of, lines_text}
 use Rattle.cli.proofs.diff.print_changes.Given as goal
 
 abbrev pub invariant-loop-change : goal.invariant-loop-change

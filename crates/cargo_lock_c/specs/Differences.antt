@@ -1,0 +1,27 @@
+-- What differs between two lockfiles, as callers have it: a line each.
+use Rattle.std.specs.Prelude.{◌≡◌, ◌≤◌, ℕ, Bool, List, IsUtf8}
+use Rattle.cargo_lock_diff.specs.Change.{lines_text, told_of}
+use Rattle.cargo_lock_diff.specs.Difference.{DifferenceData, IsDifference}
+use Rattle.cargo_lock_encoding.specs.Lockfiles.{LockfileData}
+use Rattle.cargo_lock_encoding.specs.Means.{TextMeans}
+use Rattle.cargo_lock_c.specs.Texts.{MeansNothing}
+
+-- the lines of what differs between the packages of two lockfiles, with dependencies or without
+abbrev pub AreLinesBetween : LockfileData → LockfileData → Bool → List ℕ → Type 0
+AreLinesBetween before after dependencies bytes = (d : DifferenceData)
+    × IsDifference before.packages after.packages d × (bytes ≡ lines_text (told_of dependencies d))
+
+-- both texts are those of lockfiles, and these bytes are the lines of what differs between them
+abbrev pub IsDifferenceText : List ℕ → List ℕ → Bool → List ℕ → Type 0
+IsDifferenceText old new dependencies bytes = (before after : LockfileData)
+    × TextMeans old before × TextMeans new after × AreLinesBetween before after dependencies bytes
+
+-- status 10 comes only where the new text is that of no lockfile, and status 11 only where it is no
+-- UTF-8
+pub record RefusesNewText (new : List ℕ) (status : ℕ) : Type 0 where
+  pub no_lockfile : status ≡ 10 → MeansNothing new
+  pub no_text : status ≡ 11 → ¬ IsUtf8 new
+
+-- both come only where the old text is that of a lockfile
+abbrev pub ReadsOldText : List ℕ → ℕ → Type 0
+ReadsOldText old status = 10 ≤ status → (before : LockfileData) × TextMeans old before

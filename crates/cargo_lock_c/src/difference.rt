@@ -1,0 +1,109 @@
+//! What differs between the packages of two lockfiles, line by line.
+
+ghost use Rattle.std.specs.Prelude.{◌≡◌, ◌≤◌, ◌⊎◌, IfErr, IfOk, map, string_bytes};
+ghost use Rattle.cargo_lock_diff.specs.Change.{change_of, lines_text};
+ghost use Rattle.cargo_lock_encoding.specs.Means.{TextMeans};
+ghost use Rattle.cargo_lock_c.specs.declared.refusal.Refusal.TheVariants.{NoMemory};
+ghost use Rattle.cargo_lock_c.specs.Answers.{IsHandedOut};
+ghost use Rattle.cargo_lock_c.specs.Differences.{AreLinesBetween, IsDifferenceText, ReadsOldText};
+ghost use Rattle.cargo_lock_c.specs.Differences.{RefusesNewText};
+ghost use Rattle.cargo_lock_c.specs.Statuses.{status_of};
+ghost use Rattle.cargo_lock_c.specs.Texts.{RefusesText};
+
+use crate::handing::hand_out;
+use crate::reading::read;
+use crate::refusal::Refusal;
+use cargo_lock::Lockfile;
+use cargo_lock_diff::{Change, Difference};
+use std::alloc::Global;
+
+/// What differs between the packages of two lockfiles, a line for each change, and where
+/// `dependencies` is set also what differs between their dependencies. The statuses 1 and 2 speak
+/// of the old text. The new one is read after it: status 10 where it is no lockfile, and 11 where
+/// it is no UTF-8.
+#[unsafe(no_mangle)]
+pub extern "C" fn cargo_lock_diff(
+    alloc: Global,
+    old: &[u8],
+    new: &[u8],
+    dependencies: bool,
+    out: &mut [u8],
+    length: &mut usize,
+) -> u32
+    ensures difference { IsHandedOut (IsDifferenceText old.now new.now dependencies) result
+        out.old out.new length.old length.new }
+    ensures refused { RefusesText old.now result }
+    ensures refused_new { RefusesNewText new.now result }
+    ensures read_old { ReadsOldText old.now result }
+    ensures status { (result ≤ 3) ⊎ (result ≡ 5) ⊎ (result ≡ 10) ⊎ (result ≡ 11) }
+{
+    match difference_lines(alloc, old, new, dependencies) {
+        Ok(lines) => hand_out(lines.as_bytes(), out, length),
+        Err(refusal) => refusal.status(),
+    }
+}
+
+/// The lines of what differs between the lockfiles of the bytes of two texts.
+fn difference_lines(
+    alloc: Global,
+    old: &[u8],
+    new: &[u8],
+    dependencies: bool,
+) -> Result<String, Refusal>
+    ensures ok { IfOk result (λ lines. IsDifferenceText old.now new.now dependencies
+        (string_bytes lines)) }
+    ensures refused { IfErr result (λ refusal. RefusesText old.now (status_of refusal)) }
+    ensures refused_new { IfErr result (λ refusal. RefusesNewText new.now (status_of refusal)) }
+    ensures read_old { IfErr result (λ refusal. ReadsOldText old.now (status_of refusal)) }
+    ensures kind { IfErr result (λ refusal. (status_of refusal ≤ 3) ⊎ (status_of refusal ≡ 10)
+        ⊎ (status_of refusal ≡ 11)) }
+{
+    let before = read(alloc, old)?;
+    let after = read_new(alloc, new)?;
+    let lines = lines_between(alloc, &before, &after, dependencies)?;
+    Ok(lines)
+}
+
+/// The lockfile of the bytes of the new text.
+fn read_new(alloc: Global, bytes: &[u8]) -> Result<Lockfile, Refusal>
+    ensures ok { IfOk result (TextMeans bytes.now) }
+    ensures refused { IfErr result (λ refusal. RefusesNewText bytes.now (status_of refusal)) }
+    ensures kind { IfErr result (λ refusal. (status_of refusal ≡ 3) ⊎ (status_of refusal ≡ 10)
+        ⊎ (status_of refusal ≡ 11)) }
+{
+    match read(alloc, bytes) {
+        Ok(lockfile) => Ok(lockfile),
+        Err(refusal) => Err(refusal.of_new()),
+    }
+}
+
+/// The lines of what differs between two lockfiles.
+fn lines_between(
+    alloc: Global,
+    before: &Lockfile,
+    after: &Lockfile,
+    dependencies: bool,
+) -> Result<String, Refusal>
+    ensures ok { IfOk result (λ lines. AreLinesBetween before.now after.now dependencies
+        (string_bytes lines)) }
+    ensures err { IfErr result (λ refusal. refusal ≡ NoMemory) }
+{
+    let difference = Difference::of(alloc, &before.packages, &after.packages)?;
+    let changes = difference.told(alloc, dependencies)?;
+    let lines = lines_of(alloc, changes.as_slice())?;
+    Ok(lines)
+}
+
+/// The lines of changes.
+fn lines_of(alloc: Global, changes: &[Change<'_>]) -> Result<String, Refusal>
+    ensures ok { IfOk result (λ lines. string_bytes lines
+        ≡ lines_text (map change_of changes.now)) }
+    ensures err { IfErr result (λ refusal. refusal ≡ NoMemory) }
+{
+    let mut lines = String::new(alloc);
+    for change in changes {
+        let line = format!(in alloc; "{change}\n")?;
+        lines.push_str(line.as_str())?;
+    }
+    Ok(lines)
+}

@@ -1,0 +1,124 @@
+-- What is wrong with a lockfile, list by list.
+use Rattle.std.specs.Prelude.{◌≡◌, ◌↔◌, ◌==◌, ◌∷◌, ◌++◌, ℕ, suc, Bool, true, IsTrue, if◌then◌else◌, List, [], length, map, Option, None, MatchOption, is_none, option_map, slice_get}
+use Rattle.std.specs.List.{filter_map, list_any}
+use Rattle.std.specs.Option.{option_and_then, option_to_list}
+use Rattle.std.specs.Str.Lines.{lines}
+use Rattle.cargo_lock_parts.specs.Identity.{PackageData}
+use Rattle.cargo_lock_references.specs.declared.version.ResolveVersion.{ResolveVersion}
+use Rattle.cargo_lock_encoding.specs.Lockfiles.{LockfileData}
+use Rattle.cargo_lock_encoding.specs.Survives.{Survives}
+use Rattle.cargo_lock_encoding.specs.Text.{join_lines, lines_of}
+use Rattle.cargo_lock_check.specs.Finding.{FindingData, LostDependency, Misplaced, NoChecksum, NoRoot, NotKept, Orphan, OtherLine, StaleChecksum, Twice}
+use Rattle.cargo_lock_check.specs.Lost.{AreLost}
+use Rattle.cargo_lock_check.specs.Packages.{IsMisplaced, IsTwice, IsWithoutChecksum}
+use Rattle.cargo_lock_check.specs.Places.{IsPlaces}
+use Rattle.cargo_lock_check.specs.Reach.{IsOrphan}
+use Rattle.cargo_lock_check.specs.Stale.{stale_keys}
+use Rattle.cargo_lock_check.specs.Text.{AreSameLines, IsFirstOther, OtherLineData, cargo_lines}
+
+-- what is found, and the packages and the format that it is said of
+pub record FindingsData : Type 0 where
+  pub packages : List PackageData
+  pub version : ResolveVersion
+  pub lost_dependencies : List (ℕ × ℕ)
+  pub twice : List ℕ
+  pub orphans : List ℕ
+  pub without_checksum : List ℕ
+  pub stale : List (List ℕ)
+  pub misplaced : List ℕ
+  pub is_kept : Bool
+  pub other_line : Option OtherLineData
+
+-- ---- what is to be found
+
+-- the lines of a lockfile as this library prints it
+unfoldable pub printed_lines : LockfileData → List (List ℕ)
+printed_lines l = lines (join_lines (lines_of l))
+
+-- a text is compared where its lockfile has no root apart from its packages, which is never
+-- printed, and survives its format
+pub record IsCompared (l : LockfileData) : Type 0 where
+  pub rootless : l.root ≡ None
+  pub kept : Survives l l.version
+
+-- each line of the text is as Cargo writes it
+abbrev pub IsWrittenByCargo : List ℕ → LockfileData → Type 0
+IsWrittenByCargo text l = AreSameLines (lines text) (cargo_lines (lines text) (printed_lines l))
+
+-- the first line that is not as Cargo writes it, where the text is compared
+pub record IsOtherLine (text : List ℕ) (l : LockfileData) (other : Option OtherLineData) : Type 0
+  where
+    pub compared : IsCompared l → MatchOption other (IsWrittenByCargo text l)
+        (IsFirstOther (lines text) (cargo_lines (lines text) (printed_lines l)))
+    pub not_compared : ¬ IsCompared l → other ≡ None
+
+-- the orphans; they are not looked for where the lockfile has a root apart from its packages
+pub record AreOrphans (l : LockfileData) (orphans : List ℕ) : Type 0 where
+  pub rootless : l.root ≡ None → IsPlaces (IsOrphan l.packages) (length l.packages) orphans
+  pub rooted : ¬ (l.root ≡ None) → orphans ≡ []
+
+-- the findings of a text and its lockfile: each list has exactly the places at which its definition
+-- holds
+pub record AreFindings (text : List ℕ) (l : LockfileData) (f : FindingsData) : Type 0 where
+  pub packages : f.packages ≡ l.packages
+  pub version : f.version ≡ l.version
+  pub lost_dependencies : AreLost l.packages f.lost_dependencies
+  pub twice : IsPlaces (IsTwice l.packages) (length l.packages) f.twice
+  pub orphans : AreOrphans l f.orphans
+  pub without_checksum : IsPlaces (IsWithoutChecksum l.packages) (length l.packages)
+      f.without_checksum
+  pub stale : f.stale ≡ stale_keys l.metadata l.packages
+  pub misplaced : IsPlaces (IsMisplaced l.packages) (length l.packages) f.misplaced
+  pub is_kept : IsTrue f.is_kept ↔ Survives l l.version
+  pub other_line : IsOtherLine text l f.other_line
+
+-- nothing is found
+pub record IsEmpty (f : FindingsData) : Type 0 where
+  pub lost_dependencies : f.lost_dependencies ≡ []
+  pub twice : f.twice ≡ []
+  pub orphans : f.orphans ≡ []
+  pub without_checksum : f.without_checksum ≡ []
+  pub stale : f.stale ≡ []
+  pub misplaced : f.misplaced ≡ []
+  pub is_kept : f.is_kept ≡ true
+  pub other_line : f.other_line ≡ None
+
+-- ---- what is told, in this order
+
+-- the dependency at a place of the package at a place
+abbrev pub lost_at : List PackageData → ℕ × ℕ → Option FindingData
+lost_at packages k = option_and_then
+    (λ p. option_map (LostDependency p) (slice_get p.dependencies k.1)) (slice_get packages k.0)
+
+-- the package at a place
+abbrev pub package_at : (PackageData → FindingData) → List PackageData → ℕ → Option FindingData
+package_at finding packages k = option_map finding (slice_get packages k)
+
+-- the package at a place and the next one
+abbrev pub misplaced_at : List PackageData → ℕ → Option FindingData
+misplaced_at packages k = option_and_then
+    (λ p. option_map (Misplaced p) (slice_get packages (suc k))) (slice_get packages k)
+
+-- one finding for all orphans
+abbrev pub no_root : List ℕ → List FindingData
+no_root orphans = if length orphans == 0 then [] else NoRoot ∷ []
+
+-- each orphan, or where no package is of the workspace that alone
+abbrev pub told_of_orphans : List PackageData → List ℕ → List FindingData
+told_of_orphans packages orphans = if list_any (λ p. is_none p.source) packages
+    then filter_map (package_at Orphan packages) orphans else no_root orphans
+
+-- a format that does not keep its lockfile
+abbrev pub told_of_format : Bool → ResolveVersion → List FindingData
+told_of_format is_kept version = if is_kept then [] else NotKept version ∷ []
+
+-- each finding
+abbrev pub told_of : FindingsData → List FindingData
+told_of f = filter_map (lost_at f.packages) f.lost_dependencies
+    ++ (filter_map (package_at Twice f.packages) f.twice
+    ++ (told_of_orphans f.packages f.orphans
+    ++ (filter_map (package_at NoChecksum f.packages) f.without_checksum
+    ++ (map StaleChecksum f.stale
+    ++ (filter_map (misplaced_at f.packages) f.misplaced
+    ++ (told_of_format f.is_kept f.version
+    ++ option_to_list (option_map OtherLine f.other_line)))))))

@@ -1,0 +1,36 @@
+//! What is wrong with a lockfile, as a check of a merge asks: a dependency without its package, two
+//! packages of one identity, a package that none of the workspace leads to, a package without the
+//! checksum that others of its registry have, a checksum of no package, packages out of Cargo's
+//! order, a format that does not keep the lockfile, and the first line that is not as Cargo writes
+//! it.
+//!
+//! ```
+//! let lockfile = Lockfile::from_str(rt.alloc(), text)?;
+//! let findings = Findings::of(rt.alloc(), text, &lockfile)?;
+//! if findings.is_empty() {
+//!     return Ok(());
+//! }
+//! for finding in &findings.all(rt.alloc())? {
+//!     println!(rt; "{finding}")?;
+//! }
+//! ```
+//!
+//! `laws` says what the definitions of the contracts have to do with one another: nothing is found
+//! exactly where nothing is wrong, and then no line is told.
+#![tactic(auto)]
+
+mod candidates;
+pub mod finding;
+pub mod findings;
+pub mod laws;
+mod lost;
+pub mod order;
+mod packages;
+mod reach;
+mod stale;
+pub mod text;
+
+pub use crate::finding::Finding;
+pub use crate::findings::Findings;
+pub use crate::order::package_order;
+pub use crate::text::OtherLine;

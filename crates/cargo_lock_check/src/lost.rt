@@ -1,0 +1,57 @@
+//! The dependencies that no package answers.
+
+ghost use Rattle.std.specs.Prelude.{◌≡◌, ◌+◌, IfOk, OnOk, Some, slice_get};
+ghost use Rattle.cargo_lock_check.specs.Lost.{AreLost, AreLostBefore};
+
+use crate::candidates::Candidates;
+use cargo_lock_parts::package::Package;
+use std::alloc::{AllocError, Global};
+
+/// The dependencies that no package has the name and the version of, with a source that matches.
+/// Each is told by the place of its package and its own place among the package's dependencies.
+pub(crate) fn lost_dependencies(
+    alloc: Global,
+    packages: &[Package],
+) -> Result<Vec<(usize, usize)>, AllocError>
+    ensures { IfOk result (λ lost. AreLost packages.now lost.items) }
+{
+    let candidates = Candidates::of(alloc, packages)?;
+    let lost = lost_among(alloc, packages, &candidates)?;
+    Ok(lost)
+}
+
+// The dependencies of packages that none of them answers.
+fn lost_among<'a>(
+    alloc: Global,
+    packages: &'a [Package],
+    candidates: &Candidates<'a>,
+) -> Result<Vec<(usize, usize)>, AllocError>
+    requires { candidates.now ≡ packages.now }
+    ensures { IfOk result (λ lost. AreLost packages.now lost.items) }
+{
+    let mut lost = Vec::new(alloc);
+    for (place, package) in packages.iter().enumerate() {
+        put_lost(alloc, &mut lost, candidates, place, package)?;
+    }
+    Ok(lost)
+}
+
+// Adds the lost dependencies of the package at a place.
+fn put_lost<'a>(
+    alloc: Global,
+    lost: &mut Vec<(usize, usize)>,
+    candidates: &Candidates<'a>,
+    place: usize,
+    package: &'a Package,
+) -> Result<(), AllocError>
+    requires package { slice_get candidates.now place ≡ Some «package».now }
+    requires before { AreLostBefore candidates.now place 0 lost.old.items }
+    ensures { OnOk result (AreLostBefore candidates.now (place + 1) 0 lost.new.items) }
+{
+    for (at, dependency) in package.dependencies.iter().enumerate() {
+        if candidates.matches(alloc, dependency)?.is_empty() {
+            lost.push((place, at))?;
+        }
+    }
+    Ok(())
+}

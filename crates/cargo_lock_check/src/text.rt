@@ -1,0 +1,167 @@
+//! The first line of a text that is not as Cargo writes it.
+
+ghost use Rattle.std.specs.Prelude.{◌≡◌, ◌≢◌, ◌<◌, ◌+◌, ◌++◌, ℕ, IfOk, MatchOption, OnOk, drop, length};
+ghost use Rattle.std.specs.List.{dedup, take_while};
+ghost use Rattle.std.specs.Str.Lines.{lines};
+ghost use Rattle.cargo_lock_check.specs.Text.{AreSameLines, IsFirstOther, are_empty, body_place, cargo_lines, is_comment, line_at};
+ghost use Rattle.cargo_lock_check.specs.TextReferences.{texts_at};
+
+use std::alloc::{AllocError, Global};
+use std::marker::Model;
+
+/// A line that is not as Cargo writes it.
+#[derive(Debug, Drop)]
+pub struct OtherLine {
+    /// Its number, from 1 on.
+    pub number: usize,
+
+    /// The line, empty where the text has ended.
+    pub written: String,
+
+    /// The line that Cargo writes, empty where it writes no more.
+    pub wanted: String,
+}
+
+impl Model for OtherLine {
+    ghost use Rattle.std.specs.Prelude.{string_bytes};
+    ghost use Rattle.cargo_lock_check.specs.Text.{OtherLineData};
+
+    ghost Value = { OtherLineData };
+
+    ghost view = { λ o. record {
+      number = o.number;
+      written = string_bytes o.written;
+      wanted = string_bytes o.wanted;
+    } };
+}
+
+// The first line of a text that differs from the one that Cargo writes there, where `printed` is
+// the text that this library prints.
+pub(crate) fn first_other_line<'a>(
+    alloc: Global,
+    text: &'a str,
+    printed: &'a str,
+) -> Result<Option<OtherLine>, AllocError>
+    ensures { IfOk result (λ other. MatchOption other
+        (AreSameLines (lines text.now) (cargo_lines (lines text.now) (lines printed.now)))
+        (IsFirstOther (lines text.now) (cargo_lines (lines text.now) (lines printed.now)))) }
+{
+    let written = lines_of(alloc, text)?;
+    let printed = lines_of(alloc, printed)?;
+    let wanted = cargo_lines(alloc, written.as_slice(), printed.as_slice())?;
+    let other = first_other(alloc, written.as_slice(), wanted.as_slice())?;
+    Ok(other)
+}
+
+// The lines of a text, each without its newline.
+fn lines_of<'a>(alloc: Global, text: &'a str) -> Result<Vec<&'a str>, AllocError>
+    ensures { IfOk result (λ all. texts_at all.items ≡ lines text.now) }
+{
+    text.lines().collect(alloc)
+}
+
+// The lines that Cargo writes.
+fn cargo_lines<'a>(
+    alloc: Global,
+    written: &[&'a str],
+    printed: &[&'a str],
+) -> Result<Vec<&'a str>, AllocError>
+    ensures { IfOk result (λ all. texts_at all.items
+        ≡ cargo_lines (texts_at written.now) (texts_at printed.now)) }
+{
+    let mut all = Vec::with_capacity(alloc, printed.len())?;
+    all.extend_from_slice(&printed[..printed.len().min(2)])?;
+    add_comments(&mut all, lines_from(written, 2))?;
+    all.extend_from_slice(lines_from(printed, body_place(printed)))?;
+    leave_one_empty(&mut all);
+    Ok(all)
+}
+
+// Where the lines after the two comments begin that Cargo writes too.
+fn body_place(printed: &[&str]) -> usize
+    ensures { result ≡ body_place (texts_at printed.now) }
+{
+    if line_at(printed, 2).is_empty() { 3 } else { 2 }
+}
+
+// Leaves one of empty lines in a row.
+fn leave_one_empty(lines: &mut Vec<&str>)
+    ensures { texts_at lines.new.items ≡ dedup are_empty (texts_at lines.old.items) }
+{
+    lines.dedup_by(|a, b| a.is_empty() && b.is_empty());
+}
+
+// The lines from a place on.
+fn lines_from<'a, 'b>(lines: &'b [&'a str], start: usize) -> &'b [&'a str]
+    ensures { result.now ≡ drop start lines.now }
+{
+    &lines[lines.len().min(start)..]
+}
+
+// Adds the comments that stand first.
+fn add_comments<'a>(all: &mut Vec<&'a str>, lines: &[&'a str]) -> Result<(), AllocError>
+    ensures { OnOk result (texts_at all.new.items
+        ≡ texts_at all.old.items ++ take_while is_comment (texts_at lines.now)) }
+{
+    for line in lines {
+        if !is_comment(line) {
+            return Ok(());
+        }
+        all.push(*line)?;
+    }
+    Ok(())
+}
+
+// Whether a line begins with `#`.
+fn is_comment(line: &str) -> bool
+    ensures { result ≡ is_comment line.now }
+{
+    line.starts_with('#')
+}
+
+// The first line that differs.
+fn first_other(
+    alloc: Global,
+    written: &[&str],
+    wanted: &[&str],
+) -> Result<Option<OtherLine>, AllocError>
+    ensures { IfOk result (λ other. MatchOption other
+        (AreSameLines (texts_at written.now) (texts_at wanted.now))
+        (IsFirstOther (texts_at written.now) (texts_at wanted.now))) }
+{
+    match other_place(written, wanted) {
+        Some(place) => Ok(Some(OtherLine {
+            number: place + 1,
+            written: String::from_str(alloc, line_at(written, place))?,
+            wanted: String::from_str(alloc, line_at(wanted, place))?,
+        })),
+        None => Ok(None),
+    }
+}
+
+// The first place at which lines differ.
+fn other_place(written: &[&str], wanted: &[&str]) -> Option<usize>
+    ensures { MatchOption result
+        (AreSameLines (texts_at written.now) (texts_at wanted.now))
+        (λ place. (place < length written.now + length wanted.now)
+        × (line_at (texts_at written.now) place ≢ line_at (texts_at wanted.now) place)
+        × ((k : ℕ) → k < place
+        → line_at (texts_at written.now) k ≡ line_at (texts_at wanted.now) k)) }
+{
+    for place in 0..written.len().max(wanted.len()) {
+        if line_at(written, place) != line_at(wanted, place) {
+            return Some(place);
+        }
+    }
+    None
+}
+
+// The line at a place, empty where there are no more.
+fn line_at<'a>(lines: &[&'a str], place: usize) -> &'a str
+    ensures { result.now ≡ line_at (texts_at lines.now) place }
+{
+    match lines.get(place) {
+        Some(line) => *line,
+        None => "",
+    }
+}

@@ -1,0 +1,63 @@
+-- Characters of TOML by name: those that a string escapes, the letters of their escapes, and the
+-- ends of the ranges of letters and digits.
+use Rattle.std.specs.Prelude.{ℕ}
+
+-- `'\u{8}'`
+abbrev pub backspace : ℕ
+backspace = 8
+
+-- `'\u{c}'`
+abbrev pub form_feed : ℕ
+form_feed = 12
+
+-- `'\r'`
+abbrev pub carriage_return : ℕ
+carriage_return = 13
+
+-- `'0'`
+abbrev pub digit_zero : ℕ
+digit_zero = 48
+
+-- `'9'`
+abbrev pub digit_nine : ℕ
+digit_nine = 57
+
+-- `'A'`
+abbrev pub upper_a : ℕ
+upper_a = 65
+
+-- `'Z'`
+abbrev pub upper_z : ℕ
+upper_z = 90
+
+-- `'a'`
+abbrev pub lower_a : ℕ
+lower_a = 97
+
+-- `'b'`
+abbrev pub lower_b : ℕ
+lower_b = 98
+
+-- `'f'`
+abbrev pub lower_f : ℕ
+lower_f = 102
+
+-- `'n'`
+abbrev pub lower_n : ℕ
+lower_n = 110
+
+-- `'r'`
+abbrev pub lower_r : ℕ
+lower_r = 114
+
+-- `'t'`
+abbrev pub lower_t : ℕ
+lower_t = 116
+
+-- `'z'`
+abbrev pub lower_z : ℕ
+lower_z = 122
+
+-- `'\u{7f}'`
+abbrev pub delete : ℕ
+delete = 127
