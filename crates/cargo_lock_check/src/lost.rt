@@ -1,9 +1,12 @@
 //! The dependencies that no package answers.
 
 ghost use Rattle.std.specs.Prelude.{◌≡◌, ◌+◌, IfOk, OnOk, Some, slice_get};
+ghost use Rattle.std.specs.Bool.{Decides};
+ghost use Rattle.cargo_lock_graph.specs.Targets.{IsLost};
 ghost use Rattle.cargo_lock_check.specs.Lost.{AreLost, AreLostBefore};
 
 use crate::candidates::Candidates;
+use cargo_lock_parts::dependency::Dependency;
 use cargo_lock_parts::package::Package;
 use std::alloc::{AllocError, Global};
 
@@ -49,9 +52,21 @@ fn put_lost<'a>(
     ensures { OnOk result (AreLostBefore candidates.now (place + 1) 0 lost.new.items) }
 {
     for (at, dependency) in package.dependencies.iter().enumerate() {
-        if candidates.matches(alloc, dependency)?.is_empty() {
+        if is_lost(alloc, candidates, dependency)? {
             lost.push((place, at))?;
         }
     }
     Ok(())
+}
+
+// Whether no package answers the dependency.
+fn is_lost<'a>(
+    alloc: Global,
+    candidates: &Candidates<'a>,
+    dependency: &'a Dependency,
+) -> Result<bool, AllocError>
+    ensures { IfOk result (λ lost. Decides lost (IsLost candidates.now dependency.now)) }
+{
+    let found = candidates.matches(alloc, dependency)?;
+    Ok(found.is_empty())
 }

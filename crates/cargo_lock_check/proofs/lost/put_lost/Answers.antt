@@ -1,11 +1,11 @@
-use Rattle.std.proofs.Common.{◌≡◌, ◌∙◌, List, Some, ap, arith, length, refl, slice_get, subst, sym, vec_len}
-use Rattle.std.proofs.lemmas.Bool.Decides.{Decides-eqb}
+use Rattle.std.proofs.Common.{◌≡◌, ◌∙◌, List, Some, ap, arith, length, refl, slice_get, subst, sym}
 use Rattle.std.proofs.lemmas.Bool.{false≢true}
 use Rattle.std.proofs.lemmas.Option.{slice_get_read}
 use Rattle.cargo_lock_parts.specs.Identity.{Identity, PackageData}
-use Rattle.cargo_lock_check.proofs.LostPlaces.{lost-empty, found-some, lost-there, lost-put, lost-pass, lost-next}
+use Rattle.cargo_lock_graph.specs.Targets.{IsLost}
+use Rattle.cargo_lock_check.proofs.LostPlaces.{lost-there, lost-put, lost-pass, lost-next}
 use Rattle.cargo_lock_check.proofs.lost.put_lost.Goals as goal
-use Rattle.cargo_lock_check.proofs.lost.put_lost.Goals.{then-is_empty+in_ok-push, else-is_empty}
+use Rattle.cargo_lock_check.proofs.lost.put_lost.Goals.{then-branch+in_ok-push, else-branch}
 
 pub loop-at-preserved : goal.loop-at-preserved
 loop-at-preserved c =
@@ -18,16 +18,12 @@ loop-at-preserved c =
     let d : Identity = c.dependency-item.result in
     let there : slice_get p.dependencies at ≡ Some d =
     subst (λ (es : List Identity). slice_get es at ≡ Some d) whole (slice_get_read ds (length ds) at d refl c.loop-at-test.true c.dependency-item.is) in
-    let matches = c.in_ok-matches.field-0 in
-    let long = matches.ok.0 in
-    elim c.if-is_empty.branch [
-      | then-is_empty+in_ok-push w ↦
-          let none : vec_len matches ≡ 0 = (Decides-eqb (vec_len matches) 0).0 (sym c.is_empty.ensures ∙ w.if-is_empty.true) in
-          let lost = lost-empty packages d matches.items (omega (arith, long, none)) c.in_ok-matches.ensures in
+    elim c.if-branch.branch [
+      | then-branch+in_ok-push w ↦
+          let lost = c.in_ok-is_lost.ensures.0 w.if-branch.true in
           rw w.lost-is (lost-put packages place at c.loop-at.lost.items w.push.new.self.items c.loop-at.invariant (p, c.requires.«package», (d, there, lost)) w.in_ok-push.ensures.items)
-      | else-is_empty w ↦
-          let some : ¬ (vec_len matches ≡ 0) = λ e. false≢true (sym (sym c.is_empty.ensures ∙ w.if-is_empty.false) ∙ (Decides-eqb (vec_len matches) 0).1 e) in
-          let found = found-some packages d matches.items (omega (arith, long, some)) c.in_ok-matches.ensures in
+      | else-branch w ↦
+          let found : ¬ IsLost packages d = λ lost. false≢true (sym w.if-branch.false ∙ c.in_ok-is_lost.ensures.1 lost) in
           rw w.lost-is (lost-pass packages place at c.loop-at.lost.items c.loop-at.invariant (λ lost. found (lost-there packages place at p d c.requires.«package» there lost)))
     ]
 
