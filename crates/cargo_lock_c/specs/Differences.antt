@@ -1,6 +1,6 @@
 -- What differs between two lockfiles, as callers have it: a line each.
 use Rattle.std.specs.Prelude.{◌≡◌, ◌≤◌, ℕ, Bool, List, IsUtf8}
-use Rattle.cargo_lock_diff.specs.Change.{lines_text, told_of}
+use Rattle.cargo_lock_diff.specs.Change.{lines_text, all_changes_of}
 use Rattle.cargo_lock_diff.specs.Difference.{DifferenceData, IsDifference}
 use Rattle.cargo_lock_encoding.specs.Lockfiles.{LockfileData}
 use Rattle.cargo_lock_encoding.specs.Means.{TextMeans}
@@ -9,7 +9,7 @@ use Rattle.cargo_lock_c.specs.Texts.{MeansNothing}
 -- the lines of what differs between the packages of two lockfiles, with dependencies or without
 abbrev pub AreLinesBetween : LockfileData → LockfileData → Bool → List ℕ → Type 0
 AreLinesBetween before after dependencies bytes = (d : DifferenceData)
-    × IsDifference before.packages after.packages d × (bytes ≡ lines_text (told_of dependencies d))
+    × IsDifference before.packages after.packages d × (bytes ≡ lines_text (all_changes_of dependencies d))
 
 -- both texts are those of lockfiles, and these bytes are the lines of what differs between them
 abbrev pub IsDifferenceText : List ℕ → List ℕ → Bool → List ℕ → Type 0

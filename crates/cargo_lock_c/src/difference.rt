@@ -89,7 +89,7 @@ fn lines_between(
     ensures err { IfErr result (λ refusal. refusal ≡ NoMemory) }
 {
     let difference = Difference::of(alloc, &before.packages, &after.packages)?;
-    let changes = difference.told(alloc, dependencies)?;
+    let changes = difference.all_changes(alloc, dependencies)?;
     let lines = lines_of(alloc, changes.as_slice())?;
     Ok(lines)
 }

@@ -9,6 +9,8 @@ use Rattle.cargo_lock_encoding.specs.Lockfiles.{LockfileData}
 use Rattle.cargo_lock_encoding.specs.Survives.{Survives}
 use Rattle.cargo_lock_encoding.specs.Text.{join_lines, lines_of}
 use Rattle.cargo_lock_check.specs.Finding.{FindingData, LostDependency, Misplaced, NoChecksum, NoRoot, NotKept, Orphan, OtherLine, StaleChecksum, Twice}
+use Rattle.cargo_lock_check.specs.declared.findings.Flaw.{Flaw}
+use Rattle.cargo_lock_check.specs.declared.findings.Flaw.TheVariants as flaw
 use Rattle.cargo_lock_check.specs.Lost.{AreLost}
 use Rattle.cargo_lock_check.specs.Packages.{IsMisplaced, IsTwice, IsWithoutChecksum}
 use Rattle.cargo_lock_check.specs.Places.{IsPlaces}
@@ -89,6 +91,12 @@ pub record IsEmpty (f : FindingsData) : Type 0 where
 abbrev pub lost_at : List PackageData → ℕ × ℕ → Option FindingData
 lost_at packages k = option_and_then
     (λ p. option_map (LostDependency p) (slice_get p.dependencies k.1)) (slice_get packages k.0)
+
+-- the finding of a package with a flaw
+abbrev pub finding_by : Flaw → PackageData → FindingData
+finding_by flaw.Twice = Twice
+finding_by flaw.Orphan = Orphan
+finding_by flaw.NoChecksum = NoChecksum
 
 -- the package at a place
 abbrev pub package_at : (PackageData → FindingData) → List PackageData → ℕ → Option FindingData

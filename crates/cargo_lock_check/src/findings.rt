@@ -7,7 +7,7 @@ ghost use Rattle.cargo_lock_parts.specs.declared.error.Error.TheVariants.{Memory
 ghost use Rattle.cargo_lock_encoding.specs.Survives.{Survives};
 ghost use Rattle.cargo_lock_check.specs.Finding.{finding_of};
 ghost use Rattle.cargo_lock_check.specs.Finding as told;
-ghost use Rattle.cargo_lock_check.specs.Findings.{AreFindings, AreOrphans, IsOtherLine, lost_at, misplaced_at, no_root, package_at, told_of_format, told_of_orphans};
+ghost use Rattle.cargo_lock_check.specs.Findings.{AreFindings, AreOrphans, IsOtherLine, finding_by, lost_at, misplaced_at, no_root, package_at, told_of_format, told_of_orphans};
 ghost use Rattle.cargo_lock_check.specs.Lost.{AreLost};
 ghost use Rattle.cargo_lock_check.specs.Packages.{IsMisplaced, IsTwice, IsWithoutChecksum};
 ghost use Rattle.cargo_lock_check.specs.Places.{IsPlaces};
@@ -155,9 +155,14 @@ impl<'a> Findings<'a> {
     {
         let mut all = Vec::new(alloc);
         add_lost_dependencies(&mut all, self.packages, &self.lost_dependencies)?;
-        add_twice(&mut all, self.packages, &self.twice)?;
+        add_flawed(&mut all, self.packages, &self.twice, Flaw::Twice)?;
         add_orphans(&mut all, self.packages, &self.orphans)?;
-        add_without_checksum(&mut all, self.packages, &self.without_checksum)?;
+        add_flawed(
+            &mut all,
+            self.packages,
+            &self.without_checksum,
+            Flaw::NoChecksum,
+        )?;
         add_stale(&mut all, &self.stale)?;
         add_misplaced(&mut all, self.packages, &self.misplaced)?;
         add_format(&mut all, self.is_kept, self.version)?;
@@ -313,28 +318,46 @@ fn lost_dependency<'a>(packages: &'a [Package], place: usize, at: usize) -> Opti
     Some(Finding::LostDependency(one, dependency))
 }
 
-// Adds the packages at these places, which stand twice.
-fn add_twice<'a>(
+// What may be wrong with a package by itself.
+#[derive(Clone, Copy)]
+enum Flaw {
+    // An earlier package has its identity.
+    Twice,
+
+    // No package of the workspace leads to it.
+    Orphan,
+
+    // It has no checksum.
+    NoChecksum,
+}
+
+// Adds the packages at these places, each with this flaw.
+fn add_flawed<'a>(
     all: &mut Vec<Finding<'a>>,
     packages: &'a [Package],
     places: &[usize],
+    flaw: Flaw,
 ) -> std::result::Result<(), AllocError>
     ensures { OnOk result (map finding_of all.new.items
         ≡ map finding_of all.old.items ++ filter_map
-        (package_at told.Twice packages.now) places.now) }
+        (package_at (finding_by flaw) packages.now) places.now) }
 {
     for place in places {
-        add_some(all, twice_package(packages, *place))?;
+        add_some(all, flawed_package(packages, *place, flaw))?;
     }
     Ok(())
 }
 
-// The finding of a package that stands twice.
-fn twice_package<'a>(packages: &'a [Package], place: usize) -> Option<Finding<'a>>
-    ensures { option_map finding_of result ≡ package_at told.Twice packages.now place }
+// The finding of a package with a flaw.
+fn flawed_package<'a>(packages: &'a [Package], place: usize, flaw: Flaw) -> Option<Finding<'a>>
+    ensures { option_map finding_of result ≡ package_at (finding_by flaw) packages.now place }
 {
-    let one = packages.get(place)?;
-    Some(Finding::Twice(one))
+    let package = packages.get(place)?;
+    Some(match flaw {
+        Flaw::Twice => Finding::Twice(package),
+        Flaw::Orphan => Finding::Orphan(package),
+        Flaw::NoChecksum => Finding::NoChecksum(package),
+    })
 }
 
 // Adds the orphans at these places, or that no package is of the workspace.
@@ -347,7 +370,7 @@ fn add_orphans<'a>(
         ≡ map finding_of all.old.items ++ told_of_orphans packages.now places.now) }
 {
     if has_root(packages) {
-        add_each_orphan(all, packages, places)?;
+        add_flawed(all, packages, places, Flaw::Orphan)?;
     } else {
         add_no_root(all, places)?;
     }
@@ -370,53 +393,6 @@ fn add_no_root(all: &mut Vec<Finding<'_>>, orphans: &[usize]) -> std::result::Re
         all.push(Finding::NoRoot)?;
     }
     Ok(())
-}
-
-// Adds the orphans at these places.
-fn add_each_orphan<'a>(
-    all: &mut Vec<Finding<'a>>,
-    packages: &'a [Package],
-    places: &[usize],
-) -> std::result::Result<(), AllocError>
-    ensures { OnOk result (map finding_of all.new.items
-        ≡ map finding_of all.old.items ++ filter_map
-        (package_at told.Orphan packages.now) places.now) }
-{
-    for place in places {
-        add_some(all, orphan(packages, *place))?;
-    }
-    Ok(())
-}
-
-// The finding of an orphan.
-fn orphan<'a>(packages: &'a [Package], place: usize) -> Option<Finding<'a>>
-    ensures { option_map finding_of result ≡ package_at told.Orphan packages.now place }
-{
-    let one = packages.get(place)?;
-    Some(Finding::Orphan(one))
-}
-
-// Adds the packages at these places, which have no checksum.
-fn add_without_checksum<'a>(
-    all: &mut Vec<Finding<'a>>,
-    packages: &'a [Package],
-    places: &[usize],
-) -> std::result::Result<(), AllocError>
-    ensures { OnOk result (map finding_of all.new.items ≡ map finding_of all.old.items
-        ++ filter_map (package_at told.NoChecksum packages.now) places.now) }
-{
-    for place in places {
-        add_some(all, package_without_checksum(packages, *place))?;
-    }
-    Ok(())
-}
-
-// The finding of a package without a checksum.
-fn package_without_checksum<'a>(packages: &'a [Package], place: usize) -> Option<Finding<'a>>
-    ensures { option_map finding_of result ≡ package_at told.NoChecksum packages.now place }
-{
-    let one = packages.get(place)?;
-    Some(Finding::NoChecksum(one))
 }
 
 // Adds the keys.

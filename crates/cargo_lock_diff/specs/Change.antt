@@ -67,9 +67,9 @@ abbrev pub dependency_changes_of : DifferenceData → List ChangeData
 dependency_changes_of d = other_dependencies d.kept ++ (other_dependencies d.altered
     ++ (other_dependencies d.moved ++ other_dependencies d.changed))
 
--- what is told of a difference: its changes, and with dependencies then the changes of those
-abbrev pub told_of : Bool → DifferenceData → List ChangeData
-told_of dependencies d = if dependencies then changes_of d ++ dependency_changes_of d
+-- all changes of a difference: its changes, and with dependencies then the changes of those
+abbrev pub all_changes_of : Bool → DifferenceData → List ChangeData
+all_changes_of dependencies d = if dependencies then changes_of d ++ dependency_changes_of d
     else changes_of d
 
 -- ---- lines

@@ -60,7 +60,7 @@ impl<'a> Difference<'a> {
     ghost use Rattle.std.specs.Prelude.{◌↔◌, IsTrue};
     ghost use Rattle.std.specs.List.{list_any};
     ghost use Rattle.cargo_lock_diff.specs.Change.{change_of, changes_of, dependency_changes_of};
-    ghost use Rattle.cargo_lock_diff.specs.Change.{is_alarm, told_of};
+    ghost use Rattle.cargo_lock_diff.specs.Change.{is_alarm, all_changes_of};
     ghost use Rattle.cargo_lock_diff.specs.Difference.{IsEmpty};
 
     /// What differs between an old and a new list of packages. Fails when out of memory.
@@ -141,8 +141,12 @@ impl<'a> Difference<'a> {
     }
 
     /// The changes, and with `dependencies` then the dependency changes. Fails when out of memory.
-    pub fn told(&self, alloc: Global, dependencies: bool) -> Result<Vec<Change<'a>>, AllocError>
-        ensures { IfOk result (λ all. map change_of all.items ≡ told_of dependencies self.now) }
+    pub fn all_changes(
+        &self,
+        alloc: Global,
+        dependencies: bool,
+    ) -> Result<Vec<Change<'a>>, AllocError>
+        ensures { IfOk result (λ all. map change_of all.items ≡ all_changes_of dependencies self.now) }
     {
         let mut all = self.changes(alloc)?;
         if dependencies {

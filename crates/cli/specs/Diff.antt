@@ -5,7 +5,7 @@ use Rattle.std.specs.Io.KnownBytes.{Appends}
 use Rattle.clap.specs.Matches.{one_text}
 use Rattle.clap.specs.declared.parser.matches.Found.{Found}
 use Rattle.cargo_lock_parts.specs.Identity.{PackageData}
-use Rattle.cargo_lock_diff.specs.Change.{ChangeData, is_alarm, lines_text, told_of}
+use Rattle.cargo_lock_diff.specs.Change.{ChangeData, is_alarm, lines_text, all_changes_of}
 use Rattle.cargo_lock_diff.specs.Difference.{DifferenceData, IsDifference}
 use Rattle.cargo_lock_encoding.specs.Lockfiles.{LockfileData}
 use Rattle.cargo_lock.specs.Loads.{IsMeant}
@@ -20,8 +20,8 @@ IsUnasked found name = (one_text found name ≡ None) ⊎ (one_text found name �
 
 -- this is told of a difference: with dependencies where the words ask for them
 pub record IsTold (found : Found) (d : DifferenceData) (told : List ChangeData) : Type 0 where
-  pub asked : IsAsked found (codes "dependencies") → told ≡ told_of true d
-  pub unasked : IsUnasked found (codes "dependencies") → told ≡ told_of false d
+  pub asked : IsAsked found (codes "dependencies") → told ≡ all_changes_of true d
+  pub unasked : IsUnasked found (codes "dependencies") → told ≡ all_changes_of false d
 
 -- The status is a failure where a package of one identity has another digest, and where anything is
 -- told, if the words ask for that. Else it is a success.

@@ -1,9 +1,8 @@
 -- What `translate` leaves in the writer that stands for standard output.
-use Rattle.std.specs.Prelude.{◌≡◌, ℕ, List, [], ◌∷◌, ◌++◌, ◌⊎◌, Option, Some, None, codes}
+use Rattle.std.specs.Prelude.{◌≡◌, ℕ, List, [], ◌∷◌, ◌++◌, Option, Some, codes}
 use Rattle.std.specs.Prelude.{unwrap_or}
 use Rattle.clap.specs.Matches.{first_value, one_text}
 use Rattle.clap.specs.declared.parser.matches.Found.{Found}
-use Rattle.std.specs.Io.KnownBytes.{Appends, Keeps}
 use Rattle.cargo_lock_references.specs.declared.version.ResolveVersion.{ResolveVersion}
 use Rattle.cargo_lock_parts.specs.Ascii.{newline}
 use Rattle.cargo_lock_references.specs.Format.{IsFormatText}
@@ -11,17 +10,9 @@ use Rattle.cargo_lock_encoding.specs.Lockfiles.{LockfileData}
 use Rattle.cargo_lock_encoding.specs.Text.{join_lines, lines_of}
 use Rattle.cargo_lock.specs.Loads.{IsMeant}
 use Rattle.cargo_lock_encoding.specs.Survives.{Survives, in_format}
+use Rattle.cli.specs.Destination.{TakesOutput}
 
--- the value of the option for the output, if there is one, stands for standard output
-abbrev pub IsPrinted : Option (List ℕ) → Type 0
-IsPrinted output = (output ≡ None) ⊎ (output ≡ Some (codes "-"))
-
--- standard output takes the text where it is the output, and nothing where the text goes to a file
-abbrev pub TakesOutput : Option (List ℕ) → List ℕ → Option (List ℕ) → Option (List ℕ) → Type 0
-TakesOutput output text old new = (IsPrinted output → Appends old new text)
-    × ((¬ IsPrinted output) → Keeps old new)
-
--- the same of the text and one more newline
+-- the output takes the text, and standard output one more newline too
 abbrev pub TakesText : Option (List ℕ) → List ℕ → Option (List ℕ) → Option (List ℕ) → Type 0
 TakesText output text old new = TakesOutput output (text ++ newline ∷ []) old new
 

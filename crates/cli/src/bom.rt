@@ -1,14 +1,12 @@
 //! The command `bom`: the bill of materials of a lockfile.
-ghost use Rattle.std.specs.Prelude.{◌≡◌, ◌∷◌, ◌++◌, [], IfOk, OnOk, codes, string_bytes};
-ghost use Rattle.clap.specs.Matches.{first_value, found_of};
+ghost use Rattle.std.specs.Prelude.{◌≡◌, ◌∷◌, ◌++◌, [], IfOk, OnOk, string_bytes};
+ghost use Rattle.clap.specs.Matches.{found_of};
 ghost use Rattle.cargo_lock_parts.specs.Ascii.{newline};
 ghost use Rattle.cargo_lock_bom.specs.Document.{IsBillText};
 ghost use Rattle.cli.specs.Bom.{IsBillLine, PrintsBill};
-ghost use Rattle.cli.specs.Translate.{TakesOutput};
 
+use crate::destination::put_out;
 use crate::fault::Fault;
-use crate::output::put;
-use crate::saving::save;
 use crate::words;
 use cargo_lock::dependency::graph::Graph;
 use cargo_lock::{Error, Lockfile};
@@ -16,7 +14,6 @@ use cargo_lock_bom::document::{compact_text, pretty_text};
 use clap::ArgMatches;
 use std::alloc::{AllocError, Global};
 use std::io::Write;
-use std::path::Path;
 use std::rt::Files;
 
 /// Writes the bill of materials of the lockfile and a newline: into the output file, or to `out`.
@@ -32,7 +29,7 @@ pub(crate) fn run<R: Files + AllocGlobal, W: Write>(
 {
     let lockfile = words::lockfile(rt, options, "file")?;
     let text = line_of(rt.alloc(), &lockfile, options.get_flag("compact"))?;
-    put_out(rt, options, text.as_str(), out)
+    put_out(rt, options, text.as_str(), "", out)
 }
 
 /// The text of the bill of materials of a lockfile, and a newline.
@@ -63,23 +60,4 @@ fn with_newline(text: String) -> Result<String, AllocError>
     let mut text = text;
     text.push('\n')?;
     Ok(text)
-}
-
-/// Writes the text into the output file, or prints it.
-fn put_out<R: Files + AllocGlobal, W: Write>(
-    rt: &R,
-    options: &ArgMatches<'_>,
-    text: &str,
-    out: &mut W,
-) -> Result<(), Fault>
-    ensures { OnOk result (TakesOutput (first_value (found_of options.now) (codes "output"))
-        text.now (W.contents out.old) (W.contents out.new)) }
-{
-    match words::output_file(options) {
-        Some(path) => save(rt, Path::new(path), text),
-        None => {
-            put(out, text)?;
-            Ok(())
-        }
-    }
 }

@@ -78,7 +78,7 @@ fn changes<'a>(
     ensures { IfOk result (λ changes. IsTold (found_of options.now) difference.now
         (map change_of changes.items)) }
 {
-    let changes = difference.told(alloc, options.get_flag("dependencies"))?;
+    let changes = difference.all_changes(alloc, options.get_flag("dependencies"))?;
     Ok(changes)
 }
 

@@ -12,6 +12,7 @@ ghost use Rattle.std.specs.Io.KnownBytes.{Keeps};
 
 mod bom;
 mod check;
+mod destination;
 mod diff;
 mod fault;
 mod list;

@@ -1,25 +1,21 @@
 //! The command `translate`: a lockfile in another format.
-ghost use Rattle.std.specs.Prelude.{◌≡◌, ◌⊎◌, ◌∷◌, ◌++◌, [], IfErr, IfOk, IsOkUnless, OnOk, codes};
+ghost use Rattle.std.specs.Prelude.{◌≡◌, ◌⊎◌, IfErr, IfOk, IsOkUnless, OnOk};
 ghost use Rattle.std.specs.Prelude.{string_bytes};
-ghost use Rattle.clap.specs.Matches.{first_value, found_of};
-ghost use Rattle.std.specs.Io.KnownBytes.{Appends};
+ghost use Rattle.clap.specs.Matches.{found_of};
 ghost use Rattle.cargo_lock_parts.specs.declared.error.Error.TheVariants.{Memory};
-ghost use Rattle.cargo_lock_parts.specs.Ascii.{newline};
 ghost use Rattle.cargo_lock_references.specs.Format.{number_of};
 ghost use Rattle.cargo_lock_encoding.specs.Text.{join_lines, lines_of};
 ghost use Rattle.cargo_lock_encoding.specs.Survives.{Survives, in_format};
 ghost use Rattle.cli.specs.declared.fault.Fault.TheVariants.{Library, DoesNotSurvive};
-ghost use Rattle.cli.specs.Translate.{IsCheckAsked, PrintsTranslation, TakesText};
+ghost use Rattle.cli.specs.Translate.{IsCheckAsked, PrintsTranslation};
 
+use crate::destination::put_out;
 use crate::fault::Fault;
-use crate::output::put;
-use crate::saving::save;
 use crate::words;
 use cargo_lock::{Error, Lockfile, ResolveVersion};
 use clap::ArgMatches;
 use std::alloc::Global;
 use std::io::Write;
-use std::path::Path;
 use std::rt::Files;
 
 /// Writes the lockfile in the format that is asked for: into the output file, or to `out` with one
@@ -37,7 +33,7 @@ pub(crate) fn run<R: Files + AllocGlobal, W: Write>(
     let lockfile = words::lockfile(rt, options, "file")?;
     check_if_asked(rt.alloc(), options, &lockfile, format)?;
     let text = text_in(rt.alloc(), lockfile, format)?;
-    put_out(rt, options, text.as_str(), out)
+    put_out(rt, options, text.as_str(), "\n", out)
 }
 
 /// Refuses a lockfile that does not survive the format, where the words ask for that.
@@ -78,30 +74,4 @@ fn text_in(alloc: Global, lockfile: Lockfile, format: ResolveVersion) -> Result<
     let mut lockfile = lockfile;
     lockfile.version = format;
     lockfile.to_string(alloc)
-}
-
-/// Writes the text into the output file, or prints it.
-fn put_out<R: Files + AllocGlobal, W: Write>(
-    rt: &R,
-    options: &ArgMatches<'_>,
-    text: &str,
-    out: &mut W,
-) -> Result<(), Fault>
-    ensures { OnOk result (TakesText (first_value (found_of options.now) (codes "output")) text.now
-        (W.contents out.old) (W.contents out.new)) }
-{
-    match words::output_file(options) {
-        Some(path) => save(rt, Path::new(path), text),
-        None => print(out, text),
-    }
-}
-
-/// Prints the text and one more newline.
-fn print<W: Write>(out: &mut W, text: &str) -> Result<(), Fault>
-    ensures { OnOk result
-        (Appends (W.contents out.old) (W.contents out.new) (text.now ++ newline ∷ [])) }
-{
-    put(out, text)?;
-    put(out, "\n")?;
-    Ok(())
 }

@@ -4,7 +4,7 @@ ghost use Rattle.std.specs.declared.io.ErrorKind.{ErrorKind};
 ghost use Rattle.clap.specs.Matches.{first_value, found_of};
 ghost use Rattle.cargo_lock.specs.Loads.{IsMeant, IsOfFile};
 ghost use Rattle.cargo_lock_parts.specs.declared.error.Error.TheVariants.{Io, Memory};
-ghost use Rattle.cli.specs.Translate.{IsPrinted};
+ghost use Rattle.cli.specs.Destination.{IsPrinted};
 ghost use Rattle.cli.specs.declared.fault.Fault.TheVariants.{Library};
 
 use crate::fault::Fault;

@@ -6,8 +6,6 @@
 #[cfg(test)]
 mod chains;
 #[cfg(test)]
-mod disk;
-#[cfg(test)]
 mod generated;
 #[cfg(test)]
 mod hub;
@@ -18,16 +16,13 @@ mod long_texts;
 #[cfg(test)]
 mod orders;
 #[cfg(test)]
-mod program;
-#[cfg(test)]
 mod references;
 #[cfg(test)]
 mod rings;
 #[cfg(test)]
-mod saving;
-#[cfg(test)]
 mod shared;
 #[cfg(test)]
 mod sinks;
+pub mod texts;
 #[cfg(test)]
 mod values;

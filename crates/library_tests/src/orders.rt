@@ -1,7 +1,8 @@
 //! References in every order of the packages.
 
 use crate::references::dependencies;
-use crate::shared::{TWO_LOGS, or_fault, text_of};
+use crate::shared::{or_fault, text_of};
+use crate::texts::TWO_LOGS;
 use cargo_lock::{Error, Lockfile, Package};
 use std::alloc::Global;
 

@@ -2,7 +2,8 @@
 
 ghost use Rattle.std.specs.Prelude.{◌≡◌, ◌<◌, Some};
 
-use crate::shared::{REGISTRY_AND_GIT, first_root, or_fault, tree_of};
+use crate::shared::{first_root, or_fault, tree_of};
+use crate::texts::REGISTRY_AND_GIT;
 use cargo_lock::Error;
 use cargo_lock::dependency::Tree;
 use cargo_lock::dependency::graph::EdgeDirection;

@@ -5,10 +5,10 @@
 //! case: its words are the call, which is asked of the text at hand, and its lines are the wanted
 //! answer.
 
-use crate::calls::Texts;
 use crate::report::{Case, Report};
-use crate::{calls, notation};
+use crate::{commands, notation};
 use cargo_lock::Error;
+use row_calls::Texts;
 use std::mem;
 
 #[derive(Drop)]
@@ -107,7 +107,7 @@ impl<'t> Reader<'t> {
     fn ask(&mut self, call: &'t str, wanted: &str) -> Result<(), Error> {
         let line = self.line;
         let case = self.case(call, line);
-        let wanted = calls::wanted(self.rt.alloc(), call, wanted)?;
+        let wanted = row_calls::wanted(self.rt.alloc(), call, wanted)?;
         let answer = self.answer(call, self.at_hand.as_str(), false)?;
         self.report.compare(
             &case,
@@ -124,7 +124,7 @@ impl<'t> Reader<'t> {
             subject,
             is_row,
         };
-        calls::answer(self.rt, call, texts)
+        answer(self.rt, call, texts)
     }
 
     fn ask_each(&mut self, call: &'t str, words: &str, body: &str) -> Result<(), Error> {
@@ -174,4 +174,14 @@ impl<'t> Reader<'t> {
         }
         Ok(report)
     }
+}
+
+/// The answer of a call, or the text of the fault in its place.
+fn answer(rt: &HostRuntime, call: &str, texts: Texts<'_>) -> Result<String, Error> {
+    let words: Vec<&str> = call.split_whitespace().collect(rt.alloc())?;
+    let answer = match words.as_slice() {
+        ["command", how @ ..] => commands::asked(rt, how, texts),
+        words => row_calls::ask(rt, words, texts),
+    };
+    row_calls::or_fault(rt.alloc(), answer)
 }

@@ -5,8 +5,8 @@
 //! is to fail, so that what is told of failing cases is tested too.
 #![tactic(auto)]
 
-mod calls;
 mod cases;
+mod commands;
 mod notation;
 mod report;
 

@@ -1,6 +1,7 @@
-use Rattle.std.proofs.Common.{List, ℕ, codes, string_bytes, subst}
+use Rattle.std.proofs.Common.{List, ℕ, codes, string_bytes, subst, ◌∙◌}
+use Rattle.std.proofs.lemmas.List.{append-nil}
 use Rattle.clap.specs.Matches.{first_value, found_of}
-use Rattle.cli.specs.Translate.{TakesOutput}
+use Rattle.cli.specs.Destination.{TakesOutput}
 use Rattle.cli.proofs.Writes.{on_ok_weaken}
 use Rattle.cli.proofs.bom.run.Goals as goal
 
@@ -15,5 +16,5 @@ returns g c =
       line,
       c.in_ok-lockfile.ensures.ok,
       c.in_ok-text.ensures,
-      subst (λ (text : List ℕ). TakesOutput output text old new) c.as_str.ensures.value taken,
+      subst (λ (text : List ℕ). TakesOutput output text old new) (append-nil c.as_str.result.now ∙ c.as_str.ensures.value) taken,
     )) c.put_out.ensures

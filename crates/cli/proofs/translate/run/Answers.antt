@@ -1,9 +1,9 @@
-use Rattle.std.proofs.Common.{◌≡◌, ℕ, List, codes, subst, ◌∙◌}
+use Rattle.std.proofs.Common.{◌≡◌, ◌++◌, ℕ, List, codes, subst, ◌∙◌}
 use Rattle.cargo_lock_references.specs.Format.{IsFormatText}
 use Rattle.cargo_lock_encoding.specs.Text.{join_lines, lines_of}
 use Rattle.cargo_lock_encoding.specs.Survives.{in_format}
 use Rattle.clap.specs.Matches.{first_value, found_of}
-use Rattle.cli.specs.Translate.{TakesText}
+use Rattle.cli.specs.Destination.{TakesOutput}
 use Rattle.cli.proofs.Writes.{on_ok_weaken}
 use Rattle.cli.proofs.translate.run.Goals as goal
 
@@ -16,4 +16,4 @@ returns g c =
     let format = c.in_ok-format.format in
     let same : c.as_str.result.now ≡ join_lines (lines_of (in_format format l)) = c.as_str.ensures.value ∙ c.in_ok-text.ensures.ok in
     let said = subst (λ (text : List ℕ). IsFormatText text format) c.format.ensures c.in_ok-format.ensures.read in
-    on_ok_weaken c.put_out.result _ _ (λ taken. (l, format, c.in_ok-lockfile.ensures.ok, said, c.in_ok-check_if_asked.ensures, subst (λ (text : List ℕ). TakesText output text old new) same taken)) c.put_out.ensures
+    on_ok_weaken c.put_out.result _ _ (λ taken. (l, format, c.in_ok-lockfile.ensures.ok, said, c.in_ok-check_if_asked.ensures, subst (λ (text : List ℕ). TakesOutput output (text ++ codes "\n") old new) same taken)) c.put_out.ensures

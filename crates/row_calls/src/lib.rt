@@ -1,7 +1,7 @@
-//! What a case can ask. Each answer is of whole lines.
+//! What a case of the rows can ask of the library, by words. Each answer is of whole lines.
+#![tactic(auto)]
 
 mod checksums;
-mod commands;
 mod drawings;
 mod files;
 mod formats;
@@ -14,6 +14,7 @@ mod tables;
 mod typed;
 
 use cargo_lock::Error;
+pub use lockfiles::is_read_as_table;
 use std::alloc::Global;
 use std::fmt::Display;
 
@@ -31,23 +32,12 @@ pub struct Texts<'t> {
     pub is_row: bool,
 }
 
-/// The answer of a call, or the text of the fault in its place.
-pub fn answer(rt: &HostRuntime, call: &str, texts: Texts<'_>) -> Result<String, Error> {
-    let words: Vec<&str> = call.split_whitespace().collect(rt.alloc())?;
-    let answer = ask(rt, words.as_slice(), texts);
-    or_fault(rt.alloc(), answer)
-}
-
-/// The wanted answer in the form in which the call gives it: a table is told as `toml` prints it,
-/// and any other text as it is.
-pub fn wanted(alloc: Global, call: &str, text: &str) -> Result<String, Error> {
-    if call.starts_with("table ") {
-        return or_fault(alloc, tables::printed_again(alloc, text));
-    }
-    Ok(String::from_str(alloc, text)?)
-}
-
-fn ask(rt: &HostRuntime, words: &[&str], texts: Texts<'_>) -> Result<String, Error> {
+/// The answer of the call of these words.
+///
+/// # Errors
+///
+/// The fault of the call, and `Parse` where it reads a text that means nothing.
+pub fn ask(rt: &HostRuntime, words: &[&str], texts: Texts<'_>) -> Result<String, Error> {
     let alloc = rt.alloc();
     match words {
         ["name", how @ ..] => checksums::name_asked(alloc, how, texts.subject),
@@ -59,9 +49,17 @@ fn ask(rt: &HostRuntime, words: &[&str], texts: Texts<'_>) -> Result<String, Err
         ["source", how @ ..] => sources::asked(alloc, how, texts.subject),
         ["typed", how @ ..] => typed::asked(alloc, how, texts.subject),
         ["file", how @ ..] => files::asked(rt, how, texts.subject),
-        ["command", how @ ..] => commands::asked(rt, how, texts),
         _ => lockfiles::asked(alloc, words, texts),
     }
+}
+
+/// The wanted answer in the form in which the call gives it: a table is told as `toml` prints it,
+/// and any other text as it is.
+pub fn wanted(alloc: Global, call: &str, text: &str) -> Result<String, Error> {
+    if call.starts_with("table ") {
+        return or_fault(alloc, tables::printed_again(alloc, text));
+    }
+    Ok(String::from_str(alloc, text)?)
 }
 
 /// The answer where the words are no call.
@@ -70,12 +68,12 @@ fn no_call(alloc: Global) -> Result<String, Error> {
 }
 
 /// What is displayed, as a line. It is generic, so that a format is proved here alone.
-fn line<D: Display + Drop>(alloc: Global, value: D) -> Result<String, Error> {
+pub fn line<D: Display + Drop>(alloc: Global, value: D) -> Result<String, Error> {
     Ok(format!(in alloc; "{value}\n")?)
 }
 
 /// An answer, or the text of the fault in its place.
-fn or_fault(alloc: Global, answer: Result<String, Error>) -> Result<String, Error> {
+pub fn or_fault(alloc: Global, answer: Result<String, Error>) -> Result<String, Error> {
     match answer {
         Ok(text) => Ok(text),
         Err(fault) => line(alloc, &fault),

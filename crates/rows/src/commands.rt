@@ -1,9 +1,9 @@
 //! Commands of the program, run in this folder, where the text at hand is the file `Cargo.lock`,
 //! and the text beside it the file `beside.lock`.
 
-use super::{Texts, line};
 use crate::notation;
 use cargo_lock::Error;
+use row_calls::Texts;
 use std::alloc::Global;
 use std::fs;
 use std::process::ExitCode;

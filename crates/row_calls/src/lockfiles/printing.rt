@@ -33,7 +33,8 @@ pub fn printed(alloc: Global, lockfile: &Lockfile) -> Result<String, Error> {
     line(alloc, format_args!("{text}is read as another table"))
 }
 
-fn is_read_as_table(alloc: Global, text: &str, lockfile: &Lockfile) -> Result<bool, Error> {
+/// Whether `toml` reads a text as the table of a lockfile, so far as a text has what a table has.
+pub fn is_read_as_table(alloc: Global, text: &str, lockfile: &Lockfile) -> Result<bool, Error> {
     let table = printed_table(alloc, lockfile)?;
     Ok(is_read_as(alloc, text, &table))
 }

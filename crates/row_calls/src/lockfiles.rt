@@ -1,14 +1,14 @@
 //! Lockfiles: what texts and tables mean, and lockfiles printed, written, translated and drawn.
 
-mod described;
-mod printed;
+mod description;
+mod printing;
 mod survival;
 
 use super::formats::format;
 use super::{Texts, alike, drawings, graphs, line, no_call, tables};
 use cargo_lock::{Error, Lockfile};
-pub use described::described;
-pub use printed::printed;
+pub use description::described;
+pub use printing::{is_read_as_table, printed};
 use std::alloc::Global;
 use toml::Table;
 
@@ -55,7 +55,7 @@ fn asked_of_lockfile(
     text: &str,
 ) -> Result<String, Error> {
     match words {
-        ["printed", how @ ..] => printed::asked(alloc, how, lockfile, text),
+        ["printed", how @ ..] => printing::asked(alloc, how, lockfile, text),
         ["table", "in", number] => table_in(alloc, lockfile, number),
         ["survives", how @ ..] => survival::asked(alloc, how, lockfile),
         ["kept", "through", formats @ ..] => survival::kept(alloc, lockfile, formats),

@@ -1,7 +1,7 @@
 //! The program over writers that fail, and a fault that comes before its words are read.
 
-use crate::shared::{REGISTRY_AND_GIT, TWO_LOGS};
 use cli::{Fault, report, run};
+use library_tests::texts::{REGISTRY_AND_GIT, TWO_LOGS};
 use std::io::{self, ErrorKind, Write};
 use std::path::PathBuf;
 use std::process::ExitCode;

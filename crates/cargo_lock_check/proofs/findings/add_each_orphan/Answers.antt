@@ -1,9 +1,0 @@
-use Rattle.cargo_lock_check.specs.Finding.{Orphan}
-use Rattle.cargo_lock_check.specs.Findings.{package_at}
-use Rattle.cargo_lock_check.proofs.Told.{told-more}
-use Rattle.cargo_lock_check.proofs.findings.add_each_orphan.Goals as goal
-
-pub loop-place-preserved : goal.loop-place-preserved
-loop-place-preserved c =
-    told-more (package_at Orphan c.args.packages.now) c.args.places.now c.loop-place.place-index _ _ _ _ _ c.loop-place-test.true
-    c.loop-place.invariant c.in_ok-add_some.ensures c.orphan.ensures

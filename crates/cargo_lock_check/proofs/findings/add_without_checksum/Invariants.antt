@@ -1,8 +1,0 @@
-use Rattle.std.proofs.Common.{◌≡◌, ◌++◌, map, take}
-use Rattle.std.specs.List.{filter_map}
-use Rattle.cargo_lock_check.specs.Finding.{NoChecksum, finding_of}
-use Rattle.cargo_lock_check.specs.Findings.{package_at}
-use Rattle.cargo_lock_check.proofs.findings.add_without_checksum.Given as goal
-
-abbrev pub invariant-loop-place : goal.invariant-loop-place
-invariant-loop-place l = map finding_of l.all.items ≡ map finding_of l.fn.all.items ++ filter_map (package_at NoChecksum l.packages) (take l.place-index l.places)
