@@ -23,6 +23,5 @@ mod rings;
 mod shared;
 #[cfg(test)]
 mod sinks;
-pub mod texts;
 #[cfg(test)]
 mod values;

@@ -2,9 +2,9 @@
 
 use crate::references::dependencies;
 use crate::shared::{or_fault, text_of};
-use crate::texts::TWO_LOGS;
 use cargo_lock::{Error, Lockfile, Package};
 use std::alloc::Global;
+use test_support::texts::TWO_LOGS;
 
 // The package whose place is this digit.
 fn package_at(packages: &[Package], digit: u8) -> Result<Package, Error> {

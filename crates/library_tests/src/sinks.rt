@@ -3,7 +3,6 @@
 ghost use Rattle.std.specs.Prelude.{◌≡◌, ◌<◌, Some};
 
 use crate::shared::{first_root, or_fault, tree_of};
-use crate::texts::REGISTRY_AND_GIT;
 use cargo_lock::Error;
 use cargo_lock::dependency::Tree;
 use cargo_lock::dependency::graph::EdgeDirection;
@@ -12,6 +11,7 @@ use std::alloc::Global;
 use std::io;
 use std::io::{ErrorKind, Write};
 use std::test::Fail;
+use test_support::texts::REGISTRY_AND_GIT;
 
 // The drawing of that lockfile from its last package, on which none depends.
 const DRAWN: &str = "example 0.1.0

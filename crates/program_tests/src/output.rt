@@ -1,12 +1,12 @@
 //! The program over writers that fail, and a fault that comes before its words are read.
 
 use cli::{Fault, report, run};
-use library_tests::texts::{REGISTRY_AND_GIT, TWO_LOGS};
 use std::io::{self, ErrorKind, Write};
 use std::path::PathBuf;
 use std::process::ExitCode;
 use std::test::Fail;
 use std::{env, fs, process};
+use test_support::texts::{REGISTRY_AND_GIT, TWO_LOGS};
 
 const FOO: &str = "version = 3
 

@@ -14,7 +14,6 @@ mod tables;
 mod typed;
 
 use cargo_lock::Error;
-pub use lockfiles::is_read_as_table;
 use std::alloc::Global;
 use std::fmt::Display;
 

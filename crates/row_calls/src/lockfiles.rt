@@ -8,7 +8,7 @@ use super::formats::format;
 use super::{Texts, alike, drawings, graphs, line, no_call, tables};
 use cargo_lock::{Error, Lockfile};
 pub use description::described;
-pub use printing::{is_read_as_table, printed};
+pub use printing::printed;
 use std::alloc::Global;
 use toml::Table;
 
