@@ -9,7 +9,8 @@ use Rattle.cargo_lock_c.specs.Texts.{MeansNothing}
 -- the lines of what differs between the packages of two lockfiles, with dependencies or without
 abbrev pub AreLinesBetween : LockfileData → LockfileData → Bool → List ℕ → Type 0
 AreLinesBetween before after dependencies bytes = (d : DifferenceData)
-    × IsDifference before.packages after.packages d × (bytes ≡ lines_text (all_changes_of dependencies d))
+    × IsDifference before.packages after.packages d
+    × (bytes ≡ lines_text (all_changes_of dependencies d))
 
 -- both texts are those of lockfiles, and these bytes are the lines of what differs between them
 abbrev pub IsDifferenceText : List ℕ → List ℕ → Bool → List ℕ → Type 0

@@ -1,5 +1,5 @@
 -- What the statuses say of the text that a caller hands over.
-use Rattle.std.specs.Prelude.{◌≡◌, ℕ, List, Some, IsUtf8}
+use Rattle.std.specs.Prelude.{◌≡◌, ◌≤◌, ◌↔◌, ℕ, List, Some, IsUtf8}
 use Rattle.cargo_lock_references.specs.declared.version.ResolveVersion.{ResolveVersion}
 use Rattle.cargo_lock_references.specs.Format.{number_of, format_numbered}
 use Rattle.cargo_lock_encoding.specs.Lockfiles.{LockfileData}
@@ -29,6 +29,14 @@ SurvivesNumber text number = (l : LockfileData) × (format : ResolveVersion) × 
 abbrev pub IsLostInNumber : List ℕ → ℕ → Type 0
 IsLostInNumber text number = (l : LockfileData) × (format : ResolveVersion) × TextMeans text l
     × (format_numbered number ≡ Some format) × (¬ Survives l format)
+
+-- What a status says of a text and the number of a format: 6 comes only where the lockfile of the
+-- text does not survive the format, 4 exactly where no format has the number, and none above 6.
+pub record RefusesFormat (text : List ℕ) (number status : ℕ) : Type 0 where
+  pub of_text : RefusesText text status
+  pub lost : status ≡ 6 → IsLostInNumber text number
+  pub no_format : (status ≡ 4) ↔ (¬ ((1 ≤ number) × (number ≤ 4)))
+  pub bound : status ≤ 6
 
 -- the text is that of a lockfile that survives the format with this number, and x is that lockfile,
 -- set to the format

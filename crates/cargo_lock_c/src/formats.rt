@@ -8,7 +8,7 @@ ghost use Rattle.cargo_lock_encoding.specs.Text.{join_lines, lines_of};
 ghost use Rattle.cargo_lock_c.specs.declared.refusal.Refusal.TheVariants.{NoFormat, NoMemory};
 ghost use Rattle.cargo_lock_c.specs.Answers.{IsHandedOut};
 ghost use Rattle.cargo_lock_c.specs.Statuses.{status_of};
-ghost use Rattle.cargo_lock_c.specs.Texts.{IsLostInNumber, IsSurvivor, IsTranslation, RefusesText};
+ghost use Rattle.cargo_lock_c.specs.Texts.{IsSurvivor, IsTranslation, RefusesFormat};
 ghost use Rattle.cargo_lock_c.specs.Texts.{SurvivesNumber};
 
 use crate::handing::hand_out;
@@ -21,10 +21,8 @@ use std::alloc::Global;
 #[unsafe(no_mangle)]
 pub extern "C" fn cargo_lock_survives(alloc: Global, text: &[u8], format: u32) -> u32
     ensures survives { result ≡ 0 → SurvivesNumber text.now format }
-    ensures lost { result ≡ 6 → IsLostInNumber text.now format }
-    ensures refused { RefusesText text.now result }
-    ensures status { (result ≤ 6) × (result ≢ 5) }
-    ensures no_format { (result ≡ 4) ↔ (¬ ((1 ≤ format) × (format ≤ 4))) }
+    ensures refused { RefusesFormat text.now format result }
+    ensures status { result ≢ 5 }
 {
     match survivor(alloc, text, format) {
         Ok(lockfile) => {
@@ -47,10 +45,7 @@ pub extern "C" fn cargo_lock_translate(
 ) -> u32
     ensures translation { IsHandedOut (IsTranslation text.now format) result out.old out.new
         length.old length.new }
-    ensures lost { result ≡ 6 → IsLostInNumber text.now format }
-    ensures refused { RefusesText text.now result }
-    ensures status { result ≤ 6 }
-    ensures no_format { (result ≡ 4) ↔ (¬ ((1 ≤ format) × (format ≤ 4))) }
+    ensures refused { RefusesFormat text.now format result }
 {
     match translation(alloc, text, format) {
         Ok(written) => hand_out(written.as_bytes(), out, length),
@@ -61,12 +56,8 @@ pub extern "C" fn cargo_lock_translate(
 /// The text, in the format of a number, of a lockfile that survives it.
 fn translation(alloc: Global, bytes: &[u8], number: u32) -> Result<String, Refusal>
     ensures ok { IfOk result (λ written. IsTranslation bytes.now number (string_bytes written)) }
-    ensures lost { IfErr result (λ refusal. status_of refusal ≡ 6
-        → IsLostInNumber bytes.now number) }
-    ensures refused { IfErr result (λ refusal. RefusesText bytes.now (status_of refusal)) }
-    ensures kind { IfErr result (λ refusal. status_of refusal ≤ 6) }
-    ensures no_format { IfErr result (λ refusal. (status_of refusal ≡ 4)
-        ↔ (¬ ((1 ≤ number) × (number ≤ 4)))) }
+    ensures refused { IfErr result
+        (λ refusal. RefusesFormat bytes.now number (status_of refusal)) }
     ensures number { IsOk result → (1 ≤ number) × (number ≤ 4) }
 {
     let lockfile = survivor(alloc, bytes, number)?;
@@ -86,12 +77,8 @@ fn text_of(alloc: Global, lockfile: &Lockfile) -> Result<String, Refusal>
 /// number is looked at before the text.
 fn survivor(alloc: Global, bytes: &[u8], number: u32) -> Result<Lockfile, Refusal>
     ensures ok { IfOk result (IsSurvivor bytes.now number) }
-    ensures lost { IfErr result (λ refusal. status_of refusal ≡ 6
-        → IsLostInNumber bytes.now number) }
-    ensures refused { IfErr result (λ refusal. RefusesText bytes.now (status_of refusal)) }
-    ensures kind { IfErr result (λ refusal. status_of refusal ≤ 6) }
-    ensures no_format { IfErr result (λ refusal. (status_of refusal ≡ 4)
-        ↔ (¬ ((1 ≤ number) × (number ≤ 4)))) }
+    ensures refused { IfErr result
+        (λ refusal. RefusesFormat bytes.now number (status_of refusal)) }
     ensures number { IsOk result → (1 ≤ number) × (number ≤ 4) }
 {
     let format = format_of(alloc, number)?;

@@ -1,9 +1,3 @@
-pub mod Places
-pub mod SeenBefore
 pub mod Lines
-pub mod LostPlaces
-pub mod Matching
-pub mod Searching
 pub mod Told
-pub mod StaleKeys
 pub mod Sound

@@ -11,14 +11,14 @@ use Rattle.cargo_lock_encoding.specs.Lockfiles.{LockfileData}
 use Rattle.cargo_lock_graph.specs.Targets.{HoldsOf}
 use Rattle.cargo_lock_check.specs.Finding.{FindingData, LostDependency, Misplaced, NoChecksum, NoRoot, Orphan, OtherLine, StaleChecksum, Twice}
 use Rattle.cargo_lock_check.specs.Findings.{AreFindings, FindingsData, IsEmpty, IsOtherLine, IsWrittenByCargo, lost_at, misplaced_at, no_root, package_at, printed_lines, told_of, told_of_format, told_of_orphans}
-use Rattle.cargo_lock_check.specs.Lost.{IsLostAt}
-use Rattle.cargo_lock_check.specs.Packages.{IsMisplaced, IsTwice, IsWithoutChecksum}
-use Rattle.cargo_lock_check.specs.Places.{IsPlaces}
-use Rattle.cargo_lock_check.specs.Reach.{IsOrphan}
+use Rattle.cargo_lock_flaws.specs.Lost.{IsLostAt}
+use Rattle.cargo_lock_flaws.specs.Packages.{IsMisplaced, IsTwice, IsWithoutChecksum}
+use Rattle.cargo_lock_flaws.specs.Places.{IsPlaces}
+use Rattle.cargo_lock_flaws.specs.Reach.{IsOrphan}
 use Rattle.cargo_lock_check.specs.Sound.{EmptyIfSound, NoneToldIfEmpty}
-use Rattle.cargo_lock_check.specs.Stale.{stale_keys}
+use Rattle.cargo_lock_flaws.specs.Stale.{stale_keys}
 use Rattle.cargo_lock_check.specs.Text.{IsFirstOther, OtherLineData, cargo_lines}
-use Rattle.cargo_lock_check.proofs.StaleKeys.{cons-here, nothing-there, stale_keys_are_exact}
+use Rattle.cargo_lock_flaws.proofs.StaleKeys.{cons-here, nothing-there, stale_keys_are_exact}
 
 -- ---- lists without members
 

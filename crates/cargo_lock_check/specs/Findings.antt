@@ -11,11 +11,11 @@ use Rattle.cargo_lock_encoding.specs.Text.{join_lines, lines_of}
 use Rattle.cargo_lock_check.specs.Finding.{FindingData, LostDependency, Misplaced, NoChecksum, NoRoot, NotKept, Orphan, OtherLine, StaleChecksum, Twice}
 use Rattle.cargo_lock_check.specs.declared.findings.Flaw.{Flaw}
 use Rattle.cargo_lock_check.specs.declared.findings.Flaw.TheVariants as flaw
-use Rattle.cargo_lock_check.specs.Lost.{AreLost}
-use Rattle.cargo_lock_check.specs.Packages.{IsMisplaced, IsTwice, IsWithoutChecksum}
-use Rattle.cargo_lock_check.specs.Places.{IsPlaces}
-use Rattle.cargo_lock_check.specs.Reach.{IsOrphan}
-use Rattle.cargo_lock_check.specs.Stale.{stale_keys}
+use Rattle.cargo_lock_flaws.specs.Lost.{AreLost}
+use Rattle.cargo_lock_flaws.specs.Packages.{IsMisplaced, IsTwice, IsWithoutChecksum}
+use Rattle.cargo_lock_flaws.specs.Places.{IsPlaces}
+use Rattle.cargo_lock_flaws.specs.Reach.{IsOrphan}
+use Rattle.cargo_lock_flaws.specs.Stale.{stale_keys}
 use Rattle.cargo_lock_check.specs.Text.{AreSameLines, IsFirstOther, OtherLineData, cargo_lines}
 
 -- what is found, and the packages and the format that it is said of

@@ -1,13 +1,5 @@
-pub mod Places
-pub mod Order
-pub mod Packages
-pub mod Seen
-pub mod Stale
 pub mod Text
 pub mod TextReferences
 pub mod Finding
-pub mod Lost
-pub mod Reach
-pub mod Search
 pub mod Findings
 pub mod Sound

@@ -3,10 +3,10 @@ use Rattle.std.specs.Prelude.{◌≡◌, ◌↔◌, ◌<◌, ℕ, List, [], None
 use Rattle.cargo_lock_encoding.specs.Lockfiles.{LockfileData}
 use Rattle.cargo_lock_encoding.specs.Survives.{Survives}
 use Rattle.cargo_lock_check.specs.Findings.{AreFindings, FindingsData, IsEmpty, IsWrittenByCargo, told_of}
-use Rattle.cargo_lock_check.specs.Lost.{IsLostAt}
-use Rattle.cargo_lock_check.specs.Packages.{IsMisplaced, IsTwice, IsWithoutChecksum}
-use Rattle.cargo_lock_check.specs.Reach.{IsOrphan}
-use Rattle.cargo_lock_check.specs.Stale.{IsStale}
+use Rattle.cargo_lock_flaws.specs.Lost.{IsLostAt}
+use Rattle.cargo_lock_flaws.specs.Packages.{IsMisplaced, IsTwice, IsWithoutChecksum}
+use Rattle.cargo_lock_flaws.specs.Reach.{IsOrphan}
+use Rattle.cargo_lock_flaws.specs.Stale.{IsStale}
 
 -- Each dependency has its package. No package stands twice, lacks a checksum that others have or is
 -- out of order, and no checksum is of no package. The lockfile survives its format. Where it has no

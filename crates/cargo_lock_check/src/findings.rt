@@ -8,18 +8,18 @@ ghost use Rattle.cargo_lock_encoding.specs.Survives.{Survives};
 ghost use Rattle.cargo_lock_check.specs.Finding.{finding_of};
 ghost use Rattle.cargo_lock_check.specs.Finding as told;
 ghost use Rattle.cargo_lock_check.specs.Findings.{AreFindings, AreOrphans, IsOtherLine, finding_by, lost_at, misplaced_at, no_root, package_at, told_of_format, told_of_orphans};
-ghost use Rattle.cargo_lock_check.specs.Lost.{AreLost};
-ghost use Rattle.cargo_lock_check.specs.Packages.{IsMisplaced, IsTwice, IsWithoutChecksum};
-ghost use Rattle.cargo_lock_check.specs.Places.{IsPlaces};
-ghost use Rattle.cargo_lock_check.specs.Stale.{stale_keys};
+ghost use Rattle.cargo_lock_flaws.specs.Lost.{AreLost};
+ghost use Rattle.cargo_lock_flaws.specs.Packages.{IsMisplaced, IsTwice, IsWithoutChecksum};
+ghost use Rattle.cargo_lock_flaws.specs.Places.{IsPlaces};
+ghost use Rattle.cargo_lock_flaws.specs.Stale.{stale_keys};
 
 use crate::finding::Finding;
-use crate::lost::lost_dependencies;
-use crate::packages::{misplaced, twice, without_checksum};
-use crate::reach::orphans;
-use crate::stale::stale_keys;
 use crate::text::{OtherLine, first_other_line};
 use cargo_lock::Lockfile;
+use cargo_lock_flaws::{
+    lost_dependencies, misplaced_packages, orphans, packages_twice, packages_without_checksum,
+    stale_keys,
+};
 use cargo_lock_parts::error::Result;
 use cargo_lock_parts::package::Package;
 use cargo_lock_references::{MetadataKey, ResolveVersion};
@@ -243,9 +243,9 @@ impl PackagePlaces {
             (λ f. IsPlaces (IsMisplaced packages.now) (length packages.now) f.misplaced.items) }
     {
         Ok(PackagePlaces {
-            twice: twice(alloc, packages)?,
-            without_checksum: without_checksum(alloc, packages)?,
-            misplaced: misplaced(alloc, packages)?,
+            twice: packages_twice(alloc, packages)?,
+            without_checksum: packages_without_checksum(alloc, packages)?,
+            misplaced: misplaced_packages(alloc, packages)?,
         })
     }
 }

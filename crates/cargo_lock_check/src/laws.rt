@@ -1,7 +1,6 @@
 //! Laws of findings, each the contract of a function without a body.
 
 ghost use Rattle.cargo_lock_check.specs.Sound.{EmptyIfSound, NoneToldIfEmpty};
-ghost use Rattle.cargo_lock_check.specs.Stale.{StaleKeysAreExact};
 
 /// Of the findings of a text and its lockfile nothing is found exactly where nothing is wrong.
 pub fn nothing_is_found_where_nothing_is_wrong()
@@ -11,10 +10,4 @@ pub fn nothing_is_found_where_nothing_is_wrong()
 /// Of the findings of a text and its lockfile no line is told exactly where nothing is found.
 pub fn no_line_is_told_where_nothing_is_found()
     ensures { NoneToldIfEmpty }
-{}
-
-/// A key of the metadata is told as stale exactly where it begins `checksum `, its value is not
-/// `<none>`, and it is of no package.
-pub fn stale_keys_are_exact()
-    ensures { StaleKeysAreExact }
 {}

@@ -19,18 +19,12 @@
 //! exactly where nothing is wrong, and then no line is told.
 #![tactic(auto)]
 
-mod candidates;
 pub mod finding;
 pub mod findings;
 pub mod laws;
-mod lost;
-pub mod order;
-mod packages;
-mod reach;
-mod stale;
 pub mod text;
 
 pub use crate::finding::Finding;
 pub use crate::findings::Findings;
-pub use crate::order::package_order;
 pub use crate::text::OtherLine;
+pub use cargo_lock_flaws::package_order;

@@ -18,12 +18,20 @@ use Rattle.cargo_lock_encoding.specs.Table.{table_of}
 
 -- ---- packages
 
--- the version, the source and the replacement of a package, which is in full and looked up by
--- itself
+-- a dependency, by its reference in full, which is looked up by itself
+abbrev pub FullReferenceSurvives : ResolveVersion → Identity → Type 0
+FullReferenceSurvives format d = ReferenceSurvives (in_full (is_escaped format) d) [] d
+
+-- a dependency, by the reference that is written among these packages
+abbrev pub WrittenReferenceSurvives : ResolveVersion → List Identity → Identity → Type 0
+WrittenReferenceSurvives format list d =
+    ReferenceSurvives (written_reference format list d) (reading_list format list) d
+
+-- the version, the source and the replacement of a package
 pub record OwnPartsSurvive (format : ResolveVersion) (p : PackageData) : Type 0 where
   pub version : VersionSurvives p.version
   pub source : IfSome p.source (SourceSurvives (is_escaped format))
-  pub replace : IfSome p.replace (λ d. ReferenceSurvives (in_full (is_escaped format) d) [] d)
+  pub replace : IfSome p.replace (FullReferenceSurvives format)
 
 -- a package whose dependencies are written in these references, and looked up in this list
 pub record PackageSurvives (format : ResolveVersion) (reference : Identity → Reference)
@@ -31,6 +39,16 @@ pub record PackageSurvives (format : ResolveVersion) (reference : Identity → R
     (p : PackageData) : Type 0 where
   pub own : OwnPartsSurvive format p
   pub dependencies : AllByRecursion (λ d. ReferenceSurvives (reference d) list d) p.dependencies
+
+-- a package among these, but for its checksum
+abbrev pub SurvivesAmong : ResolveVersion → List Identity → PackageData → Type 0
+SurvivesAmong format list p =
+    PackageSurvives format (written_reference format list) (reading_list format list) p
+
+-- a package among these, whose checksum stands with it
+abbrev pub SurvivesWithChecksum : ResolveVersion → List Identity → PackageData → Type 0
+SurvivesWithChecksum format list p =
+    SurvivesAmong format list p × IfSome p.checksum DigestReadsBack
 
 -- the checksum is found again: in V1 in the written metadata
 abbrev pub ChecksumSurvives : ResolveVersion → Texts → PackageData → Type 0
@@ -41,9 +59,7 @@ ChecksumSurvives V4 m p = IfSome p.checksum DigestReadsBack
 
 -- a package among those of the lockfile, with the metadata that is written
 abbrev pub ListedSurvives : ResolveVersion → List Identity → Texts → PackageData → Type 0
-ListedSurvives format list m p =
-    PackageSurvives format (written_reference format list) (reading_list format list) p
-    × ChecksumSurvives format m p
+ListedSurvives format list m p = SurvivesAmong format list p × ChecksumSurvives format m p
 
 -- the root: its references are in full, and its checksum stands with it in every format
 abbrev pub RootSurvives : ResolveVersion → PackageData → Type 0

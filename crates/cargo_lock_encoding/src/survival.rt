@@ -1,20 +1,20 @@
 //! Whether a lockfile survives a format.
 
-ghost use Rattle.std.specs.Prelude.{◌≡◌, ◌↔◌, [], IfOk, IfSome, IsOkUnless, IsTrue, map};
-ghost use Rattle.std.specs.Prelude.{option_map};
+ghost use Rattle.std.specs.Prelude.{◌≡◌, ◌↔◌, IfOk, IfSome, IsOkUnless, IsTrue, map, option_map};
 ghost use Rattle.std.specs.List.{AllByRecursion};
 ghost use Rattle.cargo_lock_parts.specs.declared.error.Error.TheVariants.{Memory};
 ghost use Rattle.cargo_lock_parts.specs.Checksum.{digest_of};
 ghost use Rattle.cargo_lock_parts.specs.Identity.{identity_of};
 ghost use Rattle.cargo_lock_references.specs.declared.version.ResolveVersion.TheVariants.{V1};
-ghost use Rattle.cargo_lock_references.specs.WrittenReference.{written_reference, in_full};
-ghost use Rattle.cargo_lock_encoding.specs.Means.{reading_list};
-ghost use Rattle.cargo_lock_references.specs.Records.{is_escaped, texts_of};
-ghost use Rattle.cargo_lock_encoding.specs.Survives.{ChecksumSurvives, ListedSurvives};
-ghost use Rattle.cargo_lock_encoding.specs.Survives.{FormatSurvives, OwnPartsSurvive};
-ghost use Rattle.cargo_lock_encoding.specs.Survives.{PackageSurvives, PatchSurvives, RootSurvives};
-ghost use Rattle.cargo_lock_encoding.specs.Survives.{Survives};
 ghost use Rattle.cargo_lock_references.specs.ReadBack.{DigestReadsBack, ReferenceSurvives};
+ghost use Rattle.cargo_lock_references.specs.Records.{texts_of};
+ghost use Rattle.cargo_lock_encoding.specs.Means.{reading_list};
+ghost use Rattle.cargo_lock_encoding.specs.Survives.{ChecksumSurvives, FormatSurvives};
+ghost use Rattle.cargo_lock_encoding.specs.Survives.{FullReferenceSurvives, ListedSurvives};
+ghost use Rattle.cargo_lock_encoding.specs.Survives.{OwnPartsSurvive, PatchSurvives, RootSurvives};
+ghost use Rattle.cargo_lock_encoding.specs.Survives.{Survives, SurvivesAmong};
+ghost use Rattle.cargo_lock_encoding.specs.Survives.{SurvivesWithChecksum};
+ghost use Rattle.cargo_lock_encoding.specs.Survives.{WrittenReferenceSurvives};
 
 use crate::encode::written_reference;
 use crate::values::LockfileRef;
@@ -186,9 +186,7 @@ fn first_package_survives<'a>(
 fn later_format_survives(alloc: Global, format: ResolveVersion, list: &[Package]) -> Result<bool>
     ensures ok { IfOk result (λ b. IsTrue b
         ↔ AllByRecursion
-        (λ p. PackageSurvives format (written_reference format (map identity_of list.now))
-        (reading_list format (map identity_of list.now)) p
-        × IfSome p.checksum DigestReadsBack) list.now) }
+        (SurvivesWithChecksum format (map identity_of list.now)) list.now) }
     ensures err { IsOkUnless result Memory }
 {
     let packages = Indexed::of(alloc, list)?;
@@ -204,9 +202,7 @@ fn later_packages_survive<'a>(
 ) -> Result<bool>
     ensures ok { IfOk result (λ b. IsTrue b
         ↔ AllByRecursion
-        (λ p. PackageSurvives format (written_reference format (map identity_of packages.now))
-        (reading_list format (map identity_of packages.now)) p
-        × IfSome p.checksum DigestReadsBack) list.now) }
+        (SurvivesWithChecksum format (map identity_of packages.now)) list.now) }
     ensures err { IsOkUnless result Memory }
 {
     for package in list {
@@ -224,9 +220,7 @@ fn later_package_survives<'a>(
     package: &'a Package,
 ) -> Result<bool>
     ensures ok { IfOk result (λ b. IsTrue b
-        ↔ (PackageSurvives format (written_reference format (map identity_of list.now))
-        (reading_list format (map identity_of list.now)) «package».now
-        × IfSome «package».now.checksum DigestReadsBack)) }
+        ↔ SurvivesWithChecksum format (map identity_of list.now) «package».now) }
     ensures err { IsOkUnless result Memory }
 {
     digest_reads_back(&package.checksum);
@@ -240,9 +234,8 @@ fn package_survives<'a>(
     list: &Indexed<'a, Package>,
     package: &'a Package,
 ) -> Result<bool>
-    ensures ok { IfOk result (λ b. IsTrue b
-        ↔ PackageSurvives format (written_reference format (map identity_of list.now))
-        (reading_list format (map identity_of list.now)) «package».now) }
+    ensures ok { IfOk result
+        (λ b. IsTrue b ↔ SurvivesAmong format (map identity_of list.now) «package».now) }
     ensures err { IsOkUnless result Memory }
 {
     Ok(
@@ -269,8 +262,8 @@ fn replace_survives(
     format: ResolveVersion,
     replace: &Option<Dependency>,
 ) -> Result<bool>
-    ensures ok { IfOk result (λ b. IsTrue b
-        ↔ IfSome replace.now (λ d. ReferenceSurvives (in_full (is_escaped format) d) [] d)) }
+    ensures ok { IfOk result
+        (λ b. IsTrue b ↔ IfSome replace.now (FullReferenceSurvives format)) }
     ensures err { IsOkUnless result Memory }
 {
     match replace {
@@ -325,8 +318,7 @@ fn references_survive<'a>(
 ) -> Result<bool>
     ensures ok { IfOk result (λ b. IsTrue b
         ↔ AllByRecursion
-        (λ d. ReferenceSurvives (written_reference format (map identity_of list.now) d)
-        (reading_list format (map identity_of list.now)) d) dependencies.now) }
+        (WrittenReferenceSurvives format (map identity_of list.now)) dependencies.now) }
     ensures err { IsOkUnless result Memory }
 {
     for dependency in dependencies {
@@ -344,8 +336,7 @@ fn written_reference_survives<'a>(
     dependency: &'a Dependency,
 ) -> Result<bool>
     ensures ok { IfOk result (λ b. IsTrue b
-        ↔ ReferenceSurvives (written_reference format (map identity_of list.now) dependency.now)
-        (reading_list format (map identity_of list.now)) dependency.now) }
+        ↔ WrittenReferenceSurvives format (map identity_of list.now) dependency.now) }
     ensures err { IsOkUnless result Memory }
 {
     let reference = written_reference(format, list, dependency);
@@ -380,8 +371,7 @@ fn full_references_survive(
     dependencies: &[Dependency],
 ) -> Result<bool>
     ensures ok { IfOk result (λ b. IsTrue b
-        ↔ AllByRecursion
-        (λ d. ReferenceSurvives (in_full (is_escaped format) d) [] d) dependencies.now) }
+        ↔ AllByRecursion (FullReferenceSurvives format) dependencies.now) }
     ensures err { IsOkUnless result Memory }
 {
     for dependency in dependencies {
@@ -397,8 +387,8 @@ fn full_reference_survives(
     format: ResolveVersion,
     dependency: &Dependency,
 ) -> Result<bool>
-    ensures ok { IfOk result (λ b. IsTrue b
-        ↔ ReferenceSurvives (in_full (is_escaped format) dependency.now) [] dependency.now) }
+    ensures ok { IfOk result
+        (λ b. IsTrue b ↔ FullReferenceSurvives format dependency.now) }
     ensures err { IsOkUnless result Memory }
 {
     let reference = EncodableDependencyRef::from_dependency(dependency, format);

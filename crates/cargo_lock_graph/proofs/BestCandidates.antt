@@ -198,7 +198,7 @@ versions-more packages bound last grown earlier pushed p o here is more grows so
 
 -- ---- the best so far
 
-fits-named : (packages : List PackageData) (d : Identity) (k rank : ℕ) → MatchesAt packages d k rank → HoldsOf (HasNameAndVersion d) packages k
+pub fits-named : (packages : List PackageData) (d : Identity) (k rank : ℕ) → MatchesAt packages d k rank → HoldsOf (HasNameAndVersion d) packages k
 fits-named packages d k rank h = (h.0, h.1, h.2.named)
 
 fits-same : (packages : List PackageData) (d : Identity) (k rank other : ℕ) → MatchesAt packages d k rank → MatchesAt packages d k other → rank ≡ other
@@ -207,13 +207,13 @@ fits-same packages d k rank other f g =
     let e = subst (λ (p : PackageData). Matches d rank p) same f.2 in
     same_Some rank other (sym e.ranked ∙ g.2.ranked)
 
-fits-of : (packages : List PackageData) (d : Identity) (k rank : ℕ) (p : PackageData) → slice_get packages k ≡ Some p → MatchesAt packages d k rank → Matches d rank p
+pub fits-of : (packages : List PackageData) (d : Identity) (k rank : ℕ) (p : PackageData) → slice_get packages k ≡ Some p → MatchesAt packages d k rank → Matches d rank p
 fits-of packages d k rank p at f = subst (λ (q : PackageData). Matches d rank q) (same_Some f.0 p (sym f.1 ∙ at)) f.2
 
 pub best-start : (packages : List PackageData) (d : Identity) → BestFrom packages d (length packages) None
 best-start packages d k rank past f = let low = slice_get_within packages k f.0 f.1 in absurd (omega (arith, past, low))
 
-here-or-past : (packages : List PackageData) (d : Identity) (bound place : ℕ) → IsLastBelow (HoldsOf (HasNameAndVersion d) packages) bound (Some place)
+pub here-or-past : (packages : List PackageData) (d : Identity) (bound place : ℕ) → IsLastBelow (HoldsOf (HasNameAndVersion d) packages) bound (Some place)
     → (k rank : ℕ) → place ≤ k → MatchesAt packages d k rank → (k ≡ place) ⊎ (bound ≤ k)
 here-or-past packages d bound place is k rank from f = elim (cases_Bool (nat_lt place k)) [
   | inl after ↦ elim (cases_Bool (nat_lt k bound)) [
@@ -318,21 +318,13 @@ pub find-start : (packages : List PackageData) (d : Identity) (last : BTreeMap P
 find-start packages d last earlier next versions is =
     subst (λ o. IsLastBelow (HoldsOf (HasNameAndVersion d) packages) (length packages) o) (sym is) (versions.newest d)
 
-pub find-next : (packages : List PackageData) (d : Identity) (last : BTreeMap PartialIdentity ℕ) (earlier : List (Option ℕ)) (bound place : ℕ) (next : Option ℕ)
-    → AreVersions packages (length packages) last earlier
-    → bound ≤ length packages → IsLastBelow (HoldsOf (HasNameAndVersion d) packages) bound (Some place)
-    → next ≡ get_or earlier place next
-    → IsLastBelow (HoldsOf (HasNameAndVersion d) packages) place next
-find-next packages d last earlier bound place next versions within is next_is =
-    let low = is.0 in
-    let long = versions.count in
-    let p : PackageData = is.1.0 in
-    let named : HasNameAndVersion d p = is.1.2 in
-    let stored : slice_get earlier place ≡ Some next = slice_get_read earlier (length earlier) place next refl (omega (arith, low, within, long)) next_is in
+-- the places of the name and the version of a package are those of the dependency
+pub find-next : (packages : List PackageData) (d : Identity) (p : PackageData) (place : ℕ) (next : Option ℕ) → HasNameAndVersion d p
+    → IsLastBelow (HoldsOf (HasNameAndVersion (identity_of p)) packages) place next → IsLastBelow (HoldsOf (HasNameAndVersion d) packages) place next
+find-next packages d p place next named =
     last-alike (HoldsOf (HasNameAndVersion (identity_of p)) packages) (HoldsOf (HasNameAndVersion d) packages) place next
     (λ k h. (h.0, h.1, record { name = named.name ∙ h.2.name; version = named.version ∙ h.2.version }))
     (λ k h. (h.0, h.1, record { name = sym named.name ∙ h.2.name; version = sym named.version ∙ h.2.version }))
-    (versions.before place p next is.1.1 stored)
 
 -- a package with the dependency's name and version fits with the rank of the sources
 ranked-one : (d : Identity) (p : PackageData) (rank : Option ℕ) → HasNameAndVersion d p → rank ≡ rank_between d.source p.source
@@ -341,15 +333,10 @@ ranked-one d p None named is = λ r f. let e = f.ranked in cc
 ranked-one d p (Some rank) named is = record { named = named; ranked = sym is }
 
 pub find-better_candidate : (packages : List PackageData) (d : Identity) (bound place : ℕ) (p : PackageData) (best grown : Option Best) (rank : Option ℕ)
-    → bound ≤ length packages → IsLastBelow (HoldsOf (HasNameAndVersion d) packages) bound (Some place)
-    → BestFrom packages d bound best → p ≡ get_or packages place p
-    → rank ≡ rank_between d.source p.source → grown ≡ better_candidate best rank place
+    → IsLastBelow (HoldsOf (HasNameAndVersion d) packages) bound (Some place) → slice_get packages place ≡ Some p → HasNameAndVersion d p
+    → BestFrom packages d bound best → rank ≡ rank_between d.source p.source → grown ≡ better_candidate best rank place
     → BestFrom packages d place grown
-find-better_candidate packages d bound place p best grown rank within is so_far p_is ranks grows =
-    let low = is.0 in
-    let q : PackageData = is.1.0 in
-    let at : slice_get packages place ≡ Some p = slice_get_read packages (length packages) place p refl (omega (arith, low, within)) p_is in
-    let named = subst (λ (r : PackageData). HasNameAndVersion d r) (same_Some q p (sym is.1.1 ∙ at)) is.1.2 in
+find-better_candidate packages d bound place p best grown rank is at named so_far ranks grows =
     subst (λ b. BestFrom packages d place b) (sym grows) (best-step packages d bound place p best rank is at (ranked-one d p rank named ranks) so_far)
 
 pub find-smaller : (P : ℕ → Type 0) (place : ℕ) (next after : Option ℕ) → next ≡ Some place → IsLastBelow P place after

@@ -7,7 +7,7 @@ use Rattle.semver.specs.Identifiers.{parts_text}
 use Rattle.cargo_lock_parts.specs.Identity.{PackageData}
 use Rattle.cargo_lock_graph.specs.declared.drawing.entry.Entry.{Entry}
 use Rattle.cargo_lock_graph.specs.Drawing.{Occurs, is_among}
-use Rattle.cargo_lock_graph.specs.DrawingLines.{AreApart, AreLines, HasNoNewline, Tell, TellAll, cut, ended_lines}
+use Rattle.cargo_lock_graph.specs.DrawingLines.{LabelsAreDistinct, AreLines, HasNoNewline, Tell, TellAll, cut, ended_lines}
 use Rattle.cargo_lock_graph.specs.DrawingText.{SymbolTexts, depth_at, drawing_text, line_at, lines_from, prefix_at}
 use Rattle.cargo_lock_graph.specs.DrawingPlaces.{no_entry}
 use Rattle.cargo_lock_graph.specs.Labels.{exact_text, label_at, label_of}
@@ -25,10 +25,10 @@ occurs-later n e es h = elim (cases_Bool (eqb n e.node)) [
   | inr other ↦ rw other h
 ]
 
-apart-later : (label : ℕ → List ℕ) (e f : Entry) (es fs : List Entry) → AreApart label (e ∷ es) (f ∷ fs) → AreApart label es fs
+apart-later : (label : ℕ → List ℕ) (e f : Entry) (es fs : List Entry) → LabelsAreDistinct label (e ∷ es) (f ∷ fs) → LabelsAreDistinct label es fs
 apart-later label e f es fs h m n in_es in_fs = h m n (occurs-later m e es in_es) (occurs-later n f fs in_fs)
 
-one-told : (label : ℕ → List ℕ) (es fs : List Entry) (ls : List (List ℕ)) → AreApart label es fs → Tell label es ls → Tell label fs ls → es ≡ fs
+one-told : (label : ℕ → List ℕ) (es fs : List Entry) (ls : List (List ℕ)) → LabelsAreDistinct label es fs → Tell label es ls → Tell label fs ls → es ≡ fs
 one-told label [] [] ls apart t u = refl
 one-told label [] (f ∷ fs) [] apart t u = absurd u
 one-told label [] (f ∷ fs) (l ∷ ls) apart t u = absurd t
@@ -45,7 +45,7 @@ one-told label (e ∷ es) (f ∷ fs) (l ∷ ls) apart t u =
 -- the first line tells the first node, and its depth is 0
 pub all-told : (label : ℕ → List ℕ) (a b : ℕ) (es fs es' fs' : List Entry) (ls : List (List ℕ))
     → es ≡ record { node = a; depth = 0 } ∷ es' → fs ≡ record { node = b; depth = 0 } ∷ fs'
-    → AreApart label es fs → TellAll label es ls → TellAll label fs ls → es ≡ fs
+    → LabelsAreDistinct label es fs → TellAll label es ls → TellAll label fs ls → es ≡ fs
 all-told label a b [] fs es' fs' ls p q apart t u = absurd cc
 all-told label a b (e ∷ es) [] es' fs' ls p q apart t u = absurd cc
 all-told label a b (e ∷ es) (f ∷ fs) es' fs' [] p q apart t u = absurd t

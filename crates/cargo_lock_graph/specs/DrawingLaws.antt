@@ -12,7 +12,7 @@ use Rattle.cargo_lock_graph.specs.DrawingPlaces.{EdgesMatchEntries}
 use Rattle.cargo_lock_graph.specs.Paths.{IsReachable}
 use Rattle.cargo_lock_graph.specs.DrawingText.{SymbolTexts, standard_symbols, drawing_text}
 use Rattle.cargo_lock_graph.specs.DrawingByLater.{drawn_by_later}
-use Rattle.cargo_lock_graph.specs.DrawingLines.{AreApart, AreLines, HasNoNewline, TellAll, cut}
+use Rattle.cargo_lock_graph.specs.DrawingLines.{LabelsAreDistinct, AreLines, HasNoNewline, TellAll, cut}
 use Rattle.cargo_lock_graph.specs.DrawingLines.{ended_lines}
 use Rattle.cargo_lock_graph.specs.Labels.{label_at}
 
@@ -84,7 +84,7 @@ abbrev pub TextIsOfOneDrawing : Type 0
 TextIsOfOneDrawing = (far gar : ℕ → List ℕ) (start other : ℕ) (label : ℕ → List ℕ)
     (es fs : List Entry)
     → IsDrawing far start es → IsDrawing gar other fs → AreLines label es → AreLines label fs
-    → AreApart label es fs
+    → LabelsAreDistinct label es fs
     → drawing_text standard_symbols label es ≡ drawing_text standard_symbols label fs → es ≡ fs
 
 -- The text is its lines, each ended by a newline, and nothing stands after the last.

@@ -32,8 +32,8 @@ ended_lines [] = []
 ended_lines (l ∷ ls) = l ++ newline ∷ ended_lines ls
 
 -- nodes of these entries that have one label are one
-abbrev pub AreApart : (ℕ → List ℕ) → List Entry → List Entry → Type 0
-AreApart label es fs = (m n : ℕ) → Occurs m es → Occurs n fs → label m ≡ label n → m ≡ n
+abbrev pub LabelsAreDistinct : (ℕ → List ℕ) → List Entry → List Entry → Type 0
+LabelsAreDistinct label es fs = (m n : ℕ) → Occurs m es → Occurs n fs → label m ≡ label n → m ≡ n
 
 -- the package's name, version and exact text hold no newline
 pub record HasNoNewline (p : PackageData) : Type 0 where

@@ -8,3 +8,4 @@ pub mod drawing;
 pub mod graph;
 pub mod laws;
 mod targets;
+pub mod versions;

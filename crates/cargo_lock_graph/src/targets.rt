@@ -5,14 +5,14 @@ ghost use Rattle.std.specs.Prelude.{length, option_map, slice_get};
 ghost use Rattle.std.specs.BTreeMap.{get, is_at};
 ghost use Rattle.semver.specs.Identifiers.{parts_of};
 ghost use Rattle.cargo_lock_parts.specs.Identity.{identity_of};
-ghost use Rattle.cargo_lock_parts.specs.PartialIdentity.{PartialIdentity, name_and_version};
+ghost use Rattle.cargo_lock_parts.specs.PartialIdentity.{PartialIdentity};
 ghost use Rattle.cargo_lock_parts.specs.PartialIdentity.{partial_identity_cmp};
-ghost use Rattle.cargo_lock_graph.specs.Candidates.{AreLastPlaces, AreVersions};
+ghost use Rattle.cargo_lock_graph.specs.Candidates.{AreLastPlaces};
 ghost use Rattle.cargo_lock_graph.specs.Candidates as spec;
 ghost use Rattle.cargo_lock_graph.specs.Targets.{IsLastWith, IsLost, IsTarget};
-ghost use Rattle.cargo_lock_graph.specs.Targets as targets;
 
 use crate::graph::NodeIndex;
+use crate::versions::Versions;
 use cargo_lock_parts::dependency::Dependency;
 use cargo_lock_parts::package::{Name, Package, PartialIdentity, SourceId, Version};
 use std::alloc::{AllocError, Global};
@@ -31,25 +31,16 @@ pub(crate) struct Candidates<'a> {
 }
 
 impl<'a> Model for Candidates<'a> {
-    ghost use Rattle.std.specs.Prelude.{List, length};
+    ghost use Rattle.std.specs.Prelude.{◌≡◌, List, length};
     ghost use Rattle.cargo_lock_parts.specs.Identity.{PackageData};
-    ghost use Rattle.cargo_lock_graph.specs.Candidates.{AreLastPlaces, AreVersions};
+    ghost use Rattle.cargo_lock_graph.specs.Candidates.{AreLastPlaces};
 
     ghost Value = { List PackageData };
 
     ghost view = { λ c. c.packages.now };
 
     ghost invariant = { λ c. AreLastPlaces c.packages.now (length c.packages.now) c.last
-        × AreVersions c.packages.now (length c.packages.now)
-        c.versions.last c.versions.earlier.items };
-}
-
-// The places of the packages of each name and version: the last one, and from each place the one
-// before it.
-#[derive(Drop)]
-struct Versions<'a> {
-    last: Places<'a>,
-    earlier: Vec<Option<usize>>,
+        × (c.versions ≡ c.packages.now) };
 }
 
 // The best package so far: how well its source matches, and its place.
@@ -83,7 +74,7 @@ impl<'a> Candidates<'a> {
     {
         match self.last_like(dependency) {
             Some(place) => Some(place),
-            None => self.versions.find(self.packages, dependency),
+            None => best_place(&self.versions, dependency),
         }
     }
 
@@ -111,50 +102,21 @@ impl<'a> Candidates<'a> {
     }
 }
 
-impl<'a> Versions<'a> {
-    // The places of these packages.
-    fn of(alloc: Global, packages: &'a [Package]) -> Result<Versions<'a>, AllocError>
-        ensures { IfOk result (λ versions.
-            AreVersions packages.now (length packages.now) versions.last versions.earlier.items) }
-    {
-        let mut last = BTreeMap::new(alloc);
-        let mut earlier = Vec::with_capacity(alloc, packages.len())?;
-        for (place, package) in packages.iter().enumerate() {
-            let key = PartialIdentity::name_and_version(&package.name, &package.version);
-            let before = last.get(&key).copied();
-            earlier.push(before)?;
-            put(&mut last, key, place)?;
-        }
-        Ok(Versions { last, earlier })
+// The place of the package that a dependency stands for, by names, versions and sources: the last
+// of those that match best.
+fn best_place<'a>(versions: &Versions<'a>, dependency: &'a Dependency) -> Option<usize>
+    ensures { MatchOption result
+        (IsLost versions.now dependency.now)
+        (λ place. IsTarget versions.now dependency.now place) }
+{
+    let mut best = None;
+    let mut next = versions.last(dependency);
+    while let Some(place) = next {
+        let rank = versions.rank(dependency, place);
+        best = better_candidate(best, rank, place);
+        next = versions.before(place);
     }
-
-    // The place of the package that a dependency stands for: the last of those that match best.
-    fn find(&self, packages: &'a [Package], dependency: &'a Dependency) -> Option<usize>
-        requires { AreVersions packages.now (length packages.now)
-            self.now.last self.now.earlier.items }
-        ensures { MatchOption result
-            (IsLost packages.now dependency.now)
-            (λ place. IsTarget packages.now dependency.now place) }
-    {
-        let mut best = None;
-        let mut next = self.last(dependency);
-        while let Some(place) = next {
-            let package = &packages[place];
-            let rank = rank_between(&dependency.source, &package.source);
-            best = better_candidate(best, rank, place);
-            next = self.earlier[place];
-        }
-        place_of(best)
-    }
-
-    // The last place of the packages with the name and the version of a dependency.
-    fn last(&self, dependency: &'a Dependency) -> Option<usize>
-        ensures { result ≡ get partial_identity_cmp self.now.last
-            (name_and_version dependency.now.name dependency.now.version) }
-    {
-        let key = PartialIdentity::name_and_version(&dependency.name, &dependency.version);
-        self.last.get(&key).copied()
-    }
+    place_of(best)
 }
 
 // The last place of each identity.
@@ -218,16 +180,5 @@ fn better_candidate(best: Option<Best>, rank: Option<u8>, place: usize) -> Optio
         } else {
             Some(best)
         },
-    }
-}
-
-// How well sources match that may be absent.
-fn rank_between(a: &Option<SourceId>, b: &Option<SourceId>) -> Option<u8>
-    ensures { result ≡ targets.rank_between a.now b.now }
-{
-    match (a, b) {
-        (None, None) => Some(1),
-        (Some(a), Some(b)) => a.match_rank(b),
-        _ => None,
     }
 }

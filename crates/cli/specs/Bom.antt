@@ -8,7 +8,7 @@ use Rattle.cargo_lock_encoding.specs.Lockfiles.{LockfileData}
 use Rattle.cargo_lock_graph.specs.Edges.{Edge}
 use Rattle.cargo_lock_graph.specs.Targets.{AreEdgesOf}
 use Rattle.cargo_lock.specs.Loads.{IsMeant}
-use Rattle.cli.specs.Destination.{TakesOutput}
+use Rattle.cli_support.specs.Destination.{TakesOutput}
 
 -- the line is a text that reads as the bill of the packages of a lockfile and of their edges, and a
 -- newline

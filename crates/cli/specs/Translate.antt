@@ -10,7 +10,7 @@ use Rattle.cargo_lock_encoding.specs.Lockfiles.{LockfileData}
 use Rattle.cargo_lock_encoding.specs.Text.{join_lines, lines_of}
 use Rattle.cargo_lock.specs.Loads.{IsMeant}
 use Rattle.cargo_lock_encoding.specs.Survives.{Survives, in_format}
-use Rattle.cli.specs.Destination.{TakesOutput}
+use Rattle.cli_support.specs.Destination.{TakesOutput}
 
 -- the output takes the text, and standard output one more newline too
 abbrev pub TakesText : Option (List ℕ) → List ℕ → Option (List ℕ) → Option (List ℕ) → Type 0

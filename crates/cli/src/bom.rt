@@ -5,13 +5,13 @@ ghost use Rattle.cargo_lock_parts.specs.Ascii.{newline};
 ghost use Rattle.cargo_lock_bom.specs.Document.{IsBillText};
 ghost use Rattle.cli.specs.Bom.{IsBillLine, PrintsBill};
 
-use crate::destination::put_out;
-use crate::fault::Fault;
-use crate::words;
+use crate::load::lockfile;
 use cargo_lock::dependency::graph::Graph;
 use cargo_lock::{Error, Lockfile};
 use cargo_lock_bom::document::{compact_text, pretty_text};
 use clap::ArgMatches;
+use cli_support::Fault;
+use cli_support::destination::put_out;
 use std::alloc::{AllocError, Global};
 use std::io::Write;
 use std::rt::Files;
@@ -27,7 +27,7 @@ pub(crate) fn run<R: Files + AllocGlobal, W: Write>(
     ensures { OnOk result
         (PrintsBill (found_of options.now) (W.contents out.old) (W.contents out.new)) }
 {
-    let lockfile = words::lockfile(rt, options, "file")?;
+    let lockfile = lockfile(rt, options, "file")?;
     let text = line_of(rt.alloc(), &lockfile, options.get_flag("compact"))?;
     put_out(rt, options, text.as_str(), "", out)
 }

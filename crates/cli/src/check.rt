@@ -4,12 +4,11 @@ ghost use Rattle.std.specs.Io.KnownBytes.{Appends};
 ghost use Rattle.cargo_lock_check.specs.Finding.{finding_of};
 ghost use Rattle.cli.specs.Check.{IsFindingsStatus, TellsCheck, TellsCheckOf, TellsFindings, TellsFindingsOf, lines_text};
 
-use crate::fault::Fault;
-use crate::output::put;
-use crate::words;
 use cargo_lock::Lockfile;
 use cargo_lock_check::{Finding, Findings};
 use clap::ArgMatches;
+use cli_support::output::put;
+use cli_support::{Fault, words};
 use std::alloc::Global;
 use std::io::Write;
 use std::process::ExitCode;

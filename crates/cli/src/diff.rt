@@ -6,12 +6,12 @@ ghost use Rattle.cargo_lock_diff.specs.Change.{change_of, lines_text};
 ghost use Rattle.cli.specs.Diff.{IsStatus, IsTold, TellsChanges, TellsDifference};
 ghost use Rattle.cli.specs.Diff.{TellsDifferenceOf};
 
-use crate::fault::Fault;
-use crate::output::put;
-use crate::words;
+use crate::load::lockfile;
 use cargo_lock::Lockfile;
 use cargo_lock_diff::{Change, Difference};
 use clap::ArgMatches;
+use cli_support::Fault;
+use cli_support::output::put;
 use std::alloc::Global;
 use std::io::Write;
 use std::process::ExitCode;
@@ -31,8 +31,8 @@ pub(crate) fn run<R: Files + AllocGlobal, W: Write>(
         (W.contents out.old) (W.contents out.new)
         (status ≡ ExitCode.FAILURE) (status ≡ ExitCode.SUCCESS)) }
 {
-    let old = words::lockfile(rt, options, "old")?;
-    let new = words::lockfile(rt, options, "new")?;
+    let old = lockfile(rt, options, "old")?;
+    let new = lockfile(rt, options, "new")?;
     tell(rt.alloc(), options, &old, &new, out)
 }
 

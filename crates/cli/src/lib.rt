@@ -12,18 +12,15 @@ ghost use Rattle.std.specs.Io.KnownBytes.{Keeps};
 
 mod bom;
 mod check;
-mod destination;
 mod diff;
-mod fault;
 mod list;
-mod output;
-mod saving;
+mod load;
 mod translate;
 mod tree;
-mod words;
 
 use clap::ArgMatches;
-pub use fault::Fault;
+pub use cli_support::Fault;
+use cli_support::{output, words};
 use std::convert::AsStr;
 use std::io::Write;
 use std::process::ExitCode;

@@ -1,9 +1,9 @@
 //! The command `list`: the packages of a lockfile, one line each.
-use crate::fault::Fault;
-use crate::output::put;
-use crate::words;
+use crate::load::lockfile;
 use cargo_lock::{Dependency, Name, Package, SourceId, Version};
 use clap::ArgMatches;
+use cli_support::Fault;
+use cli_support::output::put;
 use std::io::Write;
 use std::rt::Files;
 
@@ -14,16 +14,6 @@ struct Detail {
     sources: bool,
 }
 
-impl Detail {
-    /// The detail that the words ask for.
-    fn of(options: &ArgMatches<'_>) -> Detail {
-        Detail {
-            dependencies: options.get_flag("dependencies"),
-            sources: options.get_flag("sources"),
-        }
-    }
-}
-
 /// Prints each package of the lockfile in list order, or each that has the name that is asked for.
 /// Fails where the lockfile is not read or `out` fails; a beginning of the text was then written.
 pub(crate) fn run<R: Files + AllocGlobal, W: Write>(
@@ -31,14 +21,13 @@ pub(crate) fn run<R: Files + AllocGlobal, W: Write>(
     options: &ArgMatches<'_>,
     out: &mut W,
 ) -> Result<(), Fault> {
-    let lockfile = words::lockfile(rt, options, "file")?;
+    let lockfile = lockfile(rt, options, "file")?;
+    let detail = Detail {
+        dependencies: options.get_flag("dependencies"),
+        sources: options.get_flag("sources"),
+    };
     let wanted = options.get_str("package");
-    print_packages(
-        out,
-        lockfile.packages.as_slice(),
-        wanted,
-        Detail::of(options),
-    )
+    print_packages(out, lockfile.packages.as_slice(), wanted, detail)
 }
 
 /// Prints each of the packages, or each that has the name that is asked for.

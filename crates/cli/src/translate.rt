@@ -6,14 +6,14 @@ ghost use Rattle.cargo_lock_parts.specs.declared.error.Error.TheVariants.{Memory
 ghost use Rattle.cargo_lock_references.specs.Format.{number_of};
 ghost use Rattle.cargo_lock_encoding.specs.Text.{join_lines, lines_of};
 ghost use Rattle.cargo_lock_encoding.specs.Survives.{Survives, in_format};
-ghost use Rattle.cli.specs.declared.fault.Fault.TheVariants.{Library, DoesNotSurvive};
+ghost use Rattle.cli_support.specs.declared.fault.Fault.TheVariants.{Library, DoesNotSurvive};
 ghost use Rattle.cli.specs.Translate.{IsCheckAsked, PrintsTranslation};
 
-use crate::destination::put_out;
-use crate::fault::Fault;
-use crate::words;
+use crate::load::lockfile;
 use cargo_lock::{Error, Lockfile, ResolveVersion};
 use clap::ArgMatches;
+use cli_support::destination::put_out;
+use cli_support::{Fault, words};
 use std::alloc::Global;
 use std::io::Write;
 use std::rt::Files;
@@ -30,7 +30,7 @@ pub(crate) fn run<R: Files + AllocGlobal, W: Write>(
         (PrintsTranslation (found_of options.now) (W.contents out.old) (W.contents out.new)) }
 {
     let format = ResolveVersion::from_str(rt.alloc(), words::format(options))?;
-    let lockfile = words::lockfile(rt, options, "file")?;
+    let lockfile = lockfile(rt, options, "file")?;
     check_if_asked(rt.alloc(), options, &lockfile, format)?;
     let text = text_in(rt.alloc(), lockfile, format)?;
     put_out(rt, options, text.as_str(), "\n", out)

@@ -1,13 +1,13 @@
 //! The command `tree`: the trees of the roots of a lockfile, or of the packages that are asked for.
 ghost use Rattle.std.specs.Prelude.{◌<◌, All, IfOk, length};
 
-use crate::fault::Fault;
-use crate::output::put;
-use crate::words;
+use crate::load::lockfile;
 use cargo_lock::dependency::Tree;
 use cargo_lock::dependency::graph::{EdgeDirection, NodeIndex};
 use cargo_lock::{Checksum, Dependency, Error, Lockfile, Package, SourceId, Version};
 use clap::ArgMatches;
+use cli_support::Fault;
+use cli_support::output::put;
 use std::alloc::Global;
 use std::io::Write;
 use std::rt::Files;
@@ -38,7 +38,7 @@ pub(crate) fn run<R: Files + AllocGlobal, W: Write>(
     options: &ArgMatches<'_>,
     out: &mut W,
 ) -> Result<(), Fault> {
-    let lockfile = words::lockfile(rt, options, "file")?;
+    let lockfile = lockfile(rt, options, "file")?;
     draw(rt.alloc(), out, &lockfile, options)
 }
 

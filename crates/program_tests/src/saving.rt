@@ -187,6 +187,12 @@ fn holds(condition: bool, what: &str, failing: usize) -> Result<(), Fail> {
     Err(Fail::new(format_args!("{what}, where call {failing} fails")))
 }
 
+// A fault of the test, unless the output has the text that the command writes.
+fn has_written(folder: &Folder<'_>, failing: usize) -> Result<(), Fail> {
+    let has_text = folder.has(Some(WRITTEN))?;
+    holds(has_text, "the text is not written", failing)
+}
+
 // Runs the command with one call that fails. Tells whether the command made so many calls.
 fn one_fault(rt: &HostRuntime, output: Output, failing: usize) -> Result<bool, Fail> {
     let folder = Folder::new(rt, "one_fault", output)?;
@@ -194,11 +200,7 @@ fn one_fault(rt: &HostRuntime, output: Output, failing: usize) -> Result<bool, F
     let turns = Turns::new(failing, false);
     if folder.translate(&Disk::new(rt, &turns))? {
         let made = usize::from(output.old.is_none());
-        holds(
-            folder.has(Some(WRITTEN))?,
-            "the text is not written",
-            failing,
-        )?;
+        has_written(&folder, failing)?;
         holds(
             folder.count()? == before.wrapping_add(made),
             "files are left",
@@ -224,11 +226,7 @@ fn all_fail_from(rt: &HostRuntime, output: Output, failing: usize) -> Result<boo
     holds(folder.has(text)?, "the text is lost", failing)?;
     let left = folder.text_of(NEW_NAME)?;
     holds(folder.translate(rt)?, "the next run fails", failing)?;
-    holds(
-        folder.has(Some(WRITTEN))?,
-        "the text is not written",
-        failing,
-    )?;
+    has_written(&folder, failing)?;
     holds(
         folder.text_of(NEW_NAME)? == left,
         "a file is written over",

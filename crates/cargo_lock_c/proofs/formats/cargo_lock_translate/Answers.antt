@@ -1,4 +1,4 @@
-use Rattle.std.proofs.Common.{◌≡◌, ◌∙◌, rules, string_bytes, sym}
+use Rattle.std.proofs.Common.{◌≡◌, rules, string_bytes}
 use Rattle.cargo_lock_c.specs.Texts.{IsTranslation}
 use Rattle.cargo_lock_c.proofs.HandedOut.{handed-answer}
 use Rattle.cargo_lock_c.proofs.formats.cargo_lock_translate.Goals as goal
@@ -8,6 +8,3 @@ returns-in-Ok-clause-translation c =
     let same : c.as_bytes.result.now ≡ string_bytes c.in-Ok.written = search rules in
     handed-answer (IsTranslation c.args.text.now c.args.format) c.as_bytes.result.now _ _ _ _ _
     (rw same c.in-Ok.ensures.ok) c.hand_out.ensures.handed
-
-pub returns-in-Err-clause-lost : goal.returns-in-Err-clause-lost
-returns-in-Err-clause-lost c = λ six. c.in-Err.ensures.lost (sym c.status.ensures ∙ six)

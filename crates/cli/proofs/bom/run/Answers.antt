@@ -1,8 +1,8 @@
 use Rattle.std.proofs.Common.{List, ℕ, codes, string_bytes, subst, ◌∙◌}
 use Rattle.std.proofs.lemmas.List.{append-nil}
 use Rattle.clap.specs.Matches.{first_value, found_of}
-use Rattle.cli.specs.Destination.{TakesOutput}
-use Rattle.cli.proofs.Writes.{on_ok_weaken}
+use Rattle.cli_support.specs.Destination.{TakesOutput}
+use Rattle.cli_support.proofs.Writes.{on_ok_weaken}
 use Rattle.cli.proofs.bom.run.Goals as goal
 
 pub returns : goal.returns

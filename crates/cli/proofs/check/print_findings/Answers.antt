@@ -1,6 +1,6 @@
 use Rattle.std.proofs.Common.{◌∷◌, ◌++◌, [], arith}
 use Rattle.cargo_lock_check.specs.Finding.{finding_of, line_of}
-use Rattle.cli.proofs.Writes.{appends_next}
+use Rattle.cli_support.proofs.Writes.{appends_next}
 use Rattle.cli.proofs.check.print_findings.Goals as goal
 
 pub loop-finding-preserved : goal.loop-finding-preserved

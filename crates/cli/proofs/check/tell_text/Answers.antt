@@ -1,4 +1,4 @@
-use Rattle.cli.proofs.Writes.{if_ok_weaken}
+use Rattle.cli_support.proofs.Writes.{if_ok_weaken}
 use Rattle.cli.proofs.check.tell_text.Goals as goal
 
 pub returns : goal.returns

@@ -1,6 +1,6 @@
 use Rattle.std.proofs.Common.{◌∷◌, ◌++◌, [], arith}
 use Rattle.cargo_lock_diff.specs.Change.{change_of, line_of}
-use Rattle.cli.proofs.Writes.{appends_next}
+use Rattle.cli_support.proofs.Writes.{appends_next}
 use Rattle.cli.proofs.diff.print_changes.Goals as goal
 
 pub loop-change-preserved : goal.loop-change-preserved

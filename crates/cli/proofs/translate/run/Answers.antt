@@ -3,8 +3,8 @@ use Rattle.cargo_lock_references.specs.Format.{IsFormatText}
 use Rattle.cargo_lock_encoding.specs.Text.{join_lines, lines_of}
 use Rattle.cargo_lock_encoding.specs.Survives.{in_format}
 use Rattle.clap.specs.Matches.{first_value, found_of}
-use Rattle.cli.specs.Destination.{TakesOutput}
-use Rattle.cli.proofs.Writes.{on_ok_weaken}
+use Rattle.cli_support.specs.Destination.{TakesOutput}
+use Rattle.cli_support.proofs.Writes.{on_ok_weaken}
 use Rattle.cli.proofs.translate.run.Goals as goal
 
 pub returns : goal.returns

@@ -1,5 +1,0 @@
-use Rattle.std.proofs.Common.{inr, refl}
-use Rattle.cli.proofs.fault.Fault.of_spec.Goals as goal
-
-pub returns-in-Ok : goal.returns-in-Ok
-returns-in-Ok c = inr (c.in-Ok.spec, refl, c.in-Ok.ensures.ok)

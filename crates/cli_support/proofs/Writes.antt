@@ -1,0 +1,65 @@
+-- Texts that a writer takes in pieces.
+use Rattle.std.proofs.Common.{◌≡◌, ℕ, List, [], ◌∷◌, ◌++◌, Option, Some, None, Result, Ok, Err, refl, sym, ap, subst, take, map, length, get_or, ◌+◌, ◌<◌, ◌∙◌, append_assoc}
+use Rattle.std.specs.Prelude.{IfOk, IfSome, IsErr, OnOk}
+use Rattle.std.specs.Io.KnownBytes.{Appends, Keeps}
+use Rattle.std.specs.List.{flat_map}
+use Rattle.std.proofs.lemmas.List.{append-nil, map_more}
+use Rattle.std.proofs.lemmas.List.Concat.{flat_map-append}
+use Rattle.cli_support.specs.Output.{IsWritten}
+
+pub appends_nothing : (o : Option (List ℕ)) → Appends o o []
+appends_nothing None = tt
+appends_nothing (Some xs) = sym (append-nil xs)
+
+pub appends_more : (a b c : Option (List ℕ)) (x y : List ℕ) → Appends a b x → Appends b c y → Appends a c (x ++ y)
+appends_more None b c x y h k = tt
+appends_more (Some xs) None c x y h k = absurd h
+appends_more (Some xs) (Some ys) None x y h k = absurd k
+appends_more (Some xs) (Some ys) (Some zs) x y h k = k ∙ ap (λ (ws : List ℕ). ws ++ y) h ∙ append_assoc xs x y
+
+pub appends_keeps : (a b c : Option (List ℕ)) (x : List ℕ) → Appends a b x → Keeps b c → Appends a c x
+appends_keeps None b c x h k = tt
+appends_keeps (Some xs) None c x h k = absurd h
+appends_keeps (Some xs) (Some ys) None x h k = absurd k
+appends_keeps (Some xs) (Some ys) (Some zs) x h k = k ∙ h
+
+-- what holds of a text in place of another fact
+pub if_some_weaken : (o : Option (List ℕ)) (P Q : List ℕ → Type 0) → ((bs : List ℕ) → P bs → Q bs) → IfSome o P → IfSome o Q
+if_some_weaken None P Q k x = tt
+if_some_weaken (Some bs) P Q k x = k bs x
+
+pub if_ok_weaken : {T E : Type 0} (r : Result T E) (P Q : T → Type 0) → ((x : T) → P x → Q x) → IfOk r P → IfOk r Q
+if_ok_weaken (Ok x) P Q k h = k x h
+if_ok_weaken (Err e) P Q k h = tt
+
+-- a write of nothing
+pub appends_none : (a b c : Option (List ℕ)) (x y : List ℕ) (n : ℕ) → n ≡ 0 → Appends a b x → Appends b c (take n y) → Appends a c x
+appends_none a b c x y n is h k =
+    subst (λ (ws : List ℕ). Appends a c ws) (append-nil x) (appends_more a b c x [] h (subst (λ (m : ℕ). Appends b c (take m y)) is k))
+
+-- a beginning was taken before a fault
+pub fault_after : {T E : Type 0} (r : Result T E) (old new : Option (List ℕ)) (text front rest : List ℕ)
+    → IsErr r → text ≡ front ++ rest → Appends old new front → IsWritten old new text r
+fault_after (Ok x) old new text front rest e is h = absurd cc
+fault_after (Err x) old new text front rest e is h = (front, rest, is, h)
+
+-- what is not written to keeps its bytes
+pub keeps_self : (o : Option (List ℕ)) → Keeps o o
+keeps_self None = tt
+keeps_self (Some xs) = refl
+
+-- what holds at Ok in place of another fact
+pub on_ok_weaken : {T E : Type 0} (r : Result T E) (P Q : Type 0) → (P → Q) → OnOk r P → OnOk r Q
+on_ok_weaken (Ok x) P Q k h = k h
+on_ok_weaken (Err e) P Q k h = tt
+
+-- one more text of a list was taken
+pub appends_next : {A B : Type 0} (text : B → List ℕ) (shown : A → B) (a b c : Option (List ℕ)) (xs : List A) (i : ℕ) (x : A)
+    → i < length xs → x ≡ get_or xs i x → Appends a b (flat_map text (map shown (take i xs))) → Appends b c (text (shown x))
+    → Appends a c (flat_map text (map shown (take (i + 1) xs)))
+appends_next {A} {B} text shown a b c xs i x lt at h k =
+    let done : List B = map shown (take i xs) in
+    let more : map shown (take (i + 1) xs) ≡ done ++ shown x ∷ [] = map_more shown xs i x lt ∙ ap (λ (y : A). done ++ shown y ∷ []) (sym at) in
+    subst (λ (ws : List ℕ). Appends a c ws)
+    (sym (ap (flat_map text) more ∙ flat_map-append text done (shown x ∷ []) ∙ ap (λ (ws : List ℕ). flat_map text done ++ ws) (append-nil (text (shown x)))))
+    (appends_more a b c (flat_map text done) (text (shown x)) h k)

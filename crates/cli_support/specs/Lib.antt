@@ -1,0 +1,2 @@
+pub mod Destination
+pub mod Output

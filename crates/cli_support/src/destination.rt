@@ -1,0 +1,41 @@
+//! Where a command's text goes.
+ghost use Rattle.std.specs.Prelude.{◌++◌, OnOk, codes};
+ghost use Rattle.std.specs.Io.KnownBytes.{Appends};
+ghost use Rattle.clap.specs.Matches.{first_value, found_of};
+ghost use Rattle.cli_support.specs.Destination.{TakesOutput};
+
+use crate::fault::Fault;
+use crate::output::put;
+use crate::saving::save;
+use crate::words;
+use clap::ArgMatches;
+use std::io::Write;
+use std::path::Path;
+use std::rt::Files;
+
+/// Writes the text into the output file, or prints it and then its end.
+pub fn put_out<R: Files + AllocGlobal, W: Write>(
+    rt: &R,
+    options: &ArgMatches<'_>,
+    text: &str,
+    end: &str,
+    out: &mut W,
+) -> Result<(), Fault>
+    ensures { OnOk result (TakesOutput (first_value (found_of options.now) (codes "output"))
+        (text.now ++ end.now) (W.contents out.old) (W.contents out.new)) }
+{
+    match words::output_file(options) {
+        Some(path) => save(rt, Path::new(path), text),
+        None => print(out, text, end),
+    }
+}
+
+/// Prints the text and its end.
+fn print<W: Write>(out: &mut W, text: &str, end: &str) -> Result<(), Fault>
+    ensures { OnOk result
+        (Appends (W.contents out.old) (W.contents out.new) (text.now ++ end.now)) }
+{
+    put(out, text)?;
+    put(out, end)?;
+    Ok(())
+}

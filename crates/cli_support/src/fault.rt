@@ -1,0 +1,113 @@
+//! Why the program fails.
+ghost use Rattle.std.specs.Prelude.{◌≡◌, ◌≢◌, ◌⊎◌, String, string_bytes};
+ghost use Rattle.std.specs.declared.alloc.Global.{Global};
+ghost use Rattle.std.specs.IoError.{error_kind};
+ghost use Rattle.cargo_lock_parts.specs.declared.error.Error.TheVariants.{Io, Memory};
+ghost use Rattle.cli_support.specs.declared.fault.Fault.TheVariants.{Library, Spec};
+
+use cargo_lock_parts::error::Error;
+use clap::error::ErrorKind;
+use std::alloc::{AllocError, AllocFailed, Global};
+use std::io;
+use thiserror::Error as DeriveError;
+
+/// Why a command failed. Displayed, it is a text of whole lines that begins `error: `.
+#[derive(Debug, Drop, DeriveError)]
+pub enum Fault {
+    /// A call of the library failed, or the program itself did in one of the library's ways: a
+    /// stream failed, or memory was refused.
+    #[error("error: {0}\n")]
+    Library(Error),
+
+    /// The words are none that the program takes. The parser's text begins so too, and ends its
+    /// last line.
+    #[error("{0}")]
+    Words(clap::Error),
+
+    /// The lockfile does not survive the format of this number.
+    #[error("error: lockfile does not survive format `{0}`\n")]
+    DoesNotSurvive(u32),
+
+    /// A specification fits no package.
+    #[error("error: invalid dependency name: `{0}`\n")]
+    Spec(String),
+
+    /// The words name no command.
+    #[error("error: no command\n")]
+    NoCommand,
+}
+
+impl Fault {
+    ghost use Rattle.std.specs.declared.io.ErrorKind.TheVariants.{OutOfMemory};
+
+    /// The fault of a call of the system that takes memory, as the one that reads the words.
+    /// Refused memory is told as that.
+    pub fn of_start(error: io::Error) -> Fault
+        ensures memory { error_kind error ≡ OutOfMemory → result ≡ Library Memory }
+        ensures other { error_kind error ≢ OutOfMemory → result ≡ Library (Io (error_kind error)) }
+    {
+        match error.kind() {
+            io::ErrorKind::OutOfMemory => Fault::Library(Error::Memory),
+            kind => Fault::Library(Error::Io(kind)),
+        }
+    }
+
+    /// The fault of a specification that fits no package, or running out of memory.
+    pub fn of_spec(alloc: Global, spec: &str) -> Fault
+        ensures { (result ≡ Library Memory)
+            ⊎ ((said : String Global) × (result ≡ Spec said) × (string_bytes said ≡ spec.now)) }
+    {
+        match String::from_str(alloc, spec) {
+            Ok(spec) => Fault::Spec(spec),
+            Err(_) => Fault::Library(Error::Memory),
+        }
+    }
+}
+
+impl From<Error> for Fault {
+    ghost from_gives = { λ error fault. fault ≡ Library error };
+
+    fn from(error: Error) -> Fault {
+        Fault::Library(error)
+    }
+}
+
+impl From<clap::Error> for Fault {
+    ghost use Rattle.clap.specs.Values.{kind_of};
+    ghost use Rattle.clap.specs.declared.error.kind.ErrorKind.TheVariants.{OutOfMemory};
+    ghost use Rattle.cli_support.specs.declared.fault.Fault.TheVariants.{Words};
+
+    ghost from_gives = { λ error fault. (kind_of error ≡ OutOfMemory → fault ≡ Library Memory)
+        × (kind_of error ≢ OutOfMemory → fault ≡ Words error) };
+
+    fn from(error: clap::Error) -> Fault {
+        match error.kind() {
+            ErrorKind::OutOfMemory => Fault::Library(Error::Memory),
+            _ => Fault::Words(error),
+        }
+    }
+}
+
+impl From<io::Error> for Fault {
+    ghost from_gives = { λ error fault. fault ≡ Library (Io (error_kind error)) };
+
+    fn from(error: io::Error) -> Fault {
+        Fault::Library(Error::from(error))
+    }
+}
+
+impl From<AllocError> for Fault {
+    ghost from_gives = { λ _ fault. fault ≡ Library Memory };
+
+    fn from(_: AllocError) -> Fault {
+        Fault::from(Error::Memory)
+    }
+}
+
+impl<T: Drop> From<AllocFailed<T>> for Fault {
+    ghost from_gives = { λ _ fault. fault ≡ Library Memory };
+
+    fn from(_: AllocFailed<T>) -> Fault {
+        Fault::from(AllocError)
+    }
+}
