@@ -1,12 +1,12 @@
 //! Drawings of trees.
 
 use super::graphs::{node, tree_of};
-use super::{alike, line};
 use cargo_lock::dependency::Tree;
 use cargo_lock::dependency::graph::{EdgeDirection, NodeIndex};
 use cargo_lock::dependency::tree::Symbols;
 use cargo_lock::{Error, Lockfile};
 use std::alloc::Global;
+use value_calls::{alike, line};
 
 /// How a tree is drawn.
 #[derive(Clone, Copy)]

@@ -1,11 +1,11 @@
 //! Lockfiles in files.
 
 use super::lockfiles::{described, printed};
-use super::{alike, line, no_call, pair};
 use cargo_lock::{Error, Lockfile, ResolveVersion};
 use std::alloc::Global;
 use std::fs;
 use std::path::Path;
+use value_calls::{alike, line, no_call, pair};
 
 /// What is asked of a file by its name.
 pub fn asked(rt: &HostRuntime, how: &[&str], name: &str) -> Result<String, Error> {

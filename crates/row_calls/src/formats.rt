@@ -1,10 +1,10 @@
 //! The formats of lockfiles.
 
 use super::lockfiles::read;
-use super::{line, no_call};
 use cargo_lock::lockfile::encoding::EncodableLockfile;
 use cargo_lock::{Error, Lockfile, ResolveVersion};
 use std::alloc::Global;
+use value_calls::{line, no_call};
 
 /// What is asked of the text or the number of a format, or of the text of a lockfile.
 pub fn asked(alloc: Global, how: &[&str], text: &str) -> Result<String, Error> {

@@ -1,10 +1,10 @@
 //! Graphs of lockfiles: nodes, edges and ends.
 
-use super::no_call;
 use cargo_lock::dependency::Tree;
 use cargo_lock::dependency::graph::{EdgeDirection, Graph, NodeIndex};
 use cargo_lock::{Dependency, Error, Lockfile};
 use std::alloc::Global;
+use value_calls::no_call;
 
 /// The tree of a lockfile. It says nothing of the tree, so that it is cheap to call.
 pub fn tree_of(alloc: Global, lockfile: &Lockfile) -> Result<Tree, Error> {

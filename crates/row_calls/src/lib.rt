@@ -1,7 +1,6 @@
 //! What a case of the rows can ask of the library, by words. Each answer is of whole lines.
 #![tactic(auto)]
 
-mod checksums;
 mod drawings;
 mod files;
 mod formats;
@@ -9,13 +8,13 @@ mod graphs;
 mod lockfiles;
 mod metadata;
 mod references;
-mod sources;
 mod tables;
 mod typed;
 
 use cargo_lock::Error;
 use std::alloc::Global;
-use std::fmt::Display;
+pub use value_calls::or_fault;
+use value_calls::{checksums, sources};
 
 /// The texts that a case is asked of: the one at hand, one beside it, and the subject, which in a
 /// row is the row's left side, else the text at hand.
@@ -59,45 +58,4 @@ pub fn wanted(alloc: Global, call: &str, text: &str) -> Result<String, Error> {
         return or_fault(alloc, tables::printed_again(alloc, text));
     }
     Ok(String::from_str(alloc, text)?)
-}
-
-/// The answer where the words are no call.
-fn no_call(alloc: Global) -> Result<String, Error> {
-    line(alloc, "there is no such call")
-}
-
-/// What is displayed, as a line. It is generic, so that a format is proved here alone.
-pub fn line<D: Display + Drop>(alloc: Global, value: D) -> Result<String, Error> {
-    Ok(format!(in alloc; "{value}\n")?)
-}
-
-/// An answer, or the text of the fault in its place.
-pub fn or_fault(alloc: Global, answer: Result<String, Error>) -> Result<String, Error> {
-    match answer {
-        Ok(text) => Ok(text),
-        Err(fault) => line(alloc, &fault),
-    }
-}
-
-/// The answer of one way, if the other way gives the same, else both.
-fn alike(
-    alloc: Global,
-    one: Result<String, Error>,
-    other: Result<String, Error>,
-) -> Result<String, Error> {
-    let one = or_fault(alloc, one)?;
-    same_as(alloc, one, other)
-}
-
-fn same_as(alloc: Global, one: String, other: Result<String, Error>) -> Result<String, Error> {
-    let other = or_fault(alloc, other)?;
-    if one == other {
-        return Ok(one);
-    }
-    line(alloc, format_args!("{one}and the other way\n{other}"))
-}
-
-/// The two sides of a bar in a row.
-fn pair(subject: &str) -> (&str, &str) {
-    subject.split_once(" | ").unwrap_or((subject, ""))
 }

@@ -5,12 +5,13 @@ mod printing;
 mod survival;
 
 use super::formats::format;
-use super::{Texts, alike, drawings, graphs, line, no_call, tables};
+use super::{Texts, drawings, graphs, tables};
 use cargo_lock::{Error, Lockfile};
 pub use description::described;
 pub use printing::printed;
 use std::alloc::Global;
 use toml::Table;
+use value_calls::{alike, line, no_call};
 
 /// What is asked of a lockfile by its text.
 pub fn asked(alloc: Global, words: &[&str], texts: Texts<'_>) -> Result<String, Error> {

@@ -1,10 +1,11 @@
 //! Checksums among the metadata.
 
+use super::Texts;
 use super::lockfiles::{around, read};
-use super::{Texts, line, no_call};
 use cargo_lock::lockfile::encoding::EncodableLockfile;
 use cargo_lock::{Checksum, Error, Lockfile, Package};
 use std::alloc::Global;
+use value_calls::{line, no_call};
 
 /// What is asked of the text at hand with the row's lines around it.
 pub fn asked(alloc: Global, how: &[&str], texts: Texts<'_>) -> Result<String, Error> {

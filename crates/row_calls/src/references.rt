@@ -1,10 +1,11 @@
 //! References of dependencies: read, resolved, shortened and compared.
 
+use super::Texts;
 use super::lockfiles::read;
-use super::{Texts, line, no_call};
 use cargo_lock::lockfile::encoding::{EncodableDependency, EncodableLockfile, EncodablePackage};
 use cargo_lock::{Dependency, Error, Lockfile, Package, ResolveVersion};
 use std::alloc::Global;
+use value_calls::{line, no_call};
 
 /// What is asked of a reference, beside the packages of the text at hand.
 pub fn asked(alloc: Global, how: &[&str], texts: Texts<'_>) -> Result<String, Error> {

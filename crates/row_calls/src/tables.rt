@@ -1,11 +1,11 @@
 //! Lockfiles as tables, and the values that stand between a lockfile and its table.
 
 use super::lockfiles::{printed, read_in};
-use super::{line, no_call};
 use cargo_lock::lockfile::encoding::EncodableLockfile;
 use cargo_lock::{Error, Lockfile};
 use std::alloc::Global;
 use toml::Table;
+use value_calls::{line, no_call};
 
 /// A table as `toml` prints it.
 pub fn table_text(alloc: Global, table: &Table) -> Result<String, Error> {

@@ -1,10 +1,10 @@
 //! Printed lockfiles.
 
 use super::super::formats::format;
-use super::super::{line, no_call};
 use cargo_lock::{Error, Lockfile};
 use std::alloc::Global;
 use test_support::is_read_as_table;
+use value_calls::{line, no_call};
 
 /// What is asked of a lockfile's text, and of the text that it was read from.
 pub fn asked(

@@ -1,10 +1,10 @@
 //! Which formats keep a lockfile, and lockfiles through formats.
 
 use super::super::formats::format;
-use super::super::{line, no_call};
 use super::described;
 use cargo_lock::{Dependency, Error, Lockfile, Package, ResolveVersion, SourceId};
 use std::alloc::Global;
+use value_calls::{line, no_call};
 
 /// Whether a lockfile survives V1, V2, V3 and V4: as it stands, where its first package also
 /// depends on itself, or where that package is from the default registry as it is made.

@@ -2,7 +2,8 @@
 
 use super::super::{line, no_call, pair};
 use super::source;
-use cargo_lock::{Error, SourceId};
+use cargo_lock_parts::error::Error;
+use cargo_lock_parts::package::SourceId;
 use std::alloc::Global;
 
 /// What is asked of the sources on the sides of a bar, or of one and the default registry.

@@ -1,9 +1,10 @@
 //! Names, checksums, and the keys and values of the metadata.
 
 use super::{alike, line, no_call, pair};
-use cargo_lock::lockfile::encoding::EncodableDependency;
-use cargo_lock::package::Name;
-use cargo_lock::{Checksum, Dependency, Error, MetadataKey, MetadataValue};
+use cargo_lock_parts::dependency::Dependency;
+use cargo_lock_parts::error::Error;
+use cargo_lock_parts::package::{Checksum, Name};
+use cargo_lock_references::{EncodableDependency, MetadataKey, MetadataValue};
 use std::alloc::Global;
 
 /// What is asked of the text of a name, or of two.

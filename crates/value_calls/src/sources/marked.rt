@@ -2,8 +2,8 @@
 
 use super::super::{line, no_call, pair};
 use super::source;
-use cargo_lock::Error;
-use cargo_lock::lockfile::encoding::EncodableSourceId;
+use cargo_lock_parts::error::Error;
+use cargo_lock_references::EncodableSourceId;
 use std::alloc::Global;
 
 /// What is asked of a marked source, or of two.

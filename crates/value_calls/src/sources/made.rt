@@ -2,8 +2,8 @@
 
 use super::super::{no_call, pair};
 use super::{registry_words_of, source, tests, text_of, url_text};
-use cargo_lock::package::GitReference;
-use cargo_lock::{Error, SourceId};
+use cargo_lock_parts::error::Error;
+use cargo_lock_parts::package::{GitReference, SourceId};
 use std::alloc::Global;
 use std::path::Path;
 use url::Url;

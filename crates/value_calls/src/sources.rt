@@ -5,9 +5,9 @@ mod marked;
 mod pairs;
 
 use super::{alike, line, no_call};
-use cargo_lock::package::source::PrettyRef;
-use cargo_lock::package::{GitReference, SourceKind};
-use cargo_lock::{Error, SourceId};
+use cargo_lock_parts::error::Error;
+use cargo_lock_parts::package::source::PrettyRef;
+use cargo_lock_parts::package::{GitReference, SourceId, SourceKind};
 use std::alloc::Global;
 
 /// What is asked of the text of a source, or of two with a bar between them.
