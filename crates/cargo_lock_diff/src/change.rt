@@ -1,11 +1,15 @@
 //! The changes that a difference tells, each as a line.
 
-ghost use Rattle.std.specs.Prelude.{◌≡◌};
+ghost use Rattle.std.specs.Prelude.{◌≡◌, ◌++◌, OnOk, map};
+ghost use Rattle.cargo_lock_diff.specs.Change.{Added, Changed, Moved, Removed, alarms, change_of};
+ghost use Rattle.cargo_lock_diff.specs.Change.{other_checksums, other_dependencies};
 ghost use Rattle.cargo_lock_diff.specs.Change as spec;
+ghost use Rattle.cargo_lock_diff.specs.Difference.{packages_at, pairs_at};
 
-use crate::dependencies::is_among;
+use crate::dependencies::{have_other_dependencies, is_among};
 use cargo_lock_parts::dependency::Dependency;
 use cargo_lock_parts::package::Package;
+use std::alloc::AllocError;
 use std::cmp::Ordering;
 use std::fmt;
 
@@ -90,6 +94,110 @@ pub fn is_alarm(old: &Package, new: &Package) -> bool
     ensures { result ≡ spec.is_alarm old.now new.now }
 {
     old.checksum.is_some() && new.checksum.is_some()
+}
+
+// Adds the pairs that are alarms.
+pub(crate) fn add_alarms<'a>(
+    all: &mut Vec<Change<'a>>,
+    pairs: &Vec<(&'a Package, &'a Package)>,
+) -> Result<(), AllocError>
+    ensures { OnOk result (map change_of all.new.items
+        ≡ map change_of all.old.items ++ alarms (pairs_at pairs.now.items)) }
+{
+    for pair in pairs {
+        if is_alarm(pair.0, pair.1) {
+            all.push(Change::Altered(pair.0, pair.1))?;
+        }
+    }
+    Ok(())
+}
+
+// Adds the pairs where a checksum came or went.
+pub(crate) fn add_other_checksums<'a>(
+    all: &mut Vec<Change<'a>>,
+    pairs: &Vec<(&'a Package, &'a Package)>,
+) -> Result<(), AllocError>
+    ensures { OnOk result (map change_of all.new.items
+        ≡ map change_of all.old.items ++ other_checksums (pairs_at pairs.now.items)) }
+{
+    for pair in pairs {
+        if !is_alarm(pair.0, pair.1) {
+            all.push(Change::Altered(pair.0, pair.1))?;
+        }
+    }
+    Ok(())
+}
+
+// Adds the pairs with other sources.
+pub(crate) fn add_moved<'a>(
+    all: &mut Vec<Change<'a>>,
+    pairs: &Vec<(&'a Package, &'a Package)>,
+) -> Result<(), AllocError>
+    ensures { OnOk result (map change_of all.new.items
+        ≡ map change_of all.old.items ++ map (λ p. Moved p.0 p.1) (pairs_at pairs.now.items)) }
+{
+    for pair in pairs {
+        all.push(Change::Moved(pair.0, pair.1))?;
+    }
+    Ok(())
+}
+
+// Adds the pairs with other versions.
+pub(crate) fn add_changed<'a>(
+    all: &mut Vec<Change<'a>>,
+    pairs: &Vec<(&'a Package, &'a Package)>,
+) -> Result<(), AllocError>
+    ensures { OnOk result (map change_of all.new.items
+        ≡ map change_of all.old.items ++ map (λ p. Changed p.0 p.1) (pairs_at pairs.now.items)) }
+{
+    for pair in pairs {
+        all.push(Change::Changed(pair.0, pair.1))?;
+    }
+    Ok(())
+}
+
+// Adds packages that went.
+pub(crate) fn add_removed<'a>(
+    all: &mut Vec<Change<'a>>,
+    packages: &Vec<&'a Package>,
+) -> Result<(), AllocError>
+    ensures { OnOk result (map change_of all.new.items
+        ≡ map change_of all.old.items ++ map Removed (packages_at packages.now.items)) }
+{
+    for package in packages {
+        all.push(Change::Removed(package))?;
+    }
+    Ok(())
+}
+
+// Adds packages that came.
+pub(crate) fn add_added<'a>(
+    all: &mut Vec<Change<'a>>,
+    packages: &Vec<&'a Package>,
+) -> Result<(), AllocError>
+    ensures { OnOk result (map change_of all.new.items
+        ≡ map change_of all.old.items ++ map Added (packages_at packages.now.items)) }
+{
+    for package in packages {
+        all.push(Change::Added(package))?;
+    }
+    Ok(())
+}
+
+// Adds the pairs with other dependencies.
+pub(crate) fn add_other_dependencies<'a>(
+    all: &mut Vec<Change<'a>>,
+    pairs: &Vec<(&'a Package, &'a Package)>,
+) -> Result<(), AllocError>
+    ensures { OnOk result (map change_of all.new.items
+        ≡ map change_of all.old.items ++ other_dependencies (pairs_at pairs.now.items)) }
+{
+    for pair in pairs {
+        if have_other_dependencies(pair.0, pair.1) {
+            all.push(Change::OtherDependencies(pair.0, pair.1))?;
+        }
+    }
+    Ok(())
 }
 
 // The sign of a pair with other checksums.

@@ -4,7 +4,6 @@ ghost use Rattle.std.specs.Prelude.{◌≡◌, IfOk, map};
 ghost use Rattle.cargo_lock_diff.specs.Difference.{IsDifference, packages_at};
 
 use crate::change::{self, Change};
-use crate::dependencies::have_other_dependencies;
 use crate::likeness::Likeness;
 use crate::matching::pair_off;
 use cargo_lock_parts::package::Package;
@@ -117,30 +116,14 @@ impl<'a> Difference<'a> {
     pub fn changes(&self, alloc: Global) -> Result<Vec<Change<'a>>, AllocError>
         ensures { IfOk result (λ all. map change_of all.items ≡ changes_of self.now) }
     {
-        let alarms = self
-            .altered
-            .iter()
-            .filter(|pair| change::is_alarm(pair.0, pair.1))
-            .map(|pair| Change::Altered(pair.0, pair.1));
-        let other_checksums = self
-            .altered
-            .iter()
-            .filter(|pair| !change::is_alarm(pair.0, pair.1))
-            .map(|pair| Change::Altered(pair.0, pair.1));
-        let moved = self.moved.iter().map(|pair| Change::Moved(pair.0, pair.1));
-        let changed = self
-            .changed
-            .iter()
-            .map(|pair| Change::Changed(pair.0, pair.1));
-        let removed = self.removed.iter().map(|package| Change::Removed(package));
-        let added = self.added.iter().map(|package| Change::Added(package));
-        alarms
-            .chain(other_checksums)
-            .chain(moved)
-            .chain(changed)
-            .chain(removed)
-            .chain(added)
-            .collect(alloc)
+        let mut all = Vec::new(alloc);
+        change::add_alarms(&mut all, &self.altered)?;
+        change::add_other_checksums(&mut all, &self.altered)?;
+        change::add_moved(&mut all, &self.moved)?;
+        change::add_changed(&mut all, &self.changed)?;
+        change::add_removed(&mut all, &self.removed)?;
+        change::add_added(&mut all, &self.added)?;
+        Ok(all)
     }
 
     /// The pairs of which one package has a dependency that the other has not, each as
@@ -149,14 +132,12 @@ impl<'a> Difference<'a> {
     pub fn dependency_changes(&self, alloc: Global) -> Result<Vec<Change<'a>>, AllocError>
         ensures { IfOk result (λ all. map change_of all.items ≡ dependency_changes_of self.now) }
     {
-        self.kept
-            .iter()
-            .chain(&self.altered)
-            .chain(&self.moved)
-            .chain(&self.changed)
-            .filter(|pair| have_other_dependencies(pair.0, pair.1))
-            .map(|pair| Change::OtherDependencies(pair.0, pair.1))
-            .collect(alloc)
+        let mut all = Vec::new(alloc);
+        change::add_other_dependencies(&mut all, &self.kept)?;
+        change::add_other_dependencies(&mut all, &self.altered)?;
+        change::add_other_dependencies(&mut all, &self.moved)?;
+        change::add_other_dependencies(&mut all, &self.changed)?;
+        Ok(all)
     }
 
     /// The changes, and with `dependencies` then the dependency changes. Fails when out of memory.
