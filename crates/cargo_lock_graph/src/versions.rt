@@ -1,6 +1,6 @@
 //! The packages of each name and version.
 
-ghost use Rattle.std.specs.Prelude.{◌≡◌, ◌<◌, IfOk, Some, length, slice_get};
+ghost use Rattle.std.specs.Prelude.{◌≡◌, IfOk, None, Some, length, slice_get};
 ghost use Rattle.cargo_lock_parts.specs.Identity.{HasNameAndVersion, PackageData, identity_of};
 ghost use Rattle.cargo_lock_graph.specs.Targets.{HoldsOf, IsLastBelow, rank_between};
 
@@ -75,24 +75,24 @@ impl<'a> Versions<'a> {
     }
 
     /// The last place before this one of the packages with the name and the version of the package
-    /// here. `None` where this is the first of them.
+    /// here. `None` where this is the first of them, and where no package is here.
     pub fn before(&self, place: usize) -> Option<usize>
-        requires { place < length self.now }
-        ensures { (p : PackageData) → slice_get self.now place ≡ Some p
+        ensures here { (p : PackageData) → slice_get self.now place ≡ Some p
             → IsLastBelow (HoldsOf (HasNameAndVersion (identity_of p)) self.now) place result }
+        ensures beyond { slice_get self.now place ≡ None → result ≡ None }
     {
-        self.earlier[place]
+        *self.earlier.get(place)?
     }
 
     /// How well the source of the package at a place matches that of a dependency: the less the
-    /// better. An absent one matches an absent one alone, and best. `None` where they do not match.
+    /// better. An absent one matches an absent one alone, and best. `None` where they do not match,
+    /// and where no package is at the place.
     pub fn rank(&self, dependency: &Dependency, place: usize) -> Option<u8>
-        requires { place < length self.now }
-        ensures { (p : PackageData) → slice_get self.now place ≡ Some p
+        ensures here { (p : PackageData) → slice_get self.now place ≡ Some p
             → result ≡ rank_between dependency.now.source p.source }
+        ensures beyond { slice_get self.now place ≡ None → result ≡ None }
     {
-        let packages = self.packages;
-        let package = &packages[place];
+        let package = self.packages.get(place)?;
         rank_between(&dependency.source, &package.source)
     }
 }

@@ -29,13 +29,13 @@ loop-next-preserved c =
     let low = here.0 in (
       place,
       omega (arith, low, within),
-      find-next packages d p place c.before-next.result here.1.2 (c.before-next.ensures p at),
+      find-next packages d p place c.before-next.result here.1.2 (c.before-next.ensures.here p at),
       elim c.match-rank.branch [
         | in-Some-rank+in_ok-push w ↦ rw w.matches-is
             (subst (λ (ms : List Match). AreMatchesFrom packages d place ms) (sym w.in_ok-push.ensures.items)
-            (matches-more packages d bound place w.in-Some-rank.rank p c.loop-next.matches.items here at (sym (c.rank.ensures p at) ∙ w.in-Some-rank.is) so_far))
+            (matches-more packages d bound place w.in-Some-rank.rank p c.loop-next.matches.items here at (sym (c.rank.ensures.here p at) ∙ w.in-Some-rank.is) so_far))
         | in_default-rank w ↦ rw w.matches-is
-            (matches-same packages d bound place p c.loop-next.matches.items here at (sym (c.rank.ensures p at) ∙ w.in_default-rank.is) so_far)
+            (matches-same packages d bound place p c.loop-next.matches.items here at (sym (c.rank.ensures.here p at) ∙ w.in_default-rank.is) so_far)
       ],
     )
 

@@ -19,8 +19,8 @@ loop-next-preserved c =
     let low = here.0 in (
       c.in-Some.place,
       omega (arith, low, within),
-      find-next packages d p c.in-Some.place c.before-next.result here.1.2 (c.before-next.ensures p here.1.1),
-      find-better_candidate packages d bound c.in-Some.place p c.loop-next.best c.better_candidate-best.result c.rank-rank.result here here.1.1 here.1.2 so_far (c.rank-rank.ensures p here.1.1) c.better_candidate-best.ensures,
+      find-next packages d p c.in-Some.place c.before-next.result here.1.2 (c.before-next.ensures.here p here.1.1),
+      find-better_candidate packages d bound c.in-Some.place p c.loop-next.best c.better_candidate-best.result c.rank-rank.result here here.1.1 here.1.2 so_far (c.rank-rank.ensures.here p here.1.1) c.better_candidate-best.ensures,
     )
 
 pub loop-next-smaller : goal.loop-next-smaller
@@ -31,7 +31,7 @@ loop-next-smaller c =
     let here : IsLastBelow (HoldsOf (HasNameAndVersion d) packages) bound (Some c.in-Some.place) = subst (λ o. IsLastBelow (HoldsOf (HasNameAndVersion d) packages) bound o) c.in-Some.is is in
     let p : PackageData = here.1.0 in
     find-smaller (HoldsOf (HasNameAndVersion d) packages) c.in-Some.place c.loop-next.next c.before-next.result c.in-Some.is
-    (find-next packages d p c.in-Some.place c.before-next.result here.1.2 (c.before-next.ensures p here.1.1))
+    (find-next packages d p c.in-Some.place c.before-next.result here.1.2 (c.before-next.ensures.here p here.1.1))
 
 pub returns : goal.returns
 returns c =
