@@ -7,7 +7,6 @@ ghost use Rattle.cargo_lock.specs.Same.{is_same_metadata, is_same_pair};
 
 pub mod encoding;
 mod long_texts;
-mod parts;
 mod reading;
 mod serialization;
 mod survival;

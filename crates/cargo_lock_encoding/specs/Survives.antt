@@ -45,11 +45,6 @@ abbrev pub SurvivesAmong : ResolveVersion → List Identity → PackageData → 
 SurvivesAmong format list p =
     PackageSurvives format (written_reference format list) (reading_list format list) p
 
--- a package among these, whose checksum stands with it
-abbrev pub SurvivesWithChecksum : ResolveVersion → List Identity → PackageData → Type 0
-SurvivesWithChecksum format list p =
-    SurvivesAmong format list p × IfSome p.checksum DigestReadsBack
-
 -- the checksum is found again: in V1 in the written metadata
 abbrev pub ChecksumSurvives : ResolveVersion → Texts → PackageData → Type 0
 ChecksumSurvives V1 m p = checksum_in m p.name p.version ≡ p.checksum

@@ -9,7 +9,7 @@ ghost use Rattle.cargo_lock_references.specs.Records.{is_escaped};
 ghost use Rattle.cargo_lock_encoding.specs.Table.{encoded_of, encoded_package_of, encoded_root};
 ghost use Rattle.cargo_lock_encoding.specs.Table.{written_checksum, written_version};
 
-use crate::values::{LockfileRef, Values};
+use crate::values::{EncodableLockfile, LockfileRef};
 use cargo_lock_parts::dependency::Dependency;
 use cargo_lock_parts::error::Result;
 use cargo_lock_parts::package::{Checksum, Package};
@@ -25,14 +25,14 @@ impl LockfileRef<'_> {
     /// without the words that the packages make needless, except in V1. The references of the root
     /// and all replacements are in full. The one error is `Memory`.
     #[tactic(auto, unfolding(crate::specs::Table::encoded_of))]
-    pub fn to_values(&self, alloc: Global) -> Result<Values>
+    pub fn to_encodable(&self, alloc: Global) -> Result<EncodableLockfile>
         ensures ok { IfOk result (λ e. e ≡ encoded_of self.now) }
         ensures err { IsOkUnless result Memory }
     {
         let format = self.version;
-        Ok(Values {
+        Ok(EncodableLockfile {
             version: written_version(format),
-            packages: all_encoded_packages(alloc, format, self.packages)?,
+            package: all_encoded_packages(alloc, format, self.packages)?,
             root: root_of(alloc, format, self.root)?,
             metadata: metadata_of(alloc, format, self.metadata, self.packages)?,
             patch: self.patch.clone()?,
@@ -67,23 +67,10 @@ fn all_encoded_packages(
     let packages = Indexed::of(alloc, list)?;
     let mut listed = Vec::with_capacity(alloc, list.len())?;
     for package in list {
-        let encoded = written_copy(alloc, format, &packages, package)?;
-        listed.push(encoded)?;
+        let encoded = encoded_package_of(alloc, format, &packages, package)?;
+        listed.push(encoded.to_owned(alloc)?)?;
     }
     Ok(listed)
-}
-
-fn written_copy<'a>(
-    alloc: Global,
-    format: ResolveVersion,
-    list: &Indexed<'a, Package>,
-    package: &'a Package,
-) -> std::result::Result<EncodablePackage, AllocError>
-    ensures { IfOk
-        result (λ e. e ≡ encoded_package_of format (map identity_of list.now) «package».now) }
-{
-    let encoded = encoded_package_of(alloc, format, list, package)?;
-    encoded.to_owned(alloc)
 }
 
 // A package among those of the lockfile, as it is written, with its parts borrowed.
@@ -186,12 +173,20 @@ fn shortest_reference<'a>(
     let name = &dependency.name;
     let version = &dependency.version;
     if list.is_name_unique(name) {
-        EncodableDependencyRef::of_name(name)
-    } else if list.is_version_unique(name, version) {
-        EncodableDependencyRef::of_name_and_version(name, version)
-    } else {
-        EncodableDependencyRef::from_dependency(dependency, format)
+        return EncodableDependencyRef {
+            name,
+            version: None,
+            source: None,
+        };
     }
+    if list.is_version_unique(name, version) {
+        return EncodableDependencyRef {
+            name,
+            version: Some(version),
+            source: None,
+        };
+    }
+    EncodableDependencyRef::from_dependency(dependency, format)
 }
 
 fn written_references<'a>(

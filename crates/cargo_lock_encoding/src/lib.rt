@@ -14,4 +14,5 @@ mod table;
 mod text;
 mod values;
 
-pub use crate::values::{LockfileParts, LockfileRef, Values, ValuesRef};
+pub use crate::meaning::{Resolved, resolved_values};
+pub use crate::values::{EncodableLockfile, LockfileRef};

@@ -4,15 +4,14 @@ ghost use Rattle.std.specs.Prelude.{◌≡◌, [], map, option_map};
 ghost use Rattle.cargo_lock_parts.specs.Checksum.{digest_of};
 ghost use Rattle.cargo_lock_parts.specs.Error.{Reads};
 ghost use Rattle.cargo_lock_references.specs.declared.version.ResolveVersion.TheVariants.{V1};
-ghost use Rattle.cargo_lock_encoding.specs.Meaning.{all_packages, completed_lockfile};
-ghost use Rattle.cargo_lock_encoding.specs.Meaning.{listed_package, lockfile_of, package_of};
+ghost use Rattle.cargo_lock_encoding.specs.Meaning.{all_packages, listed_package, package_of};
 ghost use Rattle.cargo_lock_encoding.specs.Meaning.{resolved_values, root_package};
 ghost use Rattle.cargo_lock_encoding.specs.Lockfiles.{format_of};
 ghost use Rattle.cargo_lock_references.specs.Optional.{map_all, map_some};
 ghost use Rattle.cargo_lock_references.specs.Records.{encoded_identity, texts_of};
 ghost use Rattle.cargo_lock_references.specs.ResolutionSearch.{resolution_of};
 
-use crate::values::{LockfileParts, Values};
+use crate::values::EncodableLockfile;
 use cargo_lock_parts::dependency::Dependency;
 use cargo_lock_parts::error::Result;
 use cargo_lock_parts::package::{Checksum, Package};
@@ -25,69 +24,17 @@ use cargo_lock_references::{EncodableDependency, EncodablePackage, Metadata, Res
 use std::alloc::Global;
 use std::marker::Model;
 
-impl Values {
-    /// The lockfile of these values: in its format, with each reference looked up. In V1 the
-    /// references are in full, and the checksums are those that the metadata holds. From V2 on the
-    /// references of packages are looked up among the packages. Replacements and the references of
-    /// the root are in full in every format.
-    ///
-    /// `Parse` says that the values have no format, or that a reference stands for nothing.
-    #[tactic(auto, unfolding(crate::specs::Meaning::lockfile_of))]
-    pub fn resolve(self, alloc: Global) -> Result<LockfileParts>
-        ensures { Reads (λ l. l) result (lockfile_of self) }
-    {
-        let found = self.resolved_values(alloc)?;
-        Ok(completed_lockfile(self, found))
-    }
+/// What is found out about the values of a table.
+#[derive(Debug, Drop)]
+pub struct Resolved {
+    /// The format.
+    pub version: ResolveVersion,
 
-    // The format, the packages and the root.
-    fn resolved_values(&self, alloc: Global) -> Result<Resolved>
-        ensures { Reads (λ r. r) result (resolved_values self.now) }
-    {
-        let version = self.format(alloc)?;
-        let packages = self.packages_in(alloc, version)?;
-        let root = self.root_package(alloc)?;
-        Ok(Resolved {
-            version,
-            packages,
-            root,
-        })
-    }
+    /// The packages.
+    pub packages: Vec<Package>,
 
-    fn format(&self, alloc: Global) -> Result<ResolveVersion>
-        ensures { Reads (λ v. v) result (format_of self.now) }
-    {
-        format_of_values(
-            alloc,
-            self.version,
-            self.packages.as_slice(),
-            &self.metadata,
-        )
-    }
-
-    fn packages_in(&self, alloc: Global, format: ResolveVersion) -> Result<Vec<Package>>
-        ensures { Reads
-            (λ v. v.items) result (all_packages format self.now.metadata self.now.packages) }
-    {
-        all_packages(alloc, format, &self.metadata, self.packages.as_slice())
-    }
-
-    fn root_package(&self, alloc: Global) -> Result<Option<Package>>
-        ensures { Reads (λ o. o) result (map_some root_package self.now.root) }
-    {
-        match &self.root {
-            Some(encoded) => Ok(Some(root_package(alloc, encoded)?)),
-            None => Ok(None),
-        }
-    }
-}
-
-// What is found out about values.
-#[derive(Drop)]
-struct Resolved {
-    version: ResolveVersion,
-    packages: Vec<Package>,
-    root: Option<Package>,
+    /// The root package.
+    pub root: Option<Package>,
 }
 
 impl Model for Resolved {
@@ -102,28 +49,46 @@ impl Model for Resolved {
     } };
 }
 
-// The lockfile of what was found out, with the other values kept.
-fn completed_lockfile(values: Values, found: Resolved) -> LockfileParts
-    ensures { result ≡ completed_lockfile values found }
+/// What is found out about values: their format, and the packages and the root with each reference
+/// looked up. In V1 the references are in full, and the checksums are those that the metadata holds.
+/// From V2 on the references of packages are looked up among the packages. Replacements and the
+/// references of the root are in full in every format.
+///
+/// `Parse` says that the values have no format, or that a reference stands for nothing.
+pub fn resolved_values(alloc: Global, values: &EncodableLockfile) -> Result<Resolved>
+    ensures { Reads (λ r. r) result (resolved_values values.now) }
 {
-    let Values {
-        version: _,
-        packages: _,
-        root: _,
-        metadata,
-        patch,
-    } = values;
-    let Resolved {
+    let version = values.format(alloc)?;
+    let packages = values.packages_in(alloc, version)?;
+    let root = values.root_package(alloc)?;
+    Ok(Resolved {
         version,
         packages,
         root,
-    } = found;
-    LockfileParts {
-        version,
-        packages,
-        root,
-        metadata,
-        patch,
+    })
+}
+
+impl EncodableLockfile {
+    fn format(&self, alloc: Global) -> Result<ResolveVersion>
+        ensures { Reads (λ v. v) result (format_of self.now) }
+    {
+        format_of_values(alloc, self.version, self.package.as_slice(), &self.metadata)
+    }
+
+    fn packages_in(&self, alloc: Global, format: ResolveVersion) -> Result<Vec<Package>>
+        ensures { Reads
+            (λ v. v.items) result (all_packages format self.now.metadata self.now.packages) }
+    {
+        all_packages(alloc, format, &self.metadata, self.package.as_slice())
+    }
+
+    fn root_package(&self, alloc: Global) -> Result<Option<Package>>
+        ensures { Reads (λ o. o) result (map_some root_package self.now.root) }
+    {
+        match &self.root {
+            Some(encoded) => Ok(Some(root_package(alloc, encoded)?)),
+            None => Ok(None),
+        }
     }
 }
 

@@ -23,7 +23,7 @@ ghost use Rattle.cargo_lock_encoding.specs.TableReading.{required_list, required
 ghost use Rattle.cargo_lock_encoding.specs.TableReading.{text_in, texts_at};
 
 use crate::read_sources::ReadSources;
-use crate::values::Values;
+use crate::values::EncodableLockfile;
 use cargo_lock_parts::dependency::Dependency;
 use cargo_lock_parts::error::{Error, Result};
 use cargo_lock_parts::package::{Checksum, Name, SourceId, Version};
@@ -36,11 +36,11 @@ use std::alloc::Global;
 use std::marker::Model;
 use toml::{Table, Value};
 
-impl Values {
+impl EncodableLockfile {
     /// Reads the values of a table. `Parse` says what is refused, the first in the order of the
     /// keys here.
     #[tactic(auto, unfolding(crate::specs::TableReading::encoded_at))]
-    pub fn read(alloc: Global, table: &Table) -> Result<Values>
+    pub fn from_table(alloc: Global, table: &Table) -> Result<EncodableLockfile>
         ensures { ReadsUrls (λ e. e) result (encoded_at (table_view table.now)) }
     {
         let version = number_at(alloc, table, "version")?;
@@ -48,9 +48,9 @@ impl Values {
         let metadata = metadata_at(alloc, table, "metadata")?;
         let patch = patch_at_key(alloc, table, "patch")?;
         let AllEncodedPackages { listed, root } = all;
-        Ok(Values {
+        Ok(EncodableLockfile {
             version,
-            packages: listed,
+            package: listed,
             root,
             metadata,
             patch,

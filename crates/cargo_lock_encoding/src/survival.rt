@@ -1,6 +1,8 @@
 //! Whether a lockfile survives a format.
 
-ghost use Rattle.std.specs.Prelude.{◌≡◌, ◌↔◌, IfOk, IfSome, IsOkUnless, IsTrue, map, option_map};
+ghost use Rattle.std.specs.Prelude.{◌≡◌, ◌↔◌, Any, Err, IfErr, IfOk, IfSome, IsOkUnless, IsTrue, Ok};
+ghost use Rattle.std.specs.Prelude.{MatchBool, false, map, option_map, true};
+ghost use Rattle.std.specs.Fn.{FnReturnsAt};
 ghost use Rattle.std.specs.List.{AllByRecursion};
 ghost use Rattle.cargo_lock_parts.specs.declared.error.Error.TheVariants.{Memory};
 ghost use Rattle.cargo_lock_parts.specs.Checksum.{digest_of};
@@ -13,7 +15,6 @@ ghost use Rattle.cargo_lock_encoding.specs.Survives.{ChecksumSurvives, FormatSur
 ghost use Rattle.cargo_lock_encoding.specs.Survives.{FullReferenceSurvives, ListedSurvives};
 ghost use Rattle.cargo_lock_encoding.specs.Survives.{OwnPartsSurvive, PatchSurvives, RootSurvives};
 ghost use Rattle.cargo_lock_encoding.specs.Survives.{Survives, SurvivesAmong};
-ghost use Rattle.cargo_lock_encoding.specs.Survives.{SurvivesWithChecksum};
 ghost use Rattle.cargo_lock_encoding.specs.Survives.{WrittenReferenceSurvives};
 
 use crate::encode::written_reference;
@@ -74,12 +75,7 @@ fn patches_survive(alloc: Global, format: ResolveVersion, patches: &[Dependency]
         ↔ AllByRecursion (PatchSurvives format) patches.now) }
     ensures err { IsOkUnless result Memory }
 {
-    for patch in patches {
-        if !patch_survives(alloc, format, patch)? {
-            return Ok(false);
-        }
-    }
-    Ok(true)
+    all_survive(patches, |patch| patch_survives(alloc, format, patch))
 }
 
 fn patch_survives(alloc: Global, format: ResolveVersion, patch: &Dependency) -> Result<bool>
@@ -126,121 +122,48 @@ fn packages_survive(
         list.now) }
     ensures err { IsOkUnless result Memory }
 {
-    match format {
-        ResolveVersion::V1 => first_format_survives(alloc, metadata, list),
-        ResolveVersion::V2 | ResolveVersion::V3 | ResolveVersion::V4 => {
-            let survives = later_format_survives(alloc, format, list)?;
-            Ok(survives)
-        }
-    }
-}
-
-// In V1 the checksums are found again in the written metadata.
-fn first_format_survives(alloc: Global, metadata: &Metadata, list: &[Package]) -> Result<bool>
-    ensures ok { IfOk result (λ b. IsTrue b
-        ↔ AllByRecursion
-        (ListedSurvives V1 (map identity_of list.now) (texts_of metadata.now.entries)) list.now) }
-    ensures err { IsOkUnless result Memory }
-{
     let packages = Indexed::of(alloc, list)?;
     let read = ReadMetadata::of(alloc, metadata)?;
-    let survive = first_packages_survive(alloc, &read, &packages, list)?;
+    let survive = each_survives(alloc, format, &read, &packages, list)?;
     Ok(survive)
 }
 
-fn first_packages_survive<'a>(
+fn each_survives<'a>(
     alloc: Global,
+    format: ResolveVersion,
     metadata: &ReadMetadata<'_>,
     packages: &Indexed<'a, Package>,
     list: &'a [Package],
 ) -> Result<bool>
     ensures ok { IfOk result (λ b. IsTrue b
-        ↔ AllByRecursion (ListedSurvives V1 (map identity_of packages.now) metadata.now) list.now) }
+        ↔ AllByRecursion
+        (ListedSurvives format (map identity_of packages.now) metadata.now) list.now) }
     ensures err { IsOkUnless result Memory }
 {
     for package in list {
-        if !first_package_survives(alloc, metadata, packages, package)? {
+        if !package_survives(alloc, format, metadata, packages, package)? {
             return Ok(false);
         }
     }
     Ok(true)
 }
 
-fn first_package_survives<'a>(
-    alloc: Global,
-    metadata: &ReadMetadata<'_>,
-    list: &Indexed<'a, Package>,
-    package: &'a Package,
-) -> Result<bool>
-    ensures ok { IfOk result
-        (λ b. IsTrue b ↔ ListedSurvives V1 (map identity_of list.now) metadata.now «package».now) }
-    ensures err { IsOkUnless result Memory }
-{
-    Ok(
-        package_survives(alloc, ResolveVersion::V1, list, package)?
-            && checksum_survives(metadata, package)?,
-    )
-}
-
-// From V2 on every checksum survives.
-fn later_format_survives(alloc: Global, format: ResolveVersion, list: &[Package]) -> Result<bool>
-    ensures ok { IfOk result (λ b. IsTrue b
-        ↔ AllByRecursion
-        (SurvivesWithChecksum format (map identity_of list.now)) list.now) }
-    ensures err { IsOkUnless result Memory }
-{
-    let packages = Indexed::of(alloc, list)?;
-    let survive = later_packages_survive(alloc, format, &packages, list)?;
-    Ok(survive)
-}
-
-fn later_packages_survive<'a>(
-    alloc: Global,
-    format: ResolveVersion,
-    packages: &Indexed<'a, Package>,
-    list: &'a [Package],
-) -> Result<bool>
-    ensures ok { IfOk result (λ b. IsTrue b
-        ↔ AllByRecursion
-        (SurvivesWithChecksum format (map identity_of packages.now)) list.now) }
-    ensures err { IsOkUnless result Memory }
-{
-    for package in list {
-        if !later_package_survives(alloc, format, packages, package)? {
-            return Ok(false);
-        }
-    }
-    Ok(true)
-}
-
-fn later_package_survives<'a>(
-    alloc: Global,
-    format: ResolveVersion,
-    list: &Indexed<'a, Package>,
-    package: &'a Package,
-) -> Result<bool>
-    ensures ok { IfOk result (λ b. IsTrue b
-        ↔ SurvivesWithChecksum format (map identity_of list.now) «package».now) }
-    ensures err { IsOkUnless result Memory }
-{
-    digest_reads_back(&package.checksum);
-    package_survives(alloc, format, list, package)
-}
-
-// Whether the parts of a package and its references survive.
+// Whether the parts of a package, its references and its checksum survive.
 fn package_survives<'a>(
     alloc: Global,
     format: ResolveVersion,
-    list: &Indexed<'a, Package>,
+    metadata: &ReadMetadata<'_>,
+    packages: &Indexed<'a, Package>,
     package: &'a Package,
 ) -> Result<bool>
-    ensures ok { IfOk result
-        (λ b. IsTrue b ↔ SurvivesAmong format (map identity_of list.now) «package».now) }
+    ensures ok { IfOk result (λ b. IsTrue b
+        ↔ ListedSurvives format (map identity_of packages.now) metadata.now «package».now) }
     ensures err { IsOkUnless result Memory }
 {
     Ok(
         own_parts_survive(alloc, format, package)?
-            && references_survive(alloc, format, list, package.dependencies.as_slice())?,
+            && references_survive(alloc, format, packages, package.dependencies.as_slice())?
+            && checksum_survives(format, metadata, package)?,
     )
 }
 
@@ -274,8 +197,26 @@ fn replace_survives(
 
 // ---- checksums
 
-// Whether the checksum is found again in the written metadata.
-fn checksum_survives(metadata: &ReadMetadata<'_>, package: &Package) -> Result<bool>
+// Whether the checksum is found again: in V1 in the written metadata. From V2 on each is.
+fn checksum_survives(
+    format: ResolveVersion,
+    metadata: &ReadMetadata<'_>,
+    package: &Package,
+) -> Result<bool>
+    ensures ok { IfOk result (λ b. IsTrue b ↔ ChecksumSurvives format metadata.now «package».now) }
+    ensures err { IsOkUnless result Memory }
+{
+    match format {
+        ResolveVersion::V1 => is_found(metadata, package),
+        ResolveVersion::V2 | ResolveVersion::V3 | ResolveVersion::V4 => {
+            digest_reads_back(&package.checksum);
+            Ok(true)
+        }
+    }
+}
+
+// Whether the metadata holds the checksum of the package.
+fn is_found(metadata: &ReadMetadata<'_>, package: &Package) -> Result<bool>
     ensures ok { IfOk result (λ b. IsTrue b ↔ ChecksumSurvives V1 metadata.now «package».now) }
     ensures err { IsOkUnless result Memory }
 {
@@ -374,12 +315,10 @@ fn full_references_survive(
         ↔ AllByRecursion (FullReferenceSurvives format) dependencies.now) }
     ensures err { IsOkUnless result Memory }
 {
-    for dependency in dependencies {
-        if !full_reference_survives(alloc, format, dependency)? {
-            return Ok(false);
-        }
-    }
-    Ok(true)
+    all_survive(
+        dependencies,
+        |dependency| full_reference_survives(alloc, format, dependency),
+    )
 }
 
 fn full_reference_survives(
@@ -394,4 +333,23 @@ fn full_reference_survives(
     let reference = EncodableDependencyRef::from_dependency(dependency, format);
     let survives = reference_survives_alone(alloc, &reference, dependency)?;
     Ok(survives)
+}
+
+// ---- lists
+
+// Whether each of some items survives, by what `survives` answers of it. The first fault is answered.
+fn all_survive<'a, T, F: Fn(&'a T) -> Result<bool>>(items: &'a [T], survives: F) -> Result<bool>
+    requires { F.IsAlwaysCallable survives }
+    ensures ok { IfOk result (λ b. MatchBool b
+        (AllByRecursion (λ item. FnReturnsAt F.Fn survives item (Ok true)) items.now)
+        (Any (λ item. FnReturnsAt F.Fn survives item (Ok false)) items.now)) }
+    ensures err { IfErr result
+        (λ e. Any (λ item. FnReturnsAt F.Fn survives item (Err e)) items.now) }
+{
+    for item in items {
+        if !survives(item)? {
+            return Ok(false);
+        }
+    }
+    Ok(true)
 }

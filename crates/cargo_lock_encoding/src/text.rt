@@ -26,7 +26,7 @@ ghost use Rattle.cargo_lock_encoding.specs.Text.{short_escape, source_line, vers
 
 use crate::encode::{encoded_package_of, written_version};
 use crate::table::is_escaped_number;
-use crate::values::{LockfileRef, ValuesRef};
+use crate::values::{EncodableLockfile, LockfileRef};
 use cargo_lock_parts::dependency::Dependency;
 use cargo_lock_parts::error::Result;
 use cargo_lock_parts::package::source::SourceIdAsUrl;
@@ -470,7 +470,7 @@ impl LockfileRef<'_> {
     }
 }
 
-impl ValuesRef<'_> {
+impl EncodableLockfile {
     /// The text of the lockfile, as Cargo writes it: its packages, the patches that no package uses
     /// and its metadata, and its number from the third format on. The sources of patches are
     /// escaped where the number is 4. The root is not written. The one error is `Memory`.
@@ -479,19 +479,19 @@ impl ValuesRef<'_> {
         ensures err { IsOkUnless result Memory }
     {
         let mut out = String::new(alloc);
-        self.put(alloc, &mut out)?;
+        self.put_lines(alloc, &mut out)?;
         Ok(out)
     }
 
     // All lines of the lockfile.
-    fn put(&self, alloc: Global, out: &mut String) -> Put
+    fn put_lines(&self, alloc: Global, out: &mut String) -> Put
         ensures { AddsLines result out.old out.new (encoded_lines self.now) }
     {
         put_comments(out)?;
         put_format(alloc, out, &self.version)?;
-        put_packages(alloc, out, self.packages)?;
-        put_patches(alloc, out, self.patch, is_escaped_number(&self.version))?;
-        put_metadata(out, self.metadata)?;
+        put_packages(alloc, out, self.package.as_slice())?;
+        put_patches(alloc, out, &self.patch, is_escaped_number(&self.version))?;
+        put_metadata(out, &self.metadata)?;
         Ok(())
     }
 }

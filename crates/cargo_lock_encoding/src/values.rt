@@ -1,19 +1,28 @@
-//! A lockfile, and the values of its table, as they are passed between this crate and the one
-//! above.
+//! The values of a lockfile's table, and the parts of a lockfile, as the crate above passes them.
 
-use cargo_lock_parts::package::Package;
+ghost use Rattle.std.specs.Prelude.{◌≡◌, IfOk, IsOkUnless, option_map};
+ghost use Rattle.cargo_lock_parts.specs.declared.error.Error.TheVariants.{Memory};
+ghost use Rattle.cargo_lock_parts.specs.Checksum.{digest_of};
+ghost use Rattle.cargo_lock_references.specs.LeastKey.{IsFoundAtLeastKey};
+ghost use Rattle.cargo_lock_references.specs.Metadata.{checksum_in};
+
+use cargo_lock_parts::error::Result;
+use cargo_lock_parts::package::{Checksum, Package};
 use cargo_lock_parts::patch::Patch;
+use cargo_lock_references::checksums::find_checksum;
 use cargo_lock_references::{EncodablePackage, Metadata, ResolveVersion};
+use std::alloc::Global;
 use std::marker::Model;
 
-/// The values of a lockfile's table: its references are not looked up yet.
-#[derive(Drop)]
-pub struct Values {
+/// A lockfile as its table has it: with its references not looked up yet, and with the number of
+/// the format.
+#[derive(Debug, Drop)]
+pub struct EncodableLockfile {
     /// The number under `version`, where there is one.
     pub version: Option<i64>,
 
     /// The packages.
-    pub packages: Vec<EncodablePackage>,
+    pub package: Vec<EncodablePackage>,
 
     /// The root package, which old lockfiles have apart from the others.
     pub root: Option<EncodablePackage>,
@@ -25,7 +34,7 @@ pub struct Values {
     pub patch: Patch,
 }
 
-impl Model for Values {
+impl Model for EncodableLockfile {
     ghost use Rattle.std.specs.Coded.{codes};
     ghost use Rattle.cargo_lock_references.specs.Records.{texts_code, texts_of};
     ghost use Rattle.cargo_lock_encoding.specs.Lockfiles.{EncodedData};
@@ -34,90 +43,32 @@ impl Model for Values {
 
     ghost coded = { Prim.hlevel (codes, texts_code) };
 
-    ghost view = { λ v. record {
-      version = v.version;
-      packages = v.packages.items;
-      root = v.root;
-      metadata = texts_of v.metadata.entries;
-      patch = v.patch;
+    ghost view = { λ e. record {
+      version = e.version;
+      packages = e.«package».items;
+      root = e.root;
+      metadata = texts_of e.metadata.entries;
+      patch = e.patch;
     } };
 }
 
-/// The values of a lockfile's table, borrowed.
-#[derive(Drop)]
-pub struct ValuesRef<'a> {
-    /// The number under `version`, where there is one.
-    pub version: Option<i64>,
-
-    /// The packages.
-    pub packages: &'a [EncodablePackage],
-
-    /// The root package, which old lockfiles have apart from the others.
-    pub root: &'a Option<EncodablePackage>,
-
-    /// The metadata.
-    pub metadata: &'a Metadata,
-
-    /// The patches that no package uses.
-    pub patch: &'a Patch,
+impl EncodableLockfile {
+    /// The checksum that the metadata holds for a package: the value at the first key, in byte
+    /// order, that reads as the package's name and version. Keys that do not read are passed over,
+    /// and a value that is no checksum is none.
+    pub fn find_checksum(&self, alloc: Global, package: &Package) -> Result<Option<Checksum>>
+        ensures ok { IfOk result (λ found. option_map digest_of found
+            ≡ checksum_in self.now.metadata «package».now.name «package».now.version) }
+        ensures least { IfOk result (λ found. IsFoundAtLeastKey self.now.metadata «package».now.name
+            «package».now.version (option_map digest_of found)) }
+        ensures err { IsOkUnless result Memory }
+    {
+        let found = find_checksum(alloc, &self.metadata, &package.name, &package.version)?;
+        Ok(found)
+    }
 }
 
-impl<'a> Model for ValuesRef<'a> {
-    ghost use Rattle.std.specs.Coded.{codes};
-    ghost use Rattle.cargo_lock_references.specs.Records.{texts_code, texts_of};
-    ghost use Rattle.cargo_lock_encoding.specs.Lockfiles.{EncodedData};
-
-    ghost Value = { EncodedData };
-
-    ghost coded = { Prim.hlevel (codes, texts_code) };
-
-    ghost view = { λ v. record {
-      version = v.version;
-      packages = v.packages.now;
-      root = v.root.now;
-      metadata = texts_of v.metadata.now.entries;
-      patch = v.patch.now;
-    } };
-}
-
-/// The parts of a lockfile: its references are looked up.
-#[derive(Drop)]
-pub struct LockfileParts {
-    /// The format.
-    pub version: ResolveVersion,
-
-    /// The packages.
-    pub packages: Vec<Package>,
-
-    /// The root package.
-    pub root: Option<Package>,
-
-    /// The metadata.
-    pub metadata: Metadata,
-
-    /// The patches that no package uses.
-    pub patch: Patch,
-}
-
-impl Model for LockfileParts {
-    ghost use Rattle.std.specs.Coded.{codes};
-    ghost use Rattle.cargo_lock_references.specs.Records.{texts_code, texts_of};
-    ghost use Rattle.cargo_lock_encoding.specs.Lockfiles.{LockfileData};
-
-    ghost Value = { LockfileData };
-
-    ghost coded = { Prim.hlevel (codes, texts_code) };
-
-    ghost view = { λ l. record {
-      version = l.version;
-      packages = l.packages.items;
-      root = l.root;
-      metadata = texts_of l.metadata.entries;
-      patch = l.patch;
-    } };
-}
-
-/// The parts of a lockfile, borrowed.
+/// The parts of a lockfile, borrowed: its references are looked up.
 #[derive(Drop)]
 pub struct LockfileRef<'a> {
     /// The format.

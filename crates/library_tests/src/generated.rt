@@ -3,7 +3,7 @@
 
 use crate::references::{dependencies, reference_in, resolved, shortened, written};
 use crate::shared::{or_fault, text_of};
-use cargo_lock::lockfile::encoding::{EncodableLockfile, EncodablePackage};
+use cargo_lock::lockfile::encoding::EncodablePackage;
 use cargo_lock::{Error, Lockfile, ResolveVersion};
 use std::alloc::Global;
 
@@ -151,7 +151,7 @@ fn walked(alloc: Global, text: &str) -> Result<String, Error> {
 }
 
 fn entries_of(alloc: Global, lockfile: &Lockfile) -> Result<Vec<EncodablePackage>, Error> {
-    let encoded = EncodableLockfile::of(alloc, lockfile)?;
+    let encoded = lockfile.to_encodable(alloc)?;
     Ok(encoded.package)
 }
 

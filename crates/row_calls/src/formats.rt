@@ -1,7 +1,6 @@
 //! The formats of lockfiles.
 
 use super::lockfiles::read;
-use cargo_lock::lockfile::encoding::EncodableLockfile;
 use cargo_lock::{Error, Lockfile, ResolveVersion};
 use std::alloc::Global;
 use value_calls::{line, no_call};
@@ -45,7 +44,7 @@ fn detected(alloc: Global, text: &str) -> Result<String, Error> {
 }
 
 fn detected_of(alloc: Global, lockfile: &Lockfile) -> Result<String, Error> {
-    let encoded = EncodableLockfile::of(alloc, lockfile)?;
+    let encoded = lockfile.to_encodable(alloc)?;
     let packages = encoded.package.as_slice();
     let format = ResolveVersion::detect(alloc, packages, &encoded.metadata)?;
     line(alloc, format_args!("{format:?}"))

@@ -36,7 +36,7 @@ fn checksum_found(alloc: Global, text: &str) -> Result<String, Error> {
 }
 
 fn found_for(alloc: Global, lockfile: &Lockfile, package: &Package) -> Result<String, Error> {
-    let encoded = EncodableLockfile::of(alloc, lockfile)?;
+    let encoded = lockfile.to_encodable(alloc)?;
     found_in(alloc, &encoded, package)
 }
 

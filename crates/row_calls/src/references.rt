@@ -2,7 +2,7 @@
 
 use super::Texts;
 use super::lockfiles::read;
-use cargo_lock::lockfile::encoding::{EncodableDependency, EncodableLockfile, EncodablePackage};
+use cargo_lock::lockfile::encoding::{EncodableDependency, EncodablePackage};
 use cargo_lock::{Dependency, Error, Lockfile, Package, ResolveVersion};
 use std::alloc::Global;
 use value_calls::{line, no_call};
@@ -76,7 +76,7 @@ fn among_packages(
 }
 
 fn resolved(alloc: Global, lockfile: &Lockfile, text: &str) -> Result<String, Error> {
-    let list = EncodableLockfile::of(alloc, lockfile)?;
+    let list = lockfile.to_encodable(alloc)?;
     resolved_among(alloc, list.package.as_slice(), text)
 }
 

@@ -57,12 +57,8 @@ fn values_of(alloc: Global, lockfile: &Lockfile) -> Result<String, Error> {
     }
 }
 
-fn values(alloc: Global, lockfile: &Lockfile) -> Result<EncodableLockfile, Error> {
-    EncodableLockfile::of(alloc, lockfile)
-}
-
 fn number(alloc: Global, lockfile: &Lockfile) -> Result<Option<i64>, Error> {
-    let values = values(alloc, lockfile)?;
+    let values = lockfile.to_encodable(alloc)?;
     Ok(values.version)
 }
 
@@ -72,7 +68,7 @@ fn are_printed(alloc: Global, lockfile: &Lockfile) -> Result<bool, Error> {
 }
 
 fn is_text_of(alloc: Global, lockfile: &Lockfile, text: &str) -> Result<bool, Error> {
-    let other = text_of_values(alloc, &values(alloc, lockfile)?)?;
+    let other = text_of_values(alloc, &lockfile.to_encodable(alloc)?)?;
     Ok(other.as_str() == text)
 }
 
@@ -81,7 +77,7 @@ fn text_of_values(alloc: Global, values: &EncodableLockfile) -> Result<String, E
 }
 
 fn go_back(alloc: Global, lockfile: &Lockfile) -> Result<bool, Error> {
-    let back = meaning_of(alloc, values(alloc, lockfile)?)?;
+    let back = Lockfile::from_encodable(alloc, lockfile.to_encodable(alloc)?)?;
     Ok(
         back.packages == lockfile.packages
             && back.patch == lockfile.patch
@@ -89,14 +85,10 @@ fn go_back(alloc: Global, lockfile: &Lockfile) -> Result<bool, Error> {
     )
 }
 
-fn meaning_of(alloc: Global, values: EncodableLockfile) -> Result<Lockfile, Error> {
-    values.into_lockfile(alloc)
-}
-
 /// The values of a text under another number, or under none where the word is no number.
 fn numbered(alloc: Global, text: &str, number: &str) -> Result<EncodableLockfile, Error> {
     let lockfile = super::lockfiles::read(alloc, text)?;
-    let mut values = values(alloc, &lockfile)?;
+    let mut values = lockfile.to_encodable(alloc)?;
     values.version = number.parse::<i64>().ok();
     Ok(values)
 }
@@ -109,7 +101,7 @@ fn numbered_text(alloc: Global, text: &str, number: &str) -> Result<String, Erro
 /// The format of the lockfile that these values are.
 fn numbered_format(alloc: Global, text: &str, number: &str) -> Result<String, Error> {
     let values = numbered(alloc, text, number)?;
-    let lockfile = meaning_of(alloc, values)?;
+    let lockfile = Lockfile::from_encodable(alloc, values)?;
     let format = lockfile.version;
     line(alloc, format_args!("{format:?}"))
 }
@@ -121,7 +113,7 @@ fn patches_kept(alloc: Global, text: &str) -> Result<String, Error> {
 }
 
 fn patches_kept_of(alloc: Global, lockfile: &Lockfile) -> Result<String, Error> {
-    let values = values(alloc, lockfile)?;
+    let values = lockfile.to_encodable(alloc)?;
     line(
         alloc,
         values.patch == lockfile.patch && !lockfile.patch.is_empty(),

@@ -14,8 +14,9 @@ ghost use Rattle.cargo_lock.specs.LongTexts.{HasShortTexts};
 
 use crate::error::{Error, Result};
 use crate::lockfile::Lockfile;
+use crate::lockfile::encoding::lockfile_of;
 use crate::lockfile::long_texts::members_have_long_text;
-use cargo_lock_encoding::Values;
+use cargo_lock_encoding::EncodableLockfile;
 use cargo_lock_parts::error::SHORT_LENGTH;
 use std::alloc::Global;
 use std::fs;
@@ -89,10 +90,9 @@ fn read_text(alloc: Global, text: &str) -> Result<Lockfile>
 fn read_once(alloc: Global, table: Table) -> Result<Lockfile>
     ensures { ReadsUrls (λ l. l) result (meaning (table_view table)) }
 {
-    let values = Values::read(alloc, &table)?;
+    let values = EncodableLockfile::from_table(alloc, &table)?;
     drop(table);
-    let parts = values.resolve(alloc)?;
-    Ok(Lockfile::from_parts(parts))
+    lockfile_of(alloc, values)
 }
 
 // The fault of reading texts. Where none of them is long, no URL in them has 4 GB.
@@ -110,9 +110,8 @@ fn of_texts(fault: Error, has_long: bool) -> Error
 pub(super) fn read(alloc: Global, table: &Table) -> Result<Lockfile>
     ensures { ReadsUrls (λ l. l) result (meaning (table_view table.now)) }
 {
-    let values = Values::read(alloc, table)?;
-    let parts = values.resolve(alloc)?;
-    Ok(Lockfile::from_parts(parts))
+    let values = EncodableLockfile::from_table(alloc, table)?;
+    lockfile_of(alloc, values)
 }
 
 // The fault of a file. Running out of memory is told as that.
