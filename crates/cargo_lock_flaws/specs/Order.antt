@@ -1,11 +1,10 @@
 -- The order in which Cargo writes packages: by name, version and source.
 use Rattle.std.specs.Prelude.{ℕ}
-use Rattle.std.specs.Option.{option_cmp}
 use Rattle.std.specs.declared.cmp.Ordering.{Ordering}
 use Rattle.std.specs.Ordering.{nat_cmp, on, then_cmp}
 use Rattle.url.specs.Parts.{serialize}
 use Rattle.cargo_lock_parts.specs.Identity.{PackageData}
-use Rattle.cargo_lock_parts.specs.IdentityOrder.{version_cmp}
+use Rattle.cargo_lock_parts.specs.IdentityOrder.{by_name_version_source, version_cmp}
 use Rattle.cargo_lock_parts.specs.Source.{Kind, Source, DefaultBranch, Tag, Branch, Rev, Git, Path, Registry, SparseRegistry, LocalRegistry, Directory}
 use Rattle.cargo_lock_parts.specs.SourceKey.{git_reference_text, text_cmp}
 
@@ -30,7 +29,5 @@ source_order = then_cmp (then_cmp
 
 -- packages compare by name, then by version, then by source, and one without a source comes first
 abbrev pub package_order : PackageData → PackageData → Ordering
-package_order = then_cmp (then_cmp
-    (on (λ p. p.name) text_cmp)
-    (on (λ p. p.version) version_cmp))
-    (on (λ p. p.source) (option_cmp source_order))
+package_order = by_name_version_source (λ p. p.name) (λ p. p.version) (λ p. p.source)
+    version_cmp source_order

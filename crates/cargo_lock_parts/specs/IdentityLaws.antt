@@ -1,6 +1,6 @@
 -- The orders of dependencies and of packages are total, and what ties has one key.
 use Rattle.std.specs.Prelude.{◌≡◌, true, List, [], ◌∷◌, ◌++◌, map, Option, Some, None, option_map}
-use Rattle.std.specs.Prelude.{refl}
+use Rattle.std.specs.Prelude.{ℕ, refl}
 use Rattle.std.specs.Option.{option_cmp}
 use Rattle.std.specs.declared.cmp.Ordering.{Ordering}
 use Rattle.std.specs.declared.cmp.Ordering.TheVariants.{Less, Equal, Greater}
@@ -25,6 +25,7 @@ use Rattle.cargo_lock_parts.specs.SourceLaws.{key_same, key_total, source_total}
 use Rattle.cargo_lock_parts.specs.Identity.{Identity, PackageData, IdentityKey, PackageKey}
 use Rattle.cargo_lock_parts.specs.Identity.{identity_of, identity_key, package_key}
 use Rattle.cargo_lock_parts.specs.IdentityOrder.{version_cmp, identity_cmp, package_cmp}
+use Rattle.cargo_lock_parts.specs.IdentityOrder.{by_name_version_source}
 use Rattle.cargo_lock_parts.specs.IdentityOrder.{is_same_identity, is_same_package, is_same_patch}
 use Rattle.cargo_lock_parts.specs.IdentityOrder.{version_hash, source_hash, identity_hash}
 use Rattle.cargo_lock_parts.specs.IdentityOrder.{package_hash}
@@ -40,19 +41,26 @@ version_total =
     (then_total (on_total (λ (v : Parts). v.3) pre_total)
     (on_total (λ (v : Parts). v.4) build_total))))
 
+-- the order by name, version and source is total where those of versions and of sources are
+pub by_name_version_source-total : {X V S : Type 0}
+    (name : X → List ℕ) (version : X → V) (source : X → Option S)
+    {version_order : V → V → Ordering} {source_order : S → S → Ordering}
+    → IsTotalOrder version_order → IsTotalOrder source_order
+    → IsTotalOrder (by_name_version_source name version source version_order source_order)
+by_name_version_source-total name version source versions sources = then_total (then_total
+    (on_total name nat_list_cmp_total)
+    (on_total version versions))
+    (on_total source (options_total sources))
+
 -- the order of identities is total
 pub identity_total : IsTotalOrder identity_cmp
-identity_total = then_total (then_total
-    (on_total (λ (d : Identity). d.name) nat_list_cmp_total)
-    (on_total (λ (d : Identity). d.version) version_total))
-    (on_total (λ (d : Identity). d.source) (options_total source_total))
+identity_total = by_name_version_source-total (λ (d : Identity). d.name)
+    (λ (d : Identity). d.version) (λ (d : Identity). d.source) version_total source_total
 
 -- the order of packages is total
 pub package_total : IsTotalOrder package_cmp
-package_total = then_total (then_total (then_total (then_total (then_total
-    (on_total (λ (p : PackageData). p.name) nat_list_cmp_total)
-    (on_total (λ (p : PackageData). p.version) version_total))
-    (on_total (λ (p : PackageData). p.source) (options_total source_total)))
+package_total = then_total (then_total (then_total
+    (on_total identity_of identity_total)
     (on_total (λ (p : PackageData). p.checksum) (options_total nat_list_cmp_total)))
     (on_total (λ (p : PackageData). p.dependencies) (lists_total identity_total)))
     (on_total (λ (p : PackageData). p.replace) (options_total identity_total))
@@ -142,17 +150,13 @@ option_cmp-by f C R same (Some x) (Some y) = same x y
 -- ---- identities
 
 identity_key_cmp : IdentityKey → IdentityKey → Ordering
-identity_key_cmp = then_cmp (then_cmp
-    (on (λ k. k.name) text_cmp)
-    (on (λ k. k.version) version_cmp))
-    (on (λ k. k.source) (option_cmp key_cmp))
+identity_key_cmp = by_name_version_source (λ k. k.name) (λ k. k.version) (λ k. k.source)
+    version_cmp key_cmp
 
 identity_key-total : IsTotalOrder identity_key_cmp
 unfolding identity_key_cmp
-identity_key-total = then_total (then_total
-    (on_total (λ (k : IdentityKey). k.name) nat_list_cmp_total)
-    (on_total (λ (k : IdentityKey). k.version) version_total))
-    (on_total (λ (k : IdentityKey). k.source) (options_total key_total))
+identity_key-total = by_name_version_source-total (λ (k : IdentityKey). k.name)
+    (λ (k : IdentityKey). k.version) (λ (k : IdentityKey). k.source) version_total key_total
 
 identity_key-anti : IsAntisymmetric identity_key_cmp
 unfolding identity_key_cmp
@@ -167,8 +171,7 @@ identity_cmp-key : (a b : Identity) → identity_cmp a b
     ≡ identity_key_cmp (identity_key a) (identity_key b)
 unfolding identity_key_cmp
 identity_cmp-key a b =
-    ap (ordering_then (ordering_then (text_cmp a.name b.name) (version_cmp a.version b.version)))
-    (option_cmp-by key_of source_cmp key_cmp (λ x y. refl) a.source b.source)
+    ap (ordering_then _) (option_cmp-by key_of source_cmp key_cmp (λ x y. refl) a.source b.source)
 
 -- identities are the same exactly where their keys are
 pub is_same_identity-Decides : (a b : Identity)

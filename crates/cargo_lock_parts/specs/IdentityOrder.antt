@@ -1,6 +1,6 @@
 -- The order of dependencies and of packages: field by field, sources by their keys, and an absent
 -- value before a present one. What ties is equal.
-use Rattle.std.specs.Prelude.{Bool, List, ◌++◌}
+use Rattle.std.specs.Prelude.{ℕ, Bool, List, ◌++◌, Option}
 use Rattle.std.specs.Option.{option_cmp}
 use Rattle.std.specs.declared.cmp.Ordering.{Ordering}
 use Rattle.std.specs.Ordering.{nat_cmp, on, then_cmp, eq_by_cmp}
@@ -20,19 +20,25 @@ version_cmp =
     (then_cmp (on (λ v. v.1) nat_cmp) (then_cmp (on (λ v. v.2) nat_cmp)
     (then_cmp (on (λ v. v.3) pre_cmp) (on (λ v. v.4) build_cmp))))
 
+-- The order of what has a name, a version and a source: by name, then by version, then by source,
+-- an absent source before a present one. It takes the functions that give the three, the order of
+-- versions and the order of sources.
+abbrev pub by_name_version_source : {X V S : Type 0} → (X → List ℕ) → (X → V) → (X → Option S)
+    → (V → V → Ordering) → (S → S → Ordering) → X → X → Ordering
+by_name_version_source name version source version_order source_order = then_cmp (then_cmp
+    (on name text_cmp)
+    (on version version_order))
+    (on source (option_cmp source_order))
+
 -- identities compare by name, version and source; an absent source stands before a present one
 abbrev pub identity_cmp : Identity → Identity → Ordering
-identity_cmp = then_cmp (then_cmp
-    (on (λ d. d.name) text_cmp)
-    (on (λ d. d.version) version_cmp))
-    (on (λ d. d.source) (option_cmp source_cmp))
+identity_cmp = by_name_version_source (λ d. d.name) (λ d. d.version) (λ d. d.source)
+    version_cmp source_cmp
 
--- packages compare field by field in their order
+-- packages compare by identity, then by checksum, dependencies and replacement
 abbrev pub package_cmp : PackageData → PackageData → Ordering
-package_cmp = then_cmp (then_cmp (then_cmp (then_cmp (then_cmp
-    (on (λ p. p.name) text_cmp)
-    (on (λ p. p.version) version_cmp))
-    (on (λ p. p.source) (option_cmp source_cmp)))
+package_cmp = then_cmp (then_cmp (then_cmp
+    (on identity_of identity_cmp)
     (on (λ p. p.checksum) (option_cmp text_cmp)))
     (on (λ p. p.dependencies) (slice_cmp identity_cmp)))
     (on (λ p. p.replace) (option_cmp identity_cmp))

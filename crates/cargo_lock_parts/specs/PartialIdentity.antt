@@ -2,19 +2,20 @@
 use Rattle.std.specs.Prelude.{◌≡◌, ℕ, Bool, List, Option, Some, None, option_map, refl}
 use Rattle.std.specs.Option.{option_cmp}
 use Rattle.std.specs.declared.cmp.Ordering.{Ordering}
-use Rattle.std.specs.Ordering.{on, then_cmp, ordering_then, eq_by_cmp}
+use Rattle.std.specs.Ordering.{ordering_then, eq_by_cmp}
 use Rattle.std.specs.Bool.{Decides}
-use Rattle.std.specs.Cmp.{IsTotalOrder, on_total, then_total}
-use Rattle.std.specs.Cmp.Lexicographic.{nat_list_cmp_total, options_total}
+use Rattle.std.specs.Cmp.{IsTotalOrder}
+use Rattle.std.specs.Cmp.Lexicographic.{options_total}
 use Rattle.std.specs.FinMap.{IsAntisymmetric}
 use Rattle.std.proofs.Common.{ap}
 use Rattle.semver.specs.Parse.{Parts}
 use Rattle.cargo_lock_parts.specs.IdentityLaws.{version_total, version_cmp-anti, text_cmp-anti}
 use Rattle.cargo_lock_parts.specs.IdentityLaws.{key_cmp-anti, option_cmp-anti, option_cmp-by}
-use Rattle.cargo_lock_parts.specs.IdentityLaws.{by_keys-Decides, tied-three}
-use Rattle.cargo_lock_parts.specs.IdentityOrder.{version_cmp}
+use Rattle.cargo_lock_parts.specs.IdentityLaws.{by_keys-Decides, by_name_version_source-total}
+use Rattle.cargo_lock_parts.specs.IdentityLaws.{tied-three}
+use Rattle.cargo_lock_parts.specs.IdentityOrder.{by_name_version_source, version_cmp}
 use Rattle.cargo_lock_parts.specs.Source.{Source}
-use Rattle.cargo_lock_parts.specs.SourceKey.{Key, key_cmp, key_of, source_cmp, text_cmp}
+use Rattle.cargo_lock_parts.specs.SourceKey.{Key, key_cmp, key_of, source_cmp}
 use Rattle.cargo_lock_parts.specs.SourceLaws.{key_total, source_total}
 
 -- a name, and perhaps a version and a source
@@ -31,12 +32,10 @@ name_alone name = record { name = name; version = None; source = None }
 abbrev pub name_and_version : List ℕ → Parts → PartialIdentity
 name_and_version name version = record { name = name; version = Some version; source = None }
 
--- they compare part by part, sources by their keys, and an absent part stands before a present one
+-- they compare by name, version and source; an absent part stands before a present one
 abbrev pub partial_identity_cmp : PartialIdentity → PartialIdentity → Ordering
-partial_identity_cmp = then_cmp (then_cmp
-    (on (λ i. i.name) text_cmp)
-    (on (λ i. i.version) (option_cmp version_cmp)))
-    (on (λ i. i.source) (option_cmp source_cmp))
+partial_identity_cmp = by_name_version_source (λ i. i.name) (λ i. i.version) (λ i. i.source)
+    (option_cmp version_cmp) source_cmp
 
 -- partial identities that tie
 abbrev pub is_same_partial_identity : PartialIdentity → PartialIdentity → Bool
@@ -44,10 +43,9 @@ is_same_partial_identity = eq_by_cmp partial_identity_cmp
 
 -- the order of partial identities is total
 pub partial_identity_total : IsTotalOrder partial_identity_cmp
-partial_identity_total = then_total (then_total
-    (on_total (λ (i : PartialIdentity). i.name) nat_list_cmp_total)
-    (on_total (λ (i : PartialIdentity). i.version) (options_total version_total)))
-    (on_total (λ (i : PartialIdentity). i.source) (options_total source_total))
+partial_identity_total = by_name_version_source-total (λ (i : PartialIdentity). i.name)
+    (λ (i : PartialIdentity). i.version) (λ (i : PartialIdentity). i.source)
+    (options_total version_total) source_total
 
 -- ---- keys
 
@@ -61,20 +59,17 @@ pub record PartialKey : Type 0 where
 abbrev pub partial_key : PartialIdentity → PartialKey
 partial_key i = record { name = i.name; version = i.version; source = option_map key_of i.source }
 
--- keys compare part by part
+-- keys compare by name, version and source
 unfoldable pub partial_key_cmp : PartialKey → PartialKey → Ordering
-partial_key_cmp = then_cmp (then_cmp
-    (on (λ k. k.name) text_cmp)
-    (on (λ k. k.version) (option_cmp version_cmp)))
-    (on (λ k. k.source) (option_cmp key_cmp))
+partial_key_cmp = by_name_version_source (λ k. k.name) (λ k. k.version) (λ k. k.source)
+    (option_cmp version_cmp) key_cmp
 
 -- the order of keys is total
 pub partial_key-total : IsTotalOrder partial_key_cmp
 unfolding partial_key_cmp
-partial_key-total = then_total (then_total
-    (on_total (λ (k : PartialKey). k.name) nat_list_cmp_total)
-    (on_total (λ (k : PartialKey). k.version) (options_total version_total)))
-    (on_total (λ (k : PartialKey). k.source) (options_total key_total))
+partial_key-total = by_name_version_source-total (λ (k : PartialKey). k.name)
+    (λ (k : PartialKey). k.version) (λ (k : PartialKey). k.source)
+    (options_total version_total) key_total
 
 -- keys that tie are one
 pub partial_key-anti : IsAntisymmetric partial_key_cmp
@@ -90,9 +85,7 @@ partial_identity_cmp-key : (a b : PartialIdentity) → partial_identity_cmp a b
     ≡ partial_key_cmp (partial_key a) (partial_key b)
 unfolding partial_key_cmp
 partial_identity_cmp-key a b =
-    ap (ordering_then
-    (ordering_then (text_cmp a.name b.name) (option_cmp version_cmp a.version b.version)))
-    (option_cmp-by key_of source_cmp key_cmp (λ x y. refl) a.source b.source)
+    ap (ordering_then _) (option_cmp-by key_of source_cmp key_cmp (λ x y. refl) a.source b.source)
 
 -- two are the same exactly where their keys are
 pub is_same_partial_identity-Decides : (a b : PartialIdentity)

@@ -3,12 +3,13 @@ use Rattle.std.specs.Prelude.{◌≡◌, true, ◌++◌, Option, Some, None, opt
 use Rattle.std.specs.Option.{option_cmp}
 use Rattle.std.specs.Ordering.{ordering_then}
 use Rattle.std.specs.Bool.{Decides}
-use Rattle.std.specs.Cmp.{IsTotalOrder, on_total, then_total}
-use Rattle.std.specs.Cmp.Lexicographic.{nat_list_cmp_total, options_total}
+use Rattle.std.specs.Cmp.{IsTotalOrder, on_total}
+use Rattle.std.specs.Cmp.Lexicographic.{options_total}
 use Rattle.std.specs.Hash.{HashWrites}
 use Rattle.std.specs.Hash as fed
 use Rattle.std.proofs.Common.{sym, ◌∙◌, ap}
-use Rattle.cargo_lock_parts.specs.IdentityLaws.{by_keys-Decides, option_cmp-by, version_total}
+use Rattle.cargo_lock_parts.specs.IdentityLaws.{by_keys-Decides, by_name_version_source-total}
+use Rattle.cargo_lock_parts.specs.IdentityLaws.{option_cmp-by, version_total}
 use Rattle.cargo_lock_parts.specs.IdentityOrder.{version_cmp}
 use Rattle.cargo_lock_parts.specs.PartialIdentity.{PartialKey, partial_key_cmp}
 use Rattle.cargo_lock_parts.specs.PartialIdentity.{partial_key-anti, partial_key-total}
@@ -31,17 +32,15 @@ marked_alike a b h = source_alike a.source b.source h
 
 -- the order of references is total
 pub reference_total : IsTotalOrder reference_cmp
-reference_total = then_total (then_total
-    (on_total (λ (f : Reference). f.name) nat_list_cmp_total)
-    (on_total (λ (f : Reference). f.version) (options_total version_total)))
-    (on_total (λ (f : Reference). f.source) (options_total marked_total))
+reference_total = by_name_version_source-total (λ (f : Reference). f.name)
+    (λ (f : Reference). f.version) (λ (f : Reference). f.source)
+    (options_total version_total) marked_total
 
 reference_cmp-key : (a b : Reference) → reference_cmp a b
     ≡ partial_key_cmp (reference_key a) (reference_key b)
 unfolding partial_key_cmp
 reference_cmp-key a b =
-    let names = text_cmp a.name b.name in
-    ap (ordering_then (ordering_then names (option_cmp version_cmp a.version b.version)))
+    ap (ordering_then _)
     (option_cmp-by marked_key marked_cmp key_cmp (λ x y. refl) a.source b.source)
 
 -- references are the same exactly where their keys are

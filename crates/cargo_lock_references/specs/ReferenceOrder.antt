@@ -3,14 +3,15 @@
 use Rattle.std.specs.Prelude.{Bool, ◌++◌, option_map}
 use Rattle.std.specs.Option.{option_cmp}
 use Rattle.std.specs.declared.cmp.Ordering.{Ordering}
-use Rattle.std.specs.Ordering.{on, then_cmp, eq_by_cmp}
+use Rattle.std.specs.Ordering.{on, eq_by_cmp}
 use Rattle.std.specs.Hash.{HashWrites}
 use Rattle.std.specs.Hash as fed
 use Rattle.cargo_lock_parts.specs.Equality.{IsEqualityOfKeys}
-use Rattle.cargo_lock_parts.specs.IdentityOrder.{source_hash, version_cmp}
+use Rattle.cargo_lock_parts.specs.IdentityOrder.{by_name_version_source, source_hash}
+use Rattle.cargo_lock_parts.specs.IdentityOrder.{version_cmp}
 use Rattle.cargo_lock_parts.specs.PartialIdentity.{PartialKey}
 use Rattle.cargo_lock_parts.specs.Source.{MarkedSource}
-use Rattle.cargo_lock_parts.specs.SourceKey.{Key, key_of, source_cmp, text_cmp}
+use Rattle.cargo_lock_parts.specs.SourceKey.{Key, key_of, source_cmp}
 use Rattle.cargo_lock_references.specs.Reference.{Reference}
 
 -- a source compares by its key alone, however it is marked
@@ -27,10 +28,8 @@ marked_hash m = source_hash m.source
 
 -- references compare by name, version and source
 abbrev pub reference_cmp : Reference → Reference → Ordering
-reference_cmp = then_cmp (then_cmp
-    (on (λ f. f.name) text_cmp)
-    (on (λ f. f.version) (option_cmp version_cmp)))
-    (on (λ f. f.source) (option_cmp marked_cmp))
+reference_cmp = by_name_version_source (λ f. f.name) (λ f. f.version) (λ f. f.source)
+    (option_cmp version_cmp) marked_cmp
 
 -- references that tie
 abbrev pub is_same_reference : Reference → Reference → Bool
