@@ -2,7 +2,7 @@
 -- the displayed identity of a package, and the digest in hex.
 use Rattle.std.specs.Prelude.{◌&&◌, not, if◌then◌else◌, Bool, false, ℕ, List, [], ◌∷◌, ◌++◌, Option}
 use Rattle.std.specs.Prelude.{Some, None, Result, Ok, Err, codes, take, drop, reverse}
-use Rattle.std.specs.FinMap.{entries, from_entries, insert, retain_keys}
+use Rattle.std.specs.FinMap.{entries, from_entries, retain_keys}
 use Rattle.std.specs.List.{find, list_any}
 use Rattle.std.specs.Result.{result_ok}
 use Rattle.semver.specs.Parse.{Parts}
@@ -101,14 +101,3 @@ metadata_of V1 m ps = with_checksums m ps
 metadata_of V2 m ps = without_checksums m ps
 metadata_of V3 m ps = without_checksums m ps
 metadata_of V4 m ps = without_checksums m ps
-
--- ---- the same, package by package
-
--- a text put at a key, where there is one
-abbrev pub put_some : Texts → List ℕ → Option (List ℕ) → Texts
-put_some m k None = m
-put_some m k (Some c) = insert m k (digest_text c)
-
--- the checksum of one package set, where it has one
-abbrev pub put_checksum : Texts → PackageData → Texts
-put_checksum m p = put_some m (checksum_key (identity_of p)) p.checksum

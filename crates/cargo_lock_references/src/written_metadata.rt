@@ -1,11 +1,11 @@
 //! The metadata that is written: in V1 with the checksums of the packages, and from V2 on without
 //! their keys.
 
-ghost use Rattle.std.specs.Prelude.{◌≡◌, IfOk, IsOkUnless, OnOk};
+ghost use Rattle.std.specs.Prelude.{◌≡◌, [], ◌∷◌, IfOk, IsOkUnless, OnOk};
 ghost use Rattle.std.specs.FinMap.{insert, remove};
 ghost use Rattle.cargo_lock_parts.specs.declared.error.Error.TheVariants.{Memory};
 ghost use Rattle.cargo_lock_parts.specs.Identity.{identity_of};
-ghost use Rattle.cargo_lock_references.specs.Metadata.{checksum_key, metadata_of, put_checksum};
+ghost use Rattle.cargo_lock_references.specs.Metadata.{checksum_key, metadata_of};
 ghost use Rattle.cargo_lock_references.specs.Metadata.{with_checksums, without_checksums};
 ghost use Rattle.cargo_lock_references.specs.Records.{texts_of};
 
@@ -29,13 +29,11 @@ pub fn metadata_of(
         ≡ metadata_of format (texts_of metadata.now.entries) packages.now) }
     ensures err { IsOkUnless result Memory }
 {
-    let copy = copy_metadata(metadata)?;
-    match format {
-        ResolveVersion::V1 => with_checksums(alloc, copy, packages),
-        ResolveVersion::V2 | ResolveVersion::V3 | ResolveVersion::V4 => {
-            without_checksums(alloc, copy, packages)
-        }
+    let mut written = copy_metadata(metadata)?;
+    for package in packages {
+        write_checksum(alloc, format, &mut written, package)?;
     }
+    Ok(written)
 }
 
 fn copy_metadata(metadata: &Metadata) -> std::result::Result<Metadata, AllocError>
@@ -44,36 +42,29 @@ fn copy_metadata(metadata: &Metadata) -> std::result::Result<Metadata, AllocErro
     metadata.clone()
 }
 
-// The metadata with the checksums of the packages.
-fn with_checksums(alloc: Global, metadata: Metadata, packages: &[Package]) -> Result<Metadata>
-    ensures ok { IfOk result
-        (λ m. texts_of m.entries ≡ with_checksums (texts_of metadata.entries) packages.now) }
+// Writes one package: in V1 sets its checksum key, and from V2 on takes that key out.
+fn write_checksum(
+    alloc: Global,
+    format: ResolveVersion,
+    metadata: &mut Metadata,
+    package: &Package,
+) -> Result<()>
+    ensures ok { OnOk result (texts_of metadata.new.entries
+        ≡ metadata_of format (texts_of metadata.old.entries) («package».now ∷ [])) }
     ensures err { IsOkUnless result Memory }
 {
-    let mut metadata = metadata;
-    for package in packages {
-        put_checksum(alloc, &mut metadata, package)?;
+    match format {
+        ResolveVersion::V1 => put_checksum(alloc, metadata, package),
+        ResolveVersion::V2 | ResolveVersion::V3 | ResolveVersion::V4 => {
+            take_checksum(alloc, metadata, package)
+        }
     }
-    Ok(metadata)
-}
-
-// The metadata without the checksum keys of the packages.
-fn without_checksums(alloc: Global, metadata: Metadata, packages: &[Package]) -> Result<Metadata>
-    ensures ok { IfOk result
-        (λ m. texts_of m.entries ≡ without_checksums (texts_of metadata.entries) packages.now) }
-    ensures err { IsOkUnless result Memory }
-{
-    let mut metadata = metadata;
-    for package in packages {
-        take_checksum(alloc, &mut metadata, package)?;
-    }
-    Ok(metadata)
 }
 
 // Sets the checksum key of a package, where the package has a checksum.
 fn put_checksum(alloc: Global, metadata: &mut Metadata, package: &Package) -> Result<()>
     ensures ok { OnOk result (texts_of metadata.new.entries
-        ≡ put_checksum (texts_of metadata.old.entries) «package».now) }
+        ≡ with_checksums (texts_of metadata.old.entries) («package».now ∷ [])) }
     ensures err { IsOkUnless result Memory }
 {
     let Some(checksum) = &package.checksum else {
@@ -87,9 +78,8 @@ fn put_checksum(alloc: Global, metadata: &mut Metadata, package: &Package) -> Re
 
 // Takes the checksum key of a package out.
 fn take_checksum(alloc: Global, metadata: &mut Metadata, package: &Package) -> Result<()>
-    ensures ok { OnOk result
-        (texts_of metadata.new.entries
-        ≡ remove (texts_of metadata.old.entries) (checksum_key (identity_of «package».now))) }
+    ensures ok { OnOk result (texts_of metadata.new.entries
+        ≡ without_checksums (texts_of metadata.old.entries) («package».now ∷ [])) }
     ensures err { IsOkUnless result Memory }
 {
     if metadata.is_empty() {

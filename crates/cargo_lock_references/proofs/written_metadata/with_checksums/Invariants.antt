@@ -1,7 +1,0 @@
-use Rattle.std.proofs.Common.{◌≡◌, take}
-use Rattle.cargo_lock_references.specs.Metadata.{with_checksums}
-use Rattle.cargo_lock_references.specs.Records.{texts_of}
-use Rattle.cargo_lock_references.proofs.written_metadata.with_checksums.Given as goal
-
-abbrev pub invariant-loop-package : goal.invariant-loop-package
-invariant-loop-package l = texts_of l.metadata.entries ≡ with_checksums (texts_of l.fn.metadata.entries) (take l.package-index l.packages)
