@@ -43,31 +43,7 @@ impl<'a> Model for EncodableDependencyRef<'a> {
 }
 
 impl<'a> EncodableDependencyRef<'a> {
-    ghost use Rattle.semver.specs.Identifiers.{parts_of};
     ghost use Rattle.cargo_lock_references.specs.WrittenReference.{in_full};
-    ghost use Rattle.cargo_lock_references.specs.Reference.{one_word, two_words};
-
-    /// The name alone.
-    pub fn of_name(name: &'a Name) -> EncodableDependencyRef<'a>
-        ensures { result ≡ one_word name.now }
-    {
-        EncodableDependencyRef {
-            name,
-            version: None,
-            source: None,
-        }
-    }
-
-    /// The name and the version.
-    pub fn of_name_and_version(name: &'a Name, version: &'a Version) -> EncodableDependencyRef<'a>
-        ensures { result ≡ two_words name.now (parts_of version.now) }
-    {
-        EncodableDependencyRef {
-            name,
-            version: Some(version),
-            source: None,
-        }
-    }
 
     /// The reference to a dependency in full: its name, its version and its source, unless that is
     /// absent or a path. The source is marked escaped for V4, and plain before.
