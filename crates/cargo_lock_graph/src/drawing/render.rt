@@ -6,7 +6,7 @@ ghost use Rattle.std.specs.Prelude.{length, max, vec_len};
 ghost use Rattle.cargo_lock_parts.specs.Ascii.{newline};
 ghost use Rattle.cargo_lock_graph.specs.declared.drawing.entry.Entry.{Entry};
 ghost use Rattle.cargo_lock_graph.specs.Drawing.{IsDrawing};
-ghost use Rattle.cargo_lock_graph.specs.DrawingByLater.{drawn_by_later, levels_text, line_by_later};
+ghost use Rattle.cargo_lock_graph.specs.DrawingByLater.{drawn_by_later, line_by_later};
 ghost use Rattle.cargo_lock_graph.specs.DrawingByLater.{prefix_by_later};
 ghost use Rattle.cargo_lock_graph.specs.DrawingLevels.{most_levels};
 ghost use Rattle.cargo_lock_graph.specs.DrawingMade.{AreMarked};
@@ -39,26 +39,6 @@ fn put_level<T: Target>(out: &mut T, symbols: &Symbols, more: bool) -> Put
     put_both(out, first, b"   ")
 }
 
-// The levels above an entry, from the first on.
-fn put_levels<T: Target>(
-    out: &mut T,
-    symbols: &Symbols,
-    graph: &Graph,
-    walk: &Walk,
-    levels: usize,
-) -> Put
-    requires sound { (T.state out.old).failures < 2 ^ 64 - 1 }
-    requires on { IsOn graph.now walk.now }
-    requires levels { levels ≤ vec_len walk.now.stack }
-    ensures { IsWritten (T.state out.old) (T.state out.new)
-        (levels_text standard_symbols levels (to_come graph.now walk.now)) result }
-{
-    for level in 0..levels {
-        put_level(out, symbols, walk.goes_on(graph, level))?;
-    }
-    Ok(())
-}
-
 // What stands before a label.
 fn put_branch<T: Target>(out: &mut T, symbols: &Symbols, more: bool) -> Put
     requires { (T.state out.old).failures < 2 ^ 64 - 1 }
@@ -70,7 +50,8 @@ fn put_branch<T: Target>(out: &mut T, symbols: &Symbols, more: bool) -> Put
     put_both(out, symbols.right.as_bytes(), b" ")
 }
 
-// The prefix of an entry of this depth, which was the last that the walk gave.
+// The prefix of an entry of this depth, which was the last that the walk gave: nothing at depth 0,
+// and otherwise the levels above the entry, from the first on, and what stands before its label.
 fn put_prefix<T: Target>(
     out: &mut T,
     symbols: &Symbols,
@@ -87,7 +68,9 @@ fn put_prefix<T: Target>(
     if depth == 0 {
         return Ok(());
     }
-    put_levels(out, symbols, graph, walk, depth - 1)?;
+    for level in 0..depth - 1 {
+        put_level(out, symbols, walk.goes_on(graph, level))?;
+    }
     put_branch(out, symbols, walk.goes_on(graph, depth - 1))
 }
 

@@ -3,7 +3,7 @@ use Rattle.cargo_lock_graph.specs.Sinks.{IsSound}
 use Rattle.cargo_lock_graph.specs.WalkState.{to_come}
 use Rattle.cargo_lock_graph.specs.DrawingByLater.{levels_text}
 use Rattle.cargo_lock_graph.specs.DrawingText.{standard_symbols}
-use Rattle.cargo_lock_graph.proofs.drawing.render.put_levels.Given as goal
+use Rattle.cargo_lock_graph.proofs.drawing.render.put_prefix.Given as goal
 
 abbrev pub invariant-loop-level : goal.invariant-loop-level
 invariant-loop-level g l = record {
