@@ -1,12 +1,9 @@
 //! Which package a dependency stands for.
 
-ghost use Rattle.std.specs.Prelude.{◌≡◌, ◌<◌, cond, IfOk, IfSome, MatchOption, OnOk, Some, None};
-ghost use Rattle.std.specs.Prelude.{length, option_map, slice_get};
-ghost use Rattle.std.specs.BTreeMap.{get, is_at};
+ghost use Rattle.std.specs.Prelude.{◌≡◌, ◌<◌, IfOk, IfSome, MatchOption, Some, length};
+ghost use Rattle.std.specs.Prelude.{option_map, slice_get};
 ghost use Rattle.semver.specs.Identifiers.{parts_of};
 ghost use Rattle.cargo_lock_parts.specs.Identity.{identity_of};
-ghost use Rattle.cargo_lock_parts.specs.PartialIdentity.{PartialIdentity};
-ghost use Rattle.cargo_lock_parts.specs.PartialIdentity.{partial_identity_cmp};
 ghost use Rattle.cargo_lock_graph.specs.Candidates.{AreLastPlaces};
 ghost use Rattle.cargo_lock_graph.specs.Candidates as spec;
 ghost use Rattle.cargo_lock_graph.specs.Targets.{IsLastWith, IsLost, IsTarget};
@@ -126,7 +123,7 @@ fn last_places<'a>(alloc: Global, packages: &'a [Package]) -> Result<Places<'a>,
     let mut places = BTreeMap::new(alloc);
     for (place, package) in packages.iter().enumerate() {
         let key = identity(&package.name, &package.version, &package.source);
-        put(&mut places, key, place)?;
+        places.insert(key, place)?;
     }
     Ok(places)
 }
@@ -145,20 +142,6 @@ fn identity<'a>(
         version: Some(version),
         source: source.as_ref(),
     }
-}
-
-// Sets the place at a key.
-fn put<'a>(
-    places: &mut Places<'a>,
-    key: PartialIdentity<'a>,
-    place: usize,
-) -> Result<(), AllocError>
-    ensures { OnOk result ((q : PartialIdentity) → get partial_identity_cmp places.new q
-        ≡ cond (is_at (partial_identity_cmp key.entry) q) (Some place)
-        (get partial_identity_cmp places.old q)) }
-{
-    places.insert(key, place)?;
-    Ok(())
 }
 
 // The place of the best.

@@ -13,8 +13,8 @@ loop-place-preserved c =
     let place = c.loop-place.place in
     let key : c.identity-key.result ≡ identity_as_key (identity_of p) =
     c.identity-key.ensures ∙ ap (λ (q : PackageData). identity_as_key (identity_of q)) c.«package».view_is in
-    places-step packages place c.loop-place.places c.put.new.places p c.loop-place-test.true c.index-packages-place.is
-    (λ q. c.in_ok-put.ensures q ∙ ap (λ k. cond (is_at (partial_identity_cmp k) q) (Some place) (get partial_identity_cmp c.loop-place.places q)) key)
+    places-step packages place c.loop-place.places c.insert.new.self p c.loop-place-test.true c.index-packages-place.is
+    (λ q. c.in_ok-insert.ensures.updates.0 q ∙ ap (λ k. cond (is_at (partial_identity_cmp k) q) (Some place) (get partial_identity_cmp c.loop-place.places q)) key)
     c.loop-place.invariant
 
 pub returns : goal.returns
