@@ -1,16 +1,18 @@
 -- How the packages that match a dependency are found, from the last to the first.
-use Rattle.std.proofs.Common.{◌≡◌, ◌<◌, ◌≤◌, ◌⊎◌, inl, inr, ℕ, Bool, true, false, cond, nat_lt, List, [], ◌∷◌, ◌++◌, length, get_or, map, filter, ◌==◌, slice_get, Some, None, ◌↔◌, sym, ap, subst, ◌∙◌, arith}
-use Rattle.std.specs.List.{All, Contains}
-use Rattle.std.proofs.lemmas.Bool.{cases_Bool, ltb-true, ltb-false}
+use Rattle.std.proofs.Common.{◌≡◌, ◌<◌, ◌≤◌, ◌⊎◌, inl, inr, ℕ, Bool, true, false, cond, nat_le, nat_lt, List, [], ◌∷◌, ◌++◌, length, get_or, map, filter, ◌==◌, slice_get, Some, None, ◌↔◌, refl, sym, ap, subst, ◌∙◌, arith}
+use Rattle.std.specs.List.{All, Contains, list_all}
+use Rattle.std.proofs.lemmas.Bool.{cases_Bool, le-leb, leb-true, ltb-true, ltb-false}
 use Rattle.std.proofs.lemmas.Bool.Decides.{Decides-eqb}
 use Rattle.std.proofs.lemmas.List.Elements.{All-contains, All-contains_itself, All-filter, filter_passes, Contains-append_cases, Contains-append_left, Contains-append_right, Contains-get_or, Contains-push, Contains-push_cases}
+use Rattle.std.proofs.lemmas.List.Sums.{AllPass-from_list_all, list_all-from_AllPass}
 use Rattle.std.proofs.lemmas.List.{get_or-map, length-map}
 use Rattle.std.proofs.lemmas.Option.{slice_get_within, same_Some}
 use Rattle.cargo_lock_parts.specs.Identity.{HasNameAndVersion, Identity, PackageData}
 use Rattle.cargo_lock_graph.specs.Targets.{HoldsOf, IsLastBelow, Matches, MatchesAt, rank_between}
 use Rattle.cargo_lock_graph.proofs.BestCandidates.{fits-named, fits-of, here-or-past}
 use Rattle.cargo_lock_flaws.specs.declared.candidates.Match.{Match}
-use Rattle.cargo_lock_flaws.specs.Search.{AreBestMatches, AreMatches}
+use Rattle.cargo_lock_flaws.specs.Reach.{IsBestMatch}
+use Rattle.cargo_lock_flaws.specs.Search.{AreMatches, best_matches}
 
 -- those of the matches whose places are not below a bound
 abbrev pub AreMatchesFrom : List PackageData → Identity → ℕ → List Match → Type 0
@@ -124,32 +126,60 @@ in-kept p (y ∷ ys) x h passes = elim (contains-cases y ys x h) [
   ]
 ]
 
-pub best-kept : (packages : List PackageData) (d : Identity) (matches best : List Match) (least : ℕ)
-    → Contains (map (λ (m : Match). m.rank) matches) least × All (λ rank. least ≤ rank) (map (λ (m : Match). m.rank) matches)
-    → best ≡ filter (λ (m : Match). m.rank == least) matches
-    → AreMatches packages d matches → AreBestMatches packages d best
-best-kept packages d matches best least lesser is are m =
-    let (n, there, same) = rank-in matches least lesser.0 in
-    let low : (k other : ℕ) → MatchesAt packages d k other → least ≤ other = λ k other f.
-    let one : Match = record { rank = other; place = k } in
-    All-contains (λ rank. least ≤ rank) (map (λ (m : Match). m.rank) matches) other lesser.1 (rank-of matches one ((are one).1 f)) in (
-      λ h.
-          let (old, passes) = kept-in (λ (m : Match). m.rank == least) matches m (subst (λ (ms : List Match). Contains ms m) is h) in
-          let equal : m.rank ≡ least = (Decides-eqb m.rank least).0 passes in
-          record {
-            fits = (are m).0 old;
-            least = λ k other f. let l = low k other f in omega (arith, l, equal);
-          },
-      λ h.
-          let least_one = h.least n.place n.rank ((are n).0 there) in
-          let above = low m.place m.rank h.fits in
-          let equal : m.rank ≡ least = omega (arith, least_one, above, same) in
-          subst (λ (ms : List Match). Contains ms m) (sym is)
-          (in-kept (λ (m : Match). m.rank == least) matches m ((are m).1 h.fits) ((Decides-eqb m.rank least).1 equal)),
-    )
+-- tests that agree at each element keep the same ones
+filter-alike : {X : Type 0} (p q : X → Bool) (xs : List X) → ((x : X) → Contains xs x → p x ≡ q x) → filter p xs ≡ filter q xs
+filter-alike p q [] alike = refl
+filter-alike p q (x ∷ xs) alike =
+    ap (λ ys. cond (p x) (x ∷ ys) ys) (filter-alike p q xs (λ y there. alike y (Contains-append_right (x ∷ []) xs y there)))
+    ∙ ap (λ b. cond b (x ∷ filter q xs) (filter q xs)) (alike x (Contains-append_left (x ∷ []) xs x (Contains-push [] x)))
 
-pub best-none : (packages : List PackageData) (d : Identity) (matches : List Match) → length matches ≡ 0 → AreMatches packages d matches → AreBestMatches packages d matches
-best-none packages d matches empty are m = (
-  λ h. let low = h.1 in absurd (omega (arith, low, empty)),
-  λ h. (are m).1 h.fits,
+same-test : (a b : Bool) → (a ≡ true → b ≡ true) → (b ≡ true → a ≡ true) → a ≡ b
+same-test true b there back = sym (there refl)
+same-test false true there back = back refl
+same-test false false there back = refl
+
+-- none of the matches has a lesser rank
+abbrev is_least : List Match → Match → Bool
+is_least matches m = list_all (λ (one : Match). nat_le m.rank one.rank) matches
+
+least-of : (matches : List Match) (m one : Match) → is_least matches m ≡ true → Contains matches one → m.rank ≤ one.rank
+least-of matches m one least there =
+    let test : Match → Bool = λ one. nat_le m.rank one.rank in
+    leb-true m.rank one.rank (All-contains (λ n. test n ≡ true) matches one (AllPass-from_list_all test matches least) there)
+
+least-from : (matches : List Match) (m : Match) → ((one : Match) → Contains matches one → m.rank ≤ one.rank) → is_least matches m ≡ true
+least-from matches m low =
+    list_all-from_AllPass (λ (one : Match). nat_le m.rank one.rank) matches
+    (λ k d within. le-leb m.rank (get_or matches k d).rank (low (get_or matches k d) (Contains-get_or matches k d within)))
+
+-- those of the least rank are kept
+pub best-kept : (matches : List Match) (least : ℕ)
+    → Contains (map (λ (m : Match). m.rank) matches) least × All (λ rank. least ≤ rank) (map (λ (m : Match). m.rank) matches)
+    → filter (λ (m : Match). m.rank == least) matches ≡ best_matches matches
+best-kept matches least lesser =
+    let (n, there, same) = rank-in matches least lesser.0 in
+    let low : (m : Match) → Contains matches m → least ≤ m.rank = λ m within.
+    All-contains (λ rank. least ≤ rank) (map (λ (m : Match). m.rank) matches) m.rank lesser.1 (rank-of matches m within) in
+    filter-alike (λ (m : Match). m.rank == least) (is_least matches) matches
+    (λ m within. same-test (m.rank == least) (is_least matches m)
+    (λ equal. let is = (Decides-eqb m.rank least).0 equal in
+    least-from matches m (λ one here. let above = low one here in omega (arith, is, above)))
+    (λ least_one. let below = least-of matches m n least_one there in let above = low m within in
+    (Decides-eqb m.rank least).1 (omega (arith, below, above, same))))
+
+-- these are those of the packages that match the dependency best, each with its rank
+abbrev pub AreBestMatches : List PackageData → Identity → List Match → Type 0
+AreBestMatches packages d matches =
+    (m : Match) → Contains matches m ↔ IsBestMatch packages d m.rank m.place
+
+pub best-are : (packages : List PackageData) (d : Identity) (matches : List Match) → AreMatches packages d matches → AreBestMatches packages d (best_matches matches)
+best-are packages d matches are m = (
+  λ h.
+      let (there, least) = kept-in (is_least matches) matches m h in
+      record {
+        fits = (are m).0 there;
+        least = λ k other f. let one : Match = record { rank = other; place = k } in least-of matches m one least ((are one).1 f);
+      },
+  λ h. in-kept (is_least matches) matches m ((are m).1 h.fits)
+      (least-from matches m (λ one there. h.least one.place one.rank ((are one).0 there))),
 )

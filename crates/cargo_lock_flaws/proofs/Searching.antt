@@ -13,7 +13,8 @@ use Rattle.cargo_lock_flaws.specs.declared.candidates.Match.{Match}
 use Rattle.cargo_lock_flaws.specs.declared.reach.Search.{Search}
 use Rattle.cargo_lock_flaws.specs.Places.{IsPlaces}
 use Rattle.cargo_lock_flaws.specs.Reach.{IsAskedBy, IsBestMatch, IsChain, IsOneOfBest, IsOrphan, IsReached, IsRoot, LeadsTo}
-use Rattle.cargo_lock_flaws.specs.Search.{AreBestMatches, HasReached, IsMarked, IsSearch}
+use Rattle.cargo_lock_flaws.specs.Search.{HasReached, IsMarked, IsSearch}
+use Rattle.cargo_lock_flaws.proofs.Matching.{AreBestMatches}
 
 -- ---- marks
 

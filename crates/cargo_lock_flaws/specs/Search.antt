@@ -1,22 +1,22 @@
 -- What the search for the packages that the workspace leads to has found so far.
-use Rattle.std.specs.Prelude.{◌≡◌, ◌+◌, ◌↔◌, ℕ, Bool, true, List, Some, length, slice_get, ◌⊎◌}
-use Rattle.std.specs.List.{Contains}
+use Rattle.std.specs.Prelude.{◌≡◌, ◌+◌, ◌↔◌, ◌⊎◌, ℕ, nat_le, Bool, true, List, Some, length}
+use Rattle.std.specs.Prelude.{slice_get}
+use Rattle.std.specs.List.{Contains, filter, list_all}
 use Rattle.cargo_lock_parts.specs.Identity.{Identity, PackageData}
 use Rattle.cargo_lock_graph.specs.DrawingMade.{unmarked_count}
 use Rattle.cargo_lock_graph.specs.Targets.{MatchesAt}
 use Rattle.cargo_lock_flaws.specs.declared.candidates.Match.{Match}
 use Rattle.cargo_lock_flaws.specs.declared.reach.Search.{Search}
-use Rattle.cargo_lock_flaws.specs.Reach.{IsBestMatch, IsReached, IsRoot, LeadsTo}
+use Rattle.cargo_lock_flaws.specs.Reach.{IsReached, IsRoot, LeadsTo}
 
 -- these are the packages that match the dependency, each with its rank
 abbrev pub AreMatches : List PackageData → Identity → List Match → Type 0
 AreMatches packages d matches =
     (m : Match) → Contains matches m ↔ MatchesAt packages d m.place m.rank
 
--- these are those of them that match best
-abbrev pub AreBestMatches : List PackageData → Identity → List Match → Type 0
-AreBestMatches packages d matches =
-    (m : Match) → Contains matches m ↔ IsBestMatch packages d m.rank m.place
+-- those of the matches that have the least rank, in order
+abbrev pub best_matches : List Match → List Match
+best_matches matches = filter (λ m. list_all (λ one. nat_le m.rank one.rank) matches) matches
 
 -- the place has a mark
 abbrev pub IsMarked : List Bool → ℕ → Type 0

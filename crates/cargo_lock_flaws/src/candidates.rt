@@ -2,7 +2,8 @@
 
 ghost use Rattle.std.specs.Prelude.{◌≡◌, ◌≤◌, ◌==◌, All, IfOk, MatchOption, filter, length, map};
 ghost use Rattle.std.specs.List.{Contains};
-ghost use Rattle.cargo_lock_flaws.specs.Search.{AreBestMatches, AreMatches};
+ghost use Rattle.cargo_lock_flaws.specs.Search.{AreMatches};
+ghost use Rattle.cargo_lock_flaws.specs.Search as spec;
 
 use cargo_lock_graph::versions::Versions;
 use cargo_lock_parts::dependency::Dependency;
@@ -13,22 +14,6 @@ use std::alloc::{AllocError, Global};
 pub(crate) struct Match {
     pub(crate) rank: u8,
     pub(crate) place: usize,
-}
-
-/// The packages that match a dependency best. There are several where they match equally well, and
-/// none where no package fits.
-pub(crate) fn best_matches<'a>(
-    alloc: Global,
-    versions: &Versions<'a>,
-    dependency: &'a Dependency,
-) -> Result<Vec<Match>, AllocError>
-    ensures { IfOk result (λ best. AreBestMatches versions.now dependency.now best.items) }
-{
-    let mut matches = all_matches(alloc, versions, dependency)?;
-    if let Some(least) = least_rank(&matches) {
-        keep_rank(&mut matches, least);
-    }
-    Ok(matches)
 }
 
 /// The packages that match a dependency.
@@ -48,6 +33,17 @@ pub(crate) fn all_matches<'a>(
         next = versions.before(place);
     }
     Ok(matches)
+}
+
+/// The matches of the least rank, in their order. There are several where packages match equally
+/// well, and none where there are no matches.
+pub(crate) fn best_matches(mut matches: Vec<Match>) -> Vec<Match>
+    ensures { result.items ≡ spec.best_matches matches.items }
+{
+    if let Some(least) = least_rank(&matches) {
+        keep_rank(&mut matches, least);
+    }
+    matches
 }
 
 // The least rank of some matches.

@@ -8,7 +8,7 @@ ghost use Rattle.cargo_lock_flaws.specs.Reach.{IsAskedBy, IsOneOfBest, IsOrphan,
 ghost use Rattle.cargo_lock_flaws.specs.Search.{HasReached, IsMarked, IsSearch};
 ghost use Rattle.std.specs.List.{Contains};
 
-use crate::candidates::best_matches;
+use crate::candidates::{all_matches, best_matches};
 use cargo_lock_graph::versions::Versions;
 use cargo_lock_parts::dependency::Dependency;
 use cargo_lock_parts::package::Package;
@@ -137,7 +137,7 @@ impl Search {
         ensures { OnOk result
             (HasReached (IsOneOfBest versions.now dependency.now) self.old self.new) }
     {
-        let best = best_matches(alloc, versions, dependency)?;
+        let best = best_matches(all_matches(alloc, versions, dependency)?);
         for one in &best {
             self.reach(one.place)?;
         }

@@ -1,7 +1,7 @@
-use Rattle.std.proofs.Common.{arith, List, subst, sym}
+use Rattle.std.proofs.Common.{◌∙◌, arith, List, subst, sym}
 use Rattle.cargo_lock_parts.specs.Identity.{PackageData}
 use Rattle.cargo_lock_flaws.specs.declared.candidates.Match.{Match}
-use Rattle.cargo_lock_flaws.specs.Search.{AreBestMatches}
+use Rattle.cargo_lock_flaws.proofs.Matching.{AreBestMatches, best-are}
 use Rattle.cargo_lock_flaws.proofs.Searching.{match-within, matches-none, matches-next, matches-all}
 use Rattle.cargo_lock_flaws.proofs.reach.Search.reach_best.Goals as goal
 
@@ -13,7 +13,8 @@ reach-requires c =
     let packages : List PackageData = c.args.versions.now in
     let d = c.args.dependency.now in
     let are : AreBestMatches packages d c.deref-one-items.result.now =
-    subst (λ (ms : List Match). AreBestMatches packages d ms) (sym c.deref-one-items.ensures.value) c.in_ok-best.ensures in
+    subst (λ (ms : List Match). AreBestMatches packages d ms) (sym (c.deref-one-items.ensures.value ∙ c.best_matches-best.ensures))
+    (best-are packages d c.in_ok-all_matches.field-0.items c.in_ok-all_matches.ensures) in
     let low = match-within packages d c.deref-one-items.result.now c.loop-one.one-index (record { rank = 0; place = 0 }) c.loop-one-test.true are in
     let count = c.loop-one.invariant.count in
     let long = c.requires in
@@ -29,5 +30,6 @@ returns c =
     let packages : List PackageData = c.args.versions.now in
     let d = c.args.dependency.now in
     let are : AreBestMatches packages d c.deref-one-items.result.now =
-    subst (λ (ms : List Match). AreBestMatches packages d ms) (sym c.deref-one-items.ensures.value) c.in_ok-best.ensures in
+    subst (λ (ms : List Match). AreBestMatches packages d ms) (sym (c.deref-one-items.ensures.value ∙ c.best_matches-best.ensures))
+    (best-are packages d c.in_ok-all_matches.field-0.items c.in_ok-all_matches.ensures) in
     matches-all packages d c.deref-one-items.result.now c.loop-one.one-index c.args.self.now c.loop-one.self c.loop-one-test.false are c.loop-one.invariant
