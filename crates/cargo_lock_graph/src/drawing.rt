@@ -3,12 +3,14 @@
 pub mod entry;
 mod label;
 pub mod laws;
+mod look;
 mod put;
 mod render;
 mod sink;
 mod symbols;
 mod walk;
 
+pub use crate::drawing::look::Look;
 pub use crate::drawing::render::{render_into, render_onto};
 pub use crate::drawing::sink::{Sink, WriterSink};
 pub use crate::drawing::symbols::Symbols;

@@ -14,7 +14,7 @@ ghost use Rattle.cargo_lock_graph.specs.Targets.{AreEdgesOf, IsLastWith, IsUnres
 use crate::error::Result;
 use crate::lockfile::Lockfile;
 use cargo_lock_graph::building::graph_of;
-use cargo_lock_graph::drawing::{render_into, render_onto};
+use cargo_lock_graph::drawing::{Look, render_into, render_onto};
 pub use cargo_lock_graph::drawing::{Sink, Symbols, WriterSink, laws};
 use cargo_lock_graph::graph::{EdgeDirection, Graph, NodeIndex, Nodes};
 use std::alloc::{AllocError, Global};
@@ -134,25 +134,8 @@ impl Tree {
             IsRenderedInto (S.taken sink.old) (S.taken sink.new)
             (S.failures sink.old) (S.failures sink.new) text result) }
     {
-        render_into(alloc, sink, &self.graph, index, direction, symbols, exact)
-    }
-
-    /// Draws the tree of a node onto a writer, with these symbols, as `render_into` does. A write
-    /// that is interrupted and a write of no bytes are faults.
-    pub fn render_with_symbols<W: Write>(
-        &self,
-        alloc: Global,
-        w: &mut W,
-        index: NodeIndex,
-        direction: EdgeDirection,
-        symbols: &Symbols,
-        exact: bool,
-    ) -> Result<()>
-        requires { index < length self.now.graph.packages }
-        ensures { Draws exact direction self.now.graph index
-            (λ text. IsRenderedTo (W.contents w.old) (W.contents w.new) text result) }
-    {
-        render_onto(alloc, w, &self.graph, index, direction, symbols, exact)
+        let look = Look { symbols, exact };
+        render_into(alloc, sink, &self.graph, index, direction, &look)
     }
 
     /// Draws the tree of a node onto a writer, as `render_into` does. A write that is interrupted
@@ -170,6 +153,25 @@ impl Tree {
             (λ text. IsRenderedTo (W.contents w.old) (W.contents w.new) text result) }
     {
         self.render_with_symbols(alloc, w, index, direction, &Symbols::default(), exact)
+    }
+
+    /// Draws the tree of a node onto a writer, with these symbols, as `render_into` does. A write
+    /// that is interrupted and a write of no bytes are faults.
+    pub fn render_with_symbols<W: Write>(
+        &self,
+        alloc: Global,
+        w: &mut W,
+        index: NodeIndex,
+        direction: EdgeDirection,
+        symbols: &Symbols,
+        exact: bool,
+    ) -> Result<()>
+        requires { index < length self.now.graph.packages }
+        ensures { Draws exact direction self.now.graph index
+            (λ text. IsRenderedTo (W.contents w.old) (W.contents w.new) text result) }
+    {
+        let look = Look { symbols, exact };
+        render_onto(alloc, w, &self.graph, index, direction, &look)
     }
 }
 

@@ -20,6 +20,7 @@ ghost use Rattle.cargo_lock_graph.specs.WalkState.{IsOn, to_come};
 
 use crate::drawing::entry::Entry;
 use crate::drawing::label::put_label;
+use crate::drawing::look::Look;
 use crate::drawing::put::{OfSink, OfWriter, Put, Target, put_all, put_both};
 use crate::drawing::sink::Sink;
 use crate::drawing::symbols::Symbols;
@@ -88,43 +89,36 @@ fn put_node<T: Target>(out: &mut T, graph: &Graph, node: NodeIndex, exact: bool)
 // The line of an entry, which was the last that the walk gave.
 fn put_line<T: Target>(
     out: &mut T,
-    symbols: &Symbols,
+    entry: Entry,
+    look: &Look<'_>,
     graph: &Graph,
     walk: &Walk,
-    entry: Entry,
-    exact: bool,
 ) -> Put
     requires sound { (T.state out.old).failures < 2 ^ 64 - 1 }
     requires on { IsOn graph.now walk.now }
     requires depth { entry.depth ≤ vec_len walk.now.stack }
     requires node { entry.node < length graph.now.packages }
     ensures { IsWritten (T.state out.old) (T.state out.new)
-        (line_by_later standard_symbols (label_at exact graph.now.packages) entry
+        (line_by_later standard_symbols (label_at look.now.exact graph.now.packages) entry
         (to_come graph.now walk.now)) result }
 {
-    put_prefix(out, symbols, graph, walk, entry.depth)?;
-    put_node(out, graph, NodeIndex::new(entry.node), exact)
+    put_prefix(out, look.symbols, graph, walk, entry.depth)?;
+    put_node(out, graph, NodeIndex::new(entry.node), look.exact)
 }
 
 // The lines of all entries that the walk still gives.
-fn put_entries<T: Target>(
-    out: &mut T,
-    symbols: &Symbols,
-    graph: &Graph,
-    walk: &mut Walk,
-    exact: bool,
-) -> Put
+fn put_entries<T: Target>(out: &mut T, look: &Look<'_>, graph: &Graph, walk: &mut Walk) -> Put
     requires sound { (T.state out.old).failures < 2 ^ 64 - 1 }
     requires on { IsOn graph.now walk.old }
     ensures on { IsOn graph.now walk.new }
     ensures levels { OnOk result ((earlier : List ℕ) → AreMarked walk.old.visited.items earlier
         → walk.new.most ≡ max walk.old.most (most_levels earlier (to_come graph.now walk.old))) }
     ensures written { IsWritten (T.state out.old) (T.state out.new)
-        (drawn_by_later standard_symbols (label_at exact graph.now.packages)
+        (drawn_by_later standard_symbols (label_at look.now.exact graph.now.packages)
         (to_come graph.now walk.old)) result }
 {
     while let Some(entry) = walk.next(graph) {
-        put_line(out, symbols, graph, walk, entry, exact)?;
+        put_line(out, entry, look, graph, walk)?;
     }
     Ok(())
 }
@@ -132,11 +126,10 @@ fn put_entries<T: Target>(
 // The line of the start, and those of all entries that the walk from it gives.
 fn put_drawing<T: Target>(
     out: &mut T,
-    symbols: &Symbols,
+    look: &Look<'_>,
     graph: &Graph,
     walk: &mut Walk,
     start: NodeIndex,
-    exact: bool,
 ) -> Put
     requires sound { (T.state out.old).failures < 2 ^ 64 - 1 }
     requires on { IsOn graph.now walk.old }
@@ -145,15 +138,15 @@ fn put_drawing<T: Target>(
     ensures levels { OnOk result ((earlier : List ℕ) → AreMarked walk.old.visited.items earlier
         → walk.new.most ≡ max walk.old.most (most_levels earlier (to_come graph.now walk.old))) }
     ensures written { IsWritten (T.state out.old) (T.state out.new)
-        (drawn_by_later standard_symbols (label_at exact graph.now.packages)
+        (drawn_by_later standard_symbols (label_at look.now.exact graph.now.packages)
         (record { node = start; depth = 0 } ∷ to_come graph.now walk.old)) result }
 {
     let first = Entry {
         node: start.index(),
         depth: 0,
     };
-    put_line(out, symbols, graph, walk, first, exact)?;
-    put_entries(out, symbols, graph, walk, exact)
+    put_line(out, first, look, graph, walk)?;
+    put_entries(out, look, graph, walk)
 }
 
 // Draws what is reachable from a start, and answers the greatest number of frames that the walk's
@@ -164,22 +157,21 @@ fn draw<T: Target>(
     graph: &Graph,
     start: NodeIndex,
     direction: EdgeDirection,
-    symbols: &Symbols,
-    exact: bool,
+    look: &Look<'_>,
 ) -> Result<usize>
     requires sound { (T.state out.old).failures < 2 ^ 64 - 1 }
     requires start { start < length graph.now.packages }
     ensures drawn { (entries : List Entry)
         × IsDrawing (far_ends direction graph.now.edges) start entries
         × IsRendered (T.state out.old) (T.state out.new)
-        (drawing_text standard_symbols (label_at exact graph.now.packages) entries) result
+        (drawing_text standard_symbols (label_at look.now.exact graph.now.packages) entries) result
         × IfOk result
         (λ most. most ≡ most_levels [] entries) }
     ensures frames { IfOk result (λ most. most ≤ length graph.now.packages) }
 {
     graph.has_both_ends();
     let mut walk = Walk::new(alloc, graph, start, direction)?;
-    match put_drawing(out, symbols, graph, &mut walk, start, exact) {
+    match put_drawing(out, look, graph, &mut walk, start) {
         Ok(()) => Ok(walk.most_frames(graph)),
         Err(kind) => Err(Error::Io(kind)),
     }
@@ -187,8 +179,8 @@ fn draw<T: Target>(
 
 /// Draws what is reachable from a node into a sink, along the edges in a direction. Each line is an
 /// entry: the node itself, and below each entry of a node that no earlier line has, the far ends of
-/// the node's edges, newest first. A label is the name and the version, and where it is exact also
-/// the checksum, or else the source, or else `inexact`.
+/// the node's edges, newest first. A label is the name and the version, and where labels are exact
+/// also the checksum, or else the source, or else `inexact`.
 ///
 /// All memory is asked for before the first byte, so `Memory` means that nothing was taken. `Io`
 /// means that the sink failed once, and that a beginning of the text was taken. No other fault
@@ -199,17 +191,16 @@ pub fn render_into<S: Sink>(
     graph: &Graph,
     start: NodeIndex,
     direction: EdgeDirection,
-    symbols: &Symbols,
-    exact: bool,
+    look: &Look<'_>,
 ) -> Result<()>
     requires sound { S.failures sink.old < 2 ^ 64 - 1 }
     requires start { start < length graph.now.packages }
-    ensures { Draws exact direction graph.now start (λ text.
+    ensures { Draws look.now.exact direction graph.now start (λ text.
         IsRenderedInto (S.taken sink.old) (S.taken sink.new)
         (S.failures sink.old) (S.failures sink.new) text result) }
 {
     let mut out = OfSink { sink };
-    let drawn = draw(alloc, &mut out, graph, start, direction, symbols, exact);
+    let drawn = draw(alloc, &mut out, graph, start, direction, look);
     let OfSink { sink } = out;
     let _ = &*sink;
     match drawn {
@@ -226,15 +217,14 @@ pub fn render_onto<W: Write>(
     graph: &Graph,
     start: NodeIndex,
     direction: EdgeDirection,
-    symbols: &Symbols,
-    exact: bool,
+    look: &Look<'_>,
 ) -> Result<()>
     requires { start < length graph.now.packages }
-    ensures { Draws exact direction graph.now start
+    ensures { Draws look.now.exact direction graph.now start
         (λ text. IsRenderedTo (W.contents writer.old) (W.contents writer.new) text result) }
 {
     let mut out = OfWriter { writer, faults: 0 };
-    let drawn = draw(alloc, &mut out, graph, start, direction, symbols, exact);
+    let drawn = draw(alloc, &mut out, graph, start, direction, look);
     let OfWriter { writer, .. } = out;
     let _ = &*writer;
     match drawn {

@@ -20,7 +20,7 @@ returns-in_err-walk-clause-drawn g c =
     let p = err_from_is_err_and c.from_residual.result c.from_residual.ensures.1 in (
       es,
       drawing_of c.args.direction graph c.args.start es c.has_both_ends.ensures c.requires.start refl,
-      rendered_memory c.from_residual.result _ (drawing_text standard_symbols (label_at c.args.exact graph.packages) es) (p.1 ∙ ap (λ x. Err x) p.2),
+      rendered_memory c.from_residual.result _ (drawing_text standard_symbols (label_at c.args.look.now.exact graph.packages) es) (p.1 ∙ ap (λ x. Err x) p.2),
       rw (p.1) tt,
     )
 
@@ -30,7 +30,7 @@ returns-in-Ok-clause-drawn g c =
     let far : ℕ → List ℕ = far_ends c.args.direction graph.edges in
     let es : List Entry = record { node = c.args.start; depth = 0 } ∷ to_come graph c.in_ok-walk.walk in
     let d = drawing_of c.args.direction graph c.args.start es c.has_both_ends.ensures c.requires.start c.in_ok-walk.ensures.all in
-    let text = text_of_drawing far c.args.start es standard_symbols (label_at c.args.exact graph.packages) d in
+    let text = text_of_drawing far c.args.start es standard_symbols (label_at c.args.look.now.exact graph.packages) d in
     let old = g.T.Target.state c.args.out.now in
     let new = g.T.Target.state c.put_drawing.new.out in
     let first = c.in_ok-walk.ensures.first in
@@ -44,7 +44,7 @@ returns-clause-drawn g c =
     let far : ℕ → List ℕ = far_ends c.args.direction graph.edges in
     let es : List Entry = record { node = c.args.start; depth = 0 } ∷ to_come graph c.in_ok-walk.walk in
     let d = drawing_of c.args.direction graph c.args.start es c.has_both_ends.ensures c.requires.start c.in_ok-walk.ensures.all in
-    let text = text_of_drawing far c.args.start es standard_symbols (label_at c.args.exact graph.packages) d in
+    let text = text_of_drawing far c.args.start es standard_symbols (label_at c.args.look.now.exact graph.packages) d in
     let old = g.T.Target.state c.args.out.now in
     let new = g.T.Target.state c.put_drawing.new.out in
     (es, d, subst (λ (t : List ℕ). HasFailed old new t) (sym text) c.in-Err.ensures.written, tt)

@@ -10,7 +10,7 @@ use Rattle.cargo_lock_graph.proofs.drawing.render.put_drawing.Goals as goal
 pub returns-in_err-put_line-clause-written : goal.returns-in_err-put_line-clause-written
 returns-in_err-put_line-clause-written g c =
     let graph = c.args.graph.now in
-    let label : ℕ → List ℕ = label_at c.args.exact graph.packages in
+    let label : ℕ → List ℕ = label_at c.args.look.now.exact graph.packages in
     let later : List Entry = to_come graph c.args.walk.now in
     let line : ℕ → List ℕ = λ n. line_by_later standard_symbols label (record { node = n; depth = 0 }) later in
     let rest : List ℕ = drawn_by_later standard_symbols label later in
@@ -20,7 +20,7 @@ returns-in_err-put_line-clause-written g c =
 pub returns-clause-written : goal.returns-clause-written
 returns-clause-written g c =
     let graph = c.args.graph.now in
-    let label : ℕ → List ℕ = label_at c.args.exact graph.packages in
+    let label : ℕ → List ℕ = label_at c.args.look.now.exact graph.packages in
     let later : List Entry = to_come graph c.args.walk.now in
     let line : ℕ → List ℕ = λ n. line_by_later standard_symbols label (record { node = n; depth = 0 }) later in
     let rest : List ℕ = drawn_by_later standard_symbols label later in

@@ -22,7 +22,7 @@ loop-entry-init g c = record {
 pub loop-entry-preserved : goal.loop-entry-preserved
 loop-entry-preserved g c =
     let graph = c.args.graph.now in
-    let label : ℕ → List ℕ = label_at c.args.exact graph.packages in
+    let label : ℕ → List ℕ = label_at c.args.look.now.exact graph.packages in
     let later : List Entry = to_come graph c.next.new.self in
     let told = c.loop-entry.invariant.told in
     let this : List ℕ = line_by_later standard_symbols label c.in-Some.entry later in

@@ -17,7 +17,7 @@ invariant-loop-entry g l = record {
       → (nodes : List ℕ) × AreMarked l.walk.visited.items nodes
       × (max l.walk.most (most_levels nodes (to_come l.graph l.walk)) ≡ max l.fn.walk.most (most_levels earlier (to_come l.graph l.fn.walk)));
   told : (front : List ℕ) × Appends (g.T.Target.state l.fn.out).bytes (g.T.Target.state l.out).bytes front
-      × (front ++ drawn_by_later standard_symbols (label_at l.exact l.graph.packages) (to_come l.graph l.walk) ≡ drawn_by_later standard_symbols (label_at l.exact l.graph.packages) (to_come l.graph l.fn.walk));
+      × (front ++ drawn_by_later standard_symbols (label_at l.look.exact l.graph.packages) (to_come l.graph l.walk) ≡ drawn_by_later standard_symbols (label_at l.look.exact l.graph.packages) (to_come l.graph l.fn.walk));
 }
 
 abbrev pub decreases-loop-entry : goal.decreases-loop-entry
