@@ -270,6 +270,7 @@ fn references_survive<'a>(
     Ok(true)
 }
 
+// Whether a reference, as it is written, survives where it is looked up: in V1 by itself.
 fn written_reference_survives<'a>(
     alloc: Global,
     format: ResolveVersion,
@@ -281,29 +282,13 @@ fn written_reference_survives<'a>(
     ensures err { IsOkUnless result Memory }
 {
     let reference = written_reference(format, list, dependency);
-    let survives = survives_among(alloc, format, &reference, list, dependency)?;
-    Ok(survives)
-}
-
-// Whether the reference survives where it is looked up: in V1 by itself.
-fn survives_among<'a>(
-    alloc: Global,
-    format: ResolveVersion,
-    reference: &EncodableDependencyRef<'a>,
-    list: &Indexed<'a, Package>,
-    dependency: &Dependency,
-) -> std::result::Result<bool, AllocError>
-    ensures { IfOk result (λ b. IsTrue b
-        ↔ ReferenceSurvives reference.now
-        (reading_list format (map identity_of list.now)) dependency.now) }
-{
-    match format {
-        ResolveVersion::V1 => reference_survives_alone(alloc, reference, dependency),
+    let survives = match format {
+        ResolveVersion::V1 => reference_survives_alone(alloc, &reference, dependency)?,
         ResolveVersion::V2 | ResolveVersion::V3 | ResolveVersion::V4 => {
-            let survives = reference_survives(alloc, reference, list, dependency)?;
-            Ok(survives)
+            reference_survives(alloc, &reference, list, dependency)?
         }
-    }
+    };
+    Ok(survives)
 }
 
 fn full_references_survive(
