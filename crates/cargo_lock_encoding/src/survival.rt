@@ -124,24 +124,8 @@ fn packages_survive(
 {
     let packages = Indexed::of(alloc, list)?;
     let read = ReadMetadata::of(alloc, metadata)?;
-    let survive = each_survives(alloc, format, &read, &packages, list)?;
-    Ok(survive)
-}
-
-fn each_survives<'a>(
-    alloc: Global,
-    format: ResolveVersion,
-    metadata: &ReadMetadata<'_>,
-    packages: &Indexed<'a, Package>,
-    list: &'a [Package],
-) -> Result<bool>
-    ensures ok { IfOk result (λ b. IsTrue b
-        ↔ AllByRecursion
-        (ListedSurvives format (map identity_of packages.now) metadata.now) list.now) }
-    ensures err { IsOkUnless result Memory }
-{
     for package in list {
-        if !package_survives(alloc, format, metadata, packages, package)? {
+        if !package_survives(alloc, format, &read, &packages, package)? {
             return Ok(false);
         }
     }

@@ -21,12 +21,12 @@ pub(crate) fn run<R: Files + AllocGlobal, W: Write>(
     options: &ArgMatches<'_>,
     out: &mut W,
 ) -> Result<(), Fault> {
-    let lockfile = lockfile(rt, options, "file")?;
     let detail = Detail {
         dependencies: options.get_flag("dependencies"),
         sources: options.get_flag("sources"),
     };
     let wanted = options.get_str("package");
+    let lockfile = lockfile(rt, options, "file")?;
     print_packages(out, lockfile.packages.as_slice(), wanted, detail)
 }
 

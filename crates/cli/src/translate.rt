@@ -26,7 +26,7 @@ pub(crate) fn run<R: Files + AllocGlobal, W: Write>(
     options: &ArgMatches<'_>,
     out: &mut W,
 ) -> Result<(), Fault>
-    ensures { OnOk result
+    ensures translation { OnOk result
         (PrintsTranslation (found_of options.now) (W.contents out.old) (W.contents out.new)) }
 {
     let format = ResolveVersion::from_str(rt.alloc(), words::format(options))?;
