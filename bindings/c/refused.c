@@ -6,6 +6,7 @@
  *
  *     refused Cargo.lock ..
  */
+#include "../../tests/rattle_memory.h"
 #include "cargo_lock.h"
 
 #include <stdio.h>
@@ -13,15 +14,6 @@
 #include <string.h>
 
 /* ---- the memory of the library, in place of the kit's */
-
-typedef struct {
-    uint64_t is_given;
-    void *at;
-} block;
-
-block rattle_alloc(size_t size, size_t align);
-block rattle_realloc(void *at, size_t old_size, size_t size, size_t align);
-void rattle_dealloc(void *at);
 
 static long growths, first_refused, blocks;
 static bool is_lone;
@@ -32,21 +24,21 @@ static bool is_refused(void)
     return first_refused && (is_lone ? growths == first_refused : growths >= first_refused);
 }
 
-static block given(void *at)
+static Block given(void *at)
 {
     static char nowhere;
-    block made = {at != NULL, at != NULL ? at : &nowhere};
+    Block made = {at != NULL, at != NULL ? at : &nowhere};
     return made;
 }
 
-block rattle_alloc(size_t size, size_t align)
+Block rattle_alloc(size_t size, size_t align)
 {
     void *at = is_refused() ? NULL : malloc(size ? size : align);
     blocks += at != NULL;
     return given(at);
 }
 
-block rattle_realloc(void *at, size_t old_size, size_t size, size_t align)
+Block rattle_realloc(void *at, size_t old_size, size_t size, size_t align)
 {
     (void)old_size;
     return given(is_refused() ? NULL : realloc(at, size ? size : align));

@@ -107,29 +107,18 @@ static uint32_t tree_of_third(text given, uint8_t *out, size_t out_len, size_t *
 /* The lockfile that others are compared with. */
 static text other;
 
-static uint32_t changes(text given, uint8_t *out, size_t out_len, size_t *length)
-{
-    return cargo_lock_diff(given.bytes, given.length, other.bytes, other.length, false, out, out_len,
-                           length);
-}
+/* A call that tells the changes from one lockfile to another, of which `given` is one. */
+#define CHANGES(call, old, new, dependencies)                                                     \
+    static uint32_t call(text given, uint8_t *out, size_t out_len, size_t *length)                \
+    {                                                                                             \
+        return cargo_lock_diff(old.bytes, old.length, new.bytes, new.length, dependencies, out,   \
+                               out_len, length);                                                  \
+    }
 
-static uint32_t all_changes(text given, uint8_t *out, size_t out_len, size_t *length)
-{
-    return cargo_lock_diff(given.bytes, given.length, other.bytes, other.length, true, out, out_len,
-                           length);
-}
-
-static uint32_t changes_back(text given, uint8_t *out, size_t out_len, size_t *length)
-{
-    return cargo_lock_diff(other.bytes, other.length, given.bytes, given.length, true, out, out_len,
-                           length);
-}
-
-static uint32_t changes_of_itself(text given, uint8_t *out, size_t out_len, size_t *length)
-{
-    return cargo_lock_diff(given.bytes, given.length, given.bytes, given.length, true, out, out_len,
-                           length);
-}
+CHANGES(changes, given, other, false)
+CHANGES(all_changes, given, other, true)
+CHANGES(changes_back, other, given, true)
+CHANGES(changes_of_itself, given, given, true)
 
 static uint32_t edges(text given, uint8_t *out, size_t out_len, size_t *length)
 {

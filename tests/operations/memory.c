@@ -1,4 +1,5 @@
 #define _GNU_SOURCE
+#include "../rattle_memory.h"
 #include "operations.h"
 #include <elf.h>
 #include <fcntl.h>
@@ -8,16 +9,6 @@
 #include <sys/mman.h>
 #include <sys/stat.h>
 #include <unistd.h>
-
-/* How the operations are answered: whether memory was given, and where. */
-typedef struct {
-    uint64_t is_given;
-    void *at;
-} Block;
-
-Block rattle_alloc(size_t size, size_t align);
-Block rattle_realloc(void *at, size_t old_size, size_t size, size_t align);
-void rattle_dealloc(void *at);
 
 enum { DEEPEST = 64 };
 

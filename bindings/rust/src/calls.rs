@@ -5,59 +5,33 @@ use crate::{DiffError, Edge, Error};
 mod library {
     use crate::Edge;
 
+    // Declares a call that hands items out: after the text and what it takes of its own come the
+    // room for the items, its length, and the number of items that it tells.
+    macro_rules! hands_out {
+        ($call:ident, $item:ty $(, $name:ident: $type:ty)*) => {
+            extern "C" {
+                pub fn $call(
+                    text: *const u8,
+                    text_len: usize,
+                    $($name: $type,)*
+                    out: *mut $item,
+                    out_len: usize,
+                    length: *mut usize,
+                ) -> u32;
+            }
+        };
+    }
+
     extern "C" {
         pub fn cargo_lock_format(text: *const u8, text_len: usize, format: *mut u32) -> u32;
-        pub fn cargo_lock_fault(
-            text: *const u8,
-            text_len: usize,
-            out: *mut u8,
-            out_len: usize,
-            length: *mut usize,
-        ) -> u32;
         pub fn cargo_lock_survives(text: *const u8, text_len: usize, format: u32) -> u32;
-        pub fn cargo_lock_translate(
-            text: *const u8,
-            text_len: usize,
-            format: u32,
-            out: *mut u8,
-            out_len: usize,
-            length: *mut usize,
-        ) -> u32;
-        pub fn cargo_lock_packages(
-            text: *const u8,
-            text_len: usize,
-            out: *mut u8,
-            out_len: usize,
-            length: *mut usize,
-        ) -> u32;
-        pub fn cargo_lock_edges(
-            text: *const u8,
-            text_len: usize,
-            out: *mut Edge,
-            out_len: usize,
-            length: *mut usize,
-        ) -> u32;
-        pub fn cargo_lock_tree(
-            text: *const u8,
-            text_len: usize,
-            package: usize,
-            inverted: bool,
-            exact: bool,
-            out: *mut u8,
-            out_len: usize,
-            length: *mut usize,
-        ) -> u32;
-        pub fn cargo_lock_diff(
-            old: *const u8,
-            old_len: usize,
-            new: *const u8,
-            new_len: usize,
-            dependencies: bool,
-            out: *mut u8,
-            out_len: usize,
-            length: *mut usize,
-        ) -> u32;
     }
+    hands_out!(cargo_lock_fault, u8);
+    hands_out!(cargo_lock_translate, u8, format: u32);
+    hands_out!(cargo_lock_packages, u8);
+    hands_out!(cargo_lock_edges, Edge);
+    hands_out!(cargo_lock_tree, u8, package: usize, inverted: bool, exact: bool);
+    hands_out!(cargo_lock_diff, u8, new: *const u8, new_len: usize, dependencies: bool);
 }
 
 // The statuses that are not faults.

@@ -11,7 +11,7 @@ use Rattle.cargo_lock_c.specs.declared.refusal.Refusal.TheVariants.{NoNewLockfil
 
 -- the status of a call that gives no answer; 0 is that of an answer, and 5 that of an answer for
 -- which there is no room
-abbrev pub status_of : Refusal → ℕ
+abbrev pub status_of : (refusal : Refusal) → ℕ
 status_of NoLockfile = 1
 status_of NoText = 2
 status_of NoMemory = 3

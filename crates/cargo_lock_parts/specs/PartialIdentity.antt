@@ -81,14 +81,11 @@ partial_key-anti j k e =
     let source = option_cmp-anti key_cmp-anti j.source k.source sources in
     λ i. record { name = name i; version = version i; source = source i }
 
-partial_identity_cmp-key : (a b : PartialIdentity) → partial_identity_cmp a b
-    ≡ partial_key_cmp (partial_key a) (partial_key b)
-unfolding partial_key_cmp
-partial_identity_cmp-key a b =
-    ap (ordering_then _) (option_cmp-by key_of source_cmp key_cmp (λ x y. refl) a.source b.source)
-
 -- two are the same exactly where their keys are
 pub is_same_partial_identity-Decides : (a b : PartialIdentity)
     → Decides (is_same_partial_identity a b) (partial_key a ≡ partial_key b)
+unfolding partial_key_cmp
 is_same_partial_identity-Decides = by_keys-Decides partial_identity_cmp partial_key_cmp partial_key
-    partial_key-total partial_key-anti partial_identity_cmp-key
+    partial_key-total partial_key-anti
+    (λ a b. ap (ordering_then _)
+    (option_cmp-by key_of source_cmp key_cmp (λ x y. refl) a.source b.source))
