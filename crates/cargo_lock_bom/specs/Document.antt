@@ -1,6 +1,8 @@
 -- The bill of materials of a graph, as CycloneDX 1.6 has it in JSON.
 use Rattle.std.specs.Prelude.{◌≡◌, ℕ, List, map, length, codes, Some}
 use Rattle.std.specs.List.{AllZip, range_with_len}
+use Rattle.json.specs.Lex.{tokens}
+use Rattle.json.specs.Token.{Token}
 use Rattle.serde_json.specs.Data.{Data, number, unsigned, string, array, object, item, no_items}
 use Rattle.serde_json.specs.Data.{member, no_members}
 use Rattle.serde_json.specs.Read.{read}
@@ -42,3 +44,7 @@ pub record IsBillText (graph : GraphData) (text : List ℕ) : Type 0 where
   pub bill : Data
   pub is : IsBill graph bill
   pub reads : read text ≡ Some bill
+
+-- the text is that of its own tokens, in a layout
+abbrev pub IsLaidOut : (List Token → List ℕ) → List ℕ → Type 0
+IsLaidOut layout text = text ≡ layout (tokens text)

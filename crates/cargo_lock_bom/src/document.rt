@@ -2,10 +2,9 @@
 
 ghost use Rattle.std.specs.Prelude.{◌≡◌, IfErr, IfOk, map, string_bytes};
 ghost use Rattle.json.specs.Layout.{pretty};
-ghost use Rattle.json.specs.Lex.{tokens};
 ghost use Rattle.json.specs.Print.{print};
 ghost use Rattle.serde_json.specs.View.{view};
-ghost use Rattle.cargo_lock_bom.specs.Document.{IsBill, IsBillText};
+ghost use Rattle.cargo_lock_bom.specs.Document.{IsBill, IsBillText, IsLaidOut};
 ghost use Rattle.cargo_lock_bom.specs.Document as spec;
 ghost use Rattle.cargo_lock_bom.specs.References.{IsRepeatedFault};
 
@@ -44,26 +43,20 @@ pub fn document(alloc: Global, graph: &Graph) -> Result<Value>
 /// `document` does.
 pub fn pretty_text(alloc: Global, graph: &Graph) -> Result<String>
     ensures ok { IfOk result (λ text. IsBillText graph.now (string_bytes text)) }
-    ensures layout { IfOk result
-        (λ text. string_bytes text ≡ pretty (tokens (string_bytes text))) }
+    ensures layout { IfOk result (λ text. IsLaidOut pretty (string_bytes text)) }
     ensures err { IfErr result (IsRepeatedFault graph.now.packages) }
 {
-    let bill = document(alloc, graph)?;
-    let text = bill.to_string_pretty(alloc)?;
-    Ok(text)
+    Ok(document(alloc, graph)?.to_string_pretty(alloc)?)
 }
 
 /// The text of the bill of materials of a graph, in one line without spaces between its parts.
 /// Fails as `document` does.
 pub fn compact_text(alloc: Global, graph: &Graph) -> Result<String>
     ensures ok { IfOk result (λ text. IsBillText graph.now (string_bytes text)) }
-    ensures layout { IfOk result
-        (λ text. string_bytes text ≡ print (tokens (string_bytes text))) }
+    ensures layout { IfOk result (λ text. IsLaidOut print (string_bytes text)) }
     ensures err { IfErr result (IsRepeatedFault graph.now.packages) }
 {
-    let bill = document(alloc, graph)?;
-    let text = bill.to_string(alloc)?;
-    Ok(text)
+    Ok(document(alloc, graph)?.to_string(alloc)?)
 }
 
 // The document of components and entries.

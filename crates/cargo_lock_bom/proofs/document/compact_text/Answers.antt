@@ -4,7 +4,7 @@ use Rattle.cargo_lock_bom.proofs.document.compact_text.Goals as goal
 
 pub returns-clause-ok : goal.returns-clause-ok
 returns-clause-ok c = record {
-  bill = view c.in_ok-bill.bill;
-  is = c.in_ok-bill.ensures.ok;
-  reads = c.in_ok-text.ensures.reads_back (bill_low c.args.graph.now (view c.in_ok-bill.bill) c.in_ok-bill.ensures.ok);
+  bill = view c.in_ok-document.field-0;
+  is = c.in_ok-document.ensures.ok;
+  reads = c.in_ok-to_string.ensures.reads_back (bill_low c.args.graph.now (view c.in_ok-document.field-0) c.in_ok-document.ensures.ok);
 }
