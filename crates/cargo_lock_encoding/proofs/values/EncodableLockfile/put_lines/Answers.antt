@@ -13,4 +13,4 @@ returns c =
       metadata = texts_of c.self.inside.metadata.entries;
       patch = c.self.inside.patch;
     } in
-    rw (← c.self.view_is) (then-encoded seen (string_bytes c.args.out.now) _ _ _ _ _ c.in_ok-put_comments.ensures c.in_ok-put_format.ensures (rw c.as_slice.ensures at c.in_ok-put_packages.ensures) (rw c.is_escaped_number.ensures at c.in_ok-put_patches.ensures) c.in_ok-put_metadata.ensures)
+    rw (← c.self.view_is) (then-encoded seen (string_bytes c.args.out.now) _ _ _ _ _ c.in_ok-put_comments.ensures c.in_ok-put_format.ensures (rw c.as_slice.ensures.value at c.in_ok-put_packages.ensures) (rw c.is_escaped_number.ensures at c.in_ok-put_patches.ensures) c.in_ok-put_metadata.ensures)
