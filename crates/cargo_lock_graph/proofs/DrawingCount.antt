@@ -5,7 +5,7 @@ use Rattle.std.proofs.lemmas.Bool.{cases_Bool, eqb-true}
 use Rattle.std.proofs.lemmas.List.{length-map, length-reverse}
 use Rattle.cargo_lock_graph.specs.declared.graph.EdgeDirection.{EdgeDirection}
 use Rattle.cargo_lock_graph.specs.declared.drawing.entry.Entry.{Entry}
-use Rattle.cargo_lock_graph.specs.Drawing.{is_among, nodes_of}
+use Rattle.cargo_lock_graph.specs.Drawing.{is_one_of, nodes_of}
 use Rattle.cargo_lock_graph.specs.DrawingPlaces.{children_count}
 use Rattle.cargo_lock_graph.specs.DrawingSteps.{children_after, DrawsFrom}
 use Rattle.cargo_lock_graph.specs.Edges.{Edge, near_end, far_end, far_ends, edges_at, is_at}
@@ -59,15 +59,15 @@ bools false false false true h = refl
 bools false false false false h = refl
 
 abbrev fresh : List ℕ → List ℕ → ℕ → Bool
-fresh nodes earlier m = is_among m nodes && not (is_among m earlier)
+fresh nodes earlier m = is_one_of m nodes && not (is_one_of m earlier)
 
 children_leaving : (d : EdgeDirection) (edges : List Edge) (es : List Entry) (earlier : List ℕ) → children_count (far_ends d edges) earlier es ≡ leaving d (fresh (nodes_of es) earlier) edges
 children_leaving d edges [] earlier = sym (leaving_none d (fresh [] earlier) (λ m. refl) edges)
 children_leaving d edges (e ∷ es) earlier =
     let n : ℕ = e.node in
-    let own : ℕ → Bool = λ m. cond (is_among n earlier) false (eqb m n) in
-    let split = leaving_split d (fresh (n ∷ nodes_of es) earlier) (fresh (nodes_of es) (n ∷ earlier)) own (λ m. bools (eqb m n) (is_among m (nodes_of es)) (is_among m earlier) (is_among n earlier) (λ same. ap (λ (k : ℕ). is_among k earlier) (sym (eqb-true m n same)))) edges in
-    let mine : length (children_after (far_ends d edges) earlier n) ≡ leaving d own edges = elim (cases_Bool (is_among n earlier)) [
+    let own : ℕ → Bool = λ m. cond (is_one_of n earlier) false (eqb m n) in
+    let split = leaving_split d (fresh (n ∷ nodes_of es) earlier) (fresh (nodes_of es) (n ∷ earlier)) own (λ m. bools (eqb m n) (is_one_of m (nodes_of es)) (is_one_of m earlier) (is_one_of n earlier) (λ same. ap (λ (k : ℕ). is_one_of k earlier) (sym (eqb-true m n same)))) edges in
+    let mine : length (children_after (far_ends d edges) earlier n) ≡ leaving d own edges = elim (cases_Bool (is_one_of n earlier)) [
       | inl t ↦ rw t (sym (leaving_none d (λ m. false) (λ m. refl) edges))
       | inr f ↦ rw f (length-far d n edges)
     ] in
@@ -77,9 +77,9 @@ keep_all : (b : Bool) → (b && true) ≡ b
 keep_all true = refl
 keep_all false = refl
 
-entries_leaving : (d : EdgeDirection) (edges : List Edge) (start : ℕ) (es : List Entry) → DrawsFrom (far_ends d edges) start es → length es ≡ suc (leaving d (λ n. is_among n (nodes_of es)) edges)
+entries_leaving : (d : EdgeDirection) (edges : List Edge) (start : ℕ) (es : List Entry) → DrawsFrom (far_ends d edges) start es → length es ≡ suc (leaving d (λ n. is_one_of n (nodes_of es)) edges)
 entries_leaving d edges start es h =
-    length_drawing (far_ends d edges) start es h ∙ ap suc (children_leaving d edges es [] ∙ leaving_same d (fresh (nodes_of es) []) (λ n. is_among n (nodes_of es)) (λ m. keep_all (is_among m (nodes_of es))) edges)
+    length_drawing (far_ends d edges) start es h ∙ ap suc (children_leaving d edges es [] ∙ leaving_same d (fresh (nodes_of es) []) (λ n. is_one_of n (nodes_of es)) (λ m. keep_all (is_one_of m (nodes_of es))) edges)
 
 leaving_filter : (d : EdgeDirection) (test : ℕ → Bool) (edges : List Edge) → leaving d test edges ≡ length (filter (λ (e : Edge). test (near_end d e)) edges)
 leaving_filter d test [] = refl
@@ -89,5 +89,5 @@ leaving_filter d test (e ∷ edges) =
       | inr f ↦ rw f (omega (arith, leaving_filter d test edges))
     ]
 
-pub entries_counted : (d : EdgeDirection) (edges : List Edge) (start : ℕ) (es : List Entry) → DrawsFrom (far_ends d edges) start es → length es ≡ suc (length (filter (λ (e : Edge). is_among (near_end d e) (nodes_of es)) edges))
-entries_counted d edges start es h = entries_leaving d edges start es h ∙ ap suc (leaving_filter d (λ n. is_among n (nodes_of es)) edges)
+pub entries_counted : (d : EdgeDirection) (edges : List Edge) (start : ℕ) (es : List Entry) → DrawsFrom (far_ends d edges) start es → length es ≡ suc (length (filter (λ (e : Edge). is_one_of (near_end d e) (nodes_of es)) edges))
+entries_counted d edges start es h = entries_leaving d edges start es h ∙ ap suc (leaving_filter d (λ n. is_one_of n (nodes_of es)) edges)

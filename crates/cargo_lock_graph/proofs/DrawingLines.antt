@@ -3,7 +3,7 @@ use Rattle.std.proofs.Common.{◌≡◌, ℕ, zero, suc, Bool, true, false, eqb,
 use Rattle.std.proofs.lemmas.Bool.{or_parts, or_from, cases_eq, eq-eqb, ne_eqb}
 use Rattle.std.proofs.lemmas.List.{append-nil}
 use Rattle.cargo_lock_graph.specs.declared.drawing.entry.Entry.{Entry}
-use Rattle.cargo_lock_graph.specs.Drawing.{is_among}
+use Rattle.cargo_lock_graph.specs.Drawing.{is_one_of}
 use Rattle.cargo_lock_graph.specs.DrawingSteps.{AreSteps, DrawsFrom}
 use Rattle.cargo_lock_graph.specs.DrawingText.{level_text, branch_text, standard_symbols}
 use Rattle.cargo_lock_graph.specs.DrawingByLater.{levels_text, goes_on, prefix_by_later, line_by_later, drawn_by_later}
@@ -20,34 +20,34 @@ eqb_turn a b =
       | inr other ↦ ne_eqb a b other ∙ sym (ne_eqb b a (λ same. other (sym same)))
     ]
 
-cut_one : (acc x rest : List ℕ) → is_among 10 x ≡ false → cut acc (x ++ 10 ∷ rest) ≡ (acc ++ x) ∷ cut [] rest
+cut_one : (acc x rest : List ℕ) → is_one_of 10 x ≡ false → cut acc (x ++ 10 ∷ rest) ≡ (acc ++ x) ∷ cut [] rest
 cut_one acc [] rest h = ap (λ (l : List ℕ). l ∷ cut [] rest) (sym (append-nil acc))
 cut_one acc (y ∷ x) rest h =
-    let p = or_parts (eqb 10 y) (is_among 10 x) h in
+    let p = or_parts (eqb 10 y) (is_one_of 10 x) h in
     let other : eqb y 10 ≡ false = eqb_turn y 10 ∙ p.0 in
     rw other (cut_one (acc ++ y ∷ []) x rest p.1 ∙ ap (λ (l : List ℕ). l ∷ cut [] rest) (append_assoc acc (y ∷ []) x))
 
-pub among-append : (n : ℕ) (x y : List ℕ) → is_among n x ≡ false → is_among n y ≡ false → is_among n (x ++ y) ≡ false
+pub among-append : (n : ℕ) (x y : List ℕ) → is_one_of n x ≡ false → is_one_of n y ≡ false → is_one_of n (x ++ y) ≡ false
 among-append n [] y h k = k
-among-append n (z ∷ x) y h k = let p = or_parts (eqb n z) (is_among n x) h in or_from (eqb n z) (is_among n (x ++ y)) p.0 (among-append n x y p.1 k)
+among-append n (z ∷ x) y h k = let p = or_parts (eqb n z) (is_one_of n x) h in or_from (eqb n z) (is_one_of n (x ++ y)) p.0 (among-append n x y p.1 k)
 
-rail_plain : (b : Bool) → is_among 10 (level_text standard_symbols b) ≡ false
+rail_plain : (b : Bool) → is_one_of 10 (level_text standard_symbols b) ≡ false
 rail_plain true = refl
 rail_plain false = refl
 
-knot_plain : (b : Bool) → is_among 10 (branch_text standard_symbols b) ≡ false
+knot_plain : (b : Bool) → is_one_of 10 (branch_text standard_symbols b) ≡ false
 knot_plain true = refl
 knot_plain false = refl
 
-rails_plain : (k : ℕ) (later : List Entry) → is_among 10 (levels_text standard_symbols k later) ≡ false
+rails_plain : (k : ℕ) (later : List Entry) → is_one_of 10 (levels_text standard_symbols k later) ≡ false
 rails_plain zero later = refl
 rails_plain (suc k) later = among-append 10 (levels_text standard_symbols k later) (level_text standard_symbols (goes_on k later)) (rails_plain k later) (rail_plain (goes_on k later))
 
-prefix_plain : (k : ℕ) (later : List Entry) → is_among 10 (prefix_by_later standard_symbols k later) ≡ false
+prefix_plain : (k : ℕ) (later : List Entry) → is_one_of 10 (prefix_by_later standard_symbols k later) ≡ false
 prefix_plain zero later = refl
 prefix_plain (suc k) later = among-append 10 (levels_text standard_symbols k later) (branch_text standard_symbols (goes_on k later)) (rails_plain k later) (knot_plain (goes_on k later))
 
-cut_line : (label : ℕ → List ℕ) (e : Entry) (later : List Entry) (rest : List ℕ) → is_among 10 (label e.node) ≡ false → cut [] (line_by_later standard_symbols label e later ++ rest) ≡ (prefix_by_later standard_symbols e.depth later ++ label e.node) ∷ cut [] rest
+cut_line : (label : ℕ → List ℕ) (e : Entry) (later : List Entry) (rest : List ℕ) → is_one_of 10 (label e.node) ≡ false → cut [] (line_by_later standard_symbols label e later ++ rest) ≡ (prefix_by_later standard_symbols e.depth later ++ label e.node) ∷ cut [] rest
 cut_line label e later rest h =
     let p : List ℕ = prefix_by_later standard_symbols e.depth later in
     let is : line_by_later standard_symbols label e later ++ rest ≡ (p ++ label e.node) ++ 10 ∷ rest =

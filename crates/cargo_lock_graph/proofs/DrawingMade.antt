@@ -4,7 +4,7 @@ use Rattle.std.specs.List.{AllByRecursion}
 use Rattle.std.proofs.lemmas.Bool.{cases_eq, cases_Bool, eq-eqb, ne_eqb}
 use Rattle.std.proofs.lemmas.List.{append-nil, length-set, length-replicate, get_or-set_same, get_or-set_other, get_or-replicate}
 use Rattle.std.proofs.lemmas.List.Elements.{recursion_from_All}
-use Rattle.cargo_lock_graph.specs.Drawing.{is_among, children, AreBelow}
+use Rattle.cargo_lock_graph.specs.Drawing.{is_one_of, children, AreBelow}
 use Rattle.cargo_lock_graph.specs.DrawingSteps.{children_after, HaveChildren, DrawsFrom}
 use Rattle.cargo_lock_graph.specs.declared.drawing.entry.Entry.{Entry}
 use Rattle.cargo_lock_graph.specs.DrawingMade.{AreMarked, entries_below, unmarked_count, draw, rest_of, drawing}
@@ -66,7 +66,7 @@ below-entries_below nodes d (n ∷ ns) h = (h.0, below-entries_below nodes d ns 
 
 below-children_after : (far : ℕ → List ℕ) (nodes : ℕ) (earlier : List ℕ) (n d : ℕ) → AreBelow far nodes → Below nodes (entries_below d (children_after far earlier n))
 below-children_after far nodes earlier n d h =
-    elim (cases_Bool (is_among n earlier)) [
+    elim (cases_Bool (is_one_of n earlier)) [
       | inl t ↦ rw t tt
       | inr f ↦ rw f (below-entries_below nodes d (far n) (recursion_from_All (λ j. j < nodes) (far n) (h n)))
     ]
@@ -83,9 +83,9 @@ pub record Step (far : ℕ → List ℕ) (marks : List Bool) (earlier : List ℕ
 pub rest-step : (far : ℕ → List ℕ) (marks : List Bool) (earlier : List ℕ) (e : Entry) (p : List Entry) → AreMarked marks earlier → e.node < length marks → Step far marks earlier e p
 rest-step far marks earlier e p h lt =
     elim (cases_Bool (get_or marks e.node true)) [
-      | inl t ↦ (let among : is_among e.node earlier ≡ true = sym (h e.node lt) ∙ t in
+      | inl t ↦ (let among : is_one_of e.node earlier ≡ true = sym (h e.node lt) ∙ t in
           record { marks' = marks; long = refl; agree = marked-again marks earlier e.node lt t h; is = rest-seen far marks e p t ∙ rw among refl })
-      | inr f ↦ (let among : is_among e.node earlier ≡ false = sym (h e.node lt) ∙ f in
+      | inr f ↦ (let among : is_one_of e.node earlier ≡ false = sym (h e.node lt) ∙ f in
           record { marks' = set marks e.node true; long = length-set marks e.node true; agree = marked-more marks earlier e.node h; is = rest-new far marks e p f ∙ rw among refl })
     ]
 

@@ -6,7 +6,7 @@ use Rattle.std.proofs.lemmas.Option.{same_Some}
 use Rattle.semver.specs.Identifiers.{parts_text}
 use Rattle.cargo_lock_parts.specs.Identity.{PackageData}
 use Rattle.cargo_lock_graph.specs.declared.drawing.entry.Entry.{Entry}
-use Rattle.cargo_lock_graph.specs.Drawing.{Occurs, is_among}
+use Rattle.cargo_lock_graph.specs.Drawing.{Occurs, is_one_of}
 use Rattle.cargo_lock_graph.specs.DrawingLines.{LabelsAreDistinct, AreLines, HasNoNewline, Tell, TellAll, cut, ended_lines}
 use Rattle.cargo_lock_graph.specs.DrawingText.{SymbolTexts, depth_at, drawing_text, line_at, lines_from, prefix_at}
 use Rattle.cargo_lock_graph.specs.DrawingPlaces.{no_entry}
@@ -82,7 +82,7 @@ drawing_text-ended s label es = lines-ended s label es 0 (length es)
 
 -- ---- labels without newlines
 
-plain-label : (exact : Bool) (p : PackageData) → HasNoNewline p → is_among 10 (label_of exact p) ≡ false
+plain-label : (exact : Bool) (p : PackageData) → HasNoNewline p → is_one_of 10 (label_of exact p) ≡ false
 plain-label true p h =
     among-append 10 (p.name ++ (codes " " ++ parts_text p.version)) (codes " " ++ exact_text p.checksum p.source)
     (among-append 10 p.name (codes " " ++ parts_text p.version) h.name (among-append 10 (codes " ") (parts_text p.version) refl h.version))
@@ -92,7 +92,7 @@ plain-label false p h =
     (among-append 10 p.name (codes " " ++ parts_text p.version) h.name (among-append 10 (codes " ") (parts_text p.version) refl h.version)) refl
 
 plain-at : (exact : Bool) (packages : List PackageData) (node : ℕ) → ((p : PackageData) → slice_get packages node ≡ Some p → HasNoNewline p)
-    → is_among 10 (get_or (map (label_of exact) packages) node []) ≡ false
+    → is_one_of 10 (get_or (map (label_of exact) packages) node []) ≡ false
 plain-at exact [] node h = refl
 plain-at exact (p ∷ packages) zero h = plain-label exact p (h p refl)
 plain-at exact (p ∷ packages) (suc node) h = plain-at exact packages node h

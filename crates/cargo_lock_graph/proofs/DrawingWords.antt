@@ -1,7 +1,7 @@
 -- The two ways to say what a drawing is are one.
 use Rattle.std.proofs.Common.{◌≡◌, ℕ, suc, ◌<◌, ◌≤◌, Bool, true, false, ◌||◌, cond, eqb, List, [], ◌∷◌, ◌++◌, refl, sym, ap, subst, ◌∙◌}
 use Rattle.cargo_lock_graph.specs.declared.drawing.entry.Entry.{Entry}
-use Rattle.cargo_lock_graph.specs.Drawing.{is_among, children, nodes_of, IsDrawing}
+use Rattle.cargo_lock_graph.specs.Drawing.{is_one_of, children, nodes_of, IsDrawing}
 use Rattle.cargo_lock_graph.specs.DrawingSteps.{AreSteps, children_after, HaveChildren, DrawsFrom}
 
 -- nodes before, in the order in which a walk over the list adds them
@@ -19,9 +19,9 @@ or_none : (a : Bool) → (a || false) ≡ a
 or_none true = refl
 or_none false = refl
 
-among_onto : (k : ℕ) (front : List Entry) (earlier : List ℕ) → is_among k (onto front earlier) ≡ (is_among k (nodes_of front) || is_among k earlier)
+among_onto : (k : ℕ) (front : List Entry) (earlier : List ℕ) → is_one_of k (onto front earlier) ≡ (is_one_of k (nodes_of front) || is_one_of k earlier)
 among_onto k [] earlier = refl
-among_onto k (e ∷ front) earlier = among_onto k front (e.node ∷ earlier) ∙ or_swap (is_among k (nodes_of front)) (eqb k e.node) (is_among k earlier)
+among_onto k (e ∷ front) earlier = among_onto k front (e.node ∷ earlier) ∙ or_swap (is_one_of k (nodes_of front)) (eqb k e.node) (is_one_of k earlier)
 
 have_at : (far : ℕ → List ℕ) (front : List Entry) (es : List Entry) (earlier : List ℕ) (e : Entry) (later : List Entry) → HaveChildren far earlier es → es ≡ front ++ e ∷ later → children e.depth later ≡ children_after far (onto front earlier) e.node
 have_at far [] [] earlier e later have is = absurd cc
@@ -52,8 +52,8 @@ steps_from x (y ∷ es) h =
     let one = h [] es x y refl in
     (one.0, one.1, steps_from y es (λ front later a b is. h (x ∷ front) later a b (ap (λ (l : List Entry). x ∷ l) is)))
 
-none_before : (far : ℕ → List ℕ) (front : List Entry) (n : ℕ) → children_after far (onto front []) n ≡ cond (is_among n (nodes_of front)) [] (far n)
-none_before far front n = ap (λ (b : Bool). cond b [] (far n)) (among_onto n front [] ∙ or_none (is_among n (nodes_of front)))
+none_before : (far : ℕ → List ℕ) (front : List Entry) (n : ℕ) → children_after far (onto front []) n ≡ cond (is_one_of n (nodes_of front)) [] (far n)
+none_before far front n = ap (λ (b : Bool). cond b [] (far n)) (among_onto n front [] ∙ or_none (is_one_of n (nodes_of front)))
 
 pub in_words : (far : ℕ → List ℕ) (start : ℕ) (es : List Entry) → DrawsFrom far start es → IsDrawing far start es
 in_words far start [] d = absurd d
@@ -78,5 +78,5 @@ from_words far start (x ∷ es) w =
       ap (λ (y : Entry). y.node) root,
       depth,
       subst (λ (n : ℕ). AreSteps n es) depth (steps_from x es w.steps),
-      have_from far (x ∷ es) [] (λ front later e is. by_case far (is_among e.node (nodes_of front)) e.node (children e.depth later) (w.expanded front later e is) (w.again front later e is) ∙ sym (none_before far front e.node)),
+      have_from far (x ∷ es) [] (λ front later e is. by_case far (is_one_of e.node (nodes_of front)) e.node (children e.depth later) (w.expanded front later e is) (w.again front later e is) ∙ sym (none_before far front e.node)),
     )

@@ -4,7 +4,7 @@ use Rattle.std.proofs.lemmas.Bool.{cases_Bool, cases_eq, cases_lt, eq-eqb, ne_eq
 use Rattle.std.proofs.lemmas.List.{length-append, append_cancel_left, get_or-map}
 use Rattle.std.proofs.Math.Seq.{get_or-append_seam}
 use Rattle.cargo_lock_graph.specs.declared.drawing.entry.Entry.{Entry}
-use Rattle.cargo_lock_graph.specs.Drawing.{is_among, nodes_of, children, Occurs, IsFirst, IsDrawing}
+use Rattle.cargo_lock_graph.specs.Drawing.{is_one_of, nodes_of, children, Occurs, IsFirst, IsDrawing}
 use Rattle.cargo_lock_graph.specs.DrawingPlaces.{child_places, all_places, occurrences, no_entry, StandsAt, IsChildPlace, EdgesMatchEntries}
 use Rattle.cargo_lock_graph.proofs.DrawingFirst.{first_of, one_first}
 use Rattle.cargo_lock_graph.proofs.DrawingPlaces.{occ-append, one_parent, at_most_one}
@@ -223,8 +223,8 @@ only_child es n k i j p q =
 occurs_at : (es front : List Entry) (e : Entry) (later : List Entry) → es ≡ front ++ e ∷ later → Occurs e.node es
 occurs_at [] [] e later is = absurd cc
 occurs_at [] (x ∷ front) e later is = absurd cc
-occurs_at (x ∷ es) [] e later is = let same : e ≡ x = sym cc is in or_left (eqb e.node x.node) (is_among e.node (nodes_of es)) (eq-eqb e.node x.node (ap (λ (y : Entry). y.node) same))
-occurs_at (x ∷ es) (y ∷ front) e later is = let rest : es ≡ front ++ e ∷ later = cc is in or_right (eqb e.node x.node) (is_among e.node (nodes_of es)) (occurs_at es front e later rest)
+occurs_at (x ∷ es) [] e later is = let same : e ≡ x = sym cc is in or_left (eqb e.node x.node) (is_one_of e.node (nodes_of es)) (eq-eqb e.node x.node (ap (λ (y : Entry). y.node) same))
+occurs_at (x ∷ es) (y ∷ front) e later is = let rest : es ≡ front ++ e ∷ later = cc is in or_right (eqb e.node x.node) (is_one_of e.node (nodes_of es)) (occurs_at es front e later rest)
 
 length-places : (d at : ℕ) (es : List Entry) → length (child_places d at es) ≡ length (children d es)
 length-places d at [] = refl
@@ -251,12 +251,12 @@ child_node es front e later k is lt =
 
 expands : (far : ℕ → List ℕ) (start : ℕ) (es : List Entry) → IsDrawing far start es → (n : ℕ) (front : List Entry) (e : Entry) (later : List Entry) → IsFirst n es front e later → children e.depth later ≡ far n
 expands far start es d n front e later f =
-    d.expanded front later e f.stands (subst (λ (k : ℕ). is_among k (nodes_of front) ≡ false) (sym f.node) f.new) ∙ ap far f.node
+    d.expanded front later e f.stands (subst (λ (k : ℕ). is_one_of k (nodes_of front) ≡ false) (sym f.node) f.new) ∙ ap far f.node
 
 -- an entry with children is the first of its node
 first_with_child : (far : ℕ → List ℕ) (start : ℕ) (es : List Entry) → IsDrawing far start es → (front : List Entry) (e : Entry) (later : List Entry) → es ≡ front ++ e ∷ later → 0 < length (children e.depth later) → IsFirst e.node es front e later
 first_with_child far start es d front e later is some =
-    elim (cases_Bool (is_among e.node (nodes_of front))) [
+    elim (cases_Bool (is_one_of e.node (nodes_of front))) [
       | inl again ↦ absurd (omega (arith, some, ap length (d.again front later e is again)))
       | inr new ↦ record { stands = is; node = refl; new = new }
     ]

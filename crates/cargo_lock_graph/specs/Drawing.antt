@@ -8,9 +8,9 @@ use Rattle.std.specs.Prelude.{[], ◌∷◌, ◌++◌, All}
 use Rattle.cargo_lock_graph.specs.declared.drawing.entry.Entry.{Entry}
 
 -- the number is one of the list
-abbrev pub is_among : ℕ → List ℕ → Bool
-is_among n [] = false
-is_among n (m ∷ ms) = eqb n m || is_among n ms
+abbrev pub is_one_of : ℕ → List ℕ → Bool
+is_one_of n [] = false
+is_one_of n (m ∷ ms) = eqb n m || is_one_of n ms
 
 -- the nodes of entries, in their order
 abbrev pub nodes_of : List Entry → List ℕ
@@ -19,7 +19,7 @@ nodes_of (e ∷ es) = e.node ∷ nodes_of es
 
 -- some entry is of the node
 abbrev pub Occurs : ℕ → List Entry → Type 0
-Occurs n es = is_among n (nodes_of es) ≡ true
+Occurs n es = is_one_of n (nodes_of es) ≡ true
 
 -- The nodes of the children of an entry of this depth, where the later entries are given: of those
 -- one deeper with nothing but deeper entries than it between.
@@ -39,16 +39,16 @@ pub record IsDrawing (far : ℕ → List ℕ) (start : ℕ) (es : List Entry) : 
       × (b.depth ≤ suc a.depth)
   -- where no earlier entry has its node, an entry has a child for each far end, newest first
   pub expanded : (front later : List Entry) (e : Entry) → es ≡ front ++ e ∷ later
-      → is_among e.node (nodes_of front) ≡ false → children e.depth later ≡ far e.node
+      → is_one_of e.node (nodes_of front) ≡ false → children e.depth later ≡ far e.node
   -- otherwise it has none
   pub again : (front later : List Entry) (e : Entry) → es ≡ front ++ e ∷ later
-      → is_among e.node (nodes_of front) ≡ true → children e.depth later ≡ []
+      → is_one_of e.node (nodes_of front) ≡ true → children e.depth later ≡ []
 
 -- the entries are some, one of the node that is the first of it, and the later ones
 pub record IsFirst (n : ℕ) (es front : List Entry) (e : Entry) (later : List Entry) : Type 0 where
   pub stands : es ≡ front ++ e ∷ later
   pub node : e.node ≡ n
-  pub new : is_among n (nodes_of front) ≡ false
+  pub new : is_one_of n (nodes_of front) ≡ false
 
 -- the nodes are the numbers below a count
 abbrev pub AreBelow : (ℕ → List ℕ) → ℕ → Type 0

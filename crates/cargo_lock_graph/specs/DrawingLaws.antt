@@ -5,7 +5,7 @@ use Rattle.cargo_lock_parts.specs.Identity.{PackageData}
 use Rattle.cargo_lock_graph.specs.declared.graph.EdgeDirection.{EdgeDirection}
 use Rattle.cargo_lock_graph.specs.declared.drawing.entry.Entry.{Entry}
 use Rattle.cargo_lock_graph.specs.Edges.{GraphData, far_ends, near_end, Edge}
-use Rattle.cargo_lock_graph.specs.Drawing.{IsDrawing, IsFirst, Occurs, AreBelow, children, is_among}
+use Rattle.cargo_lock_graph.specs.Drawing.{IsDrawing, IsFirst, Occurs, AreBelow, children, is_one_of}
 use Rattle.cargo_lock_graph.specs.Drawing.{nodes_of}
 use Rattle.cargo_lock_graph.specs.DrawingSteps.{DrawsFrom}
 use Rattle.cargo_lock_graph.specs.DrawingPlaces.{EdgesMatchEntries}
@@ -41,7 +41,7 @@ GraphHasOneDrawing = (d : EdgeDirection) (graph : GraphData) (start : ℕ)
 abbrev pub EntriesAreCounted : Type 0
 EntriesAreCounted = (d : EdgeDirection) (edges : List Edge) (start : ℕ) (es : List Entry)
     → IsDrawing (far_ends d edges) start es
-    → length es ≡ suc (length (filter (λ e. is_among (near_end d e) (nodes_of es)) edges))
+    → length es ≡ suc (length (filter (λ e. is_one_of (near_end d e) (nodes_of es)) edges))
 
 -- a node occurs exactly where it is reachable
 abbrev pub OccursWhereReachable : Type 0

@@ -4,7 +4,7 @@ use Rattle.semver.specs.Identifiers.{parts_text}
 use Rattle.cargo_lock_parts.specs.Ascii.{newline}
 use Rattle.cargo_lock_parts.specs.Identity.{PackageData}
 use Rattle.cargo_lock_graph.specs.declared.drawing.entry.Entry.{Entry}
-use Rattle.cargo_lock_graph.specs.Drawing.{Occurs, is_among}
+use Rattle.cargo_lock_graph.specs.Drawing.{Occurs, is_one_of}
 use Rattle.cargo_lock_graph.specs.Labels.{exact_text}
 use Rattle.cargo_lock_graph.specs.ReadLine.{read_line}
 
@@ -17,7 +17,7 @@ cut line (x ∷ xs) = cond (eqb x newline) (line ∷ cut [] xs) (cut (line ++ x 
 -- no entry's label has a newline
 abbrev pub AreLines : (ℕ → List ℕ) → List Entry → Type 0
 AreLines label [] = Unit {0}
-AreLines label (e ∷ es) = (is_among newline (label e.node) ≡ false) × AreLines label es
+AreLines label (e ∷ es) = (is_one_of newline (label e.node) ≡ false) × AreLines label es
 
 -- there are as many lines as entries, and each tells its entry's depth and label
 abbrev pub Tell : (ℕ → List ℕ) → List Entry → List (List ℕ) → Type 0
@@ -37,9 +37,9 @@ LabelsAreDistinct label es fs = (m n : ℕ) → Occurs m es → Occurs n fs → 
 
 -- the package's name, version and exact text hold no newline
 pub record HasNoNewline (p : PackageData) : Type 0 where
-  pub name : is_among newline p.name ≡ false
-  pub version : is_among newline (parts_text p.version) ≡ false
-  pub exact : is_among newline (exact_text p.checksum p.source) ≡ false
+  pub name : is_one_of newline p.name ≡ false
+  pub version : is_one_of newline (parts_text p.version) ≡ false
+  pub exact : is_one_of newline (exact_text p.checksum p.source) ≡ false
 
 -- the first line is the first entry's label, and each later one tells its entry
 abbrev pub TellAll : (ℕ → List ℕ) → List Entry → List (List ℕ) → Type 0

@@ -2,7 +2,7 @@
 use Rattle.std.specs.Prelude.{◌≡◌, ℕ, zero, suc, ◌+◌, ◌<◌, Bool, true, false, cond, List, [], ◌∷◌}
 use Rattle.std.specs.Prelude.{◌++◌, length, get_or, set, replicate}
 use Rattle.cargo_lock_graph.specs.declared.drawing.entry.Entry.{Entry}
-use Rattle.cargo_lock_graph.specs.Drawing.{is_among}
+use Rattle.cargo_lock_graph.specs.Drawing.{is_one_of}
 
 -- entries of these nodes at this depth
 abbrev pub entries_below : ℕ → List ℕ → List Entry
@@ -38,4 +38,4 @@ drawing far nodes start = rest_of far (replicate nodes false)
 
 -- among so many nodes, those with a mark are these
 abbrev pub AreMarked : List Bool → List ℕ → Type 0
-AreMarked marks nodes = (k : ℕ) → k < length marks → get_or marks k true ≡ is_among k nodes
+AreMarked marks nodes = (k : ℕ) → k < length marks → get_or marks k true ≡ is_one_of k nodes

@@ -2,7 +2,7 @@
 -- one.
 use Rattle.std.specs.Prelude.{◌≡◌, ℕ, suc, ◌<◌, ◌≤◌, cond, List, [], ◌∷◌}
 use Rattle.cargo_lock_graph.specs.declared.drawing.entry.Entry.{Entry}
-use Rattle.cargo_lock_graph.specs.Drawing.{children, is_among}
+use Rattle.cargo_lock_graph.specs.Drawing.{children, is_one_of}
 
 -- each depth is at least 1 and at most one more than the one before
 abbrev pub AreSteps : ℕ → List Entry → Type 0
@@ -11,7 +11,7 @@ AreSteps before (e ∷ later) = (0 < e.depth) × (e.depth ≤ suc before) × Are
 
 -- what the children of an entry of this node are, after entries of these nodes
 abbrev pub children_after : (ℕ → List ℕ) → List ℕ → ℕ → List ℕ
-children_after far earlier node = cond (is_among node earlier) [] (far node)
+children_after far earlier node = cond (is_one_of node earlier) [] (far node)
 
 -- each entry has the children that are expected
 abbrev pub HaveChildren : (ℕ → List ℕ) → List ℕ → List Entry → Type 0

@@ -1,12 +1,12 @@
 -- Paths in a graph, and the nodes that they reach.
 use Rattle.std.specs.Prelude.{◌≡◌, ℕ, true, List, [], ◌∷◌}
-use Rattle.cargo_lock_graph.specs.Drawing.{is_among}
+use Rattle.cargo_lock_graph.specs.Drawing.{is_one_of}
 
 -- A path from a node over these nodes to the last of them: each is the far end of an edge of the
 -- one before. Without any, it stays where it is.
 abbrev pub IsPath : (ℕ → List ℕ) → ℕ → List ℕ → ℕ → Type 0
 IsPath far a [] n = a ≡ n
-IsPath far a (b ∷ bs) n = (is_among b (far a) ≡ true) × IsPath far b bs n
+IsPath far a (b ∷ bs) n = (is_one_of b (far a) ≡ true) × IsPath far b bs n
 
 -- some path leads from the start to the node
 abbrev pub IsReachable : (ℕ → List ℕ) → ℕ → ℕ → Type 0

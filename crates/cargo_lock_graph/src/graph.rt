@@ -246,7 +246,8 @@ impl Graph {
         self.edges.len()
     }
 
-    // Both ends of each edge are nodes.
+    // Both ends of each edge are nodes: the invariant of a graph says so. No effect at run time: the
+    // proof reads the invariant from the use of a field.
     pub(crate) fn has_both_ends(&self)
         ensures { AreBetween (length self.now.packages) self.now.edges }
     {

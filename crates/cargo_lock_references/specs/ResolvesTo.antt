@@ -10,8 +10,8 @@ abbrev pub Fits : Reference → Identity → Type 0
 Fits f i = (i.name ≡ f.name) × IfSome f.version (λ v. i.version ≡ v)
 
 -- the identity stands at a place that fits, and no place before it fits
-abbrev pub IsFirst : Reference → List Identity → Identity → Type 0
-IsFirst f list i = (k : ℕ) × (slice_get list k ≡ Some i) × Fits f i
+abbrev pub IsFirstThatFits : Reference → List Identity → Identity → Type 0
+IsFirstThatFits f list i = (k : ℕ) × (slice_get list k ≡ Some i) × Fits f i
     × ((j : ℕ) (y : Identity) → j < k → slice_get list j ≡ Some y → ¬ Fits f y)
 
 -- no place fits
@@ -26,7 +26,7 @@ IsOwnWords f i = (i.name ≡ f.name) × (f.version ≡ Some i.version)
 -- what a reference stands for, where its source is looked at first
 abbrev pub resolves_to_by : Option MarkedSource → Reference → List Identity → Identity → Type 0
 resolves_to_by (Some s) f list i = IsOwnWords f i
-resolves_to_by None f list i = IsFirst f list i ⊎ (NoneFits f list × IsOwnWords f i)
+resolves_to_by None f list i = IsFirstThatFits f list i ⊎ (NoneFits f list × IsOwnWords f i)
 
 -- With a source, the reference stands for its own words. Without one, it stands for the first
 -- identity of the list that it fits, and where it fits none, for its own words.

@@ -5,7 +5,7 @@ use Rattle.std.specs.Io.KnownBytes.{Appends, Keeps}
 use Rattle.std.specs.List.{flat_map}
 use Rattle.std.proofs.lemmas.List.{append-nil, map_more}
 use Rattle.std.proofs.lemmas.List.Concat.{flat_map-append}
-use Rattle.cli_support.specs.Output.{IsWritten}
+use Rattle.cli_support.specs.Output.{IsWrittenOut}
 
 pub appends_nothing : (o : Option (List ℕ)) → Appends o o []
 appends_nothing None = tt
@@ -39,7 +39,7 @@ appends_none a b c x y n is h k =
 
 -- a beginning was taken before a fault
 pub fault_after : {T E : Type 0} (r : Result T E) (old new : Option (List ℕ)) (text front rest : List ℕ)
-    → IsErr r → text ≡ front ++ rest → Appends old new front → IsWritten old new text r
+    → IsErr r → text ≡ front ++ rest → Appends old new front → IsWrittenOut old new text r
 fault_after (Ok x) old new text front rest e is h = absurd cc
 fault_after (Err x) old new text front rest e is h = (front, rest, is, h)
 

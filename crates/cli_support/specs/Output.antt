@@ -3,8 +3,8 @@ use Rattle.std.specs.Prelude.{◌≡◌, ℕ, List, ◌++◌, Option, Result, Ok
 use Rattle.std.specs.Io.KnownBytes.{Appends}
 
 -- at Ok all of a text was taken, otherwise a beginning of it
-abbrev pub IsWritten : {T E : Type 0} → Option (List ℕ) → Option (List ℕ) → List ℕ → Result T E
+abbrev pub IsWrittenOut : {T E : Type 0} → Option (List ℕ) → Option (List ℕ) → List ℕ → Result T E
     → Type 0
-IsWritten old new text (Ok _) = Appends old new text
-IsWritten old new text (Err e) = (front rest : List ℕ) × (text ≡ front ++ rest)
+IsWrittenOut old new text (Ok _) = Appends old new text
+IsWrittenOut old new text (Err e) = (front rest : List ℕ) × (text ≡ front ++ rest)
     × Appends old new front

@@ -1,7 +1,7 @@
 //! Text onto a writer, where an interrupted write is a fault, and no memory is asked for.
 ghost use Rattle.std.specs.Prelude.{◌≡◌, IfSome, OnOk};
 ghost use Rattle.std.specs.Io.KnownBytes.{Appends};
-ghost use Rattle.cli_support.specs.Output.{IsWritten};
+ghost use Rattle.cli_support.specs.Output.{IsWrittenOut};
 
 use std::io::{ErrorKind, Write};
 use std::{fmt, io};
@@ -9,7 +9,7 @@ use std::{fmt, io};
 /// Writes all of the bytes. Fails at the first write that fails, and with `WriteZero` at the first
 /// that takes none of the bytes; a beginning of them was then written.
 pub fn put_all<W: Write>(out: &mut W, bytes: &[u8]) -> io::Result<()>
-    ensures { IsWritten (W.contents out.old) (W.contents out.new) bytes.now result }
+    ensures { IsWrittenOut (W.contents out.old) (W.contents out.new) bytes.now result }
 {
     let mut at = 0;
     while at < bytes.len() {

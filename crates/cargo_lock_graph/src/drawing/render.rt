@@ -202,6 +202,7 @@ pub fn render_into<S: Sink>(
     let mut out = OfSink { sink };
     let drawn = draw(alloc, &mut out, graph, start, direction, look);
     let OfSink { sink } = out;
+    // No effect at run time. The proof reads what the sink has taken from this use of it.
     let _ = &*sink;
     match drawn {
         Ok(_) => Ok(()),
@@ -226,6 +227,7 @@ pub fn render_onto<W: Write>(
     let mut out = OfWriter { writer, faults: 0 };
     let drawn = draw(alloc, &mut out, graph, start, direction, look);
     let OfWriter { writer, .. } = out;
+    // No effect at run time. The proof reads what the writer holds from this use of it.
     let _ = &*writer;
     match drawn {
         Ok(_) => Ok(()),

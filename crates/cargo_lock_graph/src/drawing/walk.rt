@@ -138,6 +138,7 @@ impl Walk {
         requires depth { depth < vec_len self.now.stack }
         ensures { result ≡ goes_on depth (to_come graph.now self.now) }
     {
+        // No effect at run time: the proof reads from it that the graph is as it was.
         let _ = graph;
         self.stack[depth].is_some()
     }
@@ -148,6 +149,7 @@ impl Walk {
         ensures most { result ≡ self.now.most }
         ensures bound { result ≤ length graph.now.packages }
     {
+        // No effect at run time: the proof reads from it that the graph is as it was.
         let _ = graph;
         self.most
     }
