@@ -50,9 +50,9 @@ impl Model for Resolved {
 }
 
 /// What is found out about values: their format, and the packages and the root with each reference
-/// looked up. In V1 the references are in full, and the checksums are those that the metadata holds.
-/// From V2 on the references of packages are looked up among the packages. Replacements and the
-/// references of the root are in full in every format.
+/// looked up. In V1 the references are in full, and the checksums are those that the metadata
+/// holds. From V2 on the references of packages are looked up among the packages. Replacements and
+/// the references of the root are in full in every format.
 ///
 /// `Parse` says that the values have no format, or that a reference stands for nothing.
 pub fn resolved_values(alloc: Global, values: &EncodableLockfile) -> Result<Resolved>

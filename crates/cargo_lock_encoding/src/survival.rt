@@ -306,7 +306,7 @@ fn full_reference_survives(
 
 // ---- lists
 
-// Whether each of some items survives, by what `survives` answers of it. The first fault is answered.
+// Whether each of some items survives, as `survives` answers of it. The first fault is answered.
 fn all_survive<'a, T, F: Fn(&'a T) -> Result<bool>>(items: &'a [T], survives: F) -> Result<bool>
     requires { F.IsAlwaysCallable survives }
     ensures ok { IfOk result (λ b. MatchBool b

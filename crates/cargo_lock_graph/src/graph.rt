@@ -246,8 +246,8 @@ impl Graph {
         self.edges.len()
     }
 
-    // Both ends of each edge are nodes: the invariant of a graph says so. No effect at run time: the
-    // proof reads the invariant from the use of a field.
+    // Both ends of each edge are nodes, as the invariant of a graph says. No effect at run time.
+    // The proof reads the invariant from the use of a field.
     pub(crate) fn has_both_ends(&self)
         ensures { AreBetween (length self.now.packages) self.now.edges }
     {
