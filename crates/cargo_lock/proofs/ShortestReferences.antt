@@ -29,7 +29,7 @@ use Rattle.cargo_lock_encoding.specs.TableReading.{members_in, required_list, te
 use Rattle.cargo_lock_references.proofs.WrittenReferenceLemmas.{count-miss}
 use Rattle.cargo_lock.proofs.ReferenceTexts.{Alike, whole-reads}
 use Rattle.cargo_lock.proofs.ResolutionKeys.{written_reference-of}
-use Rattle.cargo_lock.proofs.ShortestWords.{IsWrittenWell, HasWrittenSource, chosen-well}
+use Rattle.cargo_lock.proofs.ShortestWords.{IsWrittenWell, HasNoPathSource, chosen-well}
 
 -- ---- places
 
@@ -120,7 +120,7 @@ source-path (Some s) None e h = tt
 source-path (Some s) (Some t) e h = sym (ap (λ (k : Key). is_path k.kind) (same_Some _ _ e)) ∙ h
 
 -- a dependency that is among packages that survive has no path for a source
-among-written : (l : LockfileData) (d : Identity) → Survives l l.version → IsAmong (map identity_of l.packages) d → HasWrittenSource d
+among-written : (l : LockfileData) (d : Identity) → Survives l l.version → IsAmong (map identity_of l.packages) d → HasNoPathSource d
 among-written l d h among =
     let p = from-map identity_of l.packages among.0 among.1 among.2 in
     let s = all-at (ListedSurvives l.version (map identity_of l.packages) (metadata_of l.version l.metadata l.packages)) l.packages among.0 p.0 h.packages p.1 in
@@ -132,7 +132,7 @@ among-written l d h among =
     no_path escaped None h = tt
     no_path escaped (Some x) h = h.0
 
-chosen-case : (format : ResolveVersion) (list : List Identity) (d : Identity) → IsShortening format → HasWrittenSource d → AreDistinct list → IsAmong list d
+chosen-case : (format : ResolveVersion) (list : List Identity) (d : Identity) → IsShortening format → HasNoPathSource d → AreDistinct list → IsAmong list d
     → IsWrittenWell (written_reference format list d) list d
 unfolding written_reference
 chosen-case V1 list d later h apart among = absurd later

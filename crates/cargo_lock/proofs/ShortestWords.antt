@@ -187,18 +187,18 @@ full-least list d apart among many g less =
 
 -- ---- the form in full
 
-abbrev pub HasWrittenSource : Identity → Type 0
-HasWrittenSource d = IfSome d.source (λ s. is_path s.kind ≡ false)
+abbrev pub HasNoPathSource : Identity → Type 0
+HasNoPathSource d = IfSome d.source (λ s. is_path s.kind ≡ false)
 
 whole-source : (escaped path : Bool) (s : Source) → path ≡ false → option_map (mark escaped) (unless_path path s) ≡ Some (mark escaped s)
 whole-source escaped true s off = absurd (false≢true (sym off))
 whole-source escaped false s off = refl
 
-full-written : (escaped : Bool) (d : Identity) (s : Source) → d.source ≡ Some s → HasWrittenSource d → written_source escaped d.source ≡ Some (mark escaped s)
+full-written : (escaped : Bool) (d : Identity) (s : Source) → d.source ≡ Some s → HasNoPathSource d → written_source escaped d.source ≡ Some (mark escaped s)
 full-written escaped d s e h =
     ap (written_source escaped) e ∙ whole-source escaped (is_path s.kind) s (subst (λ (o : Option Source). IfSome o (λ t. is_path t.kind ≡ false)) e h)
 
-full-names : (escaped : Bool) (list : List Identity) (d : Identity) (s : Source) → d.source ≡ Some s → HasWrittenSource d → Names (in_full escaped d) list d
+full-names : (escaped : Bool) (list : List Identity) (d : Identity) (s : Source) → d.source ≡ Some s → HasNoPathSource d → Names (in_full escaped d) list d
 full-names escaped list d s e h p perm =
     let w = full-written escaped d s e h in
     let own_words : IsOwnWords (in_full escaped d) d = (refl, refl, e ∙ ap unmarked_source (sym w)) in
@@ -209,7 +209,7 @@ pub record IsWrittenWell (f : Reference) (list : List Identity) (d : Identity) :
   pub names : (d.source ≡ None → HasNoTwin list d) → Names f list d
   pub least : IsLeast f list d
 
-full-case : (escaped : Bool) (o : Option Source) (list : List Identity) (d : Identity) → d.source ≡ o → HasWrittenSource d → AreDistinct list → IsAmong list d
+full-case : (escaped : Bool) (o : Option Source) (list : List Identity) (d : Identity) → d.source ≡ o → HasNoPathSource d → AreDistinct list → IsAmong list d
     → exactly_one (has_name d.name) list ≡ false → exactly_one (has_name_and_version d.name d.version) list ≡ false → IsWrittenWell (in_full escaped d) list d
 full-case escaped None list d e h apart among named many =
     let i = among.1 in
@@ -227,7 +227,7 @@ full-case escaped (Some s) list d e h apart among named many =
       least = λ g less. full-least list d apart among many g (rw w at less);
     }
 
-pub chosen-well : (escaped : Bool) (list : List Identity) (d : Identity) → HasWrittenSource d → AreDistinct list → IsAmong list d → IsWrittenWell (shorten list (in_full escaped d)) list d
+pub chosen-well : (escaped : Bool) (list : List Identity) (d : Identity) → HasNoPathSource d → AreDistinct list → IsAmong list d → IsWrittenWell (shorten list (in_full escaped d)) list d
 unfolding shorten
 chosen-well escaped list d h apart among = elim (cases_Bool (exactly_one (has_name d.name) list)) [
   | inl a ↦ rw a (record { names = λ alone. name-names list d among a; least = λ g less. absurd (at-least-exactly_one g.version g.source less) })

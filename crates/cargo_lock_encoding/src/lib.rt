@@ -1,5 +1,5 @@
-//! What stands in a lockfile: from a table, as a table and as a text, and whether it survives a
-//! format.
+//! What stands in a lockfile: the values of its table and what they mean, the table and the text of
+//! a lockfile, and whether it survives a format.
 //!
 //! The crate `cargo_lock` gives what its users need of this under its own paths. Use that one.
 #![tactic(auto)]
@@ -15,4 +15,5 @@ mod text;
 mod values;
 
 pub use crate::meaning::{Resolved, resolved_values};
+pub use crate::read_table::encoded_at;
 pub use crate::values::{EncodableLockfile, LockfileRef};

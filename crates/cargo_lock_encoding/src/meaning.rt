@@ -1,4 +1,4 @@
-//! From the values of a table to a lockfile: the format is found, and the references are looked up.
+//! What the values of a table mean: the format is found, and the references are looked up.
 
 ghost use Rattle.std.specs.Prelude.{◌≡◌, [], map, option_map};
 ghost use Rattle.cargo_lock_parts.specs.Checksum.{digest_of};
@@ -24,7 +24,7 @@ use cargo_lock_references::{EncodableDependency, EncodablePackage, Metadata, Res
 use std::alloc::Global;
 use std::marker::Model;
 
-/// What is found out about the values of a table.
+/// What is found out about the values of a table, with each reference looked up.
 #[derive(Debug, Drop)]
 pub struct Resolved {
     /// The format.

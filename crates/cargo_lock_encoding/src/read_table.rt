@@ -36,26 +36,25 @@ use std::alloc::Global;
 use std::marker::Model;
 use toml::{Table, Value};
 
-impl EncodableLockfile {
-    /// Reads the values of a table. `Parse` says what is refused, the first in the order of the
-    /// keys here.
-    #[tactic(auto, unfolding(crate::specs::TableReading::encoded_at))]
-    pub fn from_table(alloc: Global, table: &Table) -> Result<EncodableLockfile>
-        ensures { ReadsUrls (λ e. e) result (encoded_at (table_view table.now)) }
-    {
-        let version = number_at(alloc, table, "version")?;
-        let all = all_encoded_packages_at(alloc, table)?;
-        let metadata = metadata_at(alloc, table, "metadata")?;
-        let patch = patch_at_key(alloc, table, "patch")?;
-        let AllEncodedPackages { listed, root } = all;
-        Ok(EncodableLockfile {
-            version,
-            package: listed,
-            root,
-            metadata,
-            patch,
-        })
-    }
+/// Reads the values of a table. `Parse` says what is refused: the first value that is missing, of
+/// another type or no text of its kind, in the order of the keys here. A URL of 4 GB or more is
+/// refused too.
+#[tactic(auto, unfolding(crate::specs::TableReading::encoded_at))]
+pub fn encoded_at(alloc: Global, table: &Table) -> Result<EncodableLockfile>
+    ensures { ReadsUrls (λ e. e) result (encoded_at (table_view table.now)) }
+{
+    let version = number_at(alloc, table, "version")?;
+    let all = all_encoded_packages_at(alloc, table)?;
+    let metadata = metadata_at(alloc, table, "metadata")?;
+    let patch = patch_at_key(alloc, table, "patch")?;
+    let AllEncodedPackages { listed, root } = all;
+    Ok(EncodableLockfile {
+        version,
+        package: listed,
+        root,
+        metadata,
+        patch,
+    })
 }
 
 // The packages of a lockfile and its root.

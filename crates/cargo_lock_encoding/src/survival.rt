@@ -8,13 +8,12 @@ ghost use Rattle.cargo_lock_parts.specs.declared.error.Error.TheVariants.{Memory
 ghost use Rattle.cargo_lock_parts.specs.Checksum.{digest_of};
 ghost use Rattle.cargo_lock_parts.specs.Identity.{identity_of};
 ghost use Rattle.cargo_lock_references.specs.declared.version.ResolveVersion.TheVariants.{V1};
-ghost use Rattle.cargo_lock_references.specs.ReadBack.{DigestReadsBack, ReferenceSurvives};
+ghost use Rattle.cargo_lock_references.specs.ReadBack.{DigestReadsBack};
 ghost use Rattle.cargo_lock_references.specs.Records.{texts_of};
-ghost use Rattle.cargo_lock_encoding.specs.Means.{reading_list};
 ghost use Rattle.cargo_lock_encoding.specs.Survives.{ChecksumSurvives, FormatSurvives};
 ghost use Rattle.cargo_lock_encoding.specs.Survives.{FullReferenceSurvives, ListedSurvives};
 ghost use Rattle.cargo_lock_encoding.specs.Survives.{OwnPartsSurvive, PatchSurvives, RootSurvives};
-ghost use Rattle.cargo_lock_encoding.specs.Survives.{Survives, SurvivesAmong};
+ghost use Rattle.cargo_lock_encoding.specs.Survives.{Survives};
 ghost use Rattle.cargo_lock_encoding.specs.Survives.{WrittenReferenceSurvives};
 
 use crate::encode::written_reference;
@@ -33,7 +32,7 @@ use cargo_lock_references::read_back::{
 use cargo_lock_references::read_keys::ReadMetadata;
 use cargo_lock_references::written_metadata::metadata_of;
 use cargo_lock_references::{EncodableDependencyRef, ResolveVersion};
-use std::alloc::{AllocError, Global};
+use std::alloc::Global;
 
 impl LockfileRef<'_> {
     /// Whether the lockfile survives a format: whether its table, written in this format, is read
@@ -123,6 +122,7 @@ fn packages_survive(
     ensures err { IsOkUnless result Memory }
 {
     let packages = Indexed::of(alloc, list)?;
+    // Its keys are looked up in V1 alone. From V2 on only those of no package are left.
     let read = ReadMetadata::of(alloc, metadata)?;
     for package in list {
         if !package_survives(alloc, format, &read, &packages, package)? {
@@ -181,7 +181,7 @@ fn replace_survives(
 
 // ---- checksums
 
-// Whether the checksum is found again: in V1 in the written metadata. From V2 on each is.
+// Whether the checksum is found again: in V1 in the written metadata. From V2 on every one is.
 fn checksum_survives(
     format: ResolveVersion,
     metadata: &ReadMetadata<'_>,
@@ -191,7 +191,7 @@ fn checksum_survives(
     ensures err { IsOkUnless result Memory }
 {
     match format {
-        ResolveVersion::V1 => is_found(metadata, package),
+        ResolveVersion::V1 => is_told_alike(metadata, package),
         ResolveVersion::V2 | ResolveVersion::V3 | ResolveVersion::V4 => {
             digest_reads_back(&package.checksum);
             Ok(true)
@@ -199,8 +199,8 @@ fn checksum_survives(
     }
 }
 
-// Whether the metadata holds the checksum of the package.
-fn is_found(metadata: &ReadMetadata<'_>, package: &Package) -> Result<bool>
+// Whether the metadata holds for the package the checksum that it has, or none.
+fn is_told_alike(metadata: &ReadMetadata<'_>, package: &Package) -> Result<bool>
     ensures ok { IfOk result (λ b. IsTrue b ↔ ChecksumSurvives V1 metadata.now «package».now) }
     ensures err { IsOkUnless result Memory }
 {
@@ -306,7 +306,8 @@ fn full_reference_survives(
 
 // ---- lists
 
-// Whether each of some items survives, as `survives` answers of it. The first fault is answered.
+// Whether each of some items survives, by `survives`. Stops at the first that does not, and at the
+// first fault.
 fn all_survive<'a, T, F: Fn(&'a T) -> Result<bool>>(items: &'a [T], survives: F) -> Result<bool>
     requires { F.IsAlwaysCallable survives }
     ensures ok { IfOk result (λ b. MatchBool b

@@ -55,7 +55,8 @@ impl Model for EncodableLockfile {
 impl EncodableLockfile {
     /// The checksum that the metadata holds for a package: the value at the first key, in byte
     /// order, that reads as the package's name and version. Keys that do not read are passed over,
-    /// and a value that is no checksum is none.
+    /// and a value that is no checksum is none. The one error is `Memory`, and a key with a URL of
+    /// 4 GB or more is refused with it too.
     pub fn find_checksum(&self, alloc: Global, package: &Package) -> Result<Option<Checksum>>
         ensures ok { IfOk result (λ found. option_map digest_of found
             ≡ checksum_in self.now.metadata «package».now.name «package».now.version) }

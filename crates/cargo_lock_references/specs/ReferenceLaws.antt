@@ -1,6 +1,5 @@
 -- The order of references is total, and what ties has one key.
 use Rattle.std.specs.Prelude.{◌≡◌, true, ◌++◌, Option, Some, None, option_map, refl}
-use Rattle.std.specs.Option.{option_cmp}
 use Rattle.std.specs.Ordering.{ordering_then}
 use Rattle.std.specs.Bool.{Decides}
 use Rattle.std.specs.Cmp.{IsTotalOrder, on_total}
@@ -10,11 +9,10 @@ use Rattle.std.specs.Hash as fed
 use Rattle.std.proofs.Common.{sym, ◌∙◌, ap}
 use Rattle.cargo_lock_parts.specs.IdentityLaws.{by_keys-Decides, by_name_version_source-total}
 use Rattle.cargo_lock_parts.specs.IdentityLaws.{option_cmp-by, version_total}
-use Rattle.cargo_lock_parts.specs.IdentityOrder.{version_cmp}
 use Rattle.cargo_lock_parts.specs.PartialIdentity.{PartialKey, partial_key_cmp}
 use Rattle.cargo_lock_parts.specs.PartialIdentity.{partial_key-anti, partial_key-total}
 use Rattle.cargo_lock_parts.specs.Source.{MarkedSource}
-use Rattle.cargo_lock_parts.specs.SourceKey.{key_cmp, key_hash, text_cmp}
+use Rattle.cargo_lock_parts.specs.SourceKey.{key_cmp, key_hash}
 use Rattle.cargo_lock_parts.specs.SourceLaws.{source_total, source_alike}
 use Rattle.cargo_lock_references.specs.Reference.{Reference}
 use Rattle.cargo_lock_references.specs.ReferenceOrder.{reference_cmp, reference_hash}

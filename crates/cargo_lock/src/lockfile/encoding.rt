@@ -21,7 +21,8 @@ impl Lockfile {
     /// the references of packages are looked up among the packages. Replacements and the references
     /// of the root are in full in every format.
     ///
-    /// `Parse` says that the values have no format, or that a reference stands for nothing.
+    /// `Parse` says that the values have no format, or that a reference stands for nothing. A key of
+    /// V1 metadata with a URL of 4 GB or more is `Memory`.
     pub fn from_encodable(alloc: Global, values: EncodableLockfile) -> Result<Lockfile>
         ensures { Finds (IsLocked values) result }
     {

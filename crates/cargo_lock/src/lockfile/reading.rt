@@ -16,7 +16,7 @@ use crate::error::{Error, Result};
 use crate::lockfile::Lockfile;
 use crate::lockfile::encoding::lockfile_of;
 use crate::lockfile::long_texts::members_have_long_text;
-use cargo_lock_encoding::EncodableLockfile;
+use cargo_lock_encoding::encoded_at;
 use cargo_lock_parts::error::SHORT_LENGTH;
 use std::alloc::Global;
 use std::fs;
@@ -90,7 +90,7 @@ fn read_text(alloc: Global, text: &str) -> Result<Lockfile>
 fn read_once(alloc: Global, table: Table) -> Result<Lockfile>
     ensures { ReadsUrls (λ l. l) result (meaning (table_view table)) }
 {
-    let values = EncodableLockfile::from_table(alloc, &table)?;
+    let values = encoded_at(alloc, &table)?;
     drop(table);
     lockfile_of(alloc, values)
 }
@@ -110,7 +110,7 @@ fn of_texts(fault: Error, has_long: bool) -> Error
 pub(super) fn read(alloc: Global, table: &Table) -> Result<Lockfile>
     ensures { ReadsUrls (λ l. l) result (meaning (table_view table.now)) }
 {
-    let values = EncodableLockfile::from_table(alloc, table)?;
+    let values = encoded_at(alloc, table)?;
     lockfile_of(alloc, values)
 }
 

@@ -8,6 +8,6 @@ pub struct Look<'a> {
     /// The symbols that its lines are made of.
     pub symbols: &'a Symbols,
 
-    /// Whether its labels are exact.
+    /// Whether its labels are exact: with the checksum, or else the source, or else `inexact`.
     pub exact: bool,
 }

@@ -138,7 +138,7 @@ impl Walk {
         requires depth { depth < vec_len self.now.stack }
         ensures { result ≡ goes_on depth (to_come graph.now self.now) }
     {
-        // No effect at run time: the proof reads from it that the graph is as it was.
+        // No effect at run time. The proof reads what holds of the graph from this use of it.
         let _ = graph;
         self.stack[depth].is_some()
     }
@@ -149,7 +149,7 @@ impl Walk {
         ensures most { result ≡ self.now.most }
         ensures bound { result ≤ length graph.now.packages }
     {
-        // No effect at run time: the proof reads from it that the graph is as it was.
+        // No effect at run time. The proof reads what holds of the graph from this use of it.
         let _ = graph;
         self.most
     }

@@ -1,7 +1,6 @@
-use Rattle.std.proofs.Common.{◌≡◌, ◌<◌, ℕ, Any, Err, Ok, length, true, false, arith, refl, rules, sym, subst, ap, ◌∙◌}
+use Rattle.std.proofs.Common.{◌<◌, Any, Err, Ok, length, arith, refl, rules, sym, ap}
 use Rattle.std.specs.Fn.{FnReturnsAt}
 use Rattle.std.proofs.lemmas.Fn.{says_at}
-use Rattle.std.specs.List.{AllByRecursion}
 use Rattle.cargo_lock_encoding.proofs.SurvivalLemmas.{all-past}
 use Rattle.cargo_lock_encoding.proofs.survival.all_survive.Goals as goal
 
