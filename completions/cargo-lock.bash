@@ -17,14 +17,14 @@ _cargo_lock() {
         case $previous in
         -f | --file) _cargo_lock_files ;;
         -p | --package) _cargo_lock_packages ;;
-        *) _cargo_lock_offer '-f --file -p --package -d --dependencies -s --sources -h --help' ;;
+        *) _cargo_lock_offer '-f --file --any-size -p --package -d --dependencies -s --sources -h --help' ;;
         esac
         ;;
     translate)
         case $previous in
         -f | --file | -o | --output) _cargo_lock_files ;;
         -v | --version) _cargo_lock_offer '1 2 3 4' ;;
-        *) _cargo_lock_offer '-f --file -o --output -v --version --check -h --help' ;;
+        *) _cargo_lock_offer '-f --file --any-size -o --output -v --version --check --check-text -h --help' ;;
         esac
         ;;
     tree)
@@ -32,7 +32,7 @@ _cargo_lock() {
         -f | --file) _cargo_lock_files ;;
         *)
             if [[ $current == -* ]]; then
-                _cargo_lock_offer '-f --file -x --exact -i --invert -h --help'
+                _cargo_lock_offer '-f --file --any-size -x --exact -i --invert -h --help'
             else
                 _cargo_lock_packages
             fi
@@ -42,12 +42,12 @@ _cargo_lock() {
     bom)
         case $previous in
         -f | --file | -o | --output) _cargo_lock_files ;;
-        *) _cargo_lock_offer '-f --file -o --output --compact -h --help' ;;
+        *) _cargo_lock_offer '-f --file --any-size -o --output --compact -h --help' ;;
         esac
         ;;
     diff)
         if [[ $current == -* ]]; then
-            _cargo_lock_offer '-d --dependencies --exit-code -h --help'
+            _cargo_lock_offer '--any-size -d --dependencies --exit-code -h --help'
         else
             _cargo_lock_files
         fi
@@ -55,7 +55,7 @@ _cargo_lock() {
     check)
         case $previous in
         -f | --file) _cargo_lock_files ;;
-        *) _cargo_lock_offer '-f --file -h --help' ;;
+        *) _cargo_lock_offer '-f --file --any-size -h --help' ;;
         esac
         ;;
     help) _cargo_lock_offer 'list translate tree bom diff check help' ;;
@@ -72,9 +72,16 @@ _cargo_lock_files() {
     mapfile -t COMPREPLY < <(compgen -f -- "$current")
 }
 
-# Offers the names of the packages in the lockfile of the current folder.
+# Offers the names of the packages in the lockfile of the current folder. The names come from a
+# stranger: only plain ones are offered, and none goes to `compgen -W`, which expands its words.
 _cargo_lock_packages() {
-    _cargo_lock_offer "$("${COMP_WORDS[0]}" list 2> /dev/null | cut -d ' ' -f 2 | sort -u)"
+    local name
+    COMPREPLY=()
+    [ -f Cargo.lock ] && [ ! -L Cargo.lock ] || return 0
+    while IFS= read -r name; do
+        [[ $name == "$current"* ]] && COMPREPLY+=("$name")
+    done < <(command cargo-lock list 2> /dev/null | LC_ALL=C sed -n \
+        's/^- \([A-Za-z0-9_][A-Za-z0-9_-]*\) [0-9][0-9A-Za-z.+-]*$/\1/p' | LC_ALL=C sort -u)
 }
 
 complete -F _cargo_lock cargo-lock

@@ -6,9 +6,12 @@ function __cargo_lock_runs
     test "$words[2]" = "$argv[1]"
 end
 
-# The names of the packages in the lockfile of the current folder.
+# The names of the packages in the lockfile of the current folder. They come from a stranger: only
+# plain ones are offered.
 function __cargo_lock_packages
-    cargo-lock list 2>/dev/null | string split -f 2 ' ' | sort -u
+    test -f Cargo.lock; and not test -L Cargo.lock; or return
+    set -l line '^- ([A-Za-z0-9_][A-Za-z0-9_-]*) [0-9][0-9A-Za-z.+-]*$'
+    command cargo-lock list 2>/dev/null | string replace -rf $line '$1' | sort -u
 end
 
 complete -c cargo-lock -f
@@ -21,35 +24,42 @@ complete -c cargo-lock -n '__cargo_lock_runs ""' -a check -d 'Tells what is wron
 complete -c cargo-lock -n '__cargo_lock_runs ""' -a help -d 'Print this message or the help of the given subcommand(s)'
 complete -c cargo-lock -n '__cargo_lock_runs ""' -s h -l help -d 'Print help'
 
-complete -c cargo-lock -n '__cargo_lock_runs list' -s f -l file -r -F -d 'The lockfile'
+complete -c cargo-lock -n '__cargo_lock_runs list' -s f -l file -r -F -d 'The lockfile, - for standard input'
+complete -c cargo-lock -n '__cargo_lock_runs list' -l any-size -d 'Reads a lockfile of 256 MiB or more too'
 complete -c cargo-lock -n '__cargo_lock_runs list' -s p -l package -x -a '(__cargo_lock_packages)' -d 'Lists only the packages of this name'
 complete -c cargo-lock -n '__cargo_lock_runs list' -s d -l dependencies -d 'Lists the dependencies of each package'
 complete -c cargo-lock -n '__cargo_lock_runs list' -s s -l sources -d 'Shows where each comes from'
 complete -c cargo-lock -n '__cargo_lock_runs list' -s h -l help -d 'Print help'
 
-complete -c cargo-lock -n '__cargo_lock_runs translate' -s f -l file -r -F -d 'The lockfile'
+complete -c cargo-lock -n '__cargo_lock_runs translate' -s f -l file -r -F -d 'The lockfile, - for standard input'
+complete -c cargo-lock -n '__cargo_lock_runs translate' -l any-size -d 'Reads a lockfile of 256 MiB or more too'
 complete -c cargo-lock -n '__cargo_lock_runs translate' -s o -l output -r -F -d 'The file that is written, - for standard output'
 complete -c cargo-lock -n '__cargo_lock_runs translate' -s v -l version -x -a '1 2 3 4' -d 'The format, 1 to 4'
 complete -c cargo-lock -n '__cargo_lock_runs translate' -l check -d 'Refuses a lockfile whose table, written in the format, does not read back'
+complete -c cargo-lock -n '__cargo_lock_runs translate' -l check-text -d 'Refuses a lockfile whose text, written in the format, does not read back'
 complete -c cargo-lock -n '__cargo_lock_runs translate' -s h -l help -d 'Print help'
 
-complete -c cargo-lock -n '__cargo_lock_runs tree' -s f -l file -r -F -d 'The lockfile'
+complete -c cargo-lock -n '__cargo_lock_runs tree' -s f -l file -r -F -d 'The lockfile, - for standard input'
+complete -c cargo-lock -n '__cargo_lock_runs tree' -l any-size -d 'Reads a lockfile of 256 MiB or more too'
 complete -c cargo-lock -n '__cargo_lock_runs tree' -s x -l exact -d 'Shows checksums, or else where each comes from'
 complete -c cargo-lock -n '__cargo_lock_runs tree' -s i -l invert -d 'Draws what depends on each package'
 complete -c cargo-lock -n '__cargo_lock_runs tree' -s h -l help -d 'Print help'
 complete -c cargo-lock -n '__cargo_lock_runs tree' -a '(__cargo_lock_packages)' -d SPEC
 
-complete -c cargo-lock -n '__cargo_lock_runs bom' -s f -l file -r -F -d 'The lockfile'
+complete -c cargo-lock -n '__cargo_lock_runs bom' -s f -l file -r -F -d 'The lockfile, - for standard input'
+complete -c cargo-lock -n '__cargo_lock_runs bom' -l any-size -d 'Reads a lockfile of 256 MiB or more too'
 complete -c cargo-lock -n '__cargo_lock_runs bom' -s o -l output -r -F -d 'The file that is written, - for standard output'
 complete -c cargo-lock -n '__cargo_lock_runs bom' -l compact -d 'Writes one line, without spaces'
 complete -c cargo-lock -n '__cargo_lock_runs bom' -s h -l help -d 'Print help'
 
+complete -c cargo-lock -n '__cargo_lock_runs diff' -l any-size -d 'Reads a lockfile of 256 MiB or more too'
 complete -c cargo-lock -n '__cargo_lock_runs diff' -s d -l dependencies -d 'Tells other dependencies of packages too'
 complete -c cargo-lock -n '__cargo_lock_runs diff' -l exit-code -d 'Ends with status 1 where anything differs, dependencies only with -d'
 complete -c cargo-lock -n '__cargo_lock_runs diff' -s h -l help -d 'Print help'
 complete -c cargo-lock -n '__cargo_lock_runs diff' -F -d 'The lockfile'
 
-complete -c cargo-lock -n '__cargo_lock_runs check' -s f -l file -r -F -d 'The lockfile'
+complete -c cargo-lock -n '__cargo_lock_runs check' -s f -l file -r -F -d 'The lockfile, - for standard input'
+complete -c cargo-lock -n '__cargo_lock_runs check' -l any-size -d 'Reads a lockfile of 256 MiB or more too'
 complete -c cargo-lock -n '__cargo_lock_runs check' -s h -l help -d 'Print help'
 
 complete -c cargo-lock -n '__cargo_lock_runs help' -a 'list translate tree bom diff check help' -d COMMAND

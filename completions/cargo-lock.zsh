@@ -24,7 +24,8 @@ _cargo-lock() {
     case $words[1] in
     list)
         _arguments -s \
-            '(-f --file)'{-f,--file}'[The lockfile]:PATH:_files' \
+            '(-f --file)'{-f,--file}'[The lockfile, - for standard input]:PATH:_files' \
+            '--any-size[Reads a lockfile of 256 MiB or more too]' \
             '(-p --package)'{-p,--package}'[Lists only the packages of this name]:NAME:_cargo-lock-packages' \
             '(-d --dependencies)'{-d,--dependencies}'[Lists the dependencies of each package]' \
             '(-s --sources)'{-s,--sources}'[Shows where each comes from]' \
@@ -32,15 +33,18 @@ _cargo-lock() {
         ;;
     translate)
         _arguments -s \
-            '(-f --file)'{-f,--file}'[The lockfile]:PATH:_files' \
+            '(-f --file)'{-f,--file}'[The lockfile, - for standard input]:PATH:_files' \
+            '--any-size[Reads a lockfile of 256 MiB or more too]' \
             '(-o --output)'{-o,--output}'[The file that is written, - for standard output]:PATH:_files' \
             '(-v --version)'{-v,--version}'[The format, 1 to 4]:FORMAT:(1 2 3 4)' \
             '--check[Refuses a lockfile whose table, written in the format, does not read back]' \
+            '--check-text[Refuses a lockfile whose text, written in the format, does not read back]' \
             '(- *)'{-h,--help}'[Print help]'
         ;;
     tree)
         _arguments -s \
-            '(-f --file)'{-f,--file}'[The lockfile]:PATH:_files' \
+            '(-f --file)'{-f,--file}'[The lockfile, - for standard input]:PATH:_files' \
+            '--any-size[Reads a lockfile of 256 MiB or more too]' \
             '(-x --exact)'{-x,--exact}'[Shows checksums, or else where each comes from]' \
             '(-i --invert)'{-i,--invert}'[Draws what depends on each package]' \
             '(- *)'{-h,--help}'[Print help]' \
@@ -48,13 +52,15 @@ _cargo-lock() {
         ;;
     bom)
         _arguments -s \
-            '(-f --file)'{-f,--file}'[The lockfile]:PATH:_files' \
+            '(-f --file)'{-f,--file}'[The lockfile, - for standard input]:PATH:_files' \
+            '--any-size[Reads a lockfile of 256 MiB or more too]' \
             '(-o --output)'{-o,--output}'[The file that is written, - for standard output]:PATH:_files' \
             '--compact[Writes one line, without spaces]' \
             '(- *)'{-h,--help}'[Print help]'
         ;;
     diff)
         _arguments -s \
+            '--any-size[Reads a lockfile of 256 MiB or more too]' \
             '(-d --dependencies)'{-d,--dependencies}'[Tells other dependencies of packages too]' \
             '--exit-code[Ends with status 1 where anything differs, dependencies only with -d]' \
             '(- *)'{-h,--help}'[Print help]' \
@@ -63,7 +69,8 @@ _cargo-lock() {
         ;;
     check)
         _arguments -s \
-            '(-f --file)'{-f,--file}'[The lockfile]:PATH:_files' \
+            '(-f --file)'{-f,--file}'[The lockfile, - for standard input]:PATH:_files' \
+            '--any-size[Reads a lockfile of 256 MiB or more too]' \
             '(- *)'{-h,--help}'[Print help]'
         ;;
     help)
@@ -72,9 +79,12 @@ _cargo-lock() {
     esac
 }
 
-# Offers the names of the packages in the lockfile of the current folder.
+# Offers the names of the packages in the lockfile of the current folder. The names come from a
+# stranger: only plain ones are offered.
 _cargo-lock-packages() {
-    local -aU packages=(${${(f)"$(_call_program packages cargo-lock list 2> /dev/null)"}[(w)2]})
+    [[ -f Cargo.lock && ! -L Cargo.lock ]] || return 1
+    local -aU packages=(${(f)"$(_call_program packages cargo-lock list 2> /dev/null |
+        LC_ALL=C sed -n 's/^- \([A-Za-z0-9_][A-Za-z0-9_-]*\) [0-9][0-9A-Za-z.+-]*$/\1/p')"})
     compadd -a packages
 }
 

@@ -13,6 +13,10 @@
  * `*length` is how many items it has, and `out` is as it was: call again with that room. At any
  * other status `out`, `*length` and `*format` are as they were. A text in `out` is UTF-8 and has
  * no byte 0 at its end.
+ *
+ * A lockfile comes from a stranger, and the words of cargo_lock_fault have its names, with newlines
+ * and control characters: do not print them on a terminal as they are. The lines of cargo_lock_diff
+ * have printable characters of ASCII alone, and show any other as `\u{..}` with its number.
  */
 #ifndef CARGO_LOCK_H
 #define CARGO_LOCK_H
@@ -47,7 +51,8 @@ enum {
     CARGO_LOCK_UNRESOLVED = 7,
     /* There is no package of that number. */
     CARGO_LOCK_NO_PACKAGE = 8,
-    /* A name or a source has a byte below 32, as a tab, and so can stand in no line. */
+    /* A name or a source has a control character, as a tab, or a separator of lines or paragraphs
+     * (U+2028, U+2029), so no line can have it. */
     CARGO_LOCK_NO_LINE = 9,
     /* The second of two texts is no lockfile. cargo_lock_fault says why. */
     CARGO_LOCK_NO_NEW_LOCKFILE = 10,
@@ -77,8 +82,9 @@ uint32_t cargo_lock_fault(const uint8_t *text, size_t text_len, uint8_t *out, si
  * does not. Else NO_LOCKFILE, NO_TEXT, NO_MEMORY or NO_FORMAT. */
 uint32_t cargo_lock_survives(const uint8_t *text, size_t text_len, uint32_t format);
 
-/* The text of the lockfile in the format of this number, which it must survive. DONE, NO_LOCKFILE,
- * NO_TEXT, NO_MEMORY, NO_FORMAT, NO_ROOM or LOST. */
+/* The text of the lockfile in the format of this number, which it must survive. Survival is of the
+ * table: a root, and the replacement of a package with dependencies, are in no text. DONE,
+ * NO_LOCKFILE, NO_TEXT, NO_MEMORY, NO_FORMAT, NO_ROOM or LOST. */
 uint32_t cargo_lock_translate(const uint8_t *text, size_t text_len, uint32_t format, uint8_t *out,
                               size_t out_len, size_t *length);
 

@@ -20,6 +20,13 @@ static const char packages_of[] = "\n[[package]]\nname = \"app\"\nversion = \"0.
 static const char unresolved[] = "version = 3\n[[package]]\nname = \"app\"\nversion = \"0.1.0\"\n"
                                  "dependencies = [\"left 1.0.0\"]\n";
 static const char tabbed[] = "[[package]]\nname = \"a\\tb\"\nversion = \"0.1.0\"\n";
+/* DEL, the next line, and the separators of lines and of paragraphs. */
+static const char *const unseen[] = {
+    "[[package]]\nname = \"a\\u007Fb\"\nversion = \"0.1.0\"\n",
+    "[[package]]\nname = \"a\\u0085b\"\nversion = \"0.1.0\"\n",
+    "[[package]]\nname = \"a\\u2028b\"\nversion = \"0.1.0\"\n",
+    "[[package]]\nname = \"a\\u2029b\"\nversion = \"0.1.0\"\n",
+};
 static const char bare[] = "[[package]]\nname = \"app\"\nversion = \"0.1.0\"\n";
 
 static long done, failed;
@@ -244,6 +251,11 @@ static void ask_refusals(text third, text none, text bytes)
     REFUSES(without, tree, CARGO_LOCK_UNRESOLVED);
     REFUSES(third, tree_of_third, CARGO_LOCK_NO_PACKAGE);
     REFUSES(tab, packages, CARGO_LOCK_NO_LINE);
+    for (size_t at = 0; at < sizeof unseen / sizeof *unseen; at++) {
+        text with = text_of(unseen[at], "");
+        REFUSES(with, packages, CARGO_LOCK_NO_LINE);
+        free(with.bytes);
+    }
     REFUSES(none, changes_back, CARGO_LOCK_NO_NEW_LOCKFILE);
     REFUSES(bytes, changes_back, CARGO_LOCK_NO_NEW_TEXT);
     REFUSES(none, changes_of_itself, CARGO_LOCK_NO_LOCKFILE);

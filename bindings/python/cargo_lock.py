@@ -6,13 +6,16 @@
     for package in cargo_lock.packages(text):
         print(package.name, package.version)
 
-Each call takes the text of a lockfile, as `bytes` or `str`, and keeps nothing, so any number of
+Each call takes the text of a lockfile, as `str` or as bytes, and keeps nothing, so any number of
 threads may call at once. A thread needs a stack of 2 MiB, which Python's threads have by default on
-Linux. A call that fails raises a subclass of `Error`, or `MemoryError`.
+Linux. A call that fails raises a subclass of `Error`, or `MemoryError`, and a text of another type
+is a `TypeError`.
 
 The library is `libcargo_lock.so`. It is looked for at the path that the variable
-`CARGO_LOCK_LIBRARY` of the environment names, or else beside this file, or else where the system
-looks for libraries. `bindings/build` of the repository makes it.
+`CARGO_LOCK_LIBRARY` of the environment names, which must be absolute, or else beside this file, or
+else where the system looks for libraries. The first call loads it, and raises `ImportError` where
+the path is not absolute or the library has another interface. `bindings/build` of the repository
+makes it.
 """
 from __future__ import annotations
 
@@ -40,7 +43,7 @@ __all__ = [
     "tree",
 ]
 
-Text = Union[bytes, str]
+Text = Union[str, bytes, bytearray, memoryview]
 
 
 class Error(Exception):
@@ -121,14 +124,15 @@ def survives(text: Text, number: int) -> bool:
 
 
 def translate(text: Text, number: int) -> str:
-    """The text of the lockfile in the format of this number, 1 to 4. Raises `LostError` where the
-    lockfile does not survive it, `NotALockfile` and `FormatError`."""
+    """The text of the lockfile in the format of this number, 1 to 4. A root, and the replacement of
+    a package with dependencies, are in no text. Raises `LostError` where the lockfile does not
+    survive the format as a table, `NotALockfile` and `FormatError`."""
     return _answer(_bytes(text), _library().cargo_lock_translate, _format(number)).decode()
 
 
 def packages(text: Text) -> list[Package]:
     """The packages in the lockfile's order. Raises `NotALockfile`, and `LineError` where a name or
-    a source has a control character."""
+    a source has a control character or a separator of lines."""
     lines = _answer(_bytes(text), _library().cargo_lock_packages).decode().split("\n")[:-1]
     rows = [line.split("\t") for line in lines]
     return [Package(row[0], row[1], row[2] or None, row[3] or None) for row in rows]
@@ -153,9 +157,10 @@ def tree(text: Text, package: int, inverted: bool = False, exact: bool = False) 
     depends on, or, where it is inverted, of what depends on it. Exact labels have the checksum
     too, or else the source. Raises `NotALockfile`, `UnresolvedError`, and `PackageError` where
     there is no package of that number."""
+    given = _bytes(text)
     if not 0 <= package < 2**64:
         raise PackageError(f"there is no package {package}")
-    return _answer(_bytes(text), _library().cargo_lock_tree, package, inverted, exact).decode()
+    return _answer(given, _library().cargo_lock_tree, package, inverted, exact).decode()
 
 
 def diff(old: Text, new: Text, dependencies: bool = False) -> str:
@@ -189,7 +194,7 @@ _ERRORS: dict[int, tuple[type[Error], str]] = {
     _LOST: (LostError, "the lockfile does not survive the format"),
     _UNRESOLVED: (UnresolvedError, "no package fits some dependency"),
     _NO_PACKAGE: (PackageError, "there is no package of that number"),
-    _NO_LINE: (LineError, "a name or a source has a control character"),
+    _NO_LINE: (LineError, "a name or a source has a control character or ends a line"),
 }
 
 
@@ -230,21 +235,40 @@ def _library() -> ctypes.CDLL:
 
 
 def _load() -> ctypes.CDLL:
-    beside = os.path.join(os.path.dirname(os.path.abspath(__file__)), "libcargo_lock.so")
-    path = os.environ.get("CARGO_LOCK_LIBRARY")
-    library = ctypes.CDLL(path or (beside if os.path.exists(beside) else "libcargo_lock.so"))
+    """Loads the library. Nothing but the number of its interface is asked of a library that may
+    have another one, of which no other call is known."""
+    path = _path()
+    library = ctypes.CDLL(path)
+    interface = getattr(library, "cargo_lock_interface", None)
+    if interface is None:
+        raise ImportError(f"{path} is no library cargo_lock")
+    interface.argtypes, interface.restype = [], ctypes.c_uint32
+    if interface() != _INTERFACE:
+        raise ImportError(f"{path} does not have interface {_INTERFACE}")
     for name, parameters in _CALLS.items():
         call = getattr(library, f"cargo_lock_{name}")
         call.argtypes = [ctypes.c_char_p, ctypes.c_size_t, *parameters]
         call.restype = ctypes.c_uint32
-    library.cargo_lock_interface.restype = ctypes.c_uint32
-    if library.cargo_lock_interface() != _INTERFACE:
-        raise ImportError(f"{library._name} does not have interface {_INTERFACE}")
     return library
 
 
+def _path() -> str:
+    """Where the library is. A path that is not absolute is refused: it would lead to another file
+    in each folder, and a name alone to wherever the system looks."""
+    path = os.environ.get("CARGO_LOCK_LIBRARY")
+    if path and not os.path.isabs(path):
+        raise ImportError(f"CARGO_LOCK_LIBRARY is no absolute path: {path!r}")
+    beside = os.path.join(os.path.dirname(os.path.abspath(__file__)), "libcargo_lock.so")
+    return path or (beside if os.path.exists(beside) else "libcargo_lock.so")
+
+
 def _bytes(text: Text) -> bytes:
-    return text.encode() if isinstance(text, str) else bytes(text)
+    """The bytes of a text. Of a number `bytes` would make as many zeros."""
+    if isinstance(text, str):
+        return text.encode()
+    if isinstance(text, (bytes, bytearray, memoryview)):
+        return bytes(text)
+    raise TypeError(f"a text is str, bytes, bytearray or memoryview, not {type(text).__name__}")
 
 
 def _format(number: int) -> int:

@@ -3,6 +3,7 @@ import ctypes
 import os
 import threading
 import unittest
+from unittest import mock
 
 import cargo_lock
 from cargo_lock import Edge, Package
@@ -51,6 +52,85 @@ class Formats(unittest.TestCase):
                 cargo_lock.survives(LOCKFILE, number)
             with self.assertRaises(cargo_lock.FormatError):
                 cargo_lock.translate(LOCKFILE, number)
+
+
+class Texts(unittest.TestCase):
+    CALLS = (
+        cargo_lock.format_of,
+        cargo_lock.fault,
+        lambda text: cargo_lock.survives(text, 3),
+        lambda text: cargo_lock.translate(text, 3),
+        cargo_lock.packages,
+        cargo_lock.edges,
+        lambda text: cargo_lock.tree(text, 0),
+        lambda text: cargo_lock.tree(text, -1),
+        lambda text: cargo_lock.diff(text, LOCKFILE),
+        lambda text: cargo_lock.diff(LOCKFILE, text),
+    )
+
+    def test_each_type_of_a_text(self):
+        given = LOCKFILE.encode()
+        for text in (LOCKFILE, given, bytearray(given), memoryview(given)):
+            self.assertEqual(cargo_lock.translate(text, 3), LOCKFILE)
+            self.assertEqual(cargo_lock.diff(text, text), "")
+        part = memoryview(b"xx" + given + b"xx")[2:-2]
+        self.assertEqual(cargo_lock.translate(part, 3), LOCKFILE)
+
+    def test_no_other_type_is_a_text(self):
+        for other in (0, 5, True, None, 1.5, [118], (), {}, iter([118]), object(), LOCKFILE.split()):
+            for call in self.CALLS:
+                with self.assertRaisesRegex(TypeError, "^a text is str, bytes, bytearray or memory"):
+                    call(other)
+
+
+class Library:
+    """A library of another interface, or none. It counts what is asked of it."""
+
+    def __init__(self, number):
+        self.asked = []
+        if number is not None:
+            self.number = number
+
+    def __getattr__(self, name):
+        self.asked.append(name)
+        if name != "cargo_lock_interface" or "number" not in vars(self):
+            raise AttributeError(name)
+        return mock.Mock(return_value=self.number)
+
+
+class Loading(unittest.TestCase):
+    def load(self, path, library):
+        """Loads this library in place of the one at the path."""
+        with mock.patch.dict(os.environ, CARGO_LOCK_LIBRARY=path):
+            with mock.patch.object(ctypes, "CDLL", return_value=library) as opened:
+                try:
+                    cargo_lock._load()
+                finally:
+                    self.opened = [it.args for it in opened.call_args_list]
+
+    def test_a_path_that_is_not_absolute_is_refused(self):
+        for path in ("libcargo_lock.so", "./libcargo_lock.so", "../x/libcargo_lock.so", "~/x.so"):
+            with self.assertRaisesRegex(ImportError, "is no absolute path"):
+                self.load(path, Library(1))
+            self.assertEqual(self.opened, [])
+
+    def test_a_name_in_the_message_is_in_one_line(self):
+        with self.assertRaisesRegex(ImportError, r"^CARGO_LOCK_LIBRARY .*: 'a\\n\\x1b'$"):
+            self.load("a\n\x1b", Library(1))
+
+    def test_the_number_of_the_interface_is_asked_before_anything_else(self):
+        for number in (0, 2, 2**32 - 1):
+            library = Library(number)
+            with self.assertRaisesRegex(ImportError, "does not have interface 1"):
+                self.load("/nowhere/libcargo_lock.so", library)
+            self.assertEqual(library.asked, ["cargo_lock_interface"])
+            self.assertEqual(self.opened, [("/nowhere/libcargo_lock.so",)])
+
+    def test_a_library_without_a_number(self):
+        library = Library(None)
+        with self.assertRaisesRegex(ImportError, "is no library cargo_lock"):
+            self.load("/nowhere/libcargo_lock.so", library)
+        self.assertEqual(library.asked, ["cargo_lock_interface"])
 
 
 class Faults(unittest.TestCase):

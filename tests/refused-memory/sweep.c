@@ -1,20 +1,28 @@
 /* Sweeps each operation over each text: refuses each growth of its calls, alone and with all that
    follow, and judges what came of it.
 
-       sweep OPERATIONS PLACES FILE.. --refused FILE..
+       sweep FOLDER CHILDREN OPERATIONS PLACES FILE.. --refused FILE..
 
    OPERATIONS has the name of an operation a line. PLACES has a place in the code a line, at which
    a growth that is refused alone may be without effect. The files after --refused are no lockfiles.
-   With SWEEP_EACH in the environment the calls of each operation are told too. */
-#define _POSIX_C_SOURCE 200809L
+   With SWEEP_EACH in the environment the calls of each operation are told too.
+
+   Of N children, child I takes an operation over a text where the sum of their places is I modulo
+   N, in FOLDER/I. One operation takes most of the time, so each child takes some texts of it.
+   What they count and find is in memory that is shared, and the parent alone reports it. */
+#define _GNU_SOURCE
 #include "../operations/operations.h"
+#include <limits.h>
 #include <signal.h>
+#include <stdarg.h>
 #include <stdio.h>
 #include <stdlib.h>
 #include <string.h>
+#include <sys/mman.h>
+#include <sys/wait.h>
 #include <unistd.h>
 
-enum { LINES = 1024, SHOWN_OF_EACH = 3 };
+enum { LINES = 1024, SHOWN_OF_EACH = 3, MOST_CHILDREN = 64, ROOM_FOR_FAULTS = 1 << 16 };
 
 /* The lines of a file. */
 typedef struct {
@@ -26,37 +34,57 @@ typedef struct {
     unsigned long calls, disturbed, without_effect;
 } Counts;
 
+/* What a child has counted, and what it tells of faults. */
+typedef struct {
+    Counts counts[LINES];
+    unsigned long seen_at[LINES], faults_of[LINES];
+    unsigned long faults, with_followers, alone;
+    size_t length;
+    char told[ROOM_FOR_FAULTS];
+} Share;
+
 static Lines operations, places;
-static Counts counts[LINES];
-static unsigned long seen_at[LINES], faults_of[LINES];
-static unsigned long faults, with_followers, alone;
 static char **files;
 static size_t count_of_files, first_refused_file;
 static size_t file, operation;
+static size_t child, children;
+static Share *shares, *own;
 static bool is_started;
 static uint64_t blocks_before;
 
+/* Tells of a fault, as long as there is room. */
+static void put_fault(Share *share, const char *form, ...) {
+    va_list values;
+    size_t room = sizeof share->told - share->length;
+    share->faults++;
+    va_start(values, form);
+    int length = vsnprintf(share->told + share->length, room, form, values);
+    va_end(values);
+    share->length += length > 0 && (size_t)length < room ? (size_t)length : 0;
+}
+
 static void fault(const char *what, uint64_t growth, const char *where) {
-    faults++;
-    if (++faults_of[operation] <= SHOWN_OF_EACH) {
-        printf("FAULT: %s: %s, growth %lu refused %s, of %s%s%s\n", operations.line[operation],
-               what, (unsigned long)growth, refuses_alone() ? "alone" : "with all that follow",
-               files[file], *where != '\0' ? ", in " : "", where);
-        fflush(stdout);
+    if (++own->faults_of[operation] > SHOWN_OF_EACH) {
+        own->faults++;
+        return;
     }
+    put_fault(own, "FAULT: %s: %s, growth %lu refused %s, of %s%s%s\n",
+              operations.line[operation], what, (unsigned long)growth,
+              refuses_alone() ? "alone" : "with all that follow", files[file],
+              *where != '\0' ? ", in " : "", where);
 }
 
 static void judge_without_effect(uint64_t growth) {
     char place[512];
     name_place(place, sizeof place);
-    counts[operation].without_effect++;
+    own->counts[operation].without_effect++;
     if (!refuses_alone()) {
         fault("the undisturbed answer, and no Memory", growth, "");
         return;
     }
     for (size_t at = 0; at < places.count; at++) {
         if (strcmp(places.line[at], place) == 0) {
-            seen_at[at]++;
+            own->seen_at[at]++;
             return;
         }
     }
@@ -69,12 +97,12 @@ void told(uint32_t outcome, uint64_t growth) {
         fault("the undisturbed call does not answer what its rule gives", growth, "");
         break;
     case RIGHT_UNDISTURBED:
-        counts[operation].calls++;
+        own->counts[operation].calls++;
         break;
     case MEMORY:
     case UNDISTURBED_ANSWER:
-        counts[operation].disturbed++;
-        *(refuses_alone() ? &alone : &with_followers) += 1;
+        own->counts[operation].disturbed++;
+        *(refuses_alone() ? &own->alone : &own->with_followers) += 1;
         if (refusals() == 0) {
             fault("the growth was not asked for", growth, "");
         } else if (outcome == UNDISTURBED_ANSWER) {
@@ -124,14 +152,16 @@ static size_t take_file(uint8_t *room, size_t size, const char *path) {
     return length;
 }
 
-/* Goes to the next operation, or to the first one of the next file. */
+/* Goes to the child's next operation, of this file or of the next one. */
 bool next_question(uint8_t *name, size_t name_room, uint8_t *path, size_t path_room, uint8_t *text,
                    size_t text_room, Lengths *lengths) {
-    if (is_started && ++operation == operations.count) {
-        operation = 0;
-        file++;
-    }
-    is_started = true;
+    do {
+        if (is_started && ++operation == operations.count) {
+            operation = 0;
+            file++;
+        }
+        is_started = true;
+    } while (file < count_of_files && (operation + file) % children != child);
     if (file >= count_of_files) {
         return false;
     }
@@ -143,11 +173,10 @@ bool next_question(uint8_t *name, size_t name_room, uint8_t *path, size_t path_r
     return true;
 }
 
-/* A call ended the program. This is told with the operation and the file. */
+/* A call ended the child. This is told with the operation and the file. */
 static void end_abnormally(int signal_number) {
-    printf("FAULT: %s: abnormal end by signal %d, of %s\n", operations.line[operation],
-           signal_number, files[file]);
-    fflush(stdout);
+    put_fault(own, "FAULT: %s: abnormal end by signal %d, of %s\n", operations.line[operation],
+              signal_number, files[file]);
     _exit(1);
 }
 
@@ -184,12 +213,13 @@ static void take_words(int count, char **words) {
         exit(2);
     }
     bool is_refused = false;
-    for (int at = 3; at < count; at++) {
+    for (int at = 5; at < count; at++) {
         if (strcmp(words[at], "--refused") == 0) {
             is_refused = true;
             first_refused_file = count_of_files;
-        } else {
-            files[count_of_files++] = words[at];
+        } else if ((files[count_of_files++] = realpath(words[at], NULL)) == NULL) {
+            perror(words[at]);
+            exit(2);
         }
     }
     if (!is_refused) {
@@ -197,50 +227,111 @@ static void take_words(int count, char **words) {
     }
 }
 
+/* ---- the children */
+
+/* Asks the questions of a child, in its folder. */
+static void sweep(const char *folder, char **words) {
+    char path[PATH_MAX];
+    snprintf(path, sizeof path, "%s/%zu", folder, child);
+    if (chdir(path) != 0) {
+        perror(path);
+        exit(2);
+    }
+    own = &shares[child];
+    catch_signals();
+    operations_main(1, words);
+    exit(0);
+}
+
+static void sweep_all(const char *folder, char **words) {
+    pid_t of[MOST_CHILDREN];
+    for (child = 0; child < children; child++) {
+        of[child] = fork();
+        if (of[child] == 0) {
+            sweep(folder, words);
+        }
+    }
+    for (child = 0; child < children; child++) {
+        int status = 0;
+        bool is_waited = of[child] > 0 && waitpid(of[child], &status, 0) == of[child];
+        if (!is_waited || status != 0) {
+            put_fault(&shares[child], "FAULT: child %zu did not end well: status %d\n", child,
+                      is_waited ? status : -1);
+        }
+    }
+}
+
+/* Adds what the children have counted to one share more, and prints what they tell. */
+static Share *sum(void) {
+    Share *all = &shares[children];
+    for (const Share *each = shares; each < all; each++) {
+        fwrite(each->told, 1, each->length, stdout);
+        all->faults += each->faults;
+        all->with_followers += each->with_followers;
+        all->alone += each->alone;
+        for (size_t at = 0; at < LINES; at++) {
+            all->counts[at].calls += each->counts[at].calls;
+            all->counts[at].disturbed += each->counts[at].disturbed;
+            all->counts[at].without_effect += each->counts[at].without_effect;
+            all->seen_at[at] += each->seen_at[at];
+        }
+    }
+    return all;
+}
+
 /* Tells the totals. An operation that was never called is a fault, and so is a place that was never
    met. */
-static void tell(void) {
+static void tell(Share *all) {
     unsigned long calls = 0;
     for (size_t at = 0; at < operations.count; at++) {
-        calls += counts[at].calls;
-        if (counts[at].calls == 0) {
+        calls += all->counts[at].calls;
+        if (all->counts[at].calls == 0) {
             printf("FAULT: %s was never called\n", operations.line[at]);
-            faults++;
+            all->faults++;
         }
     }
     for (size_t at = 0; at < places.count; at++) {
-        printf("without effect where it was refused alone: %lu in %s\n", seen_at[at],
+        printf("without effect where it was refused alone: %lu in %s\n", all->seen_at[at],
                places.line[at]);
-        if (seen_at[at] == 0) {
+        if (all->seen_at[at] == 0) {
             printf("FAULT: no refusal was without effect in %s\n", places.line[at]);
-            faults++;
+            all->faults++;
         }
     }
     printf("%zu operations over %zu texts, %lu calls; growths refused with all that follow %lu, "
            "alone %lu; faults %lu\n",
-           operations.count, count_of_files, calls, with_followers, alone, faults);
+           operations.count, count_of_files, calls, all->with_followers, all->alone, all->faults);
 }
 
-static void tell_each(void) {
+static void tell_each(const Share *all) {
     for (size_t at = 0; at < operations.count; at++) {
+        const Counts *of = &all->counts[at];
         printf("%s: calls %lu, disturbed %lu, without effect %lu\n", operations.line[at],
-               counts[at].calls, counts[at].disturbed, counts[at].without_effect);
+               of->calls, of->disturbed, of->without_effect);
     }
 }
 
 int main(int count, char **words) {
-    if (count < 4 || !read_names(__builtin_frame_address(0))) {
-        fputs("usage: sweep OPERATIONS PLACES FILE.. [--refused FILE..]\n", stderr);
+    if (count < 6 || !read_names(__builtin_frame_address(0))) {
+        fputs("usage: sweep FOLDER CHILDREN OPERATIONS PLACES FILE.. [--refused FILE..]\n", stderr);
         return 2;
     }
-    read_lines(&operations, words[1]);
-    read_lines(&places, words[2]);
+    children = strtoul(words[2], NULL, 10);
+    read_lines(&operations, words[3]);
+    read_lines(&places, words[4]);
     take_words(count, words);
-    catch_signals();
-    operations_main(1, words);
-    if (getenv("SWEEP_EACH") != NULL) {
-        tell_each();
+    /* (one share more, of the sums) */
+    size_t size = (MOST_CHILDREN + 1) * sizeof *shares;
+    shares = mmap(NULL, size, PROT_READ | PROT_WRITE, MAP_SHARED | MAP_ANONYMOUS, -1, 0);
+    if (children < 1 || children > MOST_CHILDREN || shares == MAP_FAILED) {
+        fputs("sweep: it takes from 1 to 64 children, and memory for what they count\n", stderr);
+        return 2;
     }
-    tell();
-    return faults > 0;
+    sweep_all(words[1], words);
+    Share *all = sum();
+    if (getenv("SWEEP_EACH") != NULL) {
+        tell_each(all);
+    }
+    tell(all);
+    return all->faults > 0;
 }

@@ -94,7 +94,7 @@ impl fmt::Display for Error {
             Error::Lost => f.write_str("the lockfile does not survive the format"),
             Error::Unresolved => f.write_str("no package fits some dependency"),
             Error::NoPackage => f.write_str("there is no package of that number"),
-            Error::NoLine => f.write_str("a name or a source has a control character"),
+            Error::NoLine => f.write_str("a name or a source has a control character or ends a line"),
             Error::UnknownStatus(status) => write!(f, "unknown status {status}"),
         }
     }
@@ -151,7 +151,8 @@ pub fn survives(text: impl AsRef<[u8]>, number: u32) -> Result<bool, Error> {
 }
 
 /// The text of the lockfile in the format of this number, 1 to 4. One that does not survive it is
-/// refused with `Lost`.
+/// refused with `Lost`. Survival is of the table: a root, and the replacement of a package with
+/// dependencies, are in no text.
 pub fn translate(text: impl AsRef<[u8]>, number: u32) -> Result<String, Error> {
     calls::translate(text.as_ref(), number)
 }

@@ -7,8 +7,11 @@ pub mod PlainLockfiles
 pub mod PrintedTexts
 pub mod ReferenceTexts
 pub mod ResolutionKeys
-pub mod ShortestWords
 pub mod ShortestReferences
+pub mod ShortestWords
 pub mod Survival
+pub mod TextChains
+pub mod TextsAreExact
+pub mod TextsRead
 pub mod TranslationLemmas
 pub mod WrittenAgain

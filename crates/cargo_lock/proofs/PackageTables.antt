@@ -19,7 +19,7 @@ use Rattle.cargo_lock_encoding.specs.Meaning.{package_of}
 use Rattle.cargo_lock_references.specs.Optional.{◌>>=◌, map_all, map_some}
 use Rattle.cargo_lock_references.specs.Records.{EncodedPackage, unmarked_source, encoded_identity, is_escaped}
 use Rattle.cargo_lock_references.specs.ResolutionSearch.{resolution_of}
-use Rattle.cargo_lock_references.specs.ReadBack.{DigestReadsBack, ReferenceSurvives, SourceSurvives, TextReadsBack}
+use Rattle.cargo_lock_references.specs.ReadBack.{DigestReadsBack, ReferenceSurvives, SourceSurvives, SourceTextReadsBack}
 use Rattle.cargo_lock_encoding.specs.Survives.{PackageSurvives}
 use Rattle.cargo_lock_encoding.specs.Table.{checksum_value, package_table, encoded_package_with, reference_value, present_members, source_value, unless_empty}
 use Rattle.cargo_lock_encoding.specs.TableReading.{checksum_from, identity_at, package_at_key, reference_in, optional_by, optional_list, read_all, required_text, source_in}
@@ -119,7 +119,7 @@ source_data escaped s = option_map source_value (written_source escaped s)
 
 by_path : (escaped path : Bool) (s : Source) (r : Option Source)
     → optional_by source_in (option_map source_value (option_map (mark escaped) (unless_path path s))) ≡ Some r → option_map key_of r ≡ Some (key_of s)
-    → (path ≡ false) × TextReadsBack (mark escaped s)
+    → (path ≡ false) × SourceTextReadsBack (mark escaped s)
 by_path escaped true s r e k = let g : None ≡ r = same_Some _ _ e in absurd (none-some (key_of s) (ap (option_map key_of) g ∙ k))
 by_path escaped false s r e k =
     let p = map-parts Some (source_of (marked_text (mark escaped s))) r e in

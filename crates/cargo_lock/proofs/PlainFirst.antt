@@ -28,7 +28,7 @@ use Rattle.cargo_lock_encoding.specs.Lockfiles.{LockfileData}
 use Rattle.cargo_lock_references.specs.Records.{Texts, unmarked_source}
 use Rattle.cargo_lock_references.specs.ResolutionSearch.{same_parts, same_text}
 use Rattle.cargo_lock.specs.Shortest.{IsAmong}
-use Rattle.cargo_lock_references.specs.ReadBack.{DigestReadsBack, ReferenceSurvives, TextReadsBack, VersionSurvives}
+use Rattle.cargo_lock_references.specs.ReadBack.{DigestReadsBack, ReferenceSurvives, SourceTextReadsBack, VersionSurvives}
 use Rattle.cargo_lock_encoding.specs.Survives.{ListedSurvives, Survives}
 use Rattle.cargo_lock_references.specs.Words.{IsDense, IsWord}
 use Rattle.cargo_lock_references.specs.WrittenMetadata.{HasChecksumAt, HasNoChecksum}
@@ -99,7 +99,7 @@ all-full list ps h (d ∷ ds) at =
 abbrev key_reference : PackageData → Reference
 key_reference q = record { name = q.name; version = Some q.version; source = option_map mark_plain q.source }
 
-plain-parts : (o : Option Source) → IfSome o IsPlainSource → IfSome (option_map mark_plain o) (λ m. IsDense (marked_text m) × TextReadsBack m)
+plain-parts : (o : Option Source) → IfSome o IsPlainSource → IfSome (option_map mark_plain o) (λ m. IsDense (marked_text m) × SourceTextReadsBack m)
 plain-parts None h = tt
 plain-parts (Some s) h = (h.dense, h.back)
 

@@ -19,7 +19,7 @@ use Rattle.cargo_lock_references.specs.Words.{words, IsWord, IsDense}
 use Rattle.cargo_lock_references.specs.Reference.{Reference, Refusal, after_source, after_version, bracketed_source, reference_of, reference_of_words, reference_or_refusal, reference_text, one_word, two_words, three_words, mark_plain, marked_source_part, version_part}
 use Rattle.cargo_lock_references.specs.ReferenceOrder.{marked_key}
 use Rattle.cargo_lock_references.specs.Optional.{◌>>=◌}
-use Rattle.cargo_lock_references.specs.ReadBack.{WordsReadBack, TextReadsBack, VersionSurvives}
+use Rattle.cargo_lock_references.specs.ReadBack.{WordsReadBack, SourceTextReadsBack, VersionSurvives}
 use Rattle.cargo_lock_references.specs.Reference.{version_of}
 use Rattle.cargo_lock_references.proofs.DenseWords.{bracketed, words-words, words-utf8, words-word, words-more, utf8-cut, some-word, dense-utf8, utf8-ascii, bracketed-whole, bracketed-dense, dense-bracketed}
 
@@ -202,7 +202,7 @@ versioned-survives n v g e same is =
 bracketed-survives : (n : List ℕ) (v : Parts) (s : MarkedSource) (ws : List (List ℕ)) (g : Reference)
     → reference_in_words (n ∷ parts_text v ∷ ws) ≡ Some g → words (bracketed (marked_text s)) ≡ ws → IsUtf8 (bracketed (marked_text s))
     → IfSome g.source (λ r. marked_key r ≡ marked_key s)
-    → IsDense (marked_text s) × TextReadsBack s
+    → IsDense (marked_text s) × SourceTextReadsBack s
 bracketed-survives n v s [] g e is u key = absurd (some-word [] (marked_text s ++ 41 ∷ []) 40 (omega arith) refl u is)
 bracketed-survives n v s (b ∷ ws) g e is u key =
     let t = third-word n (parts_text v) b ws g e in
@@ -216,7 +216,7 @@ bracketed-survives n v s (b ∷ ws) g e is u key =
 sourced-survives : (n : List ℕ) (v : Parts) (s : MarkedSource) (g : Reference)
     → reference_from (n ++ (32 ∷ (parts_text v ++ 32 ∷ bracketed (marked_text s)))) ≡ Some g → g.name ≡ n → IfSome g.version (λ w. w ≡ v)
     → IfSome g.source (λ r. marked_key r ≡ marked_key s)
-    → IsWord n × IsWord (parts_text v) × VersionSurvives v × IsDense (marked_text s) × TextReadsBack s
+    → IsWord n × IsWord (parts_text v) × VersionSurvives v × IsDense (marked_text s) × SourceTextReadsBack s
 sourced-survives n v s g e same is key =
     let t = bracketed (marked_text s) in
     let rest = parts_text v ++ 32 ∷ t in
@@ -241,7 +241,7 @@ IsWhole (Some v) (Some s) = Unit {0}
 by-parts : (n : List ℕ) (v : Option Parts) (s : Option MarkedSource) (g : Reference) → IsWhole v s
     → reference_from (n ++ (version_part v ++ marked_source_part s)) ≡ Some g → g.name ≡ n → IfSome v (λ x. IfSome g.version (λ w. w ≡ x))
     → IfSome s (λ x. IfSome g.source (λ r. marked_key r ≡ marked_key x))
-    → IsWord n × IfSome v (λ x. IsWord (parts_text x) × VersionSurvives x) × IfSome s (λ x. IsDense (marked_text x) × TextReadsBack x)
+    → IsWord n × IfSome v (λ x. IsWord (parts_text x) × VersionSurvives x) × IfSome s (λ x. IsDense (marked_text x) × SourceTextReadsBack x)
 by-parts n None None g whole e same is key = (name-survives n g e same, tt, tt)
 by-parts n (Some v) None g whole e same is key =
     let r = versioned-survives n v g (subst (λ (l : List ℕ). reference_from (n ++ 32 ∷ l) ≡ Some g) (append-nil (parts_text v)) e) same is in
@@ -288,7 +288,7 @@ source-words n t b h k l =
     ∙ ap (λ (ws : List (List ℕ)). n ∷ ws) (words-more t b k (utf8-word b l) ∙ ap (λ (ws : List (List ℕ)). t ∷ ws) (words-word b l))
 
 reads-by : (n : List ℕ) (v : Option Parts) (s : Option MarkedSource) → IsWhole v s → IsWord n
-    → IfSome v (λ x. IsWord (parts_text x) × VersionSurvives x) → IfSome s (λ x. IsDense (marked_text x) × TextReadsBack x)
+    → IfSome v (λ x. IsWord (parts_text x) × VersionSurvives x) → IfSome s (λ x. IsDense (marked_text x) × SourceTextReadsBack x)
     → (r : Option MarkedSource) × (reference_from (n ++ (version_part v ++ marked_source_part s)) ≡ Some (reference_with n v r)) × (option_map marked_key r ≡ option_map marked_key s)
 reads-by n None None whole h k l = (None, rw (name-words n h) refl, refl)
 reads-by n (Some v) None whole h k l = (None, rw (version-words n (parts_text v) h k.0, k.1) refl, refl)

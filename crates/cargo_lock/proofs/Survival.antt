@@ -284,7 +284,7 @@ format-read V4 es md none h = refl
 
 -- ---- the values of a written table
 
-abbrev encoded_packages_from : Option Items → Option Data → Option EncodedPackages
+abbrev pub encoded_packages_from : Option Items → Option Data → Option EncodedPackages
 encoded_packages_from items root = do
   es ← (do
     list ← items

@@ -86,7 +86,7 @@ pub kept-from : (fs : List ResolveVersion) (l : LockfileData) (r : Result Lockfi
 kept-from fs l (Ok x) h s = let t = through fs l s in subst (KeepsThrough fs l) (same_Some _ _ (sym t.gives ∙ h)) t.keeps
 kept-from fs l (Err e) h s = tt
 
-only-memory : (e : Error) → Refuses e ⊥ → e ≡ Memory
+pub only-memory : (e : Error) → Refuses e ⊥ → e ≡ Memory
 only-memory (Io kind) h = absurd h
 only-memory (Parse message) h = absurd h
 only-memory (Version fault) h = absurd h

@@ -5,7 +5,7 @@ use Rattle.cargo_lock_graph.specs.DrawingLaws.{EntriesAreCounted, OccursWhereRea
 use Rattle.cargo_lock_graph.specs.DrawingLaws.{ReachableIsExpanded, TextTellsDrawing}
 use Rattle.cargo_lock_encoding.specs.Means.{MeansOne}
 use Rattle.cargo_lock.specs.Plain.{PlainSurvives}
-use Rattle.cargo_lock.specs.Printed.{PrintedBack}
+use Rattle.cargo_lock.specs.Printed.{PrintedBack, TextIsExact, TextMeansOne}
 use Rattle.cargo_lock.specs.Shortest.{ShortestReferences, WrittenByBearers}
 use Rattle.cargo_lock_encoding.specs.Survives.{SurvivesExactly}
 use Rattle.cargo_lock_graph.specs.Targets.{EdgesAreOne}
@@ -20,8 +20,14 @@ pub record Headline : Type 0 where
   pub survival : SurvivesExactly
   -- what survives is written again as it was: `Lockfile::to_table`
   pub again : WrittenAgain
-  -- and its text is read back, as far as `toml` reads what was printed: `Lockfile::to_string`
+  -- and its text, where no package has both a replacement and dependencies, is read back without
+  -- the root: `Lockfile::to_string`
   pub printed : PrintedBack
+  -- the text written in a format reads back exactly where the lockfile survives the format, has no
+  -- root, and no package has both a replacement and dependencies: `Lockfile::survives_as_text`
+  pub texts : TextIsExact
+  -- and a text means at most one lockfile: `Lockfile::from_str`
+  pub one_text_meaning : TextMeansOne
   -- lockfiles of registry packages alone, each name and version once, survive V2 to V4, and V1
   -- where some package has a checksum: `Lockfile::survives`
   pub plain : PlainSurvives

@@ -11,7 +11,7 @@ use Rattle.cargo_lock_references.specs.declared.version.ResolveVersion.TheVarian
 use Rattle.cargo_lock_references.specs.WrittenReference.{mark}
 use Rattle.cargo_lock_encoding.specs.Lockfiles.{LockfileData}
 use Rattle.cargo_lock.specs.Shortest.{IsAmong}
-use Rattle.cargo_lock_references.specs.ReadBack.{DigestReadsBack, TextReadsBack, VersionSurvives}
+use Rattle.cargo_lock_references.specs.ReadBack.{DigestReadsBack, SourceTextReadsBack, VersionSurvives}
 use Rattle.cargo_lock_encoding.specs.Survives.{Survives}
 use Rattle.cargo_lock_references.specs.Words.{IsDense, IsWord}
 
@@ -19,7 +19,7 @@ use Rattle.cargo_lock_references.specs.Words.{IsDense, IsWord}
 pub record IsPlainSource (s : Source) : Type 0 where
   pub registry : is_registry s.kind ≡ true
   pub dense : IsDense (text_of false s)
-  pub back : TextReadsBack (mark false s)
+  pub back : SourceTextReadsBack (mark false s)
 
 -- no two places of the list have the same name and version
 abbrev pub HasNoTwins : List Identity → Type 0

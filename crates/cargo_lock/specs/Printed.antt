@@ -1,41 +1,14 @@
 -- The printed text of a lockfile, read again.
-use Rattle.std.specs.Prelude.{◌≡◌, ◌⊎◌, [], ◌∷◌, Some, None, option_map, map, codes}
+use Rattle.std.specs.Prelude.{◌≡◌, ◌↔◌, ℕ, List, None, map}
 use Rattle.std.specs.List.{AllByRecursion}
-use Rattle.toml.specs.Data.{integer, Members}
-use Rattle.toml.specs.Parse.{parse_document}
-use Rattle.cargo_lock_parts.specs.Identity.{PackageData, identity_key, identity_of, package_key}
+use Rattle.cargo_lock_parts.specs.Identity.{identity_key, package_key}
 use Rattle.cargo_lock_encoding.specs.Means.{TextMeans}
 use Rattle.cargo_lock_references.specs.Metadata.{metadata_of}
 use Rattle.cargo_lock_encoding.specs.Lockfiles.{LockfileData}
-use Rattle.cargo_lock_references.specs.Records.{is_escaped}
-use Rattle.cargo_lock_encoding.specs.Survives.{Survives}
-use Rattle.cargo_lock_encoding.specs.Table.{encoded_package_of, encoded_package_value}
-use Rattle.cargo_lock_encoding.specs.Table.{metadata_value, patch_value, present_members}
-use Rattle.cargo_lock_encoding.specs.Table.{unless_empty, written_version}
+use Rattle.cargo_lock_encoding.specs.Survives.{Survives, HasSamePackages, in_format}
+use Rattle.cargo_lock_references.specs.declared.version.ResolveVersion.{ResolveVersion}
 use Rattle.cargo_lock_encoding.specs.Text.{join_lines, lines_of}
-
--- The written table as the text has it: without the root, and without a list of packages where it
--- is empty.
-abbrev pub printed_table : LockfileData → Members
-printed_table l = present_members (
-    (codes "metadata", metadata_value (metadata_of l.version l.metadata l.packages))
-    ∷ (
-      codes "package",
-      unless_empty
-          (map encoded_package_value
-          (map (encoded_package_of l.version (map identity_of l.packages)) l.packages)),
-    )
-    ∷ (codes "patch", patch_value (is_escaped l.version) l.patch)
-    ∷ (codes "version", option_map integer (written_version l.version)) ∷ [])
-
--- the text has the replacement of a package only where the package has no dependencies
-abbrev pub HasAllPrinted : PackageData → Type 0
-HasAllPrinted p = (p.dependencies ≡ []) ⊎ (p.replace ≡ None)
-
--- The premise: `toml` reads the printed text as that table. It is not proved; tests show it on
--- every text that they print.
-abbrev pub IsReadAsPrinted : LockfileData → Type 0
-IsReadAsPrinted l = parse_document (join_lines (lines_of l)) ≡ Some (printed_table l)
+use Rattle.cargo_lock_encoding.specs.PrintedTable.{HasAllPrinted}
 
 -- the format, equal packages and patches, the written metadata, and no root
 pub record IsPrintedBack (l x : LockfileData) : Type 0 where
@@ -46,8 +19,29 @@ pub record IsPrintedBack (l x : LockfileData) : Type 0 where
   pub root : x.root ≡ None
 
 -- Where a lockfile survives its own format and no package has both a replacement and dependencies,
--- its printed text means such a lockfile, as far as `toml` reads it as it was printed.
+-- its printed text means a lockfile of that format with equal packages and patches, the written
+-- metadata and no root.
 abbrev pub PrintedBack : Type 0
 PrintedBack = (l : LockfileData) → Survives l l.version → AllByRecursion HasAllPrinted l.packages
-    → IsReadAsPrinted l
     → (x : LockfileData) × TextMeans (join_lines (lines_of l)) x × IsPrintedBack l x
+
+-- the text of the lockfile in this format means the other one
+abbrev pub IsTextStep : ResolveVersion → LockfileData → LockfileData → Type 0
+IsTextStep format l x = TextMeans (join_lines (lines_of (in_format format l))) x
+
+-- the text of the lockfile in this format means a lockfile of this format with equal packages, root
+-- and patches
+abbrev pub TextReadsBack : LockfileData → ResolveVersion → Type 0
+TextReadsBack l format =
+    (x : LockfileData) × IsTextStep format l x × (x.version ≡ format) × HasSamePackages x l
+
+-- a text means at most one lockfile
+abbrev pub TextMeansOne : Type 0
+TextMeansOne = (text : List ℕ) (a b : LockfileData) → TextMeans text a → TextMeans text b → a ≡ b
+
+-- The text printed in a format reads back exactly where the lockfile survives the format, has no
+-- root, and no package has both a replacement and dependencies.
+abbrev pub TextIsExact : Type 0
+TextIsExact = (l : LockfileData) (format : ResolveVersion)
+    → (Survives l format × (l.root ≡ None) × AllByRecursion HasAllPrinted l.packages)
+    ↔ TextReadsBack l format

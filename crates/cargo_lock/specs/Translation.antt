@@ -1,6 +1,7 @@
 -- Translation of a lockfile over a list of formats: for each format in order the lockfile is
--- written as a table in that format, and the table is read.
-use Rattle.std.specs.Prelude.{◌≡◌, ◌⊎◌, List, [], ◌∷◌, Option, Some}
+-- written as a table in that format, and the table is read; or it is printed as a text in that
+-- format, and the text is read.
+use Rattle.std.specs.Prelude.{◌≡◌, ◌⊎◌, ◌↔◌, List, [], ◌∷◌, Option, Some}
 use Rattle.cargo_lock_parts.specs.Identity.{PackageData}
 use Rattle.cargo_lock_references.specs.declared.version.ResolveVersion.{ResolveVersion}
 use Rattle.cargo_lock_encoding.specs.Means.{Means}
@@ -11,6 +12,7 @@ use Rattle.cargo_lock_encoding.specs.Lockfiles.{LockfileData}
 use Rattle.cargo_lock_references.specs.Records.{Texts}
 use Rattle.cargo_lock_encoding.specs.Survives.{HasSamePackages, Survives, in_format}
 use Rattle.cargo_lock_encoding.specs.Table.{table_of}
+use Rattle.cargo_lock.specs.Printed.{IsTextStep, TextReadsBack}
 
 -- ---- the chain
 
@@ -18,10 +20,16 @@ use Rattle.cargo_lock_encoding.specs.Table.{table_of}
 abbrev pub IsStep : ResolveVersion → LockfileData → LockfileData → Type 0
 IsStep format l x = Means (table_of (in_format format l)) x
 
--- the steps, one after another, lead to x; without a format x is the lockfile itself
+-- steps, one after another, lead to x; without a format x is the lockfile itself
+abbrev pub LeadsBy : (ResolveVersion → LockfileData → LockfileData → Type 0)
+    → List ResolveVersion → LockfileData → LockfileData → Type 0
+LeadsBy step [] l x = x ≡ l
+LeadsBy step (format ∷ formats) l x = (y : LockfileData) × step format l y
+    × LeadsBy step formats y x
+
+-- the steps by tables lead to x
 abbrev pub LeadsTo : List ResolveVersion → LockfileData → LockfileData → Type 0
-LeadsTo [] l x = x ≡ l
-LeadsTo (format ∷ formats) l x = (y : LockfileData) × IsStep format l y × LeadsTo formats y x
+LeadsTo = LeadsBy IsStep
 
 -- the table of some step means no lockfile
 abbrev pub IsStuck : List ResolveVersion → LockfileData → Type 0
@@ -56,6 +64,14 @@ pub record KeepsThrough (formats : List ResolveVersion) (l x : LockfileData) : T
   pub same : HasSamePackages x l
   pub metadata : x.metadata ≡ metadata_through formats l.metadata l.packages
 
+-- ---- by texts
+
+-- the text that each step prints reads back
+abbrev pub ReadsBackEach : List ResolveVersion → LockfileData → Type 0
+ReadsBackEach [] l = Unit {0}
+ReadsBackEach (format ∷ formats) l =
+    TextReadsBack l format × ((y : LockfileData) → IsTextStep format l y → ReadsBackEach formats y)
+
 -- ---- computed
 
 -- the lockfile that the chain gives
@@ -70,3 +86,8 @@ translate_in_turn (format ∷ formats) l = meaning
 abbrev pub WrittenAgain : Type 0
 WrittenAgain = (l x : LockfileData) → Survives l l.version → Means (table_of l) x → table_of x
     ≡ table_of l
+
+-- Where the text of each step reads back, the chain by texts is the chain by tables.
+abbrev pub SameByTexts : Type 0
+SameByTexts = (formats : List ResolveVersion) (l x : LockfileData) → ReadsBackEach formats l
+    → LeadsBy IsTextStep formats l x ↔ LeadsTo formats l x

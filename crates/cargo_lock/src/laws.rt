@@ -6,13 +6,13 @@ ghost use Rattle.cargo_lock.specs.Headline.{Headline};
 ghost use Rattle.cargo_lock_encoding.specs.Means.{MeansOne};
 ghost use Rattle.cargo_lock.specs.Shortest.{ShortestReferences, WrittenByBearers};
 ghost use Rattle.cargo_lock_encoding.specs.Survives.{SurvivesExactly};
-ghost use Rattle.cargo_lock.specs.Translation.{WrittenAgain};
+ghost use Rattle.cargo_lock.specs.Translation.{SameByTexts, WrittenAgain};
 ghost use Rattle.cargo_lock.specs.Plain.{PlainSurvives};
-ghost use Rattle.cargo_lock.specs.Printed.{PrintedBack};
+ghost use Rattle.cargo_lock.specs.Printed.{PrintedBack, TextIsExact, TextMeansOne};
 ghost use Rattle.cargo_lock.specs.Same.{EqualExactlyByKeys, EqualTablesAndTexts};
 
 use crate::dependency::tree::laws as drawings;
-pub use cargo_lock_encoding::laws::metadata_is_read_key_by_key;
+pub use cargo_lock_encoding::laws::{metadata_is_read_key_by_key, text_is_read, values_are_read};
 pub use cargo_lock_graph::drawing::laws::{
     drawing_exists, drawing_is_unique, drawings_are_one_form, edges_match_entries,
     entries_are_counted, entries_are_lines, graph_has_one_drawing, node_occurs_where_reachable,
@@ -73,9 +73,26 @@ pub fn packages_are_written_by_namesakes()
 
 /// Where a lockfile survives its own format and no package has both a replacement and dependencies,
 /// its printed text means a lockfile of that format with equal packages and patches, the written
-/// metadata and no root. The premise is that `toml` reads the text as the table that was printed.
+/// metadata and no root.
 pub fn printed_survivors_are_read_back()
     ensures { PrintedBack }
+{}
+
+/// The text printed in a format reads back exactly where the lockfile survives the format, has no
+/// root, and no package has both a replacement and dependencies.
+pub fn text_is_exact()
+    ensures { TextIsExact }
+{}
+
+/// A text means at most one lockfile.
+pub fn text_means_one()
+    ensures { TextMeansOne }
+{}
+
+/// Where the text of each step of a translation reads back, going by texts leads to the same
+/// lockfile as going by tables, which is how `Lockfile::translate_through` goes.
+pub fn texts_lead_as_tables()
+    ensures { SameByTexts }
 {}
 
 /// Plain lockfiles survive V2, V3 and V4, and where some package has a checksum V1 too.
@@ -84,8 +101,10 @@ pub fn plain_lockfiles_survive()
 {}
 
 /// What this library promises of lockfiles and their trees: a lockfile survives a format exactly
-/// where the table written in it reads back; there a dependency stands in its shortest form; and a
-/// rendering draws its start and each reachable edge exactly once.
+/// where the table written in it reads back; its text reads back exactly where it also has no root
+/// and no package has both a replacement and dependencies; a table or a text means at most one
+/// lockfile; a dependency of a survivor has its shortest form; and a rendering draws its start and
+/// each reachable edge exactly once.
 pub fn headline()
     ensures { Headline }
 {
@@ -93,6 +112,8 @@ pub fn headline()
     survival_is_exact();
     survivors_are_written_again();
     printed_survivors_are_read_back();
+    text_is_exact();
+    text_means_one();
     plain_lockfiles_survive();
     references_are_shortest();
     packages_are_written_by_namesakes();

@@ -1,7 +1,9 @@
 -- The packages of a lockfile, as callers have them: a line each.
-use Rattle.std.specs.Prelude.{◌≡◌, ◌++◌, ◌∷◌, [], ◌&&◌, ℕ, nat_le, Bool, true, false, List, Option}
-use Rattle.std.specs.Prelude.{Some, None, Any}
+use Rattle.std.specs.Prelude.{◌≡◌, ◌==◌, ◌++◌, ◌∷◌, [], ◌&&◌, ◌||◌, ℕ, nat_le, Bool, not, true, false}
+use Rattle.std.specs.Prelude.{List, Option, Some, None, Any}
+use Rattle.std.specs.Int.{is_in_range}
 use Rattle.std.specs.List.{All, flat_map, list_all}
+use Rattle.std.specs.Str.{chars}
 use Rattle.semver.specs.Identifiers.{parts_text}
 use Rattle.cargo_lock_parts.specs.Ascii.{newline, tab}
 use Rattle.cargo_lock_parts.specs.Checksum.{digest_text}
@@ -26,10 +28,16 @@ abbrev pub package_line : PackageData → List ℕ
 package_line p = p.name ++ (tab ∷ (parts_text p.version ++ (tab ∷ (source_field p.source
     ++ (tab ∷ (checksum_field p.checksum ++ newline ∷ []))))))
 
--- no byte of the name and of the text of the source is below 32, so that the line has three tabs
--- and one newline
+-- no control character, and no separator of lines or of paragraphs
+abbrev pub is_line_char : ℕ → Bool
+is_line_char c = is_in_range 0x20 0x7E c
+    || (nat_le 0xA0 c && (not (c == 0x2028) && not (c == 0x2029)))
+
+-- the name and the text of the source have no other characters, so that the line has three tabs and
+-- one newline
 abbrev pub has_line : PackageData → Bool
-has_line p = list_all (nat_le 32) p.name && list_all (nat_le 32) (source_field p.source)
+has_line p = list_all is_line_char (chars p.name)
+    && list_all is_line_char (chars (source_field p.source))
 
 -- the text is that of a lockfile, and these bytes are the lines of its packages in order
 abbrev pub IsPackageList : List ℕ → List ℕ → Type 0

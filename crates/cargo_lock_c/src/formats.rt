@@ -34,7 +34,8 @@ pub extern "C" fn cargo_lock_survives(alloc: Global, text: &[u8], format: u32) -
 }
 
 /// The text, in the format of a number, of a lockfile that survives it. One that does not is
-/// refused with 6.
+/// refused with 6. Survival is of the table: a root, and the replacement of a package with
+/// dependencies, are in no text.
 #[unsafe(no_mangle)]
 pub extern "C" fn cargo_lock_translate(
     alloc: Global,

@@ -1,13 +1,15 @@
 //! The packages of a lockfile, line by line.
 
-ghost use Rattle.std.specs.Prelude.{◌≡◌, ◌≤◌, ◌⊎◌, true, false, All, Any, IfErr, IfOk, nat_le};
+ghost use Rattle.std.specs.Prelude.{◌≡◌, ◌≤◌, ◌⊎◌, true, false, All, Any, IfErr, IfOk};
 ghost use Rattle.std.specs.Prelude.{option_map, string_bytes};
 ghost use Rattle.std.specs.List.{flat_map, list_all};
+ghost use Rattle.std.specs.Str.{chars};
 ghost use Rattle.cargo_lock_parts.specs.Checksum.{digest_of};
 ghost use Rattle.cargo_lock_c.specs.declared.refusal.Refusal.TheVariants.{NoLine, NoMemory};
 ghost use Rattle.cargo_lock_c.specs.Answers.{IsHandedOut};
 ghost use Rattle.cargo_lock_c.specs.Packages.{IsPackageList, LacksLine, checksum_field, has_line};
-ghost use Rattle.cargo_lock_c.specs.Packages.{package_line, source_field};
+ghost use Rattle.cargo_lock_c.specs.Packages.{is_line_char, package_line, source_field};
+ghost use Rattle.cargo_lock_c.specs.Packages as spec;
 ghost use Rattle.cargo_lock_c.specs.Statuses.{status_of};
 ghost use Rattle.cargo_lock_c.specs.Texts.{RefusesText};
 
@@ -19,7 +21,7 @@ use std::alloc::Global;
 
 /// The packages of a lockfile in its order, a line each: name, version, source and checksum, with
 /// a tab between two. A source or a checksum that is missing is empty. Status 9 where a name or a
-/// source has a byte below 32, as a tab or a newline.
+/// source has a control character, as a tab or a newline, or a separator of lines or paragraphs.
 #[unsafe(no_mangle)]
 pub extern "C" fn cargo_lock_packages(
     alloc: Global,
@@ -107,9 +109,19 @@ fn checksum_text(alloc: Global, checksum: &Option<Checksum>) -> Result<String, R
     }
 }
 
-/// Whether a text has no byte below 32.
+/// Whether each character of a text can be in a line.
 fn is_plain(text: &str) -> bool
-    ensures { result ≡ list_all (nat_le 32) text.now }
+    ensures { result ≡ list_all is_line_char (chars text.now) }
 {
-    text.as_bytes().iter().all(|byte| 32 <= *byte)
+    text.chars().all(is_line_char)
+}
+
+/// Whether a character is no control character and separates no lines or paragraphs.
+fn is_line_char(c: char) -> bool
+    ensures { result ≡ spec.is_line_char c }
+{
+    match c {
+        '\0'..='\u{1f}' | '\u{7f}'..='\u{9f}' | '\u{2028}' | '\u{2029}' => false,
+        _ => true,
+    }
 }

@@ -1,3 +1,13 @@
+pub mod Places
+pub mod PackagePlaces
+pub mod AlikePlaces
+pub mod Parts
+pub mod SeenBefore
+pub mod LostPlaces
+pub mod Matching
+pub mod Searching
+pub mod StaleKeys
 pub mod Lines
 pub mod Told
 pub mod Sound
+pub mod OneLine

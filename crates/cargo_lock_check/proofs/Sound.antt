@@ -1,24 +1,28 @@
 -- Nothing is found exactly where nothing is wrong, and no line is told exactly where nothing is found.
-use Rattle.std.proofs.Common.{◌≡◌, ◌<◌, ◌⊎◌, ◌↔◌, inl, inr, ℕ, suc, Bool, true, false, cond, List, [], ◌∷◌, ◌++◌, length, map, slice_get, Option, Some, None, MatchOption, option_map, is_none, refl, sym, ap, subst, ◌∙◌, arith}
+use Rattle.std.proofs.Common.{◌≡◌, ◌<◌, ◌⊎◌, ◌↔◌, inl, inr, ℕ, zero, suc, Bool, true, false, cond, List, [], ◌∷◌, ◌++◌, length, map, slice_get, Option, Some, None, MatchOption, option_map, is_none, refl, sym, ap, subst, ◌∙◌, arith}
 use Rattle.std.specs.List.{Contains, cons_option, filter_map, list_any}
 use Rattle.std.specs.Option.{option_and_then, option_to_list}
 use Rattle.std.specs.Str.Lines.{lines}
 use Rattle.std.proofs.lemmas.Bool.{ne_eqb}
 use Rattle.std.proofs.lemmas.Option.{slice_get_within, slice_get-get_or}
 use Rattle.cargo_lock_parts.specs.Identity.{PackageData}
+use Rattle.cargo_lock_parts.specs.Source.{Source}
 use Rattle.cargo_lock_references.specs.declared.version.ResolveVersion.{ResolveVersion}
 use Rattle.cargo_lock_encoding.specs.Lockfiles.{LockfileData}
 use Rattle.cargo_lock_graph.specs.Targets.{HoldsOf}
-use Rattle.cargo_lock_check.specs.Finding.{FindingData, LostDependency, Misplaced, NoChecksum, NoRoot, Orphan, OtherLine, StaleChecksum, Twice}
-use Rattle.cargo_lock_check.specs.Findings.{AreFindings, FindingsData, IsEmpty, IsOtherLine, IsWrittenByCargo, lost_at, misplaced_at, no_root, package_at, printed_lines, told_of, told_of_format, told_of_orphans}
-use Rattle.cargo_lock_flaws.specs.Lost.{IsLostAt}
-use Rattle.cargo_lock_flaws.specs.Packages.{IsMisplaced, IsTwice, IsWithoutChecksum}
-use Rattle.cargo_lock_flaws.specs.Places.{IsPlaces}
-use Rattle.cargo_lock_flaws.specs.Reach.{IsOrphan}
+use Rattle.cargo_lock_check.specs.Finding.{Alike, BadName, FindingData, LookAlike, LostDependency, Misplaced, NoChecksum, NoRoot, Orphan, OtherLine, StaleChecksum, Twice, UserInfo}
+use Rattle.cargo_lock_check.specs.Findings.{AreFindings, FindingsData, IsEmpty, IsOtherLine, IsWrittenByCargo, alike_at, lost_at, misplaced_at, no_root, package_at, printed_lines, source_at, told_of, told_of_format, told_of_misleading, told_of_orphans}
+use Rattle.cargo_lock_check.specs.Alike.{AreAlikeAt, ArePairsAlike, IsFirstAlike}
+use Rattle.cargo_lock_check.specs.Lost.{IsLostAt}
+use Rattle.cargo_lock_check.specs.Names.{IsBadlyNamed}
+use Rattle.cargo_lock_check.specs.Packages.{IsMisplaced, IsTwice, IsWithoutChecksum}
+use Rattle.cargo_lock_check.specs.Places.{IsPlaces}
+use Rattle.cargo_lock_check.specs.Reach.{IsOrphan}
 use Rattle.cargo_lock_check.specs.Sound.{EmptyIfSound, NoneToldIfEmpty}
-use Rattle.cargo_lock_flaws.specs.Stale.{stale_keys}
+use Rattle.cargo_lock_check.specs.Sources.{HasUserInfo, IsFrom, IsFromAt, IsLookAlike}
+use Rattle.cargo_lock_check.specs.Stale.{stale_keys}
 use Rattle.cargo_lock_check.specs.Text.{IsFirstOther, OtherLineData, cargo_lines}
-use Rattle.cargo_lock_flaws.proofs.StaleKeys.{cons-here, nothing-there, stale_keys_are_exact}
+use Rattle.cargo_lock_check.proofs.StaleKeys.{cons-here, nothing-there, stale_keys_are_exact}
 
 -- ---- lists without members
 
@@ -39,6 +43,18 @@ places-empty P n places is = (
 
 within : (P : PackageData → Type 0) (packages : List PackageData) (k : ℕ) → HoldsOf P packages k → k < length packages
 within P packages k h = slice_get_within packages k h.0 h.1
+
+-- two packages are alike where one has a first one alike
+no-first : (packages : List PackageData) (j : ℕ) → ((i : ℕ) → ¬ IsFirstAlike packages i j) → (bound i : ℕ) → i < bound → i < j → ¬ AreAlikeAt packages i j
+no-first packages j none zero i low under h = absurd (omega (arith, low))
+no-first packages j none (suc bound) i low under h =
+    none i (under, h, λ k less. no-first packages j none bound k (omega (arith, low, less)) (omega (arith, less, under)))
+
+alike-empty : (packages : List PackageData) (pairs : List (ℕ × ℕ)) → ArePairsAlike packages pairs → (pairs ≡ []) ↔ ((i j : ℕ) → i < j → ¬ AreAlikeAt packages i j)
+alike-empty packages pairs are = (
+  λ e i j low. no-first packages j (λ k h. none-in pairs (k, j) e ((are.told k j).1 h)) (suc i) i (omega arith) low,
+  λ h. none-left pairs (λ k c. let first = (are.told k.0 k.1).0 c in h k.0 k.1 first.0 first.1),
+)
 
 -- ---- nothing is wrong
 
@@ -61,6 +77,10 @@ empty_if_sound text l f is = (
   λ e. record {
     dependencies = λ place at h. none-in f.lost_dependencies (place, at) e.lost_dependencies ((is.lost_dependencies.told place at).1 h);
     once = λ k h. (places-empty (IsTwice l.packages) (length l.packages) f.twice is.twice).0 e.twice k (within _ l.packages k h) h;
+    named = λ k h. (places-empty (IsBadlyNamed l.packages) (length l.packages) f.badly_named is.badly_named).0 e.badly_named k (within _ l.packages k h) h;
+    apart = (alike-empty l.packages f.alike is.alike).0 e.alike;
+    genuine = λ k h. (places-empty (IsFromAt IsLookAlike l.packages) (length l.packages) f.look_alikes is.look_alikes).0 e.look_alikes k (within _ l.packages k h) h;
+    anonymous = λ k h. (places-empty (IsFromAt HasUserInfo l.packages) (length l.packages) f.with_user_info is.with_user_info).0 e.with_user_info k (within _ l.packages k h) h;
     needed = λ rootless. (places-empty (IsOrphan l.packages) (length l.packages) f.orphans (is.orphans.rootless rootless)).0 e.orphans;
     checksums = λ k h. (places-empty (IsWithoutChecksum l.packages) (length l.packages) f.without_checksum is.without_checksum).0 e.without_checksum k (within _ l.packages k h) h;
     metadata = λ key h. none-in (stale_keys l.metadata l.packages) key (sym is.stale ∙ e.stale) ((stale_keys_are_exact l.metadata l.packages key).1 h);
@@ -73,6 +93,10 @@ empty_if_sound text l f is = (
   λ s. record {
     lost_dependencies = none-left f.lost_dependencies (λ k c. s.dependencies k.0 k.1 ((is.lost_dependencies.told k.0 k.1).0 c));
     twice = (places-empty (IsTwice l.packages) (length l.packages) f.twice is.twice).1 (λ k _. s.once k);
+    badly_named = (places-empty (IsBadlyNamed l.packages) (length l.packages) f.badly_named is.badly_named).1 (λ k _. s.named k);
+    alike = (alike-empty l.packages f.alike is.alike).1 s.apart;
+    look_alikes = (places-empty (IsFromAt IsLookAlike l.packages) (length l.packages) f.look_alikes is.look_alikes).1 (λ k _. s.genuine k);
+    with_user_info = (places-empty (IsFromAt HasUserInfo l.packages) (length l.packages) f.with_user_info is.with_user_info).1 (λ k _. s.anonymous k);
     orphans = elim (root-cases l.root) [
       | inl rootless ↦ (places-empty (IsOrphan l.packages) (length l.packages) f.orphans (is.orphans.rootless rootless)).1 (s.needed rootless)
       | inr rooted ↦ is.orphans.rooted rooted
@@ -126,6 +150,25 @@ misplaced-there packages k h none =
     let is : misplaced_at packages k ≡ Some (Misplaced p h.2.0) = ap (option_and_then named) h.1 ∙ ap (option_map (Misplaced p)) h.2.1 in
     cc (is, none)
 
+alike-there : (packages : List PackageData) (k : ℕ × ℕ) → AreAlikeAt packages k.0 k.1 → ¬ (alike_at packages k ≡ None)
+alike-there packages k h none =
+    let p : PackageData = h.2.0 in
+    let named : PackageData → Option FindingData = λ q. option_map (Alike q) (slice_get packages k.1) in
+    let is : alike_at packages k ≡ Some (Alike p h.0) = ap (option_and_then named) h.2.1 ∙ ap (option_map (Alike p)) h.1 in
+    cc (is, none)
+
+source-there : (P : Source → Type 0) (finding : Source → FindingData) (packages : List PackageData) (k : ℕ) → IsFromAt P packages k → ¬ (source_at finding packages k ≡ None)
+source-there P finding packages k h none =
+    let from : IsFrom P h.0 = h.2 in
+    let named : PackageData → Option FindingData = λ q. option_map finding q.source in
+    let is : source_at finding packages k ≡ Some (finding from.0) = ap (option_and_then named) h.1 ∙ ap (option_map finding) from.1 in
+    cc (is, none)
+
+sources-none : (P : Source → Type 0) (finding : Source → FindingData) (packages : List PackageData) (places : List ℕ) → IsPlaces (IsFromAt P packages) (length packages) places
+    → filter_map (source_at finding packages) places ≡ [] → places ≡ []
+sources-none P finding packages places is e =
+    filter_map-none (source_at finding packages) places (λ k c. source-there P finding packages k ((is.told k).0 c).1) e
+
 -- places of packages at each of which one is told
 told-none : (P : ℕ → Type 0) (finding : PackageData → FindingData) (packages : List PackageData) (places : List ℕ) → IsPlaces P (length packages) places
     → filter_map (package_at finding packages) places ≡ [] → places ≡ []
@@ -164,7 +207,11 @@ told-nothing text l f is e =
     let here : f.packages ≡ l.packages = is.packages in
     let e1 = append-none (filter_map (lost_at f.packages) f.lost_dependencies) _ e in
     let e2 = append-none (filter_map (package_at Twice f.packages) f.twice) _ e1.1 in
-    let e3 = append-none (told_of_orphans f.packages f.orphans) _ e2.1 in
+    let m = append-none (told_of_misleading f) _ e2.1 in
+    let m1 = append-none (filter_map (package_at BadName f.packages) f.badly_named) _ m.0 in
+    let m2 = append-none (filter_map (alike_at f.packages) f.alike) _ m1.1 in
+    let m3 = append-none (filter_map (source_at LookAlike f.packages) f.look_alikes) _ m2.1 in
+    let e3 = append-none (told_of_orphans f.packages f.orphans) _ m.1 in
     let e4 = append-none (filter_map (package_at NoChecksum f.packages) f.without_checksum) _ e3.1 in
     let e5 = append-none (map StaleChecksum f.stale) _ e4.1 in
     let e6 = append-none (filter_map (misplaced_at f.packages) f.misplaced) _ e5.1 in
@@ -173,6 +220,12 @@ told-nothing text l f is e =
       lost_dependencies = filter_map-none (lost_at l.packages) f.lost_dependencies
           (λ k c. lost-there l.packages k ((is.lost_dependencies.told k.0 k.1).0 c)) (subst (λ ps. filter_map (lost_at ps) f.lost_dependencies ≡ []) here e1.0);
       twice = told-none (IsTwice l.packages) Twice l.packages f.twice is.twice (subst (λ ps. filter_map (package_at Twice ps) f.twice ≡ []) here e2.0);
+      badly_named = told-none (IsBadlyNamed l.packages) BadName l.packages f.badly_named is.badly_named (subst (λ ps. filter_map (package_at BadName ps) f.badly_named ≡ []) here m1.0);
+      alike = filter_map-none (alike_at l.packages) f.alike (λ k c. let first = (is.alike.told k.0 k.1).0 c in alike-there l.packages k first.1)
+          (subst (λ ps. filter_map (alike_at ps) f.alike ≡ []) here m2.0);
+      look_alikes = sources-none IsLookAlike LookAlike l.packages f.look_alikes is.look_alikes (subst (λ ps. filter_map (source_at LookAlike ps) f.look_alikes ≡ []) here m3.0);
+      with_user_info = sources-none HasUserInfo UserInfo l.packages f.with_user_info is.with_user_info
+          (subst (λ ps. filter_map (source_at UserInfo ps) f.with_user_info ≡ []) here m3.1);
       orphans = elim (root-cases l.root) [
         | inl rootless ↦ orphans-none l.packages f.orphans (is.orphans.rootless rootless) (subst (λ ps. told_of_orphans ps f.orphans ≡ []) here e3.0)
         | inr rooted ↦ is.orphans.rooted rooted
@@ -190,12 +243,16 @@ nothing-told : (f : FindingsData) → IsEmpty f → told_of f ≡ []
 nothing-told f e =
     (λ i. filter_map (lost_at f.packages) (e.lost_dependencies i)
     ++ (filter_map (package_at Twice f.packages) (e.twice i)
+    ++ ((filter_map (package_at BadName f.packages) (e.badly_named i)
+    ++ (filter_map (alike_at f.packages) (e.alike i)
+    ++ (filter_map (source_at LookAlike f.packages) (e.look_alikes i)
+    ++ filter_map (source_at UserInfo f.packages) (e.with_user_info i))))
     ++ (told_of_orphans f.packages (e.orphans i)
     ++ (filter_map (package_at NoChecksum f.packages) (e.without_checksum i)
     ++ (map StaleChecksum (e.stale i)
     ++ (filter_map (misplaced_at f.packages) (e.misplaced i)
     ++ (told_of_format (e.is_kept i) f.version
-    ++ option_to_list (option_map OtherLine (e.other_line i)))))))))
+    ++ option_to_list (option_map OtherLine (e.other_line i))))))))))
     ∙ ap (λ fs. fs ++ []) (no-orphans f.packages)
 
 pub none_told_if_empty : NoneToldIfEmpty

@@ -1,19 +1,28 @@
 -- The findings of a lockfile, and the line of each.
-use Rattle.std.specs.Prelude.{ℕ, List, [], ◌++◌, codes, decimal, false, Option, None, Some}
+use Rattle.std.specs.Prelude.{◌≡◌, ℕ, List, [], ◌∷◌, ◌++◌, codes, decimal, false, map, Option, None, Some}
+use Rattle.std.specs.List.{flat_map}
+use Rattle.std.specs.Str.Lines.{lines}
 use Rattle.semver.specs.Identifiers.{parts_text}
-use Rattle.cargo_lock_parts.specs.Identity.{Identity, PackageData, dependency_text}
+use Rattle.shown.specs.Shown.{shown}
+use Rattle.shown.specs.declared.form.Form.TheVariants.{Plain, Quoted}
+use Rattle.cargo_lock_parts.specs.Ascii.{newline}
+use Rattle.cargo_lock_parts.specs.Identity.{Identity, PackageData, identity_of}
 use Rattle.cargo_lock_parts.specs.Source.{Source}
 use Rattle.cargo_lock_parts.specs.SourceText.{text_of}
 use Rattle.cargo_lock_references.specs.declared.version.ResolveVersion.{ResolveVersion}
 use Rattle.cargo_lock_references.specs.Format.{number_of}
 use Rattle.cargo_lock_check.specs.declared.finding.Finding.{Finding}
-use Rattle.cargo_lock_check.specs.declared.finding.Finding.TheVariants.{LostDependency as LostDependencyAt, Twice as TwiceAt, NoRoot as NoRootAt, Orphan as OrphanAt, NoChecksum as NoChecksumAt, StaleChecksum as StaleChecksumAt, Misplaced as MisplacedAt, NotKept as NotKeptAt, OtherLine as OtherLineAt}
+use Rattle.cargo_lock_check.specs.declared.finding.Finding.TheVariants.{LostDependency as LostDependencyAt, Twice as TwiceAt, BadName as BadNameAt, Alike as AlikeAt, LookAlike as LookAlikeAt, UserInfo as UserInfoAt, NoRoot as NoRootAt, Orphan as OrphanAt, NoChecksum as NoChecksumAt, StaleChecksum as StaleChecksumAt, Misplaced as MisplacedAt, NotKept as NotKeptAt, OtherLine as OtherLineAt}
 use Rattle.cargo_lock_check.specs.Text.{OtherLineData}
 
 -- one thing that is wrong
 pub data FindingData : Type 0 where
   LostDependency : PackageData → Identity → FindingData
   Twice : PackageData → FindingData
+  BadName : PackageData → FindingData
+  Alike : PackageData → PackageData → FindingData
+  LookAlike : Source → FindingData
+  UserInfo : Source → FindingData
   NoRoot : FindingData
   Orphan : PackageData → FindingData
   NoChecksum : PackageData → FindingData
@@ -26,6 +35,10 @@ pub data FindingData : Type 0 where
 abbrev pub finding_of : Finding → FindingData
 finding_of (LostDependencyAt p d) = LostDependency p.now d.now
 finding_of (TwiceAt p) = Twice p.now
+finding_of (BadNameAt p) = BadName p.now
+finding_of (AlikeAt p q) = Alike p.now q.now
+finding_of (LookAlikeAt source) = LookAlike source.now
+finding_of (UserInfoAt source) = UserInfo source.now
 finding_of NoRootAt = NoRoot
 finding_of (OrphanAt p) = Orphan p.now
 finding_of (NoChecksumAt p) = NoChecksum p.now
@@ -36,31 +49,54 @@ finding_of (OtherLineAt line) = OtherLine line.now
 
 -- ---- lines
 
+-- a source, as it is shown
+abbrev pub source_shown : Source → List ℕ
+source_shown source = shown Plain (text_of false source)
+
 -- a source in round brackets
 abbrev pub bracketed : Option Source → List ℕ
 bracketed None = []
-bracketed (Some source) = codes " (" ++ (text_of false source ++ codes ")")
+bracketed (Some source) = codes " (" ++ (source_shown source ++ codes ")")
 
--- the name, the version and the source
+-- the name, the version and the source, as they are shown
+abbrev pub identity_shown : Identity → List ℕ
+identity_shown i = shown Plain i.name
+    ++ (codes " " ++ (shown Plain (parts_text i.version) ++ bracketed i.source))
+
+-- the same of a package
 abbrev pub package_text : PackageData → List ℕ
-package_text p = p.name ++ (codes " " ++ (parts_text p.version ++ bracketed p.source))
+package_text p = identity_shown (identity_of p)
 
 -- the line of a finding
 abbrev pub line_of : FindingData → List ℕ
 line_of (LostDependency p d) = codes "reference: " ++ (package_text p
-    ++ (codes " depends on " ++ (dependency_text d ++ codes ", which is no package")))
+    ++ (codes " depends on " ++ (identity_shown d ++ codes ", which is no package")))
 line_of (Twice p) = codes "twice: " ++ (package_text p ++ codes " stands more than once")
+line_of (BadName p) =
+    codes "name: " ++ (shown Plain p.name ++ codes " is no name that Cargo takes")
+line_of (Alike p q) = codes "alike: " ++ (package_text p
+    ++ (codes " and " ++ (package_text q ++ codes " have one name on crates.io")))
+line_of (LookAlike source) =
+    codes "source: " ++ (source_shown source ++ codes " is not crates.io")
+line_of (UserInfo source) = codes "source: " ++ (source_shown source ++ codes " has user info")
 line_of NoRoot = codes "root: no package is of the workspace"
 line_of (Orphan p) =
     codes "orphan: " ++ (package_text p ++ codes ": no package of the workspace leads to it")
 line_of (NoChecksum p) =
     codes "checksum: " ++ (package_text p ++ codes " has none, though others of its registry have")
 line_of (StaleChecksum key) =
-    codes "stale: `" ++ (key ++ codes "` is in the metadata, and is of no package")
+    codes "stale: `" ++ (shown Quoted key ++ codes "` is in the metadata, and is of no package")
 line_of (Misplaced p next) = codes "order: " ++ (package_text p
     ++ (codes " stands before " ++ package_text next))
 line_of (NotKept version) =
     codes "format: V" ++ (decimal (number_of version) ++ codes " does not keep this lockfile")
 line_of (OtherLine line) = codes "text: line " ++ (decimal line.number
-    ++ (codes " is not as Cargo writes it: `" ++ (line.written
-    ++ (codes "` for `" ++ (line.wanted ++ codes "`")))))
+    ++ (codes " is not as Cargo writes it: `" ++ (shown Quoted line.written
+    ++ (codes "` for `" ++ (shown Quoted line.wanted ++ codes "`")))))
+
+-- ---- law
+
+-- each finding is exactly one line, whatever its names, sources, keys and quoted lines hold
+abbrev pub EachIsOneLine : Type 0
+EachIsOneLine = (findings : List FindingData)
+    → lines (flat_map (λ finding. line_of finding ++ newline ∷ []) findings) ≡ map line_of findings

@@ -4,18 +4,24 @@ use Rattle.std.specs.List.{filter_map, list_any}
 use Rattle.std.specs.Option.{option_and_then, option_to_list}
 use Rattle.std.specs.Str.Lines.{lines}
 use Rattle.cargo_lock_parts.specs.Identity.{PackageData}
+use Rattle.cargo_lock_parts.specs.Source.{Source}
 use Rattle.cargo_lock_references.specs.declared.version.ResolveVersion.{ResolveVersion}
 use Rattle.cargo_lock_encoding.specs.Lockfiles.{LockfileData}
 use Rattle.cargo_lock_encoding.specs.Survives.{Survives}
 use Rattle.cargo_lock_encoding.specs.Text.{join_lines, lines_of}
-use Rattle.cargo_lock_check.specs.Finding.{FindingData, LostDependency, Misplaced, NoChecksum, NoRoot, NotKept, Orphan, OtherLine, StaleChecksum, Twice}
+use Rattle.cargo_lock_check.specs.Finding.{Alike, BadName, FindingData, LookAlike, LostDependency, Misplaced, NoChecksum, NoRoot, NotKept, Orphan, OtherLine, StaleChecksum, Twice, UserInfo}
 use Rattle.cargo_lock_check.specs.declared.findings.Flaw.{Flaw}
 use Rattle.cargo_lock_check.specs.declared.findings.Flaw.TheVariants as flaw
-use Rattle.cargo_lock_flaws.specs.Lost.{AreLost}
-use Rattle.cargo_lock_flaws.specs.Packages.{IsMisplaced, IsTwice, IsWithoutChecksum}
-use Rattle.cargo_lock_flaws.specs.Places.{IsPlaces}
-use Rattle.cargo_lock_flaws.specs.Reach.{IsOrphan}
-use Rattle.cargo_lock_flaws.specs.Stale.{stale_keys}
+use Rattle.cargo_lock_check.specs.declared.findings.SourceFlaw.{SourceFlaw}
+use Rattle.cargo_lock_check.specs.declared.findings.SourceFlaw.TheVariants as source_flaw
+use Rattle.cargo_lock_check.specs.Alike.{ArePairsAlike}
+use Rattle.cargo_lock_check.specs.Lost.{AreLost}
+use Rattle.cargo_lock_check.specs.Names.{IsBadlyNamed}
+use Rattle.cargo_lock_check.specs.Packages.{IsMisplaced, IsTwice, IsWithoutChecksum}
+use Rattle.cargo_lock_check.specs.Places.{IsPlaces}
+use Rattle.cargo_lock_check.specs.Reach.{IsOrphan}
+use Rattle.cargo_lock_check.specs.Sources.{HasUserInfo, IsFromAt, IsLookAlike}
+use Rattle.cargo_lock_check.specs.Stale.{stale_keys}
 use Rattle.cargo_lock_check.specs.Text.{AreSameLines, IsFirstOther, OtherLineData, cargo_lines}
 
 -- what is found, and the packages and the format that it is said of
@@ -24,6 +30,10 @@ pub record FindingsData : Type 0 where
   pub version : ResolveVersion
   pub lost_dependencies : List (ℕ × ℕ)
   pub twice : List ℕ
+  pub badly_named : List ℕ
+  pub alike : List (ℕ × ℕ)
+  pub look_alikes : List ℕ
+  pub with_user_info : List ℕ
   pub orphans : List ℕ
   pub without_checksum : List ℕ
   pub stale : List (List ℕ)
@@ -66,6 +76,11 @@ pub record AreFindings (text : List ℕ) (l : LockfileData) (f : FindingsData) :
   pub version : f.version ≡ l.version
   pub lost_dependencies : AreLost l.packages f.lost_dependencies
   pub twice : IsPlaces (IsTwice l.packages) (length l.packages) f.twice
+  pub badly_named : IsPlaces (IsBadlyNamed l.packages) (length l.packages) f.badly_named
+  pub alike : ArePairsAlike l.packages f.alike
+  pub look_alikes : IsPlaces (IsFromAt IsLookAlike l.packages) (length l.packages) f.look_alikes
+  pub with_user_info : IsPlaces (IsFromAt HasUserInfo l.packages) (length l.packages)
+      f.with_user_info
   pub orphans : AreOrphans l f.orphans
   pub without_checksum : IsPlaces (IsWithoutChecksum l.packages) (length l.packages)
       f.without_checksum
@@ -78,6 +93,10 @@ pub record AreFindings (text : List ℕ) (l : LockfileData) (f : FindingsData) :
 pub record IsEmpty (f : FindingsData) : Type 0 where
   pub lost_dependencies : f.lost_dependencies ≡ []
   pub twice : f.twice ≡ []
+  pub badly_named : f.badly_named ≡ []
+  pub alike : f.alike ≡ []
+  pub look_alikes : f.look_alikes ≡ []
+  pub with_user_info : f.with_user_info ≡ []
   pub orphans : f.orphans ≡ []
   pub without_checksum : f.without_checksum ≡ []
   pub stale : f.stale ≡ []
@@ -95,12 +114,28 @@ lost_at packages k = option_and_then
 -- the finding of a package with a flaw
 abbrev pub finding_by : Flaw → PackageData → FindingData
 finding_by flaw.Twice = Twice
+finding_by flaw.BadName = BadName
 finding_by flaw.Orphan = Orphan
 finding_by flaw.NoChecksum = NoChecksum
 
 -- the package at a place
 abbrev pub package_at : (PackageData → FindingData) → List PackageData → ℕ → Option FindingData
 package_at finding packages k = option_map finding (slice_get packages k)
+
+-- the packages at two places
+abbrev pub alike_at : List PackageData → ℕ × ℕ → Option FindingData
+alike_at packages k = option_and_then
+    (λ p. option_map (Alike p) (slice_get packages k.1)) (slice_get packages k.0)
+
+-- the finding of a source with a flaw
+abbrev pub source_finding_by : SourceFlaw → Source → FindingData
+source_finding_by source_flaw.LookAlike = LookAlike
+source_finding_by source_flaw.UserInfo = UserInfo
+
+-- the source of the package at a place
+abbrev pub source_at : (Source → FindingData) → List PackageData → ℕ → Option FindingData
+source_at finding packages k = option_and_then
+    (λ p. option_map finding p.source) (slice_get packages k)
 
 -- the package at a place and the next one
 abbrev pub misplaced_at : List PackageData → ℕ → Option FindingData
@@ -120,13 +155,21 @@ told_of_orphans packages orphans = if list_any (λ p. is_none p.source) packages
 abbrev pub told_of_format : Bool → ResolveVersion → List FindingData
 told_of_format is_kept version = if is_kept then [] else NotKept version ∷ []
 
+-- each name and each source that may mislead a reader
+abbrev pub told_of_misleading : FindingsData → List FindingData
+told_of_misleading f = filter_map (package_at BadName f.packages) f.badly_named
+    ++ (filter_map (alike_at f.packages) f.alike
+    ++ (filter_map (source_at LookAlike f.packages) f.look_alikes
+    ++ filter_map (source_at UserInfo f.packages) f.with_user_info))
+
 -- each finding
 abbrev pub told_of : FindingsData → List FindingData
 told_of f = filter_map (lost_at f.packages) f.lost_dependencies
     ++ (filter_map (package_at Twice f.packages) f.twice
+    ++ (told_of_misleading f
     ++ (told_of_orphans f.packages f.orphans
     ++ (filter_map (package_at NoChecksum f.packages) f.without_checksum
     ++ (map StaleChecksum f.stale
     ++ (filter_map (misplaced_at f.packages) f.misplaced
     ++ (told_of_format f.is_kept f.version
-    ++ option_to_list (option_map OtherLine f.other_line)))))))
+    ++ option_to_list (option_map OtherLine f.other_line))))))))

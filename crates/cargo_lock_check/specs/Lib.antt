@@ -1,3 +1,15 @@
+pub mod Places
+pub mod Order
+pub mod Packages
+pub mod Seen
+pub mod Names
+pub mod Alike
+pub mod Namesakes
+pub mod Sources
+pub mod Stale
+pub mod Lost
+pub mod Reach
+pub mod Search
 pub mod Text
 pub mod TextReferences
 pub mod Finding

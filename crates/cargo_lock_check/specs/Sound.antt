@@ -2,19 +2,28 @@
 use Rattle.std.specs.Prelude.{◌≡◌, ◌↔◌, ◌<◌, ℕ, List, [], None, length}
 use Rattle.cargo_lock_encoding.specs.Lockfiles.{LockfileData}
 use Rattle.cargo_lock_encoding.specs.Survives.{Survives}
+use Rattle.cargo_lock_check.specs.Alike.{AreAlikeAt}
 use Rattle.cargo_lock_check.specs.Findings.{AreFindings, FindingsData, IsEmpty, IsWrittenByCargo, told_of}
-use Rattle.cargo_lock_flaws.specs.Lost.{IsLostAt}
-use Rattle.cargo_lock_flaws.specs.Packages.{IsMisplaced, IsTwice, IsWithoutChecksum}
-use Rattle.cargo_lock_flaws.specs.Reach.{IsOrphan}
-use Rattle.cargo_lock_flaws.specs.Stale.{IsStale}
+use Rattle.cargo_lock_check.specs.Lost.{IsLostAt}
+use Rattle.cargo_lock_check.specs.Names.{IsBadlyNamed}
+use Rattle.cargo_lock_check.specs.Packages.{IsMisplaced, IsTwice, IsWithoutChecksum}
+use Rattle.cargo_lock_check.specs.Reach.{IsOrphan}
+use Rattle.cargo_lock_check.specs.Sources.{HasUserInfo, IsFromAt, IsLookAlike}
+use Rattle.cargo_lock_check.specs.Stale.{IsStale}
 
--- Each dependency has its package. No package stands twice, lacks a checksum that others have or is
--- out of order, and no checksum is of no package. The lockfile survives its format. Where it has no
--- root apart from its packages, those of the workspace lead to each package, and each line of the
--- text is as Cargo writes it.
+-- Each dependency has its package. No package stands twice, has a name that Cargo does not take, is
+-- from a source that looks like crates.io and is another one, is from a source with user info,
+-- lacks a checksum that others have or is out of order, and no checksum is of no package. No two
+-- packages have names that crates.io takes for one. The lockfile survives its format. Where it has
+-- no root apart from its packages, those of the workspace lead to each package, and each line of
+-- the text is as Cargo writes it.
 pub record IsSound (text : List ℕ) (l : LockfileData) : Type 0 where
   pub dependencies : (place at : ℕ) → ¬ IsLostAt l.packages place at
   pub once : (k : ℕ) → ¬ IsTwice l.packages k
+  pub named : (k : ℕ) → ¬ IsBadlyNamed l.packages k
+  pub apart : (i j : ℕ) → i < j → ¬ AreAlikeAt l.packages i j
+  pub genuine : (k : ℕ) → ¬ IsFromAt IsLookAlike l.packages k
+  pub anonymous : (k : ℕ) → ¬ IsFromAt HasUserInfo l.packages k
   pub needed : l.root ≡ None → (k : ℕ) → k < length l.packages → ¬ IsOrphan l.packages k
   pub checksums : (k : ℕ) → ¬ IsWithoutChecksum l.packages k
   pub metadata : (key : List ℕ) → ¬ IsStale l.metadata l.packages key

@@ -1,9 +1,15 @@
 //! What is found in a lockfile, each as a line.
 
+ghost use Rattle.std.specs.Prelude.{Some};
+ghost use Rattle.std.specs.Fmt.{DisplaysOnOk};
+ghost use Rattle.cargo_lock_check.specs.Finding as told;
+ghost use Rattle.cargo_lock_check.specs.Finding.{line_of};
+
 use crate::text::OtherLine;
 use cargo_lock_parts::dependency::Dependency;
-use cargo_lock_parts::package::Package;
+use cargo_lock_parts::package::{Package, SourceId};
 use cargo_lock_references::{MetadataKey, ResolveVersion};
+use shown::{Quoted, Shown};
 use std::fmt;
 
 /// One thing that is wrong with a lockfile. Displayed, it is a line without its newline: a word
@@ -24,6 +30,22 @@ pub enum Finding<'a> {
     /// A package has the name, the version and the source of an earlier one:
     /// `twice: PACKAGE stands more than once`.
     Twice(&'a Package),
+
+    /// A package has a name that Cargo does not take:
+    /// `name: NAME is no name that Cargo takes`.
+    BadName(&'a Package),
+
+    /// Two packages from crates.io have different names that crates.io takes for one:
+    /// `alike: PACKAGE and PACKAGE have one name on crates.io`.
+    Alike(&'a Package, &'a Package),
+
+    /// A package is from a source that looks like crates.io, and is another one:
+    /// `source: SOURCE is not crates.io`.
+    LookAlike(&'a SourceId),
+
+    /// A package is from a source whose URL has a user name or a password:
+    /// `source: SOURCE has user info`.
+    UserInfo(&'a SourceId),
 
     /// Each package has a source, so none is of the workspace:
     /// `root: no package is of the workspace`.
@@ -62,37 +84,35 @@ impl fmt::Display for Finding<'_> {
 
     fn fmt<W: fmt::Write>(&self, f: &mut fmt::Formatter<W>) -> fmt::Result {
         match self {
-            Finding::LostDependency(one, dependency) => {
-                let one = PackageText(one);
-                write!(
-                    f,
-                    "reference: {one} depends on {dependency}, which is no package"
-                )
-            }
+            Finding::LostDependency(one, dependency) => write_lost_dependency(one, dependency, f),
             Finding::Twice(one) => {
                 let one = PackageText(one);
                 write!(f, "twice: {one} stands more than once")
+            }
+            Finding::BadName(one) => {
+                let name = Shown(&one.name);
+                write!(f, "name: {name} is no name that Cargo takes")
+            }
+            Finding::Alike(one, other) => write_alike(one, other, f),
+            Finding::LookAlike(source) => {
+                let source = Shown(*source);
+                write!(f, "source: {source} is not crates.io")
+            }
+            Finding::UserInfo(source) => {
+                let source = Shown(*source);
+                write!(f, "source: {source} has user info")
             }
             Finding::NoRoot => f.write_str("root: no package is of the workspace"),
             Finding::Orphan(one) => {
                 let one = PackageText(one);
                 write!(f, "orphan: {one}: no package of the workspace leads to it")
             }
-            Finding::NoChecksum(one) => {
-                let one = PackageText(one);
-                write!(
-                    f,
-                    "checksum: {one} has none, though others of its registry have"
-                )
-            }
+            Finding::NoChecksum(one) => write_no_checksum(one, f),
             Finding::StaleChecksum(key) => {
+                let key = Quoted(key);
                 write!(f, "stale: `{key}` is in the metadata, and is of no package")
             }
-            Finding::Misplaced(one, next) => {
-                let one = PackageText(one);
-                let next = PackageText(next);
-                write!(f, "order: {one} stands before {next}")
-            }
+            Finding::Misplaced(one, next) => write_misplaced(one, next, f),
             Finding::NotKept(version) => {
                 let number = u32::from(*version);
                 write!(f, "format: V{number} does not keep this lockfile")
@@ -100,6 +120,63 @@ impl fmt::Display for Finding<'_> {
             Finding::OtherLine(line) => write!(f, "{line}"),
         }
     }
+}
+
+// The line of a package and its dependency.
+fn write_lost_dependency<W: fmt::Write>(
+    one: &Package,
+    dependency: &Dependency,
+    f: &mut fmt::Formatter<W>,
+) -> fmt::Result
+    ensures { DisplaysOnOk W.write_str_gives f.old result
+        (Some (line_of (told.LostDependency one.now dependency.now))) f.new }
+{
+    let one = PackageText(one);
+    let dependency = DependencyText(dependency);
+    write!(
+        f,
+        "reference: {one} depends on {dependency}, which is no package"
+    )
+}
+
+// The line of two packages that are alike.
+fn write_alike<W: fmt::Write>(
+    one: &Package,
+    other: &Package,
+    f: &mut fmt::Formatter<W>,
+) -> fmt::Result
+    ensures { DisplaysOnOk W.write_str_gives f.old result
+        (Some (line_of (told.Alike one.now other.now))) f.new }
+{
+    let one = PackageText(one);
+    let other = PackageText(other);
+    write!(f, "alike: {one} and {other} have one name on crates.io")
+}
+
+// The line of a package without a checksum.
+fn write_no_checksum<W: fmt::Write>(one: &Package, f: &mut fmt::Formatter<W>) -> fmt::Result
+    ensures { DisplaysOnOk W.write_str_gives f.old result
+        (Some (line_of (told.NoChecksum one.now))) f.new }
+{
+    let one = PackageText(one);
+    write!(
+        f,
+        "checksum: {one} has none, though others of its registry have"
+    )
+}
+
+// The line of a package and the next one.
+fn write_misplaced<W: fmt::Write>(
+    one: &Package,
+    next: &Package,
+    f: &mut fmt::Formatter<W>,
+) -> fmt::Result
+    ensures { DisplaysOnOk W.write_str_gives f.old result
+        (Some (line_of (told.Misplaced one.now next.now))) f.new }
+{
+    let one = PackageText(one);
+    let next = PackageText(next);
+    write!(f, "order: {one} stands before {next}")
 }
 
 impl fmt::Display for OtherLine {
@@ -110,8 +187,8 @@ impl fmt::Display for OtherLine {
 
     fn fmt<W: fmt::Write>(&self, f: &mut fmt::Formatter<W>) -> fmt::Result {
         let number = self.number;
-        let written = &self.written;
-        let wanted = &self.wanted;
+        let written = Quoted(&self.written);
+        let wanted = Quoted(&self.wanted);
         write!(
             f,
             "text: line {number} is not as Cargo writes it: `{written}` for `{wanted}`"
@@ -131,11 +208,50 @@ impl fmt::Display for PackageText<'_> {
 
     fn fmt<W: fmt::Write>(&self, f: &mut fmt::Formatter<W>) -> fmt::Result {
         let PackageText(one) = *self;
-        let name = &one.name;
-        let version = &one.version;
-        match &one.source {
-            Some(source) => write!(f, "{name} {version} ({source})"),
-            None => write!(f, "{name} {version}"),
+        let name = Shown(&one.name);
+        let version = Shown(&one.version);
+        let source = BracketedSource(&one.source);
+        write!(f, "{name} {version}{source}")
+    }
+}
+
+// The same of a dependency.
+#[derive(Clone, Copy)]
+struct DependencyText<'a>(&'a Dependency);
+
+impl fmt::Display for DependencyText<'_> {
+    ghost use Rattle.std.specs.Prelude.{Some};
+    ghost use Rattle.cargo_lock_check.specs.Finding.{identity_shown};
+
+    ghost output = { λ shown. Some (identity_shown shown.0.now) };
+
+    fn fmt<W: fmt::Write>(&self, f: &mut fmt::Formatter<W>) -> fmt::Result {
+        let DependencyText(one) = *self;
+        let name = Shown(&one.name);
+        let version = Shown(&one.version);
+        let source = BracketedSource(&one.source);
+        write!(f, "{name} {version}{source}")
+    }
+}
+
+// A source in round brackets, where there is one.
+#[derive(Clone, Copy)]
+struct BracketedSource<'a>(&'a Option<SourceId>);
+
+impl fmt::Display for BracketedSource<'_> {
+    ghost use Rattle.std.specs.Prelude.{Some};
+    ghost use Rattle.cargo_lock_check.specs.Finding.{bracketed};
+
+    ghost output = { λ shown. Some (bracketed shown.0.now) };
+
+    fn fmt<W: fmt::Write>(&self, f: &mut fmt::Formatter<W>) -> fmt::Result {
+        let BracketedSource(source) = *self;
+        match source {
+            Some(source) => {
+                let source = Shown(source);
+                write!(f, " ({source})")
+            }
+            None => Ok(()),
         }
     }
 }

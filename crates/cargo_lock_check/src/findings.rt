@@ -7,19 +7,22 @@ ghost use Rattle.cargo_lock_parts.specs.declared.error.Error.TheVariants.{Memory
 ghost use Rattle.cargo_lock_encoding.specs.Survives.{Survives};
 ghost use Rattle.cargo_lock_check.specs.Finding.{finding_of};
 ghost use Rattle.cargo_lock_check.specs.Finding as told;
-ghost use Rattle.cargo_lock_check.specs.Findings.{AreFindings, AreOrphans, IsOtherLine, finding_by, lost_at, misplaced_at, no_root, package_at, told_of_format, told_of_orphans};
-ghost use Rattle.cargo_lock_flaws.specs.Lost.{AreLost};
-ghost use Rattle.cargo_lock_flaws.specs.Packages.{IsMisplaced, IsTwice, IsWithoutChecksum};
-ghost use Rattle.cargo_lock_flaws.specs.Places.{IsPlaces};
-ghost use Rattle.cargo_lock_flaws.specs.Stale.{stale_keys};
+ghost use Rattle.cargo_lock_check.specs.Findings.{AreFindings, AreOrphans, IsOtherLine, alike_at, finding_by, lost_at, misplaced_at, no_root, package_at, source_at, source_finding_by, told_of_format, told_of_orphans};
+ghost use Rattle.cargo_lock_check.specs.Alike.{ArePairsAlike};
+ghost use Rattle.cargo_lock_check.specs.Lost.{AreLost};
+ghost use Rattle.cargo_lock_check.specs.Names.{IsBadlyNamed};
+ghost use Rattle.cargo_lock_check.specs.Packages.{IsMisplaced, IsTwice, IsWithoutChecksum};
+ghost use Rattle.cargo_lock_check.specs.Places.{IsPlaces};
+ghost use Rattle.cargo_lock_check.specs.Sources.{HasUserInfo, IsFromAt, IsLookAlike};
+ghost use Rattle.cargo_lock_check.specs.Stale.{stale_keys};
 
 use crate::finding::Finding;
+use crate::flaws::{
+    badly_named_packages, look_alike_sources, lost_dependencies, misplaced_packages, orphans,
+    packages_alike, packages_twice, packages_without_checksum, sources_with_user_info, stale_keys,
+};
 use crate::text::{OtherLine, first_other_line};
 use cargo_lock::Lockfile;
-use cargo_lock_flaws::{
-    lost_dependencies, misplaced_packages, orphans, packages_twice, packages_without_checksum,
-    stale_keys,
-};
 use cargo_lock_parts::error::Result;
 use cargo_lock_parts::package::Package;
 use cargo_lock_references::{MetadataKey, ResolveVersion};
@@ -49,6 +52,20 @@ pub struct Findings<'a> {
 
     /// The packages whose name, version and source an earlier one has too.
     pub twice: Vec<usize>,
+
+    /// The packages whose name Cargo does not take (see `badly_named_packages`).
+    pub badly_named: Vec<usize>,
+
+    /// The packages from crates.io with an earlier one of another name that crates.io takes for the
+    /// same, each after the first such one (see `packages_alike`).
+    pub alike: Vec<(usize, usize)>,
+
+    /// The packages from a source that looks like crates.io and is another one (see
+    /// `look_alike_sources`).
+    pub look_alikes: Vec<usize>,
+
+    /// The packages from a source whose URL has a user name or a password.
+    pub with_user_info: Vec<usize>,
 
     /// The packages that none of the workspace leads to, by dependencies and replacements. They are
     /// not looked for where the lockfile has a root apart from its packages.
@@ -87,6 +104,10 @@ impl<'a> Model for Findings<'a> {
       version = f.version;
       lost_dependencies = f.lost_dependencies.items;
       twice = f.twice.items;
+      badly_named = f.badly_named.items;
+      alike = f.alike.items;
+      look_alikes = f.look_alikes.items;
+      with_user_info = f.with_user_info.items;
       orphans = f.orphans.items;
       without_checksum = f.without_checksum.items;
       stale = f.stale.items;
@@ -105,7 +126,7 @@ struct PackagePlaces {
 }
 
 impl<'a> Findings<'a> {
-    ghost use Rattle.cargo_lock_check.specs.Findings.{IsEmpty, told_of};
+    ghost use Rattle.cargo_lock_check.specs.Findings.{IsEmpty, told_of, told_of_misleading};
 
     /// What is wrong with a lockfile that was read from this text. The one error is `Memory`.
     pub fn of(alloc: Global, text: &str, lockfile: &'a Lockfile) -> Result<Findings<'a>>
@@ -113,6 +134,7 @@ impl<'a> Findings<'a> {
         ensures err { IsOkUnless result Memory }
     {
         let places = LockfilePlaces::of(alloc, lockfile)?;
+        let misleading = MisleadingPlaces::of(alloc, &lockfile.packages)?;
         let rest = TextFindings::of(alloc, text, lockfile)?;
         let LockfilePlaces {
             lost_dependencies,
@@ -124,6 +146,10 @@ impl<'a> Findings<'a> {
             version: lockfile.version,
             lost_dependencies,
             twice: packages.twice,
+            badly_named: misleading.badly_named,
+            alike: misleading.alike,
+            look_alikes: misleading.look_alikes,
+            with_user_info: misleading.with_user_info,
             orphans,
             without_checksum: packages.without_checksum,
             stale: rest.stale,
@@ -139,6 +165,10 @@ impl<'a> Findings<'a> {
     {
         self.lost_dependencies.is_empty()
             && self.twice.is_empty()
+            && self.badly_named.is_empty()
+            && self.alike.is_empty()
+            && self.look_alikes.is_empty()
+            && self.with_user_info.is_empty()
             && self.orphans.is_empty()
             && self.without_checksum.is_empty()
             && self.stale.is_empty()
@@ -147,15 +177,18 @@ impl<'a> Findings<'a> {
             && self.other_line.is_none()
     }
 
-    /// The findings, in this order: lost dependencies, packages that stand twice, orphans, packages
-    /// without a checksum, stale checksums, misplaced packages, the format, the text. Where no
-    /// package is of the workspace, that is told in place of the orphans. Fails when out of memory.
+    /// The findings, in this order: lost dependencies, packages that stand twice, names that Cargo
+    /// does not take, names that crates.io takes for one, sources that look like crates.io, sources
+    /// with user info, orphans, packages without a checksum, stale checksums, misplaced packages,
+    /// the format, the text. Where no package is of the workspace, that is told in place of the
+    /// orphans. Fails when out of memory.
     pub fn all<'s>(&'s self, alloc: Global) -> std::result::Result<Vec<Finding<'s>>, AllocError>
         ensures { IfOk result (λ all. map finding_of all.items ≡ told_of self.now) }
     {
         let mut all = Vec::new(alloc);
         add_lost_dependencies(&mut all, self.packages, &self.lost_dependencies)?;
         add_flawed(&mut all, self.packages, &self.twice, Flaw::Twice)?;
+        self.add_misleading(&mut all)?;
         add_orphans(&mut all, self.packages, &self.orphans)?;
         add_flawed(
             &mut all,
@@ -168,6 +201,26 @@ impl<'a> Findings<'a> {
         add_format(&mut all, self.is_kept, self.version)?;
         add_some(&mut all, other_line_finding(&self.other_line))?;
         Ok(all)
+    }
+
+    // Adds the names and the sources that may mislead a reader.
+    fn add_misleading<'s>(
+        &'s self,
+        all: &mut Vec<Finding<'s>>,
+    ) -> std::result::Result<(), AllocError>
+        ensures { OnOk result (map finding_of all.new.items
+            ≡ map finding_of all.old.items ++ told_of_misleading self.now) }
+    {
+        add_flawed(all, self.packages, &self.badly_named, Flaw::BadName)?;
+        add_alike(all, self.packages, &self.alike)?;
+        add_sources(all, self.packages, &self.look_alikes, SourceFlaw::LookAlike)?;
+        add_sources(
+            all,
+            self.packages,
+            &self.with_user_info,
+            SourceFlaw::UserInfo,
+        )?;
+        Ok(())
     }
 }
 
@@ -250,6 +303,35 @@ impl PackagePlaces {
     }
 }
 
+// The places of packages that may mislead a reader, by their names or sources.
+#[derive(Drop)]
+struct MisleadingPlaces {
+    badly_named: Vec<usize>,
+    alike: Vec<(usize, usize)>,
+    look_alikes: Vec<usize>,
+    with_user_info: Vec<usize>,
+}
+
+impl MisleadingPlaces {
+    // The places of these packages.
+    fn of(alloc: Global, packages: &[Package]) -> std::result::Result<MisleadingPlaces, AllocError>
+        ensures badly_named { IfOk result (λ f. IsPlaces (IsBadlyNamed packages.now)
+            (length packages.now) f.badly_named.items) }
+        ensures alike { IfOk result (λ f. ArePairsAlike packages.now f.alike.items) }
+        ensures look_alikes { IfOk result (λ f. IsPlaces (IsFromAt IsLookAlike packages.now)
+            (length packages.now) f.look_alikes.items) }
+        ensures with_user_info { IfOk result (λ f. IsPlaces (IsFromAt HasUserInfo packages.now)
+            (length packages.now) f.with_user_info.items) }
+    {
+        Ok(MisleadingPlaces {
+            badly_named: badly_named_packages(alloc, packages)?,
+            alike: packages_alike(alloc, packages)?,
+            look_alikes: look_alike_sources(alloc, packages)?,
+            with_user_info: sources_with_user_info(alloc, packages)?,
+        })
+    }
+}
+
 // The orphans of a lockfile.
 fn orphans_of(alloc: Global, lockfile: &Lockfile) -> std::result::Result<Vec<usize>, AllocError>
     ensures { IfOk result (λ places. AreOrphans lockfile.now places.items) }
@@ -324,6 +406,9 @@ enum Flaw {
     // An earlier package has its identity.
     Twice,
 
+    // Cargo does not take its name.
+    BadName,
+
     // No package of the workspace leads to it.
     Orphan,
 
@@ -355,8 +440,73 @@ fn flawed_package<'a>(packages: &'a [Package], place: usize, flaw: Flaw) -> Opti
     let package = packages.get(place)?;
     Some(match flaw {
         Flaw::Twice => Finding::Twice(package),
+        Flaw::BadName => Finding::BadName(package),
         Flaw::Orphan => Finding::Orphan(package),
         Flaw::NoChecksum => Finding::NoChecksum(package),
+    })
+}
+
+// Adds the packages at these pairs of places, which are alike.
+fn add_alike<'a>(
+    all: &mut Vec<Finding<'a>>,
+    packages: &'a [Package],
+    pairs: &[(usize, usize)],
+) -> std::result::Result<(), AllocError>
+    ensures { OnOk result (map finding_of all.new.items
+        ≡ map finding_of all.old.items ++ filter_map (alike_at packages.now) pairs.now) }
+{
+    for (earlier, place) in pairs {
+        add_some(all, alike_packages(packages, *earlier, *place))?;
+    }
+    Ok(())
+}
+
+// The finding of two packages that are alike.
+fn alike_packages<'a>(packages: &'a [Package], earlier: usize, place: usize) -> Option<Finding<'a>>
+    ensures { option_map finding_of result ≡ alike_at packages.now (earlier, place) }
+{
+    let one = packages.get(earlier)?;
+    let other = packages.get(place)?;
+    Some(Finding::Alike(one, other))
+}
+
+// What may be wrong with a source.
+#[derive(Clone, Copy)]
+enum SourceFlaw {
+    // It looks like crates.io, and is another one.
+    LookAlike,
+
+    // Its URL has a user name or a password.
+    UserInfo,
+}
+
+// Adds the sources of the packages at these places, each with this flaw.
+fn add_sources<'a>(
+    all: &mut Vec<Finding<'a>>,
+    packages: &'a [Package],
+    places: &[usize],
+    flaw: SourceFlaw,
+) -> std::result::Result<(), AllocError>
+    ensures { OnOk result (map finding_of all.new.items
+        ≡ map finding_of all.old.items ++ filter_map
+        (source_at (source_finding_by flaw) packages.now) places.now) }
+{
+    for place in places {
+        add_some(all, flawed_source(packages, *place, flaw))?;
+    }
+    Ok(())
+}
+
+// The finding of the source of a package.
+fn flawed_source<'a>(packages: &'a [Package], place: usize, flaw: SourceFlaw) -> Option<Finding<'a>>
+    ensures { option_map finding_of result
+        ≡ source_at (source_finding_by flaw) packages.now place }
+{
+    let package = packages.get(place)?;
+    let source = package.source.as_ref()?;
+    Some(match flaw {
+        SourceFlaw::LookAlike => Finding::LookAlike(source),
+        SourceFlaw::UserInfo => Finding::UserInfo(source),
     })
 }
 

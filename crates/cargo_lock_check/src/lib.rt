@@ -1,8 +1,9 @@
 //! What is wrong with a lockfile, as a check of a merge asks: a dependency without its package, two
-//! packages of one identity, a package that none of the workspace leads to, a package without the
-//! checksum that others of its registry have, a checksum of no package, packages out of Cargo's
-//! order, a format that does not keep the lockfile, and the first line that is not as Cargo writes
-//! it.
+//! packages of one identity, a name that Cargo does not take, two names that crates.io takes for
+//! one, a source that looks like crates.io and is another one, a source with a user name or a
+//! password, a package that none of the workspace leads to, a package without the checksum that
+//! others of its registry have, a checksum of no package, packages out of Cargo's order, a format
+//! that does not keep the lockfile, and the first line that is not as Cargo writes it.
 //!
 //! ```
 //! let lockfile = Lockfile::from_str(rt.alloc(), text)?;
@@ -21,10 +22,11 @@
 
 pub mod finding;
 pub mod findings;
+pub mod flaws;
 pub mod laws;
 pub mod text;
 
 pub use crate::finding::Finding;
 pub use crate::findings::Findings;
+pub use crate::flaws::package_order;
 pub use crate::text::OtherLine;
-pub use cargo_lock_flaws::package_order;

@@ -4,6 +4,7 @@ use Rattle.std.specs.Prelude.{Option, Some, None, is_some, false, if◌then◌el
 use Rattle.std.specs.List.{flat_map}
 use Rattle.std.specs.Option.{option_cmp}
 use Rattle.std.specs.Ordering.{eq_by_cmp}
+use Rattle.std.specs.Str.Lines.{lines}
 use Rattle.semver.specs.Identifiers.{parts_text}
 use Rattle.cargo_lock_parts.specs.Ascii.{newline}
 use Rattle.cargo_lock_parts.specs.Checksum.{digest_text}
@@ -16,6 +17,8 @@ use Rattle.cargo_lock_diff.specs.declared.change.Change.{Change}
 use Rattle.cargo_lock_diff.specs.declared.change.Change.TheVariants as variant
 use Rattle.cargo_lock_diff.specs.Dependencies.{have_other_dependencies, is_among}
 use Rattle.cargo_lock_diff.specs.Difference.{DifferenceData, IsEmpty}
+use Rattle.shown.specs.Shown.{shown}
+use Rattle.shown.specs.declared.form.Form.TheVariants.{Plain}
 
 -- one thing that differs: a pair with other checksums, other sources or other versions, a package
 -- that went or came, or a pair with other dependencies
@@ -77,20 +80,24 @@ all_changes_of dependencies d = if dependencies then changes_of d ++ dependency_
 -- the text of a source, or `none`
 abbrev pub source_text : Option Source → List ℕ
 source_text None = codes "none"
-source_text (Some source) = text_of false source
+source_text (Some source) = shown Plain (text_of false source)
 
 -- the text of a checksum, or `none`
 abbrev pub checksum_text : Option (List ℕ) → List ℕ
 checksum_text None = codes "none"
-checksum_text (Some digest) = digest_text digest
+checksum_text (Some digest) = shown Plain (digest_text digest)
 
 -- the sign of a pair with other checksums
 abbrev pub checksum_sign : PackageData → PackageData → List ℕ
 checksum_sign old new = if is_alarm old new then codes "!" else codes "?"
 
+-- a version as it is shown
+abbrev pub version_shown : ℕ × ℕ × ℕ × List ℕ × List ℕ → List ℕ
+version_shown version = shown Plain (parts_text version)
+
 -- the name and the version
 abbrev pub package_text : PackageData → List ℕ
-package_text p = p.name ++ (codes " " ++ parts_text p.version)
+package_text p = shown Plain p.name ++ (codes " " ++ version_shown p.version)
 
 -- the sources tie
 abbrev pub have_one_source : PackageData → PackageData → Bool
@@ -105,11 +112,12 @@ other_sources old new = if have_one_source old new then []
 abbrev pub source_in_brackets : Option Source → List ℕ
 source_in_brackets None = codes " (none)"
 source_in_brackets (Some source) = if is_default_registry source then []
-    else codes " (" ++ (text_of false source ++ codes ")")
+    else codes " (" ++ (shown Plain (text_of false source) ++ codes ")")
 
 -- a dependency: its name, its version and that source
 abbrev pub dependency_shown : Identity → List ℕ
-dependency_shown d = d.name ++ (codes " " ++ (parts_text d.version ++ source_in_brackets d.source))
+dependency_shown d = shown Plain d.name
+    ++ (codes " " ++ (version_shown d.version ++ source_in_brackets d.source))
 
 -- a dependency with a sign before it, unless it is among others
 abbrev pub shown_unless_among : List Identity → List ℕ → Identity → List ℕ
@@ -127,7 +135,7 @@ line_of (Altered old new) = checksum_sign old new ++ (codes " " ++ (package_text
     ++ (checksum_text old.checksum ++ (codes " -> " ++ checksum_text new.checksum)))))))
 line_of (Moved old new) = codes "> " ++ (package_text old ++ other_sources old new)
 line_of (Changed old new) = codes "~ " ++ (package_text old
-    ++ (codes " -> " ++ (parts_text new.version ++ other_sources old new)))
+    ++ (codes " -> " ++ (version_shown new.version ++ other_sources old new)))
 line_of (Removed old) = codes "- " ++ package_text old
 line_of (Added new) = codes "+ " ++ package_text new
 line_of (OtherDependencies old new) = codes "= " ++ (package_text new ++ (codes ": dependencies"
@@ -138,7 +146,11 @@ line_of (OtherDependencies old new) = codes "= " ++ (package_text new ++ (codes 
 abbrev pub lines_text : List ChangeData → List ℕ
 lines_text = flat_map (λ change. line_of change ++ newline ∷ [])
 
--- ---- law
+-- ---- laws
+
+-- each change is exactly one line, whatever its names, versions, sources and checksums hold
+abbrev pub EachIsOneLine : Type 0
+EachIsOneLine = (changes : List ChangeData) → lines (lines_text changes) ≡ map line_of changes
 
 -- no change is told exactly where the difference is empty
 abbrev pub NoneIfEmpty : Type 0

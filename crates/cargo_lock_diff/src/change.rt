@@ -9,6 +9,7 @@ ghost use Rattle.cargo_lock_diff.specs.Difference.{packages_at, pairs_at};
 use crate::dependencies::{have_other_dependencies, is_among};
 use cargo_lock_parts::dependency::Dependency;
 use cargo_lock_parts::package::Package;
+use shown::Shown;
 use std::alloc::AllocError;
 use std::cmp::Ordering;
 use std::fmt;
@@ -66,7 +67,7 @@ impl fmt::Display for Change<'_> {
             }
             Change::Changed(old, new) => {
                 let package = PackageText(old);
-                let version = &new.version;
+                let version = Shown(&new.version);
                 let sources = OtherSources(old, new);
                 write!(f, "~ {package} -> {version}{sources}")
             }
@@ -260,8 +261,8 @@ impl fmt::Display for PackageText<'_> {
 
     fn fmt<W: fmt::Write>(&self, f: &mut fmt::Formatter<W>) -> fmt::Result {
         let PackageText(package) = *self;
-        let name = &package.name;
-        let version = &package.version;
+        let name = Shown(&package.name);
+        let version = Shown(&package.version);
         write!(f, "{name} {version}")
     }
 }
@@ -279,7 +280,10 @@ impl fmt::Display for SourceText<'_> {
     fn fmt<W: fmt::Write>(&self, f: &mut fmt::Formatter<W>) -> fmt::Result {
         let SourceText(package) = *self;
         match &package.source {
-            Some(source) => write!(f, "{source}"),
+            Some(source) => {
+                let source = Shown(source);
+                write!(f, "{source}")
+            }
             None => f.write_str("none"),
         }
     }
@@ -298,7 +302,10 @@ impl fmt::Display for ChecksumText<'_> {
     fn fmt<W: fmt::Write>(&self, f: &mut fmt::Formatter<W>) -> fmt::Result {
         let ChecksumText(package) = *self;
         match &package.checksum {
-            Some(checksum) => write!(f, "{checksum}"),
+            Some(checksum) => {
+                let checksum = Shown(checksum);
+                write!(f, "{checksum}")
+            }
             None => f.write_str("none"),
         }
     }
@@ -356,8 +363,8 @@ impl fmt::Display for DependencyText<'_> {
 
     fn fmt<W: fmt::Write>(&self, f: &mut fmt::Formatter<W>) -> fmt::Result {
         let DependencyText(dependency) = *self;
-        let name = &dependency.name;
-        let version = &dependency.version;
+        let name = Shown(&dependency.name);
+        let version = Shown(&dependency.version);
         let source = BracketedSource(dependency);
         write!(f, "{name} {version}{source}")
     }
@@ -380,6 +387,7 @@ impl fmt::Display for BracketedSource<'_> {
                 if source.is_default_registry() {
                     return Ok(());
                 }
+                let source = Shown(source);
                 write!(f, " ({source})")
             }
             None => f.write_str(" (none)"),

@@ -1,6 +1,6 @@
 //! Laws of differences, each the contract of a function without a body.
 
-ghost use Rattle.cargo_lock_diff.specs.Change.{NoneIfEmpty};
+ghost use Rattle.cargo_lock_diff.specs.Change.{EachIsOneLine, NoneIfEmpty};
 ghost use Rattle.cargo_lock_diff.specs.Dependencies.{EqualIfOneSet};
 ghost use Rattle.cargo_lock_diff.specs.Difference.{EmptyIfPermuted, ToldByCount};
 
@@ -18,6 +18,11 @@ pub fn equal_packages_have_no_difference()
 /// No change is told exactly where the difference is empty.
 pub fn empty_differences_tell_no_change()
     ensures { NoneIfEmpty }
+{}
+
+/// Each change is exactly one line, whatever its names, versions, sources and checksums hold.
+pub fn changes_are_lines()
+    ensures { EachIsOneLine }
 {}
 
 /// Neither of two packages has a dependency that the other has not, exactly where the names,

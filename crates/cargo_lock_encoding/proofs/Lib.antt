@@ -1,7 +1,13 @@
+pub mod Escapes
 pub mod Lines
 pub mod MeansLemmas
-pub mod Puts
+pub mod PrintedEdits
+pub mod PrintedExpressions
+pub mod PrintedLines
+pub mod PrintedQuotes
+pub mod PrintedTables
 pub mod PutAll
+pub mod Puts
 pub mod ReadSources
 pub mod SurvivalLemmas
 pub mod TableMetadata

@@ -8,3 +8,4 @@ pub mod Table
 pub mod Characters
 pub mod Text
 pub mod Survives
+pub mod PrintedTable

@@ -7,7 +7,6 @@ use Rattle.std.specs.Char.{encode_utf8}
 use Rattle.std.specs.FinMap.{entries}
 use Rattle.std.specs.List.{flat_map, list_all}
 use Rattle.std.specs.Option.{option_to_list}
-use Rattle.std.specs.Str.{chars}
 use Rattle.semver.specs.Identifiers.{parts_text}
 use Rattle.cargo_lock_parts.specs.Ascii.{newline, space, quotation_mark, comma, hyphen, backslash}
 use Rattle.cargo_lock_parts.specs.Ascii.{tab, underscore}
@@ -48,18 +47,22 @@ short_escape c =
     else if c == carriage_return then Some lower_r
     else None
 
--- an escape of one letter, or else the one by number
-abbrev pub escape_or : Option ℕ → ℕ → List ℕ
-escape_or (Some letter) c = backslash ∷ letter ∷ []
-escape_or None c = if nat_lt c space || (c == delete) then control_escape c else encode_utf8 c
+-- an escape of one letter, or else one by number, or else these bytes as they are
+abbrev pub escape_or : List ℕ → Option ℕ → ℕ → List ℕ
+escape_or plain (Some letter) c = backslash ∷ letter ∷ []
+escape_or plain None c = if nat_lt c space || (c == delete) then control_escape c else plain
 
--- a character as it stands in a string of TOML
+-- a character as the code escapes it, which is the same as its bytes, each escaped
 abbrev pub escape_char : ℕ → List ℕ
-escape_char c = escape_or (short_escape c) c
+escape_char c = escape_or (encode_utf8 c) (short_escape c) c
 
--- the characters of the text, each as it is escaped
+-- a byte as it is in a string of TOML: one past ASCII, which is a part of a character, is plain
+abbrev pub escape_byte : ℕ → List ℕ
+escape_byte b = escape_or (b ∷ []) (short_escape b) b
+
+-- the bytes of the text, each as it is escaped
 unfoldable pub escape : List ℕ → List ℕ
-escape text = flat_map escape_char (chars text)
+escape text = flat_map escape_byte text
 
 -- a text between quotation marks
 abbrev pub quote : List ℕ → List ℕ

@@ -20,12 +20,12 @@ abbrev pub VersionSurvives : Parts → Type 0
 VersionSurvives v = version_of (parts_text v) ≡ Some v
 
 -- the text of the source, as it is marked, reads as a source with the same key
-abbrev pub TextReadsBack : MarkedSource → Type 0
-TextReadsBack m = option_map key_of (source_of (marked_text m)) ≡ Some (key_of m.source)
+abbrev pub SourceTextReadsBack : MarkedSource → Type 0
+SourceTextReadsBack m = option_map key_of (source_of (marked_text m)) ≡ Some (key_of m.source)
 
 -- the source is no path, so it is written, and its text reads back
 abbrev pub SourceSurvives : Bool → Source → Type 0
-SourceSurvives escaped s = (is_path s.kind ≡ false) × TextReadsBack (mark escaped s)
+SourceSurvives escaped s = (is_path s.kind ≡ false) × SourceTextReadsBack (mark escaped s)
 
 -- the digest reads back from its text, as the 32 bytes of every checksum do
 abbrev pub DigestReadsBack : List ℕ → Type 0
@@ -37,7 +37,7 @@ DigestReadsBack digest = digest_in (digest_text digest) ≡ Some digest
 pub record WordsReadBack (f : Reference) : Type 0 where
   pub name : IsWord f.name
   pub version : IfSome f.version (λ v. IsWord (parts_text v) × VersionSurvives v)
-  pub source : IfSome f.source (λ m. IsDense (marked_text m) × TextReadsBack m)
+  pub source : IfSome f.source (λ m. IsDense (marked_text m) × SourceTextReadsBack m)
 
 -- the reference stands for an identity that is equal to this one
 abbrev pub ResolvesToEqual : Reference → List Identity → Identity → Type 0

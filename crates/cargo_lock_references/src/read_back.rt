@@ -10,7 +10,7 @@ ghost use Rattle.cargo_lock_parts.specs.SourceReading.{source_of};
 ghost use Rattle.cargo_lock_parts.specs.SourceText.{marked_text};
 ghost use Rattle.cargo_lock_references.specs.ReadBack.{WordsReadBack, ReferenceSurvives};
 ghost use Rattle.cargo_lock_references.specs.ReadBack.{ResolvesToEqual, SourceSurvives};
-ghost use Rattle.cargo_lock_references.specs.ReadBack.{TextReadsBack, VersionSurvives};
+ghost use Rattle.cargo_lock_references.specs.ReadBack.{SourceTextReadsBack, VersionSurvives};
 ghost use Rattle.cargo_lock_references.specs.Reference.{version_of};
 ghost use Rattle.cargo_lock_references.specs.Words.{IsDense, IsWord};
 
@@ -95,7 +95,7 @@ pub fn source_survives(
 
 // Whether the text of the source, as it is marked, reads as an equal source.
 fn text_reads_back(alloc: Global, source: &SourceIdAsUrl<'_>) -> Result<bool, AllocError>
-    ensures { IfOk result (λ b. IsTrue b ↔ TextReadsBack source.now) }
+    ensures { IfOk result (λ b. IsTrue b ↔ SourceTextReadsBack source.now) }
 {
     let text = source.to_string(alloc)?;
     source_reads_as(alloc, text.as_str(), source.source())
@@ -117,7 +117,7 @@ fn source_reads_as(alloc: Global, text: &str, source: &SourceId) -> Result<bool,
 // Whether the source is written without white space and reads back.
 fn source_word_survives(alloc: Global, source: &SourceIdAsUrl<'_>) -> Result<bool, AllocError>
     ensures { IfOk result
-        (λ b. IsTrue b ↔ (IsDense (marked_text source.now) × TextReadsBack source.now)) }
+        (λ b. IsTrue b ↔ (IsDense (marked_text source.now) × SourceTextReadsBack source.now)) }
 {
     let text = source.to_string(alloc)?;
     Ok(is_dense(text.as_str()) && source_reads_as(alloc, text.as_str(), source.source())?)
@@ -182,7 +182,7 @@ fn written_source_survives(
     source: &Option<SourceIdAsUrl<'_>>,
 ) -> Result<bool, AllocError>
     ensures { IfOk result (λ b. IsTrue b
-        ↔ IfSome source.now (λ m. IsDense (marked_text m) × TextReadsBack m)) }
+        ↔ IfSome source.now (λ m. IsDense (marked_text m) × SourceTextReadsBack m)) }
 {
     match source {
         Some(source) => source_word_survives(alloc, source),

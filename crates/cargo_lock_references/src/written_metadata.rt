@@ -42,7 +42,8 @@ fn copy_metadata(metadata: &Metadata) -> std::result::Result<Metadata, AllocErro
     metadata.clone()
 }
 
-// Writes what the metadata says of one package: in V1 sets its checksum key, and from V2 on takes that key out.
+// Writes what the metadata says of one package: in V1 sets its checksum key, and from V2 on takes
+// that key out.
 fn write_checksum(
     alloc: Global,
     format: ResolveVersion,

@@ -28,12 +28,7 @@ abbrev pub TellsFindingsOf : List ℕ → LockfileData → Option (List ℕ) →
 TellsFindingsOf text l old new failure success = (f : FindingsData) × AreFindings text l f
     × TellsFindings f old new failure success
 
--- those of a text and the lockfile that it means
-abbrev pub TellsCheckOf : List ℕ → Option (List ℕ) → Option (List ℕ) → Type 0 → Type 0 → Type 0
-TellsCheckOf text old new failure success = (l : LockfileData) × TextMeans text l
-    × TellsFindingsOf text l old new failure success
-
--- those of some text: no contract says what a file holds
+-- those of some text and the lockfile that it means: no contract says what a file holds
 abbrev pub TellsCheck : Option (List ℕ) → Option (List ℕ) → Type 0 → Type 0 → Type 0
-TellsCheck old new failure success =
-    (text : List ℕ) × TellsCheckOf text old new failure success
+TellsCheck old new failure success = (text : List ℕ) × (l : LockfileData) × TextMeans text l
+    × TellsFindingsOf text l old new failure success

@@ -9,6 +9,7 @@ use Rattle.cargo_lock_references.specs.Format.{IsFormatText}
 use Rattle.cargo_lock_encoding.specs.Lockfiles.{LockfileData}
 use Rattle.cargo_lock_encoding.specs.Text.{join_lines, lines_of}
 use Rattle.cargo_lock.specs.Loads.{IsMeant}
+use Rattle.cargo_lock.specs.Printed.{TextReadsBack}
 use Rattle.cargo_lock_encoding.specs.Survives.{Survives, in_format}
 use Rattle.cli_support.specs.Destination.{TakesOutput}
 
@@ -20,11 +21,17 @@ TakesText output text old new = TakesOutput output (text ++ newline ∷ []) old 
 abbrev pub IsCheckAsked : Found → Type 0
 IsCheckAsked found = one_text found (codes "check") ≡ Some (codes "true")
 
+-- the words ask that only a lockfile whose text reads back is written
+abbrev pub IsTextCheckAsked : Found → Type 0
+IsTextCheckAsked found = one_text found (codes "check-text") ≡ Some (codes "true")
+
 -- the text is that of a lockfile that some text means, in the format that the words name or else
--- V3, which the lockfile survives if they ask for that
+-- V3; the lockfile survives the format if the words ask for `check`, and its text in the format
+-- reads back if they ask for `check-text`
 abbrev pub PrintsTranslation : Found → Option (List ℕ) → Option (List ℕ) → Type 0
 PrintsTranslation found old new = (l : LockfileData) × (format : ResolveVersion) × IsMeant l
     × IsFormatText (unwrap_or (first_value found (codes "version")) (codes "3")) format
     × (IsCheckAsked found → Survives l format)
+    × (IsTextCheckAsked found → TextReadsBack l format)
     × TakesText (first_value found (codes "output"))
     (join_lines (lines_of (in_format format l))) old new

@@ -5,16 +5,34 @@ ghost use Rattle.cargo_lock_parts.specs.Ascii.{newline};
 ghost use Rattle.cargo_lock_bom.specs.Document.{IsBillText};
 ghost use Rattle.cli.specs.Bom.{IsBillLine, PrintsBill};
 
-use crate::load::lockfile;
+use crate::load::named_lockfile;
 use cargo_lock::dependency::graph::Graph;
 use cargo_lock::{Error, Lockfile};
 use cargo_lock_bom::document::{compact_text, pretty_text};
-use clap::ArgMatches;
+use clap::{ArgMatches, Command};
 use cli_support::Fault;
 use cli_support::destination::put_out;
+use cli_support::words::{any_size, file, long_flag, output};
 use std::alloc::{AllocError, Global};
 use std::io::Write;
 use std::rt::Files;
+
+/// What `bom` leaves out, as help shows it.
+const BOM_HELP: &str =
+    "A lockfile says neither licences nor descriptions, and not whether a dependency is one of \
+tests or of builds, of some target or of some feature, so the bill says nothing of them. A package \
+without a source has no purl: pkg:cargo/NAME@VERSION would be the package of crates.io";
+
+/// The parser of this command: its options.
+pub(crate) fn command<'a>(alloc: Global) -> Result<Command<'a>, AllocError> {
+    Command::new(alloc, "bom")
+        .about("Writes a bill of materials, as CycloneDX 1.6 has it in JSON")
+        .after_help(BOM_HELP)
+        .arg(file(alloc))?
+        .arg(any_size(alloc))?
+        .arg(output(alloc))?
+        .arg(long_flag(alloc, "compact").help("Writes one line, without spaces"))
+}
 
 /// Writes the bill of materials of the lockfile and a newline: into the output file, or to `out`.
 /// Fails where the lockfile is not read or has no tree, where one text would refer to two of its
@@ -27,7 +45,7 @@ pub(crate) fn run<R: Files + AllocGlobal, W: Write>(
     ensures { OnOk result
         (PrintsBill (found_of options.now) (W.contents out.old) (W.contents out.new)) }
 {
-    let lockfile = lockfile(rt, options, "file")?;
+    let lockfile = named_lockfile(rt, options, "file")?;
     let text = line_of(rt.alloc(), &lockfile, options.get_flag("compact"))?;
     put_out(rt, options, text.as_str(), "", out)
 }

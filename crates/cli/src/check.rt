@@ -2,17 +2,45 @@
 ghost use Rattle.std.specs.Prelude.{◌≡◌, IfOk, OnOk, map};
 ghost use Rattle.std.specs.Io.KnownBytes.{Appends};
 ghost use Rattle.cargo_lock_check.specs.Finding.{finding_of};
-ghost use Rattle.cli.specs.Check.{IsFindingsStatus, TellsCheck, TellsCheckOf, TellsFindings, TellsFindingsOf, lines_text};
+ghost use Rattle.cli.specs.Check.{IsFindingsStatus, TellsCheck, TellsFindings, TellsFindingsOf, lines_text};
 
+use crate::load::{named_lockfile_of, named_text};
 use cargo_lock::Lockfile;
 use cargo_lock_check::{Finding, Findings};
-use clap::ArgMatches;
+use clap::{ArgMatches, Command};
 use cli_support::output::put;
 use cli_support::{Fault, words};
-use std::alloc::Global;
+use std::alloc::{AllocError, Global};
 use std::io::Write;
 use std::process::ExitCode;
 use std::rt::Files;
+
+/// The lines of `check`, as help shows them.
+const FINDINGS_HELP: &str = "\
+Each finding is a line, in this order:
+  reference: PACKAGE depends on DEPENDENCY, which is no package
+  twice: PACKAGE stands more than once
+  name: NAME is no name that Cargo takes
+  alike: PACKAGE and PACKAGE have one name on crates.io
+  source: SOURCE is not crates.io                though its URL looks so
+  source: SOURCE has user info
+  orphan: PACKAGE: no package of the workspace leads to it
+  root: no package is of the workspace           in place of orphans
+  checksum: PACKAGE has none, though others of its registry have
+  stale: `KEY` is in the metadata, and is of no package
+  order: PACKAGE stands before PACKAGE
+  format: V4 does not keep this lockfile
+  text: line NUMBER is not as Cargo writes it: `LINE` for `CARGO'S LINE`
+A package of the workspace is one without a source. The status is 1 where anything is found.";
+
+/// The parser of this command: its option.
+pub(crate) fn command<'a>(alloc: Global) -> Result<Command<'a>, AllocError> {
+    Command::new(alloc, "check")
+        .about("Tells what is wrong with a lockfile")
+        .after_help(FINDINGS_HELP)
+        .arg(words::file(alloc))?
+        .arg(words::any_size(alloc))
+}
 
 /// Prints what is wrong with the lockfile, a line for each finding. The status is 1 where there is
 /// one, and else 0. Fails where the lockfile is not read or `out` fails; a beginning of the text
@@ -25,18 +53,10 @@ pub(crate) fn run<R: Files + AllocGlobal, W: Write>(
     ensures { IfOk result (λ status. TellsCheck (W.contents out.old) (W.contents out.new)
         (status ≡ ExitCode.FAILURE) (status ≡ ExitCode.SUCCESS)) }
 {
-    let text = words::text(rt, options, "file")?;
-    tell_text(rt.alloc(), text.as_str(), out)
-}
-
-/// Prints what is wrong with the lockfile of a text. Answers the status.
-fn tell_text<W: Write>(alloc: Global, text: &str, out: &mut W) -> Result<ExitCode, Fault>
-    ensures { IfOk result (λ status.
-        TellsCheckOf text.now (W.contents out.old) (W.contents out.new)
-        (status ≡ ExitCode.FAILURE) (status ≡ ExitCode.SUCCESS)) }
-{
-    let lockfile = Lockfile::from_str(alloc, text)?;
-    tell(alloc, text, &lockfile, out)
+    let file = named_text(rt, options, "file")?;
+    let text = file.as_str();
+    let lockfile = named_lockfile_of(rt.alloc(), options, "file", text)?;
+    tell(rt.alloc(), text, &lockfile, out)
 }
 
 /// Prints what is wrong with a lockfile that was read from a text. Answers the status.

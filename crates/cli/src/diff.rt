@@ -6,16 +6,57 @@ ghost use Rattle.cargo_lock_diff.specs.Change.{change_of, lines_text};
 ghost use Rattle.cli.specs.Diff.{IsStatus, IsTold, TellsChanges, TellsDifference};
 ghost use Rattle.cli.specs.Diff.{TellsDifferenceOf};
 
-use crate::load::lockfile;
+use crate::load::named_lockfile;
 use cargo_lock::Lockfile;
 use cargo_lock_diff::{Change, Difference};
-use clap::ArgMatches;
+use clap::{Arg, ArgAction, ArgMatches, Command};
 use cli_support::Fault;
 use cli_support::output::put;
-use std::alloc::Global;
+use cli_support::words::{any_size, flag, is_standard, long_flag};
+use std::alloc::{AllocError, Global};
 use std::io::Write;
 use std::process::ExitCode;
 use std::rt::Files;
+
+/// The lines of `diff`, as help shows them.
+const DIFF_HELP: &str = "\
+Each change is a line, in this order:
+  ! NAME VERSION (SOURCE): checksum OLD -> NEW   another archive: an alarm, with status 1
+  ? NAME VERSION (SOURCE): checksum OLD -> NEW   a checksum came or went, which is no alarm
+  > NAME VERSION: OLD -> NEW                     another source
+  ~ NAME OLD -> NEW                              another version; a source that differs follows
+  - NAME VERSION                                 a package that went
+  + NAME VERSION                                 a package that came
+  = NAME VERSION: dependencies - OLD + NEW       with -d, what only the old or the new one needs
+A missing source or checksum is none. The source of a dependency follows it, unless it is crates.io.
+The order of the packages and the format do not count.";
+
+/// The two arguments, as help shows them.
+const OLD_HELP: &str = "The old lockfile, - for standard input";
+
+const NEW_HELP: &str = "The new lockfile, - for standard input";
+
+/// The parser of this command: its options and the paths of two lockfiles.
+pub(crate) fn command<'a>(alloc: Global) -> Result<Command<'a>, AllocError> {
+    Command::new(alloc, "diff")
+        .about("Tells what differs between the packages of two lockfiles")
+        .after_help(DIFF_HELP)
+        .arg(path(alloc, "old", "OLD").help(OLD_HELP))?
+        .arg(path(alloc, "new", "NEW").help(NEW_HELP))?
+        .arg(any_size(alloc))?
+        .arg(flag(alloc, "dependencies", 'd').help("Tells other dependencies of packages too"))?
+        .arg(long_flag(alloc, "exit-code").help(
+            "Ends with status 1 where anything differs, dependencies only with -d",
+        ))
+}
+
+/// The path of a lockfile, which help shows as `shown`.
+fn path<'a>(alloc: Global, name: &'a str, shown: &'a str) -> Arg<'a> {
+    Arg::new(alloc, name)
+        .value_name(shown)
+        .required(true)
+        .action(ArgAction::Set)
+}
 
 /// Prints what differs between the packages of two lockfiles, a line for each change, and where the
 /// words ask for it also what differs between their dependencies. The status is 1 where a package
@@ -31,8 +72,11 @@ pub(crate) fn run<R: Files + AllocGlobal, W: Write>(
         (W.contents out.old) (W.contents out.new)
         (status ≡ ExitCode.FAILURE) (status ≡ ExitCode.SUCCESS)) }
 {
-    let old = lockfile(rt, options, "old")?;
-    let new = lockfile(rt, options, "new")?;
+    if is_standard(options, "old") && is_standard(options, "new") {
+        return Err(Fault::OneInput);
+    }
+    let old = named_lockfile(rt, options, "old")?;
+    let new = named_lockfile(rt, options, "new")?;
     tell(rt.alloc(), options, &old, &new, out)
 }
 

@@ -18,9 +18,11 @@ mod load;
 mod translate;
 mod tree;
 
-use clap::ArgMatches;
+use clap::{ArgMatches, Command};
 pub use cli_support::Fault;
+use cli_support::message::put_message;
 use cli_support::{output, words};
+use std::alloc::{AllocError, Global};
 use std::convert::AsStr;
 use std::io::Write;
 use std::process::ExitCode;
@@ -47,7 +49,7 @@ pub fn run<R: Files + AllocGlobal, S: AsStr, W: Write, E: Write>(
 pub fn report<E: Write>(err: &mut E, fault: &Fault) -> ExitCode
     ensures { result ≡ ExitCode.FAILURE }
 {
-    let _ = output::put(err, format_args!("*** {fault}"));
+    let _ = put_message(err, fault);
     let _ = err.flush();
     ExitCode::FAILURE
 }
@@ -60,7 +62,7 @@ fn execute<R: Files + AllocGlobal, S: AsStr, W: Write>(
     out: &mut W,
 ) -> Result<ExitCode, Fault> {
     let words = words::with_command(rt.alloc(), words)?;
-    let status = match words::command(rt.alloc())?.try_get_matches_from(words.as_slice()) {
+    let status = match parser(rt.alloc())?.try_get_matches_from(words.as_slice()) {
         Ok(matches) => dispatch(rt, &matches, out)?,
         Err(error) => {
             if error.use_stderr() {
@@ -72,6 +74,21 @@ fn execute<R: Files + AllocGlobal, S: AsStr, W: Write>(
     };
     out.flush()?;
     Ok(status)
+}
+
+/// The parser of the words. Of an option that is given again the last value counts, and a flag that
+/// is given again is one flag. Fails when out of memory.
+fn parser<'a>(alloc: Global) -> Result<Command<'a>, AllocError> {
+    Command::new(alloc, "cargo-lock")
+        .about("Looks into lockfiles")
+        .subcommand_required(true)
+        .args_override_self(true)
+        .subcommand(list::command(alloc)?)?
+        .subcommand(translate::command(alloc)?)?
+        .subcommand(tree::command(alloc)?)?
+        .subcommand(bom::command(alloc)?)?
+        .subcommand(diff::command(alloc)?)?
+        .subcommand(check::command(alloc)?)
 }
 
 /// Runs the command that the parser found. Answers the status.

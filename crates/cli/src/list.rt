@@ -1,11 +1,24 @@
 //! The command `list`: the packages of a lockfile, one line each.
 use crate::load::lockfile;
 use cargo_lock::{Dependency, Name, Package, SourceId, Version};
-use clap::ArgMatches;
+use clap::{ArgMatches, Command};
 use cli_support::Fault;
 use cli_support::output::put;
+use cli_support::words::{any_size, file, flag, value};
+use std::alloc::{AllocError, Global};
 use std::io::Write;
 use std::rt::Files;
+
+/// The parser of this command: its options.
+pub(crate) fn command<'a>(alloc: Global) -> Result<Command<'a>, AllocError> {
+    Command::new(alloc, "list")
+        .about("Lists the packages of a lockfile")
+        .arg(file(alloc))?
+        .arg(any_size(alloc))?
+        .arg(value(alloc, "package", 'p', "NAME").help("Lists only the packages of this name"))?
+        .arg(flag(alloc, "dependencies", 'd').help("Lists the dependencies of each package"))?
+        .arg(flag(alloc, "sources", 's').help("Shows where each comes from"))
+}
 
 /// What is printed of a package beside its name and version.
 #[derive(Clone, Copy)]

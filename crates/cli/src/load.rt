@@ -1,20 +1,94 @@
 //! The lockfiles that the words name.
 ghost use Rattle.std.specs.Prelude.{IfErr, IfOk};
-ghost use Rattle.cargo_lock.specs.Loads.{IsMeant, IsOfFile};
+ghost use Rattle.cargo_lock.specs.Loads.{IsMeant};
+ghost use Rattle.cargo_lock_encoding.specs.Means.{TextMeans};
+ghost use Rattle.cli.specs.Load.{IsOfLockfile};
 
 use cargo_lock::{Error, Lockfile};
 use clap::ArgMatches;
-use cli_support::words::path_of;
+use cli_support::Fault;
+use cli_support::fault::path_shown;
+use cli_support::words;
+use std::alloc::Global;
 use std::rt::Files;
 
-/// The lockfile whose path the option or argument `name` has. Fails where it is not read.
+/// The lockfile whose path the option `name` has. Fails where it is not read.
 pub(crate) fn lockfile<R: Files + AllocGlobal>(
     rt: &R,
     options: &ArgMatches<'_>,
     name: &str,
-) -> Result<Lockfile, Error>
+) -> Result<Lockfile, Fault>
     ensures ok { IfOk result IsMeant }
-    ensures err { IfErr result IsOfFile }
+    ensures err { IfErr result IsOfLockfile }
 {
-    Lockfile::load(rt, rt.alloc(), path_of(options, name))
+    let text = words::text(rt, options, name)?;
+    let lockfile = lockfile_of(rt.alloc(), text.as_str())?;
+    Ok(lockfile)
+}
+
+/// The lockfile of a text.
+fn lockfile_of(alloc: Global, text: &str) -> Result<Lockfile, Fault>
+    ensures ok { IfOk result (TextMeans text.now) }
+    ensures err { IfErr result IsOfLockfile }
+{
+    match Lockfile::from_str(alloc, text) {
+        Ok(lockfile) => Ok(lockfile),
+        Err(error) => Err(Fault::Library(error)),
+    }
+}
+
+/// The lockfile whose path the option or argument `name` has. Fails where it is not read, with the
+/// path in the fault.
+pub(crate) fn named_lockfile<R: Files + AllocGlobal>(
+    rt: &R,
+    options: &ArgMatches<'_>,
+    name: &str,
+) -> Result<Lockfile, Fault>
+    ensures { IfOk result IsMeant }
+{
+    match lockfile(rt, options, name) {
+        Ok(lockfile) => Ok(lockfile),
+        Err(fault) => Err(named(rt.alloc(), options, name, fault)),
+    }
+}
+
+/// The text of the lockfile whose path the option `name` has. Fails where it is not read, with the
+/// path in the fault.
+pub(crate) fn named_text<R: Files + AllocGlobal>(
+    rt: &R,
+    options: &ArgMatches<'_>,
+    name: &str,
+) -> Result<String, Fault> {
+    match words::text(rt, options, name) {
+        Ok(text) => Ok(text),
+        Err(fault) => Err(named(rt.alloc(), options, name, fault)),
+    }
+}
+
+/// The lockfile of the text that the option `name` has led to. Fails where it is none, with the
+/// path in the fault.
+pub(crate) fn named_lockfile_of(
+    alloc: Global,
+    options: &ArgMatches<'_>,
+    name: &str,
+    text: &str,
+) -> Result<Lockfile, Fault>
+    ensures { IfOk result (TextMeans text.now) }
+{
+    match lockfile_of(alloc, text) {
+        Ok(lockfile) => Ok(lockfile),
+        Err(fault) => Err(named(alloc, options, name, fault)),
+    }
+}
+
+/// The fault with the path that the option or argument `name` has, where it is one of a file.
+fn named(alloc: Global, options: &ArgMatches<'_>, name: &str, fault: Fault) -> Fault {
+    match fault {
+        Fault::Library(Error::Memory) => fault,
+        Fault::Library(error) => match path_shown(alloc, words::path_of(options, name)) {
+            Ok(path) => Fault::File(path, error),
+            Err(refused) => Fault::from(refused),
+        },
+        fault => fault,
+    }
 }

@@ -1,26 +1,66 @@
 //! The command `translate`: a lockfile in another format.
 ghost use Rattle.std.specs.Prelude.{◌≡◌, ◌⊎◌, IfErr, IfOk, IsOkUnless, OnOk};
-ghost use Rattle.std.specs.Prelude.{string_bytes};
-ghost use Rattle.clap.specs.Matches.{found_of};
+ghost use Rattle.std.specs.Prelude.{codes, string_bytes, unwrap_or};
+ghost use Rattle.clap.specs.Matches.{first_value, found_of};
 ghost use Rattle.cargo_lock_parts.specs.declared.error.Error.TheVariants.{Memory};
 ghost use Rattle.cargo_lock_references.specs.Format.{number_of};
 ghost use Rattle.cargo_lock_encoding.specs.Text.{join_lines, lines_of};
 ghost use Rattle.cargo_lock_encoding.specs.Survives.{Survives, in_format};
+ghost use Rattle.cargo_lock.specs.Printed.{TextReadsBack};
 ghost use Rattle.cli_support.specs.declared.fault.Fault.TheVariants.{Library, DoesNotSurvive};
-ghost use Rattle.cli.specs.Translate.{IsCheckAsked, PrintsTranslation};
+ghost use Rattle.cli_support.specs.declared.fault.Fault.TheVariants.{TextDoesNotSurvive};
+ghost use Rattle.cli.specs.Translate.{IsCheckAsked, IsTextCheckAsked, PrintsTranslation};
 
 use crate::load::lockfile;
 use cargo_lock::{Error, Lockfile, ResolveVersion};
-use clap::ArgMatches;
+use clap::{ArgMatches, Command};
+use cli_support::Fault;
 use cli_support::destination::put_out;
-use cli_support::{Fault, words};
-use std::alloc::Global;
+use cli_support::words::{any_size, file, long_flag, output, value};
+use std::alloc::{AllocError, Global};
 use std::io::Write;
 use std::rt::Files;
 
+/// The format that is written where the words name none.
+const DEFAULT_FORMAT: &str = "3";
+
+/// What `--check` does, as help shows it.
+const CHECK_HELP: &str =
+    "Refuses a lockfile whose table, written in the format, does not read back";
+
+/// What `--check-text` does, as help shows it.
+const CHECK_TEXT_HELP: &str =
+    "Refuses a lockfile whose text, written in the format, does not read back; take this one: a \
+root, and the replacement of a package with dependencies, are in the table and in no text";
+
+/// The parser of this command: its options.
+pub(crate) fn command<'a>(alloc: Global) -> Result<Command<'a>, AllocError> {
+    Command::new(alloc, "translate")
+        .about("Writes a lockfile in another format")
+        .arg(file(alloc))?
+        .arg(any_size(alloc))?
+        .arg(output(alloc))?
+        .arg(
+            value(alloc, "version", 'v', "FORMAT")
+                .default_value(DEFAULT_FORMAT)
+                .help("The format, 1 to 4"),
+        )?
+        .arg(long_flag(alloc, "check").help(CHECK_HELP))?
+        .arg(long_flag(alloc, "check-text").help(CHECK_TEXT_HELP))
+}
+
+/// The text of the format that is written.
+fn format_text<'a>(options: &ArgMatches<'a>) -> &'a str
+    ensures { result.now
+        ≡ unwrap_or (first_value (found_of options.now) (codes "version")) (codes "3") }
+{
+    options.get_str("version").unwrap_or(DEFAULT_FORMAT)
+}
+
 /// Writes the lockfile in the format that is asked for: into the output file, or to `out` with one
 /// more newline. The format is read before the file. Fails where either is not read, where the
-/// lockfile is to be checked and does not survive the format, and where the output fails.
+/// words ask for a check and the lockfile does not survive the format or its text does not read
+/// back, and where the output fails.
 pub(crate) fn run<R: Files + AllocGlobal, W: Write>(
     rt: &R,
     options: &ArgMatches<'_>,
@@ -29,27 +69,33 @@ pub(crate) fn run<R: Files + AllocGlobal, W: Write>(
     ensures translation { OnOk result
         (PrintsTranslation (found_of options.now) (W.contents out.old) (W.contents out.new)) }
 {
-    let format = ResolveVersion::from_str(rt.alloc(), words::format(options))?;
+    let format = ResolveVersion::from_str(rt.alloc(), format_text(options))?;
     let lockfile = lockfile(rt, options, "file")?;
     check_if_asked(rt.alloc(), options, &lockfile, format)?;
     let text = text_in(rt.alloc(), lockfile, format)?;
     put_out(rt, options, text.as_str(), "\n", out)
 }
 
-/// Refuses a lockfile that does not survive the format, where the words ask for that.
+/// Refuses a lockfile that does not survive the format where the words ask for that, and one whose
+/// text in the format does not read back where they ask for that.
 fn check_if_asked(
     alloc: Global,
     options: &ArgMatches<'_>,
     lockfile: &Lockfile,
     format: ResolveVersion,
 ) -> Result<(), Fault>
-    ensures { OnOk result (IsCheckAsked (found_of options.now) → Survives lockfile.now format) }
+    ensures table { OnOk result
+        (IsCheckAsked (found_of options.now) → Survives lockfile.now format) }
+    ensures text { OnOk result
+        (IsTextCheckAsked (found_of options.now) → TextReadsBack lockfile.now format) }
 {
     if options.get_flag("check") {
-        check(alloc, lockfile, format)
-    } else {
-        Ok(())
+        check(alloc, lockfile, format)?;
     }
+    if options.get_flag("check-text") {
+        check_text(alloc, lockfile, format)?;
+    }
+    Ok(())
 }
 
 /// Refuses a lockfile that does not survive the format.
@@ -62,6 +108,20 @@ fn check(alloc: Global, lockfile: &Lockfile, format: ResolveVersion) -> Result<(
         Ok(())
     } else {
         Err(Fault::DoesNotSurvive(u32::from(format)))
+    }
+}
+
+/// Refuses a lockfile whose text, written in the format, does not read back.
+fn check_text(alloc: Global, lockfile: &Lockfile, format: ResolveVersion) -> Result<(), Fault>
+    ensures ok { OnOk result (TextReadsBack lockfile.now format) }
+    ensures err { IfErr result (λ fault. (fault ≡ Library Memory)
+        ⊎ ((fault ≡ TextDoesNotSurvive (number_of format))
+        × (¬ TextReadsBack lockfile.now format))) }
+{
+    if lockfile.survives_as_text(alloc, format)? {
+        Ok(())
+    } else {
+        Err(Fault::TextDoesNotSurvive(u32::from(format)))
     }
 }
 

@@ -5,12 +5,32 @@ use crate::load::lockfile;
 use cargo_lock::dependency::Tree;
 use cargo_lock::dependency::graph::{EdgeDirection, NodeIndex};
 use cargo_lock::{Checksum, Dependency, Error, Lockfile, Package, SourceId, Version};
-use clap::ArgMatches;
+use clap::{Arg, ArgAction, ArgMatches, Command};
 use cli_support::Fault;
 use cli_support::output::put;
-use std::alloc::Global;
+use cli_support::words::{any_size, file, flag};
+use std::alloc::{AllocError, Global};
 use std::io::Write;
 use std::rt::Files;
+
+/// The parser of this command: its options and its specifications.
+pub(crate) fn command<'a>(alloc: Global) -> Result<Command<'a>, AllocError> {
+    Command::new(alloc, "tree")
+        .about("Draws the trees of packages")
+        .arg(file(alloc))?
+        .arg(any_size(alloc))?
+        .arg(flag(alloc, "exact", 'x').help("Shows checksums, or else where each comes from"))?
+        .arg(flag(alloc, "invert", 'i').help("Draws what depends on each package"))?
+        .arg(specs(alloc))
+}
+
+/// The specifications of packages.
+fn specs<'a>(alloc: Global) -> Arg<'a> {
+    Arg::new(alloc, "spec")
+        .value_name("SPEC")
+        .action(ArgAction::Append)
+        .help("Packages, by name, version, both as NAME@VERSION, checksum or commit")
+}
 
 /// How trees are printed.
 #[derive(Clone, Copy)]

@@ -1,2 +1,3 @@
 pub mod Destination
 pub mod Output
+pub mod Input

@@ -1,14 +1,19 @@
 //! Why the program fails.
-ghost use Rattle.std.specs.Prelude.{◌≡◌, ◌≢◌, ◌⊎◌, String, string_bytes};
+ghost use Rattle.std.specs.Prelude.{◌≡◌, ◌≢◌, ◌⊎◌, IfOk, String, string_bytes};
+ghost use Rattle.std.specs.Path.{path_bytes};
 ghost use Rattle.std.specs.declared.alloc.Global.{Global};
 ghost use Rattle.std.specs.IoError.{error_kind};
+ghost use Rattle.shown.specs.Shown.{shown};
+ghost use Rattle.shown.specs.declared.form.Form.TheVariants as form;
 ghost use Rattle.cargo_lock_parts.specs.declared.error.Error.TheVariants.{Io, Memory};
 ghost use Rattle.cli_support.specs.declared.fault.Fault.TheVariants.{Library, Spec};
 
 use cargo_lock_parts::error::Error;
 use clap::error::ErrorKind;
+use shown::Quoted;
 use std::alloc::{AllocError, AllocFailed, Global};
 use std::io;
+use std::path::Path;
 use thiserror::Error as DeriveError;
 
 /// Why a command failed. Displayed, it is a text of whole lines that begins `error: `.
@@ -19,6 +24,10 @@ pub enum Fault {
     #[error("error: {0}\n")]
     Library(Error),
 
+    /// A call of the library failed for the file of this path.
+    #[error("error: {0}: {1}\n")]
+    File(String, Error),
+
     /// The words are none that the program takes. The parser's text begins so too, and ends its
     /// last line.
     #[error("{0}")]
@@ -28,6 +37,18 @@ pub enum Fault {
     #[error("error: lockfile does not survive format `{0}`\n")]
     DoesNotSurvive(u32),
 
+    /// The text of the lockfile in the format of this number does not read back.
+    #[error("error: the text does not keep the lockfile in format `{0}`\n")]
+    TextDoesNotSurvive(u32),
+
+    /// A lockfile has 256 MiB or more.
+    #[error("error: lockfile of 256 MiB or more\n")]
+    TooLarge,
+
+    /// Both of two lockfiles were to be read from standard input.
+    #[error("error: standard input cannot be both lockfiles\n")]
+    OneInput,
+
     /// A specification fits no package.
     #[error("error: invalid dependency name: `{0}`\n")]
     Spec(String),
@@ -35,6 +56,18 @@ pub enum Fault {
     /// The words name no command.
     #[error("error: no command\n")]
     NoCommand,
+
+    /// This path has another file than the one that was opened by it. Nothing is replaced.
+    #[error("error: another file has taken the path `{0}`\n")]
+    Replaced(String),
+
+    /// In this folder are files of all of the names that a new one could have.
+    #[error("error: the folder `{0}` has all of `.cargo-lock-0.new` to `.cargo-lock-99.new`\n")]
+    NamesTaken(String),
+
+    /// This path is that of a pipe of another user, for whom the program does not wait.
+    #[error("error: `{0}` is a pipe of another user\n")]
+    ForeignPipe(String),
 }
 
 impl Fault {
@@ -62,6 +95,14 @@ impl Fault {
             Err(_) => Fault::Library(Error::Memory),
         }
     }
+}
+
+/// A path as it is shown between backquotes.
+pub fn path_shown(alloc: Global, path: Path<'_>) -> Result<String, AllocError>
+    ensures { IfOk result (λ text. string_bytes text ≡ shown form.Quoted (path_bytes path.entry)) }
+{
+    let path = Quoted(path.as_str());
+    format!(in alloc; "{path}")
 }
 
 impl From<Error> for Fault {

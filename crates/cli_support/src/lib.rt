@@ -6,6 +6,7 @@
 
 pub mod destination;
 pub mod fault;
+pub mod message;
 pub mod output;
 pub mod saving;
 pub mod words;

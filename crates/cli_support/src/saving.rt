@@ -3,12 +3,12 @@ ghost use Rattle.std.specs.Prelude.{◌≡◌, ◌++◌, IfOk, OnOk, codes, deci
 ghost use Rattle.std.specs.Io.KnownBytes.{Appends};
 ghost use Rattle.std.specs.Path.{path_buf_bytes, path_bytes, path_with_file_name};
 
-use crate::fault::Fault;
+use crate::fault::{Fault, path_shown};
 use crate::output::put_all;
 use std::alloc::{AllocError, Global};
-use std::fs::{Metadata, OpenFile, OpenOptions};
+use std::fs::{Metadata, OpenFile, OpenOptions, Permissions};
 use std::io::{ErrorKind, Write};
-use std::os::unix::fs::{MetadataExt, OpenOptionsExt, lchown};
+use std::os::unix::fs::{FileTypeExt, MetadataExt, OpenOptionsExt, PermissionsExt, lchown};
 use std::path::{Path, PathBuf};
 use std::rt::Files;
 use std::{fs, io};
@@ -19,46 +19,100 @@ const NAMES: u32 = 100;
 /// How many links are followed at the end of a path. The system follows no more.
 const LINKS: u32 = 40;
 
-/// The rights of a new file where none was, without those that the process gives to none.
-const NEW_RIGHTS: u32 = 0o666;
-
 /// The rights of a new file until it has those of the file that it replaces.
 const OWN_RIGHTS: u32 = 0o600;
+
+/// The rights to read, to write and to run. Without them are the bits by which a program runs with
+/// the rights of its owner or its group, and the sticky bit.
+const ALL_RIGHTS: u32 = 0o777;
+
+/// The rights of the group and of others to write.
+const WRITING_OF_OTHERS: u32 = 0o022;
+
+/// Of a folder with this bit others cannot rename or remove a file of somebody else.
+const STICKY: u32 = 0o1000;
+
+/// A path with the owner of this process.
+const OWN_PROCESS: &str = "/proc/self";
 
 /// Writes the text into the file at this path. It goes into a new file beside it, which then takes
 /// the name, so a file that was there is whole until its successor is, and is left as it was where
 /// this fails. What is no regular file, as a terminal or a pipe, is written to. Fails where the
-/// file may not be written, the folder takes no new file, or the system fails.
+/// file may not be written, the folder takes no new file, another file takes the path meanwhile,
+/// the path is that of a pipe of another user, or the system fails.
 pub fn save<R: Files + AllocGlobal>(rt: &R, path: Path<'_>, text: &str) -> Result<(), Fault> {
-    match OpenOptions::new().write(true).open(rt, path) {
-        Ok(file) => save_into(rt, path, file, text),
-        Err(error) if error.kind() == ErrorKind::NotFound => {
-            let target = follow_links(rt, path)?;
-            replace(rt, target.as_path(), None, text)
+    let target = follow_links(rt, path)?;
+    let is_new = !is_there(rt, path)?;
+    let file = open(rt, path)?;
+    match save_into(rt, target.as_path(), file, text) {
+        Err(fault) if is_new => {
+            remove_empty(rt, target.as_path());
+            Err(fault)
         }
-        Err(error) => Err(Fault::from(error)),
+        result => result,
     }
 }
 
-/// Writes the text in place of what the file at this path holds, which was opened to see whether it
-/// may be written.
+/// Whether something has this path. Fails where it is a pipe of another user: to open it would wait
+/// for that user.
+fn is_there<R: Files + AllocGlobal>(rt: &R, path: Path<'_>) -> Result<bool, Fault> {
+    let found = match fs::metadata(rt, path) {
+        Ok(found) => found,
+        Err(error) if error.kind() == ErrorKind::NotFound => return Ok(false),
+        Err(error) => return Err(Fault::from(error)),
+    };
+    if found.file_type().is_fifo() && !is_own(rt, &found) {
+        return Err(Fault::ForeignPipe(path_shown(rt.alloc(), path)?));
+    }
+    Ok(true)
+}
+
+/// Whether a file is that of who runs this process, as far as the system says.
+fn is_own<R: Files>(rt: &R, file: &Metadata) -> bool {
+    fs::metadata(rt, Path::new(OWN_PROCESS)).is_ok_and(|process| process.uid() == file.uid())
+}
+
+/// Opens the file at this path to write, or makes an empty one there. The system follows the links,
+/// by its own rules of who may lead whom.
+fn open<R: Files>(rt: &R, path: Path<'_>) -> io::Result<R::File> {
+    OpenOptions::new()
+        .write(true)
+        .create(true)
+        .truncate(false)
+        .open(rt, path)
+}
+
+/// Writes the text in place of what an open file holds. `target` is where the links of its path
+/// lead.
 fn save_into<R: Files + AllocGlobal>(
     rt: &R,
-    path: Path<'_>,
+    target: Path<'_>,
     file: R::File,
     text: &str,
 ) -> Result<(), Fault> {
-    let old = file.metadata()?;
-    if old.is_file() {
-        let target = follow_links(rt, path)?;
-        if is_at(rt, target.as_path(), &old)? {
-            return replace(rt, target.as_path(), Some(&old), text);
+    let opened = file.metadata()?;
+    if opened.is_file() {
+        match found_at(rt, target)? {
+            Some(found) if is_same(&found, &opened) => {
+                return replace(rt, target, &opened, text);
+            }
+            Some(_) => return Err(Fault::Replaced(path_shown(rt.alloc(), target)?)),
+            None => file.set_len(0)?,
         }
-        file.set_len(0)?;
     }
     let mut file = file;
     fill(&mut file, text)?;
     Ok(())
+}
+
+/// Removes the empty file that this process has made. A link, and a file with a text, stay.
+fn remove_empty<R: Files>(rt: &R, target: Path<'_>) {
+    match found_at(rt, target) {
+        Ok(Some(found)) if found.is_file() && found.len() == 0 => {
+            let _ = fs::remove_file(rt, target);
+        }
+        _ => {}
+    }
 }
 
 /// Where the links at the end of a path lead, whether or not a file is there.
@@ -81,11 +135,9 @@ fn is_link<R: Files>(rt: &R, path: Path<'_>) -> io::Result<bool> {
     Ok(found.is_some_and(|found| found.is_symlink()))
 }
 
-/// Whether this file has this path. One that was deleted, or stands in another view of the system,
-/// has none to be replaced at.
-fn is_at<R: Files>(rt: &R, path: Path<'_>, file: &Metadata) -> io::Result<bool> {
-    let found = found_at(rt, path)?;
-    Ok(found.is_some_and(|found| found.dev() == file.dev() && found.ino() == file.ino()))
+/// Whether both are of one file.
+fn is_same(one: &Metadata, other: &Metadata) -> bool {
+    one.dev() == other.dev() && one.ino() == other.ino()
 }
 
 /// What has this path, be it a link.
@@ -97,34 +149,43 @@ fn found_at<R: Files>(rt: &R, path: Path<'_>) -> io::Result<Option<Metadata>> {
     }
 }
 
-/// Puts a new file that holds the text at this path, in place of the old one, if there is one.
-/// Where that fails, the new file is removed.
+/// Puts a new file that holds the text at this path, in place of the old one. Where that fails, or
+/// another file has taken the path meanwhile, the new file is removed.
 fn replace<R: Files + AllocGlobal>(
     rt: &R,
     target: Path<'_>,
-    old: Option<&Metadata>,
+    old: &Metadata,
     text: &str,
 ) -> Result<(), Fault> {
-    let rights = if old.is_some() {
-        OWN_RIGHTS
-    } else {
-        NEW_RIGHTS
-    };
-    let (path, file) = new_beside(rt, target, rights)?;
-    match complete(rt, path.as_path(), file, old, text) {
-        Ok(()) => {}
-        Err(error) => return Err(remove_after(rt, path.as_path(), error)),
-    }
-    match fs::rename(rt, path.as_path(), target) {
-        Ok(()) => Ok(()),
-        Err(error) => Err(remove_after(rt, path.as_path(), error)),
+    let (path, file) = new_beside(rt, target)?;
+    match put_in_place(rt, path.as_path(), file, target, old, text) {
+        Ok(true) => Ok(()),
+        Ok(false) => {
+            let _ = fs::remove_file(rt, path.as_path());
+            Err(Fault::Replaced(path_shown(rt.alloc(), target)?))
+        }
+        Err(error) => {
+            let _ = fs::remove_file(rt, path.as_path());
+            Err(Fault::from(error))
+        }
     }
 }
 
-/// Removes a new file that is not to stay. The fault stays the one that there was before.
-fn remove_after<R: Files>(rt: &R, path: Path<'_>, error: io::Error) -> Fault {
-    let _ = fs::remove_file(rt, path);
-    Fault::from(error)
+/// Completes a new file and gives it the name of the old one, if that still has it.
+fn put_in_place<R: Files>(
+    rt: &R,
+    path: Path<'_>,
+    file: R::File,
+    target: Path<'_>,
+    old: &Metadata,
+    text: &str,
+) -> io::Result<bool> {
+    complete(rt, path, file, old, text)?;
+    if !found_at(rt, target)?.is_some_and(|found| is_same(&found, old)) {
+        return Ok(false);
+    }
+    fs::rename(rt, path, target)?;
+    Ok(true)
 }
 
 /// Gives a new file the text and the rights of the old one, and waits until the system has stored
@@ -133,16 +194,35 @@ fn complete<R: Files>(
     rt: &R,
     path: Path<'_>,
     file: R::File,
-    old: Option<&Metadata>,
+    old: &Metadata,
     text: &str,
 ) -> io::Result<()> {
     let mut file = file;
     fill(&mut file, text)?;
-    if let Some(old) = old {
+    let new = file.metadata()?;
+    if is_safe_folder(rt, path, new.uid()) {
         keep_owner(rt, path, old);
-        file.set_permissions(old.permissions())?;
     }
+    let new = file.metadata()?;
+    file.set_permissions(Permissions::from_mode(rights(&new, old)))?;
     file.sync_all()
+}
+
+/// Whether nobody but this owner and root can put another file at this path.
+fn is_safe_folder<R: Files>(rt: &R, path: Path<'_>, owner: u32) -> bool {
+    let Ok(folder) = fs::metadata(rt, folder_of(path)) else {
+        return false;
+    };
+    let is_open = folder.mode() & WRITING_OF_OTHERS != 0 && folder.mode() & STICKY == 0;
+    !is_open && (folder.uid() == 0 || folder.uid() == owner)
+}
+
+/// The folder of a path.
+fn folder_of<'a>(path: Path<'a>) -> Path<'a> {
+    match path.parent() {
+        Some(folder) if !folder.as_str().is_empty() => folder,
+        _ => Path::new("."),
+    }
 }
 
 /// Gives a new file the group and the owner of the old one, where the system lets. It lets few give
@@ -150,6 +230,16 @@ fn complete<R: Files>(
 fn keep_owner<R: Files>(rt: &R, path: Path<'_>, old: &Metadata) {
     let _ = lchown(rt, path, None, Some(old.gid()));
     let _ = lchown(rt, path, Some(old.uid()), None);
+}
+
+/// The rights of the old file for the new one. Where that is of another group, the group gets none
+/// that others have not.
+fn rights(new: &Metadata, old: &Metadata) -> u32 {
+    let rights = old.mode() & ALL_RIGHTS;
+    if new.gid() == old.gid() {
+        return rights;
+    }
+    rights & (0o707 | (rights & 0o007) << 3)
 }
 
 /// Writes the text and flushes.
@@ -165,17 +255,17 @@ fn fill<W: Write>(file: &mut W, text: &str) -> io::Result<()>
 fn new_beside<R: Files + AllocGlobal>(
     rt: &R,
     target: Path<'_>,
-    rights: u32,
 ) -> Result<(PathBuf, R::File), Fault> {
     for number in 0..NAMES {
         let path = temporary_path(rt.alloc(), target, number)?;
-        match create_new(rt, path.as_path(), rights) {
+        match create_new(rt, path.as_path()) {
             Ok(file) => return Ok((path, file)),
             Err(error) if error.kind() == ErrorKind::AlreadyExists => {}
             Err(error) => return Err(Fault::from(error)),
         }
     }
-    Err(Fault::from(io::Error::from(ErrorKind::AlreadyExists)))
+    let folder = path_shown(rt.alloc(), folder_of(target))?;
+    Err(Fault::NamesTaken(folder))
 }
 
 /// The path of a new file in the folder of this path.
@@ -187,11 +277,11 @@ fn temporary_path(alloc: Global, target: Path<'_>, number: u32) -> Result<PathBu
     target.with_file_name(alloc, name.as_str())
 }
 
-/// Makes a file where none is.
-fn create_new<R: Files>(rt: &R, path: Path<'_>, rights: u32) -> io::Result<R::File> {
+/// Makes a file where none is, which nobody else may open.
+fn create_new<R: Files>(rt: &R, path: Path<'_>) -> io::Result<R::File> {
     OpenOptions::new()
         .write(true)
         .create_new(true)
-        .mode(rights)
+        .mode(OWN_RIGHTS)
         .open(rt, path)
 }

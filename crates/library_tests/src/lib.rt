@@ -6,6 +6,8 @@
 #[cfg(test)]
 mod chains;
 #[cfg(test)]
+mod foreign_texts;
+#[cfg(test)]
 mod generated;
 #[cfg(test)]
 mod hub;

@@ -215,6 +215,7 @@ fn one_fault(rt: &HostRuntime, output: Output, failing: usize) -> Result<bool, F
 }
 
 // Runs the command with all calls failing from one on, as where it ends there, and then once more.
+// A file that was not there may be left empty: the command makes one to see whether it may.
 fn all_fail_from(rt: &HostRuntime, output: Output, failing: usize) -> Result<bool, Fail> {
     let folder = Folder::new(rt, "all_fail_from", output)?;
     let turns = Turns::new(failing, true);
@@ -223,7 +224,8 @@ fn all_fail_from(rt: &HostRuntime, output: Output, failing: usize) -> Result<boo
     } else {
         output.old
     };
-    holds(folder.has(text)?, "the text is lost", failing)?;
+    let has_text = folder.has(text)? || text.is_none() && folder.has(Some(""))?;
+    holds(has_text, "the text is lost", failing)?;
     let left = folder.text_of(NEW_NAME)?;
     holds(folder.translate(rt)?, "the next run fails", failing)?;
     has_written(&folder, failing)?;

@@ -6,6 +6,7 @@ mod check_merge;
 mod count_lines;
 mod faults;
 mod make_lockfile;
+mod print_and_read;
 mod reachable;
 mod resolved;
 
@@ -60,6 +61,9 @@ fn run_over(rt: &HostRuntime, lockfile: &Lockfile) -> Result<(), Error> {
     )?;
     let lines = count_lines::of_first_tree(alloc, &tree)?;
     println!(rt; "lines of the first tree: {lines}\n")?;
+    let read = print_and_read::printed_and_read(alloc, lockfile)?;
+    let is_equal = read == *lockfile;
+    println!(rt; "printed and read again it is equal: {is_equal}\n")?;
     print_changed(rt, lockfile)?;
     print_made(rt)
 }

@@ -6,11 +6,12 @@ use cargo_lock::{Dependency, Error, Lockfile, Package, ResolveVersion, SourceId}
 use std::alloc::Global;
 use value_calls::{line, no_call};
 
-/// Whether a lockfile survives V1, V2, V3 and V4: as it stands, where its first package also
+/// Whether a lockfile survives V1, V2, V3 and V4: as it is, as text, where its first package also
 /// depends on itself, or where that package is from the default registry as it is made.
 pub fn asked(alloc: Global, how: &[&str], lockfile: &mut Lockfile) -> Result<String, Error> {
     match how {
         [] => {}
+        ["as", "text"] => return formats_survived_as_text(alloc, lockfile),
         ["on", "itself"] => depend_on_itself(lockfile)?,
         ["from", "default"] => take_default_registry(alloc, lockfile)?,
         _ => return no_call(alloc),
@@ -48,6 +49,14 @@ fn formats_survived(alloc: Global, lockfile: &Lockfile) -> Result<String, Error>
 
 fn survives(alloc: Global, lockfile: &Lockfile, format: ResolveVersion) -> Result<bool, Error> {
     lockfile.survives(alloc, format)
+}
+
+fn formats_survived_as_text(alloc: Global, lockfile: &Lockfile) -> Result<String, Error> {
+    let first = lockfile.survives_as_text(alloc, ResolveVersion::V1)?;
+    let second = lockfile.survives_as_text(alloc, ResolveVersion::V2)?;
+    let third = lockfile.survives_as_text(alloc, ResolveVersion::V3)?;
+    let fourth = lockfile.survives_as_text(alloc, ResolveVersion::V4)?;
+    line(alloc, format_args!("{first} {second} {third} {fourth}"))
 }
 
 /// The meaning after a translation through formats.

@@ -14,7 +14,7 @@ returns g c =
     on_ok_weaken c.put_out.result _ _ (λ taken. (
       c.in_ok-lockfile.lockfile,
       line,
-      c.in_ok-lockfile.ensures.ok,
+      c.in_ok-lockfile.ensures,
       c.in_ok-text.ensures,
       subst (λ (text : List ℕ). TakesOutput output text old new) (append-nil c.as_str.result.now ∙ c.as_str.ensures.value) taken,
     )) c.put_out.ensures

@@ -2,4 +2,5 @@ use Rattle.cli_support.proofs.Writes.{if_ok_weaken}
 use Rattle.cli.proofs.check.run.Goals as goal
 
 pub returns : goal.returns
-returns g c = if_ok_weaken c.tell_text.result _ _ (λ status told. (c.as_str.result.now, told)) c.tell_text.ensures
+returns g c = if_ok_weaken c.tell.result _ _
+    (λ status told. (c.as_str-text.result.now, c.in_ok-lockfile.lockfile, c.in_ok-lockfile.ensures, told)) c.tell.ensures

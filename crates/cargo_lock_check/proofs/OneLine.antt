@@ -1,0 +1,45 @@
+-- Each finding is one line: each part of it is printable.
+use Rattle.std.proofs.Common.{codes, Option, Some, None, refl}
+use Rattle.shown.specs.declared.form.Form.TheVariants.{Plain, Quoted}
+use Rattle.shown.proofs.LinesOf.{each-is-line}
+use Rattle.shown.proofs.Printable.{Prints, decimal-prints, empty, join, literal, shown-prints, words}
+use Rattle.cargo_lock_parts.specs.Identity.{Identity, PackageData, identity_of}
+use Rattle.cargo_lock_parts.specs.Source.{Source}
+use Rattle.cargo_lock_references.specs.Format.{number_of}
+use Rattle.cargo_lock_check.specs.Finding.{Alike, BadName, EachIsOneLine, FindingData, LookAlike, LostDependency, Misplaced, NoChecksum, NoRoot, NotKept, Orphan, OtherLine, StaleChecksum, Twice, UserInfo}
+use Rattle.cargo_lock_check.specs.Finding.{bracketed, identity_shown, line_of, package_text}
+
+brackets-print : (s : Option Source) → Prints (bracketed s)
+brackets-print None = empty
+brackets-print (Some s) = words (codes " (") refl (join (shown-prints Plain _) (literal (codes ")") refl))
+
+identity-prints : (i : Identity) → Prints (identity_shown i)
+identity-prints i = join (shown-prints Plain i.name) (words (codes " ") refl (join (shown-prints Plain _) (brackets-print i.source)))
+
+package-prints : (p : PackageData) → Prints (package_text p)
+package-prints p = identity-prints (identity_of p)
+
+line-prints : (f : FindingData) → Prints (line_of f)
+line-prints (LostDependency p d) =
+    words (codes "reference: ") refl (join (package-prints p)
+    (words (codes " depends on ") refl (join (identity-prints d) (literal (codes ", which is no package") refl))))
+line-prints (Twice p) = words (codes "twice: ") refl (join (package-prints p) (literal (codes " stands more than once") refl))
+line-prints (BadName p) = words (codes "name: ") refl (join (shown-prints Plain p.name) (literal (codes " is no name that Cargo takes") refl))
+line-prints (Alike p q) =
+    words (codes "alike: ") refl (join (package-prints p)
+    (words (codes " and ") refl (join (package-prints q) (literal (codes " have one name on crates.io") refl))))
+line-prints (LookAlike s) = words (codes "source: ") refl (join (shown-prints Plain _) (literal (codes " is not crates.io") refl))
+line-prints (UserInfo s) = words (codes "source: ") refl (join (shown-prints Plain _) (literal (codes " has user info") refl))
+line-prints NoRoot = literal (codes "root: no package is of the workspace") refl
+line-prints (Orphan p) = words (codes "orphan: ") refl (join (package-prints p) (literal (codes ": no package of the workspace leads to it") refl))
+line-prints (NoChecksum p) = words (codes "checksum: ") refl (join (package-prints p) (literal (codes " has none, though others of its registry have") refl))
+line-prints (StaleChecksum key) = words (codes "stale: `") refl (join (shown-prints Quoted key) (literal (codes "` is in the metadata, and is of no package") refl))
+line-prints (Misplaced p next) = words (codes "order: ") refl (join (package-prints p) (words (codes " stands before ") refl (package-prints next)))
+line-prints (NotKept version) = words (codes "format: V") refl (join (decimal-prints (number_of version)) (literal (codes " does not keep this lockfile") refl))
+line-prints (OtherLine other) =
+    words (codes "text: line ") refl (join (decimal-prints other.number)
+    (words (codes " is not as Cargo writes it: `") refl (join (shown-prints Quoted other.written)
+    (words (codes "` for `") refl (join (shown-prints Quoted other.wanted) (literal (codes "`") refl))))))
+
+pub each-finding-is-one-line : EachIsOneLine
+each-finding-is-one-line = each-is-line line_of line-prints

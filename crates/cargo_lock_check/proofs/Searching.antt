@@ -1,0 +1,440 @@
+-- How a search for the packages that the workspace leads to goes on.
+use Rattle.std.proofs.Common.{◌≡◌, ◌<◌, ◌≤◌, ◌+◌, ◌⊎◌, inl, inr, ℕ, Bool, true, false, List, [], ◌∷◌, ◌++◌, length, get_or, replicate, set, take, slice_get, Option, Some, None, ◌↔◌, refl, sym, is_none, ap, subst, ◌∙◌, arith, length-append}
+use Rattle.std.specs.List.{Contains}
+use Rattle.std.proofs.lemmas.List.Elements.{Contains-append_left, Contains-get_or, Contains-push, Contains-push_cases}
+use Rattle.std.proofs.lemmas.Bool.{cases_Bool, cases_eq}
+use Rattle.std.proofs.lemmas.List.{get_or-replicate, get_or-set_same, get_or-set_other, length-replicate, take_more, take_all}
+use Rattle.std.proofs.lemmas.Option.{get_or_from_slice_get, slice_get-get_or, slice_get_read, slice_get_within, same_Some}
+use Rattle.std.proofs.Math.ListN.{length-set}
+use Rattle.cargo_lock_graph.specs.DrawingMade.{unmarked_count}
+use Rattle.cargo_lock_graph.proofs.DrawingMade.{unmarked_count-set}
+use Rattle.cargo_lock_parts.specs.Identity.{Identity, PackageData}
+use Rattle.cargo_lock_check.specs.declared.flaws.candidates.Match.{Match}
+use Rattle.cargo_lock_check.specs.declared.flaws.reach.Search.{Search}
+use Rattle.cargo_lock_check.specs.Places.{IsPlaces}
+use Rattle.cargo_lock_check.specs.Reach.{IsAskedBy, IsBestMatch, IsChain, IsOneOfBest, IsOrphan, IsReached, IsRoot, LeadsTo}
+use Rattle.cargo_lock_check.specs.Search.{HasReached, IsMarked, IsSearch}
+use Rattle.cargo_lock_check.proofs.Matching.{AreBestMatches}
+
+-- ---- marks
+
+marked-kept : (marks : List Bool) (place k : ℕ) → place < length marks → IsMarked marks k → IsMarked (set marks place true) k
+marked-kept marks place k low h =
+    let within = slice_get_within marks k true h in
+    let long = length-set marks place true in
+    slice_get-get_or (set marks place true) k false (omega (arith, within, long)) ∙ ap Some (elim (cases_eq k place) [
+      | inl same ↦ ap (λ i. get_or (set marks place true) i false) same ∙ get_or-set_same marks place true false low
+      | inr other ↦ get_or-set_other marks place k true false other ∙ get_or_from_slice_get marks k true false h
+    ])
+
+marked-here : (marks : List Bool) (place : ℕ) → place < length marks → IsMarked (set marks place true) place
+marked-here marks place low =
+    let long = length-set marks place true in
+    slice_get-get_or (set marks place true) place false (omega (arith, low, long)) ∙ ap Some (get_or-set_same marks place true false low)
+
+marked-before : (marks : List Bool) (place k : ℕ) → IsMarked (set marks place true) k → IsMarked marks k ⊎ (k ≡ place)
+marked-before marks place k h = elim (cases_eq k place) [
+  | inl same ↦ inr same
+  | inr other ↦
+      let within = slice_get_within (set marks place true) k true h in
+      let long = length-set marks place true in
+      inl (slice_get-get_or marks k false (omega (arith, within, long))
+      ∙ ap Some (sym (get_or-set_other marks place k true false other) ∙ get_or_from_slice_get (set marks place true) k true false h))
+]
+
+-- a place without a mark gets one, and waits
+pub reached-new : (old new : Search) (place : ℕ) → place < length old.reached.items → get_or old.reached.items place true ≡ false
+    → new.reached.items ≡ set old.reached.items place true → new.waiting.items ≡ old.waiting.items ++ place ∷ []
+    → HasReached (λ k. k ≡ place) old new
+reached-new old new place low bare marks waits =
+    let ms : List Bool = old.reached.items in
+    let ws : List ℕ = old.waiting.items in
+    let to : (k : ℕ) → IsMarked (set ms place true) k → IsMarked new.reached.items k = λ k h. subst (λ (xs : List Bool). IsMarked xs k) (sym marks) h in
+    let put : (k : ℕ) → Contains (ws ++ place ∷ []) k → Contains new.waiting.items k = λ k h. subst (λ (xs : List ℕ). Contains xs k) (sym waits) h in
+    record {
+      count = ap length marks ∙ length-set ms place true;
+      kept = λ k h. to k (marked-kept ms place k low h);
+      all = λ k same. to k (subst (λ n. IsMarked (set ms place true) n) (sym same) (marked-here ms place low));
+      waits = λ k h. put k (Contains-append_left ws (place ∷ []) k h);
+      added = λ k h. elim (marked-before ms place k (subst (λ (xs : List Bool). IsMarked xs k) marks h)) [
+        | inl before ↦ inl before
+        | inr same ↦ inr (same, put k (subst (λ n. Contains (ws ++ place ∷ []) n) (sym same) (Contains-push ws place)))
+      ];
+      marked = λ k h. elim (Contains-push_cases ws place k (subst (λ (xs : List ℕ). Contains xs k) waits h)) [
+        | inl before ↦ inl before
+        | inr same ↦ inr (to k (subst (λ n. IsMarked (set ms place true) n) same (marked-here ms place low)))
+      ];
+      measure =
+          let count = unmarked_count-set ms place bare in
+          let fewer = ap unmarked_count marks in
+          let more = ap length waits in
+          let long = length-append ws (place ∷ []) in
+          omega (arith, count, fewer, more, long);
+    }
+
+-- what is read at a place of the list does not turn on the value for places beyond it
+pub same-read : {X : Type 0} (xs : List X) (i : ℕ) (x d : X) → i < length xs → x ≡ get_or xs i x → get_or xs i d ≡ x
+same-read xs i x d low is = get_or_from_slice_get xs i x d (slice_get_read xs (length xs) i x refl low is)
+
+same-place : {X : Type 0} (xs : List X) (i : ℕ) (d e : X) → i < length xs → get_or xs i e ≡ get_or xs i d
+same-place xs i d e low = get_or_from_slice_get xs i (get_or xs i d) e (slice_get-get_or xs i d low)
+
+-- a place with a mark is reached
+pub reached-again : (s : Search) (place : ℕ) → IsMarked s.reached.items place → HasReached (λ k. k ≡ place) s s
+reached-again s place marked = record {
+  count = refl;
+  kept = λ k h. h;
+  all = λ k same. subst (λ n. IsMarked s.reached.items n) (sym same) marked;
+  waits = λ k h. h;
+  added = λ k h. inl h;
+  marked = λ k h. inl h;
+  measure = refl;
+}
+
+-- ---- the elements so far
+
+pub taken-cases : {X : Type 0} (xs : List X) (i : ℕ) (x y : X) → i < length xs → y ≡ get_or xs i y → Contains (take (i + 1) xs) x → Contains (take i xs) x ⊎ (y ≡ x)
+taken-cases xs i x y low is h =
+    Contains-push_cases (take i xs) y x
+    (subst (λ zs. Contains zs x) (take_more xs i y low ∙ ap (λ z. take i xs ++ z ∷ []) (sym is)) h)
+
+pub taken-before : {X : Type 0} (xs : List X) (i : ℕ) (x y : X) → i < length xs → Contains (take i xs) x → Contains (take (i + 1) xs) x
+taken-before xs i x y low h = subst (λ zs. Contains zs x) (sym (take_more xs i y low)) (Contains-append_left (take i xs) (get_or xs i y ∷ []) x h)
+
+pub taken-last : {X : Type 0} (xs : List X) (i : ℕ) (y : X) → i < length xs → y ≡ get_or xs i y → Contains (take (i + 1) xs) y
+taken-last xs i y low is =
+    subst (λ zs. Contains zs y) (sym (take_more xs i y low ∙ ap (λ z. take i xs ++ z ∷ []) (sym is))) (Contains-push (take i xs) y)
+
+-- ---- steps joined
+
+-- the places of the matches so far
+abbrev pub PlacesOf : List Match → ℕ → ℕ → Type 0
+PlacesOf matches i k = (m : Match) × Contains (take i matches) m × (m.place ≡ k)
+
+-- what the dependencies so far stand for
+abbrev pub TargetsOf : List PackageData → List Identity → ℕ → ℕ → Type 0
+TargetsOf packages ds i k = (d : Identity) × Contains (take i ds) d × IsOneOfBest packages d k
+
+-- the packages of the workspace so far
+abbrev pub RootsBelow : List PackageData → ℕ → ℕ → Type 0
+RootsBelow packages place k = (k < place) × IsRoot packages k
+
+-- nothing was asked for
+pub reached-none : (P : ℕ → Type 0) (s : Search) → ((k : ℕ) → ¬ P k) → HasReached P s s
+reached-none P s none = record {
+  count = refl;
+  kept = λ k h. h;
+  all = λ k p. absurd (none k p);
+  waits = λ k h. h;
+  added = λ k h. inl h;
+  marked = λ k h. inl h;
+  measure = refl;
+}
+
+-- one step and then another
+pub reached-both : (P Q R : ℕ → Type 0) (a b c : Search) → ((k : ℕ) → R k → P k ⊎ Q k) → ((k : ℕ) → P k → R k) → ((k : ℕ) → Q k → R k)
+    → HasReached P a b → HasReached Q b c → HasReached R a c
+reached-both P Q R a b c cases first second f g = record {
+  count = g.count ∙ f.count;
+  kept = λ k h. g.kept k (f.kept k h);
+  all = λ k r. elim (cases k r) [
+    | inl p ↦ g.kept k (f.all k p)
+    | inr q ↦ g.all k q
+  ];
+  waits = λ k h. g.waits k (f.waits k h);
+  added = λ k h. elim (g.added k h) [
+    | inl before ↦ elim (f.added k before) [
+      | inl old ↦ inl old
+      | inr new ↦ inr (first k new.0, g.waits k new.1)
+    ]
+    | inr new ↦ inr (second k new.0, new.1)
+  ];
+  marked = λ k h. elim (g.marked k h) [
+    | inl before ↦ elim (f.marked k before) [
+      | inl old ↦ inl old
+      | inr new ↦ inr (g.kept k new)
+    ]
+    | inr new ↦ inr new
+  ];
+  measure = g.measure ∙ f.measure;
+}
+
+-- the same step, told by another predicate that holds at the same places
+pub reached-alike : (P Q : ℕ → Type 0) (a b : Search) → ((k : ℕ) → P k → Q k) → ((k : ℕ) → Q k → P k) → HasReached P a b → HasReached Q a b
+reached-alike P Q a b to from f = record {
+  count = f.count;
+  kept = f.kept;
+  all = λ k q. f.all k (from k q);
+  waits = f.waits;
+  added = λ k h. elim (f.added k h) [
+    | inl old ↦ inl old
+    | inr new ↦ inr (to k new.0, new.1)
+  ];
+  marked = f.marked;
+  measure = f.measure;
+}
+
+none-in : {X : Type 0} (x : X) → ¬ Contains [] x
+none-in x h = let low = h.1 in omega (arith, low)
+
+-- ---- the packages that match best
+
+pub matches-none : (matches : List Match) (s : Search) → HasReached (PlacesOf matches 0) s s
+matches-none matches s = reached-none (PlacesOf matches 0) s (λ k h. none-in h.0 h.1)
+
+pub matches-next : (matches : List Match) (i : ℕ) (one : Match) (a b c : Search) → i < length matches
+    → HasReached (PlacesOf matches i) a b → HasReached (λ k. k ≡ (get_or matches i one).place) b c → HasReached (PlacesOf matches (i + 1)) a c
+matches-next matches i one a b c low f g =
+    let m : Match = get_or matches i one in
+    let is : m ≡ get_or matches i m = sym (same-place matches i one m low) in
+    reached-both (PlacesOf matches i) (λ k. k ≡ m.place) (PlacesOf matches (i + 1)) a b c
+    (λ k h. elim (taken-cases matches i h.0 m low is h.1) [
+      | inl before ↦ inl (h.0, before, h.2)
+      | inr here ↦ inr (sym (ap (λ (n : Match). n.place) here ∙ h.2))
+    ])
+    (λ k h. (h.0, taken-before matches i h.0 m low h.1, h.2))
+    (λ k same. (m, taken-last matches i m low is, sym same))
+    f g
+
+pub match-within : (packages : List PackageData) (d : Identity) (matches : List Match) (i : ℕ) (one : Match) → i < length matches
+    → AreBestMatches packages d matches → (get_or matches i one).place < length packages
+match-within packages d matches i one low are =
+    let m : Match = get_or matches i one in
+    let f = ((are m).0 (Contains-get_or matches i one low)).fits in
+    slice_get_within packages m.place f.0 f.1
+
+pub matches-all : (packages : List PackageData) (d : Identity) (matches : List Match) (i : ℕ) (a b : Search) → length matches ≤ i
+    → AreBestMatches packages d matches → HasReached (PlacesOf matches i) a b → HasReached (IsOneOfBest packages d) a b
+matches-all packages d matches i a b end are f =
+    let whole : take i matches ≡ matches = take_all i matches end in
+    reached-alike (PlacesOf matches i) (IsOneOfBest packages d) a b
+    (λ k h. let m : Match = h.0 in
+    (m.rank, subst (λ n. IsBestMatch packages d m.rank n) h.2 ((are m).0 (subst (λ (ms : List Match). Contains ms m) whole h.1))))
+    (λ k h. let m : Match = record { rank = h.0; place = k } in
+    (m, subst (λ (ms : List Match). Contains ms m) (sym whole) ((are m).1 h.1), refl))
+    f
+
+-- ---- the dependencies of a package, and its replacement
+
+pub targets-none : (packages : List PackageData) (ds : List Identity) (s : Search) → HasReached (TargetsOf packages ds 0) s s
+targets-none packages ds s = reached-none (TargetsOf packages ds 0) s (λ k h. none-in h.0 h.1)
+
+pub targets-next : (packages : List PackageData) (ds : List Identity) (i : ℕ) (d : Identity) (a b c : Search) → i < length ds → d ≡ get_or ds i d
+    → HasReached (TargetsOf packages ds i) a b → HasReached (IsOneOfBest packages d) b c → HasReached (TargetsOf packages ds (i + 1)) a c
+targets-next packages ds i d a b c low is f g =
+    reached-both (TargetsOf packages ds i) (IsOneOfBest packages d) (TargetsOf packages ds (i + 1)) a b c
+    (λ k h. elim (taken-cases ds i h.0 d low is h.1) [
+      | inl before ↦ inl (h.0, before, h.2)
+      | inr here ↦ inr (subst (λ (e : Identity). IsOneOfBest packages e k) (sym here) h.2)
+    ])
+    (λ k h. (h.0, taken-before ds i h.0 d low h.1, h.2))
+    (λ k h. (d, taken-last ds i d low is, h))
+    f g
+
+pub targets-all : (packages : List PackageData) (ds : List Identity) (i : ℕ) (a b : Search) → length ds ≤ i
+    → HasReached (TargetsOf packages ds i) a b → HasReached (λ k. (d : Identity) × Contains ds d × IsOneOfBest packages d k) a b
+targets-all packages ds i a b end f =
+    let whole : take i ds ≡ ds = take_all i ds end in
+    reached-alike (TargetsOf packages ds i) (λ k. (d : Identity) × Contains ds d × IsOneOfBest packages d k) a b
+    (λ k h. (h.0, subst (λ (es : List Identity). Contains es h.0) whole h.1, h.2))
+    (λ k h. (h.0, subst (λ (es : List Identity). Contains es h.0) (sym whole) h.1, h.2))
+    f
+
+-- what a package asks for
+abbrev pub AskedTargets : List PackageData → PackageData → ℕ → Type 0
+AskedTargets packages p k = (d : Identity) × IsAskedBy p d × IsOneOfBest packages d k
+
+pub asked-alone : (packages : List PackageData) (p : PackageData) (ds : List Identity) (a b : Search) → ds ≡ p.dependencies → p.replace ≡ None
+    → HasReached (λ k. (d : Identity) × Contains ds d × IsOneOfBest packages d k) a b → HasReached (AskedTargets packages p) a b
+asked-alone packages p ds a b same none f =
+    reached-alike (λ k. (d : Identity) × Contains ds d × IsOneOfBest packages d k) (AskedTargets packages p) a b
+    (λ k h. (h.0, inl (subst (λ (es : List Identity). Contains es h.0) same h.1), h.2))
+    (λ k h. elim h.1 [
+      | inl among ↦ (h.0, subst (λ (es : List Identity). Contains es h.0) (sym same) among, h.2)
+      | inr replaced ↦ let e : None ≡ Some h.0 = sym none ∙ replaced in absurd (cc e)
+    ])
+    f
+
+pub asked-both : (packages : List PackageData) (p : PackageData) (ds : List Identity) (r : Identity) (a b c : Search) → ds ≡ p.dependencies → p.replace ≡ Some r
+    → HasReached (λ k. (d : Identity) × Contains ds d × IsOneOfBest packages d k) a b → HasReached (IsOneOfBest packages r) b c
+    → HasReached (AskedTargets packages p) a c
+asked-both packages p ds r a b c same some f g =
+    reached-both (λ k. (d : Identity) × Contains ds d × IsOneOfBest packages d k) (IsOneOfBest packages r) (AskedTargets packages p) a b c
+    (λ k h. elim h.1 [
+      | inl among ↦ inl (h.0, subst (λ (es : List Identity). Contains es h.0) (sym same) among, h.2)
+      | inr replaced ↦ inr (subst (λ (e : Identity). IsOneOfBest packages e k) (same_Some h.0 r (sym replaced ∙ some)) h.2)
+    ])
+    (λ k h. (h.0, inl (subst (λ (es : List Identity). Contains es h.0) same h.1), h.2))
+    (λ k h. (r, inr some, h))
+    f g
+
+-- ---- the packages of the workspace
+
+none-of : {X : Type 0} (o : Option X) → is_none o ≡ true → o ≡ None
+none-of None h = refl
+none-of (Some x) h = cc h
+
+some-of : {X : Type 0} (o : Option X) → is_none o ≡ false → ¬ (o ≡ None)
+some-of None h = λ e. cc h
+some-of (Some x) h = λ e. cc e
+
+pub roots-none : (packages : List PackageData) (s : Search) → HasReached (RootsBelow packages 0) s s
+roots-none packages s = reached-none (RootsBelow packages 0) s (λ k h. let low = h.0 in omega (arith, low))
+
+pub roots-next : (packages : List PackageData) (place : ℕ) (p : PackageData) (a b c : Search) → place < length packages → p ≡ get_or packages place p → is_none p.source ≡ true
+    → HasReached (RootsBelow packages place) a b → HasReached (λ k. k ≡ place) b c → HasReached (RootsBelow packages (place + 1)) a c
+roots-next packages place p a b c low is bare f g =
+    let root : IsRoot packages place = (p, slice_get_read packages (length packages) place p refl low is, none-of p.source bare) in
+    reached-both (RootsBelow packages place) (λ k. k ≡ place) (RootsBelow packages (place + 1)) a b c
+    (λ k h. elim (cases_eq k place) [
+      | inl here ↦ inr here
+      | inr other ↦ inl (let below = h.0 in omega (arith, below, other), h.1)
+    ])
+    (λ k h. (let below = h.0 in omega (arith, below), h.1))
+    (λ k same. (omega (arith, same), subst (λ n. IsRoot packages n) (sym same) root))
+    f g
+
+pub roots-pass : (packages : List PackageData) (place : ℕ) (p : PackageData) (a b : Search) → place < length packages → p ≡ get_or packages place p → is_none p.source ≡ false
+    → HasReached (RootsBelow packages place) a b → HasReached (RootsBelow packages (place + 1)) a b
+roots-pass packages place p a b low is sourced f =
+    let at : slice_get packages place ≡ Some p = slice_get_read packages (length packages) place p refl low is in
+    reached-alike (RootsBelow packages place) (RootsBelow packages (place + 1)) a b
+    (λ k h. (let below = h.0 in omega (arith, below), h.1))
+    (λ k h. elim (cases_eq k place) [
+      | inl here ↦
+          let q : PackageData = h.1.0 in
+          let same : q ≡ p = same_Some q p (sym h.1.1 ∙ ap (slice_get packages) here ∙ at) in
+          absurd (some-of p.source sourced (ap (λ (r : PackageData). r.source) (sym same) ∙ h.1.2))
+      | inr other ↦ (let below = h.0 in omega (arith, below, other), h.1)
+    ])
+    f
+
+pub roots-all : (packages : List PackageData) (place : ℕ) (a b : Search) → length packages ≤ place → HasReached (RootsBelow packages place) a b → HasReached (IsRoot packages) a b
+roots-all packages place a b end f =
+    reached-alike (RootsBelow packages place) (IsRoot packages) a b
+    (λ k h. h.1)
+    (λ k h. (let low = slice_get_within packages k h.0 h.1 in omega (arith, low, end), h))
+    f
+
+-- ---- the search
+
+pub none-marked : (count k : ℕ) → ¬ IsMarked (replicate count false) k
+none-marked count k h =
+    let low = slice_get_within (replicate count false) k true h in
+    let long = length-replicate count false in
+    let e : false ≡ true = sym (get_or-replicate count k false false (omega (arith, low, long))) ∙ get_or_from_slice_get (replicate count false) k true false h in
+    cc e
+
+-- the packages of the workspace are reached, where nothing was reached before
+pub search-start : (packages : List PackageData) (a b : Search) → length a.reached.items ≡ length packages → ((k : ℕ) → ¬ IsMarked a.reached.items k) → a.waiting.items ≡ []
+    → HasReached (IsRoot packages) a b → IsSearch packages b
+search-start packages a b count bare empty f =
+    let new : (k : ℕ) → IsMarked b.reached.items k → IsRoot packages k × Contains b.waiting.items k = λ k h. elim (f.added k h) [
+      | inl old ↦ absurd (bare k old)
+      | inr new ↦ new
+    ] in record {
+      count = f.count ∙ count;
+      sound = λ k h. (k, [], (new k h).0, refl);
+      waits = λ k h. elim (f.marked k h) [
+        | inl old ↦ absurd (none-in k (subst (λ (ws : List ℕ). Contains ws k) empty old))
+        | inr marked ↦ marked
+      ];
+      roots = f.all;
+      closed = λ k l h leads. inl (new k h).1;
+    }
+
+chain-more : (packages : List PackageData) (a : ℕ) (chain : List ℕ) (b c : ℕ) → IsChain packages a chain b → LeadsTo packages b c → IsChain packages a (chain ++ c ∷ []) c
+chain-more packages a [] b c same leads = (subst (λ n. LeadsTo packages n c) (sym same) leads, refl)
+chain-more packages a (n ∷ ns) b c chain leads = (chain.0, chain-more packages n ns b c chain.1 leads)
+
+pub reached-next : (packages : List PackageData) (a b : ℕ) → IsReached packages a → LeadsTo packages a b → IsReached packages b
+reached-next packages a b h leads = (h.0, h.1 ++ b ∷ [], h.2, chain-more packages h.0 h.1 a b h.3 leads)
+
+-- what the package at the last place that waited leads to is reached
+pub search-next : (packages : List PackageData) (before popped after : Search) (place : ℕ)
+    → IsSearch packages before → popped.reached.items ≡ before.reached.items → before.waiting.items ≡ popped.waiting.items ++ place ∷ []
+    → HasReached (LeadsTo packages place) popped after → IsSearch packages after
+search-next packages before popped after place h same ends f =
+    let old : (k : ℕ) → IsMarked before.reached.items k → IsMarked popped.reached.items k = λ k m. subst (λ (ms : List Bool). IsMarked ms k) (sym same) m in
+    let back : (k : ℕ) → IsMarked popped.reached.items k → IsMarked before.reached.items k = λ k m. subst (λ (ms : List Bool). IsMarked ms k) same m in
+    let there : Contains before.waiting.items place = subst (λ (ws : List ℕ). Contains ws place) (sym ends) (Contains-push popped.waiting.items place) in
+    let reached : IsReached packages place = h.sound place (h.waits place there) in
+    record {
+      count = f.count ∙ ap length same ∙ h.count;
+      sound = λ k m. elim (f.added k m) [
+        | inl before ↦ h.sound k (back k before)
+        | inr new ↦ reached-next packages place k reached new.0
+      ];
+      waits = λ k w. elim (f.marked k w) [
+        | inl waited ↦ f.kept k (old k (h.waits k (subst (λ (ws : List ℕ). Contains ws k) (sym ends) (Contains-append_left popped.waiting.items (place ∷ []) k waited))))
+        | inr marked ↦ marked
+      ];
+      roots = λ k root. f.kept k (old k (h.roots k root));
+      closed = λ a b m leads. elim (f.added a m) [
+        | inl before ↦ elim (h.closed a b (back a before) leads) [
+          | inl waited ↦ elim (Contains-push_cases popped.waiting.items place a (subst (λ (ws : List ℕ). Contains ws a) ends waited)) [
+            | inl still ↦ inl (f.waits a still)
+            | inr here ↦ inr (f.all b (subst (λ n. LeadsTo packages n b) (sym here) leads))
+          ]
+          | inr marked ↦ inr (f.kept b (old b marked))
+        ]
+        | inr new ↦ inl new.1
+      ];
+    }
+
+-- what a package asks for is what its place leads to
+pub leads-of : (packages : List PackageData) (place : ℕ) (p : PackageData) (a b : Search) → slice_get packages place ≡ Some p
+    → HasReached (AskedTargets packages p) a b → HasReached (LeadsTo packages place) a b
+leads-of packages place p a b at f =
+    reached-alike (AskedTargets packages p) (LeadsTo packages place) a b
+    (λ k h. (p, at, h))
+    (λ k h. subst (λ (q : PackageData). AskedTargets packages q k) (same_Some h.0 p (sym h.1 ∙ at)) h.2)
+    f
+
+-- a place that waits is one of the packages
+pub waits-within : (packages : List PackageData) (s : Search) (rest : List ℕ) (place : ℕ) → IsSearch packages s → s.waiting.items ≡ rest ++ place ∷ [] → place < length packages
+waits-within packages s rest place h ends =
+    let low = slice_get_within s.reached.items place true (h.waits place (subst (λ (ws : List ℕ). Contains ws place) (sym ends) (Contains-push rest place))) in
+    let count = h.count in
+    omega (arith, low, count)
+
+-- a chain from a reached place leads to reached places, where nothing waits
+chain-reached : (packages : List PackageData) (s : Search) → IsSearch packages s → s.waiting.items ≡ []
+    → (a : ℕ) (chain : List ℕ) (b : ℕ) → IsMarked s.reached.items a → IsChain packages a chain b → IsMarked s.reached.items b
+chain-reached packages s h empty a [] b marked same = subst (λ n. IsMarked s.reached.items n) same marked
+chain-reached packages s h empty a (n ∷ ns) b marked chain =
+    let next : IsMarked s.reached.items n = elim (h.closed a n marked chain.0) [
+      | inl waits ↦ absurd (none-in a (subst (λ (ws : List ℕ). Contains ws a) empty waits))
+      | inr reached ↦ reached
+    ] in chain-reached packages s h empty n ns b next chain.1
+
+pub search-end : (packages : List PackageData) (s : Search) → IsSearch packages s → s.waiting.items ≡ [] → (k : ℕ) → IsMarked s.reached.items k ↔ IsReached packages k
+search-end packages s h empty k = (
+  h.sound k,
+  λ r. chain-reached packages s h empty r.0 r.1 k (h.roots r.0 r.2) r.3,
+)
+
+-- ---- orphans
+
+bare-of : (marks : List Bool) (k : ℕ) → k < length marks → ¬ IsMarked marks k → slice_get marks k ≡ Some false
+bare-of marks k low none =
+    let at : slice_get marks k ≡ Some (get_or marks k false) = slice_get-get_or marks k false low in
+    elim (cases_Bool (get_or marks k false)) [
+      | inl set ↦ absurd (none (at ∙ ap Some set))
+      | inr bare ↦ at ∙ ap Some bare
+    ]
+
+pub orphans-told : (packages : List PackageData) (marks : List Bool) (places : List ℕ) → length marks ≡ length packages
+    → ((k : ℕ) → IsMarked marks k ↔ IsReached packages k) → IsPlaces (λ k. slice_get marks k ≡ Some false) (length marks) places
+    → IsPlaces (IsOrphan packages) (length packages) places
+orphans-told packages marks places count marked are = record {
+  ascending = are.ascending;
+  told = λ k. (
+    λ h.
+        let (low, bare) = (are.told k).0 h in
+        (omega (arith, low, count), λ reached. let e : Some true ≡ Some false = sym ((marked k).1 reached) ∙ bare in cc e),
+    λ h.
+        let low : k < length marks = let below = h.0 in omega (arith, below, count) in
+        (are.told k).1 (low, bare-of marks k low (λ m. h.1 ((marked k).0 m))),
+  );
+}

@@ -1,0 +1,121 @@
+-- What is known of the packages that were seen, one package after another.
+use Rattle.std.proofs.Common.{◌≡◌, ◌<◌, ◌+◌, ◌⊎◌, ◌↔◌, inl, inr, ℕ, Bool, true, false, if◌then◌else◌, IsTrue, IsSome, List, length, get_or, slice_get, Option, Some, None, option_map, refl, sym, ap, subst, ◌∙◌, arith}
+use Rattle.std.specs.Borrow.{Bor}
+use Rattle.std.specs.BTreeSet.{BTreeSet}
+use Rattle.std.specs.BTreeMap.{BTreeMap, get}
+use Rattle.std.proofs.lemmas.Bool.{cases_eq, false≢true}
+use Rattle.std.proofs.lemmas.Option.{slice_get_read, slice_get_within, same_Some}
+use Rattle.cargo_lock_parts.specs.Identity.{Identity, PackageData, identity_of}
+use Rattle.cargo_lock_parts.specs.PartialIdentity.{PartialIdentity, partial_identity_cmp}
+use Rattle.cargo_lock_parts.specs.Source.{Source}
+use Rattle.cargo_lock_parts.specs.SourceKey.{is_same_source, key_of}
+use Rattle.cargo_lock_parts.specs.SourceLaws.{is_same_source-Decides}
+use Rattle.cargo_lock_graph.specs.Candidates.{AreLastPlaces, identity_as_key}
+use Rattle.cargo_lock_graph.specs.Targets.{HasIdentity, HoldsOf, IsLastBelow}
+use Rattle.cargo_lock_check.specs.Packages.{HasChecksumFrom, IsTwice, IsWithoutChecksum, LacksChecksum}
+use Rattle.cargo_lock_check.specs.Seen.{AreChecked, LacksChecksumAmong, has_source}
+
+-- what holds of the package at a place holds of that package
+pub holds-here : (P : PackageData → Type 0) (packages : List PackageData) (place : ℕ) (p : PackageData) → slice_get packages place ≡ Some p
+    → HoldsOf P packages place → P p
+holds-here P packages place p at h = subst P (same_Some h.0 p (sym h.1 ∙ at)) h.2
+
+-- ---- twice
+
+-- an earlier place is known exactly where the package stands twice
+pub twice-known : (packages : List PackageData) (places : BTreeMap PartialIdentity ℕ) (place : ℕ) (p : PackageData) (before : Option ℕ)
+    → AreLastPlaces packages place places → place < length packages → p ≡ get_or packages place p
+    → before ≡ get partial_identity_cmp places (identity_as_key (identity_of p))
+    → IsSome before ↔ IsTwice packages place
+twice-known packages places place p before are low is known =
+    let at = slice_get_read packages (length packages) place p refl low is in
+    let i : Identity = identity_of p in
+    go at before (subst (λ o. IsLastBelow (HoldsOf (HasIdentity i) packages) place o) (sym known) (are i))
+  where
+    go : slice_get packages place ≡ Some p → (o : Option ℕ) → IsLastBelow (HoldsOf (HasIdentity (identity_of p)) packages) place o → IsSome o ↔ IsTwice packages place
+    go at None none = (
+      λ h. absurd (false≢true h),
+      λ h.
+          let earlier = holds-here (λ q. (j : ℕ) × (j < place) × HoldsOf (HasIdentity (identity_of q)) packages j) packages place p at h in
+          absurd (none earlier.0 earlier.1 earlier.2),
+    )
+    go at (Some j) last = (λ h. (p, at, (j, last.0, last.1)), λ h. refl)
+
+-- ---- sources
+
+below-cases : (j n : ℕ) → j < n + 1 → (j < n) ⊎ (j ≡ n)
+below-cases j n lt = elim (cases_eq j n) [
+  | inl same ↦ inr same
+  | inr other ↦ inl (omega arith)
+]
+
+step-hit : (Q : ℕ → Type 0) (n : ℕ) (b : Bool) → b ≡ true → Q n → (b ≡ true) ↔ ((j : ℕ) × (j < n + 1) × Q j)
+step-hit Q n b is here = (λ h. (n, omega arith, here), λ h. is)
+
+step-miss : (Q : ℕ → Type 0) (n : ℕ) (b : Bool) → ¬ Q n → (b ≡ true) ↔ ((j : ℕ) × (j < n) × Q j) → (b ≡ true) ↔ ((j : ℕ) × (j < n + 1) × Q j)
+step-miss Q n b miss so_far = (
+  λ h. let found = so_far.0 h in (found.0, (let low = found.1 in omega (arith, low)), found.2),
+  λ h. elim (below-cases h.0 n h.1) [
+    | inl below ↦ so_far.1 (h.0, below, h.2)
+    | inr here ↦ absurd (miss (subst Q here h.2))
+  ],
+)
+
+-- one more package, with a checksum, from this source
+pub checked-more : (packages : List PackageData) (place : ℕ) (sources grown : BTreeSet (Bor Source)) (p : PackageData) (source : Source)
+    → place < length packages → p ≡ get_or packages place p → p.source ≡ Some source → IsSome p.checksum
+    → ((s : Source) → has_source grown s ≡ (if is_same_source source s then true else has_source sources s))
+    → AreChecked packages place sources → AreChecked packages (place + 1) grown
+checked-more packages place sources grown p source low is from has grows so_far s =
+    let at = slice_get_read packages (length packages) place p refl low is in
+    go at (is_same_source source s) refl
+  where
+    go : slice_get packages place ≡ Some p → (b : Bool) → is_same_source source s ≡ b
+        → (has_source grown s ≡ true) ↔ ((j : ℕ) × (j < place + 1) × HoldsOf (HasChecksumFrom s) packages j)
+    go at true same =
+        step-hit (HoldsOf (HasChecksumFrom s) packages) place (has_source grown s)
+        (grows s ∙ ap (λ b. if b then true else has_source sources s) same)
+        (p, at, record { from = ap (option_map key_of) from ∙ ap Some ((is_same_source-Decides source s).0 same); checksum = has })
+    go at false other =
+        let kept : has_source grown s ≡ has_source sources s = grows s ∙ ap (λ b. if b then true else has_source sources s) other in
+        step-miss (HoldsOf (HasChecksumFrom s) packages) place (has_source grown s)
+        (λ h.
+        let here = holds-here (HasChecksumFrom s) packages place p at h in
+        let key = same_Some (key_of source) (key_of s) (sym (ap (option_map key_of) from) ∙ here.from) in
+        false≢true (sym other ∙ (is_same_source-Decides source s).1 key))
+        (subst (λ b. (b ≡ true) ↔ ((j : ℕ) × (j < place) × HoldsOf (HasChecksumFrom s) packages j)) (sym kept) (so_far s))
+
+-- one more package, with no checksum or no source
+pub checked-same : (packages : List PackageData) (place : ℕ) (sources : BTreeSet (Bor Source)) (p : PackageData)
+    → place < length packages → p ≡ get_or packages place p → (p.checksum ≡ None) ⊎ (p.source ≡ None)
+    → AreChecked packages place sources → AreChecked packages (place + 1) sources
+checked-same packages place sources p low is lacks so_far s =
+    let at = slice_get_read packages (length packages) place p refl low is in
+    step-miss (HoldsOf (HasChecksumFrom s) packages) place (has_source sources s)
+    (λ h. go lacks (holds-here (HasChecksumFrom s) packages place p at h)) (so_far s)
+  where
+    go : (p.checksum ≡ None) ⊎ (p.source ≡ None) → HasChecksumFrom s p → ⊥
+    go (inl none) has = absurd (false≢true (subst IsSome none has.checksum))
+    go (inr none) has = (let e = sym (ap (option_map key_of) none) ∙ has.from in cc)
+
+-- among the sources of all packages with a checksum
+pub lacks-among : (packages : List PackageData) (sources : BTreeSet (Bor Source)) (p : PackageData) → AreChecked packages (length packages) sources
+    → LacksChecksumAmong sources p ↔ LacksChecksum packages p
+lacks-among packages sources p are = (
+  λ h.
+      let found = (are h.source).0 h.among in
+      record { checksum = h.checksum; replace = h.replace; source = h.source; from = h.from; remote = h.remote; other = (found.0, found.2) },
+  λ h.
+      let within : h.other.0 < length packages = slice_get_within packages h.other.0 h.other.1.0 h.other.1.1 in
+      record { checksum = h.checksum; replace = h.replace; source = h.source; from = h.from; remote = h.remote; among = (are h.source).1 (h.other.0, within, h.other.1) },
+)
+
+-- the package at the place lacks a checksum exactly where the package that was read there does
+pub without-known : (packages : List PackageData) (sources : BTreeSet (Bor Source)) (place : ℕ) (p : PackageData) (b : Bool)
+    → AreChecked packages (length packages) sources → place < length packages → p ≡ get_or packages place p
+    → IsTrue b ↔ LacksChecksumAmong sources p → IsTrue b ↔ IsWithoutChecksum packages place
+without-known packages sources place p b are low is tells =
+    let at = slice_get_read packages (length packages) place p refl low is in (
+      λ h. (p, at, (lacks-among packages sources p are).0 (tells.0 h)),
+      λ h. tells.1 ((lacks-among packages sources p are).1 (holds-here (LacksChecksum packages) packages place p at h)),
+    )

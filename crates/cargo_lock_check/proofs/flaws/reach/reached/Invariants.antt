@@ -1,0 +1,11 @@
+use Rattle.std.proofs.Common.{◌+◌, length}
+use Rattle.cargo_lock_graph.specs.DrawingMade.{unmarked_count}
+use Rattle.cargo_lock_check.specs.Search.{IsSearch}
+use Rattle.cargo_lock_check.proofs.flaws.reach.reached.Given as goal
+
+abbrev pub invariant-loop-place : goal.invariant-loop-place
+invariant-loop-place l = IsSearch l.packages l.search
+
+-- what is not reached and what waits
+abbrev pub decreases-loop-place : goal.decreases-loop-place
+decreases-loop-place l = unmarked_count l.search.reached.items + length l.search.waiting.items

@@ -1,0 +1,37 @@
+-- What is wrong with single packages of a list.
+use Rattle.std.specs.Prelude.{◌≡◌, ◌<◌, ℕ, suc, true, List, Some, None, option_map, IsSome}
+use Rattle.std.specs.declared.cmp.Ordering.TheVariants.{Greater}
+use Rattle.cargo_lock_parts.specs.Identity.{PackageData, identity_of}
+use Rattle.cargo_lock_parts.specs.Source.{Source, is_remote_registry}
+use Rattle.cargo_lock_parts.specs.SourceKey.{key_of}
+use Rattle.cargo_lock_graph.specs.Targets.{HasIdentity, HoldsOf}
+use Rattle.cargo_lock_check.specs.Order.{package_order}
+
+-- the identity of the package at the place stands at an earlier place too
+abbrev pub IsTwice : List PackageData → ℕ → Type 0
+IsTwice packages place = HoldsOf
+    (λ p. (j : ℕ) × (j < place) × HoldsOf (HasIdentity (identity_of p)) packages j) packages place
+
+-- the package is from this source, by its key, and has a checksum
+pub record HasChecksumFrom (source : Source) (p : PackageData) : Type 0 where
+  pub from : option_map key_of p.source ≡ Some (key_of source)
+  pub checksum : IsSome p.checksum
+
+-- the package has no checksum and nothing stands in for it, and it is from a registry on the
+-- network from which some package has a checksum
+pub record LacksChecksum (packages : List PackageData) (p : PackageData) : Type 0 where
+  pub checksum : p.checksum ≡ None
+  pub replace : p.replace ≡ None
+  pub source : Source
+  pub from : p.source ≡ Some source
+  pub remote : is_remote_registry source.kind ≡ true
+  pub other : (j : ℕ) × HoldsOf (HasChecksumFrom source) packages j
+
+-- the package at the place does
+abbrev pub IsWithoutChecksum : List PackageData → ℕ → Type 0
+IsWithoutChecksum packages place = HoldsOf (LacksChecksum packages) packages place
+
+-- the package at the place comes after the one at the next place in Cargo's order
+abbrev pub IsMisplaced : List PackageData → ℕ → Type 0
+IsMisplaced packages place = HoldsOf
+    (λ p. HoldsOf (λ next. package_order p next ≡ Greater) packages (suc place)) packages place

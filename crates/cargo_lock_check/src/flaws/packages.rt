@@ -1,0 +1,143 @@
+//! Places of packages that are wrong by themselves.
+
+ghost use Rattle.std.specs.Prelude.{◌≡◌, ◌↔◌, ◌<◌, if◌then◌else◌, true, IfOk, IsTrue, OnOk, length};
+ghost use Rattle.cargo_lock_parts.specs.Identity.{identity_of};
+ghost use Rattle.cargo_lock_graph.specs.Candidates.{identity_as_key};
+ghost use Rattle.cargo_lock_check.specs.Packages.{IsMisplaced, IsTwice, IsWithoutChecksum};
+ghost use Rattle.cargo_lock_check.specs.Places.{IsPlaces};
+ghost use Rattle.cargo_lock_check.specs.Seen.{AreChecked, LacksChecksumAmong, has_source};
+ghost use Rattle.cargo_lock_parts.specs.Source.{Source};
+ghost use Rattle.cargo_lock_parts.specs.SourceKey.{is_same_source};
+
+use crate::flaws::order::package_order;
+use cargo_lock_parts::package::{Package, PartialIdentity, SourceId};
+use std::alloc::{AllocError, Global};
+use std::cmp::Ordering;
+use std::collections::{BTreeMap, BTreeSet};
+
+/// The places of packages whose name, version and source stand at an earlier place too, so of each
+/// such package all but the first. Fails when out of memory.
+///
+/// ```
+/// if !packages_twice(rt.alloc(), &lockfile.packages)?.is_empty() {
+///     println!(rt; "both sides of a merge were kept")?;
+/// }
+/// ```
+pub fn packages_twice(alloc: Global, packages: &[Package]) -> Result<Vec<usize>, AllocError>
+    ensures { IfOk result
+        (λ places. IsPlaces (IsTwice packages.now) (length packages.now) places.items) }
+{
+    let mut last = BTreeMap::new(alloc);
+    let mut places = Vec::new(alloc);
+    for (place, package) in packages.iter().enumerate() {
+        let before = last.insert(identity(package), place)?;
+        if before.is_some() {
+            places.push(place)?;
+        }
+    }
+    Ok(places)
+}
+
+// The identity of a package, as a key.
+fn identity<'a>(package: &'a Package) -> PartialIdentity<'a>
+    ensures { result ≡ identity_as_key (identity_of «package».now) }
+{
+    PartialIdentity {
+        name: &package.name,
+        version: Some(&package.version),
+        source: package.source.as_ref(),
+    }
+}
+
+/// The places of packages from a registry on the network that have no checksum and no replacement,
+/// though some package from there has a checksum. Fails when out of memory.
+///
+/// ```
+/// let places = packages_without_checksum(rt.alloc(), &lockfile.packages)?;
+/// ```
+pub fn packages_without_checksum(
+    alloc: Global,
+    packages: &[Package],
+) -> Result<Vec<usize>, AllocError>
+    ensures { IfOk result
+        (λ places. IsPlaces (IsWithoutChecksum packages.now) (length packages.now) places.items) }
+{
+    let sources = checked_sources(alloc, packages)?;
+    let mut places = Vec::new(alloc);
+    for (place, package) in packages.iter().enumerate() {
+        if lacks_checksum(&sources, package) {
+            places.push(place)?;
+        }
+    }
+    Ok(places)
+}
+
+// The sources of packages that have a checksum.
+fn checked_sources<'a>(
+    alloc: Global,
+    packages: &'a [Package],
+) -> Result<BTreeSet<&'a SourceId>, AllocError>
+    ensures { IfOk result (λ sources. AreChecked packages.now (length packages.now) sources) }
+{
+    let mut sources = BTreeSet::new(alloc);
+    for package in packages {
+        if package.checksum.is_some() {
+            if let Some(source) = &package.source {
+                add(&mut sources, source)?;
+            }
+        }
+    }
+    Ok(sources)
+}
+
+// Adds a source.
+fn add<'a>(sources: &mut BTreeSet<&'a SourceId>, source: &'a SourceId) -> Result<(), AllocError>
+    ensures { OnOk result ((s : Source) → has_source sources.new s
+        ≡ (if is_same_source source.now s then true else has_source sources.old s)) }
+{
+    sources.insert(source)?;
+    Ok(())
+}
+
+// Whether a package has none, though its source is among these.
+fn lacks_checksum<'a>(sources: &BTreeSet<&'a SourceId>, package: &'a Package) -> bool
+    ensures { IsTrue result ↔ LacksChecksumAmong sources.now «package».now }
+{
+    if package.checksum.is_some() || package.replace.is_some() {
+        return false;
+    }
+    match &package.source {
+        Some(source) => source.is_remote_registry() && sources.contains(&source),
+        None => false,
+    }
+}
+
+/// The places of packages that come after the next one in Cargo's order (see `package_order`), so
+/// none exactly where the list ascends. Fails when out of memory.
+///
+/// ```
+/// let is_in_order = misplaced_packages(rt.alloc(), &lockfile.packages)?.is_empty();
+/// ```
+pub fn misplaced_packages(alloc: Global, packages: &[Package]) -> Result<Vec<usize>, AllocError>
+    ensures { IfOk result
+        (λ places. IsPlaces (IsMisplaced packages.now) (length packages.now) places.items) }
+{
+    let mut places = Vec::new(alloc);
+    for place in 0..packages.len() {
+        if is_misplaced(packages, place) {
+            places.push(place)?;
+        }
+    }
+    Ok(places)
+}
+
+// Whether the package at a place comes after the next one.
+fn is_misplaced(packages: &[Package], place: usize) -> bool
+    requires { place < length packages.now }
+    ensures { IsTrue result ↔ IsMisplaced packages.now place }
+{
+    match packages.get(place + 1) {
+        Some(next) => package_order(&packages[place], next) == Ordering::Greater,
+        None => false,
+    }
+}

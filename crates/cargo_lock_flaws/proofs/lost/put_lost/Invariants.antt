@@ -1,5 +1,0 @@
-use Rattle.cargo_lock_flaws.specs.Lost.{AreLostBefore}
-use Rattle.cargo_lock_flaws.proofs.lost.put_lost.Given as goal
-
-abbrev pub invariant-loop-at : goal.invariant-loop-at
-invariant-loop-at l = AreLostBefore l.versions l.place l.at l.lost.items

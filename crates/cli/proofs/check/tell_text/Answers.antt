@@ -1,5 +1,0 @@
-use Rattle.cli_support.proofs.Writes.{if_ok_weaken}
-use Rattle.cli.proofs.check.tell_text.Goals as goal
-
-pub returns : goal.returns
-returns g c = if_ok_weaken c.tell.result _ _ (λ status told. (c.in_ok-lockfile.lockfile, c.in_ok-lockfile.ensures.read, told)) c.tell.ensures

@@ -1,0 +1,145 @@
+//! Messages and texts for people, in which no character that a stranger wrote can hide or move
+//! another.
+
+use crate::fault::Fault;
+use crate::output::{put, put_all};
+use shown::Shown;
+use std::fmt;
+use std::io;
+use std::io::{ErrorKind, Write};
+
+/// What begins each line of a message but the first.
+const NEXT_LINE: &str = "\n  | ";
+
+/// Prints `*** ` and the fault as it is displayed: U+0020 to U+007E as they are, and each other
+/// character by its number, as `shown` has it. A newline inside the message begins a line with
+/// `  | `, and the newlines at its end are one. The parser of the arguments lays out its own lines,
+/// which have no `  | `. Fails as the writer does.
+pub fn put_message<W: Write>(out: &mut W, fault: &Fault) -> io::Result<()> {
+    let separator = match fault {
+        Fault::Words(_) => "\n",
+        _ => NEXT_LINE,
+    };
+    let mut message = Message {
+        out,
+        separator,
+        newlines: 0,
+    };
+    let result = fmt::Write::write(&mut message, format_args!("*** {fault}"));
+    let Message { out, .. } = message;
+    match result {
+        Ok(()) => put_all(out, b"\n"),
+        Err(_) => Err(io::Error::from(ErrorKind::Other)),
+    }
+}
+
+/// A writer as the target of a message.
+#[derive(Drop)]
+struct Message<'a, W> {
+    out: &'a mut W,
+    separator: &'static str,
+
+    /// How many newlines came after which there was nothing yet.
+    newlines: u32,
+}
+
+impl<W: Write> fmt::Write for Message<'_, W> {
+    fn write_str(&mut self, text: &str) -> fmt::Result {
+        for piece in text.split_inclusive(is_no_plain) {
+            match self.put_piece(piece) {
+                Ok(()) => {}
+                Err(_) => return Err(fmt::Error),
+            }
+        }
+        Ok(())
+    }
+}
+
+impl<W: Write> Message<'_, W> {
+    /// Prints plain characters, of which the last one may be another.
+    fn put_piece(&mut self, piece: &str) -> io::Result<()> {
+        if let Some(plain) = piece.strip_suffix('\n') {
+            self.put_text(plain)?;
+            self.newlines = self.newlines.saturating_add(1);
+            return Ok(());
+        }
+        self.put_text(piece)
+    }
+
+    /// Prints a text without newlines, after the newlines that came before it.
+    fn put_text(&mut self, text: &str) -> io::Result<()> {
+        if text.is_empty() {
+            return Ok(());
+        }
+        for _ in 0..self.newlines {
+            put_all(self.out, self.separator.as_bytes())?;
+        }
+        self.newlines = 0;
+        put_ended(self.out, text, text.strip_suffix(is_no_plain))
+    }
+}
+
+/// Whether a character is none of U+0020 to U+007E.
+fn is_no_plain(c: char) -> bool {
+    !(' '..='~').contains(&c)
+}
+
+/// A writer of text onto a terminal. The characters that a terminal obeys or does not show are
+/// printed by their numbers: control characters but the newline, those that change the direction of
+/// the text, separators of lines and paragraphs, and those without a width.
+#[derive(Drop)]
+pub struct Terminal<W> {
+    out: W,
+}
+
+impl<W: Write> Terminal<W> {
+    /// The writer in front of this one.
+    pub fn new(out: W) -> Terminal<W> {
+        Terminal { out }
+    }
+}
+
+impl<W: Write> Write for Terminal<W> {
+    /// Prints the bytes, which are whole characters of a text.
+    fn write(&mut self, bytes: &[u8]) -> io::Result<usize> {
+        match str::from_utf8(bytes) {
+            Ok(text) => put_visible(&mut self.out, text)?,
+            Err(_) => return Err(io::Error::from(ErrorKind::InvalidData)),
+        }
+        Ok(bytes.len())
+    }
+
+    fn flush(&mut self) -> io::Result<()> {
+        self.out.flush()
+    }
+}
+
+/// Prints a text for a terminal.
+fn put_visible<W: Write>(out: &mut W, text: &str) -> io::Result<()> {
+    for piece in text.split_inclusive(is_hidden) {
+        put_ended(out, piece, piece.strip_suffix(is_hidden))?;
+    }
+    Ok(())
+}
+
+/// Whether a terminal obeys the character or does not show it.
+fn is_hidden(c: char) -> bool {
+    match c {
+        '\n' => false,
+        '\0'..='\u{1f}' | '\u{7f}'..='\u{9f}' | '\u{61c}' => true,
+        '\u{200b}'..='\u{200f}' | '\u{2028}'..='\u{202e}' => true,
+        '\u{2060}'..='\u{2069}' | '\u{feff}' => true,
+        _ => false,
+    }
+}
+
+/// Prints a text. `plain` is all of it but its last character where that is not printed as it is.
+fn put_ended<W: Write>(out: &mut W, text: &str, plain: Option<&str>) -> io::Result<()> {
+    match (plain, text.chars().next_back()) {
+        (Some(plain), Some(last)) => {
+            put_all(out, plain.as_bytes())?;
+            put(out, Shown(last))
+        }
+        _ => put_all(out, text.as_bytes()),
+    }
+}

@@ -1,0 +1,49 @@
+"""The libraries below a crate, as `rt check` or `rt ci` left them, and the work that was kept."""
+import os
+import shutil
+
+from kit import ROOT, rt
+
+
+def fault_of(crates):
+    """Returns what is wrong with the libraries below these crates, or nothing."""
+    below = {it.name: it for crate in crates for it in crate.below()}
+    missing = sorted(name for name, it in below.items() if not os.path.isdir(it.rlib))
+    if missing:
+        return f"no library of {', '.join(missing)}: run rt ci first"
+    for name, it in sorted(below.items()):
+        if is_old(it):
+            return f"the library of {name} is older than its sources: run rt check in crates/{name}"
+    return ""
+
+
+def is_old(crate):
+    """Returns whether the library of a crate was made of other sources than those at hand. That of
+    `rt check` has a stamp. That of `rt ci` has none, and then a source that was written later
+    makes it old."""
+    stamp = rt.rtlib.text_of(f"{os.path.dirname(crate.rlib)}/stamp")
+    if stamp is not None:
+        return stamp != crate.stamp()
+    made = os.stat(f"{crate.rlib}/format").st_mtime
+    return any(os.stat(it).st_mtime > made for it in rt.rtlib.files_of(crate.folder))
+
+
+def kept_of(crate, top):
+    """Returns the folder of the work that `rt check` kept of a crate in the checkout at top."""
+    folder = f"{top}/{os.path.relpath(crate.folder, ROOT)}"
+    return f"{folder}/{rt.rtlib.KEPT[1]}"
+
+
+def begin(crate, top, to):
+    """Copies the work that `rt check` kept into an empty folder. Where that fails, it stays empty.
+    Returns whether there is any."""
+    kept = kept_of(crate, top)
+    if not os.path.isdir(kept):
+        return False
+    try:
+        shutil.copytree(kept, to, dirs_exist_ok=True)
+    except (OSError, shutil.Error):
+        shutil.rmtree(to, ignore_errors=True)
+        os.makedirs(to)
+        return False
+    return True
