@@ -6,9 +6,8 @@ ghost use Rattle.cli.specs.Load.{IsOfLockfile};
 
 use cargo_lock::{Error, Lockfile};
 use clap::ArgMatches;
-use cli_support::Fault;
 use cli_support::fault::path_shown;
-use cli_support::words;
+use cli_support::{Fault, words};
 use std::alloc::Global;
 use std::rt::Files;
 

@@ -4,9 +4,8 @@
 use crate::fault::Fault;
 use crate::output::{put, put_all};
 use shown::Shown;
-use std::fmt;
-use std::io;
 use std::io::{ErrorKind, Write};
+use std::{fmt, io};
 
 /// What begins each line of a message but the first.
 const NEXT_LINE: &str = "\n  | ";

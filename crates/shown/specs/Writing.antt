@@ -12,4 +12,4 @@ pub record ShowsText {W : Type 0} (took : W → List ℕ → W → Type 0) (befo
   pub lender : after.inner.ghost_name ≡ before.inner.ghost_name
   pub utf8 : IsUtf8 text
   pub wrote : IsPlainFormatter before.inner.now
-    → HasWritten took before.inner.now (shown before.form text) after.inner.now
+      → HasWritten took before.inner.now (shown before.form text) after.inner.now
