@@ -4,7 +4,7 @@ _cargo_lock() {
     local current=${COMP_WORDS[COMP_CWORD]} previous=${COMP_WORDS[COMP_CWORD - 1]}
     COMPREPLY=()
     if [ "$COMP_CWORD" = 1 ]; then
-        _cargo_lock_offer 'list translate tree bom diff check help -h --help'
+        _cargo_lock_offer 'list translate tree bom diff check help -h --help -V --version'
         return
     fi
     if [ "$previous" = = ]; then
@@ -42,7 +42,9 @@ _cargo_lock() {
     bom)
         case $previous in
         -f | --file | -o | --output) _cargo_lock_files ;;
-        *) _cargo_lock_offer '-f --file --any-size -o --output --compact -h --help' ;;
+        --root) _cargo_lock_packages ;;
+        --author) ;;
+        *) _cargo_lock_offer '-f --file --any-size -o --output --root --author --serial --compact -h --help' ;;
         esac
         ;;
     diff)

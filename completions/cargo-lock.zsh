@@ -9,12 +9,13 @@ _cargo-lock() {
         'translate:Writes a lockfile in another format'
         'tree:Draws the trees of packages'
         'bom:Writes a bill of materials, as CycloneDX 1.6 has it in JSON'
-        'diff:Tells what differs between the packages of two lockfiles'
+        'diff:Shows what differs between the packages of two lockfiles'
         'check:Tells what is wrong with a lockfile'
         'help:Print this message or the help of the given subcommand(s)'
     )
     _arguments -C \
         '(- *)'{-h,--help}'[Print help]' \
+        '(- *)'{-V,--version}'[Print version]' \
         '1:COMMAND:->command' \
         '*::WORD:->words' && return
     if [[ $state == command ]]; then
@@ -55,13 +56,16 @@ _cargo-lock() {
             '(-f --file)'{-f,--file}'[The lockfile, - for standard input]:PATH:_files' \
             '--any-size[Reads a lockfile of 256 MiB or more too]' \
             '(-o --output)'{-o,--output}'[The file that is written, - for standard output]:PATH:_files' \
+            '--root[The package that the bill is about, as for tree]:SPEC:_cargo-lock-packages' \
+            '--author[Who writes the bill]:NAME:' \
+            '--serial[Adds a serial number, equal for equal bills]' \
             '--compact[Writes one line, without spaces]' \
             '(- *)'{-h,--help}'[Print help]'
         ;;
     diff)
         _arguments -s \
             '--any-size[Reads a lockfile of 256 MiB or more too]' \
-            '(-d --dependencies)'{-d,--dependencies}'[Tells other dependencies of packages too]' \
+            '(-d --dependencies)'{-d,--dependencies}'[Shows other dependencies of packages too]' \
             '--exit-code[Ends with status 1 where anything differs, dependencies only with -d]' \
             '(- *)'{-h,--help}'[Print help]' \
             '1:OLD:_files' \

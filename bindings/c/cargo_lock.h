@@ -1,12 +1,13 @@
 /* cargo_lock for callers in C: reads a Cargo.lock of any format, V1 to V4.
  *
  * Each call takes the bytes of a lockfile, or of two, and keeps nothing: any number of threads may
- * call at once, and there is nothing to free. A thread needs a stack of 2 MiB: the deepest text that is
- * read takes 1,556 KiB.
+ * call at once, and there is nothing to free. A thread needs a stack of CARGO_LOCK_STACK bytes.
+ * Some threads have less unless it is asked for: those of Java 1 MiB, those of musl 128 KiB.
  *
  * `text` points to `text_len` bytes, which are only read; so do `old` and `new_`, which may be the
- * same bytes. `out` points to room for `out_len` items, and `length` and `format` to one number each. These are the caller's, are not null, also
- * where they hold nothing, and do not overlap while a call runs.
+ * same bytes. `out` points to room for `out_len` items, and `length` and `format` to one number
+ * each. These are the caller's, are not null, also where they hold nothing, and do not overlap while
+ * a call runs.
  *
  * Each call answers a status. At CARGO_LOCK_DONE the answer stands at the front of `out`, and
  * `*length` is how many items it has. At CARGO_LOCK_NO_ROOM the answer is longer than `out_len`,
@@ -16,7 +17,7 @@
  *
  * A lockfile comes from a stranger, and the words of cargo_lock_fault have its names, with newlines
  * and control characters: do not print them on a terminal as they are. The lines of cargo_lock_diff
- * have printable characters of ASCII alone, and show any other as `\u{..}` with its number.
+ * and cargo_lock_check have printable characters of ASCII alone, and show any other as `\u{..}` with its number.
  */
 #ifndef CARGO_LOCK_H
 #define CARGO_LOCK_H
@@ -24,6 +25,9 @@
 #include <stdbool.h>
 #include <stddef.h>
 #include <stdint.h>
+
+/* The bytes of stack that a call needs for the text that nests deepest, 20 kB long. */
+#define CARGO_LOCK_STACK 2097152
 
 #ifdef __cplusplus
 extern "C" {
@@ -108,12 +112,18 @@ uint32_t cargo_lock_tree(const uint8_t *text, size_t text_len, size_t package, b
                          bool exact, uint8_t *out, size_t out_len, size_t *length);
 
 /* What differs between the packages of two lockfiles, a line for each change with a newline at the
- * end, as `cargo-lock diff` prints it; with `dependencies` also other dependencies of packages, as
- * under `-d`. Where nothing differs the length is 0. The old text is read first, and NO_LOCKFILE and
- * NO_TEXT are said of it. DONE, NO_LOCKFILE, NO_TEXT, NO_MEMORY, NO_ROOM, NO_NEW_LOCKFILE or
- * NO_NEW_TEXT. */
+ * end, as `cargo-lock diff` prints it, without the last line that counts them; with `dependencies`
+ * also other dependencies of packages, as under `-d`. Where nothing differs the length is 0. The old
+ * text is read first, and NO_LOCKFILE and NO_TEXT are said of it. DONE, NO_LOCKFILE, NO_TEXT,
+ * NO_MEMORY, NO_ROOM, NO_NEW_LOCKFILE or NO_NEW_TEXT. */
 uint32_t cargo_lock_diff(const uint8_t *old, size_t old_len, const uint8_t *new_, size_t new_len,
                          bool dependencies, uint8_t *out, size_t out_len, size_t *length);
+
+/* What is wrong with the lockfile of a text, a line for each finding with a newline at the end, as
+ * `cargo-lock check` prints it. Where nothing is wrong the length is 0. DONE, NO_LOCKFILE, NO_TEXT,
+ * NO_MEMORY or NO_ROOM. */
+uint32_t cargo_lock_check(const uint8_t *text, size_t text_len, uint8_t *out, size_t out_len,
+                          size_t *length);
 
 #ifdef __cplusplus
 }

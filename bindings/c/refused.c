@@ -106,12 +106,17 @@ static uint32_t diff(void)
                            (uint8_t *)room, ROOM, &length);
 }
 
+static uint32_t check(void)
+{
+    return cargo_lock_check(text, text_len, (uint8_t *)room, ROOM, &length);
+}
+
 static const struct {
     const char *name;
     uint32_t (*call)(void);
 } calls[] = {{"format", format},       {"fault", fault}, {"survives", survives},
              {"translate", translate}, {"edges", edges}, {"packages", packages},
-             {"tree", tree},           {"diff", diff}};
+             {"tree", tree},           {"diff", diff}, {"check", check}};
 
 /* ---- what is asked of each */
 

@@ -111,6 +111,11 @@ static uint32_t tree_of_third(text given, uint8_t *out, size_t out_len, size_t *
     return cargo_lock_tree(given.bytes, given.length, 2, false, false, out, out_len, length);
 }
 
+static uint32_t findings(text given, uint8_t *out, size_t out_len, size_t *length)
+{
+    return cargo_lock_check(given.bytes, given.length, out, out_len, length);
+}
+
 /* The lockfile that others are compared with. */
 static text other;
 
@@ -221,6 +226,8 @@ static void ask_answers(text third)
 {
     text fourth = lockfile("version = 4\n");
     char *written = strndup((char *)fourth.bytes, fourth.length);
+    text misnamed = text_of(head, "version = 3\n\n[[package]]\n"
+                                  "name = \"1\\na\"\nversion = \"0.1.0\"\n");
     cargo_lock_edge wanted = {0, 1};
     ANSWERS(third, as_fourth, written);
     ANSWERS(third, fault, "");
@@ -230,16 +237,19 @@ static void ask_answers(text third)
             "left 1.0.0 checksum:" CHECKSUM "\n└── app 0.1.0 inexact\n");
     answers(third, edges, &wanted, sizeof wanted, __LINE__);
     ANSWERS(third, changes, "- left 1.0.0\n");
-    ANSWERS(third, all_changes, "- left 1.0.0\n= app 0.1.0: dependencies - left 1.0.0\n");
-    ANSWERS(third, changes_back, "+ left 1.0.0\n= app 0.1.0: dependencies + left 1.0.0\n");
+    ANSWERS(third, all_changes, "- left 1.0.0\n= app 0.1.0 (path): - left 1.0.0\n");
+    ANSWERS(third, changes_back, "+ left 1.0.0\n= app 0.1.0 (path): + left 1.0.0\n");
     ANSWERS(third, changes_of_itself, "");
+    ANSWERS(third, findings, "");
+    ANSWERS(misnamed, findings, "name: 1\\u{a}a is no name that Cargo takes\n");
+    free(misnamed.bytes);
     free(written);
     free(fourth.bytes);
 }
 
 static void ask_refusals(text third, text none, text bytes)
 {
-    static const call calls[] = {as_fourth, packages, edges, tree, changes};
+    static const call calls[] = {as_fourth, packages, edges, tree, changes, findings};
     text without = text_of(unresolved, ""), tab = text_of(tabbed, "");
     for (size_t at = 0; at < sizeof calls / sizeof *calls; at++) {
         REFUSES(none, calls[at], CARGO_LOCK_NO_LOCKFILE);
@@ -276,57 +286,17 @@ static void *ask_many(void *given)
     return (void *)wrong;
 }
 
-/* The deepest text that is read: 80 lists of tables, and in them 80 tables, each under a key of 80
- * parts. */
-static text deepest(void)
-{
-    char *all = calloc(1, 40000), *at = all;
-    for (int lists = 1; lists <= 80; lists++) {
-        at += sprintf(at, "[[a");
-        for (int part = 1; part < lists; part++)
-            at += sprintf(at, ".a");
-        at += sprintf(at, "]]\n");
-    }
-    for (int tables = 0; tables < 80; tables++) {
-        for (int part = 0; part < 80; part++)
-            at += sprintf(at, part ? ".b" : "b");
-        at += sprintf(at, " = {");
-    }
-    at += sprintf(at, "b = 1");
-    for (int tables = 0; tables < 80; tables++)
-        *at++ = '}';
-    text made = text_of(all, "\n");
-    free(all);
-    return made;
-}
-
-static void *ask_format(void *given)
-{
-    text *it = given;
-    uint32_t format = 0, status = cargo_lock_format(it->bytes, it->length, &format);
-    return (void *)(size_t)(status == CARGO_LOCK_DONE && format == 2);
-}
-
 static void ask_in_threads(text third)
 {
     enum { THREADS = 4 };
     pthread_t threads[THREADS];
-    pthread_attr_t small;
     void *answer;
-    text deep = deepest();
     for (int at = 0; at < THREADS; at++)
         pthread_create(&threads[at], NULL, ask_many, &third);
     for (int at = 0; at < THREADS; at++) {
         pthread_join(threads[at], &answer);
         EXPECT(answer == NULL);
     }
-    pthread_attr_init(&small);
-    pthread_attr_setstacksize(&small, 2 << 20);
-    pthread_create(&threads[0], &small, ask_format, &deep);
-    pthread_join(threads[0], &answer);
-    EXPECT(answer != NULL);
-    pthread_attr_destroy(&small);
-    free(deep.bytes);
 }
 
 int main(void)

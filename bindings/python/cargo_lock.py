@@ -33,6 +33,7 @@ __all__ = [
     "Package",
     "PackageError",
     "UnresolvedError",
+    "check",
     "diff",
     "edges",
     "fault",
@@ -72,7 +73,8 @@ class PackageError(Error, IndexError):
 
 
 class LineError(Error):
-    """A name or a source has a byte below 32, as a tab or a newline."""
+    """A name or a source has a control character, as a tab or a newline, or a separator of lines or
+    paragraphs."""
 
 
 class Package(NamedTuple):
@@ -165,7 +167,8 @@ def tree(text: Text, package: int, inverted: bool = False, exact: bool = False) 
 
 def diff(old: Text, new: Text, dependencies: bool = False) -> str:
     """What differs between the packages of two lockfiles, a line for each change, as `cargo-lock
-    diff` prints it; with `dependencies` also other dependencies of packages, as under `-d`. Raises
+    diff` prints it, without the last line that counts them; with `dependencies` also other
+    dependencies of packages, as under `-d`. Raises
     `NotALockfile`, whose words begin `old: ` or `new: ` by the text that is refused."""
     before, after = _bytes(old), _bytes(new)
 
@@ -178,6 +181,12 @@ def diff(old: Text, new: Text, dependencies: bool = False) -> str:
         raise NotALockfile(f"new: {_why_not(after, refusal.status)}") from None
     except NotALockfile as refusal:
         raise NotALockfile(f"old: {refusal}") from None
+
+
+def check(text: Text) -> list[str]:
+    """What is wrong with the lockfile, a line for each finding, as `cargo-lock check` prints it.
+    Raises `NotALockfile`."""
+    return _answer(_bytes(text), _library().cargo_lock_check).decode().split("\n")[:-1]
 
 
 # ---- how they are made
@@ -221,6 +230,7 @@ _CALLS: dict[str, list[Any]] = {
     "edges": _ROOM,
     "tree": [ctypes.c_size_t, ctypes.c_bool, ctypes.c_bool, *_ROOM],
     "diff": [ctypes.c_char_p, ctypes.c_size_t, ctypes.c_bool, *_ROOM],
+    "check": _ROOM,
 }
 
 _loaded: Optional[ctypes.CDLL] = None

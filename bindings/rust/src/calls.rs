@@ -29,6 +29,7 @@ mod library {
     hands_out!(cargo_lock_fault, u8);
     hands_out!(cargo_lock_translate, u8, format: u32);
     hands_out!(cargo_lock_packages, u8);
+    hands_out!(cargo_lock_check, u8);
     hands_out!(cargo_lock_edges, Edge);
     hands_out!(cargo_lock_tree, u8, package: usize, inverted: bool, exact: bool);
     hands_out!(cargo_lock_diff, u8, new: *const u8, new_len: usize, dependencies: bool);
@@ -68,6 +69,13 @@ pub(crate) fn translate(text: &[u8], number: u32) -> Result<String, Error> {
     words(text, |out, length| unsafe {
         let (at, room) = (out.as_mut_ptr(), out.len());
         library::cargo_lock_translate(text.as_ptr(), text.len(), number, at, room, length)
+    })
+}
+
+pub(crate) fn check(text: &[u8]) -> Result<String, Error> {
+    // SAFETY: as above.
+    words(text, |out, length| unsafe {
+        library::cargo_lock_check(text.as_ptr(), text.len(), out.as_mut_ptr(), out.len(), length)
     })
 }
 

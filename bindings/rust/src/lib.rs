@@ -77,7 +77,8 @@ pub enum Error {
     /// There is no package of that number.
     NoPackage,
 
-    /// A name or a source has a byte below 32, as a tab or a newline.
+    /// A name or a source has a control character, as a tab or a newline, or a separator of lines
+    /// or paragraphs.
     NoLine,
 
     /// The library answered a status that this crate does not know.
@@ -195,12 +196,18 @@ pub fn tree(
 }
 
 /// What differs between the packages of two lockfiles, a line for each change, as `cargo-lock diff`
-/// prints it; with `dependencies` also other dependencies of packages, as under `-d`. The text is
-/// empty where nothing differs.
+/// prints it, without the last line that counts them; with `dependencies` also other dependencies of
+/// packages, as under `-d`. The text is empty where nothing differs.
 pub fn diff(
     old: impl AsRef<[u8]>,
     new: impl AsRef<[u8]>,
     dependencies: bool,
 ) -> Result<String, DiffError> {
     calls::diff(old.as_ref(), new.as_ref(), dependencies)
+}
+
+/// What is wrong with the lockfile, a line for each finding, as `cargo-lock check` prints it.
+pub fn check(text: impl AsRef<[u8]>) -> Result<Vec<String>, Error> {
+    let lines = calls::check(text.as_ref())?;
+    Ok(lines.lines().map(str::to_owned).collect())
 }

@@ -15,3 +15,6 @@ pub mod TextsAreExact
 pub mod TextsRead
 pub mod TranslationLemmas
 pub mod WrittenAgain
+pub mod LastMarks
+pub mod EachOnce
+pub mod EachInPlace

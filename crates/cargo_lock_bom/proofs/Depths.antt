@@ -1,18 +1,31 @@
 -- How deep a bill nests: a document, a list of components, a component, its hashes, a hash.
-use Rattle.std.proofs.Common.{◌≡◌, ℕ, ◌≤◌, suc, List, [], ◌∷◌, map, length, codes, Option, Some, None, option_map, refl, arith}
+use Rattle.std.proofs.Common.{◌≡◌, ℕ, ◌≤◌, suc, max, Bool, true, false, IfSome, List, [], ◌∷◌, ◌++◌, map, length, slice_get, codes, Option, Some, None, option_map, arith, lit≤}
 use Rattle.std.specs.List.{AllZip, range_with_len}
 use Rattle.std.proofs.Math.Nat.{max-le}
-use Rattle.semver.specs.Identifiers.{parts_text}
-use Rattle.serde_json.specs.Data.{Data, Num, unsigned, number, object, string, member, no_members, depth, items_depth, members_depth}
+use Rattle.std.specs.Cmp.Lexicographic.{slice_cmp}
+use Rattle.std.specs.declared.cmp.Ordering.{Ordering}
+use Rattle.std.specs.declared.cmp.Ordering.TheVariants.{Less, Equal, Greater}
+use Rattle.std.specs.Ordering.{match_ordering, nat_cmp}
+use Rattle.url.specs.Parts.{serialize}
+use Rattle.serde_json.specs.Data.{Data, Members, Num, unsigned, null, boolean, number, array, object, string, member, no_members, put, depth, items_depth, members_depth}
 use Rattle.serde_json.specs.Read.{max_depth}
 use Rattle.serde_json.specs.View.{items_of}
+use Rattle.serde_json.specs.Written.{compact_text}
 use Rattle.cargo_lock_parts.specs.Identity.{PackageData, identity_of}
+use Rattle.cargo_lock_parts.specs.Source.{Kind, Source, Git, Path, Registry, SparseRegistry, LocalRegistry, Directory}
 use Rattle.cargo_lock_graph.specs.Edges.{GraphData}
-use Rattle.cargo_lock_bom.specs.Component.{component_of, hashes_of, put_some}
-use Rattle.cargo_lock_bom.specs.Dependencies.{IsEntry, entry_of, reference_at}
-use Rattle.cargo_lock_bom.specs.Document.{IsBill, document_of, metadata}
+use Rattle.cargo_lock_bom.specs.declared.root.Root.{Root}
+use Rattle.cargo_lock_bom.specs.declared.root.Root.TheVariants.{Package, Workspace, Nothing}
+use Rattle.cargo_lock_bom.specs.Component.{AreComponents, base_members, component_at, component_if, component_of, hashes_of, put_some, repositories_by, repositories_if, repositories_of, root_component}
+use Rattle.cargo_lock_bom.specs.Dependencies.{AreEntries, AreOwnEntries, IsEntry, entry_with, reference_at}
+use Rattle.cargo_lock_bom.specs.Document.{IsAbout, IsBill, document_of}
+use Rattle.cargo_lock_bom.specs.Metadata.{IsMetadata, authors_of, metadata_of, own_members}
+use Rattle.cargo_lock_bom.specs.Options.{OptionsData}
 use Rattle.cargo_lock_bom.specs.Purl.{purl_of}
-use Rattle.cargo_lock_bom.specs.References.{package_reference}
+use Rattle.cargo_lock_bom.specs.References.{workspace_reference}
+use Rattle.cargo_lock_bom.specs.Root.{is_application}
+use Rattle.cargo_lock_bom.specs.Serial.{numbered, serial_text, with_serial}
+use Rattle.cargo_lock_bom.specs.UserInfo.{without_user_info}
 
 items_depth-map : {X : Type 0} (f : X → Data) (n : ℕ) → ((x : X) → depth (f x) ≤ n) → (xs : List X) → items_depth (items_of (map f xs)) ≤ n
 items_depth-map f n low [] = omega arith
@@ -39,38 +52,152 @@ none_low n = omega arith
 low-from : (d : Data) (n m : ℕ) → depth d ≡ n → n ≤ m → depth d ≤ m
 low-from d n m at low = omega (arith, at, low)
 
--- a component by its parts
-abbrev component_from : List ℕ → List ℕ → List ℕ → Option (List ℕ) → Option (List ℕ) → Data
-component_from reference name version purl digest =
-    object (put_some (codes "hashes") (option_map hashes_of digest) (put_some (codes "purl") (option_map string purl)
-    (member (codes "bom-ref") (string reference) (member (codes "name") (string name)
-    (member (codes "type") (string (codes "library")) (member (codes "version") (string version) no_members))))))
+-- ---- members that are put among others
 
-parts_low : (reference name version : List ℕ) (purl digest : Option (List ℕ)) → depth (component_from reference name version purl digest) ≤ 3
-parts_low reference name version None None = low-from (component_from reference name version None None) 1 3 refl (omega arith)
-parts_low reference name version None (Some digest) = low-from (component_from reference name version None (Some digest)) 3 3 refl (omega arith)
-parts_low reference name version (Some purl) None = low-from (component_from reference name version (Some purl) None) 1 3 refl (omega arith)
-parts_low reference name version (Some purl) (Some digest) = low-from (component_from reference name version (Some purl) (Some digest)) 3 3 refl (omega arith)
+one_of_three : (o : Ordering) (a b c : Members) (n : ℕ) → members_depth a ≤ n → members_depth b ≤ n → members_depth c ≤ n → members_depth (match_ordering o a b c) ≤ n
+one_of_three Less a b c n x y z = x
+one_of_three Equal a b c n x y z = y
+one_of_three Greater a b c n x y z = z
 
-component_low : (p : PackageData) → depth (component_of p) ≤ 3
+first_low : (a b n : ℕ) → max a b ≤ n → a ≤ n
+first_low a b n h = omega (arith, h)
+
+later_low : (a b n : ℕ) → max a b ≤ n → b ≤ n
+later_low a b n h = omega (arith, h)
+
+put_low : (key : List ℕ) (d : Data) (ms : Members) (n : ℕ) → depth d ≤ n → members_depth ms ≤ n → members_depth (put key d ms) ≤ n
+put_low key d no_members n low rest = max-le low (none_low n)
+put_low key d (member k e ms) n low rest =
+    let here = first_low (depth e) (members_depth ms) n rest in
+    let later = later_low (depth e) (members_depth ms) n rest in
+    one_of_three (slice_cmp nat_cmp key k) (member key d (member k e ms)) (member k d ms) (member k e (put key d ms)) n
+    (max-le low rest) (max-le low later) (max-le here (put_low key d ms n low later))
+
+-- the values that there are nest no deeper
+abbrev IfLow : Option Data → ℕ → Type 0
+IfLow o n = IfSome o (λ d. depth d ≤ n)
+
+put_some_low : (key : List ℕ) (o : Option Data) (ms : Members) (n : ℕ) → IfLow o n → members_depth ms ≤ n → members_depth (put_some key o ms) ≤ n
+put_some_low key None ms n low rest = rest
+put_some_low key (Some d) ms n low rest = put_low key d ms n low rest
+
+map_low : {X : Type 0} (f : X → Data) (o : Option X) (n : ℕ) → ((x : X) → depth (f x) ≤ n) → IfLow (option_map f o) n
+map_low f None n low = tt
+map_low f (Some x) n low = low x
+
+-- ---- components
+
+repository_low : (url : List ℕ) (precise : Option (List ℕ)) → depth (repositories_of url precise) ≤ 2
+repository_low url None = lit≤ tt
+repository_low url (Some text) = lit≤ tt
+
+kind_low : (kind : Kind) (url : List ℕ) (precise : Option (List ℕ)) → IfLow (repositories_by kind url precise) 2
+kind_low (Git reference) url precise = repository_low url precise
+kind_low Path url precise = tt
+kind_low Registry url precise = tt
+kind_low SparseRegistry url precise = tt
+kind_low LocalRegistry url precise = tt
+kind_low Directory url precise = tt
+
+repositories_low : (source : Option Source) → IfLow (repositories_if source) 2
+repositories_low None = tt
+repositories_low (Some s) = kind_low s.kind (serialize (without_user_info s.url)) s.precise
+
+base_low : (application : Bool) (p : PackageData) → members_depth (base_members application p) ≤ 2
+base_low application p = lit≤ tt
+
+component_low : (application : Bool) (p : PackageData) → depth (component_of application p) ≤ 3
 unfolding component_of
-component_low p = parts_low (package_reference p) p.name (parts_text p.version) (purl_of (identity_of p)) p.checksum
+component_low application p =
+    suc_low _ 2
+    (put_some_low (codes "externalReferences") (repositories_if p.source) _ 2 (repositories_low p.source)
+    (put_some_low (codes "hashes") (option_map hashes_of p.checksum) _ 2 (map_low hashes_of p.checksum 2 (λ d. lit≤ tt))
+    (put_some_low (codes "purl") (option_map string (purl_of (identity_of p))) _ 2 (map_low string (purl_of (identity_of p)) 2 (λ t. lit≤ tt))
+    (base_low application p))))
+
+if_low : (application : Bool) (o : Option PackageData) → depth (component_if application o) ≤ 3
+if_low application None = omega arith
+if_low application (Some p) = component_low application p
+
+component_at_low : (graph : GraphData) (node : ℕ) → depth (component_at graph node) ≤ 3
+component_at_low graph node = if_low (is_application graph node) (slice_get graph.packages node)
+
+components_low : (graph : GraphData) (root : Root) (components : List Data) → AreComponents graph root components → items_depth (items_of components) ≤ 3
+components_low graph root components are =
+    rw are.are (items_depth-map (component_at graph) 3 (component_at_low graph) are.nodes)
+
+with_low : (packages : List PackageData) (own : List ℕ) (targets : List ℕ) → depth (entry_with packages own targets) ≤ 2
+unfolding entry_with
+with_low packages own targets =
+    let low : items_depth (items_of (map (λ k. string (reference_at packages k)) targets)) ≤ 0 =
+    items_depth-map (λ k. string (reference_at packages k)) 0 (λ k. string_low (reference_at packages k) 0) targets in
+    suc_low _ 1 (max-le (suc_low _ 0 low) (max-le (string_low own 1) (none_low 1)))
 
 entry_low : (graph : GraphData) (node : ℕ) (d : Data) → IsEntry graph node d → depth d ≤ 2
-unfolding entry_of
-entry_low graph node d entry =
-    let low : items_depth (items_of (map (λ k. string (reference_at graph.packages k)) entry.targets)) ≤ 0 =
-    items_depth-map (λ k. string (reference_at graph.packages k)) 0 (λ k. string_low (reference_at graph.packages k) 0) entry.targets in
-    rw entry.is (suc_low _ 1 (max-le (suc_low _ 0 low) (max-le (string_low (reference_at graph.packages node) 1) (none_low 1))))
+entry_low graph node d entry = rw entry.is (with_low graph.packages (reference_at graph.packages node) entry.targets)
+
+own_low : (packages : List PackageData) (root : Root) (own : List Data) → AreOwnEntries packages root own → items_depth (items_of own) ≤ 2
+own_low packages (Package node) own are = rw are (omega arith)
+own_low packages Workspace own are =
+    let low : depth are.0 ≤ 2 = rw are.1.is (with_low packages workspace_reference are.1.members) in
+    rw are.2 (max-le low (omega arith))
+own_low packages Nothing own are = rw are (omega arith)
+
+items_depth-append : (n : ℕ) (xs ys : List Data) → items_depth (items_of xs) ≤ n → items_depth (items_of ys) ≤ n → items_depth (items_of (xs ++ ys)) ≤ n
+items_depth-append n [] ys a b = b
+items_depth-append n (x ∷ xs) ys a b = max-le (first_low (depth x) (items_depth (items_of xs)) n a) (items_depth-append n xs ys (later_low (depth x) (items_depth (items_of xs)) n a) b)
+
+entries_low : (graph : GraphData) (root : Root) (entries : List Data) → AreEntries graph root entries → items_depth (items_of entries) ≤ 2
+entries_low graph root entries are =
+    rw are.are (items_depth-append 2 are.of_nodes are.own
+    (items_depth-zip (IsEntry graph) 2 (entry_low graph) (range_with_len 0 (length graph.packages)) are.of_nodes are.are_of_nodes)
+    (own_low graph.packages root are.own are.are_own))
+
+-- ---- the metadata
+
+root_low : (graph : GraphData) (root : Root) → IfLow (root_component graph root) 3
+root_low graph (Package node) = component_at_low graph node
+root_low graph Workspace = lit≤ tt
+root_low graph Nothing = tt
+
+metadata_low : (graph : GraphData) (root : Root) (options : OptionsData) (d : Data) → IsMetadata graph root options d → depth d ≤ 4
+unfolding metadata_of
+metadata_low graph root options d is =
+    rw is.is (suc_low _ 3
+    (put_some_low (codes "timestamp") (option_map string is.time) _ 3 (map_low string is.time 3 (λ t. lit≤ tt))
+    (put_some_low (codes "component") (root_component graph root) _ 3 (root_low graph root)
+    (put_some_low (codes "authors") (option_map authors_of options.author) _ 3 (map_low authors_of options.author 3 (λ t. lit≤ tt))
+    (let own : members_depth (own_members options.tool_version) ≤ 3 = lit≤ tt in own)))))
 
 -- a bill nests less deep than a reader of JSON follows
-pub bill_low : (graph : GraphData) (d : Data) → IsBill graph d → depth d ≤ max_depth
+about_low : (graph : GraphData) (root : Root) (options : OptionsData) (d : Data) → IsAbout graph root options d → depth d ≤ 126
 unfolding document_of
-bill_low graph d bill =
-    let components : items_depth (items_of (map component_of graph.packages)) ≤ 3 = items_depth-map component_of 3 component_low graph.packages in
-    let entries : items_depth (items_of bill.entries) ≤ 2 =
-    items_depth-zip (IsEntry graph) 2 (entry_low graph) (range_with_len 0 (length graph.packages)) bill.entries bill.are_entries in
-    let components_list : suc (items_depth (items_of (map component_of graph.packages))) ≤ 126 = omega (arith, components) in
-    let entries_list : suc (items_depth (items_of bill.entries)) ≤ 126 = omega (arith, entries) in
-    rw bill.is (suc_low _ 126 (max-le (string_low (codes "CycloneDX") 126) (max-le components_list (max-le entries_list
-    (max-le (low-from metadata 4 126 refl (omega arith)) (max-le (string_low (codes "1.6") 126) (max-le (number_low (unsigned 1) 126) (none_low 126))))))))
+about_low graph root options d about =
+    let components = components_low graph root about.components about.are_components in
+    let entries = entries_low graph root about.entries about.are_entries in
+    let metadata = metadata_low graph root options about.metadata about.is_metadata in
+    let components_list : suc (items_depth (items_of about.components)) ≤ 125 = omega (arith, components) in
+    let entries_list : suc (items_depth (items_of about.entries)) ≤ 125 = omega (arith, entries) in
+    let metadata_part : depth about.metadata ≤ 125 = omega (arith, metadata) in
+    rw about.is (suc_low _ 125 (max-le (string_low (codes "CycloneDX") 125) (max-le components_list (max-le entries_list
+    (max-le metadata_part (max-le (string_low (codes "1.6") 125) (max-le (number_low (unsigned 1) 125) (none_low 125))))))))
+
+serial_low : (serial : List ℕ) (d : Data) → depth d ≤ 126 → depth (with_serial serial d) ≤ 126
+serial_low serial null low = low
+serial_low serial (boolean b) low = low
+serial_low serial (number n) low = low
+serial_low serial (string s) low = low
+serial_low serial (array ds) low = low
+serial_low serial (object ms) low =
+    let rest : members_depth ms ≤ 125 = omega (arith, low) in
+    suc_low _ 125 (put_low (codes "serialNumber") (string serial) ms 125 (omega arith) rest)
+
+numbered_low : (has_serial : Bool) (d : Data) → depth d ≤ 126 → depth (numbered has_serial d) ≤ 126
+numbered_low false d low = low
+numbered_low true d low = serial_low (serial_text (compact_text d)) d low
+
+pub bill_low : (graph : GraphData) (options : OptionsData) (d : Data) → IsBill graph options d → depth d ≤ max_depth
+bill_low graph options d bill =
+    let low = numbered_low options.has_serial bill.plain (about_low graph bill.root options bill.plain bill.about) in
+    let more : depth (numbered options.has_serial bill.plain) ≤ max_depth = omega (arith, low) in
+    rw bill.is more

@@ -3,3 +3,9 @@ pub mod Entries
 pub mod Escapes
 pub mod Seen
 pub mod Depths
+pub mod Floats
+pub mod Ats
+pub mod Chosen
+pub mod Ways
+pub mod Searching
+pub mod Tops

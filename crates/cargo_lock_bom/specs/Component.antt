@@ -1,18 +1,33 @@
--- The components of a bill of materials: one for each package.
-use Rattle.std.specs.Prelude.{ℕ, List, codes, Option, Some, None, option_map}
+-- The components of a bill of materials: one for each package, and one for the workspace where that
+-- is the root.
+use Rattle.std.specs.Prelude.{◌≡◌, ℕ, Bool, true, false, List, codes, map, length, slice_get}
+use Rattle.std.specs.Prelude.{Option, Some, None, option_map}
 use Rattle.semver.specs.Identifiers.{parts_text}
-use Rattle.serde_json.specs.Data.{Data, Members, string, array, object, item, no_items, member}
-use Rattle.serde_json.specs.Data.{no_members, put}
+use Rattle.url.specs.Parts.{serialize}
+use Rattle.serde_json.specs.Data.{Data, Members, null, string, array, object, item, no_items}
+use Rattle.serde_json.specs.Data.{member, no_members, put}
 use Rattle.cargo_lock_parts.specs.Checksum.{digest_text}
 use Rattle.cargo_lock_parts.specs.Identity.{PackageData, identity_of}
+use Rattle.cargo_lock_parts.specs.Source.{Kind, Source, Git}
+use Rattle.cargo_lock_graph.specs.Edges.{GraphData}
+use Rattle.cargo_lock_bom.specs.declared.root.Root.{Root}
+use Rattle.cargo_lock_bom.specs.declared.root.Root.TheVariants.{Package, Workspace, Nothing}
+use Rattle.cargo_lock_bom.specs.Places.{IsPlaces}
 use Rattle.cargo_lock_bom.specs.Purl.{purl_of}
-use Rattle.cargo_lock_bom.specs.References.{package_reference}
+use Rattle.cargo_lock_bom.specs.References.{package_reference, workspace_reference}
+use Rattle.cargo_lock_bom.specs.Root.{is_application}
+use Rattle.cargo_lock_bom.specs.UserInfo.{without_user_info}
+
+-- what a component is: an application, or else a library
+abbrev pub type_text : Bool → List ℕ
+type_text true = codes "application"
+type_text false = codes "library"
 
 -- the members that each component has
-abbrev pub base_members : PackageData → Members
-base_members p = member (codes "bom-ref") (string (package_reference p))
+abbrev pub base_members : Bool → PackageData → Members
+base_members application p = member (codes "bom-ref") (string (package_reference p))
     (member (codes "name") (string p.name)
-    (member (codes "type") (string (codes "library"))
+    (member (codes "type") (string (type_text application))
     (member (codes "version") (string (parts_text p.version)) no_members)))
 
 -- the list of the one hash of a package, by the bytes of its checksum
@@ -26,7 +41,56 @@ abbrev pub put_some : List ℕ → Option Data → Members → Members
 put_some key None members = members
 put_some key (Some value) members = put key value members
 
--- the component of a package: `purl` where it has a package URL, `hashes` where it has a checksum
-unfoldable pub component_of : PackageData → Data
-component_of p = object (put_some (codes "hashes") (option_map hashes_of p.checksum)
-    (put_some (codes "purl") (option_map string (purl_of (identity_of p))) (base_members p)))
+-- the list of the one repository at a URL, with what is checked out of it, if that is known
+abbrev pub repositories_of : List ℕ → Option (List ℕ) → Data
+repositories_of url precise = array (item (object (put_some (codes "comment")
+    (option_map string precise)
+    (member (codes "type") (string (codes "vcs"))
+    (member (codes "url") (string url) no_members)))) no_items)
+
+-- the repositories of a source of this kind, with this URL text and precise text
+abbrev pub repositories_by : Kind → List ℕ → Option (List ℕ) → Option Data
+repositories_by (Git reference) url precise = Some (repositories_of url precise)
+repositories_by other url precise = None
+
+-- the repositories of a source: that of a git source, whose URL has no user name and no password
+abbrev pub repositories_if : Option Source → Option Data
+repositories_if None = None
+repositories_if (Some s) = repositories_by s.kind (serialize (without_user_info s.url)) s.precise
+
+-- the component of a package: `purl` where it has a package URL, `hashes` where it has a checksum,
+-- and `externalReferences` where it comes from a repository
+unfoldable pub component_of : Bool → PackageData → Data
+component_of application p = object
+    (put_some (codes "externalReferences") (repositories_if p.source)
+    (put_some (codes "hashes") (option_map hashes_of p.checksum)
+    (put_some (codes "purl") (option_map string (purl_of (identity_of p)))
+    (base_members application p))))
+
+-- the component of a package, if there is one
+abbrev pub component_if : Bool → Option PackageData → Data
+component_if application None = null
+component_if application (Some p) = component_of application p
+
+-- the component of the package of a node: an application where the package has no source and no
+-- other package needs it
+abbrev pub component_at : GraphData → ℕ → Data
+component_at graph node = component_if (is_application graph node) (slice_get graph.packages node)
+
+-- the components of the packages that are not the root, in order, each once
+pub record AreComponents (graph : GraphData) (root : Root) (components : List Data) : Type 0 where
+  pub nodes : List ℕ
+  pub are_others : IsPlaces (λ k. ¬ (root ≡ Package k)) (length graph.packages) nodes
+  pub are : components ≡ map (component_at graph) nodes
+
+-- the component of the workspace
+abbrev pub workspace_component : Data
+workspace_component = object (member (codes "bom-ref") (string workspace_reference)
+    (member (codes "name") (string (codes "workspace"))
+    (member (codes "type") (string (codes "application")) no_members)))
+
+-- the component of the root, if there is one
+abbrev pub root_component : GraphData → Root → Option Data
+root_component graph (Package node) = Some (component_at graph node)
+root_component graph Workspace = Some workspace_component
+root_component graph Nothing = None

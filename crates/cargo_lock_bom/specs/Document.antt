@@ -1,29 +1,24 @@
 -- The bill of materials of a graph, as CycloneDX 1.6 has it in JSON.
-use Rattle.std.specs.Prelude.{◌≡◌, ℕ, List, map, length, codes, Some}
-use Rattle.std.specs.List.{AllZip, range_with_len}
+use Rattle.std.specs.Prelude.{◌≡◌, ℕ, List, codes, Some}
 use Rattle.json.specs.Lex.{tokens}
 use Rattle.json.specs.Token.{Token}
-use Rattle.serde_json.specs.Data.{Data, number, unsigned, string, array, object, item, no_items}
-use Rattle.serde_json.specs.Data.{member, no_members}
+use Rattle.serde_json.specs.Data.{Data, number, unsigned, string, array, object, member}
+use Rattle.serde_json.specs.Data.{no_members}
 use Rattle.serde_json.specs.Read.{read}
 use Rattle.serde_json.specs.View.{items_of}
 use Rattle.cargo_lock_graph.specs.Edges.{GraphData}
+use Rattle.cargo_lock_bom.specs.declared.root.Root.{Root}
+use Rattle.cargo_lock_bom.specs.Component.{AreComponents}
+use Rattle.cargo_lock_bom.specs.Dependencies.{AreEntries}
+use Rattle.cargo_lock_bom.specs.Metadata.{IsMetadata}
+use Rattle.cargo_lock_bom.specs.Options.{OptionsData}
 use Rattle.cargo_lock_bom.specs.References.{HaveDistinctReferences}
-use Rattle.cargo_lock_bom.specs.Component.{component_of}
-use Rattle.cargo_lock_bom.specs.Dependencies.{IsEntry}
+use Rattle.cargo_lock_bom.specs.Root.{IsRootOf}
+use Rattle.cargo_lock_bom.specs.Serial.{numbered}
 
--- the program that wrote the bill
-abbrev pub metadata : Data
-metadata = object (member (codes "tools") (object
-    (member (codes "components") (array (item (object
-    (member (codes "name") (string (codes "cargo-lock"))
-    (member (codes "type") (string (codes "application"))
-    (member (codes "version") (string (codes "11.0.1")) no_members)))) no_items))
-    no_members)) no_members)
-
--- the document of components and of entries that say what each depends on
-unfoldable pub document_of : List Data → List Data → Data
-document_of components entries = object
+-- the document of components, of entries that say what each depends on, and of metadata
+unfoldable pub document_of : List Data → List Data → Data → Data
+document_of components entries metadata = object
     (member (codes "bomFormat") (string (codes "CycloneDX"))
     (member (codes "components") (array (items_of components))
     (member (codes "dependencies") (array (items_of entries))
@@ -31,18 +26,33 @@ document_of components entries = object
     (member (codes "specVersion") (string (codes "1.6"))
     (member (codes "version") (number (unsigned 1)) no_members))))))
 
--- The bill of a graph: the components are those of the packages, in order, each once, there is an
--- entry for each node, in order, and each text refers to one component.
-pub record IsBill (graph : GraphData) (d : Data) : Type 0 where
+-- the document of a graph with this root, without a serial number
+pub record IsAbout (graph : GraphData) (root : Root) (options : OptionsData) (d : Data) : Type 0
+  where
+    pub components : List Data
+    pub entries : List Data
+    pub metadata : Data
+    pub are_components : AreComponents graph root components
+    pub are_entries : AreEntries graph root entries
+    pub is_metadata : IsMetadata graph root options metadata
+    pub is : d ≡ document_of components entries metadata
+
+-- The bill of a graph: the root is the component of the metadata, each other package is one of the
+-- components, in order, each once, each package has an entry, as the workspace has where that is
+-- the root, and each text refers to one component. Where the caller asks for it, the bill has a
+-- serial number.
+pub record IsBill (graph : GraphData) (options : OptionsData) (d : Data) : Type 0 where
+  pub root : Root
+  pub is_root : IsRootOf graph options.root root
   pub distinct : HaveDistinctReferences graph.packages
-  pub entries : List Data
-  pub are_entries : AllZip (IsEntry graph) (range_with_len 0 (length graph.packages)) entries
-  pub is : d ≡ document_of (map component_of graph.packages) entries
+  pub plain : Data
+  pub about : IsAbout graph root options plain
+  pub is : d ≡ numbered options.has_serial plain
 
 -- the text reads, as JSON, as the bill of the graph
-pub record IsBillText (graph : GraphData) (text : List ℕ) : Type 0 where
+pub record IsBillText (graph : GraphData) (options : OptionsData) (text : List ℕ) : Type 0 where
   pub bill : Data
-  pub is : IsBill graph bill
+  pub is : IsBill graph options bill
   pub reads : read text ≡ Some bill
 
 -- the text is that of its own tokens, in a layout

@@ -1,5 +1,12 @@
+pub mod UserInfo
+pub mod Places
+pub mod Root
+pub mod Search
 pub mod Purl
 pub mod References
 pub mod Component
 pub mod Dependencies
+pub mod Options
+pub mod Metadata
+pub mod Serial
 pub mod Document

@@ -12,6 +12,7 @@ use Rattle.cargo_lock_parts.specs.Source.{Kind, GitReference, Source, DefaultBra
 use Rattle.cargo_lock_parts.specs.Source.{Rev, Git, Path, Registry, SparseRegistry, LocalRegistry}
 use Rattle.cargo_lock_parts.specs.Source.{Directory}
 use Rattle.cargo_lock_parts.specs.SourceShown.{is_default_registry}
+use Rattle.cargo_lock_bom.specs.UserInfo.{without_user_info}
 
 -- ---- escapes
 
@@ -66,11 +67,12 @@ qualifiers_by SparseRegistry url precise = codes "?repository_url=" ++ escaped_u
 qualifiers_by LocalRegistry url precise = codes "?repository_url=" ++ escaped_url url
 qualifiers_by Directory url precise = codes "?repository_url=" ++ escaped_url url
 
--- what says where a package comes from: nothing of crates.io
+-- what says where a package comes from: nothing of crates.io, and else the URL without user name
+-- and password
 unfoldable pub qualifiers : Source → List ℕ
 qualifiers s =
     if is_default_registry s then []
-    else qualifiers_by s.kind (serialize s.url) s.precise
+    else qualifiers_by s.kind (serialize (without_user_info s.url)) s.precise
 
 -- ---- the URL
 

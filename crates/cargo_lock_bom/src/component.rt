@@ -1,49 +1,109 @@
-//! The components of a bill of materials: the packages, in order, each once.
+//! The components of a bill of materials: the root, and the other packages, in order, each once.
 
-ghost use Rattle.std.specs.Prelude.{◌≡◌, IfOk, OnOk, map, option_map};
+ghost use Rattle.std.specs.Prelude.{◌≡◌, ◌<◌, All, IfOk, OnOk, Some, length, map, option_copied};
+ghost use Rattle.std.specs.Prelude.{option_map, string_bytes};
 ghost use Rattle.serde_json.specs.Data.{string};
 ghost use Rattle.serde_json.specs.View.{members_view, view};
 ghost use Rattle.cargo_lock_parts.specs.Checksum.{digest_of};
 ghost use Rattle.cargo_lock_parts.specs.Identity.{identity_of};
-ghost use Rattle.cargo_lock_bom.specs.Component.{base_members, component_of, hashes_of};
+ghost use Rattle.cargo_lock_bom.specs.Component.{AreComponents, base_members, component_at};
+ghost use Rattle.cargo_lock_bom.specs.Component.{component_of, hashes_of, repositories_if};
+ghost use Rattle.cargo_lock_bom.specs.Component.{repositories_of, type_text};
+ghost use Rattle.cargo_lock_bom.specs.Component.{workspace_component};
 ghost use Rattle.cargo_lock_bom.specs.Component as spec;
 ghost use Rattle.cargo_lock_bom.specs.Purl.{purl_of};
+ghost use Rattle.cargo_lock_bom.specs.Root.{IsWithin};
 
 use crate::purl::purl;
 use crate::reference::reference;
+use crate::root::{Root, is_application, others};
+use crate::user_info::url_text;
 use cargo_lock_graph::graph::{Graph, NodeIndex};
-use cargo_lock_parts::package::{Checksum, Package};
+use cargo_lock_parts::package::{Checksum, Package, SourceId, SourceKind};
 use serde_json::{Map, Value, json, put};
 use std::alloc::{AllocError, Global};
 
-/// The components of the packages of a graph.
-pub(crate) fn components(alloc: Global, graph: &Graph) -> Result<Vec<Value>, AllocError>
-    ensures { IfOk result (λ made. map view made.items ≡ map component_of graph.now.packages) }
+/// The components of the packages of a graph that are not its root. Fails when out of memory.
+pub(crate) fn components(
+    alloc: Global,
+    graph: &Graph,
+    root: &Root,
+) -> Result<Vec<Value>, AllocError>
+    ensures { IfOk result (λ made. AreComponents graph.now root.now (map view made.items)) }
 {
-    let count = graph.node_count();
-    let mut made = Vec::with_capacity(alloc, count)?;
-    for node in 0..count {
-        made.push(component(alloc, &graph[NodeIndex::new(node)])?)?;
+    let nodes = others(alloc, graph, root)?;
+    let made = components_of(alloc, graph, &nodes)?;
+    Ok(made)
+}
+
+// The components of the packages of some nodes.
+fn components_of(alloc: Global, graph: &Graph, nodes: &[usize]) -> Result<Vec<Value>, AllocError>
+    requires { All (λ k. k < length graph.now.packages) nodes.now }
+    ensures { IfOk result (λ made. map view made.items ≡ map (component_at graph.now) nodes.now) }
+{
+    let mut made = Vec::with_capacity(alloc, nodes.len())?;
+    for node in nodes {
+        made.push(component(alloc, graph, NodeIndex::new(*node))?)?;
     }
     Ok(made)
 }
 
-// The component of a package.
-#[tactic(auto, unfolding(crate::specs::Component::component_of))]
-fn component(alloc: Global, package: &Package) -> Result<Value, AllocError>
-    ensures { IfOk result (λ v. view v ≡ component_of «package».now) }
+/// The component of the root, if there is one. Fails when out of memory.
+pub(crate) fn root_component(
+    alloc: Global,
+    graph: &Graph,
+    root: &Root,
+) -> Result<Option<Value>, AllocError>
+    requires { IsWithin graph.now.packages root.now }
+    ensures { IfOk result (λ made. option_map view made ≡ spec.root_component graph.now root.now) }
 {
-    let mut members = base(alloc, package)?;
+    match root {
+        Root::Package(node) => Ok(Some(component(alloc, graph, *node)?)),
+        Root::Workspace => Ok(Some(workspace(alloc)?)),
+        Root::Nothing => Ok(None),
+    }
+}
+
+// The component of the packages of the workspace together.
+fn workspace(alloc: Global) -> Result<Value, AllocError>
+    ensures { IfOk result (λ v. view v ≡ workspace_component) }
+{
+    json!(in alloc; {"bom-ref": "workspace", "name": "workspace", "type": "application"})
+}
+
+// The component of the package of a node.
+fn component(alloc: Global, graph: &Graph, node: NodeIndex) -> Result<Value, AllocError>
+    requires { node < length graph.now.packages }
+    ensures { IfOk result (λ v. view v ≡ component_at graph.now node) }
+{
+    let application = is_application(alloc, graph, node)?;
+    let made = component_of(alloc, application, &graph[node])?;
+    Ok(made)
+}
+
+// The component of a package, an application or a library.
+#[tactic(auto, unfolding(crate::specs::Component::component_of))]
+fn component_of(alloc: Global, application: bool, package: &Package) -> Result<Value, AllocError>
+    ensures { IfOk result (λ v. view v ≡ component_of application «package».now) }
+{
+    let mut members = base(alloc, application, package)?;
     let purl = purl_value(alloc, package)?;
     put_some(&mut members, alloc, "purl", purl)?;
     let hashes = hashes(alloc, &package.checksum)?;
     put_some(&mut members, alloc, "hashes", hashes)?;
+    let repositories = repositories(alloc, &package.source)?;
+    put_some(&mut members, alloc, "externalReferences", repositories)?;
     Ok(Value::Object(members))
 }
 
 // The members that each component has.
-fn base(alloc: Global, package: &Package) -> Result<Map<String, Value>, AllocError>
-    ensures { IfOk result (λ m. members_view m.entries ≡ base_members «package».now) }
+fn base(
+    alloc: Global,
+    application: bool,
+    package: &Package,
+) -> Result<Map<String, Value>, AllocError>
+    ensures { IfOk result
+        (λ m. members_view m.entries ≡ base_members application «package».now) }
 {
     let mut members = Map::new(alloc);
     put(
@@ -62,7 +122,7 @@ fn base(alloc: Global, package: &Package) -> Result<Map<String, Value>, AllocErr
         &mut members,
         alloc,
         "type",
-        Value::String(String::from_str(alloc, "library")?),
+        Value::String(String::from_str(alloc, type_text(application))?),
     )?;
     put(
         &mut members,
@@ -71,6 +131,17 @@ fn base(alloc: Global, package: &Package) -> Result<Map<String, Value>, AllocErr
         Value::String(package.version.to_string(alloc)?),
     )?;
     Ok(members)
+}
+
+// What a component is.
+fn type_text(application: bool) -> &'static str
+    ensures { result.now ≡ type_text application }
+{
+    if application {
+        "application"
+    } else {
+        "library"
+    }
 }
 
 // The package URL, if there is one.
@@ -99,8 +170,49 @@ fn hashes(alloc: Global, checksum: &Option<Checksum>) -> Result<Option<Value>, A
     }
 }
 
-// Sets a member, if there is a value for it.
-fn put_some(
+// The list of one repository, if the source is one.
+fn repositories(alloc: Global, source: &Option<SourceId>) -> Result<Option<Value>, AllocError>
+    ensures { IfOk result (λ v. option_map view v ≡ repositories_if source.now) }
+{
+    match source {
+        Some(source) => repositories_of(alloc, source),
+        None => Ok(None),
+    }
+}
+
+// The list of one repository, if the source is one.
+fn repositories_of(alloc: Global, source: &SourceId) -> Result<Option<Value>, AllocError>
+    ensures { IfOk result (λ v. option_map view v ≡ repositories_if (Some source.now)) }
+{
+    match source.kind() {
+        SourceKind::Git(_) => {
+            let url = url_text(alloc, source.url())?;
+            Ok(Some(repository(alloc, url, source.precise())?))
+        }
+        SourceKind::Path => Ok(None),
+        SourceKind::Registry => Ok(None),
+        SourceKind::SparseRegistry => Ok(None),
+        SourceKind::LocalRegistry => Ok(None),
+        SourceKind::Directory => Ok(None),
+    }
+}
+
+// The list of one repository at a URL, with what is checked out of it, if that is known.
+fn repository(alloc: Global, url: String, precise: Option<&str>) -> Result<Value, AllocError>
+    ensures { IfOk result (λ v.
+        view v ≡ repositories_of (string_bytes url) (option_copied precise.entry)) }
+{
+    match precise {
+        Some(precise) => {
+            let comment = String::from_str(alloc, precise)?;
+            json!(in alloc; [{"comment": comment, "type": "vcs", "url": url}])
+        }
+        None => json!(in alloc; [{"type": "vcs", "url": url}]),
+    }
+}
+
+/// Sets a member, if there is a value for it. Fails when out of memory.
+pub(crate) fn put_some(
     members: &mut Map<String, Value>,
     alloc: Global,
     key: &str,

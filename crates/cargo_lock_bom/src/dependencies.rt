@@ -1,21 +1,63 @@
 //! The entries of a bill of materials: what each package depends on.
 
-ghost use Rattle.std.specs.Prelude.{◌≡◌, ◌<◌, All, IfOk, codes, length, map, string_bytes};
+ghost use Rattle.std.specs.Prelude.{◌≡◌, ◌<◌, ◌∷◌, ◌++◌, [], All, IfOk, codes, length, map};
+ghost use Rattle.std.specs.Prelude.{string_bytes};
 ghost use Rattle.std.specs.List.{AllZip, range_with_len};
-ghost use Rattle.serde_json.specs.Data.{array, member, no_members, object, string};
+ghost use Rattle.serde_json.specs.Data.{Data, array, member, no_members, object, string};
 ghost use Rattle.serde_json.specs.View.{items_view, view};
 ghost use Rattle.cargo_lock_graph.specs.declared.graph.EdgeDirection.TheVariants.{Outgoing};
 ghost use Rattle.cargo_lock_graph.specs.Edges.{far_ends};
-ghost use Rattle.cargo_lock_bom.specs.Dependencies.{AreTargets, IsEntry};
+ghost use Rattle.cargo_lock_bom.specs.Dependencies.{AreEntries, AreTargets, IsEntry};
+ghost use Rattle.cargo_lock_bom.specs.Dependencies.{IsWorkspaceEntry};
 ghost use Rattle.cargo_lock_bom.specs.Dependencies as spec;
 
 use crate::reference::reference;
+use crate::root::{Root, members};
 use cargo_lock_graph::graph::{EdgeDirection, Graph, NodeIndex};
 use serde_json::{Value, json};
 use std::alloc::{AllocError, Global};
 
-/// The entries of the nodes of a graph, in order.
-pub(crate) fn entries(alloc: Global, graph: &Graph) -> Result<Vec<Value>, AllocError>
+/// The entries of the nodes of a graph, in order, and then that of the workspace, if it is the
+/// root. Fails when out of memory.
+pub(crate) fn entries(alloc: Global, graph: &Graph, root: &Root) -> Result<Vec<Value>, AllocError>
+    ensures { IfOk result (λ made. AreEntries graph.now root.now (map view made.items)) }
+{
+    let made = node_entries(alloc, graph)?;
+    match root {
+        Root::Package(_) => Ok(made),
+        Root::Workspace => with_workspace(alloc, graph, made),
+        Root::Nothing => Ok(made),
+    }
+}
+
+// These entries, and then that of the workspace.
+fn with_workspace(
+    alloc: Global,
+    graph: &Graph,
+    entries: Vec<Value>,
+) -> Result<Vec<Value>, AllocError>
+    ensures { IfOk result (λ made. (d : Data) × IsWorkspaceEntry graph.now.packages d
+        × (map view made.items ≡ map view entries.items ++ d ∷ [])) }
+{
+    let own = workspace_entry(alloc, graph)?;
+    let mut made = entries;
+    made.push(own)?;
+    Ok(made)
+}
+
+// The entry of the workspace.
+fn workspace_entry(alloc: Global, graph: &Graph) -> Result<Value, AllocError>
+    ensures { IfOk result (λ v. IsWorkspaceEntry graph.now.packages (view v)) }
+{
+    let members = members(alloc, graph)?;
+    let on = references(alloc, graph, &members)?;
+    let own = String::from_str(alloc, "workspace")?;
+    let made = entry_of(alloc, own, on)?;
+    Ok(made)
+}
+
+// The entries of the nodes of a graph, in order.
+fn node_entries(alloc: Global, graph: &Graph) -> Result<Vec<Value>, AllocError>
     ensures { IfOk result (λ made. AllZip (IsEntry graph.now)
         (range_with_len 0 (length graph.now.packages)) (map view made.items)) }
 {
@@ -72,8 +114,8 @@ fn targets(alloc: Global, graph: &Graph, node: NodeIndex) -> Result<Vec<usize>, 
     Ok(targets)
 }
 
-// The nodes to which the edges of a node lead, newest edge first.
-fn ends(alloc: Global, graph: &Graph, node: NodeIndex) -> Result<Vec<usize>, AllocError>
+/// The nodes to which the edges of a node lead, newest edge first.
+pub(crate) fn ends(alloc: Global, graph: &Graph, node: NodeIndex) -> Result<Vec<usize>, AllocError>
     ensures are { IfOk result (λ ends. ends.items ≡ far_ends Outgoing graph.now.edges node) }
     ensures within { IfOk result (λ ends. All (λ k. k < length graph.now.packages) ends.items) }
 {

@@ -9,6 +9,7 @@ ghost use Rattle.cargo_lock_bom.specs.Purl.{commit_or_reference, escaped_text, e
 ghost use Rattle.cargo_lock_bom.specs.Purl.{purl_of, repository_text};
 ghost use Rattle.cargo_lock_bom.specs.Purl as spec;
 
+use crate::user_info::url_text;
 use cargo_lock_parts::package::{GitReference, Package, SourceId, SourceKind};
 use percent_encoding::{AsciiSet, NON_ALPHANUMERIC, PercentEncode, ascii_set, utf8_percent_encode};
 use std::alloc::{AllocError, Global};
@@ -29,7 +30,8 @@ const VALUE: AsciiSet = ascii_set!(SEGMENT.remove(b'/'));
 /// The package URL of a package: `pkg:cargo/serde@1.0.203`. After `?` stands where the package
 /// comes from, unless that is crates.io: `vcs_url=git%2Bhttps://example.org/lib%40COMMIT` of a
 /// repository, with the commit, or else the tag, the branch or the revision, `repository_url=URL`
-/// of another registry, and `download_url=URL` of a folder.
+/// of another registry, and `download_url=URL` of a folder. The URL is written without user name
+/// and password, since a bill is published.
 ///
 /// A package without a source has none: `pkg:cargo/NAME@VERSION` names the package of crates.io,
 /// which is another one. Fails when out of memory.
@@ -72,12 +74,8 @@ fn qualifiers(alloc: Global, source: &SourceId) -> Result<String, AllocError>
     if source.is_default_registry() {
         return Ok(String::new(alloc));
     }
-    qualifiers_by(
-        alloc,
-        source.kind(),
-        source.url().as_str(),
-        source.precise(),
-    )
+    let url = url_text(alloc, source.url())?;
+    qualifiers_by(alloc, source.kind(), url.as_str(), source.precise())
 }
 
 // The same by the parts of the source.

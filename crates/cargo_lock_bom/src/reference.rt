@@ -1,30 +1,37 @@
 //! The texts by which a bill of materials refers to packages.
 
 ghost use Rattle.std.specs.Prelude.{◌≡◌, ◌⊎◌, ◌||◌, not, ℕ, List, bytes_eq, IfErr, IfOk};
-ghost use Rattle.std.specs.Prelude.{IsOkUnless, OnOk, string_bytes};
+ghost use Rattle.std.specs.Prelude.{IsOkUnless, OnOk, option_map, string_bytes};
 ghost use Rattle.std.specs.BTreeSet.{contains_text};
 ghost use Rattle.cargo_lock_parts.specs.declared.error.Error.TheVariants.{Memory};
 ghost use Rattle.cargo_lock_parts.specs.Error.{IsParse};
+ghost use Rattle.cargo_lock_parts.specs.Identity.{source_part};
 ghost use Rattle.cargo_lock_bom.specs.References.{HaveDistinctReferences, IsRepeatedFault};
 ghost use Rattle.cargo_lock_bom.specs.References.{package_reference};
 ghost use Rattle.cargo_lock_bom.specs.References as spec;
+ghost use Rattle.cargo_lock_bom.specs.UserInfo.{public_source};
 
+use crate::user_info::source_text;
 use cargo_lock_graph::graph::{Graph, NodeIndex};
-use cargo_lock_parts::{Dependency, Error, Package, Result};
+use cargo_lock_parts::package::SourceId;
+use cargo_lock_parts::{Error, Package, Result};
 use std::alloc::{AllocError, Global};
 use std::collections::BTreeSet;
 
 /// The text by which a bill of materials refers to a package: `NAME@VERSION`, after the source and
 /// `#` where there is one, as in
-/// `registry+https://github.com/rust-lang/crates.io-index#serde@1.0.203`.
-/// Fails when out of memory.
+/// `registry+https://github.com/rust-lang/crates.io-index#serde@1.0.203`. The URL of the source is
+/// written without user name and password, since a bill is published. Fails when out of memory.
 pub fn reference(alloc: Global, package: &Package) -> std::result::Result<String, AllocError>
     ensures { IfOk result (λ text. string_bytes text ≡ package_reference «package».now) }
 {
     let name = &package.name;
     let version = &package.version;
     match &package.source {
-        Some(source) => format!(in alloc; "{source}#{name}@{version}"),
+        Some(source) => {
+            let place = source_text(alloc, source)?;
+            format!(in alloc; "{place}#{name}@{version}")
+        }
         None => format!(in alloc; "{name}@{version}"),
     }
 }
@@ -72,7 +79,23 @@ fn repeated_text(alloc: Global, package: &Package) -> Result<String>
     ensures ok { IfOk result (λ text. string_bytes text ≡ spec.repeated_text «package».now) }
     ensures err { IsOkUnless result Memory }
 {
-    let identity = Dependency::of(package)?;
-    let text = format!(in alloc; "two packages are {identity}")?;
+    let name = &package.name;
+    let version = &package.version;
+    let place = source_part(alloc, &package.source)?;
+    let text = format!(in alloc; "two packages are {name} {version}{place}")?;
     Ok(text)
+}
+
+// The source in round brackets, if there is one.
+fn source_part(alloc: Global, source: &Option<SourceId>) -> std::result::Result<String, AllocError>
+    ensures { IfOk result
+        (λ text. string_bytes text ≡ source_part (option_map public_source source.now)) }
+{
+    match source {
+        Some(source) => {
+            let place = source_text(alloc, source)?;
+            format!(in alloc; " ({place})")
+        }
+        None => Ok(String::new(alloc)),
+    }
 }

@@ -2,4 +2,4 @@ mod HandedOut
 mod Refusals
 mod EdgeLists
 mod PackageLines
-mod ChangeLines
+mod EachLine

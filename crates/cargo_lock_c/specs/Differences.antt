@@ -4,13 +4,20 @@ use Rattle.cargo_lock_diff.specs.Change.{lines_text, all_changes_of}
 use Rattle.cargo_lock_diff.specs.Difference.{DifferenceData, IsDifference}
 use Rattle.cargo_lock_encoding.specs.Lockfiles.{LockfileData}
 use Rattle.cargo_lock_encoding.specs.Means.{TextMeans}
+use Rattle.cargo_lock_parts.specs.Identity.{PackageData}
+use Rattle.cargo_lock.specs.CargoChecksums.{with_cargo_checksums_in}
 use Rattle.cargo_lock_c.specs.Texts.{MeansNothing}
 
--- the lines of what differs between the packages of two lockfiles, with dependencies or without
+-- the lines of what differs between two lists of packages, with dependencies or without
+abbrev pub AreLinesBetweenPackages : List PackageData → List PackageData → Bool → List ℕ → Type 0
+AreLinesBetweenPackages before after dependencies bytes = (d : DifferenceData)
+    × IsDifference before after d × (bytes ≡ lines_text (all_changes_of dependencies d))
+
+-- those of the packages of two lockfiles, with the checksums that Cargo reads
 abbrev pub AreLinesBetween : LockfileData → LockfileData → Bool → List ℕ → Type 0
-AreLinesBetween before after dependencies bytes = (d : DifferenceData)
-    × IsDifference before.packages after.packages d
-    × (bytes ≡ lines_text (all_changes_of dependencies d))
+AreLinesBetween before after dependencies bytes = AreLinesBetweenPackages
+    (with_cargo_checksums_in before).packages (with_cargo_checksums_in after).packages
+    dependencies bytes
 
 -- both texts are those of lockfiles, and these bytes are the lines of what differs between them
 abbrev pub IsDifferenceText : List ℕ → List ℕ → Bool → List ℕ → Type 0

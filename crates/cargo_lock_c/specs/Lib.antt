@@ -4,3 +4,4 @@ pub mod Texts
 pub mod Packages
 pub mod Graph
 pub mod Differences
+pub mod Findings

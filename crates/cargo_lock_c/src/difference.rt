@@ -3,17 +3,18 @@
 ghost use Rattle.std.specs.Prelude.{◌≡◌, ◌≤◌, ◌⊎◌, IfErr, IfOk, map, string_bytes};
 ghost use Rattle.cargo_lock_diff.specs.Change.{change_of, lines_text};
 ghost use Rattle.cargo_lock_encoding.specs.Means.{TextMeans};
+ghost use Rattle.cargo_lock.specs.CargoChecksums.{with_cargo_checksums_in};
 ghost use Rattle.cargo_lock_c.specs.declared.refusal.Refusal.TheVariants.{NoMemory};
 ghost use Rattle.cargo_lock_c.specs.Answers.{IsHandedOut};
-ghost use Rattle.cargo_lock_c.specs.Differences.{AreLinesBetween, IsDifferenceText, ReadsOldText};
-ghost use Rattle.cargo_lock_c.specs.Differences.{RefusesNewText};
+ghost use Rattle.cargo_lock_c.specs.Differences.{AreLinesBetween, AreLinesBetweenPackages};
+ghost use Rattle.cargo_lock_c.specs.Differences.{IsDifferenceText, ReadsOldText, RefusesNewText};
 ghost use Rattle.cargo_lock_c.specs.Statuses.{status_of};
 ghost use Rattle.cargo_lock_c.specs.Texts.{RefusesText};
 
 use crate::handing::hand_out;
 use crate::reading::read;
 use crate::refusal::Refusal;
-use cargo_lock::Lockfile;
+use cargo_lock::{Lockfile, Package};
 use cargo_lock_diff::{Change, Difference};
 use std::alloc::Global;
 
@@ -60,7 +61,7 @@ fn difference_lines(
 {
     let before = read(alloc, old)?;
     let after = read_new(alloc, new)?;
-    let lines = lines_between(alloc, &before, &after, dependencies)?;
+    let lines = lines_between(alloc, before, after, dependencies)?;
     Ok(lines)
 }
 
@@ -80,15 +81,43 @@ fn read_new(alloc: Global, bytes: &[u8]) -> Result<Lockfile, Refusal>
 /// The lines of what differs between two lockfiles.
 fn lines_between(
     alloc: Global,
-    before: &Lockfile,
-    after: &Lockfile,
+    before: Lockfile,
+    after: Lockfile,
     dependencies: bool,
 ) -> Result<String, Refusal>
-    ensures ok { IfOk result (λ lines. AreLinesBetween before.now after.now dependencies
+    ensures ok { IfOk result (λ lines. AreLinesBetween before after dependencies
         (string_bytes lines)) }
     ensures err { IfErr result (λ refusal. refusal ≡ NoMemory) }
 {
-    let difference = Difference::of(alloc, &before.packages, &after.packages)?;
+    let before = compared(alloc, before)?;
+    let after = compared(alloc, after)?;
+    let lines = lines_of_packages(alloc, &before.packages, &after.packages, dependencies)?;
+    Ok(lines)
+}
+
+/// The lockfile with the checksums that Cargo reads.
+fn compared(alloc: Global, lockfile: Lockfile) -> Result<Lockfile, Refusal>
+    ensures ok { IfOk result (λ l. l ≡ with_cargo_checksums_in lockfile) }
+    ensures err { IfErr result (λ refusal. refusal ≡ NoMemory) }
+{
+    match lockfile.with_cargo_checksums(alloc) {
+        Ok(lockfile) => Ok(lockfile),
+        Err(_) => Err(Refusal::NoMemory),
+    }
+}
+
+/// The lines of what differs between two lists of packages.
+fn lines_of_packages(
+    alloc: Global,
+    before: &Vec<Package>,
+    after: &Vec<Package>,
+    dependencies: bool,
+) -> Result<String, Refusal>
+    ensures ok { IfOk result (λ lines. AreLinesBetweenPackages before.now.items after.now.items
+        dependencies (string_bytes lines)) }
+    ensures err { IfErr result (λ refusal. refusal ≡ NoMemory) }
+{
+    let difference = Difference::of(alloc, before, after)?;
     let changes = difference.all_changes(alloc, dependencies)?;
     let lines = lines_of(alloc, changes.as_slice())?;
     Ok(lines)

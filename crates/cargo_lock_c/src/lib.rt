@@ -7,6 +7,7 @@ ghost use Rattle.std.specs.Prelude.{◌≡◌};
 
 mod difference;
 mod edges;
+mod findings;
 mod formats;
 mod handing;
 mod packages;

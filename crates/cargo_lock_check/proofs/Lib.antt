@@ -3,11 +3,14 @@ pub mod PackagePlaces
 pub mod AlikePlaces
 pub mod Parts
 pub mod SeenBefore
+pub mod DependencyPlaces
+pub mod DependencySeen
 pub mod LostPlaces
 pub mod Matching
 pub mod Searching
 pub mod StaleKeys
 pub mod Lines
+pub mod Carets
 pub mod Told
 pub mod Sound
 pub mod OneLine

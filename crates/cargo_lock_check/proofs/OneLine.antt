@@ -6,7 +6,7 @@ use Rattle.shown.proofs.Printable.{Prints, decimal-prints, empty, join, literal,
 use Rattle.cargo_lock_parts.specs.Identity.{Identity, PackageData, identity_of}
 use Rattle.cargo_lock_parts.specs.Source.{Source}
 use Rattle.cargo_lock_references.specs.Format.{number_of}
-use Rattle.cargo_lock_check.specs.Finding.{Alike, BadName, EachIsOneLine, FindingData, LookAlike, LostDependency, Misplaced, NoChecksum, NoRoot, NotKept, Orphan, OtherLine, StaleChecksum, Twice, UserInfo}
+use Rattle.cargo_lock_check.specs.Finding.{Alike, BadName, EachIsOneLine, FindingData, LookAlike, LossySource, LostDependency, Misplaced, MisplacedDependency, NoChecksum, NoChecksums, NoRoot, NotKept, Orphan, OtherLine, RepeatedDependency, StaleChecksum, Twice, UserInfo}
 use Rattle.cargo_lock_check.specs.Finding.{bracketed, identity_shown, line_of, package_text}
 
 brackets-print : (s : Option Source) → Prints (bracketed s)
@@ -24,6 +24,9 @@ line-prints (LostDependency p d) =
     words (codes "reference: ") refl (join (package-prints p)
     (words (codes " depends on ") refl (join (identity-prints d) (literal (codes ", which is no package") refl))))
 line-prints (Twice p) = words (codes "twice: ") refl (join (package-prints p) (literal (codes " stands more than once") refl))
+line-prints (RepeatedDependency p d) =
+    words (codes "twice: ") refl (join (package-prints p)
+    (words (codes " lists ") refl (join (identity-prints d) (literal (codes " more than once") refl))))
 line-prints (BadName p) = words (codes "name: ") refl (join (shown-prints Plain p.name) (literal (codes " is no name that Cargo takes") refl))
 line-prints (Alike p q) =
     words (codes "alike: ") refl (join (package-prints p)
@@ -33,8 +36,15 @@ line-prints (UserInfo s) = words (codes "source: ") refl (join (shown-prints Pla
 line-prints NoRoot = literal (codes "root: no package is of the workspace") refl
 line-prints (Orphan p) = words (codes "orphan: ") refl (join (package-prints p) (literal (codes ": no package of the workspace leads to it") refl))
 line-prints (NoChecksum p) = words (codes "checksum: ") refl (join (package-prints p) (literal (codes " has none, though others of its registry have") refl))
+line-prints (NoChecksums s) = words (codes "checksum: no package of ") refl (join (shown-prints Plain _) (literal (codes " has one") refl))
 line-prints (StaleChecksum key) = words (codes "stale: `") refl (join (shown-prints Quoted key) (literal (codes "` is in the metadata, and is of no package") refl))
 line-prints (Misplaced p next) = words (codes "order: ") refl (join (package-prints p) (words (codes " stands before ") refl (package-prints next)))
+line-prints (MisplacedDependency p d next) =
+    words (codes "order: ") refl (join (package-prints p)
+    (words (codes " lists ") refl (join (identity-prints d) (words (codes " before ") refl (identity-prints next)))))
+line-prints (LossySource version text) =
+    words (codes "format: V") refl (join (decimal-prints (number_of version))
+    (words (codes " loses the tag, branch or revision of `") refl (join (shown-prints Quoted text) (literal (codes "`; V4 keeps it") refl))))
 line-prints (NotKept version) = words (codes "format: V") refl (join (decimal-prints (number_of version)) (literal (codes " does not keep this lockfile") refl))
 line-prints (OtherLine other) =
     words (codes "text: line ") refl (join (decimal-prints other.number)

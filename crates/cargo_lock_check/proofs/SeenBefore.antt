@@ -1,5 +1,5 @@
 -- What is known of the packages that were seen, one package after another.
-use Rattle.std.proofs.Common.{◌≡◌, ◌<◌, ◌+◌, ◌⊎◌, ◌↔◌, inl, inr, ℕ, Bool, true, false, if◌then◌else◌, IsTrue, IsSome, List, length, get_or, slice_get, Option, Some, None, option_map, refl, sym, ap, subst, ◌∙◌, arith}
+use Rattle.std.proofs.Common.{◌≡◌, ◌<◌, ◌+◌, ◌⊎◌, ◌↔◌, inl, inr, ℕ, Bool, true, false, not, ◌&&◌, if◌then◌else◌, IsTrue, IsSome, List, length, get_or, slice_get, Option, Some, None, option_map, refl, sym, ap, subst, ◌∙◌, arith}
 use Rattle.std.specs.Borrow.{Bor}
 use Rattle.std.specs.BTreeSet.{BTreeSet}
 use Rattle.std.specs.BTreeMap.{BTreeMap, get}
@@ -7,13 +7,13 @@ use Rattle.std.proofs.lemmas.Bool.{cases_eq, false≢true}
 use Rattle.std.proofs.lemmas.Option.{slice_get_read, slice_get_within, same_Some}
 use Rattle.cargo_lock_parts.specs.Identity.{Identity, PackageData, identity_of}
 use Rattle.cargo_lock_parts.specs.PartialIdentity.{PartialIdentity, partial_identity_cmp}
-use Rattle.cargo_lock_parts.specs.Source.{Source}
+use Rattle.cargo_lock_parts.specs.Source.{Source, is_remote_registry}
 use Rattle.cargo_lock_parts.specs.SourceKey.{is_same_source, key_of}
 use Rattle.cargo_lock_parts.specs.SourceLaws.{is_same_source-Decides}
 use Rattle.cargo_lock_graph.specs.Candidates.{AreLastPlaces, identity_as_key}
 use Rattle.cargo_lock_graph.specs.Targets.{HasIdentity, HoldsOf, IsLastBelow}
-use Rattle.cargo_lock_check.specs.Packages.{HasChecksumFrom, IsTwice, IsWithoutChecksum, LacksChecksum}
-use Rattle.cargo_lock_check.specs.Seen.{AreChecked, LacksChecksumAmong, has_source}
+use Rattle.cargo_lock_check.specs.Packages.{HasChecksumFrom, IsFirstUnchecked, IsOwnFrom, IsTwice, IsUnchecked, IsWithoutChecksum, LacksChecksum, own_source}
+use Rattle.cargo_lock_check.specs.Seen.{AreChecked, AreOwn, LacksChecksumAmong, has_source, is_new}
 
 -- what holds of the package at a place holds of that package
 pub holds-here : (P : PackageData → Type 0) (packages : List PackageData) (place : ℕ) (p : PackageData) → slice_get packages place ≡ Some p
@@ -119,3 +119,79 @@ without-known packages sources place p b are low is tells =
       λ h. (p, at, (lacks-among packages sources p are).0 (tells.0 h)),
       λ h. tells.1 ((lacks-among packages sources p are).1 (holds-here (LacksChecksum packages) packages place p at h)),
     )
+
+-- ---- registries without checksums
+
+-- one more package, from this source
+pub own-more : (packages : List PackageData) (place : ℕ) (sources grown : BTreeSet (Bor Source)) (p : PackageData) (source : Source)
+    → slice_get packages place ≡ Some p → own_source p ≡ Some source
+    → ((s : Source) → has_source grown s ≡ (if is_same_source source s then true else has_source sources s))
+    → AreOwn packages place sources → AreOwn packages (place + 1) grown
+own-more packages place sources grown p source at from grows so_far s = go (is_same_source source s) refl
+  where
+    go : (b : Bool) → is_same_source source s ≡ b → (has_source grown s ≡ true) ↔ ((j : ℕ) × (j < place + 1) × HoldsOf (IsOwnFrom s) packages j)
+    go true same =
+        step-hit (HoldsOf (IsOwnFrom s) packages) place (has_source grown s)
+        (grows s ∙ ap (λ b. if b then true else has_source sources s) same)
+        (p, at, ap (option_map key_of) from ∙ ap Some ((is_same_source-Decides source s).0 same))
+    go false other =
+        let kept : has_source grown s ≡ has_source sources s = grows s ∙ ap (λ b. if b then true else has_source sources s) other in
+        step-miss (HoldsOf (IsOwnFrom s) packages) place (has_source grown s)
+        (λ h.
+        let here = holds-here (IsOwnFrom s) packages place p at h in
+        let key = same_Some (key_of source) (key_of s) (sym (ap (option_map key_of) from) ∙ here) in
+        false≢true (sym other ∙ (is_same_source-Decides source s).1 key))
+        (subst (λ b. (b ≡ true) ↔ ((j : ℕ) × (j < place) × HoldsOf (IsOwnFrom s) packages j)) (sym kept) (so_far s))
+
+-- one more package, replaced or with no source
+pub own-same : (packages : List PackageData) (place : ℕ) (sources : BTreeSet (Bor Source)) (p : PackageData)
+    → slice_get packages place ≡ Some p → own_source p ≡ None → AreOwn packages place sources → AreOwn packages (place + 1) sources
+own-same packages place sources p at none so_far s =
+    step-miss (HoldsOf (IsOwnFrom s) packages) place (has_source sources s)
+    (λ h. let e = sym (ap (option_map key_of) none) ∙ holds-here (IsOwnFrom s) packages place p at h in cc e) (so_far s)
+
+pub none-unchecked : (packages : List PackageData) (place : ℕ) (p : PackageData) → slice_get packages place ≡ Some p → own_source p ≡ None → ¬ IsUnchecked packages place
+none-unchecked packages place p at none h =
+    let here = holds-here (IsFirstUnchecked packages place) packages place p at h in
+    let e = sym none ∙ here.from in cc e
+
+both-parts : (a b : Bool) → (a && b) ≡ true → (a ≡ true) × (b ≡ true)
+both-parts true b h = (refl, h)
+both-parts false b h = absurd (false≢true h)
+
+not-true : (b : Bool) → not b ≡ true → ¬ (b ≡ true)
+not-true true h = λ e. false≢true h
+not-true false h = λ e. false≢true e
+
+true-not : (b : Bool) → ¬ (b ≡ true) → not b ≡ true
+true-not true h = absurd (h refl)
+true-not false h = refl
+
+-- the source is new exactly where the package is the first of a registry without checksums
+pub unchecked-known : (packages : List PackageData) (checked seen : BTreeSet (Bor Source)) (place : ℕ) (p : PackageData) (source : Source)
+    → AreChecked packages (length packages) checked → AreOwn packages place seen → slice_get packages place ≡ Some p → own_source p ≡ Some source
+    → (is_new checked seen source ≡ true) ↔ IsUnchecked packages place
+unchecked-known packages checked seen place p source are own at from = (
+  λ h.
+      let (front, unseen) = both-parts (is_remote_registry source.kind && not (has_source checked source)) (not (has_source seen source)) h in
+      let (remote, bare) = both-parts (is_remote_registry source.kind) (not (has_source checked source)) front in (
+        p,
+        at,
+        record {
+          source = source;
+          from = from;
+          remote = remote;
+          none = λ j there. not-true (has_source checked source) bare ((are source).1 (j, slice_get_within packages j there.0 there.1, there));
+          first = λ j low there. not-true (has_source seen source) unseen ((own source).1 (j, low, there));
+        },
+      ),
+  λ h.
+      let here = holds-here (IsFirstUnchecked packages place) packages place p at h in
+      let same : here.source ≡ source = same_Some here.source source (sym here.from ∙ from) in
+      subst (λ s. is_new checked seen s ≡ true) same
+      (rw (
+        here.remote,
+        true-not (has_source checked here.source) (λ t. let found = (are here.source).0 t in here.none found.0 found.2),
+        true-not (has_source seen here.source) (λ t. let found = (own here.source).0 t in here.first found.0 found.1 found.2),
+      ) refl),
+)

@@ -4,18 +4,23 @@ use Rattle.std.specs.List.{Contains, cons_option, filter_map, list_any}
 use Rattle.std.specs.Option.{option_and_then, option_to_list}
 use Rattle.std.specs.Str.Lines.{lines}
 use Rattle.std.proofs.lemmas.Bool.{ne_eqb}
-use Rattle.std.proofs.lemmas.Option.{slice_get_within, slice_get-get_or}
+use Rattle.std.proofs.lemmas.Option.{slice_get_within, slice_get-get_or, slice_get-map}
 use Rattle.cargo_lock_parts.specs.Identity.{PackageData}
 use Rattle.cargo_lock_parts.specs.Source.{Source}
 use Rattle.cargo_lock_references.specs.declared.version.ResolveVersion.{ResolveVersion}
 use Rattle.cargo_lock_encoding.specs.Lockfiles.{LockfileData}
-use Rattle.cargo_lock_graph.specs.Targets.{HoldsOf}
-use Rattle.cargo_lock_check.specs.Finding.{Alike, BadName, FindingData, LookAlike, LostDependency, Misplaced, NoChecksum, NoRoot, Orphan, OtherLine, StaleChecksum, Twice, UserInfo}
-use Rattle.cargo_lock_check.specs.Findings.{AreFindings, FindingsData, IsEmpty, IsOtherLine, IsWrittenByCargo, alike_at, lost_at, misplaced_at, no_root, package_at, printed_lines, source_at, told_of, told_of_format, told_of_misleading, told_of_orphans}
+use Rattle.cargo_lock_graph.specs.Targets.{HoldsOf, IsLost}
+use Rattle.cargo_lock_references.specs.declared.version.ResolveVersion.TheVariants.{V1, V2, V3, V4}
+use Rattle.cargo_lock_parts.specs.Identity.{Identity}
+use Rattle.cargo_lock.specs.CargoChecksums.{cargo_checksum, with_checksum}
+use Rattle.std.proofs.lemmas.List.{length-map}
+use Rattle.cargo_lock_check.specs.Dependencies.{AreDependencies, HoldsAt, HoldsOfDependency, IsMisplacedAt, IsRepeatedAt, IsSameDependency}
+use Rattle.cargo_lock_check.specs.Finding.{Alike, BadName, FindingData, LookAlike, LossySource, LostDependency, Misplaced, MisplacedDependency, NoChecksum, NoChecksums, NoRoot, Orphan, OtherLine, RepeatedDependency, StaleChecksum, Twice, UserInfo}
+use Rattle.cargo_lock_check.specs.Findings.{AreFindings, AreLossy, FindingsData, IsEmpty, IsLostIn, IsOtherLine, IsWrittenByCargo, alike_at, cargo_printed_lines, checked_packages, dependency_at, misplaced_at, misplaced_dependency_at, no_root, package_at, source_at, told_of, told_of_checksums, told_of_format, told_of_formats, told_of_misleading, told_of_order, told_of_orphans, told_of_twice, with_next}
 use Rattle.cargo_lock_check.specs.Alike.{AreAlikeAt, ArePairsAlike, IsFirstAlike}
 use Rattle.cargo_lock_check.specs.Lost.{IsLostAt}
 use Rattle.cargo_lock_check.specs.Names.{IsBadlyNamed}
-use Rattle.cargo_lock_check.specs.Packages.{IsMisplaced, IsTwice, IsWithoutChecksum}
+use Rattle.cargo_lock_check.specs.Packages.{IsFirstUnchecked, IsMisplaced, IsTwice, IsUnchecked, IsWithoutChecksum, own_source, source_unless}
 use Rattle.cargo_lock_check.specs.Places.{IsPlaces}
 use Rattle.cargo_lock_check.specs.Reach.{IsOrphan}
 use Rattle.cargo_lock_check.specs.Sound.{EmptyIfSound, NoneToldIfEmpty}
@@ -43,6 +48,27 @@ places-empty P n places is = (
 
 within : (P : PackageData → Type 0) (packages : List PackageData) (k : ℕ) → HoldsOf P packages k → k < length packages
 within P packages k h = slice_get_within packages k h.0 h.1
+
+-- dependencies at places
+dependencies-empty : (P : ℕ → ℕ → Type 0) (places : List (ℕ × ℕ)) → AreDependencies P places → (places ≡ []) ↔ ((place at : ℕ) → ¬ P place at)
+dependencies-empty P places are = (
+  λ e place at h. none-in places (place, at) e ((are.told place at).1 h),
+  λ h. none-left places (λ k c. h k.0 k.1 ((are.told k.0 k.1).0 c)),
+)
+
+-- the packages with the checksums that Cargo reads are as many
+as-many : (l : LockfileData) → length (checked_packages l) ≡ length l.packages
+as-many l = length-map l.packages (λ p. with_checksum (cargo_checksum l.version l.metadata p) p)
+
+within-checked : (P : PackageData → Type 0) (l : LockfileData) (k : ℕ) → HoldsOf P (checked_packages l) k → k < length l.packages
+within-checked P l k h = (let low = within P (checked_packages l) k h in let long = as-many l in omega (arith, low, long))
+
+-- sources that the format loses
+lossy-empty : (version : ResolveVersion) (text : List ℕ) (lossy : List (List ℕ)) → AreLossy version text lossy → (lossy ≡ []) ↔ ((source : List ℕ) → ¬ IsLostIn version text source)
+lossy-empty V1 text lossy are = (λ e s h. none-in lossy s e ((are.told s).1 h), λ h. none-left lossy (λ s c. h s ((are.told s).0 c)))
+lossy-empty V2 text lossy are = (λ e s h. none-in lossy s e ((are.told s).1 h), λ h. none-left lossy (λ s c. h s ((are.told s).0 c)))
+lossy-empty V3 text lossy are = (λ e s h. none-in lossy s e ((are.told s).1 h), λ h. none-left lossy (λ s c. h s ((are.told s).0 c)))
+lossy-empty V4 text lossy are = (λ e s h. h, λ h. are)
 
 -- two packages are alike where one has a first one alike
 no-first : (packages : List PackageData) (j : ℕ) → ((i : ℕ) → ¬ IsFirstAlike packages i j) → (bound i : ℕ) → i < bound → i < j → ¬ AreAlikeAt packages i j
@@ -75,37 +101,45 @@ root-cases (Some p) = inr (λ e. cc e)
 pub empty_if_sound : EmptyIfSound
 empty_if_sound text l f is = (
   λ e. record {
-    dependencies = λ place at h. none-in f.lost_dependencies (place, at) e.lost_dependencies ((is.lost_dependencies.told place at).1 h);
+    plain = (lossy-empty l.version text f.lossy is.lossy).0 e.lossy;
+    dependencies = (dependencies-empty (IsLostAt l.packages) f.lost_dependencies (is.lost_dependencies.asked e.lossy)).0 e.lost_dependencies;
     once = λ k h. (places-empty (IsTwice l.packages) (length l.packages) f.twice is.twice).0 e.twice k (within _ l.packages k h) h;
+    listed_once = (dependencies-empty (IsRepeatedAt l.packages) f.repeated is.repeated).0 e.repeated;
     named = λ k h. (places-empty (IsBadlyNamed l.packages) (length l.packages) f.badly_named is.badly_named).0 e.badly_named k (within _ l.packages k h) h;
     apart = (alike-empty l.packages f.alike is.alike).0 e.alike;
     genuine = λ k h. (places-empty (IsFromAt IsLookAlike l.packages) (length l.packages) f.look_alikes is.look_alikes).0 e.look_alikes k (within _ l.packages k h) h;
     anonymous = λ k h. (places-empty (IsFromAt HasUserInfo l.packages) (length l.packages) f.with_user_info is.with_user_info).0 e.with_user_info k (within _ l.packages k h) h;
-    needed = λ rootless. (places-empty (IsOrphan l.packages) (length l.packages) f.orphans (is.orphans.rootless rootless)).0 e.orphans;
-    checksums = λ k h. (places-empty (IsWithoutChecksum l.packages) (length l.packages) f.without_checksum is.without_checksum).0 e.without_checksum k (within _ l.packages k h) h;
+    needed = λ rootless. (places-empty (IsOrphan l.packages) (length l.packages) f.orphans ((is.orphans.asked e.lossy).rootless rootless)).0 e.orphans;
+    checksums = λ k h. (places-empty (IsWithoutChecksum (checked_packages l)) (length l.packages) f.without_checksum is.without_checksum).0 e.without_checksum k (within-checked _ l k h) h;
+    checked = λ k h. (places-empty (IsUnchecked (checked_packages l)) (length l.packages) f.unchecked is.unchecked).0 e.unchecked k (within-checked _ l k h) h;
     metadata = λ key h. none-in (stale_keys l.metadata l.packages) key (sym is.stale ∙ e.stale) ((stale_keys_are_exact l.metadata l.packages key).1 h);
     ordered = λ k h. (places-empty (IsMisplaced l.packages) (length l.packages) f.misplaced is.misplaced).0 e.misplaced k (within _ l.packages k h) h;
-    kept = is.is_kept.0 e.is_kept;
+    listed_in_order = (dependencies-empty (IsMisplacedAt l.packages) f.misplaced_dependencies is.misplaced_dependencies).0 e.misplaced_dependencies;
+    kept = (is.is_kept.asked e.lossy).0 e.is_kept;
     written = λ rootless.
-        subst (λ o. MatchOption o (IsWrittenByCargo text l) (IsFirstOther (lines text) (cargo_lines (lines text) (printed_lines l)))) e.other_line
-        (is.other_line.compared record { rootless = rootless; kept = is.is_kept.0 e.is_kept });
+        subst (λ o. MatchOption o (IsWrittenByCargo text l) (IsFirstOther (lines text) (cargo_lines (lines text) (cargo_printed_lines l)))) e.other_line
+        ((is.other_line.asked e.lossy).compared record { rootless = rootless; kept = (is.is_kept.asked e.lossy).0 e.is_kept });
   },
-  λ s. record {
-    lost_dependencies = none-left f.lost_dependencies (λ k c. s.dependencies k.0 k.1 ((is.lost_dependencies.told k.0 k.1).0 c));
+  λ s. let none = (lossy-empty l.version text f.lossy is.lossy).1 s.plain in record {
+    lossy = none;
+    lost_dependencies = (dependencies-empty (IsLostAt l.packages) f.lost_dependencies (is.lost_dependencies.asked none)).1 s.dependencies;
     twice = (places-empty (IsTwice l.packages) (length l.packages) f.twice is.twice).1 (λ k _. s.once k);
+    repeated = (dependencies-empty (IsRepeatedAt l.packages) f.repeated is.repeated).1 s.listed_once;
     badly_named = (places-empty (IsBadlyNamed l.packages) (length l.packages) f.badly_named is.badly_named).1 (λ k _. s.named k);
     alike = (alike-empty l.packages f.alike is.alike).1 s.apart;
     look_alikes = (places-empty (IsFromAt IsLookAlike l.packages) (length l.packages) f.look_alikes is.look_alikes).1 (λ k _. s.genuine k);
     with_user_info = (places-empty (IsFromAt HasUserInfo l.packages) (length l.packages) f.with_user_info is.with_user_info).1 (λ k _. s.anonymous k);
     orphans = elim (root-cases l.root) [
-      | inl rootless ↦ (places-empty (IsOrphan l.packages) (length l.packages) f.orphans (is.orphans.rootless rootless)).1 (s.needed rootless)
-      | inr rooted ↦ is.orphans.rooted rooted
+      | inl rootless ↦ (places-empty (IsOrphan l.packages) (length l.packages) f.orphans ((is.orphans.asked none).rootless rootless)).1 (s.needed rootless)
+      | inr rooted ↦ (is.orphans.asked none).rooted rooted
     ];
-    without_checksum = (places-empty (IsWithoutChecksum l.packages) (length l.packages) f.without_checksum is.without_checksum).1 (λ k _. s.checksums k);
+    without_checksum = (places-empty (IsWithoutChecksum (checked_packages l)) (length l.packages) f.without_checksum is.without_checksum).1 (λ k _. s.checksums k);
+    unchecked = (places-empty (IsUnchecked (checked_packages l)) (length l.packages) f.unchecked is.unchecked).1 (λ k _. s.checked k);
     stale = is.stale ∙ none-left (stale_keys l.metadata l.packages) (λ key c. s.metadata key ((stale_keys_are_exact l.metadata l.packages key).0 c));
     misplaced = (places-empty (IsMisplaced l.packages) (length l.packages) f.misplaced is.misplaced).1 (λ k _. s.ordered k);
-    is_kept = is.is_kept.1 s.kept;
-    other_line = other-none text l f.other_line is.other_line s.written;
+    misplaced_dependencies = (dependencies-empty (IsMisplacedAt l.packages) f.misplaced_dependencies is.misplaced_dependencies).1 s.listed_in_order;
+    is_kept = (is.is_kept.asked none).1 s.kept;
+    other_line = other-none text l f.other_line (is.other_line.asked none) s.written;
   },
 )
 
@@ -136,11 +170,22 @@ some-package finding (p ∷ ps) k lt none = go (slice_get (p ∷ ps) k) (slice_g
     go (Some q) e n = cc n
 some-package finding [] k lt none = absurd (omega (arith, lt))
 
-lost-there : (packages : List PackageData) (k : ℕ × ℕ) → IsLostAt packages k.0 k.1 → ¬ (lost_at packages k ≡ None)
-lost-there packages k h none =
+dependency-there : (finding : PackageData → Identity → FindingData) (Q : Identity → List Identity → ℕ → Type 0) (packages : List PackageData) (k : ℕ × ℕ)
+    → HoldsAt (λ ds at. HoldsOfDependency (λ d. Q d ds at) ds at) packages k.0 k.1 → ¬ (dependency_at finding packages k ≡ None)
+dependency-there finding Q packages k h none =
     let p : PackageData = h.0 in
-    let named : PackageData → Option FindingData = λ q. option_map (LostDependency q) (slice_get q.dependencies k.1) in
-    let is : lost_at packages k ≡ Some (LostDependency p h.2.0) = ap (option_and_then named) h.1 ∙ ap (option_map (LostDependency p)) h.2.1 in
+    let named : PackageData → Option FindingData = λ q. option_map (finding q) (slice_get q.dependencies k.1) in
+    let is : dependency_at finding packages k ≡ Some (finding p h.2.0) = ap (option_and_then named) h.1 ∙ ap (option_map (finding p)) h.2.1 in
+    cc (is, none)
+
+misplaced-dependency-there : (packages : List PackageData) (k : ℕ × ℕ) → IsMisplacedAt packages k.0 k.1 → ¬ (misplaced_dependency_at packages k ≡ None)
+misplaced-dependency-there packages k h none =
+    let p : PackageData = h.0 in
+    let d : Identity = h.2.0 in
+    let after = h.2.2 in
+    let named : PackageData → Option FindingData = λ q. option_and_then (with_next q k.1) (slice_get q.dependencies k.1) in
+    let is : misplaced_dependency_at packages k ≡ Some (MisplacedDependency p d after.0) =
+    ap (option_and_then named) h.1 ∙ ap (option_and_then (with_next p k.1)) h.2.1 ∙ ap (option_map (MisplacedDependency p d)) after.1 in
     cc (is, none)
 
 misplaced-there : (packages : List PackageData) (k : ℕ) → IsMisplaced packages k → ¬ (misplaced_at packages k ≡ None)
@@ -163,6 +208,32 @@ source-there P finding packages k h none =
     let named : PackageData → Option FindingData = λ q. option_map finding q.source in
     let is : source_at finding packages k ≡ Some (finding from.0) = ap (option_and_then named) h.1 ∙ ap (option_map finding) from.1 in
     cc (is, none)
+
+own-some : (replace : Option Identity) (source : Option Source) (s : Source) → source_unless replace source ≡ Some s → source ≡ Some s
+own-some None source s h = h
+own-some (Some other) source s h = cc h
+
+-- a package has its source whatever its checksum is
+same-source : (l : LockfileData) (o : Option PackageData)
+    → option_and_then (λ (q : PackageData). option_map NoChecksums q.source) (option_map (λ (q : PackageData). with_checksum (cargo_checksum l.version l.metadata q) q) o)
+    ≡ option_and_then (λ (q : PackageData). option_map NoChecksums q.source) o
+same-source l None = refl
+same-source l (Some q) = refl
+
+-- a package from a registry without checksums has a source
+unchecked-there : (l : LockfileData) (k : ℕ) → IsUnchecked (checked_packages l) k → ¬ (source_at NoChecksums l.packages k ≡ None)
+unchecked-there l k h none =
+    let first : IsFirstUnchecked (checked_packages l) k h.0 = h.2 in
+    let p : PackageData = h.0 in
+    let f : PackageData → PackageData = λ q. with_checksum (cargo_checksum l.version l.metadata q) q in
+    let from : p.source ≡ Some first.source = own-some p.replace p.source first.source first.from in
+    let named : PackageData → Option FindingData = λ q. option_map NoChecksums q.source in
+    let mapped : slice_get (checked_packages l) k ≡ option_map f (slice_get l.packages k) = slice_get-map f l.packages k in
+    let same : option_and_then named (slice_get (checked_packages l) k) ≡ source_at NoChecksums l.packages k =
+    ap (option_and_then named) mapped ∙ same-source l (slice_get l.packages k) in
+    let is : option_and_then named (slice_get (checked_packages l) k) ≡ Some (NoChecksums first.source) =
+    ap (option_and_then named) h.1 ∙ ap (option_map NoChecksums) from in
+    cc (same, is, none)
 
 sources-none : (P : Source → Type 0) (finding : Source → FindingData) (packages : List PackageData) (places : List ℕ) → IsPlaces (IsFromAt P packages) (length packages) places
     → filter_map (source_at finding packages) places ≡ [] → places ≡ []
@@ -205,21 +276,31 @@ line-none (Some o) e = cc e
 told-nothing : (text : List ℕ) (l : LockfileData) (f : FindingsData) → AreFindings text l f → told_of f ≡ [] → IsEmpty f
 told-nothing text l f is e =
     let here : f.packages ≡ l.packages = is.packages in
-    let e1 = append-none (filter_map (lost_at f.packages) f.lost_dependencies) _ e in
-    let e2 = append-none (filter_map (package_at Twice f.packages) f.twice) _ e1.1 in
+    let e1 = append-none (filter_map (dependency_at LostDependency f.packages) f.lost_dependencies) _ e in
+    let e2 = append-none (told_of_twice f) _ e1.1 in
+    let t = append-none (filter_map (package_at Twice f.packages) f.twice) _ e2.0 in
     let m = append-none (told_of_misleading f) _ e2.1 in
     let m1 = append-none (filter_map (package_at BadName f.packages) f.badly_named) _ m.0 in
     let m2 = append-none (filter_map (alike_at f.packages) f.alike) _ m1.1 in
     let m3 = append-none (filter_map (source_at LookAlike f.packages) f.look_alikes) _ m2.1 in
     let e3 = append-none (told_of_orphans f.packages f.orphans) _ m.1 in
-    let e4 = append-none (filter_map (package_at NoChecksum f.packages) f.without_checksum) _ e3.1 in
+    let e4 = append-none (told_of_checksums f) _ e3.1 in
+    let u = append-none (filter_map (package_at NoChecksum f.packages) f.without_checksum) _ e4.0 in
     let e5 = append-none (map StaleChecksum f.stale) _ e4.1 in
-    let e6 = append-none (filter_map (misplaced_at f.packages) f.misplaced) _ e5.1 in
-    let e7 = append-none (told_of_format f.is_kept f.version) _ e6.1 in
+    let e6 = append-none (told_of_order f) _ e5.1 in
+    let o = append-none (filter_map (misplaced_at f.packages) f.misplaced) _ e6.0 in
+    let e7 = append-none (told_of_formats f) _ e6.1 in
+    let v = append-none (map (LossySource f.version) f.lossy) _ e7.0 in
+    let none : f.lossy ≡ [] = map-none (LossySource f.version) f.lossy v.0 in
     record {
-      lost_dependencies = filter_map-none (lost_at l.packages) f.lost_dependencies
-          (λ k c. lost-there l.packages k ((is.lost_dependencies.told k.0 k.1).0 c)) (subst (λ ps. filter_map (lost_at ps) f.lost_dependencies ≡ []) here e1.0);
-      twice = told-none (IsTwice l.packages) Twice l.packages f.twice is.twice (subst (λ ps. filter_map (package_at Twice ps) f.twice ≡ []) here e2.0);
+      lossy = none;
+      lost_dependencies = filter_map-none (dependency_at LostDependency l.packages) f.lost_dependencies
+          (λ k c. dependency-there LostDependency (λ d ds at. IsLost l.packages d) l.packages k (((is.lost_dependencies.asked none).told k.0 k.1).0 c))
+          (subst (λ ps. filter_map (dependency_at LostDependency ps) f.lost_dependencies ≡ []) here e1.0);
+      twice = told-none (IsTwice l.packages) Twice l.packages f.twice is.twice (subst (λ ps. filter_map (package_at Twice ps) f.twice ≡ []) here t.0);
+      repeated = filter_map-none (dependency_at RepeatedDependency l.packages) f.repeated
+          (λ k c. dependency-there RepeatedDependency (λ d ds at. (j : ℕ) × (j < at) × HoldsOfDependency (IsSameDependency d) ds j) l.packages k ((is.repeated.told k.0 k.1).0 c))
+          (subst (λ ps. filter_map (dependency_at RepeatedDependency ps) f.repeated ≡ []) here t.1);
       badly_named = told-none (IsBadlyNamed l.packages) BadName l.packages f.badly_named is.badly_named (subst (λ ps. filter_map (package_at BadName ps) f.badly_named ≡ []) here m1.0);
       alike = filter_map-none (alike_at l.packages) f.alike (λ k c. let first = (is.alike.told k.0 k.1).0 c in alike-there l.packages k first.1)
           (subst (λ ps. filter_map (alike_at ps) f.alike ≡ []) here m2.0);
@@ -227,31 +308,39 @@ told-nothing text l f is e =
       with_user_info = sources-none HasUserInfo UserInfo l.packages f.with_user_info is.with_user_info
           (subst (λ ps. filter_map (source_at UserInfo ps) f.with_user_info ≡ []) here m3.1);
       orphans = elim (root-cases l.root) [
-        | inl rootless ↦ orphans-none l.packages f.orphans (is.orphans.rootless rootless) (subst (λ ps. told_of_orphans ps f.orphans ≡ []) here e3.0)
-        | inr rooted ↦ is.orphans.rooted rooted
+        | inl rootless ↦ orphans-none l.packages f.orphans ((is.orphans.asked none).rootless rootless) (subst (λ ps. told_of_orphans ps f.orphans ≡ []) here e3.0)
+        | inr rooted ↦ (is.orphans.asked none).rooted rooted
       ];
-      without_checksum = told-none (IsWithoutChecksum l.packages) NoChecksum l.packages f.without_checksum is.without_checksum
-          (subst (λ ps. filter_map (package_at NoChecksum ps) f.without_checksum ≡ []) here e4.0);
+      without_checksum = told-none (IsWithoutChecksum (checked_packages l)) NoChecksum l.packages f.without_checksum is.without_checksum
+          (subst (λ ps. filter_map (package_at NoChecksum ps) f.without_checksum ≡ []) here u.0);
+      unchecked = filter_map-none (source_at NoChecksums l.packages) f.unchecked
+          (λ k c. unchecked-there l k ((is.unchecked.told k).0 c).1) (subst (λ ps. filter_map (source_at NoChecksums ps) f.unchecked ≡ []) here u.1);
       stale = map-none StaleChecksum f.stale e5.0;
       misplaced = filter_map-none (misplaced_at l.packages) f.misplaced
-          (λ k c. misplaced-there l.packages k ((is.misplaced.told k).0 c).1) (subst (λ ps. filter_map (misplaced_at ps) f.misplaced ≡ []) here e6.0);
-      is_kept = format-none f.is_kept f.version e7.0;
+          (λ k c. misplaced-there l.packages k ((is.misplaced.told k).0 c).1) (subst (λ ps. filter_map (misplaced_at ps) f.misplaced ≡ []) here o.0);
+      misplaced_dependencies = filter_map-none (misplaced_dependency_at l.packages) f.misplaced_dependencies
+          (λ k c. misplaced-dependency-there l.packages k ((is.misplaced_dependencies.told k.0 k.1).0 c))
+          (subst (λ ps. filter_map (misplaced_dependency_at ps) f.misplaced_dependencies ≡ []) here o.1);
+      is_kept = format-none f.is_kept f.version v.1;
       other_line = line-none f.other_line e7.1;
     }
 
 nothing-told : (f : FindingsData) → IsEmpty f → told_of f ≡ []
 nothing-told f e =
-    (λ i. filter_map (lost_at f.packages) (e.lost_dependencies i)
-    ++ (filter_map (package_at Twice f.packages) (e.twice i)
+    (λ i. filter_map (dependency_at LostDependency f.packages) (e.lost_dependencies i)
+    ++ ((filter_map (package_at Twice f.packages) (e.twice i)
+    ++ filter_map (dependency_at RepeatedDependency f.packages) (e.repeated i))
     ++ ((filter_map (package_at BadName f.packages) (e.badly_named i)
     ++ (filter_map (alike_at f.packages) (e.alike i)
     ++ (filter_map (source_at LookAlike f.packages) (e.look_alikes i)
     ++ filter_map (source_at UserInfo f.packages) (e.with_user_info i))))
     ++ (told_of_orphans f.packages (e.orphans i)
-    ++ (filter_map (package_at NoChecksum f.packages) (e.without_checksum i)
+    ++ ((filter_map (package_at NoChecksum f.packages) (e.without_checksum i)
+    ++ filter_map (source_at NoChecksums f.packages) (e.unchecked i))
     ++ (map StaleChecksum (e.stale i)
-    ++ (filter_map (misplaced_at f.packages) (e.misplaced i)
-    ++ (told_of_format (e.is_kept i) f.version
+    ++ ((filter_map (misplaced_at f.packages) (e.misplaced i)
+    ++ filter_map (misplaced_dependency_at f.packages) (e.misplaced_dependencies i))
+    ++ ((map (LossySource f.version) (e.lossy i) ++ told_of_format (e.is_kept i) f.version)
     ++ option_to_list (option_map OtherLine (e.other_line i))))))))))
     ∙ ap (λ fs. fs ++ []) (no-orphans f.packages)
 

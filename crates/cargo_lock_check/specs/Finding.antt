@@ -12,13 +12,14 @@ use Rattle.cargo_lock_parts.specs.SourceText.{text_of}
 use Rattle.cargo_lock_references.specs.declared.version.ResolveVersion.{ResolveVersion}
 use Rattle.cargo_lock_references.specs.Format.{number_of}
 use Rattle.cargo_lock_check.specs.declared.finding.Finding.{Finding}
-use Rattle.cargo_lock_check.specs.declared.finding.Finding.TheVariants.{LostDependency as LostDependencyAt, Twice as TwiceAt, BadName as BadNameAt, Alike as AlikeAt, LookAlike as LookAlikeAt, UserInfo as UserInfoAt, NoRoot as NoRootAt, Orphan as OrphanAt, NoChecksum as NoChecksumAt, StaleChecksum as StaleChecksumAt, Misplaced as MisplacedAt, NotKept as NotKeptAt, OtherLine as OtherLineAt}
+use Rattle.cargo_lock_check.specs.declared.finding.Finding.TheVariants.{LostDependency as LostDependencyAt, Twice as TwiceAt, RepeatedDependency as RepeatedDependencyAt, BadName as BadNameAt, Alike as AlikeAt, LookAlike as LookAlikeAt, UserInfo as UserInfoAt, NoRoot as NoRootAt, Orphan as OrphanAt, NoChecksum as NoChecksumAt, NoChecksums as NoChecksumsAt, StaleChecksum as StaleChecksumAt, Misplaced as MisplacedAt, MisplacedDependency as MisplacedDependencyAt, LossySource as LossySourceAt, NotKept as NotKeptAt, OtherLine as OtherLineAt}
 use Rattle.cargo_lock_check.specs.Text.{OtherLineData}
 
 -- one thing that is wrong
 pub data FindingData : Type 0 where
   LostDependency : PackageData → Identity → FindingData
   Twice : PackageData → FindingData
+  RepeatedDependency : PackageData → Identity → FindingData
   BadName : PackageData → FindingData
   Alike : PackageData → PackageData → FindingData
   LookAlike : Source → FindingData
@@ -26,8 +27,11 @@ pub data FindingData : Type 0 where
   NoRoot : FindingData
   Orphan : PackageData → FindingData
   NoChecksum : PackageData → FindingData
+  NoChecksums : Source → FindingData
   StaleChecksum : List ℕ → FindingData
   Misplaced : PackageData → PackageData → FindingData
+  MisplacedDependency : PackageData → Identity → Identity → FindingData
+  LossySource : ResolveVersion → List ℕ → FindingData
   NotKept : ResolveVersion → FindingData
   OtherLine : OtherLineData → FindingData
 
@@ -35,6 +39,7 @@ pub data FindingData : Type 0 where
 abbrev pub finding_of : Finding → FindingData
 finding_of (LostDependencyAt p d) = LostDependency p.now d.now
 finding_of (TwiceAt p) = Twice p.now
+finding_of (RepeatedDependencyAt p d) = RepeatedDependency p.now d.now
 finding_of (BadNameAt p) = BadName p.now
 finding_of (AlikeAt p q) = Alike p.now q.now
 finding_of (LookAlikeAt source) = LookAlike source.now
@@ -42,8 +47,11 @@ finding_of (UserInfoAt source) = UserInfo source.now
 finding_of NoRootAt = NoRoot
 finding_of (OrphanAt p) = Orphan p.now
 finding_of (NoChecksumAt p) = NoChecksum p.now
+finding_of (NoChecksumsAt source) = NoChecksums source.now
 finding_of (StaleChecksumAt key) = StaleChecksum key.now
 finding_of (MisplacedAt p next) = Misplaced p.now next.now
+finding_of (MisplacedDependencyAt p d next) = MisplacedDependency p.now d.now next.now
+finding_of (LossySourceAt version text) = LossySource version text.now
 finding_of (NotKeptAt version) = NotKept version
 finding_of (OtherLineAt line) = OtherLine line.now
 
@@ -72,6 +80,8 @@ abbrev pub line_of : FindingData → List ℕ
 line_of (LostDependency p d) = codes "reference: " ++ (package_text p
     ++ (codes " depends on " ++ (identity_shown d ++ codes ", which is no package")))
 line_of (Twice p) = codes "twice: " ++ (package_text p ++ codes " stands more than once")
+line_of (RepeatedDependency p d) = codes "twice: " ++ (package_text p
+    ++ (codes " lists " ++ (identity_shown d ++ codes " more than once")))
 line_of (BadName p) =
     codes "name: " ++ (shown Plain p.name ++ codes " is no name that Cargo takes")
 line_of (Alike p q) = codes "alike: " ++ (package_text p
@@ -84,19 +94,30 @@ line_of (Orphan p) =
     codes "orphan: " ++ (package_text p ++ codes ": no package of the workspace leads to it")
 line_of (NoChecksum p) =
     codes "checksum: " ++ (package_text p ++ codes " has none, though others of its registry have")
+line_of (NoChecksums source) =
+    codes "checksum: no package of " ++ (source_shown source ++ codes " has one")
 line_of (StaleChecksum key) =
     codes "stale: `" ++ (shown Quoted key ++ codes "` is in the metadata, and is of no package")
 line_of (Misplaced p next) = codes "order: " ++ (package_text p
     ++ (codes " stands before " ++ package_text next))
+line_of (MisplacedDependency p d next) = codes "order: " ++ (package_text p
+    ++ (codes " lists " ++ (identity_shown d ++ (codes " before " ++ identity_shown next))))
+line_of (LossySource version text) = codes "format: V" ++ (decimal (number_of version)
+    ++ (codes " loses the tag, branch or revision of `"
+    ++ (shown Quoted text ++ codes "`; V4 keeps it")))
 line_of (NotKept version) =
     codes "format: V" ++ (decimal (number_of version) ++ codes " does not keep this lockfile")
 line_of (OtherLine line) = codes "text: line " ++ (decimal line.number
     ++ (codes " is not as Cargo writes it: `" ++ (shown Quoted line.written
     ++ (codes "` for `" ++ (shown Quoted line.wanted ++ codes "`")))))
 
+-- the line of each finding, with its newline
+abbrev pub lines_text : List FindingData → List ℕ
+lines_text = flat_map (λ finding. line_of finding ++ newline ∷ [])
+
 -- ---- law
 
 -- each finding is exactly one line, whatever its names, sources, keys and quoted lines hold
 abbrev pub EachIsOneLine : Type 0
 EachIsOneLine = (findings : List FindingData)
-    → lines (flat_map (λ finding. line_of finding ++ newline ∷ []) findings) ≡ map line_of findings
+    → lines (lines_text findings) ≡ map line_of findings

@@ -3,21 +3,27 @@ use Rattle.std.specs.Prelude.{◌≡◌, ◌↔◌, ◌==◌, ◌∷◌, ◌++�
 use Rattle.std.specs.List.{filter_map, list_any}
 use Rattle.std.specs.Option.{option_and_then, option_to_list}
 use Rattle.std.specs.Str.Lines.{lines}
-use Rattle.cargo_lock_parts.specs.Identity.{PackageData}
+use Rattle.cargo_lock_parts.specs.Identity.{Identity, PackageData}
 use Rattle.cargo_lock_parts.specs.Source.{Source}
 use Rattle.cargo_lock_references.specs.declared.version.ResolveVersion.{ResolveVersion}
+use Rattle.cargo_lock_references.specs.declared.version.ResolveVersion.TheVariants.{V1, V2, V3, V4}
 use Rattle.cargo_lock_encoding.specs.Lockfiles.{LockfileData}
 use Rattle.cargo_lock_encoding.specs.Survives.{Survives}
 use Rattle.cargo_lock_encoding.specs.Text.{join_lines, lines_of}
-use Rattle.cargo_lock_check.specs.Finding.{Alike, BadName, FindingData, LookAlike, LostDependency, Misplaced, NoChecksum, NoRoot, NotKept, Orphan, OtherLine, StaleChecksum, Twice, UserInfo}
+use Rattle.cargo_lock.specs.CargoChecksums.{with_cargo_checksums_in}
+use Rattle.cargo_lock.specs.LossySources.{AreLossySources, IsLossyIn}
+use Rattle.cargo_lock_check.specs.Finding.{Alike, BadName, FindingData, LookAlike, LossySource, LostDependency, Misplaced, MisplacedDependency, NoChecksum, NoChecksums, NoRoot, NotKept, Orphan, OtherLine, RepeatedDependency, StaleChecksum, Twice, UserInfo}
+use Rattle.cargo_lock_check.specs.declared.findings.DependencyFlaw.{DependencyFlaw}
+use Rattle.cargo_lock_check.specs.declared.findings.DependencyFlaw.TheVariants as dependency_flaw
 use Rattle.cargo_lock_check.specs.declared.findings.Flaw.{Flaw}
 use Rattle.cargo_lock_check.specs.declared.findings.Flaw.TheVariants as flaw
 use Rattle.cargo_lock_check.specs.declared.findings.SourceFlaw.{SourceFlaw}
 use Rattle.cargo_lock_check.specs.declared.findings.SourceFlaw.TheVariants as source_flaw
 use Rattle.cargo_lock_check.specs.Alike.{ArePairsAlike}
+use Rattle.cargo_lock_check.specs.Dependencies.{AreDependencies, IsMisplacedAt, IsRepeatedAt}
 use Rattle.cargo_lock_check.specs.Lost.{AreLost}
 use Rattle.cargo_lock_check.specs.Names.{IsBadlyNamed}
-use Rattle.cargo_lock_check.specs.Packages.{IsMisplaced, IsTwice, IsWithoutChecksum}
+use Rattle.cargo_lock_check.specs.Packages.{IsMisplaced, IsTwice, IsUnchecked, IsWithoutChecksum}
 use Rattle.cargo_lock_check.specs.Places.{IsPlaces}
 use Rattle.cargo_lock_check.specs.Reach.{IsOrphan}
 use Rattle.cargo_lock_check.specs.Sources.{HasUserInfo, IsFromAt, IsLookAlike}
@@ -28,16 +34,20 @@ use Rattle.cargo_lock_check.specs.Text.{AreSameLines, IsFirstOther, OtherLineDat
 pub record FindingsData : Type 0 where
   pub packages : List PackageData
   pub version : ResolveVersion
+  pub lossy : List (List ℕ)
   pub lost_dependencies : List (ℕ × ℕ)
   pub twice : List ℕ
+  pub repeated : List (ℕ × ℕ)
   pub badly_named : List ℕ
   pub alike : List (ℕ × ℕ)
   pub look_alikes : List ℕ
   pub with_user_info : List ℕ
   pub orphans : List ℕ
   pub without_checksum : List ℕ
+  pub unchecked : List ℕ
   pub stale : List (List ℕ)
   pub misplaced : List ℕ
+  pub misplaced_dependencies : List (ℕ × ℕ)
   pub is_kept : Bool
   pub other_line : Option OtherLineData
 
@@ -47,6 +57,10 @@ pub record FindingsData : Type 0 where
 unfoldable pub printed_lines : LockfileData → List (List ℕ)
 printed_lines l = lines (join_lines (lines_of l))
 
+-- those of the lockfile with the checksums that Cargo reads
+abbrev pub cargo_printed_lines : LockfileData → List (List ℕ)
+cargo_printed_lines l = printed_lines (with_cargo_checksums_in l)
+
 -- a text is compared where its lockfile has no root apart from its packages, which is never
 -- printed, and survives its format
 pub record IsCompared (l : LockfileData) : Type 0 where
@@ -55,13 +69,14 @@ pub record IsCompared (l : LockfileData) : Type 0 where
 
 -- each line of the text is as Cargo writes it
 abbrev pub IsWrittenByCargo : List ℕ → LockfileData → Type 0
-IsWrittenByCargo text l = AreSameLines (lines text) (cargo_lines (lines text) (printed_lines l))
+IsWrittenByCargo text l =
+    AreSameLines (lines text) (cargo_lines (lines text) (cargo_printed_lines l))
 
 -- the first line that is not as Cargo writes it, where the text is compared
 pub record IsOtherLine (text : List ℕ) (l : LockfileData) (other : Option OtherLineData) : Type 0
   where
     pub compared : IsCompared l → MatchOption other (IsWrittenByCargo text l)
-        (IsFirstOther (lines text) (cargo_lines (lines text) (printed_lines l)))
+        (IsFirstOther (lines text) (cargo_lines (lines text) (cargo_printed_lines l)))
     pub not_compared : ¬ IsCompared l → other ≡ None
 
 -- the orphans; they are not looked for where the lockfile has a root apart from its packages
@@ -69,47 +84,95 @@ pub record AreOrphans (l : LockfileData) (orphans : List ℕ) : Type 0 where
   pub rootless : l.root ≡ None → IsPlaces (IsOrphan l.packages) (length l.packages) orphans
   pub rooted : ¬ (l.root ≡ None) → orphans ≡ []
 
+-- the packages with the checksums that Cargo reads
+abbrev pub checked_packages : LockfileData → List PackageData
+checked_packages l = (with_cargo_checksums_in l).packages
+
+-- the source is written in the text, and this format loses its tag, branch or revision
+abbrev pub IsLostIn : ResolveVersion → List ℕ → List ℕ → Type 0
+IsLostIn V1 text source = IsLossyIn text source
+IsLostIn V2 text source = IsLossyIn text source
+IsLostIn V3 text source = IsLossyIn text source
+IsLostIn V4 text source = ⊥
+
+-- the sources that this format loses so, each once, in ascending order; V4 loses none
+abbrev pub AreLossy : ResolveVersion → List ℕ → List (List ℕ) → Type 0
+AreLossy V1 text lossy = AreLossySources text lossy
+AreLossy V2 text lossy = AreLossySources text lossy
+AreLossy V3 text lossy = AreLossySources text lossy
+AreLossy V4 text lossy = lossy ≡ []
+
+-- What is asked only where no source is lossy; where one is, the second fact holds in its place.
+-- References then may lead to no package for that reason alone, and the rest follows from it.
+pub record IsAskedUnless (lossy : List (List ℕ)) (holds in_place : Type 0) : Type 0 where
+  pub asked : lossy ≡ [] → holds
+  pub not_asked : ¬ (lossy ≡ []) → in_place
+
 -- the findings of a text and its lockfile: each list has exactly the places at which its definition
 -- holds
 pub record AreFindings (text : List ℕ) (l : LockfileData) (f : FindingsData) : Type 0 where
   pub packages : f.packages ≡ l.packages
   pub version : f.version ≡ l.version
-  pub lost_dependencies : AreLost l.packages f.lost_dependencies
+  pub lossy : AreLossy l.version text f.lossy
+  pub lost_dependencies : IsAskedUnless f.lossy (AreLost l.packages f.lost_dependencies)
+      (f.lost_dependencies ≡ [])
   pub twice : IsPlaces (IsTwice l.packages) (length l.packages) f.twice
+  pub repeated : AreDependencies (IsRepeatedAt l.packages) f.repeated
   pub badly_named : IsPlaces (IsBadlyNamed l.packages) (length l.packages) f.badly_named
   pub alike : ArePairsAlike l.packages f.alike
   pub look_alikes : IsPlaces (IsFromAt IsLookAlike l.packages) (length l.packages) f.look_alikes
   pub with_user_info : IsPlaces (IsFromAt HasUserInfo l.packages) (length l.packages)
       f.with_user_info
-  pub orphans : AreOrphans l f.orphans
-  pub without_checksum : IsPlaces (IsWithoutChecksum l.packages) (length l.packages)
+  pub orphans : IsAskedUnless f.lossy (AreOrphans l f.orphans) (f.orphans ≡ [])
+  pub without_checksum : IsPlaces (IsWithoutChecksum (checked_packages l)) (length l.packages)
       f.without_checksum
+  pub unchecked : IsPlaces (IsUnchecked (checked_packages l)) (length l.packages) f.unchecked
   pub stale : f.stale ≡ stale_keys l.metadata l.packages
   pub misplaced : IsPlaces (IsMisplaced l.packages) (length l.packages) f.misplaced
-  pub is_kept : IsTrue f.is_kept ↔ Survives l l.version
-  pub other_line : IsOtherLine text l f.other_line
+  pub misplaced_dependencies : AreDependencies (IsMisplacedAt l.packages) f.misplaced_dependencies
+  pub is_kept : IsAskedUnless f.lossy (IsTrue f.is_kept ↔ Survives l l.version) (f.is_kept ≡ true)
+  pub other_line : IsAskedUnless f.lossy (IsOtherLine text l f.other_line) (f.other_line ≡ None)
 
 -- nothing is found
 pub record IsEmpty (f : FindingsData) : Type 0 where
+  pub lossy : f.lossy ≡ []
   pub lost_dependencies : f.lost_dependencies ≡ []
   pub twice : f.twice ≡ []
+  pub repeated : f.repeated ≡ []
   pub badly_named : f.badly_named ≡ []
   pub alike : f.alike ≡ []
   pub look_alikes : f.look_alikes ≡ []
   pub with_user_info : f.with_user_info ≡ []
   pub orphans : f.orphans ≡ []
   pub without_checksum : f.without_checksum ≡ []
+  pub unchecked : f.unchecked ≡ []
   pub stale : f.stale ≡ []
   pub misplaced : f.misplaced ≡ []
+  pub misplaced_dependencies : f.misplaced_dependencies ≡ []
   pub is_kept : f.is_kept ≡ true
   pub other_line : f.other_line ≡ None
 
 -- ---- what is told, in this order
 
+-- the finding of a dependency with a flaw
+abbrev pub dependency_finding_by : DependencyFlaw → PackageData → Identity → FindingData
+dependency_finding_by dependency_flaw.Lost = LostDependency
+dependency_finding_by dependency_flaw.Repeated = RepeatedDependency
+
 -- the dependency at a place of the package at a place
-abbrev pub lost_at : List PackageData → ℕ × ℕ → Option FindingData
-lost_at packages k = option_and_then
-    (λ p. option_map (LostDependency p) (slice_get p.dependencies k.1)) (slice_get packages k.0)
+abbrev pub dependency_at : (PackageData → Identity → FindingData) → List PackageData → ℕ × ℕ
+    → Option FindingData
+dependency_at finding packages k = option_and_then
+    (λ p. option_map (finding p) (slice_get p.dependencies k.1)) (slice_get packages k.0)
+
+-- the dependency at a place of a package, and the next one
+abbrev pub with_next : PackageData → ℕ → Identity → Option FindingData
+with_next p at d = option_map (MisplacedDependency p d) (slice_get p.dependencies (suc at))
+
+-- these of the package at a place
+abbrev pub misplaced_dependency_at : List PackageData → ℕ × ℕ → Option FindingData
+misplaced_dependency_at packages k = option_and_then
+    (λ p. option_and_then (with_next p k.1) (slice_get p.dependencies k.1)) (slice_get packages k.0)
 
 -- the finding of a package with a flaw
 abbrev pub finding_by : Flaw → PackageData → FindingData
@@ -131,6 +194,7 @@ alike_at packages k = option_and_then
 abbrev pub source_finding_by : SourceFlaw → Source → FindingData
 source_finding_by source_flaw.LookAlike = LookAlike
 source_finding_by source_flaw.UserInfo = UserInfo
+source_finding_by source_flaw.Unchecked = NoChecksums
 
 -- the source of the package at a place
 abbrev pub source_at : (Source → FindingData) → List PackageData → ℕ → Option FindingData
@@ -162,14 +226,33 @@ told_of_misleading f = filter_map (package_at BadName f.packages) f.badly_named
     ++ (filter_map (source_at LookAlike f.packages) f.look_alikes
     ++ filter_map (source_at UserInfo f.packages) f.with_user_info))
 
+-- each package and each dependency that stands more than once
+abbrev pub told_of_twice : FindingsData → List FindingData
+told_of_twice f = filter_map (package_at Twice f.packages) f.twice
+    ++ filter_map (dependency_at RepeatedDependency f.packages) f.repeated
+
+-- each package without a checksum, and each registry without any
+abbrev pub told_of_checksums : FindingsData → List FindingData
+told_of_checksums f = filter_map (package_at NoChecksum f.packages) f.without_checksum
+    ++ filter_map (source_at NoChecksums f.packages) f.unchecked
+
+-- each package and each dependency that is out of order
+abbrev pub told_of_order : FindingsData → List FindingData
+told_of_order f = filter_map (misplaced_at f.packages) f.misplaced
+    ++ filter_map (misplaced_dependency_at f.packages) f.misplaced_dependencies
+
+-- each source that the format loses, and a format that does not keep its lockfile
+abbrev pub told_of_formats : FindingsData → List FindingData
+told_of_formats f = map (LossySource f.version) f.lossy ++ told_of_format f.is_kept f.version
+
 -- each finding
 abbrev pub told_of : FindingsData → List FindingData
-told_of f = filter_map (lost_at f.packages) f.lost_dependencies
-    ++ (filter_map (package_at Twice f.packages) f.twice
+told_of f = filter_map (dependency_at LostDependency f.packages) f.lost_dependencies
+    ++ (told_of_twice f
     ++ (told_of_misleading f
     ++ (told_of_orphans f.packages f.orphans
-    ++ (filter_map (package_at NoChecksum f.packages) f.without_checksum
+    ++ (told_of_checksums f
     ++ (map StaleChecksum f.stale
-    ++ (filter_map (misplaced_at f.packages) f.misplaced
-    ++ (told_of_format f.is_kept f.version
+    ++ (told_of_order f
+    ++ (told_of_formats f
     ++ option_to_list (option_map OtherLine f.other_line))))))))

@@ -1,12 +1,15 @@
--- The order in which Cargo writes packages: by name, version and source.
-use Rattle.std.specs.Prelude.{ℕ}
+-- The order in which Cargo writes packages and the dependencies of a package: by name, version and
+-- source.
+use Rattle.std.specs.Prelude.{ℕ, List}
 use Rattle.std.specs.declared.cmp.Ordering.{Ordering}
 use Rattle.std.specs.Ordering.{nat_cmp, on, then_cmp}
-use Rattle.url.specs.Parts.{serialize}
-use Rattle.cargo_lock_parts.specs.Identity.{PackageData}
+use Rattle.semver.specs.Identifiers.{parts_text}
+use Rattle.url.specs.Parts.{Parts, serialize}
+use Rattle.cargo_lock_parts.specs.Identity.{Identity, PackageData}
 use Rattle.cargo_lock_parts.specs.IdentityOrder.{by_name_version_source, version_cmp}
 use Rattle.cargo_lock_parts.specs.Source.{Kind, Source, DefaultBranch, Tag, Branch, Rev, Git, Path, Registry, SparseRegistry, LocalRegistry, Directory}
 use Rattle.cargo_lock_parts.specs.SourceKey.{git_reference_text, text_cmp}
+use Rattle.cargo_lock_check.specs.Canonical.{canonical}
 
 -- where Cargo puts a kind of source: repositories last, and of these the default branches last
 abbrev pub kind_place : Kind → ℕ
@@ -20,14 +23,22 @@ kind_place (Git (Branch text)) = 6
 kind_place (Git (Rev text)) = 7
 kind_place (Git DefaultBranch) = 8
 
--- sources compare by kind, then by tag, branch or revision, then by URL; commits do not count
-abbrev pub source_order : Source → Source → Ordering
-source_order = then_cmp (then_cmp
-    (on (λ s. kind_place s.kind) nat_cmp)
-    (on (λ s. git_reference_text s.kind) text_cmp))
-    (on (λ s. serialize s.url) text_cmp)
+-- kinds compare by these places, then by tag, branch or revision
+abbrev pub kind_order : Kind → Kind → Ordering
+kind_order = then_cmp (on kind_place nat_cmp) (on git_reference_text text_cmp)
 
--- packages compare by name, then by version, then by source, and one without a source comes first
+-- sources compare by kind, then by a text of the URL; commits do not count
+abbrev pub by_kind_and_url : (Parts → List ℕ) → Source → Source → Ordering
+by_kind_and_url url_text = then_cmp (on (λ s. s.kind) kind_order)
+    (on (λ s. url_text s.url) text_cmp)
+
+-- packages compare by name, then by version, then by source, and one without a source comes first;
+-- URLs compare as Cargo rewrites them
 abbrev pub package_order : PackageData → PackageData → Ordering
 package_order = by_name_version_source (λ p. p.name) (λ p. p.version) (λ p. p.source)
-    version_cmp source_order
+    version_cmp (by_kind_and_url canonical)
+
+-- dependencies compare so too, but for this: versions compare as texts, and URLs as they are
+abbrev pub dependency_order : Identity → Identity → Ordering
+dependency_order = by_name_version_source (λ d. d.name) (λ d. parts_text d.version) (λ d. d.source)
+    text_cmp (by_kind_and_url serialize)

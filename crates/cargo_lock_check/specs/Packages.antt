@@ -1,7 +1,7 @@
 -- What is wrong with single packages of a list.
-use Rattle.std.specs.Prelude.{◌≡◌, ◌<◌, ℕ, suc, true, List, Some, None, option_map, IsSome}
+use Rattle.std.specs.Prelude.{◌≡◌, ◌<◌, ℕ, suc, true, List, Option, Some, None, option_map, IsSome}
 use Rattle.std.specs.declared.cmp.Ordering.TheVariants.{Greater}
-use Rattle.cargo_lock_parts.specs.Identity.{PackageData, identity_of}
+use Rattle.cargo_lock_parts.specs.Identity.{Identity, PackageData, identity_of}
 use Rattle.cargo_lock_parts.specs.Source.{Source, is_remote_registry}
 use Rattle.cargo_lock_parts.specs.SourceKey.{key_of}
 use Rattle.cargo_lock_graph.specs.Targets.{HasIdentity, HoldsOf}
@@ -35,3 +35,30 @@ IsWithoutChecksum packages place = HoldsOf (LacksChecksum packages) packages pla
 abbrev pub IsMisplaced : List PackageData → ℕ → Type 0
 IsMisplaced packages place = HoldsOf
     (λ p. HoldsOf (λ next. package_order p next ≡ Greater) packages (suc place)) packages place
+
+-- this source, where there is no replacement
+abbrev pub source_unless : Option Identity → Option Source → Option Source
+source_unless None source = source
+source_unless (Some other) source = None
+
+-- the source of a package that nothing stands in for
+abbrev pub own_source : PackageData → Option Source
+own_source p = source_unless p.replace p.source
+
+-- the package is from this source, by its key, and nothing stands in for it
+abbrev pub IsOwnFrom : Source → PackageData → Type 0
+IsOwnFrom source p = option_map key_of (own_source p) ≡ Some (key_of source)
+
+-- the package is the first from its registry, which is on the network, and from which no package has
+-- a checksum; packages for which others stand in do not count
+pub record IsFirstUnchecked (packages : List PackageData) (place : ℕ) (p : PackageData) : Type 0
+  where
+    pub source : Source
+    pub from : own_source p ≡ Some source
+    pub remote : is_remote_registry source.kind ≡ true
+    pub none : (j : ℕ) → ¬ HoldsOf (HasChecksumFrom source) packages j
+    pub first : (j : ℕ) → j < place → ¬ HoldsOf (IsOwnFrom source) packages j
+
+-- the package at the place is
+abbrev pub IsUnchecked : List PackageData → ℕ → Type 0
+IsUnchecked packages place = HoldsOf (IsFirstUnchecked packages place) packages place

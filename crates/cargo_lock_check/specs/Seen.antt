@@ -1,12 +1,16 @@
 -- What is kept of the packages that were seen. No public contract cites these.
-use Rattle.std.specs.Prelude.{◌≡◌, ◌↔◌, ◌<◌, Bool, ℕ, true, List, Some, None}
+use Rattle.std.specs.Prelude.{◌≡◌, ◌↔◌, ◌<◌, ◌&&◌, not, Bool, ℕ, true, List, Some, None}
 use Rattle.std.specs.Borrow.{Bor}
+use Rattle.std.specs.BTreeMap.{BTreeMap, get}
 use Rattle.std.specs.BTreeSet.{BTreeSet, contains_by}
-use Rattle.cargo_lock_parts.specs.Identity.{PackageData}
+use Rattle.cargo_lock_parts.specs.Identity.{Identity, PackageData}
+use Rattle.cargo_lock_parts.specs.PartialIdentity.{PartialIdentity, partial_identity_cmp}
 use Rattle.cargo_lock_parts.specs.Source.{Source, is_remote_registry}
 use Rattle.cargo_lock_parts.specs.SourceKey.{source_cmp}
-use Rattle.cargo_lock_graph.specs.Targets.{HoldsOf}
-use Rattle.cargo_lock_check.specs.Packages.{HasChecksumFrom}
+use Rattle.cargo_lock_graph.specs.Candidates.{identity_as_key}
+use Rattle.cargo_lock_graph.specs.Targets.{HoldsOf, IsLastBelow}
+use Rattle.cargo_lock_check.specs.Dependencies.{HoldsOfDependency, IsSameDependency}
+use Rattle.cargo_lock_check.specs.Packages.{HasChecksumFrom, IsOwnFrom}
 
 -- the source is among these
 abbrev pub has_source : BTreeSet (Bor Source) → Source → Bool
@@ -26,3 +30,19 @@ pub record LacksChecksumAmong (sources : BTreeSet (Bor Source)) (p : PackageData
   pub from : p.source ≡ Some source
   pub remote : is_remote_registry source.kind ≡ true
   pub among : has_source sources source ≡ true
+
+-- for the dependencies below a bound, the last place of those with each identity
+abbrev pub AreLastDependencies : List Identity → ℕ → BTreeMap PartialIdentity ℕ → Type 0
+AreLastDependencies dependencies bound last = (i : Identity)
+    → IsLastBelow (HoldsOfDependency (IsSameDependency i) dependencies) bound
+    (get partial_identity_cmp last (identity_as_key i))
+
+-- the sources are those of the packages below a bound that nothing stands in for
+abbrev pub AreOwn : List PackageData → ℕ → BTreeSet (Bor Source) → Type 0
+AreOwn packages bound sources = (s : Source) → (has_source sources s ≡ true)
+    ↔ ((j : ℕ) × (j < bound) × HoldsOf (IsOwnFrom s) packages j)
+
+-- the source is a registry on the network that is among neither these sources nor those
+abbrev pub is_new : BTreeSet (Bor Source) → BTreeSet (Bor Source) → Source → Bool
+is_new checked seen source = is_remote_registry source.kind && not (has_source checked source)
+    && not (has_source seen source)

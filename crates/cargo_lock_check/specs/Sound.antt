@@ -3,31 +3,37 @@ use Rattle.std.specs.Prelude.{◌≡◌, ◌↔◌, ◌<◌, ℕ, List, [], None
 use Rattle.cargo_lock_encoding.specs.Lockfiles.{LockfileData}
 use Rattle.cargo_lock_encoding.specs.Survives.{Survives}
 use Rattle.cargo_lock_check.specs.Alike.{AreAlikeAt}
-use Rattle.cargo_lock_check.specs.Findings.{AreFindings, FindingsData, IsEmpty, IsWrittenByCargo, told_of}
+use Rattle.cargo_lock_check.specs.Dependencies.{IsMisplacedAt, IsRepeatedAt}
+use Rattle.cargo_lock_check.specs.Findings.{AreFindings, FindingsData, IsEmpty, IsLostIn, IsWrittenByCargo, checked_packages, told_of}
 use Rattle.cargo_lock_check.specs.Lost.{IsLostAt}
 use Rattle.cargo_lock_check.specs.Names.{IsBadlyNamed}
-use Rattle.cargo_lock_check.specs.Packages.{IsMisplaced, IsTwice, IsWithoutChecksum}
+use Rattle.cargo_lock_check.specs.Packages.{IsMisplaced, IsTwice, IsUnchecked, IsWithoutChecksum}
 use Rattle.cargo_lock_check.specs.Reach.{IsOrphan}
 use Rattle.cargo_lock_check.specs.Sources.{HasUserInfo, IsFromAt, IsLookAlike}
 use Rattle.cargo_lock_check.specs.Stale.{IsStale}
 
--- Each dependency has its package. No package stands twice, has a name that Cargo does not take, is
--- from a source that looks like crates.io and is another one, is from a source with user info,
--- lacks a checksum that others have or is out of order, and no checksum is of no package. No two
--- packages have names that crates.io takes for one. The lockfile survives its format. Where it has
--- no root apart from its packages, those of the workspace lead to each package, and each line of
--- the text is as Cargo writes it.
+-- The format keeps the tag, branch or revision of each source. Each dependency has its package. No
+-- package stands twice, lists a dependency twice, has a name that Cargo does not take, is from a
+-- source that looks like crates.io and is another one, is from a source with user info, lacks a
+-- checksum that others have or is out of order, and neither is a dependency. Each registry
+-- on the network has a checksum, and no checksum is of no package. No two packages have names that crates.io takes for one. The lockfile survives its
+-- format. Where it has no root apart from its packages, those of the workspace lead to each package,
+-- and each line of the text is as Cargo writes it.
 pub record IsSound (text : List ℕ) (l : LockfileData) : Type 0 where
+  pub plain : (source : List ℕ) → ¬ IsLostIn l.version text source
   pub dependencies : (place at : ℕ) → ¬ IsLostAt l.packages place at
   pub once : (k : ℕ) → ¬ IsTwice l.packages k
+  pub listed_once : (place at : ℕ) → ¬ IsRepeatedAt l.packages place at
   pub named : (k : ℕ) → ¬ IsBadlyNamed l.packages k
   pub apart : (i j : ℕ) → i < j → ¬ AreAlikeAt l.packages i j
   pub genuine : (k : ℕ) → ¬ IsFromAt IsLookAlike l.packages k
   pub anonymous : (k : ℕ) → ¬ IsFromAt HasUserInfo l.packages k
   pub needed : l.root ≡ None → (k : ℕ) → k < length l.packages → ¬ IsOrphan l.packages k
-  pub checksums : (k : ℕ) → ¬ IsWithoutChecksum l.packages k
+  pub checksums : (k : ℕ) → ¬ IsWithoutChecksum (checked_packages l) k
+  pub checked : (k : ℕ) → ¬ IsUnchecked (checked_packages l) k
   pub metadata : (key : List ℕ) → ¬ IsStale l.metadata l.packages key
   pub ordered : (k : ℕ) → ¬ IsMisplaced l.packages k
+  pub listed_in_order : (place at : ℕ) → ¬ IsMisplacedAt l.packages place at
   pub kept : Survives l l.version
   pub written : l.root ≡ None → IsWrittenByCargo text l
 

@@ -1,10 +1,27 @@
 -- The lines of a text, and those that Cargo writes in its place.
-use Rattle.std.specs.Prelude.{◌≡◌, ◌≢◌, ◌<◌, ◌&&◌, ◌++◌, ◌==◌, ℕ, suc, Bool, if◌then◌else◌, List, [], drop, take, length, slice_index_or}
-use Rattle.std.specs.List.{dedup, take_while}
+use Rattle.std.specs.Prelude.{◌≡◌, ◌≢◌, ◌<◌, ◌&&◌, ◌++◌, ◌∷◌, ◌==◌, ℕ, zero, suc, Bool, not, if◌then◌else◌, List, [], codes, drop, eqb, take, length, slice_index_or}
+use Rattle.std.specs.List.{dedup, starts_with, take_while}
 
 -- the line at a place, and an empty one where there are no more
 abbrev pub line_at : List (List ℕ) → ℕ → List ℕ
 line_at lines k = slice_index_or lines k []
+
+-- a text with `^` for each `%5E`, but for its first bytes, so many of which are passed over
+abbrev pub with_carets_after : ℕ → List ℕ → List ℕ
+with_carets_after n [] = []
+with_carets_after (suc n) (b ∷ bs) = with_carets_after n bs
+with_carets_after zero (b ∷ bs) =
+    if starts_with eqb (b ∷ bs) (codes "%5E") then 94 ∷ with_carets_after 2 bs
+    else b ∷ with_carets_after 0 bs
+
+-- a text with `^` for each `%5E`
+abbrev pub with_carets : List ℕ → List ℕ
+with_carets text = with_carets_after 0 text
+
+-- The line at a place, as it is compared. In the path of a URL Cargo leaves `^` as it is, where this
+-- library has `%5E`.
+abbrev pub compared_at : List (List ℕ) → ℕ → List ℕ
+compared_at lines k = with_carets (line_at lines k)
 
 -- the line is empty
 abbrev pub is_empty : List ℕ → Bool
@@ -22,21 +39,29 @@ are_empty a b = is_empty a && is_empty b
 abbrev pub kept_comments : List (List ℕ) → List (List ℕ)
 kept_comments written = take_while is_comment (drop 2 written)
 
--- where the lines after the two comments begin: where this library prints an empty line there, as
--- in the first two formats, Cargo prints none
+-- the lockfile has no number of its format: this library prints an empty line after the comments
+abbrev pub is_unnumbered : List (List ℕ) → Bool
+is_unnumbered printed = is_empty (line_at printed 2)
+
+-- the two comments, which may be missing where there is no number, as Cargo did not always write them
+abbrev pub header : List (List ℕ) → List (List ℕ) → List (List ℕ)
+header written printed =
+    if is_unnumbered printed && not (is_comment (line_at written 0)) then [] else take 2 printed
+
+-- where the lines after the two comments begin: Cargo prints no empty line there
 abbrev pub body_place : List (List ℕ) → ℕ
-body_place printed = if is_empty (line_at printed 2) then 3 else 2
+body_place printed = if is_unnumbered printed then 3 else 2
 
 -- The lines that Cargo writes in place of those that are written, for a lockfile that this library
 -- prints in the lines `printed`: Cargo's two comments, the comments that it keeps, and the rest.
 -- Between two unused patches Cargo leaves one line empty, where this library leaves two.
 abbrev pub cargo_lines : List (List ℕ) → List (List ℕ) → List (List ℕ)
-cargo_lines written printed =
-    dedup are_empty (take 2 printed ++ (kept_comments written ++ drop (body_place printed) printed))
+cargo_lines written printed = dedup are_empty
+    (header written printed ++ (kept_comments written ++ drop (body_place printed) printed))
 
 -- the lines are the same, up to empty ones at the end
 abbrev pub AreSameLines : List (List ℕ) → List (List ℕ) → Type 0
-AreSameLines written wanted = (k : ℕ) → line_at written k ≡ line_at wanted k
+AreSameLines written wanted = (k : ℕ) → compared_at written k ≡ compared_at wanted k
 
 -- a line that is not as it should be: its number, from 1 on, and both texts
 pub record OtherLineData : Type 0 where
@@ -50,5 +75,5 @@ pub record IsFirstOther (written wanted : List (List ℕ)) (other : OtherLineDat
   pub number : other.number ≡ suc place
   pub here : other.written ≡ line_at written place
   pub there : other.wanted ≡ line_at wanted place
-  pub differ : line_at written place ≢ line_at wanted place
-  pub before : (k : ℕ) → k < place → line_at written k ≡ line_at wanted k
+  pub differ : compared_at written place ≢ compared_at wanted place
+  pub before : (k : ℕ) → k < place → compared_at written k ≡ compared_at wanted k

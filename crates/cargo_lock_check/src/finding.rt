@@ -31,6 +31,10 @@ pub enum Finding<'a> {
     /// `twice: PACKAGE stands more than once`.
     Twice(&'a Package),
 
+    /// A package lists a dependency with the name, the version and the source of an earlier one:
+    /// `twice: PACKAGE lists DEPENDENCY more than once`.
+    RepeatedDependency(&'a Package, &'a Dependency),
+
     /// A package has a name that Cargo does not take:
     /// `name: NAME is no name that Cargo takes`.
     BadName(&'a Package),
@@ -59,6 +63,10 @@ pub enum Finding<'a> {
     /// `checksum: PACKAGE has none, though others of its registry have`.
     NoChecksum(&'a Package),
 
+    /// No package of a registry on the network has a checksum:
+    /// `checksum: no package of SOURCE has one`.
+    NoChecksums(&'a SourceId),
+
     /// The metadata has the checksum of a package that is not there:
     /// ``stale: `KEY` is in the metadata, and is of no package``.
     StaleChecksum(&'a MetadataKey),
@@ -66,6 +74,14 @@ pub enum Finding<'a> {
     /// A package comes after the next one in Cargo's order:
     /// `order: PACKAGE stands before PACKAGE`.
     Misplaced(&'a Package, &'a Package),
+
+    /// A package lists a dependency before the next one, though it comes after it in Cargo's order:
+    /// `order: PACKAGE lists DEPENDENCY before DEPENDENCY`.
+    MisplacedDependency(&'a Package, &'a Dependency, &'a Dependency),
+
+    /// A git source whose tag, branch or revision is not read as it is written, in V1 to V3:
+    /// ``format: V3 loses the tag, branch or revision of `SOURCE`; V4 keeps it``.
+    LossySource(ResolveVersion, &'a str),
 
     /// The lockfile does not read back from what is written in its format:
     /// `format: V4 does not keep this lockfile`.
@@ -89,6 +105,7 @@ impl fmt::Display for Finding<'_> {
                 let one = PackageText(one);
                 write!(f, "twice: {one} stands more than once")
             }
+            Finding::RepeatedDependency(one, dependency) => write_repeated(one, dependency, f),
             Finding::BadName(one) => {
                 let name = Shown(&one.name);
                 write!(f, "name: {name} is no name that Cargo takes")
@@ -108,11 +125,19 @@ impl fmt::Display for Finding<'_> {
                 write!(f, "orphan: {one}: no package of the workspace leads to it")
             }
             Finding::NoChecksum(one) => write_no_checksum(one, f),
+            Finding::NoChecksums(source) => {
+                let source = Shown(*source);
+                write!(f, "checksum: no package of {source} has one")
+            }
             Finding::StaleChecksum(key) => {
                 let key = Quoted(key);
                 write!(f, "stale: `{key}` is in the metadata, and is of no package")
             }
             Finding::Misplaced(one, next) => write_misplaced(one, next, f),
+            Finding::MisplacedDependency(one, dependency, next) => {
+                write_misplaced_dependency(one, dependency, next, f)
+            }
+            Finding::LossySource(version, text) => write_lossy(*version, text, f),
             Finding::NotKept(version) => {
                 let number = u32::from(*version);
                 write!(f, "format: V{number} does not keep this lockfile")
@@ -137,6 +162,20 @@ fn write_lost_dependency<W: fmt::Write>(
         f,
         "reference: {one} depends on {dependency}, which is no package"
     )
+}
+
+// The line of a package that lists a dependency once more.
+fn write_repeated<W: fmt::Write>(
+    one: &Package,
+    dependency: &Dependency,
+    f: &mut fmt::Formatter<W>,
+) -> fmt::Result
+    ensures { DisplaysOnOk W.write_str_gives f.old result
+        (Some (line_of (told.RepeatedDependency one.now dependency.now))) f.new }
+{
+    let one = PackageText(one);
+    let dependency = DependencyText(dependency);
+    write!(f, "twice: {one} lists {dependency} more than once")
 }
 
 // The line of two packages that are alike.
@@ -177,6 +216,39 @@ fn write_misplaced<W: fmt::Write>(
     let one = PackageText(one);
     let next = PackageText(next);
     write!(f, "order: {one} stands before {next}")
+}
+
+// The line of a package, one of its dependencies and the next one.
+fn write_misplaced_dependency<W: fmt::Write>(
+    one: &Package,
+    dependency: &Dependency,
+    next: &Dependency,
+    f: &mut fmt::Formatter<W>,
+) -> fmt::Result
+    ensures { DisplaysOnOk W.write_str_gives f.old result
+        (Some (line_of (told.MisplacedDependency one.now dependency.now next.now))) f.new }
+{
+    let one = PackageText(one);
+    let dependency = DependencyText(dependency);
+    let next = DependencyText(next);
+    write!(f, "order: {one} lists {dependency} before {next}")
+}
+
+// The line of a source that is lossy in this format.
+fn write_lossy<W: fmt::Write>(
+    version: ResolveVersion,
+    text: &str,
+    f: &mut fmt::Formatter<W>,
+) -> fmt::Result
+    ensures { DisplaysOnOk W.write_str_gives f.old result
+        (Some (line_of (told.LossySource version text.now))) f.new }
+{
+    let number = u32::from(version);
+    let text = Quoted(text);
+    write!(
+        f,
+        "format: V{number} loses the tag, branch or revision of `{text}`; V4 keeps it"
+    )
 }
 
 impl fmt::Display for OtherLine {

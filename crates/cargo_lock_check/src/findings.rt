@@ -1,27 +1,26 @@
 //! All that is wrong with a lockfile.
 
-ghost use Rattle.std.specs.Prelude.{◌≡◌, ◌↔◌, ◌++◌, IfOk, IsOkUnless, IsTrue, OnOk, is_none, length, map, option_map};
+ghost use Rattle.std.specs.Prelude.{◌≡◌, ◌↔◌, ◌++◌, IfOk, IsOkUnless, IsTrue, OnOk, is_none, length, map, option_map, string_bytes};
 ghost use Rattle.std.specs.List.{filter_map, list_any};
 ghost use Rattle.std.specs.Option.{option_to_list};
 ghost use Rattle.cargo_lock_parts.specs.declared.error.Error.TheVariants.{Memory};
-ghost use Rattle.cargo_lock_encoding.specs.Survives.{Survives};
 ghost use Rattle.cargo_lock_check.specs.Finding.{finding_of};
 ghost use Rattle.cargo_lock_check.specs.Finding as told;
-ghost use Rattle.cargo_lock_check.specs.Findings.{AreFindings, AreOrphans, IsOtherLine, alike_at, finding_by, lost_at, misplaced_at, no_root, package_at, source_at, source_finding_by, told_of_format, told_of_orphans};
+ghost use Rattle.cargo_lock_check.specs.Findings.{AreFindings, alike_at, dependency_at, dependency_finding_by, finding_by, misplaced_at, misplaced_dependency_at, no_root, package_at, source_at, source_finding_by, told_of_format, told_of_orphans};
 ghost use Rattle.cargo_lock_check.specs.Alike.{ArePairsAlike};
-ghost use Rattle.cargo_lock_check.specs.Lost.{AreLost};
+ghost use Rattle.cargo_lock_check.specs.Dependencies.{AreDependencies, IsMisplacedAt, IsRepeatedAt};
 ghost use Rattle.cargo_lock_check.specs.Names.{IsBadlyNamed};
-ghost use Rattle.cargo_lock_check.specs.Packages.{IsMisplaced, IsTwice, IsWithoutChecksum};
+ghost use Rattle.cargo_lock_check.specs.Packages.{IsMisplaced, IsTwice};
 ghost use Rattle.cargo_lock_check.specs.Places.{IsPlaces};
 ghost use Rattle.cargo_lock_check.specs.Sources.{HasUserInfo, IsFromAt, IsLookAlike};
-ghost use Rattle.cargo_lock_check.specs.Stale.{stale_keys};
 
+use crate::asked::TextFindings;
 use crate::finding::Finding;
 use crate::flaws::{
-    badly_named_packages, look_alike_sources, lost_dependencies, misplaced_packages, orphans,
-    packages_alike, packages_twice, packages_without_checksum, sources_with_user_info, stale_keys,
+    badly_named_packages, look_alike_sources, misplaced_dependencies, misplaced_packages,
+    packages_alike, packages_twice, repeated_dependencies, sources_with_user_info,
 };
-use crate::text::{OtherLine, first_other_line};
+use crate::text::OtherLine;
 use cargo_lock::Lockfile;
 use cargo_lock_parts::error::Result;
 use cargo_lock_parts::package::Package;
@@ -46,12 +45,21 @@ pub struct Findings<'a> {
     /// The format of the lockfile.
     pub version: ResolveVersion,
 
+    /// The git sources whose tag, branch or revision the format loses, each once and in order (see
+    /// `Lockfile::lossy_sources`). V4 loses none. Where there are some, the lost dependencies, the
+    /// orphans, whether the lockfile survives and the text are not asked for.
+    pub lossy: Vec<String>,
+
     /// The dependencies without a package, each as the place of the package that has it and its
     /// own among the package's dependencies.
     pub lost_dependencies: Vec<(usize, usize)>,
 
     /// The packages whose name, version and source an earlier one has too.
     pub twice: Vec<usize>,
+
+    /// The dependencies that their package lists at an earlier place too, each as the place of the
+    /// package and its own among the package's dependencies.
+    pub repeated: Vec<(usize, usize)>,
 
     /// The packages whose name Cargo does not take (see `badly_named_packages`).
     pub badly_named: Vec<usize>,
@@ -72,8 +80,13 @@ pub struct Findings<'a> {
     pub orphans: Vec<usize>,
 
     /// The packages without a checksum, though others from their registry have one. A package that
-    /// is replaced needs none.
+    /// is replaced needs none. In V1 the checksums are those that Cargo reads (see
+    /// `Lockfile::with_cargo_checksums`).
     pub without_checksum: Vec<usize>,
+
+    /// The first package from each registry on the network from which no package has a checksum. A
+    /// package that is replaced does not count. In V1 the checksums are those that Cargo reads.
+    pub unchecked: Vec<usize>,
 
     /// The keys of the metadata that begin `checksum ` and are of no package. Those with the value
     /// `<none>`, which Cargo writes for packages without a checksum, are not told.
@@ -82,12 +95,19 @@ pub struct Findings<'a> {
     /// The packages that come after the next one in Cargo's order (see `package_order`).
     pub misplaced: Vec<usize>,
 
+    /// The dependencies that their package lists before the next one, though they come after it in
+    /// Cargo's order (see `dependency_order`), each as the place of the package and its own among
+    /// the package's dependencies.
+    pub misplaced_dependencies: Vec<(usize, usize)>,
+
     /// Whether the lockfile survives its format (see `Lockfile::survives`).
     pub is_kept: bool,
 
     /// The first line of the text that is not as Cargo writes it. Lines are compared as Cargo
     /// compares them, without their ends, so with `\r\n` as with `\n`. The comments after Cargo's
-    /// own two stay, as Cargo keeps them, and empty lines at the end are passed over.
+    /// own two stay, as Cargo keeps them, and empty lines at the end are passed over. In V1 and V2
+    /// Cargo's own two may be missing. `%5E` in a URL is as `^`, which Cargo writes. In V1 the
+    /// checksums are those that Cargo reads.
     ///
     /// The text is not compared where the lockfile has a root apart from its packages, or does not
     /// survive its format, since it is then printed as another one.
@@ -95,6 +115,7 @@ pub struct Findings<'a> {
 }
 
 impl<'a> Model for Findings<'a> {
+    ghost use Rattle.std.specs.Prelude.{map, string_bytes};
     ghost use Rattle.cargo_lock_check.specs.Findings.{FindingsData};
 
     ghost Value = { FindingsData };
@@ -102,60 +123,68 @@ impl<'a> Model for Findings<'a> {
     ghost view = { λ f. record {
       packages = f.packages.now;
       version = f.version;
+      lossy = map string_bytes f.lossy.items;
       lost_dependencies = f.lost_dependencies.items;
       twice = f.twice.items;
+      repeated = f.repeated.items;
       badly_named = f.badly_named.items;
       alike = f.alike.items;
       look_alikes = f.look_alikes.items;
       with_user_info = f.with_user_info.items;
       orphans = f.orphans.items;
       without_checksum = f.without_checksum.items;
+      unchecked = f.unchecked.items;
       stale = f.stale.items;
       misplaced = f.misplaced.items;
+      misplaced_dependencies = f.misplaced_dependencies.items;
       is_kept = f.is_kept;
       other_line = f.other_line;
     } };
 }
 
-// The places of packages that are wrong by themselves.
+// The places of packages and of dependencies that stand more than once or are out of order.
 #[derive(Drop)]
-struct PackagePlaces {
+struct ListPlaces {
     twice: Vec<usize>,
-    without_checksum: Vec<usize>,
+    repeated: Vec<(usize, usize)>,
     misplaced: Vec<usize>,
+    misplaced_dependencies: Vec<(usize, usize)>,
 }
 
 impl<'a> Findings<'a> {
-    ghost use Rattle.cargo_lock_check.specs.Findings.{IsEmpty, told_of, told_of_misleading};
+    ghost use Rattle.cargo_lock_check.specs.Findings.{IsEmpty, told_of, told_of_checksums, told_of_formats, told_of_misleading, told_of_order, told_of_twice};
 
     /// What is wrong with a lockfile that was read from this text. The one error is `Memory`.
     pub fn of(alloc: Global, text: &str, lockfile: &'a Lockfile) -> Result<Findings<'a>>
         ensures ok { IfOk result (AreFindings text.now lockfile.now) }
         ensures err { IsOkUnless result Memory }
     {
-        let places = LockfilePlaces::of(alloc, lockfile)?;
+        let lists = ListPlaces::of(alloc, &lockfile.packages)?;
         let misleading = MisleadingPlaces::of(alloc, &lockfile.packages)?;
-        let rest = TextFindings::of(alloc, text, lockfile)?;
-        let LockfilePlaces {
-            lost_dependencies,
-            orphans,
-            packages,
-        } = places;
+        let TextFindings {
+            checksums,
+            lossy,
+            asked,
+        } = TextFindings::of(alloc, text, lockfile)?;
         Ok(Findings {
             packages: &lockfile.packages,
             version: lockfile.version,
-            lost_dependencies,
-            twice: packages.twice,
+            lossy,
+            lost_dependencies: asked.lost_dependencies,
+            twice: lists.twice,
+            repeated: lists.repeated,
             badly_named: misleading.badly_named,
             alike: misleading.alike,
             look_alikes: misleading.look_alikes,
             with_user_info: misleading.with_user_info,
-            orphans,
-            without_checksum: packages.without_checksum,
-            stale: rest.stale,
-            misplaced: packages.misplaced,
-            is_kept: rest.is_kept,
-            other_line: rest.other_line,
+            orphans: asked.orphans,
+            without_checksum: checksums.without_checksum,
+            unchecked: checksums.unchecked,
+            stale: checksums.stale,
+            misplaced: lists.misplaced,
+            misplaced_dependencies: lists.misplaced_dependencies,
+            is_kept: asked.is_kept,
+            other_line: asked.other_line,
         })
     }
 
@@ -163,44 +192,93 @@ impl<'a> Findings<'a> {
     pub fn is_empty(&self) -> bool
         ensures { IsTrue result ↔ IsEmpty self.now }
     {
-        self.lost_dependencies.is_empty()
+        self.lossy.is_empty()
+            && self.lost_dependencies.is_empty()
             && self.twice.is_empty()
+            && self.repeated.is_empty()
             && self.badly_named.is_empty()
             && self.alike.is_empty()
             && self.look_alikes.is_empty()
             && self.with_user_info.is_empty()
             && self.orphans.is_empty()
             && self.without_checksum.is_empty()
+            && self.unchecked.is_empty()
             && self.stale.is_empty()
             && self.misplaced.is_empty()
+            && self.misplaced_dependencies.is_empty()
             && self.is_kept
             && self.other_line.is_none()
     }
 
-    /// The findings, in this order: lost dependencies, packages that stand twice, names that Cargo
-    /// does not take, names that crates.io takes for one, sources that look like crates.io, sources
-    /// with user info, orphans, packages without a checksum, stale checksums, misplaced packages,
-    /// the format, the text. Where no package is of the workspace, that is told in place of the
-    /// orphans. Fails when out of memory.
+    /// The findings, in this order: lost dependencies, packages and dependencies that stand twice,
+    /// names that Cargo does not take, names that crates.io takes for one, sources that look like
+    /// crates.io, sources with user info, orphans, packages without a checksum, registries without any,
+    /// stale checksums,
+    /// misplaced packages and dependencies, sources that the format loses, the format, the text.
+    /// Where no package is of the workspace, that is told in place of the orphans. Fails when out
+    /// of memory.
     pub fn all<'s>(&'s self, alloc: Global) -> std::result::Result<Vec<Finding<'s>>, AllocError>
         ensures { IfOk result (λ all. map finding_of all.items ≡ told_of self.now) }
     {
         let mut all = Vec::new(alloc);
-        add_lost_dependencies(&mut all, self.packages, &self.lost_dependencies)?;
-        add_flawed(&mut all, self.packages, &self.twice, Flaw::Twice)?;
-        self.add_misleading(&mut all)?;
-        add_orphans(&mut all, self.packages, &self.orphans)?;
-        add_flawed(
+        add_dependencies(
             &mut all,
             self.packages,
-            &self.without_checksum,
-            Flaw::NoChecksum,
+            &self.lost_dependencies,
+            DependencyFlaw::Lost,
         )?;
+        self.add_twice(&mut all)?;
+        self.add_misleading(&mut all)?;
+        add_orphans(&mut all, self.packages, &self.orphans)?;
+        self.add_checksums(&mut all)?;
         add_stale(&mut all, &self.stale)?;
-        add_misplaced(&mut all, self.packages, &self.misplaced)?;
-        add_format(&mut all, self.is_kept, self.version)?;
+        self.add_order(&mut all)?;
+        self.add_formats(&mut all)?;
         add_some(&mut all, other_line_finding(&self.other_line))?;
         Ok(all)
+    }
+
+    // Adds the packages and the dependencies that stand more than once.
+    fn add_twice<'s>(&'s self, all: &mut Vec<Finding<'s>>) -> std::result::Result<(), AllocError>
+        ensures { OnOk result (map finding_of all.new.items
+            ≡ map finding_of all.old.items ++ told_of_twice self.now) }
+    {
+        add_flawed(all, self.packages, &self.twice, Flaw::Twice)?;
+        add_dependencies(all, self.packages, &self.repeated, DependencyFlaw::Repeated)?;
+        Ok(())
+    }
+
+    // Adds the packages without a checksum, and the registries without any.
+    fn add_checksums<'s>(
+        &'s self,
+        all: &mut Vec<Finding<'s>>,
+    ) -> std::result::Result<(), AllocError>
+        ensures { OnOk result (map finding_of all.new.items
+            ≡ map finding_of all.old.items ++ told_of_checksums self.now) }
+    {
+        add_flawed(all, self.packages, &self.without_checksum, Flaw::NoChecksum)?;
+        add_sources(all, self.packages, &self.unchecked, SourceFlaw::Unchecked)?;
+        Ok(())
+    }
+
+    // Adds the packages and the dependencies that are out of order.
+    fn add_order<'s>(&'s self, all: &mut Vec<Finding<'s>>) -> std::result::Result<(), AllocError>
+        ensures { OnOk result (map finding_of all.new.items
+            ≡ map finding_of all.old.items ++ told_of_order self.now) }
+    {
+        add_misplaced(all, self.packages, &self.misplaced)?;
+        add_misplaced_dependencies(all, self.packages, &self.misplaced_dependencies)?;
+        Ok(())
+    }
+
+    // Adds the sources that the format loses, and that it does not keep the lockfile.
+    fn add_formats<'s>(&'s self, all: &mut Vec<Finding<'s>>) -> std::result::Result<(), AllocError>
+        ensures { OnOk result (map finding_of all.new.items
+            ≡ map finding_of all.old.items ++ told_of_formats self.now) }
+    {
+        add_lossy(all, &self.lossy, self.version)?;
+        add_format(all, self.is_kept, self.version)?;
+        Ok(())
     }
 
     // Adds the names and the sources that may mislead a reader.
@@ -224,81 +302,23 @@ impl<'a> Findings<'a> {
     }
 }
 
-// The places of packages that are wrong by themselves or among others.
-#[derive(Drop)]
-struct LockfilePlaces {
-    lost_dependencies: Vec<(usize, usize)>,
-    orphans: Vec<usize>,
-    packages: PackagePlaces,
-}
-
-impl LockfilePlaces {
-    // The places of a lockfile's packages.
-    fn of(alloc: Global, lockfile: &Lockfile) -> std::result::Result<LockfilePlaces, AllocError>
-        ensures lost_dependencies { IfOk result
-            (λ f. AreLost lockfile.now.packages f.lost_dependencies.items) }
-        ensures orphans { IfOk result (λ f. AreOrphans lockfile.now f.orphans.items) }
-        ensures twice { IfOk result (λ f. IsPlaces (IsTwice lockfile.now.packages)
-            (length lockfile.now.packages) f.packages.twice.items) }
-        ensures without_checksum { IfOk result
-            (λ f. IsPlaces (IsWithoutChecksum lockfile.now.packages)
-            (length lockfile.now.packages) f.packages.without_checksum.items) }
-        ensures misplaced { IfOk result (λ f. IsPlaces (IsMisplaced lockfile.now.packages)
-            (length lockfile.now.packages) f.packages.misplaced.items) }
-    {
-        let packages = PackagePlaces::of(alloc, &lockfile.packages)?;
-        let orphans = orphans_of(alloc, lockfile)?;
-        Ok(LockfilePlaces {
-            lost_dependencies: lost_dependencies(alloc, &lockfile.packages)?,
-            orphans,
-            packages,
-        })
-    }
-}
-
-// What is wrong with the metadata, the format and the text.
-#[derive(Drop)]
-struct TextFindings {
-    stale: Vec<MetadataKey>,
-    is_kept: bool,
-    other_line: Option<OtherLine>,
-}
-
-impl TextFindings {
-    // Those of a text and its lockfile.
-    fn of(alloc: Global, text: &str, lockfile: &Lockfile) -> Result<TextFindings>
-        ensures stale { IfOk result (λ f. f.stale.items
-            ≡ stale_keys lockfile.now.metadata lockfile.now.packages) }
-        ensures is_kept { IfOk result (λ f. IsTrue f.is_kept
-            ↔ Survives lockfile.now lockfile.now.version) }
-        ensures other_line { IfOk result
-            (λ f. IsOtherLine text.now lockfile.now f.other_line) }
-        ensures err { IsOkUnless result Memory }
-    {
-        let is_kept = lockfile.survives(alloc, lockfile.version)?;
-        let other_line = other_line(alloc, text, lockfile, is_kept)?;
-        Ok(TextFindings {
-            stale: stale_keys(alloc, &lockfile.metadata, &lockfile.packages)?,
-            is_kept,
-            other_line,
-        })
-    }
-}
-
-impl PackagePlaces {
+impl ListPlaces {
     // The places of these packages.
-    fn of(alloc: Global, packages: &[Package]) -> std::result::Result<PackagePlaces, AllocError>
+    fn of(alloc: Global, packages: &[Package]) -> std::result::Result<ListPlaces, AllocError>
         ensures twice { IfOk result
             (λ f. IsPlaces (IsTwice packages.now) (length packages.now) f.twice.items) }
-        ensures without_checksum { IfOk result (λ f. IsPlaces (IsWithoutChecksum packages.now)
-            (length packages.now) f.without_checksum.items) }
+        ensures repeated { IfOk result
+            (λ f. AreDependencies (IsRepeatedAt packages.now) f.repeated.items) }
         ensures misplaced { IfOk result
             (λ f. IsPlaces (IsMisplaced packages.now) (length packages.now) f.misplaced.items) }
+        ensures misplaced_dependencies { IfOk result
+            (λ f. AreDependencies (IsMisplacedAt packages.now) f.misplaced_dependencies.items) }
     {
-        Ok(PackagePlaces {
+        Ok(ListPlaces {
             twice: packages_twice(alloc, packages)?,
-            without_checksum: packages_without_checksum(alloc, packages)?,
+            repeated: repeated_dependencies(alloc, packages)?,
             misplaced: misplaced_packages(alloc, packages)?,
+            misplaced_dependencies: misplaced_dependencies(alloc, packages)?,
         })
     }
 }
@@ -332,36 +352,6 @@ impl MisleadingPlaces {
     }
 }
 
-// The orphans of a lockfile.
-fn orphans_of(alloc: Global, lockfile: &Lockfile) -> std::result::Result<Vec<usize>, AllocError>
-    ensures { IfOk result (λ places. AreOrphans lockfile.now places.items) }
-{
-    if lockfile.root.is_some() {
-        return Ok(Vec::new(alloc));
-    }
-    let places = orphans(alloc, &lockfile.packages)?;
-    Ok(places)
-}
-
-// The first line of a text that is not as Cargo writes it.
-fn other_line(
-    alloc: Global,
-    text: &str,
-    lockfile: &Lockfile,
-    is_kept: bool,
-) -> Result<Option<OtherLine>>
-    requires { IsTrue is_kept ↔ Survives lockfile.now lockfile.now.version }
-    ensures ok { IfOk result (IsOtherLine text.now lockfile.now) }
-    ensures err { IsOkUnless result Memory }
-{
-    if lockfile.root.is_some() || !is_kept {
-        return Ok(None);
-    }
-    let printed = lockfile.to_string(alloc)?;
-    let other = first_other_line(alloc, text, printed.as_str())?;
-    Ok(other)
-}
-
 // Adds a finding, if there is one.
 fn add_some<'a>(
     all: &mut Vec<Finding<'a>>,
@@ -376,28 +366,49 @@ fn add_some<'a>(
     Ok(())
 }
 
-// Adds the dependencies at these places.
-fn add_lost_dependencies<'a>(
+// What may be wrong with a dependency.
+#[derive(Clone, Copy)]
+enum DependencyFlaw {
+    // It has no package.
+    Lost,
+
+    // Its package lists it at an earlier place too.
+    Repeated,
+}
+
+// Adds the dependencies at these places, each with this flaw.
+fn add_dependencies<'a>(
     all: &mut Vec<Finding<'a>>,
     packages: &'a [Package],
     places: &[(usize, usize)],
+    flaw: DependencyFlaw,
 ) -> std::result::Result<(), AllocError>
     ensures { OnOk result (map finding_of all.new.items
-        ≡ map finding_of all.old.items ++ filter_map (lost_at packages.now) places.now) }
+        ≡ map finding_of all.old.items ++ filter_map
+        (dependency_at (dependency_finding_by flaw) packages.now) places.now) }
 {
     for (place, at) in places {
-        add_some(all, lost_dependency(packages, *place, *at))?;
+        add_some(all, flawed_dependency(packages, *place, *at, flaw))?;
     }
     Ok(())
 }
 
-// The finding of a dependency.
-fn lost_dependency<'a>(packages: &'a [Package], place: usize, at: usize) -> Option<Finding<'a>>
-    ensures { option_map finding_of result ≡ lost_at packages.now (place, at) }
+// The finding of a dependency with a flaw.
+fn flawed_dependency<'a>(
+    packages: &'a [Package],
+    place: usize,
+    at: usize,
+    flaw: DependencyFlaw,
+) -> Option<Finding<'a>>
+    ensures { option_map finding_of result
+        ≡ dependency_at (dependency_finding_by flaw) packages.now (place, at) }
 {
     let one = packages.get(place)?;
     let dependency = one.dependencies.get(at)?;
-    Some(Finding::LostDependency(one, dependency))
+    Some(match flaw {
+        DependencyFlaw::Lost => Finding::LostDependency(one, dependency),
+        DependencyFlaw::Repeated => Finding::RepeatedDependency(one, dependency),
+    })
 }
 
 // What may be wrong with a package by itself.
@@ -478,6 +489,9 @@ enum SourceFlaw {
 
     // Its URL has a user name or a password.
     UserInfo,
+
+    // It is a registry from which no package has a checksum.
+    Unchecked,
 }
 
 // Adds the sources of the packages at these places, each with this flaw.
@@ -507,6 +521,7 @@ fn flawed_source<'a>(packages: &'a [Package], place: usize, flaw: SourceFlaw) ->
     Some(match flaw {
         SourceFlaw::LookAlike => Finding::LookAlike(source),
         SourceFlaw::UserInfo => Finding::UserInfo(source),
+        SourceFlaw::Unchecked => Finding::NoChecksums(source),
     })
 }
 
@@ -581,6 +596,47 @@ fn misplaced_package<'a>(packages: &'a [Package], place: usize) -> Option<Findin
     let one = packages.get(place)?;
     let next = packages.get(place + 1)?;
     Some(Finding::Misplaced(one, next))
+}
+
+// Adds the dependencies at these places, which come after the next one.
+fn add_misplaced_dependencies<'a>(
+    all: &mut Vec<Finding<'a>>,
+    packages: &'a [Package],
+    places: &[(usize, usize)],
+) -> std::result::Result<(), AllocError>
+    ensures { OnOk result (map finding_of all.new.items
+        ≡ map finding_of all.old.items ++ filter_map
+        (misplaced_dependency_at packages.now) places.now) }
+{
+    for (place, at) in places {
+        add_some(all, misplaced_dependency(packages, *place, *at))?;
+    }
+    Ok(())
+}
+
+// The finding of a dependency and the next one.
+fn misplaced_dependency<'a>(packages: &'a [Package], place: usize, at: usize) -> Option<Finding<'a>>
+    ensures { option_map finding_of result ≡ misplaced_dependency_at packages.now (place, at) }
+{
+    let one = packages.get(place)?;
+    let dependency = one.dependencies.get(at)?;
+    let next = one.dependencies.get(at + 1)?;
+    Some(Finding::MisplacedDependency(one, dependency, next))
+}
+
+// Adds the sources that a format loses.
+fn add_lossy<'a>(
+    all: &mut Vec<Finding<'a>>,
+    sources: &'a [String],
+    version: ResolveVersion,
+) -> std::result::Result<(), AllocError>
+    ensures { OnOk result (map finding_of all.new.items ≡ map finding_of all.old.items
+        ++ map (told.LossySource version) (map string_bytes sources.now)) }
+{
+    for source in sources {
+        all.push(Finding::LossySource(version, source.as_str()))?;
+    }
+    Ok(())
 }
 
 // Adds that the format does not keep the lockfile.

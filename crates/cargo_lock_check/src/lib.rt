@@ -1,9 +1,11 @@
 //! What is wrong with a lockfile, as a check of a merge asks: a dependency without its package, two
-//! packages of one identity, a name that Cargo does not take, two names that crates.io takes for
-//! one, a source that looks like crates.io and is another one, a source with a user name or a
-//! password, a package that none of the workspace leads to, a package without the checksum that
-//! others of its registry have, a checksum of no package, packages out of Cargo's order, a format
-//! that does not keep the lockfile, and the first line that is not as Cargo writes it.
+//! packages of one identity, a dependency that a package lists twice, a name that Cargo does not
+//! take, two names that crates.io takes for one, a source that looks like crates.io and is another
+//! one, a source with a user name or a password, a package that none of the workspace leads to, a
+//! package without the checksum that others of its registry have, a registry none of whose packages
+//! has one, a checksum of no package, packages or dependencies out of Cargo's order, a source whose
+//! tag, branch or revision the format loses, a format that does not keep the lockfile, and the first
+//! line that is not as Cargo writes it.
 //!
 //! ```
 //! let lockfile = Lockfile::from_str(rt.alloc(), text)?;
@@ -20,6 +22,7 @@
 //! exactly where nothing is wrong, and then no line is told.
 #![tactic(auto)]
 
+mod asked;
 pub mod finding;
 pub mod findings;
 pub mod flaws;
@@ -28,5 +31,5 @@ pub mod text;
 
 pub use crate::finding::Finding;
 pub use crate::findings::Findings;
-pub use crate::flaws::package_order;
+pub use crate::flaws::{dependency_order, package_order};
 pub use crate::text::OtherLine;

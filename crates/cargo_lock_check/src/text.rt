@@ -1,9 +1,10 @@
 //! The first line of a text that is not as Cargo writes it.
 
-ghost use Rattle.std.specs.Prelude.{◌≡◌, ◌≢◌, ◌<◌, ◌+◌, ◌++◌, ℕ, IfOk, MatchOption, OnOk, drop, length};
-ghost use Rattle.std.specs.List.{dedup, take_while};
+ghost use Rattle.std.specs.Prelude.{◌≡◌, ◌≢◌, ◌<◌, ◌+◌, ◌++◌, ℕ, IfOk, MatchOption, OnOk, codes, drop, eqb, length};
+ghost use Rattle.std.specs.Bool.{Decides};
+ghost use Rattle.std.specs.List.{dedup, starts_with, take_while};
 ghost use Rattle.std.specs.Str.Lines.{lines};
-ghost use Rattle.cargo_lock_check.specs.Text.{AreSameLines, IsFirstOther, are_empty, body_place, cargo_lines, is_comment, line_at};
+ghost use Rattle.cargo_lock_check.specs.Text.{AreSameLines, IsFirstOther, are_empty, body_place, cargo_lines, compared_at, header, is_comment, is_unnumbered, line_at, with_carets, with_carets_after};
 ghost use Rattle.cargo_lock_check.specs.TextReferences.{texts_at};
 
 use std::alloc::{AllocError, Global};
@@ -70,18 +71,36 @@ fn cargo_lines<'a>(
         ≡ cargo_lines (texts_at written.now) (texts_at printed.now)) }
 {
     let mut all = Vec::with_capacity(alloc, printed.len())?;
-    all.extend_from_slice(&printed[..printed.len().min(2)])?;
+    all.extend_from_slice(header(written, printed))?;
     add_comments(&mut all, lines_from(written, 2))?;
     all.extend_from_slice(lines_from(printed, body_place(printed)))?;
     leave_one_empty(&mut all);
     Ok(all)
 }
 
+// The two comments, which may be missing where the format has no number.
+fn header<'a, 'b>(written: &[&'a str], printed: &'b [&'a str]) -> &'b [&'a str]
+    ensures { texts_at result.now ≡ header (texts_at written.now) (texts_at printed.now) }
+{
+    if is_unnumbered(printed) && !is_comment(line_at(written, 0)) {
+        &[]
+    } else {
+        &printed[..printed.len().min(2)]
+    }
+}
+
+// Whether the format has no number.
+fn is_unnumbered(printed: &[&str]) -> bool
+    ensures { result ≡ is_unnumbered (texts_at printed.now) }
+{
+    line_at(printed, 2).is_empty()
+}
+
 // Where the lines after the two comments begin that Cargo writes too.
 fn body_place(printed: &[&str]) -> usize
     ensures { result ≡ body_place (texts_at printed.now) }
 {
-    if line_at(printed, 2).is_empty() { 3 } else { 2 }
+    if is_unnumbered(printed) { 3 } else { 2 }
 }
 
 // Leaves one of empty lines in a row.
@@ -129,7 +148,7 @@ fn first_other(
         (AreSameLines (texts_at written.now) (texts_at wanted.now))
         (IsFirstOther (texts_at written.now) (texts_at wanted.now))) }
 {
-    match other_place(written, wanted) {
+    match other_place(alloc, written, wanted)? {
         Some(place) => Ok(Some(OtherLine {
             number: place + 1,
             written: String::from_str(alloc, line_at(written, place))?,
@@ -140,20 +159,76 @@ fn first_other(
 }
 
 // The first place at which lines differ.
-fn other_place(written: &[&str], wanted: &[&str]) -> Option<usize>
-    ensures { MatchOption result
+fn other_place(
+    alloc: Global,
+    written: &[&str],
+    wanted: &[&str],
+) -> Result<Option<usize>, AllocError>
+    ensures { IfOk result (λ other. MatchOption other
         (AreSameLines (texts_at written.now) (texts_at wanted.now))
         (λ place. (place < length written.now + length wanted.now)
-        × (line_at (texts_at written.now) place ≢ line_at (texts_at wanted.now) place)
+        × (compared_at (texts_at written.now) place ≢ compared_at (texts_at wanted.now) place)
         × ((k : ℕ) → k < place
-        → line_at (texts_at written.now) k ≡ line_at (texts_at wanted.now) k)) }
+        → compared_at (texts_at written.now) k ≡ compared_at (texts_at wanted.now) k))) }
 {
     for place in 0..written.len().max(wanted.len()) {
-        if line_at(written, place) != line_at(wanted, place) {
-            return Some(place);
+        if !are_same(alloc, line_at(written, place), line_at(wanted, place))? {
+            return Ok(Some(place));
         }
     }
-    None
+    Ok(None)
+}
+
+// Whether the lines are the same, with `^` for `%5E`.
+fn are_same(alloc: Global, one: &str, other: &str) -> Result<bool, AllocError>
+    ensures { IfOk result
+        (λ same. Decides same (with_carets one.now ≡ with_carets other.now)) }
+{
+    if one == other {
+        return Ok(true);
+    }
+    let one = with_carets(alloc, one.as_bytes())?;
+    let other = with_carets(alloc, other.as_bytes())?;
+    Ok(one == other)
+}
+
+// The text with `^` for `%5E`.
+fn with_carets(alloc: Global, text: &[u8]) -> Result<Vec<u8>, AllocError>
+    ensures { IfOk result (λ plain. plain.items ≡ with_carets text.now) }
+{
+    let mut plain = Vec::new(alloc);
+    let mut rest: usize = 0;
+    for at in 0..text.len() {
+        rest = put_plain(&mut plain, text, at, rest)?;
+    }
+    Ok(plain)
+}
+
+// Adds what stands for the byte at a place, where the next `rest` bytes are passed over, and gives
+// how many bytes are then passed over.
+fn put_plain(plain: &mut Vec<u8>, text: &[u8], at: usize, rest: usize) -> Result<usize, AllocError>
+    requires { at < length text.now }
+    ensures { IfOk result (λ next.
+        plain.new.items ++ with_carets_after next (drop (at + 1) text.now)
+        ≡ plain.old.items ++ with_carets_after rest (drop at text.now)) }
+{
+    if rest > 0 {
+        return Ok(rest - 1);
+    }
+    if has_escape(text, at) {
+        plain.push(b'^')?;
+        return Ok(2);
+    }
+    plain.push(text[at])?;
+    Ok(0)
+}
+
+// Whether `%5E` stands at a place.
+fn has_escape(text: &[u8], at: usize) -> bool
+    requires { at < length text.now }
+    ensures { result ≡ starts_with eqb (drop at text.now) (codes "%5E") }
+{
+    text[at..].starts_with(b"%5E")
 }
 
 // The line at a place, empty where there are no more.

@@ -8,48 +8,75 @@ use Rattle.std.specs.FinMap.{IsAntisymmetric}
 use Rattle.std.proofs.lemmas.List.{append-nil}
 use Rattle.std.proofs.lemmas.List.Elements.{All-head, All-tail}
 use Rattle.std.proofs.lemmas.List.Sorted.{IsPermutation-map, IsPermutation-sym, IsPermutation-trans}
-use Rattle.cargo_lock_parts.specs.Identity.{PackageData}
-use Rattle.cargo_lock_parts.specs.IdentityOrder.{version_cmp}
-use Rattle.cargo_lock_parts.specs.IdentityLaws.{option_cmp-anti, option_cmp-by, text_cmp-anti, tied-first, tied-second, version_cmp-anti, key_cmp-anti}
+use Rattle.cargo_lock_parts.specs.Identity.{Identity, PackageData}
+use Rattle.cargo_lock_parts.specs.IdentityOrder.{by_name_version_source, version_cmp}
+use Rattle.cargo_lock_parts.specs.IdentityLaws.{option_cmp-anti, option_cmp-by, text_cmp-anti, tied-three, version_cmp-anti, key_cmp-anti}
+use Rattle.cargo_lock_parts.specs.Source.{Source}
 use Rattle.cargo_lock_parts.specs.SourceKey.{key_cmp, key_of, source_cmp, text_cmp}
 use Rattle.cargo_lock_diff.specs.declared.likeness.Likeness.TheVariants.{Whole}
-use Rattle.cargo_lock_diff.specs.Likeness.{WholeKey, is_alike, likeness_cmp, whole_key}
+use Rattle.cargo_lock_diff.specs.Keys.{PlaceKey, WholeKey, place_key, place_of, whole_key}
+use Rattle.cargo_lock_diff.specs.Likeness.{is_alike, likeness_cmp}
+use Rattle.cargo_lock_diff.specs.Place.{other_source, place_cmp, placed_identity_cmp}
 use Rattle.cargo_lock_diff.specs.Matching.{firsts, seconds}
-use Rattle.cargo_lock_diff.specs.Difference.{AreAlike, DifferenceData, EmptyIfPermuted, IsDifference, IsEmpty, ToldByCount, count_of, new_told, old_told}
+use Rattle.cargo_lock_diff.specs.Difference.{DifferenceData, EmptyIfPermuted, IsDifference, IsEmpty, ToldByCount, ToldOnce, count_of, new_told, old_told}
 use Rattle.cargo_lock_diff.proofs.Orders.{likeness_total}
 use Rattle.cargo_lock_diff.proofs.Counts.{count-cons, count-permutation, left-counts}
+use Rattle.cargo_lock_diff.proofs.Pairs.{AreAlike, news-told, olds-told, told-apart}
 
 pub whole_laws : IsEquivalence (is_alike Whole)
 whole_laws = eq_by_cmp_equiv (likeness_total Whole)
 
+pub told_once : ToldOnce
+told_once olds news d h = (olds-told h.paired, news-told h.paired)
+
 pub told_by_count : ToldByCount
-told_by_count olds news d h p = left-counts (is_alike Whole) whole_laws p olds news d.kept (old_told d) (new_told d) h.olds_told h.news_told h.kept (h.apart Whole)
+told_by_count olds news d h p =
+    left-counts (is_alike Whole) whole_laws p olds news d.kept (old_told d) (new_told d)
+    (olds-told h.paired) (news-told h.paired) h.paired.wholly.paired (told-apart h.paired)
 
 -- ---- what is wholly alike has one key
 
+place_key_cmp : PlaceKey → PlaceKey → Ordering
+place_key_cmp = by_name_version_source (λ k. k.name) (λ k. k.version) (λ k. k.place)
+    version_cmp (option_cmp key_cmp)
+
+place_key-anti : IsAntisymmetric place_key_cmp
+unfolding place_key_cmp
+place_key-anti j k e =
+    let tied = tied-three _ _ _ e in
+    let name = text_cmp-anti j.name k.name tied.0 in
+    let version = version_cmp-anti j.version k.version tied.1 in
+    let place = option_cmp-anti (option_cmp-anti key_cmp-anti) j.place k.place tied.2 in
+    λ i. record { name = name i; version = version i; place = place i }
+
+place_cmp-key : (a b : Source) → place_cmp a b ≡ option_cmp key_cmp (place_of a) (place_of b)
+place_cmp-key a b = option_cmp-by key_of source_cmp key_cmp (λ x y. refl) (other_source a) (other_source b)
+
+placed-key : (a b : Identity) → placed_identity_cmp a b ≡ place_key_cmp (place_key a) (place_key b)
+unfolding place_key_cmp
+placed-key a b = ap (ordering_then _) (option_cmp-by place_of place_cmp (option_cmp key_cmp) place_cmp-key a.source b.source)
+
 whole_key_cmp : WholeKey → WholeKey → Ordering
-whole_key_cmp = then_cmp (then_cmp (then_cmp
-    (on (λ k. k.identity.name) text_cmp)
-    (on (λ k. k.identity.version) version_cmp))
-    (on (λ k. k.identity.source) (option_cmp key_cmp)))
-    (on (λ k. k.checksum) (option_cmp text_cmp))
+whole_key_cmp = then_cmp (then_cmp
+    (on (λ k. k.at) place_key_cmp)
+    (on (λ k. k.checksum) (option_cmp text_cmp)))
+    (on (λ k. k.replace) (option_cmp place_key_cmp))
 
 whole_key-anti : IsAntisymmetric whole_key_cmp
 unfolding whole_key_cmp
 whole_key-anti j k e =
-    let e1 = tied-first _ _ e in
-    let e2 = tied-first _ _ e1 in
-    let name = text_cmp-anti j.identity.name k.identity.name (tied-first _ _ e2) in
-    let version = version_cmp-anti j.identity.version k.identity.version (tied-second _ _ e2) in
-    let source = option_cmp-anti key_cmp-anti j.identity.source k.identity.source (tied-second _ _ e1) in
-    let checksum = option_cmp-anti text_cmp-anti j.checksum k.checksum (tied-second _ _ e) in
-    λ i. record { identity = record { name = name i; version = version i; source = source i }; checksum = checksum i }
+    let tied = tied-three _ _ _ e in
+    let at = place_key-anti j.at k.at tied.0 in
+    let checksum = option_cmp-anti text_cmp-anti j.checksum k.checksum tied.1 in
+    let replace = option_cmp-anti place_key-anti j.replace k.replace tied.2 in
+    λ i. record { at = at i; checksum = checksum i; replace = replace i }
 
 whole_cmp-key : (a b : PackageData) → likeness_cmp Whole a b ≡ whole_key_cmp (whole_key a) (whole_key b)
 unfolding whole_key_cmp
 whole_cmp-key a b =
-    ap (λ o. ordering_then (ordering_then (ordering_then (text_cmp a.name b.name) (version_cmp a.version b.version)) o) (option_cmp text_cmp a.checksum b.checksum))
-    (option_cmp-by key_of source_cmp key_cmp (λ x y. refl) a.source b.source)
+    let at = placed-key (record { name = a.name; version = a.version; source = a.source }) (record { name = b.name; version = b.version; source = b.source }) in
+    let replace = option_cmp-by place_key placed_identity_cmp place_key_cmp placed-key a.replace b.replace in
+    λ i. ordering_then (ordering_then (at i) (option_cmp text_cmp a.checksum b.checksum)) (replace i)
 
 pub one_key : (a b : PackageData) → is_alike Whole a b ≡ true → whole_key a ≡ whole_key b
 one_key a b h = whole_key-anti _ _ (sym (whole_cmp-key a b) ∙ (Equal-is (likeness_cmp Whole a b)).0 h)
@@ -74,19 +101,19 @@ pair-keys (p ∷ ps) all =
     λ i. one i ∷ rest i
 
 old-none : (d : DifferenceData) → IsEmpty d → old_told d ≡ []
-old-none d e = λ i. firsts (e.altered i) ++ (firsts (e.moved i) ++ (firsts (e.changed i) ++ e.removed i))
+old-none d e = λ i. firsts (e.pairs i) ++ e.removed i
 
 new-none : (d : DifferenceData) → IsEmpty d → new_told d ≡ []
-new-none d e = λ i. seconds (e.altered i) ++ (seconds (e.moved i) ++ (seconds (e.changed i) ++ e.added i))
+new-none d e = λ i. seconds (e.pairs i) ++ e.added i
 
 permuted : (olds news : List PackageData) (d : DifferenceData) → IsDifference olds news d → IsEmpty d → IsPermutation (map whole_key olds) (map whole_key news)
 permuted olds news d h e =
-    let p : IsPermutation olds (firsts d.kept) = subst (λ zs. IsPermutation olds zs) (ap (λ zs. firsts d.kept ++ zs) (old-none d e) ∙ append-nil (firsts d.kept)) h.olds_told in
-    let q : IsPermutation news (seconds d.kept) = subst (λ zs. IsPermutation news zs) (ap (λ zs. seconds d.kept ++ zs) (new-none d e) ∙ append-nil (seconds d.kept)) h.news_told in
+    let p : IsPermutation olds (firsts d.kept) = subst (λ zs. IsPermutation olds zs) (ap (λ zs. firsts d.kept ++ zs) (old-none d e) ∙ append-nil (firsts d.kept)) (olds-told h.paired) in
+    let q : IsPermutation news (seconds d.kept) = subst (λ zs. IsPermutation news zs) (ap (λ zs. seconds d.kept ++ zs) (new-none d e) ∙ append-nil (seconds d.kept)) (news-told h.paired) in
     let pk = IsPermutation-map whole_key olds (firsts d.kept) p in
     let qk = IsPermutation-sym (map whole_key news) (map whole_key (seconds d.kept)) (IsPermutation-map whole_key news (seconds d.kept) q) in
     IsPermutation-trans (map whole_key olds) (map whole_key (seconds d.kept)) (map whole_key news)
-    (subst (λ zs. IsPermutation (map whole_key olds) zs) (pair-keys d.kept h.kept) pk) qk
+    (subst (λ zs. IsPermutation (map whole_key olds) zs) (pair-keys d.kept h.paired.wholly.paired) pk) qk
 
 none-there : (xs : List PackageData) → ((p : PackageData) → count_of p xs ≡ 0) → xs ≡ []
 none-there [] h = refl
@@ -102,23 +129,21 @@ pub map-none : {X Y : Type 0} (f : X → Y) (xs : List X) → map f xs ≡ [] �
 map-none f [] e = refl
 map-none f (x ∷ xs) e = cc e
 
+-- lists whose keys are permuted have each package as often
+pub same-counts : (xs ys : List PackageData) → IsPermutation (map whole_key xs) (map whole_key ys) → (p : PackageData) → count_of p xs ≡ count_of p ys
+same-counts xs ys perm p = count-keys p xs ∙ sym (count-permutation (has_key p) (map whole_key xs) (map whole_key ys) perm) ∙ sym (count-keys p ys)
+
 emptied : (olds news : List PackageData) (d : DifferenceData) → IsDifference olds news d → IsPermutation (map whole_key olds) (map whole_key news) → IsEmpty d
 emptied olds news d h perm =
     let same : (p : PackageData) → count_of p news ≡ count_of p olds = λ p. count-keys p news ∙ count-permutation (has_key p) (map whole_key olds) (map whole_key news) perm ∙ sym (count-keys p olds) in
     let o : old_told d ≡ [] = none-there (old_told d) (λ p. (told_by_count olds news d h p).0 ∙ level _ _ (sym (same p))) in
     let n : new_told d ≡ [] = none-there (new_told d) (λ p. (told_by_count olds news d h p).1 ∙ level _ _ (same p)) in
-    let o1 = append-none (firsts d.altered) (firsts d.moved ++ (firsts d.changed ++ d.removed)) o in
-    let o2 = append-none (firsts d.moved) (firsts d.changed ++ d.removed) o1.1 in
-    let o3 = append-none (firsts d.changed) d.removed o2.1 in
-    let n1 = append-none (seconds d.altered) (seconds d.moved ++ (seconds d.changed ++ d.added)) n in
-    let n2 = append-none (seconds d.moved) (seconds d.changed ++ d.added) n1.1 in
-    let n3 = append-none (seconds d.changed) d.added n2.1 in
+    let o1 = append-none (firsts d.pairs) d.removed o in
+    let n1 = append-none (seconds d.pairs) d.added n in
     record {
-      altered = map-none (λ (p : PackageData × PackageData). p.0) d.altered o1.0;
-      moved = map-none (λ (p : PackageData × PackageData). p.0) d.moved o2.0;
-      changed = map-none (λ (p : PackageData × PackageData). p.0) d.changed o3.0;
-      removed = o3.1;
-      added = n3.1;
+      pairs = map-none (λ (p : PackageData × PackageData). p.0) d.pairs o1.0;
+      removed = o1.1;
+      added = n1.1;
     }
   where
     level : (m n : ℕ) → m ≡ n → m - n ≡ 0

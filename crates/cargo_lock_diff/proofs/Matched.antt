@@ -9,11 +9,11 @@ use Rattle.cargo_lock_diff.specs.Matching.{AreMatched, PassesWithNone, firsts, s
 abbrev pub both : {X Y : Type 0} → (X → Y) → X × X → Y × Y
 both f p = (f p.0, f p.1)
 
-firsts-both : {X Y : Type 0} (f : X → Y) (pairs : List (X × X)) → map f (firsts pairs) ≡ firsts (map (both f) pairs)
+pub firsts-both : {X Y : Type 0} (f : X → Y) (pairs : List (X × X)) → map f (firsts pairs) ≡ firsts (map (both f) pairs)
 firsts-both f [] = refl
 firsts-both f (p ∷ ps) = ap (λ zs. f p.0 ∷ zs) (firsts-both f ps)
 
-seconds-both : {X Y : Type 0} (f : X → Y) (pairs : List (X × X)) → map f (seconds pairs) ≡ seconds (map (both f) pairs)
+pub seconds-both : {X Y : Type 0} (f : X → Y) (pairs : List (X × X)) → map f (seconds pairs) ≡ seconds (map (both f) pairs)
 seconds-both f [] = refl
 seconds-both f (p ∷ ps) = ap (λ zs. f p.1 ∷ zs) (seconds-both f ps)
 

@@ -22,18 +22,18 @@ pub record IsMerged {X : Type 0} (cmp : X → X → Ordering) (olds news : List 
 
 -- ---- one more of a list
 
-one-more : {X : Type 0} (xs : List X) (i : ℕ) (x : X) → i < length xs → x ≡ get_or xs i x → take (i + 1) xs ≡ take i xs ++ x ∷ []
+pub one-more : {X : Type 0} (xs : List X) (i : ℕ) (x : X) → i < length xs → x ≡ get_or xs i x → take (i + 1) xs ≡ take i xs ++ x ∷ []
 one-more xs i x lt at = take_more xs i x lt ∙ ap (λ z. take i xs ++ z ∷ []) (sym at)
 
 one-less : {X : Type 0} (xs : List X) (i : ℕ) (x : X) → i < length xs → x ≡ get_or xs i x → drop i xs ≡ x ∷ drop (i + 1) xs
 one-less xs i x lt at = drop_more xs i x lt ∙ ap (λ z. z ∷ drop (i + 1) xs) (sym at)
 
 -- one more at the end of the second part
-grown-second : {X : Type 0} (xs front back : List X) (x : X) → IsPermutation xs (front ++ back) → IsPermutation (xs ++ x ∷ []) (front ++ (back ++ x ∷ []))
+pub grown-second : {X : Type 0} (xs front back : List X) (x : X) → IsPermutation xs (front ++ back) → IsPermutation (xs ++ x ∷ []) (front ++ (back ++ x ∷ []))
 grown-second xs front back x p = subst (λ zs. IsPermutation (xs ++ x ∷ []) zs) (append_assoc front back (x ∷ [])) (IsPermutation-append_left (x ∷ []) xs (front ++ back) p)
 
 -- one more at the end of the first part
-grown-first : {X : Type 0} (xs front back : List X) (x : X) → IsPermutation xs (front ++ back) → IsPermutation (xs ++ x ∷ []) ((front ++ x ∷ []) ++ back)
+pub grown-first : {X : Type 0} (xs front back : List X) (x : X) → IsPermutation xs (front ++ back) → IsPermutation (xs ++ x ∷ []) ((front ++ x ∷ []) ++ back)
 grown-first xs front back x p = IsPermutation-push_more xs (front ++ back) ((front ++ x ∷ []) ++ back) x p
     (subst (λ zs. IsPermutation (x ∷ (front ++ back)) zs) (sym (append_assoc front (x ∷ []) back))
     (IsPermutation-sym (front ++ x ∷ back) (x ∷ (front ++ back)) (IsPermutation-middle front x back)))
@@ -88,26 +88,26 @@ both-paired {X} test olds news pairs old new x y m hit = record {
 
 -- ---- what the order says
 
-not-greater : (r s : Ordering) → r ≡ ordering_reverse s → is_lt r ≡ false → is_gt s ≡ false
+pub not-greater : (r s : Ordering) → r ≡ ordering_reverse s → is_lt r ≡ false → is_gt s ≡ false
 not-greater r Less e h = refl
 not-greater r Equal e h = refl
 not-greater r Greater e h = sym (ap is_lt e) ∙ h
 
 module _ {X : Type 0} {cmp : X → X → Ordering} (o : IsTotalOrder cmp) where
   -- x is below y, and y not above z
-  below-far : (x y z : X) (r : Ordering) → cmp y z ≡ r → cmp x y ≡ Less → is_gt r ≡ false → eq_by_cmp cmp x z ≡ false
+  pub below-far : (x y z : X) (r : Ordering) → cmp y z ≡ r → cmp x y ≡ Less → is_gt r ≡ false → eq_by_cmp cmp x z ≡ false
   below-far x y z Less e h g = ap is_eq (o.trans x y z h e)
   below-far x y z Equal e h g = ap is_eq (sym (alike_right o y z x e) ∙ h)
   below-far x y z Greater e h g = absurd cc
 
   -- y is below x, and x not above z
-  above-far : (x y z : X) (r : Ordering) → cmp x z ≡ r → cmp y x ≡ Less → is_gt r ≡ false → eq_by_cmp cmp z y ≡ false
+  pub above-far : (x y z : X) (r : Ordering) → cmp x z ≡ r → cmp y x ≡ Less → is_gt r ≡ false → eq_by_cmp cmp z y ≡ false
   above-far x y z Less e h g = ap is_eq (o.antisymm z y ∙ ap ordering_reverse (o.trans y x z h e))
   above-far x y z Equal e h g = ap is_eq (o.antisymm z y ∙ ap ordering_reverse (sym (alike_right o x z y e) ∙ h))
   above-far x y z Greater e h g = absurd cc
 
   -- no element from a place on is below the one there
-  none-below : (xs : List X) (i : ℕ) (x : X) → IsSorted cmp xs → i < length xs → x ≡ get_or xs i x → All (λ z. is_gt (cmp x z) ≡ false) (drop i xs)
+  pub none-below : (xs : List X) (i : ℕ) (x : X) → IsSorted cmp xs → i < length xs → x ≡ get_or xs i x → All (λ z. is_gt (cmp x z) ≡ false) (drop i xs)
   none-below xs i x up lt at = All-from_get_or (λ z. is_gt (cmp x z) ≡ false) (drop i xs) x
       (λ k within.
       let far = sorted_far (λ a b. is_lt (cmp a b)) (ranks_by o (λ a. a)) xs up i (i + k) x (omega arith) (omega (arith, length-drop i xs)) in

@@ -1,64 +1,86 @@
 -- Each change is one line: each part of it is printable.
-use Rattle.std.proofs.Common.{ℕ, List, codes, Option, Some, None, refl}
+use Rattle.std.proofs.Common.{ℕ, Bool, true, false, List, codes, Option, Some, None, refl}
+use Rattle.std.specs.Prelude.{◌&&◌, not, is_some}
+use Rattle.semver.specs.Parse.{Parts}
 use Rattle.shown.specs.declared.form.Form.TheVariants.{Plain}
 use Rattle.shown.proofs.LinesOf.{each-is-line}
 use Rattle.shown.proofs.Printable.{Prints, either_text, empty, join, join_each, literal, shown-prints, words}
 use Rattle.cargo_lock_parts.specs.Identity.{Identity, PackageData}
 use Rattle.cargo_lock_parts.specs.Source.{Source}
 use Rattle.cargo_lock_parts.specs.SourceShown.{is_default_registry}
-use Rattle.cargo_lock_diff.specs.Dependencies.{is_among}
-use Rattle.cargo_lock_diff.specs.Change.{Added, Altered, Changed, ChangeData, EachIsOneLine, Moved, OtherDependencies, Removed}
-use Rattle.cargo_lock_diff.specs.Change.{checksum_text, dependency_shown, have_one_source, is_alarm, line_of, only_in, other_sources, package_text, shown_unless_among, source_in_brackets, source_text, version_shown}
+use Rattle.cargo_lock_diff.specs.Dependencies.{is_met}
+use Rattle.cargo_lock_diff.specs.Same.{have_one_place}
+use Rattle.cargo_lock_diff.specs.Change.{Added, Alarm, ChangeData, Checksum, EachIsOneLine, Moved, OtherDependencies, Removed, Replaced, Updated}
+use Rattle.cargo_lock_diff.specs.Change.{checksum_mark, checksum_text, checksums_text, dependency_shown, downgrade_mark, is_downgrade, is_of_registry, line_of, named_text, only_in}
+use Rattle.cargo_lock_diff.specs.Change.{package_text, replacement_text, shown_unless_met, source_alone, source_behind, sources_text, updated_sources, version_shown}
 
-version-prints : (v : ℕ × ℕ × ℕ × List ℕ × List ℕ) → Prints (version_shown v)
+version-prints : (v : Parts) → Prints (version_shown v)
 version-prints v = shown-prints Plain _
 
-source-prints : (s : Option Source) → Prints (source_text s)
-source-prints None = literal (codes "none") refl
-source-prints (Some s) = shown-prints Plain _
+behind-prints : (s : Option Source) → Prints (source_behind s)
+behind-prints None = literal (codes " (path)") refl
+behind-prints (Some s) = either_text (is_default_registry s) empty
+    (words (codes " (") refl (join (shown-prints Plain _) (literal (codes ")") refl)))
+
+alone-prints : (s : Option Source) → Prints (source_alone s)
+alone-prints None = literal (codes "(path)") refl
+alone-prints (Some s) = either_text (is_default_registry s) (literal (codes "crates.io") refl) (shown-prints Plain _)
+
+sources-print : (old new : PackageData) → Prints (sources_text old new)
+sources-print old new = words (codes ": ") refl (join (alone-prints old.source) (words (codes " -> ") refl (alone-prints new.source)))
 
 checksum-prints : (c : Option (List ℕ)) → Prints (checksum_text c)
 checksum-prints None = literal (codes "none") refl
 checksum-prints (Some digest) = shown-prints Plain _
 
+checksums-print : (old new : PackageData) → Prints (checksums_text old new)
+checksums-print old new = words (codes ": checksum ") refl (join (checksum-prints old.checksum)
+    (words (codes " -> ") refl (checksum-prints new.checksum)))
+
+named-prints : (p : PackageData) → Prints (named_text p)
+named-prints p = join (shown-prints Plain p.name) (words (codes " ") refl (version-prints p.version))
+
 package-prints : (p : PackageData) → Prints (package_text p)
-package-prints p = join (shown-prints Plain p.name) (words (codes " ") refl (version-prints p.version))
-
-sources-print : (old new : PackageData) → Prints (other_sources old new)
-sources-print old new = either_text (have_one_source old new) empty
-    (words (codes ": ") refl (join (source-prints old.source) (words (codes " -> ") refl (source-prints new.source))))
-
-brackets-print : (s : Option Source) → Prints (source_in_brackets s)
-brackets-print None = literal (codes " (none)") refl
-brackets-print (Some s) = either_text (is_default_registry s) empty
-    (words (codes " (") refl (join (shown-prints Plain _) (literal (codes ")") refl)))
+package-prints p = join (named-prints p) (behind-prints p.source)
 
 dependency-prints : (d : Identity) → Prints (dependency_shown d)
-dependency-prints d = join (shown-prints Plain d.name) (words (codes " ") refl (join (version-prints d.version) (brackets-print d.source)))
+dependency-prints d = join (shown-prints Plain d.name) (words (codes " ") refl (join (version-prints d.version) (behind-prints d.source)))
 
-unless_among-prints : (others : List Identity) (sign : List ℕ) → Prints sign → (d : Identity) → Prints (shown_unless_among others sign d)
-unless_among-prints others sign h d = either_text (is_among others d) empty
-    (words (codes " ") refl (join h (words (codes " ") refl (dependency-prints d))))
+replacement-prints : (d : Option Identity) → Prints (replacement_text d)
+replacement-prints None = literal (codes "none") refl
+replacement-prints (Some d) = dependency-prints d
 
-only_in-prints : (sign : List ℕ) → Prints sign → (these others : List Identity) → Prints (only_in sign these others)
-only_in-prints sign h these others = join_each (shown_unless_among others sign) (unless_among-prints others sign h) these
+updated-prints : (old new : PackageData) → Prints (updated_sources old new)
+updated-prints old new = either_text (have_one_place old new) (behind-prints new.source) (sources-print old new)
 
-line-prints : (c : ChangeData) → Prints (line_of c)
-line-prints (Altered old new) =
-    join (either_text (is_alarm old new) (literal (codes "!") refl) (literal (codes "?") refl))
-    (words (codes " ") refl (join (package-prints old)
-    (words (codes " (") refl (join (source-prints old.source)
-    (words (codes "): checksum ") refl (join (checksum-prints old.checksum)
-    (words (codes " -> ") refl (checksum-prints new.checksum))))))))
-line-prints (Moved old new) = words (codes "> ") refl (join (package-prints old) (sources-print old new))
-line-prints (Changed old new) = words (codes "~ ") refl (join (package-prints old)
-    (words (codes " -> ") refl (join (version-prints new.version) (sources-print old new))))
+downgrade-prints : (old new : PackageData) → Prints (downgrade_mark old new)
+downgrade-prints old new = either_text (is_downgrade old new) (literal (codes " (downgrade)") refl) empty
+
+mark-prints : (p : PackageData) → Prints (checksum_mark p)
+mark-prints p = either_text (is_of_registry p.source && not (is_some p.checksum)) (literal (codes ", no checksum") refl) empty
+
+unless_met-prints : (forward : Bool) (targets : List (PackageData × PackageData)) (others : List Identity) (d : Identity)
+    → Prints (shown_unless_met forward targets others d)
+unless_met-prints forward targets others d = either_text (is_met forward targets others d) empty
+    (words (codes " ") refl (join (either_text forward (literal (codes "-") refl) (literal (codes "+") refl)) (words (codes " ") refl (dependency-prints d))))
+
+only_in-prints : (forward : Bool) (targets : List (PackageData × PackageData)) (these others : List Identity) → Prints (only_in forward targets these others)
+only_in-prints forward targets these others = join_each (shown_unless_met forward targets others) (unless_met-prints forward targets others) these
+
+pub line-prints : (c : ChangeData) → Prints (line_of c)
+line-prints (Alarm old new) = words (codes "! ") refl (join (package-prints new) (checksums-print old new))
+line-prints (Moved old new) = words (codes "> ") refl (join (named-prints new) (sources-print old new))
+line-prints (Checksum old new) = words (codes "? ") refl (join (package-prints new) (checksums-print old new))
+line-prints (Replaced old new) = words (codes "@ ") refl (join (package-prints new) (words (codes ": replacement ") refl
+    (join (replacement-prints old.replace) (words (codes " -> ") refl (replacement-prints new.replace)))))
+line-prints (Updated old new) = words (codes "~ ") refl (join (named-prints old) (words (codes " -> ") refl
+    (join (version-prints new.version) (join (updated-prints old new) (downgrade-prints old new)))))
 line-prints (Removed old) = words (codes "- ") refl (package-prints old)
-line-prints (Added new) = words (codes "+ ") refl (package-prints new)
-line-prints (OtherDependencies old new) = words (codes "= ") refl (join (package-prints new)
-    (words (codes ": dependencies") refl
-    (join (only_in-prints (codes "-") (literal (codes "-") refl) old.dependencies new.dependencies)
-    (only_in-prints (codes "+") (literal (codes "+") refl) new.dependencies old.dependencies))))
+line-prints (Added new) = words (codes "+ ") refl (join (package-prints new) (mark-prints new))
+line-prints (OtherDependencies old new targets) = words (codes "= ") refl (join (package-prints new)
+    (words (codes ":") refl
+    (join (only_in-prints true targets old.dependencies new.dependencies)
+    (only_in-prints false targets new.dependencies old.dependencies))))
 
 pub each-change-is-one-line : EachIsOneLine
 each-change-is-one-line = each-is-line line_of line-prints

@@ -1,74 +1,95 @@
--- The changes that a difference tells, and the line of each.
+-- The changes that a difference reports, and the line of each.
 use Rattle.std.specs.Prelude.{◌≡◌, ◌↔◌, ℕ, ◌&&◌, Bool, not, List, [], ◌∷◌, ◌++◌, codes, filter, map}
-use Rattle.std.specs.Prelude.{Option, Some, None, is_some, false, if◌then◌else◌}
+use Rattle.std.specs.Prelude.{Option, Some, None, is_some, true, false, if◌then◌else◌}
+use Rattle.std.specs.Prelude.{IsPermutation}
 use Rattle.std.specs.List.{flat_map}
-use Rattle.std.specs.Option.{option_cmp}
-use Rattle.std.specs.Ordering.{eq_by_cmp}
+use Rattle.std.specs.declared.cmp.Ordering.{Ordering}
+use Rattle.std.specs.Ordering.{is_gt, nat_cmp, on, then_cmp}
 use Rattle.std.specs.Str.Lines.{lines}
 use Rattle.semver.specs.Identifiers.{parts_text}
+use Rattle.semver.specs.Order.{pre_cmp}
+use Rattle.semver.specs.Parse.{Parts}
 use Rattle.cargo_lock_parts.specs.Ascii.{newline}
 use Rattle.cargo_lock_parts.specs.Checksum.{digest_text}
 use Rattle.cargo_lock_parts.specs.Identity.{Identity, PackageData}
-use Rattle.cargo_lock_parts.specs.Source.{Source}
-use Rattle.cargo_lock_parts.specs.SourceKey.{source_cmp}
+use Rattle.cargo_lock_parts.specs.Source.{Source, is_registry}
 use Rattle.cargo_lock_parts.specs.SourceShown.{is_default_registry}
 use Rattle.cargo_lock_parts.specs.SourceText.{text_of}
+use Rattle.cargo_lock_diff.specs.declared.change.Aspect.{Aspect}
+use Rattle.cargo_lock_diff.specs.declared.change.Aspect.TheVariants as aspect
 use Rattle.cargo_lock_diff.specs.declared.change.Change.{Change}
 use Rattle.cargo_lock_diff.specs.declared.change.Change.TheVariants as variant
-use Rattle.cargo_lock_diff.specs.Dependencies.{have_other_dependencies, is_among}
-use Rattle.cargo_lock_diff.specs.Difference.{DifferenceData, IsEmpty}
+use Rattle.cargo_lock_diff.specs.Dependencies.{have_other_dependencies, is_met}
+use Rattle.cargo_lock_diff.specs.Difference.{DifferenceData, IsDifference}
+use Rattle.cargo_lock_diff.specs.Keys.{whole_key}
+use Rattle.cargo_lock_diff.specs.Same.{have_one_place, have_one_replacement, have_one_version}
 use Rattle.shown.specs.Shown.{shown}
 use Rattle.shown.specs.declared.form.Form.TheVariants.{Plain}
 
--- one thing that differs: a pair with other checksums, other sources or other versions, a package
--- that went or came, or a pair with other dependencies
+-- One thing that differs. An alarm is of a new package and of an old one of its name and version
+-- that has a checksum. A pair of one version has another place, a checksum that it had not, or
+-- another replacement; a pair may have another version. A package went or came. A pair may have
+-- other dependencies by the pairs of a difference.
 pub data ChangeData : Type 0 where
-  Altered : PackageData → PackageData → ChangeData
+  Alarm : PackageData → PackageData → ChangeData
   Moved : PackageData → PackageData → ChangeData
-  Changed : PackageData → PackageData → ChangeData
+  Checksum : PackageData → PackageData → ChangeData
+  Replaced : PackageData → PackageData → ChangeData
+  Updated : PackageData → PackageData → ChangeData
   Removed : PackageData → ChangeData
   Added : PackageData → ChangeData
-  OtherDependencies : PackageData → PackageData → ChangeData
+  OtherDependencies : PackageData → PackageData → List (PackageData × PackageData) → ChangeData
 
 -- the change of the packages that references lead to
 abbrev pub change_of : Change → ChangeData
-change_of (variant.Altered old new) = Altered old.now new.now
+change_of (variant.Alarm old new) = Alarm old.now new.now
 change_of (variant.Moved old new) = Moved old.now new.now
-change_of (variant.Changed old new) = Changed old.now new.now
+change_of (variant.Checksum old new) = Checksum old.now new.now
+change_of (variant.Replaced old new) = Replaced old.now new.now
+change_of (variant.Updated old new) = Updated old.now new.now
 change_of (variant.Removed old) = Removed old.now
 change_of (variant.Added new) = Added new.now
-change_of (variant.OtherDependencies old new) = OtherDependencies old.now new.now
+change_of (variant.OtherDependencies old new targets) =
+    OtherDependencies old.now new.now targets.now
 
--- both packages have a checksum: where they are of one identity and the checksums differ, the
--- archive is another one
-abbrev pub is_alarm : PackageData → PackageData → Bool
-is_alarm old new = is_some old.checksum && is_some new.checksum
+-- the packages of a pair differ in an aspect; all but the version counts where the version is one
+abbrev pub differs_in : Aspect → PackageData × PackageData → Bool
+differs_in aspect.Source p = have_one_version p.0 p.1 && not (have_one_place p.0 p.1)
+differs_in aspect.Checksum p =
+    have_one_version p.0 p.1 && (not (is_some p.0.checksum) && is_some p.1.checksum)
+differs_in aspect.Replacement p = have_one_version p.0 p.1 && not (have_one_replacement p.0 p.1)
+differs_in aspect.Version p = not (have_one_version p.0 p.1)
 
--- the pairs that are alarms
-abbrev pub alarms : List (PackageData × PackageData) → List ChangeData
-alarms pairs = map (λ p. Altered p.0 p.1) (filter (λ p. is_alarm p.0 p.1) pairs)
+-- the change of a pair in an aspect
+abbrev pub change_in : Aspect → PackageData × PackageData → ChangeData
+change_in aspect.Source p = Moved p.0 p.1
+change_in aspect.Checksum p = Checksum p.0 p.1
+change_in aspect.Replacement p = Replaced p.0 p.1
+change_in aspect.Version p = Updated p.0 p.1
 
--- the pairs where one package has no checksum
-abbrev pub other_checksums : List (PackageData × PackageData) → List ChangeData
-other_checksums pairs = map (λ p. Altered p.0 p.1) (filter (λ p. not (is_alarm p.0 p.1)) pairs)
+-- the changes of those pairs that differ in an aspect
+abbrev pub changes_in : Aspect → List (PackageData × PackageData) → List ChangeData
+changes_in one pairs = map (change_in one) (filter (differs_in one) pairs)
 
--- the changes of a difference, in the order in which they are told: alarms first, then checksums
--- that came or went, other sources, other versions, packages that went and packages that came
+-- the changes of a difference, in the order in which they are reported: alarms first, then other
+-- sources, new checksums, other replacements, other versions, packages that went and packages that
+-- came
 abbrev pub changes_of : DifferenceData → List ChangeData
-changes_of d = alarms d.altered ++ (other_checksums d.altered
-    ++ (map (λ p. Moved p.0 p.1) d.moved ++ (map (λ p. Changed p.0 p.1) d.changed
-    ++ (map Removed d.removed ++ map Added d.added))))
+changes_of d = map (λ a. Alarm a.0 a.1) d.alarms ++ (changes_in aspect.Source d.pairs
+    ++ (changes_in aspect.Checksum d.pairs ++ (changes_in aspect.Replacement d.pairs
+    ++ (changes_in aspect.Version d.pairs ++ (map Removed d.removed ++ map Added d.added)))))
 
--- the pairs with other dependencies
-abbrev pub other_dependencies : List (PackageData × PackageData) → List ChangeData
-other_dependencies pairs = map (λ p. OtherDependencies p.0 p.1)
-    (filter (λ p. have_other_dependencies p.0 p.1) pairs)
+-- the pairs with other dependencies by the pairs of a difference
+abbrev pub other_dependencies : List (PackageData × PackageData)
+    → List (PackageData × PackageData) → List ChangeData
+other_dependencies targets pairs = map (λ p. OtherDependencies p.0 p.1 targets)
+    (filter (λ p. have_other_dependencies targets p.0 p.1) pairs)
 
--- the changes of the dependencies of a difference, in their order: of the pairs that are wholly
--- alike, of those with other checksums, with other sources and with other versions
+-- the changes of the dependencies of a difference: of the pairs that are wholly alike, and of the
+-- other pairs
 abbrev pub dependency_changes_of : DifferenceData → List ChangeData
-dependency_changes_of d = other_dependencies d.kept ++ (other_dependencies d.altered
-    ++ (other_dependencies d.moved ++ other_dependencies d.changed))
+dependency_changes_of d = other_dependencies d.targets d.kept
+    ++ other_dependencies d.targets d.pairs
 
 -- all changes of a difference: its changes, and with dependencies then the changes of those
 abbrev pub all_changes_of : Bool → DifferenceData → List ChangeData
@@ -77,70 +98,111 @@ all_changes_of dependencies d = if dependencies then changes_of d ++ dependency_
 
 -- ---- lines
 
--- the text of a source, or `none`
-abbrev pub source_text : Option Source → List ℕ
-source_text None = codes "none"
-source_text (Some source) = shown Plain (text_of false source)
+-- the source in round brackets behind a version: `(path)` where there is none, and nothing for the
+-- registry of crates.io
+abbrev pub source_behind : Option Source → List ℕ
+source_behind None = codes " (path)"
+source_behind (Some source) = if is_default_registry source then []
+    else codes " (" ++ (shown Plain (text_of true source) ++ codes ")")
+
+-- the source by itself: `(path)` where there is none, and `crates.io` for its registry
+abbrev pub source_alone : Option Source → List ℕ
+source_alone None = codes "(path)"
+source_alone (Some source) = if is_default_registry source then codes "crates.io"
+    else shown Plain (text_of true source)
+
+-- both sources
+abbrev pub sources_text : PackageData → PackageData → List ℕ
+sources_text old new = codes ": " ++ (source_alone old.source
+    ++ (codes " -> " ++ source_alone new.source))
 
 -- the text of a checksum, or `none`
 abbrev pub checksum_text : Option (List ℕ) → List ℕ
 checksum_text None = codes "none"
 checksum_text (Some digest) = shown Plain (digest_text digest)
 
--- the sign of a pair with other checksums
-abbrev pub checksum_sign : PackageData → PackageData → List ℕ
-checksum_sign old new = if is_alarm old new then codes "!" else codes "?"
+-- both checksums
+abbrev pub checksums_text : PackageData → PackageData → List ℕ
+checksums_text old new = codes ": checksum " ++ (checksum_text old.checksum
+    ++ (codes " -> " ++ checksum_text new.checksum))
 
 -- a version as it is shown
-abbrev pub version_shown : ℕ × ℕ × ℕ × List ℕ × List ℕ → List ℕ
+abbrev pub version_shown : Parts → List ℕ
 version_shown version = shown Plain (parts_text version)
 
 -- the name and the version
+abbrev pub named_text : PackageData → List ℕ
+named_text p = shown Plain p.name ++ (codes " " ++ version_shown p.version)
+
+-- the name, the version and the source behind it
 abbrev pub package_text : PackageData → List ℕ
-package_text p = shown Plain p.name ++ (codes " " ++ version_shown p.version)
+package_text p = named_text p ++ source_behind p.source
 
--- the sources tie
-abbrev pub have_one_source : PackageData → PackageData → Bool
-have_one_source old new = eq_by_cmp (option_cmp source_cmp) old.source new.source
-
--- both sources of a pair, where they differ
-abbrev pub other_sources : PackageData → PackageData → List ℕ
-other_sources old new = if have_one_source old new then []
-    else codes ": " ++ (source_text old.source ++ (codes " -> " ++ source_text new.source))
-
--- the source of a dependency in round brackets, unless it is the registry of crates.io
-abbrev pub source_in_brackets : Option Source → List ℕ
-source_in_brackets None = codes " (none)"
-source_in_brackets (Some source) = if is_default_registry source then []
-    else codes " (" ++ (shown Plain (text_of false source) ++ codes ")")
-
--- a dependency: its name, its version and that source
+-- a dependency: its name, its version and its source behind it
 abbrev pub dependency_shown : Identity → List ℕ
 dependency_shown d = shown Plain d.name
-    ++ (codes " " ++ (version_shown d.version ++ source_in_brackets d.source))
+    ++ (codes " " ++ (version_shown d.version ++ source_behind d.source))
 
--- a dependency with a sign before it, unless it is among others
-abbrev pub shown_unless_among : List Identity → List ℕ → Identity → List ℕ
-shown_unless_among others sign d = if is_among others d then []
-    else codes " " ++ (sign ++ (codes " " ++ dependency_shown d))
+-- a replacement, or `none`
+abbrev pub replacement_text : Option Identity → List ℕ
+replacement_text None = codes "none"
+replacement_text (Some d) = dependency_shown d
 
--- those of the first list that are not among the second, each with a sign
-abbrev pub only_in : List ℕ → List Identity → List Identity → List ℕ
-only_in sign these others = flat_map (shown_unless_among others sign) these
+-- of a pair with other versions: both sources where the places differ, or else the source
+abbrev pub updated_sources : PackageData → PackageData → List ℕ
+updated_sources old new =
+    if have_one_place old new then source_behind new.source else sources_text old new
+
+-- the precedence of versions: build metadata does not count
+abbrev pub precedence_cmp : Parts → Parts → Ordering
+precedence_cmp = then_cmp (on (λ v. v.0) nat_cmp) (then_cmp (on (λ v. v.1) nat_cmp)
+    (then_cmp (on (λ v. v.2) nat_cmp) (on (λ v. v.3) pre_cmp)))
+
+-- the new version comes before the old one
+abbrev pub is_downgrade : PackageData → PackageData → Bool
+is_downgrade old new = is_gt (precedence_cmp old.version new.version)
+
+-- the mark of a pair whose new version comes before the old one
+abbrev pub downgrade_mark : PackageData → PackageData → List ℕ
+downgrade_mark old new = if is_downgrade old new then codes " (downgrade)" else []
+
+-- the package is from a registry
+abbrev pub is_of_registry : Option Source → Bool
+is_of_registry None = false
+is_of_registry (Some source) = is_registry source.kind
+
+-- the mark of a package of a registry that has no checksum
+abbrev pub checksum_mark : PackageData → List ℕ
+checksum_mark p =
+    if is_of_registry p.source && not (is_some p.checksum) then codes ", no checksum" else []
+
+-- a dependency with a sign before it, `-` for an old one and `+` for a new one, unless it meets one
+-- of the others
+abbrev pub shown_unless_met : Bool → List (PackageData × PackageData) → List Identity → Identity
+    → List ℕ
+shown_unless_met forward targets others d = if is_met forward targets others d then []
+    else codes " " ++ ((if forward then codes "-" else codes "+")
+    ++ (codes " " ++ dependency_shown d))
+
+-- those of the first list that meet none of the second, each with its sign
+abbrev pub only_in : Bool → List (PackageData × PackageData) → List Identity → List Identity
+    → List ℕ
+only_in forward targets these others = flat_map (shown_unless_met forward targets others) these
 
 -- the line of a change
 abbrev pub line_of : ChangeData → List ℕ
-line_of (Altered old new) = checksum_sign old new ++ (codes " " ++ (package_text old
-    ++ (codes " (" ++ (source_text old.source ++ (codes "): checksum "
-    ++ (checksum_text old.checksum ++ (codes " -> " ++ checksum_text new.checksum)))))))
-line_of (Moved old new) = codes "> " ++ (package_text old ++ other_sources old new)
-line_of (Changed old new) = codes "~ " ++ (package_text old
-    ++ (codes " -> " ++ (version_shown new.version ++ other_sources old new)))
+line_of (Alarm old new) = codes "! " ++ (package_text new ++ checksums_text old new)
+line_of (Moved old new) = codes "> " ++ (named_text new ++ sources_text old new)
+line_of (Checksum old new) = codes "? " ++ (package_text new ++ checksums_text old new)
+line_of (Replaced old new) = codes "@ " ++ (package_text new ++ (codes ": replacement "
+    ++ (replacement_text old.replace ++ (codes " -> " ++ replacement_text new.replace))))
+line_of (Updated old new) = codes "~ " ++ (named_text old ++ (codes " -> "
+    ++ (version_shown new.version ++ (updated_sources old new ++ downgrade_mark old new))))
 line_of (Removed old) = codes "- " ++ package_text old
-line_of (Added new) = codes "+ " ++ package_text new
-line_of (OtherDependencies old new) = codes "= " ++ (package_text new ++ (codes ": dependencies"
-    ++ (only_in (codes "-") old.dependencies new.dependencies
-    ++ only_in (codes "+") new.dependencies old.dependencies)))
+line_of (Added new) = codes "+ " ++ (package_text new ++ checksum_mark new)
+line_of (OtherDependencies old new targets) = codes "= " ++ (package_text new ++ (codes ":"
+    ++ (only_in true targets old.dependencies new.dependencies
+    ++ only_in false targets new.dependencies old.dependencies)))
 
 -- the line of each change, with its newline
 abbrev pub lines_text : List ChangeData → List ℕ
@@ -152,6 +214,7 @@ lines_text = flat_map (λ change. line_of change ++ newline ∷ [])
 abbrev pub EachIsOneLine : Type 0
 EachIsOneLine = (changes : List ChangeData) → lines (lines_text changes) ≡ map line_of changes
 
--- no change is told exactly where the difference is empty
-abbrev pub NoneIfEmpty : Type 0
-NoneIfEmpty = (d : DifferenceData) → (changes_of d ≡ []) ↔ IsEmpty d
+-- no change is reported exactly where the lists have the same whole keys, each as often
+abbrev pub NoneIfPermuted : Type 0
+NoneIfPermuted = (olds news : List PackageData) (d : DifferenceData) → IsDifference olds news d
+    → (changes_of d ≡ []) ↔ IsPermutation (map whole_key olds) (map whole_key news)

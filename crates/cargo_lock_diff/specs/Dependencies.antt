@@ -1,23 +1,53 @@
--- What one of two packages depends on and the other does not.
-use Rattle.std.specs.Prelude.{◌≡◌, ◌↔◌, ◌||◌, Bool, false, not, List, map}
+-- What one of the two packages of a pair depends on and the other does not. Dependencies are
+-- compared by the packages that they are of, and not by the references that are written: an old and
+-- a new dependency are one where the package of the one and the package of the other are a pair.
+use Rattle.std.specs.Prelude.{◌≡◌, ◌↔◌, ◌&&◌, ◌||◌, Bool, true, false, not, List, if◌then◌else◌}
 use Rattle.std.specs.List.{Contains, list_any}
-use Rattle.cargo_lock_parts.specs.Identity.{Identity, IdentityKey, PackageData, identity_key}
-use Rattle.cargo_lock_parts.specs.IdentityOrder.{is_same_identity}
+use Rattle.std.specs.Ordering.{eq_by_cmp}
+use Rattle.cargo_lock_parts.specs.Identity.{Identity, PackageData, identity_of}
+use Rattle.cargo_lock_diff.specs.Place.{target_cmp}
 
--- the dependency is among these, by its name, its version and the key of its source
-abbrev pub is_among : List Identity → Identity → Bool
-is_among these d = list_any (λ other. is_same_identity other d) these
+-- the dependency is of the package: it has its name, its version and its origin. The commit does
+-- not count, since a reference may have none, and the branch `master` is the default branch.
+abbrev pub is_target : PackageData → Identity → Bool
+is_target p d = eq_by_cmp target_cmp (identity_of p) d
 
--- one of the two packages has a dependency that is not among those of the other
-abbrev pub have_other_dependencies : PackageData → PackageData → Bool
-have_other_dependencies old new = list_any (λ d. not (is_among new.dependencies d)) old.dependencies
-    || list_any (λ d. not (is_among old.dependencies d)) new.dependencies
+-- an old and a new dependency are of the packages of a pair
+abbrev pub are_targets : PackageData × PackageData → Identity → Identity → Bool
+are_targets p d e = is_target p.0 d && is_target p.1 e
+
+-- some of these pairs carries the old dependency onto the new one
+abbrev pub is_carried : List (PackageData × PackageData) → Identity → Identity → Bool
+is_carried pairs d e = list_any (λ p. are_targets p d e) pairs
+
+-- the same, where the first one is the old one or the new one
+abbrev pub is_carried_either : Bool → List (PackageData × PackageData) → Identity → Identity → Bool
+is_carried_either forward pairs d e = if forward then is_carried pairs d e else is_carried pairs e d
+
+-- some of the others is carried onto the dependency, or it onto that one
+abbrev pub is_met : Bool → List (PackageData × PackageData) → List Identity → Identity → Bool
+is_met forward pairs others d = list_any (is_carried_either forward pairs d) others
+
+-- one of the two packages has a dependency that none of the other meets
+abbrev pub have_other_dependencies : List (PackageData × PackageData)
+    → PackageData → PackageData → Bool
+have_other_dependencies pairs old new =
+    list_any (λ d. not (is_met true pairs new.dependencies d)) old.dependencies
+    || list_any (λ d. not (is_met false pairs old.dependencies d)) new.dependencies
 
 -- ---- law
 
--- no package has a dependency that the other has not, exactly where the keys of their dependencies
--- are one set
-abbrev pub EqualIfOneSet : Type 0
-EqualIfOneSet = (old new : PackageData) → (have_other_dependencies old new ≡ false)
-    ↔ ((key : IdentityKey) → Contains (map identity_key old.dependencies) key
-    ↔ Contains (map identity_key new.dependencies) key)
+-- a pair among these carries the old dependency onto the new one
+abbrev pub IsCarried : List (PackageData × PackageData) → Identity → Identity → Type 0
+IsCarried pairs d e = (p : PackageData × PackageData) × Contains pairs p
+    × (is_target p.0 d ≡ true) × (is_target p.1 e ≡ true)
+
+-- Packages have no other dependencies exactly where the pairs carry the old ones onto the new ones:
+-- each old one onto some new one, and onto each new one some old one.
+abbrev pub EqualIfCarried : Type 0
+EqualIfCarried = (pairs : List (PackageData × PackageData)) (old new : PackageData)
+    → (have_other_dependencies pairs old new ≡ false)
+    ↔ (((d : Identity) → Contains old.dependencies d
+    → (e : Identity) × Contains new.dependencies e × IsCarried pairs d e)
+    × ((e : Identity) → Contains new.dependencies e
+    → (d : Identity) × Contains old.dependencies d × IsCarried pairs d e))

@@ -1,14 +1,17 @@
 -- What differs between two lists of packages.
-use Rattle.std.specs.Prelude.{◌≡◌, ℕ, ◌-◌, ◌↔◌, true, List, [], ◌++◌, map, count_by, IsPermutation}
-use Rattle.std.specs.Prelude.{All}
+use Rattle.std.specs.Prelude.{◌≡◌, ℕ, ◌-◌, ◌↔◌, ◌&&◌, List, [], ◌∷◌, ◌++◌, map, count_by}
+use Rattle.std.specs.Prelude.{IsPermutation}
 use Rattle.std.specs.Borrow.{Bor}
+use Rattle.std.specs.List.{flat_map}
 use Rattle.cargo_lock_parts.specs.Identity.{PackageData}
 use Rattle.cargo_lock_diff.specs.declared.likeness.Likeness.{Likeness}
-use Rattle.cargo_lock_diff.specs.declared.likeness.Likeness.TheVariants.{Name, Version}
-use Rattle.cargo_lock_diff.specs.declared.likeness.Likeness.TheVariants.{Identity as ByIdentity}
-use Rattle.cargo_lock_diff.specs.declared.likeness.Likeness.TheVariants.{Whole}
-use Rattle.cargo_lock_diff.specs.Likeness.{is_alike, whole_key}
-use Rattle.cargo_lock_diff.specs.Matching.{PassesWithNone, firsts, seconds}
+use Rattle.cargo_lock_diff.specs.declared.likeness.Likeness.TheVariants.{Name, Origin, Version}
+use Rattle.cargo_lock_diff.specs.declared.likeness.Likeness.TheVariants.{Line, Place, Whole}
+use Rattle.cargo_lock_diff.specs.Alarm.{AreAlarms}
+use Rattle.cargo_lock_diff.specs.Keys.{whole_key}
+use Rattle.cargo_lock_diff.specs.Likeness.{is_alike}
+use Rattle.cargo_lock_diff.specs.Matching.{AreMatched, firsts, seconds}
+use Rattle.cargo_lock_diff.specs.Pairing.{ArePairedInTurn, NoneOnBothSides, exchanged}
 
 -- the packages that references lead to
 abbrev pub packages_at : List (Bor PackageData) → List PackageData
@@ -18,82 +21,106 @@ packages_at = map (λ b. b.now)
 abbrev pub pairs_at : List (Bor PackageData × Bor PackageData) → List (PackageData × PackageData)
 pairs_at = map (λ p. (p.0.now, p.1.now))
 
--- the pairs that stand in both lists, those whose checksums differ, whose sources differ and whose
--- versions differ, and the old and the new packages that are left
+-- the pairs that are wholly alike, the pairs of what these leave, the old and the new packages that
+-- are in no pair, the alarms, and all pairs, by which dependencies are compared
 pub record DifferenceData : Type 0 where
   pub kept : List (PackageData × PackageData)
-  pub altered : List (PackageData × PackageData)
-  pub moved : List (PackageData × PackageData)
-  pub changed : List (PackageData × PackageData)
+  pub pairs : List (PackageData × PackageData)
   pub removed : List PackageData
   pub added : List PackageData
+  pub alarms : List (PackageData × PackageData)
+  pub targets : List (PackageData × PackageData)
 
--- the old packages that are told in no pair of a likeness
-abbrev pub old_below : Likeness → DifferenceData → List PackageData
-old_below Whole d = firsts d.altered ++ (firsts d.moved ++ (firsts d.changed ++ d.removed))
-old_below ByIdentity d = firsts d.moved ++ (firsts d.changed ++ d.removed)
-old_below Version d = firsts d.changed ++ d.removed
-old_below Name d = d.removed
+-- the likenesses by which packages are paired that are not wholly alike, in turn
+abbrev pub turns : List Likeness
+turns = Place ∷ Line ∷ Version ∷ Origin ∷ Name ∷ []
 
--- the new packages that are told in no pair of a likeness
-abbrev pub new_below : Likeness → DifferenceData → List PackageData
-new_below Whole d = seconds d.altered ++ (seconds d.moved ++ (seconds d.changed ++ d.added))
-new_below ByIdentity d = seconds d.moved ++ (seconds d.changed ++ d.added)
-new_below Version d = seconds d.changed ++ d.added
-new_below Name d = d.added
+-- Packages that are wholly alike are paired first, as often as both lists have them. What is left
+-- is paired by each likeness in turn, where what two packages have in common stands once on each
+-- side.
+pub record IsPairing (olds news : List PackageData) (kept pairs : List (PackageData × PackageData))
+    (removed added : List PackageData) : Type 0 where
+  pub old : List PackageData
+  pub new : List PackageData
+  pub wholly : AreMatched (is_alike Whole) olds news kept old new
+  pub passes : List (List (PackageData × PackageData))
+  pub in_turn : ArePairedInTurn (map is_alike turns) old new passes removed added
+  pub in_all : IsPermutation (flat_map (λ pass. pass) passes) pairs
 
--- the old packages that are told: all but those that stand in both lists
-abbrev pub old_told : DifferenceData → List PackageData
-old_told = old_below Whole
-
--- the new packages that are told
-abbrev pub new_told : DifferenceData → List PackageData
-new_told = new_below Whole
-
--- the packages of each pair are so much alike
-abbrev pub AreAlike : Likeness → List (PackageData × PackageData) → Type 0
-AreAlike likeness pairs = All (λ p. is_alike likeness p.0 p.1 ≡ true) pairs
-
--- no old package is so much like a new one
-abbrev pub AreApart : Likeness → List PackageData → List PackageData → Type 0
-AreApart likeness olds news = All (λ o. PassesWithNone (is_alike likeness) o news) olds
-
--- Each old package stands in the lists of the difference as often as in the old list, and each new
--- one as often as in the new list. The packages that are kept stand in pairs that are wholly alike,
--- and the pairs of another list are so much alike as their list says. What is told below a likeness
--- has no pair that is so much alike: so each package is told in the first list that fits.
+-- the packages are paired so, the alarms are those of the old packages, and dependencies are
+-- compared by all pairs
 pub record IsDifference (olds news : List PackageData) (d : DifferenceData) : Type 0 where
-  pub olds_told : IsPermutation olds (firsts d.kept ++ old_told d)
-  pub news_told : IsPermutation news (seconds d.kept ++ new_told d)
-  pub kept : AreAlike Whole d.kept
-  pub altered : AreAlike ByIdentity d.altered
-  pub moved : AreAlike Version d.moved
-  pub changed : AreAlike Name d.changed
-  pub apart : (likeness : Likeness)
-      → AreApart likeness (old_below likeness d) (new_below likeness d)
+  pub paired : IsPairing olds news d.kept d.pairs d.removed d.added
+  pub alarmed : AreAlarms olds d.pairs d.added d.alarms
+  pub targeted : IsPermutation (d.kept ++ d.pairs) d.targets
 
--- nothing is told
+-- nothing is reported
 pub record IsEmpty (d : DifferenceData) : Type 0 where
-  pub altered : d.altered ≡ []
-  pub moved : d.moved ≡ []
-  pub changed : d.changed ≡ []
+  pub pairs : d.pairs ≡ []
   pub removed : d.removed ≡ []
   pub added : d.added ≡ []
 
 -- ---- laws
 
+-- the old packages that are reported: those of pairs that are not wholly alike, and the removed
+-- ones
+abbrev pub old_told : DifferenceData → List PackageData
+old_told d = firsts d.pairs ++ d.removed
+
+-- the new packages that are reported
+abbrev pub new_told : DifferenceData → List PackageData
+new_told d = seconds d.pairs ++ d.added
+
 -- how many packages of a list are wholly like a package
 abbrev pub count_of : PackageData → List PackageData → ℕ
 count_of p = count_by (is_alike Whole p)
 
--- of each package as many old ones are told as the old list has more of it than the new list, and
--- as many new ones as the new list has more
+-- each package is kept, in a pair or left, as often as it was given
+abbrev pub ToldOnce : Type 0
+ToldOnce = (olds news : List PackageData) (d : DifferenceData) → IsDifference olds news d
+    → IsPermutation olds (firsts d.kept ++ old_told d)
+    × IsPermutation news (seconds d.kept ++ new_told d)
+
+-- of each package as many old ones are reported as the old list has more of it than the new list,
+-- and as many new ones as the new list has more
 abbrev pub ToldByCount : Type 0
 ToldByCount = (olds news : List PackageData) (d : DifferenceData) → IsDifference olds news d
     → (p : PackageData) → (count_of p (old_told d) ≡ count_of p olds - count_of p news)
     × (count_of p (new_told d) ≡ count_of p news - count_of p olds)
 
--- nothing is told exactly where the lists have the same whole keys, each as often
+-- nothing is reported exactly where the lists have the same whole keys, each as often
 abbrev pub EmptyIfPermuted : Type 0
 EmptyIfPermuted = (olds news : List PackageData) (d : DifferenceData) → IsDifference olds news d
     → IsEmpty d ↔ IsPermutation (map whole_key olds) (map whole_key news)
+
+-- how many pairs are wholly like two packages
+abbrev pub count_of_pair : PackageData → PackageData → List (PackageData × PackageData) → ℕ
+count_of_pair a b = count_by (λ p. is_alike Whole a p.0 && is_alike Whole b p.1)
+
+-- The order of the lists does not count: of other lists with the same whole keys, each as often, as
+-- many pairs are wholly like two packages, and as many of what is left are wholly like one.
+abbrev pub OrderDoesNotCount : Type 0
+OrderDoesNotCount = (olds news olds' news' : List PackageData)
+    (kept pairs kept' pairs' : List (PackageData × PackageData))
+    (removed added removed' added' : List PackageData)
+    → IsPairing olds news kept pairs removed added
+    → IsPairing olds' news' kept' pairs' removed' added'
+    → IsPermutation (map whole_key olds) (map whole_key olds')
+    → IsPermutation (map whole_key news) (map whole_key news')
+    → ((a b : PackageData) → count_of_pair a b pairs ≡ count_of_pair a b pairs')
+    × ((p : PackageData) → count_of p removed ≡ count_of p removed')
+    × ((p : PackageData) → count_of p added ≡ count_of p added')
+
+-- where the lists are exchanged, the members of all pairs are, and what is left
+abbrev pub PairingMirrored : Type 0
+PairingMirrored = (olds news : List PackageData) (kept pairs : List (PackageData × PackageData))
+    (removed added : List PackageData) → IsPairing olds news kept pairs removed added
+    → IsPairing news olds (map exchanged kept) (map exchanged pairs) added removed
+
+-- No name, version and place has exactly one removed and exactly one added package, nor has a name
+-- and origin, nor a name.
+abbrev pub NoneIsLeftAlone : Type 0
+NoneIsLeftAlone = (olds news : List PackageData) (d : DifferenceData) → IsDifference olds news d
+    → NoneOnBothSides (is_alike Place) d.removed d.added
+    × NoneOnBothSides (is_alike Origin) d.removed d.added
+    × NoneOnBothSides (is_alike Name) d.removed d.added

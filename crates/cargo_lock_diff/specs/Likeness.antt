@@ -1,35 +1,48 @@
--- How alike two packages are: by name, by name and version, by identity, or by identity and
--- checksum.
-use Rattle.std.specs.Prelude.{Bool, List, Option, ℕ}
+-- How alike two packages are: what they have in common of name, version, source, checksum and
+-- replacement.
+use Rattle.std.specs.Prelude.{Bool, List, [], ◌∷◌, ℕ, ◌==◌, if◌then◌else◌}
 use Rattle.std.specs.Option.{option_cmp}
 use Rattle.std.specs.declared.cmp.Ordering.{Ordering}
-use Rattle.std.specs.Ordering.{on, then_cmp, eq_by_cmp}
-use Rattle.cargo_lock_parts.specs.Identity.{IdentityKey, PackageData, identity_key, identity_of}
-use Rattle.cargo_lock_parts.specs.IdentityOrder.{identity_cmp, version_cmp}
+use Rattle.std.specs.Ordering.{nat_cmp, on, then_cmp, eq_by_cmp}
+use Rattle.std.specs.Cmp.Lexicographic.{slice_cmp}
+use Rattle.semver.specs.Parse.{Parts}
+use Rattle.cargo_lock_parts.specs.Identity.{PackageData, identity_of}
+use Rattle.cargo_lock_parts.specs.IdentityOrder.{version_cmp}
 use Rattle.cargo_lock_parts.specs.SourceKey.{text_cmp}
 use Rattle.cargo_lock_diff.specs.declared.likeness.Likeness.{Likeness}
-use Rattle.cargo_lock_diff.specs.declared.likeness.Likeness.TheVariants.{Name, Version}
-use Rattle.cargo_lock_diff.specs.declared.likeness.Likeness.TheVariants.{Identity as ByIdentity}
+use Rattle.cargo_lock_diff.specs.declared.likeness.Likeness.TheVariants.{Name, Origin, Version}
+use Rattle.cargo_lock_diff.specs.declared.likeness.Likeness.TheVariants.{Line, Place, Archive}
 use Rattle.cargo_lock_diff.specs.declared.likeness.Likeness.TheVariants.{Whole}
+use Rattle.cargo_lock_diff.specs.Place.{origin_cmp, placed_identity_cmp}
 
--- the order by what a likeness looks at: the name, then the version, then the source by its key,
--- then the checksum, an absent one before a present one
+-- the release line of a version: the first of its three numbers that is not zero and those before
+-- it, and zero for those behind it
+abbrev pub release_line : Parts → List ℕ
+release_line v =
+    if v.0 == 0 then (if v.1 == 0 then 0 ∷ 0 ∷ v.2 ∷ [] else 0 ∷ v.1 ∷ 0 ∷ [])
+    else v.0 ∷ 0 ∷ 0 ∷ []
+
+-- the order by what a likeness looks at; an absent source, checksum or replacement comes before a
+-- present one
 abbrev pub likeness_cmp : Likeness → PackageData → PackageData → Ordering
 likeness_cmp Name = on (λ p. p.name) text_cmp
+likeness_cmp Origin = then_cmp (on (λ p. p.name) text_cmp)
+    (on (λ p. p.source) (option_cmp origin_cmp))
 likeness_cmp Version = then_cmp (on (λ p. p.name) text_cmp) (on (λ p. p.version) version_cmp)
-likeness_cmp ByIdentity = on identity_of identity_cmp
-likeness_cmp Whole = then_cmp (on identity_of identity_cmp)
+likeness_cmp Line = then_cmp (then_cmp
+    (on (λ p. p.name) text_cmp)
+    (on (λ p. p.source) (option_cmp origin_cmp)))
+    (on (λ p. release_line p.version) (slice_cmp nat_cmp))
+likeness_cmp Place = on identity_of placed_identity_cmp
+likeness_cmp Archive = then_cmp (then_cmp
+    (on (λ p. p.name) text_cmp)
+    (on (λ p. p.version) version_cmp))
     (on (λ p. p.checksum) (option_cmp text_cmp))
+likeness_cmp Whole = then_cmp (then_cmp
+    (on identity_of placed_identity_cmp)
+    (on (λ p. p.checksum) (option_cmp text_cmp)))
+    (on (λ p. p.replace) (option_cmp placed_identity_cmp))
 
 -- two packages are so much alike: they tie in that order
 abbrev pub is_alike : Likeness → PackageData → PackageData → Bool
 is_alike likeness = eq_by_cmp (likeness_cmp likeness)
-
--- what two packages that are wholly alike have in common: the key of the identity, and the checksum
-pub record WholeKey : Type 0 where
-  pub identity : IdentityKey
-  pub checksum : Option (List ℕ)
-
--- the whole key of a package
-abbrev pub whole_key : PackageData → WholeKey
-whole_key p = record { identity = identity_key (identity_of p); checksum = p.checksum }

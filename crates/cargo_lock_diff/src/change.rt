@@ -1,47 +1,61 @@
-//! The changes that a difference tells, each as a line.
+//! The changes that a difference reports, each as a line.
 
-ghost use Rattle.std.specs.Prelude.{◌≡◌, ◌++◌, OnOk, map};
-ghost use Rattle.cargo_lock_diff.specs.Change.{Added, Changed, Moved, Removed, alarms, change_of};
-ghost use Rattle.cargo_lock_diff.specs.Change.{other_checksums, other_dependencies};
+ghost use Rattle.std.specs.Prelude.{◌≡◌, ◌++◌, IfOk, OnOk, map};
+ghost use Rattle.cargo_lock_diff.specs.Change.{Added, Alarm, Removed, change_in, change_of};
+ghost use Rattle.cargo_lock_diff.specs.Change.{changes_in, differs_in};
 ghost use Rattle.cargo_lock_diff.specs.Change as spec;
 ghost use Rattle.cargo_lock_diff.specs.Difference.{packages_at, pairs_at};
 
-use crate::dependencies::{have_other_dependencies, is_among};
-use cargo_lock_parts::dependency::Dependency;
+use crate::dependencies::Targets;
+use crate::parts::{
+    ChecksumMark, Checksums, DowngradeMark, Named, OnlyIn, PackageText, ReplacementText, Sources,
+    UpdatedSources,
+};
+use crate::same::{have_one_place, have_one_replacement, have_one_version};
 use cargo_lock_parts::package::Package;
 use shown::Shown;
-use std::alloc::AllocError;
-use std::cmp::Ordering;
+use std::alloc::{AllocError, Global};
 use std::fmt;
 
-/// One thing that differs. Displayed, it is a line without its newline, whose first sign tells what
-/// it is. A source or a checksum that is missing is shown as `none`.
+/// One thing that differs. Displayed, it is a line without its newline, whose first sign says what
+/// it is.
+///
+/// `SRC` is the source as a V4 lockfile has it, in round brackets; a package without a source has
+/// `(path)`, and one of crates.io nothing. All that is foreign is shown as `Shown` shows it.
 #[derive(Clone, Copy)]
 pub enum Change<'a> {
-    /// An old and a new package of one identity whose checksums differ:
-    /// `! NAME VERSION (SOURCE): checksum OLD -> NEW`. That is an alarm, since the archive is
-    /// another one. Where one of them has none it is no alarm, and the line begins with `?`.
-    Altered(&'a Package, &'a Package),
+    /// An alarm: `! NAME VERSION SRC: checksum OLD -> NEW`, or `-> none`. The old package has the
+    /// name and the version of the new one and a checksum, which the new one has not.
+    Alarm(&'a Package, &'a Package),
 
-    /// An old and a new package of one name and version whose sources differ:
-    /// `> NAME VERSION: OLD -> NEW`.
+    /// A pair of one version from another place: `> NAME VERSION: OLD -> NEW`. Here a source has no
+    /// brackets, and crates.io is named.
     Moved(&'a Package, &'a Package),
 
-    /// An old and a new package of one name whose versions differ: `~ NAME OLD -> NEW`, and then
-    /// `: OLD -> NEW` where their sources differ too.
-    Changed(&'a Package, &'a Package),
+    /// A pair of one version, of which the new package alone has a checksum:
+    /// `? NAME VERSION SRC: checksum none -> NEW`.
+    Checksum(&'a Package, &'a Package),
 
-    /// A package that went: `- NAME VERSION`.
+    /// A pair of one version with another replacement:
+    /// `@ NAME VERSION SRC: replacement OLD -> NEW`, each as `NAME VERSION SRC` or `none`.
+    Replaced(&'a Package, &'a Package),
+
+    /// A pair of two versions: `~ NAME OLD -> NEW`, then `: OLD -> NEW` where the places differ,
+    /// and else `SRC`, and at last `(downgrade)` where the new version comes before the old one.
+    Updated(&'a Package, &'a Package),
+
+    /// A package that went: `- NAME VERSION SRC`.
     Removed(&'a Package),
 
-    /// A package that came: `+ NAME VERSION`.
+    /// A package that came: `+ NAME VERSION SRC`, then `, no checksum` where it is from a registry
+    /// and has none.
     Added(&'a Package),
 
     /// An old and a new package of a pair, of which one has a dependency that the other has not:
-    /// `= NAME VERSION: dependencies`, of the new one, then ` - NAME VERSION` for each dependency
-    /// that only the old one has, and ` + NAME VERSION` for each that only the new one has. The
-    /// source of a dependency follows in round brackets, unless it is the registry of crates.io.
-    OtherDependencies(&'a Package, &'a Package),
+    /// `= NAME VERSION SRC:`, of the new one, then ` - NAME VERSION SRC` for each dependency that
+    /// only the old one has, and ` + NAME VERSION SRC` for each that only the new one has. An old
+    /// and a new dependency are one where their packages are a pair of the difference.
+    OtherDependencies(&'a Package, &'a Package, &'a Targets<'a>),
 }
 
 impl fmt::Display for Change<'_> {
@@ -52,24 +66,33 @@ impl fmt::Display for Change<'_> {
 
     fn fmt<W: fmt::Write>(&self, f: &mut fmt::Formatter<W>) -> fmt::Result {
         match self {
-            Change::Altered(old, new) => {
-                let sign = ChecksumSign(old, new);
-                let package = PackageText(old);
-                let source = SourceText(old);
-                let from = ChecksumText(old);
-                let to = ChecksumText(new);
-                write!(f, "{sign} {package} ({source}): checksum {from} -> {to}")
+            Change::Alarm(old, new) => {
+                let package = PackageText(new);
+                let checksums = Checksums(old, new);
+                write!(f, "! {package}{checksums}")
             }
             Change::Moved(old, new) => {
-                let package = PackageText(old);
-                let sources = OtherSources(old, new);
+                let package = Named(new);
+                let sources = Sources(old, new);
                 write!(f, "> {package}{sources}")
             }
-            Change::Changed(old, new) => {
-                let package = PackageText(old);
+            Change::Checksum(old, new) => {
+                let package = PackageText(new);
+                let checksums = Checksums(old, new);
+                write!(f, "? {package}{checksums}")
+            }
+            Change::Replaced(old, new) => {
+                let package = PackageText(new);
+                let from = ReplacementText(old);
+                let to = ReplacementText(new);
+                write!(f, "@ {package}: replacement {from} -> {to}")
+            }
+            Change::Updated(old, new) => {
+                let package = Named(old);
                 let version = Shown(&new.version);
-                let sources = OtherSources(old, new);
-                write!(f, "~ {package} -> {version}{sources}")
+                let sources = UpdatedSources(old, new);
+                let mark = DowngradeMark(old, new);
+                write!(f, "~ {package} -> {version}{sources}{mark}")
             }
             Change::Removed(old) => {
                 let package = PackageText(old);
@@ -77,82 +100,82 @@ impl fmt::Display for Change<'_> {
             }
             Change::Added(new) => {
                 let package = PackageText(new);
-                write!(f, "+ {package}")
+                let mark = ChecksumMark(new);
+                write!(f, "+ {package}{mark}")
             }
-            Change::OtherDependencies(old, new) => {
+            Change::OtherDependencies(old, new, targets) => {
                 let package = PackageText(new);
-                let removed = OnlyIn("-", &old.dependencies, &new.dependencies);
-                let added = OnlyIn("+", &new.dependencies, &old.dependencies);
-                write!(f, "= {package}: dependencies{removed}{added}")
+                let removed = OnlyIn(true, targets, &old.dependencies, &new.dependencies);
+                let added = OnlyIn(false, targets, &new.dependencies, &old.dependencies);
+                write!(f, "= {package}:{removed}{added}")
             }
         }
     }
 }
 
-/// Whether both packages have a checksum. Where they are of one identity and the checksums differ,
-/// the archive is another one, which calls for an alarm.
-pub fn is_alarm(old: &Package, new: &Package) -> bool
-    ensures { result ≡ spec.is_alarm old.now new.now }
-{
-    old.checksum.is_some() && new.checksum.is_some()
+// What a pair may differ in. All but the version counts where the version is one.
+#[derive(Clone, Copy)]
+pub(crate) enum Aspect {
+    Source,
+    Checksum,
+    Replacement,
+    Version,
 }
 
-// Adds the pairs that are alarms.
+impl Aspect {
+    // Whether the packages of a pair differ in it.
+    fn differs(self, old: &Package, new: &Package) -> bool
+        ensures { result ≡ differs_in self (old.now, new.now) }
+    {
+        let one_version = have_one_version(old, new);
+        match self {
+            Aspect::Source => one_version && !have_one_place(old, new),
+            Aspect::Checksum => { one_version && old.checksum.is_none() && new.checksum.is_some() }
+            Aspect::Replacement => one_version && !have_one_replacement(old, new),
+            Aspect::Version => !one_version,
+        }
+    }
+
+    // The change of a pair in it.
+    fn change<'a>(self, old: &'a Package, new: &'a Package) -> Change<'a>
+        ensures { change_of result ≡ change_in self (old.now, new.now) }
+    {
+        match self {
+            Aspect::Source => Change::Moved(old, new),
+            Aspect::Checksum => Change::Checksum(old, new),
+            Aspect::Replacement => Change::Replaced(old, new),
+            Aspect::Version => Change::Updated(old, new),
+        }
+    }
+}
+
+// Adds the alarms.
 pub(crate) fn add_alarms<'a>(
     all: &mut Vec<Change<'a>>,
+    alarms: &Vec<(&'a Package, &'a Package)>,
+) -> Result<(), AllocError>
+    ensures { OnOk result (map change_of all.new.items
+        ≡ map change_of all.old.items ++ map (λ a. Alarm a.0 a.1) (pairs_at alarms.now.items)) }
+{
+    for alarm in alarms {
+        all.push(Change::Alarm(alarm.0, alarm.1))?;
+    }
+    Ok(())
+}
+
+// Adds the changes of the pairs that differ in an aspect.
+pub(crate) fn add_pairs<'a>(
+    all: &mut Vec<Change<'a>>,
+    aspect: Aspect,
     pairs: &Vec<(&'a Package, &'a Package)>,
 ) -> Result<(), AllocError>
     ensures { OnOk result (map change_of all.new.items
-        ≡ map change_of all.old.items ++ alarms (pairs_at pairs.now.items)) }
+        ≡ map change_of all.old.items ++ changes_in aspect (pairs_at pairs.now.items)) }
 {
     for pair in pairs {
-        if is_alarm(pair.0, pair.1) {
-            all.push(Change::Altered(pair.0, pair.1))?;
+        if aspect.differs(pair.0, pair.1) {
+            all.push(aspect.change(pair.0, pair.1))?;
         }
-    }
-    Ok(())
-}
-
-// Adds the pairs where a checksum came or went.
-pub(crate) fn add_other_checksums<'a>(
-    all: &mut Vec<Change<'a>>,
-    pairs: &Vec<(&'a Package, &'a Package)>,
-) -> Result<(), AllocError>
-    ensures { OnOk result (map change_of all.new.items
-        ≡ map change_of all.old.items ++ other_checksums (pairs_at pairs.now.items)) }
-{
-    for pair in pairs {
-        if !is_alarm(pair.0, pair.1) {
-            all.push(Change::Altered(pair.0, pair.1))?;
-        }
-    }
-    Ok(())
-}
-
-// Adds the pairs with other sources.
-pub(crate) fn add_moved<'a>(
-    all: &mut Vec<Change<'a>>,
-    pairs: &Vec<(&'a Package, &'a Package)>,
-) -> Result<(), AllocError>
-    ensures { OnOk result (map change_of all.new.items
-        ≡ map change_of all.old.items ++ map (λ p. Moved p.0 p.1) (pairs_at pairs.now.items)) }
-{
-    for pair in pairs {
-        all.push(Change::Moved(pair.0, pair.1))?;
-    }
-    Ok(())
-}
-
-// Adds the pairs with other versions.
-pub(crate) fn add_changed<'a>(
-    all: &mut Vec<Change<'a>>,
-    pairs: &Vec<(&'a Package, &'a Package)>,
-) -> Result<(), AllocError>
-    ensures { OnOk result (map change_of all.new.items
-        ≡ map change_of all.old.items ++ map (λ p. Changed p.0 p.1) (pairs_at pairs.now.items)) }
-{
-    for pair in pairs {
-        all.push(Change::Changed(pair.0, pair.1))?;
     }
     Ok(())
 }
@@ -185,212 +208,20 @@ pub(crate) fn add_added<'a>(
     Ok(())
 }
 
-// Adds the pairs with other dependencies.
-pub(crate) fn add_other_dependencies<'a>(
-    all: &mut Vec<Change<'a>>,
+// The pairs with other dependencies.
+pub(crate) fn other_dependencies<'a>(
+    alloc: Global,
+    targets: &'a Targets<'a>,
     pairs: &Vec<(&'a Package, &'a Package)>,
-) -> Result<(), AllocError>
-    ensures { OnOk result (map change_of all.new.items
-        ≡ map change_of all.old.items ++ other_dependencies (pairs_at pairs.now.items)) }
+) -> Result<Vec<Change<'a>>, AllocError>
+    ensures { IfOk result (λ all. map change_of all.items
+        ≡ spec.other_dependencies targets.now (pairs_at pairs.now.items)) }
 {
+    let mut all = Vec::new(alloc);
     for pair in pairs {
-        if have_other_dependencies(pair.0, pair.1) {
-            all.push(Change::OtherDependencies(pair.0, pair.1))?;
+        if targets.have_other_dependencies(pair.0, pair.1) {
+            all.push(Change::OtherDependencies(pair.0, pair.1, targets))?;
         }
     }
-    Ok(())
-}
-
-// The sign of a pair with other checksums.
-#[derive(Clone, Copy)]
-struct ChecksumSign<'a>(&'a Package, &'a Package);
-
-impl fmt::Display for ChecksumSign<'_> {
-    ghost use Rattle.std.specs.Prelude.{Some};
-    ghost use Rattle.cargo_lock_diff.specs.Change.{checksum_sign};
-
-    ghost output = { λ shown. Some (checksum_sign shown.0.now shown.1.now) };
-
-    fn fmt<W: fmt::Write>(&self, f: &mut fmt::Formatter<W>) -> fmt::Result {
-        let ChecksumSign(old, new) = *self;
-        if is_alarm(old, new) {
-            f.write_str("!")
-        } else {
-            f.write_str("?")
-        }
-    }
-}
-
-// Both sources of a pair, where they differ.
-#[derive(Clone, Copy)]
-struct OtherSources<'a>(&'a Package, &'a Package);
-
-impl fmt::Display for OtherSources<'_> {
-    ghost use Rattle.std.specs.Prelude.{Some};
-    ghost use Rattle.cargo_lock_diff.specs.Change.{other_sources};
-
-    ghost output = { λ shown. Some (other_sources shown.0.now shown.1.now) };
-
-    fn fmt<W: fmt::Write>(&self, f: &mut fmt::Formatter<W>) -> fmt::Result {
-        let OtherSources(old, new) = *self;
-        if have_one_source(old, new) {
-            return Ok(());
-        }
-        let from = SourceText(old);
-        let to = SourceText(new);
-        write!(f, ": {from} -> {to}")
-    }
-}
-
-// Whether the sources are equal.
-fn have_one_source(old: &Package, new: &Package) -> bool
-    ensures { result ≡ spec.have_one_source old.now new.now }
-{
-    old.source.cmp(&new.source) == Ordering::Equal
-}
-
-// The name and the version.
-#[derive(Clone, Copy)]
-struct PackageText<'a>(&'a Package);
-
-impl fmt::Display for PackageText<'_> {
-    ghost use Rattle.std.specs.Prelude.{Some};
-    ghost use Rattle.cargo_lock_diff.specs.Change.{package_text};
-
-    ghost output = { λ shown. Some (package_text shown.0.now) };
-
-    fn fmt<W: fmt::Write>(&self, f: &mut fmt::Formatter<W>) -> fmt::Result {
-        let PackageText(package) = *self;
-        let name = Shown(&package.name);
-        let version = Shown(&package.version);
-        write!(f, "{name} {version}")
-    }
-}
-
-// The source, or `none`.
-#[derive(Clone, Copy)]
-struct SourceText<'a>(&'a Package);
-
-impl fmt::Display for SourceText<'_> {
-    ghost use Rattle.std.specs.Prelude.{Some};
-    ghost use Rattle.cargo_lock_diff.specs.Change.{source_text};
-
-    ghost output = { λ shown. Some (source_text shown.0.now.source) };
-
-    fn fmt<W: fmt::Write>(&self, f: &mut fmt::Formatter<W>) -> fmt::Result {
-        let SourceText(package) = *self;
-        match &package.source {
-            Some(source) => {
-                let source = Shown(source);
-                write!(f, "{source}")
-            }
-            None => f.write_str("none"),
-        }
-    }
-}
-
-// The checksum, or `none`.
-#[derive(Clone, Copy)]
-struct ChecksumText<'a>(&'a Package);
-
-impl fmt::Display for ChecksumText<'_> {
-    ghost use Rattle.std.specs.Prelude.{Some};
-    ghost use Rattle.cargo_lock_diff.specs.Change.{checksum_text};
-
-    ghost output = { λ shown. Some (checksum_text shown.0.now.checksum) };
-
-    fn fmt<W: fmt::Write>(&self, f: &mut fmt::Formatter<W>) -> fmt::Result {
-        let ChecksumText(package) = *self;
-        match &package.checksum {
-            Some(checksum) => {
-                let checksum = Shown(checksum);
-                write!(f, "{checksum}")
-            }
-            None => f.write_str("none"),
-        }
-    }
-}
-
-// The dependencies of the first list that are not among those of the second, with a sign.
-#[derive(Clone, Copy)]
-struct OnlyIn<'a>(&'a str, &'a Vec<Dependency>, &'a Vec<Dependency>);
-
-impl fmt::Display for OnlyIn<'_> {
-    ghost use Rattle.std.specs.Prelude.{Some};
-    ghost use Rattle.cargo_lock_diff.specs.Change.{only_in};
-
-    ghost output = { λ shown. Some (only_in shown.0.now shown.1.now.items shown.2.now.items) };
-
-    fn fmt<W: fmt::Write>(&self, f: &mut fmt::Formatter<W>) -> fmt::Result {
-        let OnlyIn(sign, these, others) = *self;
-        for dependency in these {
-            let part = UnlessAmong(sign, dependency, others);
-            write!(f, "{part}")?;
-        }
-        Ok(())
-    }
-}
-
-// A dependency with a sign, unless it is among others.
-#[derive(Clone, Copy)]
-struct UnlessAmong<'a>(&'a str, &'a Dependency, &'a Vec<Dependency>);
-
-impl fmt::Display for UnlessAmong<'_> {
-    ghost use Rattle.std.specs.Prelude.{Some};
-    ghost use Rattle.cargo_lock_diff.specs.Change.{shown_unless_among};
-
-    ghost output = { λ shown. Some (shown_unless_among shown.2.now.items shown.0.now shown.1.now) };
-
-    fn fmt<W: fmt::Write>(&self, f: &mut fmt::Formatter<W>) -> fmt::Result {
-        let UnlessAmong(sign, dependency, others) = *self;
-        if is_among(others, dependency) {
-            return Ok(());
-        }
-        let text = DependencyText(dependency);
-        write!(f, " {sign} {text}")
-    }
-}
-
-// The name, the version and the source, unless it is the registry of crates.io.
-#[derive(Clone, Copy)]
-struct DependencyText<'a>(&'a Dependency);
-
-impl fmt::Display for DependencyText<'_> {
-    ghost use Rattle.std.specs.Prelude.{Some};
-    ghost use Rattle.cargo_lock_diff.specs.Change.{dependency_shown};
-
-    ghost output = { λ shown. Some (dependency_shown shown.0.now) };
-
-    fn fmt<W: fmt::Write>(&self, f: &mut fmt::Formatter<W>) -> fmt::Result {
-        let DependencyText(dependency) = *self;
-        let name = Shown(&dependency.name);
-        let version = Shown(&dependency.version);
-        let source = BracketedSource(dependency);
-        write!(f, "{name} {version}{source}")
-    }
-}
-
-// The source in round brackets, unless it is the registry of crates.io.
-#[derive(Clone, Copy)]
-struct BracketedSource<'a>(&'a Dependency);
-
-impl fmt::Display for BracketedSource<'_> {
-    ghost use Rattle.std.specs.Prelude.{Some};
-    ghost use Rattle.cargo_lock_diff.specs.Change.{source_in_brackets};
-
-    ghost output = { λ shown. Some (source_in_brackets shown.0.now.source) };
-
-    fn fmt<W: fmt::Write>(&self, f: &mut fmt::Formatter<W>) -> fmt::Result {
-        let BracketedSource(dependency) = *self;
-        match &dependency.source {
-            Some(source) => {
-                if source.is_default_registry() {
-                    return Ok(());
-                }
-                let source = Shown(source);
-                write!(f, " ({source})")
-            }
-            None => f.write_str(" (none)"),
-        }
-    }
+    Ok(all)
 }

@@ -1,18 +1,23 @@
 //! The difference of two lists of packages.
 
-ghost use Rattle.std.specs.Prelude.{◌≡◌, IfOk, map};
+ghost use Rattle.std.specs.Prelude.{◌≡◌, ◌++◌, IfOk, map};
 ghost use Rattle.cargo_lock_diff.specs.Difference.{IsDifference, packages_at};
 
-use crate::change::{self, Change};
-use crate::likeness::Likeness;
-use crate::matching::pair_off;
+use crate::alarm::{Vouchers, alarms};
+use crate::change::{self, Aspect, Change};
+use crate::dependencies::Targets;
+use crate::pairing::pair;
 use cargo_lock_parts::package::Package;
 use std::alloc::{AllocError, Global};
 use std::marker::Model;
 
-/// What differs between an old and a new list of packages. Each package stands in the first of the
-/// lists below that fits, as often as it stood in its own list. So one whose checksum alone is
-/// another is told as altered, and not as removed and added.
+/// What differs between an old and a new list of packages.
+///
+/// Packages are paired. First those that have the name, the version, the place, the checksum and
+/// the replacement in common, as often as both lists have them. What is left is paired in turn by
+/// name, version and place; by name, origin and release line; by name and version; by name and
+/// origin; and by name: each time exactly where one old and one new package that are left, and no
+/// other ones, have that in common. `Likeness` says what these words mean.
 ///
 /// ```
 /// let difference = Difference::of(rt.alloc(), &old.packages, &new.packages)?;
@@ -22,23 +27,27 @@ use std::marker::Model;
 /// ```
 #[derive(Drop)]
 pub struct Difference<'a> {
-    /// An old and a new package of one identity and checksum. These are not told.
+    /// An old and a new package that have all in common. These are not reported.
     pub kept: Vec<(&'a Package, &'a Package)>,
 
-    /// An old and a new package of one identity whose checksums differ.
-    pub altered: Vec<(&'a Package, &'a Package)>,
+    /// An old and a new package of one name that differ, sorted by the old one.
+    pub pairs: Vec<(&'a Package, &'a Package)>,
 
-    /// An old and a new package of one name and version whose sources differ.
-    pub moved: Vec<(&'a Package, &'a Package)>,
-
-    /// An old and a new package of one name whose versions differ.
-    pub changed: Vec<(&'a Package, &'a Package)>,
-
-    /// The old packages that are left.
+    /// The old packages that are in no pair.
     pub removed: Vec<&'a Package>,
 
-    /// The new packages that are left.
+    /// The new packages that are in no pair.
     pub added: Vec<&'a Package>,
+
+    /// The new packages that are alarms, each with an old one of its name and version that has a
+    /// checksum. Pairs do not hide them. A package is one if it has a checksum, some old package of
+    /// its name and version has one, and none of those has this one. It is one too if it has none,
+    /// an old package of its name, version and place has one, and it is not kept. And so is the new
+    /// package of a pair of one version with two checksums.
+    pub alarms: Vec<(&'a Package, &'a Package)>,
+
+    /// All pairs, by which dependencies are compared.
+    pub targets: Targets<'a>,
 }
 
 impl<'a> Model for Difference<'a> {
@@ -48,19 +57,18 @@ impl<'a> Model for Difference<'a> {
 
     ghost view = { λ d. record {
       kept = pairs_at d.kept.items;
-      altered = pairs_at d.altered.items;
-      moved = pairs_at d.moved.items;
-      changed = pairs_at d.changed.items;
+      pairs = pairs_at d.pairs.items;
       removed = packages_at d.removed.items;
       added = packages_at d.added.items;
+      alarms = pairs_at d.alarms.items;
+      targets = d.targets;
     } };
 }
 
 impl<'a> Difference<'a> {
-    ghost use Rattle.std.specs.Prelude.{◌↔◌, IsTrue};
-    ghost use Rattle.std.specs.List.{list_any};
+    ghost use Rattle.std.specs.Prelude.{◌↔◌, ◌≢◌, [], IsTrue, false};
     ghost use Rattle.cargo_lock_diff.specs.Change.{change_of, changes_of, dependency_changes_of};
-    ghost use Rattle.cargo_lock_diff.specs.Change.{is_alarm, all_changes_of};
+    ghost use Rattle.cargo_lock_diff.specs.Change.{all_changes_of};
     ghost use Rattle.cargo_lock_diff.specs.Difference.{IsEmpty};
 
     /// What differs between an old and a new list of packages. Fails when out of memory.
@@ -73,89 +81,96 @@ impl<'a> Difference<'a> {
     {
         let old = references_to(alloc, old)?;
         let new = references_to(alloc, new)?;
-        let same = pair_off(alloc, Likeness::Whole, &old, &new)?;
-        let altered = pair_off(alloc, Likeness::Identity, &same.old, &same.new)?;
-        let moved = pair_off(alloc, Likeness::Version, &altered.old, &altered.new)?;
-        let changed = pair_off(alloc, Likeness::Name, &moved.old, &moved.new)?;
+        let pairing = pair(alloc, &old, &new)?;
+        let vouchers = Vouchers::of(alloc, &old)?;
+        let alarms = alarms(alloc, &vouchers, &pairing.pairs, &pairing.added)?;
+        let targets = Targets::of(alloc, &pairing.kept, &pairing.pairs)?;
         Ok(Difference {
-            kept: same.pairs,
-            altered: altered.pairs,
-            moved: moved.pairs,
-            changed: changed.pairs,
-            removed: changed.old,
-            added: changed.new,
+            kept: pairing.kept,
+            pairs: pairing.pairs,
+            removed: pairing.removed,
+            added: pairing.added,
+            alarms,
+            targets,
         })
     }
 
-    /// Whether nothing is told: both lists have the same packages, each as often.
+    /// Whether nothing is reported: both lists have the same packages, each as often.
     pub fn is_empty(&self) -> bool
         ensures { IsTrue result ↔ IsEmpty self.now }
     {
-        self.altered.is_empty()
-            && self.moved.is_empty()
-            && self.changed.is_empty()
-            && self.removed.is_empty()
-            && self.added.is_empty()
+        self.pairs.is_empty() && self.removed.is_empty() && self.added.is_empty()
     }
 
-    /// Whether a pair of one identity has two digests: the archive is another one.
+    /// Whether there is an alarm.
     pub fn has_alarm(&self) -> bool
-        ensures { result ≡ list_any (λ p. is_alarm p.0 p.1) self.now.altered }
+        ensures some { IsTrue result → self.now.alarms ≢ [] }
+        ensures none { result ≡ false → self.now.alarms ≡ [] }
     {
-        for pair in &self.altered {
-            if change::is_alarm(pair.0, pair.1) {
-                return true;
-            }
-        }
-        false
+        !self.alarms.is_empty()
     }
 
-    /// The changes that are told, in their order: alarms first, then checksums that came or went,
-    /// other sources, other versions, packages that went and packages that came. Fails when out of
+    /// The changes, in their order: alarms first, then other sources, new checksums, other
+    /// replacements, other versions, packages that went and packages that came. Fails when out of
     /// memory.
     pub fn changes(&self, alloc: Global) -> Result<Vec<Change<'a>>, AllocError>
         ensures { IfOk result (λ all. map change_of all.items ≡ changes_of self.now) }
     {
         let mut all = Vec::new(alloc);
-        change::add_alarms(&mut all, &self.altered)?;
-        change::add_other_checksums(&mut all, &self.altered)?;
-        change::add_moved(&mut all, &self.moved)?;
-        change::add_changed(&mut all, &self.changed)?;
+        change::add_alarms(&mut all, &self.alarms)?;
+        change::add_pairs(&mut all, Aspect::Source, &self.pairs)?;
+        change::add_pairs(&mut all, Aspect::Checksum, &self.pairs)?;
+        change::add_pairs(&mut all, Aspect::Replacement, &self.pairs)?;
+        change::add_pairs(&mut all, Aspect::Version, &self.pairs)?;
         change::add_removed(&mut all, &self.removed)?;
         change::add_added(&mut all, &self.added)?;
         Ok(all)
     }
 
     /// The pairs of which one package has a dependency that the other has not, each as
-    /// `Change::OtherDependencies`: of the pairs that are wholly alike, of those with other
-    /// checksums, other sources and other versions. Fails when out of memory.
-    pub fn dependency_changes(&self, alloc: Global) -> Result<Vec<Change<'a>>, AllocError>
+    /// `Change::OtherDependencies`: of the pairs that are kept, and of the others. An old and a new
+    /// dependency are one where their packages are a pair. Fails when out of memory.
+    pub fn dependency_changes<'d>(&'d self, alloc: Global) -> Result<Vec<Change<'d>>, AllocError>
         ensures { IfOk result (λ all. map change_of all.items ≡ dependency_changes_of self.now) }
     {
-        let mut all = Vec::new(alloc);
-        change::add_other_dependencies(&mut all, &self.kept)?;
-        change::add_other_dependencies(&mut all, &self.altered)?;
-        change::add_other_dependencies(&mut all, &self.moved)?;
-        change::add_other_dependencies(&mut all, &self.changed)?;
+        let mut all = change::other_dependencies(alloc, &self.targets, &self.kept)?;
+        let others = change::other_dependencies(alloc, &self.targets, &self.pairs)?;
+        all.extend_from_slice(others.as_slice())?;
         Ok(all)
     }
 
     /// The changes, and with `dependencies` then the dependency changes. Fails when out of memory.
-    pub fn all_changes(
-        &self,
+    pub fn all_changes<'d>(
+        &'d self,
         alloc: Global,
         dependencies: bool,
-    ) -> Result<Vec<Change<'a>>, AllocError>
+    ) -> Result<Vec<Change<'d>>, AllocError>
         ensures { IfOk result
             (λ all. map change_of all.items ≡ all_changes_of dependencies self.now) }
     {
-        let mut all = self.changes(alloc)?;
+        let changes = self.changes(alloc)?;
         if dependencies {
             let others = self.dependency_changes(alloc)?;
-            all.extend_from_slice(others.as_slice())?;
+            let all = joined(alloc, changes.as_slice(), others.as_slice())?;
+            Ok(all)
+        } else {
+            Ok(changes)
         }
-        Ok(all)
     }
+}
+
+// One list behind another.
+fn joined<'a>(
+    alloc: Global,
+    one: &[Change<'a>],
+    other: &[Change<'a>],
+) -> Result<Vec<Change<'a>>, AllocError>
+    ensures { IfOk result (λ all. all.items ≡ one.now ++ other.now) }
+{
+    let mut all = Vec::new(alloc);
+    all.extend_from_slice(one)?;
+    all.extend_from_slice(other)?;
+    Ok(all)
 }
 
 // References to some packages, in order.

@@ -1,23 +1,51 @@
 //! Laws of differences, each the contract of a function without a body.
 
-ghost use Rattle.cargo_lock_diff.specs.Change.{EachIsOneLine, NoneIfEmpty};
-ghost use Rattle.cargo_lock_diff.specs.Dependencies.{EqualIfOneSet};
-ghost use Rattle.cargo_lock_diff.specs.Difference.{EmptyIfPermuted, ToldByCount};
+ghost use Rattle.cargo_lock_diff.specs.Change.{EachIsOneLine, NoneIfPermuted};
+ghost use Rattle.cargo_lock_diff.specs.Dependencies.{EqualIfCarried};
+ghost use Rattle.cargo_lock_diff.specs.Difference.{EmptyIfPermuted, NoneIsLeftAlone};
+ghost use Rattle.cargo_lock_diff.specs.Difference.{OrderDoesNotCount};
+ghost use Rattle.cargo_lock_diff.specs.Difference.{PairingMirrored, ToldByCount, ToldOnce};
+ghost use Rattle.cargo_lock_diff.specs.PairingLaws.{MirroredInTurn, NoneIsLeftInTurn};
+ghost use Rattle.cargo_lock_diff.specs.PairingLaws.{PairedExactly, ToldInTurn};
+ghost use Rattle.cargo_lock_diff.specs.Summary.{SummaryIsOneLine};
 
-/// Of each package as many old ones are told as the old list has more of it than the new list, and
-/// as many new ones as the new list has more.
+/// Each package is kept, in a pair or left, as often as it was given.
+pub fn packages_are_told_once()
+    ensures { ToldOnce }
+{}
+
+/// Of each package as many old ones are reported as the old list has more of it than the new list,
+/// and as many new ones as the new list has more.
 pub fn packages_are_told_by_count()
     ensures { ToldByCount }
 {}
 
-/// Nothing is told exactly where both lists have the same packages, each as often, in any order.
+/// Nothing is reported exactly where both lists have the same packages, each as often, in any
+/// order.
 pub fn equal_packages_have_no_difference()
     ensures { EmptyIfPermuted }
 {}
 
-/// No change is told exactly where the difference is empty.
-pub fn empty_differences_tell_no_change()
-    ensures { NoneIfEmpty }
+/// No change is reported exactly there: each pair has one at least.
+pub fn equal_packages_tell_no_change()
+    ensures { NoneIfPermuted }
+{}
+
+/// Where the lists are exchanged, the members of all pairs are, and what is left.
+pub fn exchanged_packages_have_exchanged_pairs()
+    ensures { PairingMirrored }
+{}
+
+/// The order of the lists does not count: of other lists with the same packages, each as often, as
+/// many pairs are wholly like two packages, and as many of what is left are wholly like one.
+pub fn order_of_packages_does_not_count()
+    ensures { OrderDoesNotCount }
+{}
+
+/// No name, version and place has exactly one removed and exactly one added package, nor has a name
+/// and origin, nor a name.
+pub fn no_package_is_left_alone()
+    ensures { NoneIsLeftAlone }
 {}
 
 /// Each change is exactly one line, whatever its names, versions, sources and checksums hold.
@@ -25,8 +53,35 @@ pub fn changes_are_lines()
     ensures { EachIsOneLine }
 {}
 
-/// Neither of two packages has a dependency that the other has not, exactly where the names,
-/// versions and keys of the sources of their dependencies are one set.
-pub fn equal_dependencies_are_one_set()
-    ensures { EqualIfOneSet }
+/// The lines of changes and the summary are exactly as many lines and one more.
+pub fn summaries_are_lines()
+    ensures { SummaryIsOneLine }
+{}
+
+/// The packages of a pair have no other dependencies exactly where the pairs carry the old ones
+/// onto the new ones.
+pub fn equal_dependencies_are_carried()
+    ensures { EqualIfCarried }
+{}
+
+/// The pairs of a pairing are exactly an old and a new package that are alike, and like no other
+/// package of their lists.
+pub fn pairs_are_exactly_those_only_alike()
+    ensures { PairedExactly }
+{}
+
+/// Of several pairings in turn each package is in one pair or left, as often as it was given.
+pub fn packages_are_paired_once_or_left()
+    ensures { ToldInTurn }
+{}
+
+/// Where the lists are exchanged, the members of all pairs are, and what is left.
+pub fn exchanged_lists_have_exchanged_pairs()
+    ensures { MirroredInTurn }
+{}
+
+/// After all pairings, nothing is left once on both sides by a likeness that is finer than all
+/// likenesses after it.
+pub fn nothing_is_left_once_on_both_sides()
+    ensures { NoneIsLeftInTurn }
 {}

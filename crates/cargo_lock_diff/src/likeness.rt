@@ -1,45 +1,75 @@
 //! How alike two packages are.
 
 ghost use Rattle.std.specs.Prelude.{◌≡◌};
+ghost use Rattle.std.specs.Option.{option_cmp};
+ghost use Rattle.semver.specs.Identifiers.{parts_of};
+ghost use Rattle.cargo_lock_parts.specs.SourceKey.{text_cmp};
 ghost use Rattle.cargo_lock_diff.specs.Likeness.{likeness_cmp};
+ghost use Rattle.cargo_lock_diff.specs.Likeness as spec;
 
-use cargo_lock_parts::package::{Checksum, Package};
+use crate::place::{cmp_origins, cmp_places, cmp_replacements};
+use cargo_lock_parts::package::{Checksum, Package, Version};
 use std::cmp::Ordering;
 
-/// How much two packages have in common. Each likeness is closer than the one before it.
+/// What two packages have in common.
+///
+/// The *place* of a package is where its source is: nowhere without a source, crates.io for either
+/// of its two indexes, and else the source with its commit. The *origin* is the place without the
+/// commit. The *release line* is the first number of the version that is not zero, and those before
+/// it: `1` of 1.2.3, `0.4` of 0.4.20, and `0.0.3` of 0.0.3.
 #[derive(Debug, Clone, Copy, PartialEq, Eq)]
 pub enum Likeness {
     /// The name.
     Name,
 
+    /// The name and the origin.
+    Origin,
+
     /// The name and the version.
     Version,
 
-    /// The name, the version and the source.
-    Identity,
+    /// The name, the origin and the release line.
+    Line,
 
-    /// The identity and the checksum.
+    /// The name, the version and the place.
+    Place,
+
+    /// The name, the version and the checksum.
+    Archive,
+
+    /// The name, the version, the place, the checksum and the replacement.
     Whole,
 }
 
 impl Likeness {
     /// The order of two packages by what they are to have in common: they tie where they have it.
-    /// Sources compare by their keys, as elsewhere. An absent source stands before a present one,
-    /// and an absent checksum too.
+    /// An absent source, checksum or replacement comes before a present one.
     pub fn compare(self, one: &Package, other: &Package) -> Ordering
         ensures { result ≡ likeness_cmp self one.now other.now }
     {
         match self {
             Likeness::Name => one.name.cmp(&other.name),
-            Likeness::Version => cmp_versions(one, other),
-            Likeness::Identity => cmp_identities(one, other),
-            Likeness::Whole => cmp_identities(one, other).then(digest(one).cmp(&digest(other))),
+            Likeness::Origin => by_origin(one, other),
+            Likeness::Version => by_version(one, other),
+            Likeness::Line => by_line(one, other),
+            Likeness::Place => by_place(one, other),
+            Likeness::Archive => by_version(one, other).then(cmp_checksums(one, other)),
+            Likeness::Whole => by_all(one, other),
         }
     }
 }
 
+// The order by name and origin.
+fn by_origin(one: &Package, other: &Package) -> Ordering
+    ensures { result ≡ likeness_cmp Likeness.Origin one.now other.now }
+{
+    one.name
+        .cmp(&other.name)
+        .then(cmp_origins(&one.source, &other.source))
+}
+
 // The order by name and version.
-fn cmp_versions(one: &Package, other: &Package) -> Ordering
+fn by_version(one: &Package, other: &Package) -> Ordering
     ensures { result ≡ likeness_cmp Likeness.Version one.now other.now }
 {
     one.name
@@ -47,11 +77,47 @@ fn cmp_versions(one: &Package, other: &Package) -> Ordering
         .then(one.version.cmp(&other.version))
 }
 
-// The order by name, version and source.
-fn cmp_identities(one: &Package, other: &Package) -> Ordering
-    ensures { result ≡ likeness_cmp Likeness.Identity one.now other.now }
+// The order by name, origin and release line.
+fn by_line(one: &Package, other: &Package) -> Ordering
+    ensures { result ≡ likeness_cmp Likeness.Line one.now other.now }
 {
-    cmp_versions(one, other).then(one.source.cmp(&other.source))
+    by_origin(one, other).then(release_line(&one.version).cmp(&release_line(&other.version)))
+}
+
+// The order by name, version and place.
+fn by_place(one: &Package, other: &Package) -> Ordering
+    ensures { result ≡ likeness_cmp Likeness.Place one.now other.now }
+{
+    by_version(one, other).then(cmp_places(&one.source, &other.source))
+}
+
+// The order by all that is looked at.
+fn by_all(one: &Package, other: &Package) -> Ordering
+    ensures { result ≡ likeness_cmp Likeness.Whole one.now other.now }
+{
+    by_place(one, other)
+        .then(cmp_checksums(one, other))
+        .then(cmp_replacements(&one.replace, &other.replace))
+}
+
+// The release line of a version, with zero for each number behind it.
+fn release_line(version: &Version) -> [u64; 3]
+    ensures { result ≡ spec.release_line (parts_of version.now) }
+{
+    if version.major != 0 {
+        [version.major, 0, 0]
+    } else if version.minor != 0 {
+        [0, version.minor, 0]
+    } else {
+        [0, 0, version.patch]
+    }
+}
+
+// The order of the checksums, an absent one before a present one.
+pub(crate) fn cmp_checksums(one: &Package, other: &Package) -> Ordering
+    ensures { result ≡ option_cmp text_cmp one.now.checksum other.now.checksum }
+{
+    digest(one).cmp(&digest(other))
 }
 
 // The bytes of the checksum.

@@ -3,8 +3,10 @@
 //! Both lists are sorted by what is looked at and then merged, and what comes out is put back into
 //! the order of the lists. So n packages take about n log n comparisons.
 
-ghost use Rattle.std.specs.Prelude.{◌≡◌, IfOk, IsPermutation, IsSorted, map};
+ghost use Rattle.std.specs.Prelude.{◌≡◌, ◌↔◌, ◌<◌, ◌++◌, IfOk, IsTrue, IsPermutation, IsSorted};
+ghost use Rattle.std.specs.Prelude.{length, map, slice_index_or};
 ghost use Rattle.cargo_lock_diff.specs.Matching.{AreMatched, is_alike_at};
+ghost use Rattle.cargo_lock_diff.specs.Pairing.{ArePaired, ArePairedInTurn, AreSplit, StandsOnce};
 ghost use Rattle.cargo_lock_diff.specs.Placing.{are_alike, pair_of, placed_cmp};
 
 use crate::likeness::Likeness;
@@ -17,6 +19,20 @@ use std::cmp::Ordering;
 pub struct Matching<'a> {
     /// An old and a new package that are alike, in the order of the old ones.
     pub pairs: Vec<(&'a Package, &'a Package)>,
+
+    /// The old packages that are left, in their order.
+    pub old: Vec<&'a Package>,
+
+    /// The new packages that are left, in their order.
+    pub new: Vec<&'a Package>,
+}
+
+/// The packages of an old and a new list after several pairings: the pairs of each, and those that
+/// are left.
+#[derive(Drop)]
+pub struct Pairings<'a> {
+    /// The pairs of each pairing, in their order.
+    pub passes: Vec<Vec<(&'a Package, &'a Package)>>,
 
     /// The old packages that are left, in their order.
     pub old: Vec<&'a Package>,
@@ -58,6 +74,119 @@ pub fn pair_off<'a>(
     let old = items_by_place(alloc, merged.old)?;
     let new = items_by_place(alloc, merged.new)?;
     Ok(Matching { pairs, old, new })
+}
+
+// The packages of a list with their places: those that are like no other one, in the order by what
+// is looked at, and the others.
+#[derive(Drop)]
+struct Split<'a> {
+    alone: Vec<Placed<'a>>,
+    others: Vec<Placed<'a>>,
+}
+
+/// Pairs those packages that are like exactly one old and exactly one new package: each other.
+/// Fails when out of memory.
+pub fn pair_unique<'a>(
+    alloc: Global,
+    likeness: Likeness,
+    olds: &Vec<&'a Package>,
+    news: &Vec<&'a Package>,
+) -> Result<Matching<'a>, AllocError>
+    ensures { IfOk result (λ m. ArePaired (is_alike_at likeness) olds.now.items news.now.items
+        m.pairs.items m.old.items m.new.items) }
+{
+    let olds = sort(alloc, likeness, olds)?;
+    let news = sort(alloc, likeness, news)?;
+    let olds = take_apart(alloc, likeness, olds.as_slice())?;
+    let news = take_apart(alloc, likeness, news.as_slice())?;
+    let merged = merge(
+        alloc,
+        likeness,
+        olds.alone.as_slice(),
+        news.alone.as_slice(),
+    )?;
+    let pairs = pairs_by_place(alloc, merged.pairs)?;
+    let old = items_by_place(alloc, joined(merged.old, olds.others.as_slice())?)?;
+    let new = items_by_place(alloc, joined(merged.new, news.others.as_slice())?)?;
+    Ok(Matching { pairs, old, new })
+}
+
+/// Pairs by each likeness in turn what the ones before it have left. Fails when out of memory.
+pub fn pair_in_turn<'a>(
+    alloc: Global,
+    likenesses: &[Likeness],
+    olds: Vec<&'a Package>,
+    news: Vec<&'a Package>,
+) -> Result<Pairings<'a>, AllocError>
+    ensures { IfOk result (λ p. ArePairedInTurn (map is_alike_at likenesses.now)
+        olds.entry.items news.entry.items
+        (map (λ pairs. pairs.items) p.passes.items) p.old.items p.new.items) }
+{
+    let mut passes = Vec::new(alloc);
+    let mut old = olds;
+    let mut new = news;
+    for likeness in likenesses {
+        let matching = pair_unique(alloc, *likeness, &old, &new)?;
+        passes.push(matching.pairs)?;
+        old = matching.old;
+        new = matching.new;
+    }
+    Ok(Pairings { passes, old, new })
+}
+
+// Two packages are alike.
+fn tie<'a>(likeness: Likeness, one: &Placed<'a>, other: &Placed<'a>) -> bool
+    ensures { result ≡ are_alike likeness one.now other.now }
+{
+    likeness.compare(one.item, other.item) == Ordering::Equal
+}
+
+// Whether the package at a place of a sorted list is like no other: its neighbours are others.
+fn is_alone<'a>(likeness: Likeness, sorted: &[Placed<'a>], place: usize) -> bool
+    requires within { place < length sorted.now }
+    requires sorted { IsSorted (placed_cmp likeness) sorted.now }
+    ensures { (d : Placed) → IsTrue result
+        ↔ StandsOnce (are_alike likeness) (slice_index_or sorted.now place d) sorted.now }
+{
+    let one = sorted[place];
+    if place > 0 && tie(likeness, &sorted[place - 1], &one) {
+        return false;
+    }
+    if place + 1 < sorted.len() && tie(likeness, &one, &sorted[place + 1]) {
+        return false;
+    }
+    true
+}
+
+// Takes a sorted list apart into the packages that are like no other one, and the others.
+fn take_apart<'a>(
+    alloc: Global,
+    likeness: Likeness,
+    sorted: &[Placed<'a>],
+) -> Result<Split<'a>, AllocError>
+    requires { IsSorted (placed_cmp likeness) sorted.now }
+    ensures split { IfOk result
+        (λ s. AreSplit (are_alike likeness) sorted.now s.alone.items s.others.items) }
+    ensures sorted { IfOk result (λ s. IsSorted (placed_cmp likeness) s.alone.items) }
+{
+    let mut alone = Vec::new(alloc);
+    let mut others = Vec::new(alloc);
+    for place in 0..sorted.len() {
+        if is_alone(likeness, sorted, place) {
+            alone.push(sorted[place])?;
+        } else {
+            others.push(sorted[place])?;
+        }
+    }
+    Ok(Split { alone, others })
+}
+
+// One list behind another.
+fn joined<'a>(mut list: Vec<Placed<'a>>, more: &[Placed<'a>]) -> Result<Vec<Placed<'a>>, AllocError>
+    ensures { IfOk result (λ all. all.items ≡ list.entry.items ++ more.now) }
+{
+    list.extend_from_slice(more)?;
+    Ok(list)
 }
 
 // The packages with their places, in the order by what is looked at.

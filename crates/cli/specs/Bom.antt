@@ -1,23 +1,50 @@
 -- What `bom` leaves in the writer that stands for standard output.
-use Rattle.std.specs.Prelude.{◌≡◌, ℕ, List, [], ◌∷◌, ◌++◌, Option, codes}
+use Rattle.std.specs.Prelude.{◌≡◌, ℕ, List, [], ◌∷◌, ◌++◌, length, Option, None, option_map, codes}
+use Rattle.std.specs.Prelude.{option_to_list}
 use Rattle.clap.specs.Matches.{first_value}
 use Rattle.clap.specs.declared.parser.matches.Found.{Found}
 use Rattle.cargo_lock_parts.specs.Ascii.{newline}
+use Rattle.cargo_lock_parts.specs.Identity.{PackageData}
 use Rattle.cargo_lock_bom.specs.Document.{IsBillText}
+use Rattle.cargo_lock_bom.specs.Options.{OptionsData, within}
 use Rattle.cargo_lock_encoding.specs.Lockfiles.{LockfileData}
 use Rattle.cargo_lock_graph.specs.Edges.{Edge}
 use Rattle.cargo_lock_graph.specs.Targets.{AreEdgesOf}
+use Rattle.cargo_lock.specs.CargoChecksums.{with_cargo_checksums_in}
 use Rattle.cargo_lock.specs.Loads.{IsMeant}
 use Rattle.cli_support.specs.Destination.{TakesOutput}
 
--- the line is a text that reads as the bill of the packages of a lockfile and of their edges, and a
--- newline
-abbrev pub IsBillLine : LockfileData → List ℕ → Type 0
-IsBillLine l line = (edges : List Edge) × (text : List ℕ) × AreEdgesOf l.packages edges
-    × IsBillText (record { packages = l.packages; edges = edges }) text
+-- the packages of a bill: those of the lockfile, and last its root, if that is apart from them
+abbrev pub bill_packages : LockfileData → List PackageData
+bill_packages l = l.packages ++ option_to_list l.root
+
+-- the node of such a root
+abbrev pub own_root : LockfileData → Option ℕ
+own_root l = option_map (λ p. length l.packages) l.root
+
+-- What the words say of the bill of a lockfile: the root is that of the lockfile, unless they name
+-- one of its packages, the author is theirs, and there is no time.
+pub record IsSaid (found : Found) (l : LockfileData) (o : OptionsData) : Type 0 where
+  pub own : first_value found (codes "root") ≡ None → o.root ≡ own_root l
+  pub author : o.author ≡ first_value found (codes "author")
+  pub timestamp : o.timestamp ≡ None
+
+-- the line is a text that reads as the bill of some packages and of their edges, and a newline
+abbrev pub IsLineOf : List PackageData → OptionsData → List ℕ → Type 0
+IsLineOf packages o line = (edges : List Edge) × (text : List ℕ) × AreEdgesOf packages edges
+    × IsBillText (record { packages = packages; edges = edges })
+    (within (record { packages = packages; edges = edges }) o) text
     × (line ≡ text ++ newline ∷ [])
+
+-- the line is that of the packages of a lockfile
+abbrev pub IsBillOf : Found → LockfileData → List ℕ → Type 0
+IsBillOf found l line = (o : OptionsData) × IsSaid found l o × IsLineOf (bill_packages l) o line
+
+-- the line is that of a lockfile with the checksums that Cargo reads
+abbrev pub IsAskedBill : Found → LockfileData → List ℕ → Type 0
+IsAskedBill found l line = IsBillOf found (with_cargo_checksums_in l) line
 
 -- the line is that of a lockfile that some text means
 abbrev pub PrintsBill : Found → Option (List ℕ) → Option (List ℕ) → Type 0
-PrintsBill found old new = (l : LockfileData) × (line : List ℕ) × IsMeant l × IsBillLine l line
-    × TakesOutput (first_value found (codes "output")) line old new
+PrintsBill found old new = (l : LockfileData) × (line : List ℕ) × IsMeant l
+    × IsAskedBill found l line × TakesOutput (first_value found (codes "output")) line old new

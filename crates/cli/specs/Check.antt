@@ -1,15 +1,10 @@
 -- What `check` prints, and its status.
-use Rattle.std.specs.Prelude.{◌≡◌, ◌≢◌, ℕ, List, [], ◌∷◌, ◌++◌, Option}
-use Rattle.std.specs.List.{flat_map}
+use Rattle.std.specs.Prelude.{◌≡◌, ◌≢◌, ℕ, List, [], Option}
 use Rattle.std.specs.Io.KnownBytes.{Appends}
-use Rattle.cargo_lock_check.specs.Finding.{FindingData, line_of}
+use Rattle.cargo_lock_check.specs.Finding.{FindingData, lines_text}
 use Rattle.cargo_lock_check.specs.Findings.{AreFindings, FindingsData, told_of}
 use Rattle.cargo_lock_encoding.specs.Lockfiles.{LockfileData}
 use Rattle.cargo_lock_encoding.specs.Means.{TextMeans}
-
--- the line of each finding, with its newline
-abbrev pub lines_text : List FindingData → List ℕ
-lines_text = flat_map (λ finding. line_of finding ++ 10 ∷ [])
 
 -- the status is a failure exactly where anything is told, and else a success
 pub record IsFindingsStatus (told : List FindingData) (failure success : Type 0) : Type 0 where

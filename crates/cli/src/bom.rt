@@ -1,18 +1,22 @@
 //! The command `bom`: the bill of materials of a lockfile.
-ghost use Rattle.std.specs.Prelude.{◌≡◌, ◌∷◌, ◌++◌, [], IfOk, OnOk, string_bytes};
-ghost use Rattle.clap.specs.Matches.{found_of};
+ghost use Rattle.std.specs.Prelude.{◌≡◌, ◌∷◌, ◌++◌, [], None, IfOk, OnOk, codes, string_bytes};
+ghost use Rattle.clap.specs.Matches.{first_value, found_of};
 ghost use Rattle.cargo_lock_parts.specs.Ascii.{newline};
 ghost use Rattle.cargo_lock_bom.specs.Document.{IsBillText};
-ghost use Rattle.cli.specs.Bom.{IsBillLine, PrintsBill};
+ghost use Rattle.cargo_lock_bom.specs.Options.{within};
+ghost use Rattle.cli.specs.Bom.{IsAskedBill, IsBillOf, IsLineOf, PrintsBill, bill_packages};
+ghost use Rattle.cli.specs.Bom.{own_root};
 
 use crate::load::named_lockfile;
-use cargo_lock::dependency::graph::Graph;
-use cargo_lock::{Error, Lockfile};
+use crate::spec::Spec;
+use cargo_lock::dependency::graph::{Graph, NodeIndex};
+use cargo_lock::{Error, Lockfile, Package};
 use cargo_lock_bom::document::{compact_text, pretty_text};
-use clap::{ArgMatches, Command};
-use cli_support::Fault;
+use cargo_lock_bom::options::Options;
+use clap::{Arg, ArgAction, ArgMatches, Command};
 use cli_support::destination::put_out;
 use cli_support::words::{any_size, file, long_flag, output};
+use cli_support::{Fault, VERSION};
 use std::alloc::{AllocError, Global};
 use std::io::Write;
 use std::rt::Files;
@@ -23,6 +27,9 @@ const BOM_HELP: &str =
 tests or of builds, of some target or of some feature, so the bill says nothing of them. A package \
 without a source has no purl: pkg:cargo/NAME@VERSION would be the package of crates.io";
 
+/// The package that a bill is about, as help shows it.
+const ROOT_HELP: &str = "The package that the bill is about, as for tree; only one may fit";
+
 /// The parser of this command: its options.
 pub(crate) fn command<'a>(alloc: Global) -> Result<Command<'a>, AllocError> {
     Command::new(alloc, "bom")
@@ -31,12 +38,23 @@ pub(crate) fn command<'a>(alloc: Global) -> Result<Command<'a>, AllocError> {
         .arg(file(alloc))?
         .arg(any_size(alloc))?
         .arg(output(alloc))?
+        .arg(named(alloc, "root", "SPEC").help(ROOT_HELP))?
+        .arg(named(alloc, "author", "NAME").help("Who writes the bill"))?
+        .arg(long_flag(alloc, "serial").help("Adds a serial number, equal for equal bills"))?
         .arg(long_flag(alloc, "compact").help("Writes one line, without spaces"))
 }
 
+/// An option with a value and no short name.
+fn named<'a>(alloc: Global, name: &'a str, shown: &'a str) -> Arg<'a> {
+    Arg::new(alloc, name)
+        .long(name)
+        .value_name(shown)
+        .action(ArgAction::Set)
+}
+
 /// Writes the bill of materials of the lockfile and a newline: into the output file, or to `out`.
-/// Fails where the lockfile is not read or has no tree, where one text would refer to two of its
-/// packages, and where the output fails.
+/// Fails where the lockfile is not read or has no tree, where not one package is the root that the
+/// words name, where one text would refer to two of its packages, and where the output fails.
 pub(crate) fn run<R: Files + AllocGlobal, W: Write>(
     rt: &R,
     options: &ArgMatches<'_>,
@@ -46,28 +64,136 @@ pub(crate) fn run<R: Files + AllocGlobal, W: Write>(
         (PrintsBill (found_of options.now) (W.contents out.old) (W.contents out.new)) }
 {
     let lockfile = named_lockfile(rt, options, "file")?;
-    let text = line_of(rt.alloc(), &lockfile, options.get_flag("compact"))?;
+    let text = text_about(rt.alloc(), options, lockfile)?;
     put_out(rt, options, text.as_str(), "", out)
 }
 
+/// The text of the bill of materials of a lockfile that the words ask for, and a newline.
+fn text_about(alloc: Global, options: &ArgMatches<'_>, lockfile: Lockfile) -> Result<String, Fault>
+    ensures { IfOk result (λ text. IsAskedBill (found_of options.now) lockfile
+        (string_bytes text)) }
+{
+    let lockfile = lockfile.with_cargo_checksums(alloc)?;
+    text_of_lockfile(alloc, options, lockfile)
+}
+
+/// The same of a lockfile with the checksums that Cargo reads.
+fn text_of_lockfile(
+    alloc: Global,
+    options: &ArgMatches<'_>,
+    lockfile: Lockfile,
+) -> Result<String, Fault>
+    ensures { IfOk result (λ text. IsBillOf (found_of options.now) lockfile
+        (string_bytes text)) }
+{
+    let (lockfile, own) = with_root(lockfile)?;
+    let given = given_root(alloc, options, &lockfile.packages, own)?;
+    let said = said_of_bill(options, given);
+    let line = line_of(alloc, &lockfile, &said, options.get_flag("compact"))?;
+    Ok(line)
+}
+
+/// The lockfile with its root, if that is apart from its packages, as the last of them, and the node
+/// of that root.
+fn with_root(lockfile: Lockfile) -> Result<(Lockfile, Option<NodeIndex>), AllocError>
+    ensures packages { IfOk result (λ r. r.0.packages ≡ bill_packages lockfile) }
+    ensures root { IfOk result (λ r. r.1 ≡ own_root lockfile) }
+{
+    let mut lockfile = lockfile;
+    let Some(root) = lockfile.root.take() else {
+        return Ok((lockfile, None));
+    };
+    let node = NodeIndex::new(lockfile.packages.len());
+    lockfile.packages.push(root)?;
+    Ok((lockfile, Some(node)))
+}
+
+/// The root that the words name, or else the own one. Fails where no package fits its specification,
+/// or several do.
+fn given_root(
+    alloc: Global,
+    options: &ArgMatches<'_>,
+    packages: &[Package],
+    own: Option<NodeIndex>,
+) -> Result<Option<NodeIndex>, Fault>
+    ensures { IfOk result (λ given.
+        first_value (found_of options.now) (codes "root") ≡ None → given ≡ own) }
+{
+    match options.get_str("root") {
+        Some(spec) => {
+            let node = only_fitting(alloc, packages, spec)?;
+            Ok(Some(node))
+        }
+        None => Ok(own),
+    }
+}
+
+/// The node of the only package that a specification fits.
+fn only_fitting(alloc: Global, packages: &[Package], spec: &str) -> Result<NodeIndex, Fault> {
+    let fitting = fitting(alloc, packages, spec)?;
+    match fitting.as_slice() {
+        [node] => Ok(*node),
+        others => Err(Fault::of_root(alloc, others.len(), spec)),
+    }
+}
+
+/// The nodes of the packages that a specification fits.
+fn fitting(alloc: Global, packages: &[Package], spec: &str) -> Result<Vec<NodeIndex>, Fault> {
+    let parsed = Spec::parse(alloc, spec)?;
+    let mut fitting = Vec::new(alloc);
+    for (place, package) in packages.iter().enumerate() {
+        if parsed.fits(alloc, package)? {
+            fitting.push(NodeIndex::new(place))?;
+        }
+    }
+    Ok(fitting)
+}
+
+/// What the words say of a bill with this root, if one is given.
+fn said_of_bill<'a>(options: &ArgMatches<'a>, given: Option<NodeIndex>) -> Options<'a>
+    ensures root { «result».root ≡ given }
+    ensures timestamp { «result».timestamp ≡ None }
+    ensures author { «result».author ≡ first_value (found_of options.now) (codes "author") }
+{
+    Options {
+        root: given,
+        tool_version: VERSION,
+        timestamp: None,
+        author: options.get_str("author"),
+        has_serial: options.get_flag("serial"),
+    }
+}
+
 /// The text of the bill of materials of a lockfile, and a newline.
-fn line_of(alloc: Global, lockfile: &Lockfile, is_compact: bool) -> Result<String, Error>
-    ensures { IfOk result (λ text. IsBillLine lockfile.now (string_bytes text)) }
+fn line_of(
+    alloc: Global,
+    lockfile: &Lockfile,
+    said: &Options<'_>,
+    is_compact: bool,
+) -> Result<String, Error>
+    ensures { IfOk result
+        (λ text. IsLineOf lockfile.now.packages «said».now (string_bytes text)) }
 {
     let tree = lockfile.dependency_tree(alloc)?;
-    let text = text_of(alloc, tree.graph(), is_compact)?;
+    let text = text_of(alloc, tree.graph(), said, is_compact)?;
     let line = with_newline(text)?;
     Ok(line)
 }
 
 /// The text of the bill of materials of a graph.
-fn text_of(alloc: Global, graph: &Graph, is_compact: bool) -> Result<String, Error>
-    ensures { IfOk result (λ text. IsBillText graph.now (string_bytes text)) }
+fn text_of(
+    alloc: Global,
+    graph: &Graph,
+    said: &Options<'_>,
+    is_compact: bool,
+) -> Result<String, Error>
+    ensures { IfOk result
+        (λ text. IsBillText graph.now (within graph.now «said».now) (string_bytes text)) }
 {
     if is_compact {
-        compact_text(alloc, graph)
+        compact_text(alloc, graph, said)
     } else {
-        pretty_text(alloc, graph)
+        pretty_text(alloc, graph, said)
     }
 }
 

@@ -1,8 +1,8 @@
 //! The command `check`: what is wrong with a lockfile.
 ghost use Rattle.std.specs.Prelude.{◌≡◌, IfOk, OnOk, map};
 ghost use Rattle.std.specs.Io.KnownBytes.{Appends};
-ghost use Rattle.cargo_lock_check.specs.Finding.{finding_of};
-ghost use Rattle.cli.specs.Check.{IsFindingsStatus, TellsCheck, TellsFindings, TellsFindingsOf, lines_text};
+ghost use Rattle.cargo_lock_check.specs.Finding.{finding_of, lines_text};
+ghost use Rattle.cli.specs.Check.{IsFindingsStatus, TellsCheck, TellsFindings, TellsFindingsOf};
 
 use crate::load::{named_lockfile_of, named_text};
 use cargo_lock::Lockfile;
@@ -20,6 +20,7 @@ const FINDINGS_HELP: &str = "\
 Each finding is a line, in this order:
   reference: PACKAGE depends on DEPENDENCY, which is no package
   twice: PACKAGE stands more than once
+  twice: PACKAGE lists DEPENDENCY more than once
   name: NAME is no name that Cargo takes
   alike: PACKAGE and PACKAGE have one name on crates.io
   source: SOURCE is not crates.io                though its URL looks so
@@ -27,11 +28,14 @@ Each finding is a line, in this order:
   orphan: PACKAGE: no package of the workspace leads to it
   root: no package is of the workspace           in place of orphans
   checksum: PACKAGE has none, though others of its registry have
+  checksum: no package of SOURCE has one
   stale: `KEY` is in the metadata, and is of no package
   order: PACKAGE stands before PACKAGE
+  order: PACKAGE lists DEPENDENCY before DEPENDENCY
+  format: V3 loses the tag, branch or revision of `SOURCE`; V4 keeps it
   format: V4 does not keep this lockfile
   text: line NUMBER is not as Cargo writes it: `LINE` for `CARGO'S LINE`
-A package of the workspace is one without a source. The status is 1 where anything is found.";
+A package of the workspace is one without a source. The status is 1 where anything is found, and 2 where the lockfile cannot be read.";
 
 /// The parser of this command: its option.
 pub(crate) fn command<'a>(alloc: Global) -> Result<Command<'a>, AllocError> {

@@ -3,12 +3,12 @@ ghost use Rattle.std.specs.Prelude.{◌≡◌, IfOk, OnOk, map};
 ghost use Rattle.std.specs.Io.KnownBytes.{Appends};
 ghost use Rattle.clap.specs.Matches.{found_of};
 ghost use Rattle.cargo_lock_diff.specs.Change.{change_of, lines_text};
-ghost use Rattle.cli.specs.Diff.{IsStatus, IsTold, TellsChanges, TellsDifference};
-ghost use Rattle.cli.specs.Diff.{TellsDifferenceOf};
+ghost use Rattle.cli.specs.Diff.{IsCompared, IsStatus, IsTold, TellsChanges, TellsDifference};
+ghost use Rattle.cli.specs.Diff.{TellsDifferenceOf, last_line, told_text};
 
 use crate::load::named_lockfile;
 use cargo_lock::Lockfile;
-use cargo_lock_diff::{Change, Difference};
+use cargo_lock_diff::{Change, Difference, Summary};
 use clap::{Arg, ArgAction, ArgMatches, Command};
 use cli_support::Fault;
 use cli_support::output::put;
@@ -21,15 +21,20 @@ use std::rt::Files;
 /// The lines of `diff`, as help shows them.
 const DIFF_HELP: &str = "\
 Each change is a line, in this order:
-  ! NAME VERSION (SOURCE): checksum OLD -> NEW   another archive: an alarm, with status 1
-  ? NAME VERSION (SOURCE): checksum OLD -> NEW   a checksum came or went, which is no alarm
-  > NAME VERSION: OLD -> NEW                     another source
-  ~ NAME OLD -> NEW                              another version; a source that differs follows
-  - NAME VERSION                                 a package that went
-  + NAME VERSION                                 a package that came
-  = NAME VERSION: dependencies - OLD + NEW       with -d, what only the old or the new one needs
-A missing source or checksum is none. The source of a dependency follows it, unless it is crates.io.
-The order of the packages and the format do not count.";
+  ! NAME VERSION SRC: checksum OLD -> NEW     an alarm: one version with another archive
+  > NAME VERSION: SRC -> SRC                  another source
+  ? NAME VERSION SRC: checksum none -> NEW    a checksum that was not there
+  @ NAME VERSION SRC: replacement OLD -> NEW  another replacement
+  ~ NAME OLD -> NEW                           another version, (downgrade) if an earlier one
+  - NAME VERSION SRC                          a package only in OLD
+  + NAME VERSION SRC                          a package only in NEW
+  = NAME VERSION SRC: - DEP + DEP             other dependencies, with -d
+SRC is in round brackets: (path) for a package without a source, and nothing for crates.io. The last \
+line counts the changes. The order of the packages and the format do not matter. No lockfile says \
+whether a version was yanked.
+
+The status is 1 where there is an alarm, and with --exit-code where anything is printed. It is 2 \
+where a lockfile cannot be read.";
 
 /// The two arguments, as help shows them.
 const OLD_HELP: &str = "The old lockfile, - for standard input";
@@ -39,12 +44,12 @@ const NEW_HELP: &str = "The new lockfile, - for standard input";
 /// The parser of this command: its options and the paths of two lockfiles.
 pub(crate) fn command<'a>(alloc: Global) -> Result<Command<'a>, AllocError> {
     Command::new(alloc, "diff")
-        .about("Tells what differs between the packages of two lockfiles")
+        .about("Shows what differs between the packages of two lockfiles")
         .after_help(DIFF_HELP)
         .arg(path(alloc, "old", "OLD").help(OLD_HELP))?
         .arg(path(alloc, "new", "NEW").help(NEW_HELP))?
         .arg(any_size(alloc))?
-        .arg(flag(alloc, "dependencies", 'd').help("Tells other dependencies of packages too"))?
+        .arg(flag(alloc, "dependencies", 'd').help("Shows other dependencies of packages too"))?
         .arg(long_flag(alloc, "exit-code").help(
             "Ends with status 1 where anything differs, dependencies only with -d",
         ))
@@ -75,9 +80,22 @@ pub(crate) fn run<R: Files + AllocGlobal, W: Write>(
     if is_standard(options, "old") && is_standard(options, "new") {
         return Err(Fault::OneInput);
     }
-    let old = named_lockfile(rt, options, "old")?;
-    let new = named_lockfile(rt, options, "new")?;
+    let old = compared_lockfile(rt, options, "old")?;
+    let new = compared_lockfile(rt, options, "new")?;
     tell(rt.alloc(), options, &old, &new, out)
+}
+
+/// The lockfile whose path the argument `name` has, with the checksums that Cargo reads.
+fn compared_lockfile<R: Files + AllocGlobal>(
+    rt: &R,
+    options: &ArgMatches<'_>,
+    name: &str,
+) -> Result<Lockfile, Fault>
+    ensures { IfOk result IsCompared }
+{
+    let lockfile = named_lockfile(rt, options, name)?;
+    let compared = lockfile.with_cargo_checksums(rt.alloc())?;
+    Ok(compared)
 }
 
 /// Prints what differs between the packages of two lockfiles. Answers the status.
@@ -109,21 +127,44 @@ fn tell_changes<W: Write>(
         (status ≡ ExitCode.FAILURE) (status ≡ ExitCode.SUCCESS)) }
 {
     let changes = changes(alloc, options, difference)?;
-    print_changes(out, changes.as_slice())?;
+    print_all(out, changes.as_slice())?;
     Ok(status(options, difference, changes.as_slice()))
 }
 
 /// The changes that the words ask for: those of packages, and then those of dependencies.
-fn changes<'a>(
+fn changes<'d>(
     alloc: Global,
     options: &ArgMatches<'_>,
-    difference: &Difference<'a>,
-) -> Result<Vec<Change<'a>>, Fault>
+    difference: &'d Difference<'_>,
+) -> Result<Vec<Change<'d>>, Fault>
     ensures { IfOk result (λ changes. IsTold (found_of options.now) difference.now
         (map change_of changes.items)) }
 {
     let changes = difference.all_changes(alloc, options.get_flag("dependencies"))?;
     Ok(changes)
+}
+
+/// Prints the changes in their order, and then how many of each kind there are.
+fn print_all<W: Write>(out: &mut W, changes: &[Change<'_>]) -> Result<(), Fault>
+    ensures { OnOk result (Appends (W.contents out.old) (W.contents out.new)
+        (told_text (map change_of changes.now))) }
+{
+    print_changes(out, changes)?;
+    print_last_line(out, changes)?;
+    Ok(())
+}
+
+/// Prints how many changes of each kind there are, if there are any.
+fn print_last_line<W: Write>(out: &mut W, changes: &[Change<'_>]) -> Result<(), Fault>
+    ensures { OnOk result (Appends (W.contents out.old) (W.contents out.new)
+        (last_line (map change_of changes.now))) }
+{
+    if changes.is_empty() {
+        return Ok(());
+    }
+    let summary = Summary::of(changes);
+    put(out, format_args!("{summary}\n"))?;
+    Ok(())
 }
 
 /// Prints the changes in their order.

@@ -2,60 +2,65 @@
 //! format, draws its trees, writes its bill of materials, tells what differs between two and what
 //! is wrong with one.
 //!
-//! Whatever goes wrong is told in one message on standard error that begins `*** error: `, and the
-//! status is then 1. It is 0 where all of the output was written and flushed, unless what differs
-//! between two lockfiles, or what is wrong with one, asks for 1.
+//! A fault is reported in one message on standard error that begins `*** error: `. The status is then
+//! 2 for `bom`, `check` and `diff`, which the original does not have, and else 1. Without a fault it
+//! is 0, all of the output was written and flushed, and what `diff` or `check` found may make it 1.
 #![tactic(auto)]
 
-ghost use Rattle.std.specs.Prelude.{◌≡◌};
+ghost use Rattle.std.specs.Prelude.{◌≡◌, ◌⊎◌, map};
 ghost use Rattle.std.specs.Io.KnownBytes.{Keeps};
+ghost use Rattle.cli_support.specs.Status.{IsFaultStatus};
 
 mod bom;
 mod check;
 mod diff;
 mod list;
 mod load;
+mod spec;
 mod translate;
 mod tree;
 
 use clap::{ArgMatches, Command};
 pub use cli_support::Fault;
 use cli_support::message::put_message;
-use cli_support::{output, words};
+use cli_support::{VERSION, output, status, words};
 use std::alloc::{AllocError, Global};
 use std::convert::AsStr;
 use std::io::Write;
 use std::process::ExitCode;
 use std::rt::Files;
 
-/// Runs the command that `words` name, which stand without the program's own name. What it answers
-/// goes to `out`, which is then flushed, and a fault goes to `err`, as one message. Where it
-/// answers success, nothing was written to `err`.
+/// Runs the command that `words`, the arguments without the program's own name, ask for. What it
+/// prints goes to `out`, which is then flushed, and a fault goes to `err`, as one message. Where it
+/// returns success, nothing was written to `err`; where something was, the status is that of a
+/// fault.
 pub fn run<R: Files + AllocGlobal, S: AsStr, W: Write, E: Write>(
     rt: &R,
     words: &[S],
     out: &mut W,
     err: &mut E,
 ) -> ExitCode
-    ensures { result ≡ ExitCode.SUCCESS → Keeps (E.contents err.old) (E.contents err.new) }
+    ensures kept { result ≡ ExitCode.SUCCESS → Keeps (E.contents err.old) (E.contents err.new) }
+    ensures fault { (Keeps (E.contents err.old) (E.contents err.new))
+        ⊎ IsFaultStatus (map S.text words.now) result }
 {
     match execute(rt, words, out) {
         Ok(status) => status,
-        Err(fault) => report(err, &fault),
+        Err(fault) => report(err, &fault, status::of_fault(words)),
     }
 }
 
-/// Prints the message of a fault. The status is the same where that fails too.
-pub fn report<E: Write>(err: &mut E, fault: &Fault) -> ExitCode
-    ensures { result ≡ ExitCode.FAILURE }
+/// Prints the message of a fault. Returns the status that is given, also where that fails.
+pub fn report<E: Write>(err: &mut E, fault: &Fault, status: ExitCode) -> ExitCode
+    ensures { result ≡ status }
 {
     let _ = put_message(err, fault);
     let _ = err.flush();
-    ExitCode::FAILURE
+    status
 }
 
-/// Reads the words, and runs their command or prints the help that they ask for. Answers the
-/// status.
+/// Reads the words, and runs their command or prints the help or the version that they ask for.
+/// Returns the status.
 fn execute<R: Files + AllocGlobal, S: AsStr, W: Write>(
     rt: &R,
     words: &[S],
@@ -81,6 +86,7 @@ fn execute<R: Files + AllocGlobal, S: AsStr, W: Write>(
 fn parser<'a>(alloc: Global) -> Result<Command<'a>, AllocError> {
     Command::new(alloc, "cargo-lock")
         .about("Looks into lockfiles")
+        .version(VERSION)
         .subcommand_required(true)
         .args_override_self(true)
         .subcommand(list::command(alloc)?)?

@@ -1,3 +1,4 @@
 pub mod Destination
 pub mod Output
 pub mod Input
+pub mod Status

@@ -53,6 +53,14 @@ pub enum Fault {
     #[error("error: invalid dependency name: `{0}`\n")]
     Spec(String),
 
+    /// No package fits the specification of a root.
+    #[error("error: no package is `{0}`\n")]
+    NoRoot(String),
+
+    /// So many packages, and not one, fit the specification of a root.
+    #[error("error: {0} packages are `{1}`\n")]
+    ManyRoots(usize, String),
+
     /// The words name no command.
     #[error("error: no command\n")]
     NoCommand,
@@ -82,6 +90,15 @@ impl Fault {
         match error.kind() {
             io::ErrorKind::OutOfMemory => Fault::Library(Error::Memory),
             kind => Fault::Library(Error::Io(kind)),
+        }
+    }
+
+    /// The fault of a specification that so many packages fit as the root, or running out of memory.
+    pub fn of_root(alloc: Global, count: usize, spec: &str) -> Fault {
+        match String::from_str(alloc, spec) {
+            Ok(spec) if count == 0 => Fault::NoRoot(spec),
+            Ok(spec) => Fault::ManyRoots(count, spec),
+            Err(_) => Fault::Library(Error::Memory),
         }
     }
 

@@ -4,11 +4,16 @@
 //! Nothing here knows lockfiles, so each promise is of words, files and streams.
 #![tactic(auto)]
 
+pub mod colours;
 pub mod destination;
 pub mod fault;
 pub mod message;
 pub mod output;
 pub mod saving;
+pub mod status;
 pub mod words;
 
 pub use crate::fault::Fault;
+
+/// The version of this project, which `cargo-lock --version` prints. The file `VERSION` has it too.
+pub const VERSION: &str = "0.1.0";

@@ -1,9 +1,10 @@
 //! The words that the program is called with.
-ghost use Rattle.std.specs.Prelude.{◌≡◌, IfErr, IfSome, None, Some, codes, option_map, unwrap_or};
+ghost use Rattle.std.specs.Prelude.{◌≡◌, IfErr, IfSome, None, Some, codes, map, option_map, unwrap_or};
 ghost use Rattle.std.specs.Path.{path_bytes};
 ghost use Rattle.clap.specs.Matches.{first_value, found_of};
 ghost use Rattle.cli_support.specs.Destination.{IsPrinted};
 ghost use Rattle.cli_support.specs.Input.{IsInputPath, IsOfReading};
+ghost use Rattle.cli_support.specs.Status as spec;
 
 use crate::fault::Fault;
 use cargo_lock_parts::error::Error;
@@ -23,6 +24,9 @@ const DEFAULT_PATH: &str = "Cargo.lock";
 /// written.
 const STANDARD: &str = "-";
 
+/// The options of the program itself.
+const OWN_OPTIONS: [&str; 4] = ["-h", "--help", "-V", "--version"];
+
 /// The path of standard input.
 const STANDARD_INPUT: &str = "/dev/stdin";
 
@@ -30,7 +34,7 @@ const STANDARD_INPUT: &str = "/dev/stdin";
 const LIMIT: u64 = 1 << 28;
 
 /// The words as the parser reads them, the program's name first. A leading `lock` is left out, and
-/// `list` stands before the first option where no command does, unless it asks for help. Fails for
+/// `list` comes before a first option, unless that is one of the program itself. Fails for
 /// running out of memory.
 pub fn with_command<'a, S: AsStr>(
     alloc: Global,
@@ -38,10 +42,7 @@ pub fn with_command<'a, S: AsStr>(
 ) -> Result<Vec<&'a str>, AllocError> {
     let mut all = Vec::new(alloc);
     all.push("cargo-lock")?;
-    let words = match words {
-        [first, rest @ ..] if first.as_str() == "lock" => rest,
-        _ => words,
-    };
+    let words = without_lock(words);
     match words.first() {
         Some(first) if !is_option(first.as_str()) => {}
         _ => all.push("list")?,
@@ -52,9 +53,28 @@ pub fn with_command<'a, S: AsStr>(
     Ok(all)
 }
 
-/// Whether a first word is an option of a command. Those that ask for help are the program's own.
+/// Whether the arguments name this command.
+pub fn name_command<S: AsStr>(words: &[S], command: &str) -> bool {
+    match without_lock(words).first() {
+        Some(first) => first.as_str() == command,
+        None => false,
+    }
+}
+
+/// The arguments without a leading `lock`, which cargo passes.
+pub(crate) fn without_lock<S: AsStr>(words: &[S]) -> &[S]
+    ensures { map S.text result.now ≡ spec.without_lock (map S.text words.now) }
+{
+    match words {
+        [first, rest @ ..] if first.as_str() == "lock" => rest,
+        _ => words,
+    }
+}
+
+/// Whether a first word is an option of a command. Those that ask for help or for the version are
+/// the program's own.
 fn is_option(word: &str) -> bool {
-    word.starts_with('-') && word != "-h" && word != "--help"
+    word.starts_with('-') && !OWN_OPTIONS.contains(&word)
 }
 
 /// The text of the lockfile whose path the option or argument `name` has. Fails where the file is

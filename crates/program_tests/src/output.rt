@@ -222,7 +222,10 @@ fn message_that_fails(rt: HostRuntime) {
 fn words_that_are_not_read(rt: HostRuntime) -> Result<(), Fail> {
     let mut err: Vec<u8> = Vec::new(rt.alloc());
     let fault = Fault::of_start(io::Error::from(ErrorKind::InvalidData));
-    assert_eq!(rt; report(&mut err, &fault), ExitCode::FAILURE);
+    assert_eq!(rt;
+        report(&mut err, &fault, ExitCode::FAILURE),
+        ExitCode::FAILURE
+    );
     let message = std::str::from_utf8(err.as_slice())?;
     assert!(rt; message.starts_with("*** error: I/O operation failed: "));
     assert!(rt; message.ends_with('\n'));

@@ -8,8 +8,8 @@ use std::alloc::Global;
 use std::fs;
 use std::process::ExitCode;
 
-/// What a command puts out, and where it fails its message too, after a line `status 1`. The words
-/// of a row follow those of the call.
+/// What a command puts out, and where it fails its message too, after a line with its status. The
+/// words of a row follow those of the call.
 pub fn asked(rt: &HostRuntime, how: &[&str], texts: Texts<'_>) -> Result<String, Error> {
     fs::write(rt, "Cargo.lock", texts.at_hand)?;
     fs::write(rt, "beside.lock", texts.beside)?;
@@ -43,13 +43,23 @@ fn told(alloc: Global, status: ExitCode, out: &[u8], err: &[u8]) -> Result<Strin
     if status == ExitCode::SUCCESS && err.is_empty() {
         return Ok(String::from_str(alloc, out)?);
     }
-    let status = if status == ExitCode::SUCCESS { 0 } else { 1 };
+    let status = number_of(status);
     let end = if err.is_empty() || err.ends_with('\n') {
         ""
     } else {
         ", not a whole line"
     };
     Ok(format!(in alloc; "{out}status {status}{end}\n{err}")?)
+}
+
+fn number_of(status: ExitCode) -> u8 {
+    if status == ExitCode::SUCCESS {
+        0
+    } else if status == ExitCode::FAILURE {
+        1
+    } else {
+        2
+    }
 }
 
 fn text_of(bytes: &[u8]) -> &str {

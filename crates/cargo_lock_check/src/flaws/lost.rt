@@ -3,7 +3,8 @@
 ghost use Rattle.std.specs.Prelude.{◌≡◌, ◌+◌, IfOk, OnOk, Some, slice_get};
 ghost use Rattle.std.specs.Bool.{Decides};
 ghost use Rattle.cargo_lock_graph.specs.Targets.{IsLost};
-ghost use Rattle.cargo_lock_check.specs.Lost.{AreLost, AreLostBefore};
+ghost use Rattle.cargo_lock_check.specs.Dependencies.{AreDependenciesBefore};
+ghost use Rattle.cargo_lock_check.specs.Lost.{AreLost, IsLostAt};
 
 use crate::flaws::candidates::all_matches;
 use cargo_lock_graph::versions::Versions;
@@ -56,8 +57,9 @@ fn put_lost<'a>(
     package: &'a Package,
 ) -> Result<(), AllocError>
     requires package { slice_get versions.now place ≡ Some «package».now }
-    requires before { AreLostBefore versions.now place 0 lost.old.items }
-    ensures { OnOk result (AreLostBefore versions.now (place + 1) 0 lost.new.items) }
+    requires before { AreDependenciesBefore (IsLostAt versions.now) place 0 lost.old.items }
+    ensures { OnOk result
+        (AreDependenciesBefore (IsLostAt versions.now) (place + 1) 0 lost.new.items) }
 {
     for (at, dependency) in package.dependencies.iter().enumerate() {
         if is_lost(alloc, versions, dependency)? {

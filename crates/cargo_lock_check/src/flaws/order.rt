@@ -1,58 +1,153 @@
-//! The order in which Cargo writes packages.
+//! The order in which Cargo writes packages, and the dependencies of a package.
 
-ghost use Rattle.std.specs.Prelude.{◌≡◌};
+ghost use Rattle.std.specs.Prelude.{◌≡◌, IfOk};
 ghost use Rattle.std.specs.Option.{option_cmp};
+ghost use Rattle.semver.specs.Identifiers.{parts_of, parts_text};
+ghost use Rattle.url.specs.Parts.{serialize};
 ghost use Rattle.cargo_lock_parts.specs.Source.{kind_of};
 ghost use Rattle.cargo_lock_parts.specs.SourceKey as key;
-ghost use Rattle.cargo_lock_check.specs.Order.{package_order, source_order};
+ghost use Rattle.cargo_lock_parts.specs.SourceKey.{text_cmp};
+ghost use Rattle.cargo_lock_check.specs.Canonical.{canonical};
+ghost use Rattle.cargo_lock_check.specs.Order.{by_kind_and_url, dependency_order, kind_order, package_order};
 ghost use Rattle.cargo_lock_check.specs.Order as spec;
 
+use crate::flaws::canonical::canonical;
+use cargo_lock_parts::dependency::Dependency;
 use cargo_lock_parts::package::source::SourceKind;
-use cargo_lock_parts::package::{GitReference, Package, SourceId};
+use cargo_lock_parts::package::{GitReference, Package, SourceId, Version};
+use std::alloc::{AllocError, Global};
 use std::cmp::Ordering;
+use url::Url;
 
 /// Compares packages as Cargo does before it writes them: by name, by version, and by source, where
 /// a package without one comes first. Sources compare by kind, then by tag, branch or revision, and
 /// then by URL. This order differs from that of `Package`: a repository comes after a registry, and
 /// its default branch after its tags, branches and revisions.
 ///
-/// Before it compares two URLs, Cargo takes an ending `.git` or `/` from each, and writes those of
-/// GitHub in lower case. Here URLs compare as they stand.
+/// URLs compare without a `/` and without `.git` at the end of the path, and those of GitHub with
+/// the scheme `https` and the path in lower case, as Cargo compares them. Fails when out of memory.
 ///
 /// ```
-/// let next = package_order(&packages[0], &packages[1]);
+/// let next = package_order(rt.alloc(), &packages[0], &packages[1])?;
 /// ```
-pub fn package_order(one: &Package, other: &Package) -> Ordering
-    ensures { result ≡ package_order one.now other.now }
+pub fn package_order(alloc: Global, one: &Package, other: &Package) -> Result<Ordering, AllocError>
+    ensures { IfOk result (λ order. order ≡ package_order one.now other.now) }
 {
-    one.name
+    let order = one
+        .name
         .cmp(&other.name)
-        .then(one.version.cmp(&other.version))
-        .then(cmp_sources(&one.source, &other.source))
+        .then(one.version.cmp(&other.version));
+    if order != Ordering::Equal {
+        return Ok(order);
+    }
+    let order = cmp_package_sources(alloc, &one.source, &other.source)?;
+    Ok(order)
 }
 
 // An absent source stands before a present one.
-fn cmp_sources(one: &Option<SourceId>, other: &Option<SourceId>) -> Ordering
-    ensures { result ≡ option_cmp source_order one.now other.now }
+fn cmp_package_sources(
+    alloc: Global,
+    one: &Option<SourceId>,
+    other: &Option<SourceId>,
+) -> Result<Ordering, AllocError>
+    ensures { IfOk result
+        (λ order. order ≡ option_cmp (by_kind_and_url canonical) one.now other.now) }
+{
+    match (one, other) {
+        (None, None) => Ok(Ordering::Equal),
+        (None, Some(_)) => Ok(Ordering::Less),
+        (Some(_), None) => Ok(Ordering::Greater),
+        (Some(one), Some(other)) => package_source_order(alloc, one, other),
+    }
+}
+
+// The order by kind, reference and canonical URL.
+fn package_source_order(
+    alloc: Global,
+    one: &SourceId,
+    other: &SourceId,
+) -> Result<Ordering, AllocError>
+    ensures { IfOk result (λ order. order ≡ by_kind_and_url canonical one.now other.now) }
+{
+    let order = kind_order(one.kind(), other.kind());
+    if order != Ordering::Equal {
+        return Ok(order);
+    }
+    let order = cmp_canonical(alloc, one.url(), other.url())?;
+    Ok(order)
+}
+
+// The order of URLs as Cargo compares those of packages.
+fn cmp_canonical(alloc: Global, one: &Url, other: &Url) -> Result<Ordering, AllocError>
+    ensures { IfOk result
+        (λ order. order ≡ text_cmp (canonical one.now) (canonical other.now)) }
+{
+    let one = canonical(alloc, one)?;
+    let other = canonical(alloc, other)?;
+    Ok(one.as_slice().cmp(other.as_slice()))
+}
+
+/// Compares dependencies of a package as Cargo does before it writes them: by name, by version, and
+/// by source, where one without a source comes first. Versions compare as texts, so `10.0.0` comes
+/// before `9.0.0`. Sources compare by kind, then by tag, branch or revision, and then by URL, as it
+/// is. Fails when out of memory.
+///
+/// ```
+/// let next = dependency_order(rt.alloc(), &one.dependencies[0], &one.dependencies[1])?;
+/// ```
+pub fn dependency_order(
+    alloc: Global,
+    one: &Dependency,
+    other: &Dependency,
+) -> Result<Ordering, AllocError>
+    ensures { IfOk result (λ order. order ≡ dependency_order one.now other.now) }
+{
+    let order = one.name.cmp(&other.name);
+    if order != Ordering::Equal {
+        return Ok(order);
+    }
+    let order = cmp_version_texts(alloc, &one.version, &other.version)?;
+    Ok(order.then(cmp_dependency_sources(&one.source, &other.source)))
+}
+
+// The order of versions as texts.
+fn cmp_version_texts(alloc: Global, one: &Version, other: &Version) -> Result<Ordering, AllocError>
+    ensures { IfOk result
+        (λ order. order ≡ text_cmp (parts_text (parts_of one.now))
+        (parts_text (parts_of other.now))) }
+{
+    let one = one.to_string(alloc)?;
+    let other = other.to_string(alloc)?;
+    Ok(one.as_str().cmp(other.as_str()))
+}
+
+// An absent source stands before a present one.
+fn cmp_dependency_sources(one: &Option<SourceId>, other: &Option<SourceId>) -> Ordering
+    ensures { result ≡ option_cmp (by_kind_and_url serialize) one.now other.now }
 {
     match (one, other) {
         (None, None) => Ordering::Equal,
         (None, Some(_)) => Ordering::Less,
         (Some(_), None) => Ordering::Greater,
-        (Some(one), Some(other)) => source_order(one, other),
+        (Some(one), Some(other)) => dependency_source_order(one, other),
     }
 }
 
 // The order by kind, reference and URL.
-fn source_order(one: &SourceId, other: &SourceId) -> Ordering
-    ensures { result ≡ source_order one.now other.now }
+fn dependency_source_order(one: &SourceId, other: &SourceId) -> Ordering
+    ensures { result ≡ by_kind_and_url serialize one.now other.now }
 {
-    let place = kind_place(one.kind());
-    let text = git_reference_text(one.kind());
-    place
-        .cmp(&kind_place(other.kind()))
-        .then(text.cmp(git_reference_text(other.kind())))
-        .then(one.url().cmp(other.url()))
+    kind_order(one.kind(), other.kind()).then(one.url().cmp(other.url()))
+}
+
+// The order by kind and reference.
+fn kind_order(one: &SourceKind, other: &SourceKind) -> Ordering
+    ensures { result ≡ kind_order (kind_of one.now) (kind_of other.now) }
+{
+    let text = git_reference_text(one);
+    kind_place(one)
+        .cmp(&kind_place(other))
+        .then(text.cmp(git_reference_text(other)))
 }
 
 // Where Cargo puts a kind.

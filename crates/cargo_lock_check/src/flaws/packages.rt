@@ -1,11 +1,11 @@
 //! Places of packages that are wrong by themselves.
 
-ghost use Rattle.std.specs.Prelude.{◌≡◌, ◌↔◌, ◌<◌, if◌then◌else◌, true, IfOk, IsTrue, OnOk, length};
+ghost use Rattle.std.specs.Prelude.{◌≡◌, ◌↔◌, ◌<◌, if◌then◌else◌, true, IfOk, IsTrue, OnOk, length, option_copied};
 ghost use Rattle.cargo_lock_parts.specs.Identity.{identity_of};
 ghost use Rattle.cargo_lock_graph.specs.Candidates.{identity_as_key};
-ghost use Rattle.cargo_lock_check.specs.Packages.{IsMisplaced, IsTwice, IsWithoutChecksum};
+ghost use Rattle.cargo_lock_check.specs.Packages.{IsMisplaced, IsTwice, IsUnchecked, IsWithoutChecksum, own_source};
 ghost use Rattle.cargo_lock_check.specs.Places.{IsPlaces};
-ghost use Rattle.cargo_lock_check.specs.Seen.{AreChecked, LacksChecksumAmong, has_source};
+ghost use Rattle.cargo_lock_check.specs.Seen.{AreChecked, LacksChecksumAmong, has_source, is_new};
 ghost use Rattle.cargo_lock_parts.specs.Source.{Source};
 ghost use Rattle.cargo_lock_parts.specs.SourceKey.{is_same_source};
 
@@ -112,6 +112,57 @@ fn lacks_checksum<'a>(sources: &BTreeSet<&'a SourceId>, package: &'a Package) ->
     }
 }
 
+/// The places of packages that are the first from their registry, where it is a registry on the
+/// network and no package from there has a checksum: one place for each such registry. A package
+/// that is replaced does not count. Fails when out of memory.
+///
+/// ```
+/// let has_lost_all = !unchecked_registries(rt.alloc(), &lockfile.packages)?.is_empty();
+/// ```
+pub fn unchecked_registries(alloc: Global, packages: &[Package]) -> Result<Vec<usize>, AllocError>
+    ensures { IfOk result
+        (λ places. IsPlaces (IsUnchecked packages.now) (length packages.now) places.items) }
+{
+    let checked = checked_sources(alloc, packages)?;
+    let mut seen = BTreeSet::new(alloc);
+    let mut places = Vec::new(alloc);
+    for (place, package) in packages.iter().enumerate() {
+        if let Some(source) = own_source(package) {
+            if see(&checked, &mut seen, source)? {
+                places.push(place)?;
+            }
+        }
+    }
+    Ok(places)
+}
+
+// The source of a package that is not replaced.
+fn own_source<'a>(package: &'a Package) -> Option<&'a SourceId>
+    ensures { option_copied result ≡ own_source «package».now }
+{
+    if package.replace.is_some() {
+        return None;
+    }
+    package.source.as_ref()
+}
+
+// Adds a source, and tells whether it is a registry on the network that is new.
+fn see<'a>(
+    checked: &BTreeSet<&'a SourceId>,
+    seen: &mut BTreeSet<&'a SourceId>,
+    source: &'a SourceId,
+) -> Result<bool, AllocError>
+    ensures is_new { IfOk result (λ found. found ≡ is_new checked.now seen.old source.now) }
+    ensures added { OnOk result ((s : Source) → has_source seen.new s
+        ≡ (if is_same_source source.now s then true else has_source seen.old s)) }
+{
+    let found = source.is_remote_registry()
+        && !checked.contains(&source)
+        && !seen.contains(&source);
+    add(seen, source)?;
+    Ok(found)
+}
+
 /// The places of packages that come after the next one in Cargo's order (see `package_order`), so
 /// none exactly where the list ascends. Fails when out of memory.
 ///
@@ -124,7 +175,7 @@ pub fn misplaced_packages(alloc: Global, packages: &[Package]) -> Result<Vec<usi
 {
     let mut places = Vec::new(alloc);
     for place in 0..packages.len() {
-        if is_misplaced(packages, place) {
+        if is_misplaced(alloc, packages, place)? {
             places.push(place)?;
         }
     }
@@ -132,12 +183,15 @@ pub fn misplaced_packages(alloc: Global, packages: &[Package]) -> Result<Vec<usi
 }
 
 // Whether the package at a place comes after the next one.
-fn is_misplaced(packages: &[Package], place: usize) -> bool
+fn is_misplaced(alloc: Global, packages: &[Package], place: usize) -> Result<bool, AllocError>
     requires { place < length packages.now }
-    ensures { IsTrue result ↔ IsMisplaced packages.now place }
+    ensures { IfOk result (λ found. IsTrue found ↔ IsMisplaced packages.now place) }
 {
     match packages.get(place + 1) {
-        Some(next) => package_order(&packages[place], next) == Ordering::Greater,
-        None => false,
+        Some(next) => {
+            let order = package_order(alloc, &packages[place], next)?;
+            Ok(order == Ordering::Greater)
+        }
+        None => Ok(false),
     }
 }

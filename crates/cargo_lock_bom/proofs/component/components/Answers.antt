@@ -1,11 +1,18 @@
-use Rattle.std.proofs.Common.{slice_get, sym, ap, ◌∙◌}
-use Rattle.serde_json.specs.View.{view}
-use Rattle.cargo_lock_bom.specs.Component.{component_of}
-use Rattle.cargo_lock_bom.proofs.Places.{next-made}
+use Rattle.std.proofs.Common.{◌≡◌, ◌<◌, ◌∙◌, All, List, ℕ, ap, length, map, subst, sym}
+use Rattle.cargo_lock_bom.specs.declared.root.Root.TheVariants.{Package}
+use Rattle.cargo_lock_bom.specs.Component.{component_at}
+use Rattle.cargo_lock_bom.proofs.Chosen.{places-within}
 use Rattle.cargo_lock_bom.proofs.component.components.Goals as goal
 
-pub loop-node-preserved : goal.loop-node-preserved
-loop-node-preserved c =
-    let packages = c.args.graph.now.packages in
-    next-made component_of view packages c.loop-node.made.items c.push.new.self.items c.loop-node.node c.index.result.now c.in_ok-component.field-0
-    (sym (c.index.ensures ∙ ap (slice_get packages) c.new.ensures)) c.loop-node.invariant c.in_ok-component.ensures c.in_ok-push.ensures.items
+pub components_of-requires : goal.components_of-requires
+components_of-requires c =
+    let n : ℕ = length c.args.graph.now.packages in
+    subst (λ (ks : List ℕ). All (λ k. k < n) ks) (sym c.deref.ensures.value)
+    (places-within (λ k. ¬ (c.args.root.now ≡ Package k)) n c.in_ok-nodes.nodes.items c.in_ok-nodes.ensures)
+
+pub returns : goal.returns
+returns c = record {
+  nodes = c.in_ok-nodes.nodes.items;
+  are_others = c.in_ok-nodes.ensures;
+  are = c.in_ok-made.ensures ∙ ap (map (component_at c.args.graph.now)) c.deref.ensures.value;
+}

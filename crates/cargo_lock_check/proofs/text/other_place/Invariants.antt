@@ -1,7 +1,7 @@
 use Rattle.std.proofs.Common.{◌≡◌, ◌<◌, ℕ}
-use Rattle.cargo_lock_check.specs.Text.{line_at}
+use Rattle.cargo_lock_check.specs.Text.{compared_at}
 use Rattle.cargo_lock_check.specs.TextReferences.{texts_at}
 use Rattle.cargo_lock_check.proofs.text.other_place.Given as goal
 
 abbrev pub invariant-loop-place : goal.invariant-loop-place
-invariant-loop-place l = (k : ℕ) → k < l.place → line_at (texts_at l.written) k ≡ line_at (texts_at l.wanted) k
+invariant-loop-place l = (k : ℕ) → k < l.place → compared_at (texts_at l.written) k ≡ compared_at (texts_at l.wanted) k

@@ -1,7 +1,6 @@
 use Rattle.std.proofs.Common.{map, take}
 use Rattle.std.specs.Io.KnownBytes.{Appends}
-use Rattle.cargo_lock_check.specs.Finding.{finding_of}
-use Rattle.cli.specs.Check.{lines_text}
+use Rattle.cargo_lock_check.specs.Finding.{finding_of, lines_text}
 use Rattle.cli.proofs.check.print_findings.Given as goal
 
 abbrev pub invariant-loop-finding : goal.invariant-loop-finding

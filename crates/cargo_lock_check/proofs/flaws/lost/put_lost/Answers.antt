@@ -3,7 +3,9 @@ use Rattle.std.proofs.lemmas.Bool.{false≢true}
 use Rattle.std.proofs.lemmas.Option.{slice_get_read}
 use Rattle.cargo_lock_parts.specs.Identity.{Identity, PackageData}
 use Rattle.cargo_lock_graph.specs.Targets.{IsLost}
-use Rattle.cargo_lock_check.proofs.LostPlaces.{lost-there, lost-put, lost-pass, lost-next}
+use Rattle.cargo_lock_check.specs.Dependencies.{HoldsOfDependency}
+use Rattle.cargo_lock_check.specs.Lost.{IsLostAt}
+use Rattle.cargo_lock_check.proofs.DependencyPlaces.{next-package, of-dependency, pass, put, there}
 use Rattle.cargo_lock_check.proofs.flaws.lost.put_lost.Goals as goal
 use Rattle.cargo_lock_check.proofs.flaws.lost.put_lost.Goals.{then-branch+in_ok-push, else-branch}
 
@@ -16,15 +18,17 @@ loop-at-preserved c =
     let ds : List Identity = c.deref-dependency-items.result.now in
     let whole : ds ≡ p.dependencies = c.deref-dependency-items.ensures.value ∙ ap (λ (q : PackageData). q.dependencies) c.«package».view_is in
     let d : Identity = c.dependency-item.result in
-    let there : slice_get p.dependencies at ≡ Some d =
+    let here : slice_get p.dependencies at ≡ Some d =
     subst (λ (es : List Identity). slice_get es at ≡ Some d) whole (slice_get_read ds (length ds) at d refl c.loop-at-test.true c.dependency-item.is) in
     elim c.if-branch.branch [
       | then-branch+in_ok-push w ↦
           let lost = c.in_ok-is_lost.ensures.0 w.if-branch.true in
-          rw w.lost-is (lost-put packages place at c.loop-at.lost.items w.push.new.self.items c.loop-at.invariant (p, c.requires.«package», (d, there, lost)) w.in_ok-push.ensures.items)
+          rw w.lost-is (put (IsLostAt packages) place at c.loop-at.lost.items w.push.new.self.items c.loop-at.invariant (p, c.requires.«package», (d, here, lost)) w.in_ok-push.ensures.items)
       | else-branch w ↦
-          let found : ¬ IsLost packages d = λ lost. false≢true (sym w.if-branch.false ∙ c.in_ok-is_lost.ensures.1 lost) in
-          rw w.lost-is (lost-pass packages place at c.loop-at.lost.items c.loop-at.invariant (λ lost. found (lost-there packages place at p d c.requires.«package» there lost)))
+          rw w.lost-is (pass (IsLostAt packages) place at c.loop-at.lost.items c.loop-at.invariant
+          (λ lost. false≢true (sym w.if-branch.false ∙ c.in_ok-is_lost.ensures.1
+          ((of-dependency (IsLost packages) p.dependencies at d here).0
+          ((there (HoldsOfDependency (IsLost packages)) packages place at p c.requires.«package»).0 lost)))))
     ]
 
 pub returns : goal.returns
@@ -35,4 +39,4 @@ returns c =
     let whole : ds ≡ p.dependencies = c.deref-dependency-items.ensures.value ∙ ap (λ (q : PackageData). q.dependencies) c.«package».view_is in
     let past = c.loop-at-test.false in
     let long = ap length whole in
-    lost-next packages c.args.place c.loop-at.at p c.loop-at.lost.items c.requires.«package» (omega (arith, past, long)) c.loop-at.invariant
+    next-package (λ d ds j. IsLost packages d) packages c.args.place c.loop-at.at p c.loop-at.lost.items c.requires.«package» (omega (arith, past, long)) c.loop-at.invariant

@@ -1,5 +1,6 @@
-use Rattle.cargo_lock_check.specs.Lost.{AreLostBefore}
+use Rattle.cargo_lock_check.specs.Dependencies.{AreDependenciesBefore}
+use Rattle.cargo_lock_check.specs.Lost.{IsLostAt}
 use Rattle.cargo_lock_check.proofs.flaws.lost.put_lost.Given as goal
 
 abbrev pub invariant-loop-at : goal.invariant-loop-at
-invariant-loop-at l = AreLostBefore l.versions l.place l.at l.lost.items
+invariant-loop-at l = AreDependenciesBefore (IsLostAt l.versions) l.place l.at l.lost.items

@@ -1,7 +1,0 @@
-use Rattle.std.proofs.Common.{◌≡◌, map, take}
-use Rattle.serde_json.specs.View.{view}
-use Rattle.cargo_lock_bom.specs.Component.{component_of}
-use Rattle.cargo_lock_bom.proofs.component.components.Given as goal
-
-abbrev pub invariant-loop-node : goal.invariant-loop-node
-invariant-loop-node l = map view l.made.items ≡ map component_of (take l.node l.graph.packages)

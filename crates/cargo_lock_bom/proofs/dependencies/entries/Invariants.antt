@@ -1,8 +1,0 @@
-use Rattle.std.proofs.Common.{map}
-use Rattle.std.specs.List.{AllZip, range_with_len}
-use Rattle.serde_json.specs.View.{view}
-use Rattle.cargo_lock_bom.specs.Dependencies.{IsEntry}
-use Rattle.cargo_lock_bom.proofs.dependencies.entries.Given as goal
-
-abbrev pub invariant-loop-node : goal.invariant-loop-node
-invariant-loop-node l = AllZip (IsEntry l.graph) (range_with_len 0 l.node) (map view l.made.items)

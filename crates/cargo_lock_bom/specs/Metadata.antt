@@ -1,0 +1,66 @@
+-- What a bill says of itself.
+use Rattle.std.specs.Prelude.{◌≡◌, ℕ, ◌*◌, false, List, ◌++◌, codes, pos, Option, Some, None}
+use Rattle.std.specs.Prelude.{option_map}
+use Rattle.jiff_core.specs.declared.civil.datetime.DateTime.{DateTime}
+use Rattle.jiff_core.specs.DateTime.{civil_nanos}
+use Rattle.jiff_fmt.specs.Text.{datetime_text}
+use Rattle.serde_json.specs.Data.{Data, Members, string, array, object, item, no_items, member}
+use Rattle.serde_json.specs.Data.{no_members}
+use Rattle.cargo_lock_graph.specs.Edges.{GraphData}
+use Rattle.cargo_lock_bom.specs.declared.root.Root.{Root}
+use Rattle.cargo_lock_bom.specs.Component.{put_some, root_component}
+use Rattle.cargo_lock_bom.specs.Options.{OptionsData}
+
+-- ---- the time
+
+-- the text of the time that many seconds after 1970 began, in UTC, as RFC 3339 has it:
+-- `2024-06-19T17:30:05Z`
+pub record IsTimeText (seconds : ℕ) (text : List ℕ) : Type 0 where
+  pub moment : DateTime
+  pub is_moment : civil_nanos moment ≡ pos (seconds * 1_000_000_000)
+  pub is : text ≡ datetime_text false 84 None moment ++ codes "Z"
+
+-- the text of a time, if there is one
+abbrev pub IsTimeTextIf : Option ℕ → Option (List ℕ) → Type 0
+IsTimeTextIf None text = text ≡ None
+IsTimeTextIf (Some seconds) text = (t : List ℕ) × IsTimeText seconds t × (text ≡ Some t)
+
+-- ---- the metadata
+
+-- the list of the one author
+abbrev pub authors_of : List ℕ → Data
+authors_of author =
+    array (item (object (member (codes "name") (string author) no_members)) no_items)
+
+-- the bill is made from a lockfile, before anything is built
+abbrev pub lifecycles : Data
+lifecycles =
+    array (item (object (member (codes "phase") (string (codes "pre-build")) no_members)) no_items)
+
+-- the program that wrote the bill, in this version
+abbrev pub tools_of : List ℕ → Data
+tools_of version = object
+    (member (codes "components") (array (item (object
+    (member (codes "name") (string (codes "cargo-lock"))
+    (member (codes "type") (string (codes "application"))
+    (member (codes "version") (string version) no_members)))) no_items))
+    no_members)
+
+-- the members that each bill has
+abbrev pub own_members : List ℕ → Members
+own_members version = member (codes "lifecycles") lifecycles
+    (member (codes "tools") (tools_of version) no_members)
+
+-- these, and the author, the component of the root and the time, where there are such
+unfoldable pub metadata_of : List ℕ → Option (List ℕ) → Option Data → Option (List ℕ) → Data
+metadata_of version author component time = object
+    (put_some (codes "timestamp") (option_map string time)
+    (put_some (codes "component") component
+    (put_some (codes "authors") (option_map authors_of author) (own_members version))))
+
+-- what the bill of a graph with this root says of itself
+pub record IsMetadata (graph : GraphData) (root : Root) (options : OptionsData) (d : Data)
+    : Type 0 where
+  pub time : Option (List ℕ)
+  pub is_time : IsTimeTextIf options.timestamp time
+  pub is : d ≡ metadata_of options.tool_version options.author (root_component graph root) time

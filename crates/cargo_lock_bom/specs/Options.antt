@@ -1,0 +1,26 @@
+-- What a caller says of a bill.
+use Rattle.std.specs.Prelude.{ℕ, Bool, List, length, nat_lt, Option, Some, None, if◌then◌else◌}
+use Rattle.cargo_lock_graph.specs.Edges.{GraphData}
+
+-- the node of the root, if it is given, the version of the program that writes the bill, the time
+-- in seconds since 1970, if the bill says one, its author, if it names one, and whether it has a
+-- serial number
+pub record OptionsData : Type 0 where
+  pub root : Option ℕ
+  pub tool_version : List ℕ
+  pub timestamp : Option ℕ
+  pub author : Option (List ℕ)
+  pub has_serial : Bool
+
+-- the number, if there is one and it is below the limit
+abbrev pub below : ℕ → Option ℕ → Option ℕ
+below limit None = None
+below limit (Some n) = if nat_lt n limit then Some n else None
+
+-- what counts of what a caller says of the bill of a graph: all but a root that is no node, and a
+-- time after the year 9999, which the format cannot say
+abbrev pub within : GraphData → OptionsData → OptionsData
+within graph o = record o {
+  root = below (length graph.packages) o.root;
+  timestamp = below 253_402_300_800 o.timestamp;
+}

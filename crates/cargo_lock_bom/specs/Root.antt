@@ -1,0 +1,76 @@
+-- What a bill is about: one package, the packages of the workspace together, or nothing.
+use Rattle.std.specs.Prelude.{◌≡◌, ℕ, Bool, true, false, not, ◌&&◌, ◌==◌, ◌↔◌, List, Option, Some}
+use Rattle.std.specs.Prelude.{◌<◌, None, is_none, length, slice_get}
+use Rattle.std.specs.List.{list_any}
+use Rattle.cargo_lock_parts.specs.Identity.{PackageData}
+use Rattle.cargo_lock_graph.specs.declared.graph.EdgeDirection.TheVariants.{Incoming, Outgoing}
+use Rattle.cargo_lock_graph.specs.Edges.{Edge, GraphData, far_ends}
+use Rattle.cargo_lock_graph.specs.Paths.{IsReachable}
+use Rattle.cargo_lock_bom.specs.declared.root.Root.{Root}
+use Rattle.cargo_lock_bom.specs.declared.root.Root.TheVariants.{Package, Workspace, Nothing}
+
+-- there is a package, and it has no source
+abbrev pub lacks_source : Option PackageData → Bool
+lacks_source None = false
+lacks_source (Some p) = is_none p.source
+
+-- the package of the node is one of the workspace: it has no source
+abbrev pub is_member : List PackageData → ℕ → Bool
+is_member packages node = lacks_source (slice_get packages node)
+
+-- an edge leads to the node from another one
+abbrev pub is_needed : List Edge → ℕ → Bool
+is_needed edges node = list_any (λ other. not (other == node)) (far_ends Incoming edges node)
+
+-- the package is one of the workspace, and no other package needs it
+abbrev pub is_application : GraphData → ℕ → Bool
+is_application graph node = is_member graph.packages node && not (is_needed graph.edges node)
+
+-- edges lead from one node to the other, over any number of nodes between them
+abbrev pub LeadsTo : GraphData → ℕ → ℕ → Type 0
+LeadsTo graph a b = IsReachable (far_ends Outgoing graph.edges) a b
+
+-- edges lead from the node to each package of the workspace
+abbrev pub LeadsToMembers : GraphData → ℕ → Type 0
+LeadsToMembers graph node = (k : ℕ) → is_member graph.packages k ≡ true → LeadsTo graph node k
+
+-- the package of the workspace that no other package needs, and that leads to each of the workspace
+pub record IsTop (graph : GraphData) (node : ℕ) : Type 0 where
+  pub application : is_application graph node ≡ true
+  pub leads : LeadsToMembers graph node
+
+-- The root of the bill of a graph: the node that the caller gave, or else the top of the workspace,
+-- or else all packages of the workspace, or else, without any, nothing.
+abbrev pub IsRootOf : GraphData → Option ℕ → Root → Type 0
+IsRootOf graph (Some node) root = root ≡ Package node
+IsRootOf graph None (Package node) = IsTop graph node
+IsRootOf graph None Workspace = ((k : ℕ) → ¬ IsTop graph k)
+    × ((k : ℕ) × (is_member graph.packages k ≡ true))
+IsRootOf graph None Nothing = (k : ℕ) → is_member graph.packages k ≡ false
+
+-- ---- what the root leads to
+
+-- some package of the workspace leads to the node, so the package of the node is no orphan
+abbrev pub IsReached : GraphData → ℕ → Type 0
+IsReached graph node = (m : ℕ) × (is_member graph.packages m ≡ true) × LeadsTo graph m node
+
+-- the root leads to the node: that of the workspace has edges to each package of the workspace
+abbrev pub IsBelow : GraphData → Root → ℕ → Type 0
+IsBelow graph (Package root) node = LeadsTo graph root node
+IsBelow graph Workspace node = IsReached graph node
+IsBelow graph Nothing node = ⊥
+
+-- where the caller gives no root, that of the bill leads to exactly the packages that are no
+-- orphans
+abbrev pub LeadsToAllButOrphans : GraphData → Root → Type 0
+LeadsToAllButOrphans graph root = (k : ℕ) → IsBelow graph root k ↔ IsReached graph k
+
+-- there is at most one top
+abbrev pub TopIsOne : Type 0
+TopIsOne = (graph : GraphData) (a b : ℕ) → IsTop graph a → IsTop graph b → a ≡ b
+
+-- the root is no node beyond the packages
+abbrev pub IsWithin : List PackageData → Root → Type 0
+IsWithin packages (Package node) = node < length packages
+IsWithin packages Workspace = Unit {0}
+IsWithin packages Nothing = Unit {0}

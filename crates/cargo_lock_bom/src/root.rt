@@ -1,0 +1,225 @@
+//! What a bill of materials is about.
+
+ghost use Rattle.std.specs.Prelude.{◌≡◌, ◌<◌, ◌↔◌, ℕ, true, IfOk, IfSome, IsTrue};
+ghost use Rattle.std.specs.Prelude.{MatchOption, None, length};
+ghost use Rattle.cargo_lock_graph.specs.declared.graph.EdgeDirection.TheVariants.{Incoming};
+ghost use Rattle.cargo_lock_graph.specs.Edges.{far_ends};
+ghost use Rattle.cargo_lock_bom.specs.declared.root.Root.TheVariants.{Package};
+ghost use Rattle.cargo_lock_bom.specs.Places.{IsPlaces};
+ghost use Rattle.cargo_lock_bom.specs.Root.{IsRootOf, IsTop, LeadsToAllButOrphans, LeadsToMembers};
+ghost use Rattle.cargo_lock_bom.specs.Root.{IsWithin, is_member};
+ghost use Rattle.cargo_lock_bom.specs.Root as spec;
+ghost use Rattle.cargo_lock_bom.specs.Search.{HaveMarks};
+
+use crate::reach::reached_from;
+use cargo_lock_graph::graph::{EdgeDirection, Graph, NodeIndex};
+use std::alloc::{AllocError, Global};
+
+/// What a bill of materials is about.
+#[derive(Clone, Copy, Debug, PartialEq, Eq)]
+pub enum Root {
+    /// The package of a node.
+    Package(NodeIndex),
+
+    /// The packages without a source together, where none of them leads to the others.
+    Workspace,
+
+    /// Nothing, where each package has a source.
+    Nothing,
+}
+
+impl Root {
+    // Whether the root is the package of a node.
+    fn is_package(&self, node: NodeIndex) -> bool
+        ensures { IsTrue result ↔ (self.now ≡ Package node) }
+    {
+        match self {
+            Root::Package(own) => *own == node,
+            Root::Workspace => false,
+            Root::Nothing => false,
+        }
+    }
+}
+
+/// What the bill of a graph is about: the package of the node that is given, if one is. Else it is
+/// the one package without a source that no other package needs and that leads to each package
+/// without a source. Where there is no such package, it is all of those without a source together,
+/// and where each package has a source, nothing.
+///
+/// A caller gives the node that its user names, or that of a root which the lockfile itself has, as
+/// one of format V1. Where none is given, the root leads to exactly the packages to which some
+/// package without a source leads. Fails when out of memory.
+pub fn root_of(alloc: Global, graph: &Graph, given: Option<NodeIndex>) -> Result<Root, AllocError>
+    requires { IfSome given (λ node. node < length graph.now.packages) }
+    ensures within { IfOk result (IsWithin graph.now.packages) }
+    ensures root { IfOk result (IsRootOf graph.now given) }
+    ensures reaches { given ≡ None → IfOk result (LeadsToAllButOrphans graph.now) }
+{
+    match given {
+        Some(node) => Ok(Root::Package(node)),
+        None => own_root(alloc, graph),
+    }
+}
+
+// The root where none is given.
+fn own_root(alloc: Global, graph: &Graph) -> Result<Root, AllocError>
+    ensures within { IfOk result (IsWithin graph.now.packages) }
+    ensures root { IfOk result (IsRootOf graph.now None) }
+    ensures reaches { IfOk result (LeadsToAllButOrphans graph.now) }
+{
+    match top(alloc, graph)? {
+        Some(node) => Ok(Root::Package(node)),
+        None => Ok(root_without_top(graph)),
+    }
+}
+
+// The root where no package leads to all of the workspace.
+fn root_without_top(graph: &Graph) -> Root
+    requires { (k : ℕ) → ¬ IsTop graph.now k }
+    ensures within { IsWithin graph.now.packages result }
+    ensures root { IsRootOf graph.now None result }
+    ensures reaches { LeadsToAllButOrphans graph.now result }
+{
+    match first_member(graph) {
+        Some(_) => Root::Workspace,
+        None => Root::Nothing,
+    }
+}
+
+// The first package of the workspace.
+fn first_member(graph: &Graph) -> Option<NodeIndex>
+    ensures { MatchOption result
+        ((k : ℕ) → ¬ (is_member graph.now.packages k ≡ true))
+        (λ node. is_member graph.now.packages node ≡ true) }
+{
+    for node in 0..graph.node_count() {
+        if is_member(graph, NodeIndex::new(node)) {
+            return Some(NodeIndex::new(node));
+        }
+    }
+    None
+}
+
+// The package of the workspace that leads to each of it and that no other needs.
+fn top(alloc: Global, graph: &Graph) -> Result<Option<NodeIndex>, AllocError>
+    ensures { IfOk result (λ found.
+        MatchOption found ((k : ℕ) → ¬ IsTop graph.now k) (IsTop graph.now)) }
+{
+    match first_application(alloc, graph)? {
+        Some(node) => {
+            if leads_to_members(alloc, graph, node)? {
+                Ok(Some(node))
+            } else {
+                Ok(None)
+            }
+        }
+        None => Ok(None),
+    }
+}
+
+// The first package of the workspace that no other package needs.
+fn first_application(alloc: Global, graph: &Graph) -> Result<Option<NodeIndex>, AllocError>
+    ensures { IfOk result (λ found. MatchOption found
+        ((k : ℕ) → ¬ (spec.is_application graph.now k ≡ true))
+        (λ node. spec.is_application graph.now node ≡ true)) }
+{
+    for node in 0..graph.node_count() {
+        if is_application(alloc, graph, NodeIndex::new(node))? {
+            return Ok(Some(NodeIndex::new(node)));
+        }
+    }
+    Ok(None)
+}
+
+// Whether a node leads to each package of the workspace.
+fn leads_to_members(alloc: Global, graph: &Graph, node: NodeIndex) -> Result<bool, AllocError>
+    requires { node < length graph.now.packages }
+    ensures { IfOk result (λ all. IsTrue all ↔ LeadsToMembers graph.now node) }
+{
+    let reached = reached_from(alloc, graph, node)?;
+    Ok(have_marks(graph, &reached))
+}
+
+// Whether each package of the workspace has a mark.
+fn have_marks(graph: &Graph, marks: &[bool]) -> bool
+    requires { length marks.now ≡ length graph.now.packages }
+    ensures { IsTrue result ↔ HaveMarks graph.now.packages marks.now }
+{
+    for (node, mark) in marks.iter().enumerate() {
+        if !*mark && is_member(graph, NodeIndex::new(node)) {
+            return false;
+        }
+    }
+    true
+}
+
+/// Whether a package is one of the workspace, and no other package needs it. Fails when out of
+/// memory.
+pub(crate) fn is_application(
+    alloc: Global,
+    graph: &Graph,
+    node: NodeIndex,
+) -> Result<bool, AllocError>
+    ensures { IfOk result (λ is. is ≡ spec.is_application graph.now node) }
+{
+    let needed = is_needed(alloc, graph, node)?;
+    Ok(is_member(graph, node) && !needed)
+}
+
+// Whether an edge leads to a node from another one.
+fn is_needed(alloc: Global, graph: &Graph, node: NodeIndex) -> Result<bool, AllocError>
+    ensures { IfOk result (λ is. is ≡ spec.is_needed graph.now.edges node) }
+{
+    let sources = sources(alloc, graph, node)?;
+    let own = node.index();
+    Ok(sources.iter().any(|other| *other != own))
+}
+
+// The nodes from which edges lead to a node, newest edge first.
+fn sources(alloc: Global, graph: &Graph, node: NodeIndex) -> Result<Vec<usize>, AllocError>
+    ensures { IfOk result (λ sources. sources.items ≡ far_ends Incoming graph.now.edges node) }
+{
+    graph
+        .edges_directed(node, EdgeDirection::Incoming)
+        .map(|edge| edge.source().index())
+        .collect(alloc)
+}
+
+/// Whether a package is one of the workspace: it has no source.
+pub(crate) fn is_member(graph: &Graph, node: NodeIndex) -> bool
+    ensures { result ≡ spec.is_member graph.now.packages node }
+{
+    match graph.node_weight(node) {
+        Some(package) => package.source.is_none(),
+        None => false,
+    }
+}
+
+/// The nodes of the packages of the workspace, ascending. Fails when out of memory.
+pub(crate) fn members(alloc: Global, graph: &Graph) -> Result<Vec<usize>, AllocError>
+    ensures { IfOk result (λ members. IsPlaces
+        (λ k. spec.is_member graph.now.packages k ≡ true)
+        (length graph.now.packages) members.items) }
+{
+    let mut members = Vec::new(alloc);
+    for node in 0..graph.node_count() {
+        if is_member(graph, NodeIndex::new(node)) {
+            members.push(node)?;
+        }
+    }
+    Ok(members)
+}
+
+/// The nodes of the packages that are not the root, ascending. Fails when out of memory.
+pub(crate) fn others(alloc: Global, graph: &Graph, root: &Root) -> Result<Vec<usize>, AllocError>
+    ensures { IfOk result (λ nodes. IsPlaces
+        (λ k. ¬ (root.now ≡ Package k)) (length graph.now.packages) nodes.items) }
+{
+    let mut nodes = Vec::new(alloc);
+    for node in 0..graph.node_count() {
+        if !root.is_package(NodeIndex::new(node)) {
+            nodes.push(node)?;
+        }
+    }
+    Ok(nodes)
+}

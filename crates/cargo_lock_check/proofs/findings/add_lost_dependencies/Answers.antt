@@ -1,8 +1,0 @@
-use Rattle.cargo_lock_check.specs.Findings.{lost_at}
-use Rattle.cargo_lock_check.proofs.Told.{told-more}
-use Rattle.cargo_lock_check.proofs.findings.add_lost_dependencies.Goals as goal
-
-pub loop-place-preserved : goal.loop-place-preserved
-loop-place-preserved c =
-    told-more (lost_at c.args.packages.now) c.args.places.now c.loop-place.place-index _ _ _ _ _ c.loop-place-test.true
-    c.loop-place.invariant c.in_ok-add_some.ensures c.lost_dependency.ensures

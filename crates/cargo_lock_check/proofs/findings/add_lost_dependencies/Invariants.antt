@@ -1,8 +1,0 @@
-use Rattle.std.proofs.Common.{◌≡◌, ◌++◌, map, take}
-use Rattle.std.specs.List.{filter_map}
-use Rattle.cargo_lock_check.specs.Finding.{finding_of}
-use Rattle.cargo_lock_check.specs.Findings.{lost_at}
-use Rattle.cargo_lock_check.proofs.findings.add_lost_dependencies.Given as goal
-
-abbrev pub invariant-loop-place : goal.invariant-loop-place
-invariant-loop-place l = map finding_of l.all.items ≡ map finding_of l.fn.all.items ++ filter_map (lost_at l.packages) (take l.place-index l.places)

@@ -1,0 +1,55 @@
+-- Dependencies of packages, by the place of the package and their own among its dependencies.
+use Rattle.std.specs.Prelude.{◌≡◌, ◌<◌, ◌⊎◌, ◌↔◌, ℕ, suc, List, Some, slice_get}
+use Rattle.std.specs.List.{AllPairs, Contains}
+use Rattle.std.specs.declared.cmp.Ordering.TheVariants.{Greater}
+use Rattle.cargo_lock_parts.specs.Identity.{Identity, PackageData, identity_key}
+use Rattle.cargo_lock_graph.specs.Targets.{HoldsOf}
+use Rattle.cargo_lock_check.specs.Order.{dependency_order}
+
+-- P holds of the dependency at the place
+abbrev pub HoldsOfDependency : (Identity → Type 0) → List Identity → ℕ → Type 0
+HoldsOfDependency P dependencies at = (d : Identity) × (slice_get dependencies at ≡ Some d) × P d
+
+-- P holds of the dependencies of the package at the place `place`, and of the place `at` of these
+abbrev pub HoldsAt : (List Identity → ℕ → Type 0) → List PackageData → ℕ → ℕ → Type 0
+HoldsAt P packages place at = HoldsOf (λ p. P p.dependencies at) packages place
+
+-- the dependency of an earlier package, or an earlier one of the same package
+abbrev pub IsBefore : ℕ × ℕ → ℕ × ℕ → Type 0
+IsBefore x y = (x.0 < y.0) ⊎ ((x.0 ≡ y.0) × (x.1 < y.1))
+
+-- the dependencies of which P holds, in order, each as the place of its package and its own there
+pub record AreDependencies (P : ℕ → ℕ → Type 0) (places : List (ℕ × ℕ)) : Type 0 where
+  pub ascending : AllPairs IsBefore places
+  pub told : (place at : ℕ) → Contains places (place, at) ↔ P place at
+
+-- those of them that stand before a place of a package and a place of its dependencies
+pub record AreDependenciesBefore (P : ℕ → ℕ → Type 0) (place at : ℕ) (places : List (ℕ × ℕ)) : Type 0
+  where
+    pub ascending : AllPairs IsBefore places
+    pub told : (k j : ℕ) → Contains places (k, j) ↔ (IsBefore (k, j) (place, at) × P k j)
+
+-- the dependency at the place comes after the one at the next place in Cargo's order
+abbrev pub IsAfterNext : List Identity → ℕ → Type 0
+IsAfterNext dependencies at = HoldsOfDependency
+    (λ d. HoldsOfDependency (λ next. dependency_order d next ≡ Greater) dependencies (suc at))
+    dependencies at
+
+-- the package at the place `place` lists the dependency at the place `at` before the next one,
+-- though it comes after that one in Cargo's order
+abbrev pub IsMisplacedAt : List PackageData → ℕ → ℕ → Type 0
+IsMisplacedAt = HoldsAt IsAfterNext
+
+-- the dependencies are the same: they have one name, one version and sources of one key
+abbrev pub IsSameDependency : Identity → Identity → Type 0
+IsSameDependency d other = identity_key other ≡ identity_key d
+
+-- the dependency at the place stands at an earlier place too
+abbrev pub IsListedBefore : List Identity → ℕ → Type 0
+IsListedBefore dependencies at = HoldsOfDependency
+    (λ d. (j : ℕ) × (j < at) × HoldsOfDependency (IsSameDependency d) dependencies j)
+    dependencies at
+
+-- the package at the place `place` lists the dependency at the place `at` once more
+abbrev pub IsRepeatedAt : List PackageData → ℕ → ℕ → Type 0
+IsRepeatedAt = HoldsAt IsListedBefore

@@ -1,0 +1,249 @@
+//! What is found in the checksums, and what is asked only where the format loses no source.
+
+ghost use Rattle.std.specs.Prelude.{◌≡◌, ◌↔◌, [], None, true, IfOk, IsOkUnless, IsTrue, length, map, string_bytes};
+ghost use Rattle.cargo_lock_parts.specs.declared.error.Error.TheVariants.{Memory};
+ghost use Rattle.cargo_lock_encoding.specs.Survives.{Survives};
+ghost use Rattle.cargo_lock.specs.CargoChecksums.{with_cargo_checksums_in};
+ghost use Rattle.cargo_lock_check.specs.Findings.{AreLossy, AreOrphans, IsAskedUnless, IsOtherLine, checked_packages};
+ghost use Rattle.cargo_lock_check.specs.Lost.{AreLost};
+ghost use Rattle.cargo_lock_check.specs.Packages.{IsUnchecked, IsWithoutChecksum};
+ghost use Rattle.cargo_lock_check.specs.Places.{IsPlaces};
+ghost use Rattle.cargo_lock_check.specs.Stale.{stale_keys};
+
+use crate::flaws::{
+    lost_dependencies, orphans, packages_without_checksum, stale_keys, unchecked_registries,
+};
+use crate::text::{OtherLine, first_other_line};
+use cargo_lock::Lockfile;
+use cargo_lock_parts::error::Result;
+use cargo_lock_references::{MetadataKey, ResolveVersion};
+use std::alloc::{AllocError, Global};
+
+/// What is wrong with the checksums.
+#[derive(Drop)]
+pub(crate) struct ChecksumFindings {
+    pub(crate) without_checksum: Vec<usize>,
+    pub(crate) unchecked: Vec<usize>,
+    pub(crate) stale: Vec<MetadataKey>,
+}
+
+impl ChecksumFindings {
+    // Those of a lockfile, and of the same with the checksums that Cargo reads.
+    fn of(alloc: Global, lockfile: &Lockfile, checked: &Lockfile) -> Result<ChecksumFindings>
+        requires { checked.now ≡ with_cargo_checksums_in lockfile.now }
+        ensures without_checksum { IfOk result
+            (λ f. IsPlaces (IsWithoutChecksum (checked_packages lockfile.now))
+            (length lockfile.now.packages) f.without_checksum.items) }
+        ensures unchecked { IfOk result
+            (λ f. IsPlaces (IsUnchecked (checked_packages lockfile.now))
+            (length lockfile.now.packages) f.unchecked.items) }
+        ensures stale { IfOk result (λ f. f.stale.items
+            ≡ stale_keys lockfile.now.metadata lockfile.now.packages) }
+        ensures err { IsOkUnless result Memory }
+    {
+        Ok(ChecksumFindings {
+            without_checksum: without_checksum(alloc, lockfile, checked)?,
+            unchecked: unchecked(alloc, lockfile, checked)?,
+            stale: stale_keys(alloc, &lockfile.metadata, &lockfile.packages)?,
+        })
+    }
+}
+
+// The packages without a checksum, by the checksums that Cargo reads.
+fn without_checksum(
+    alloc: Global,
+    lockfile: &Lockfile,
+    checked: &Lockfile,
+) -> std::result::Result<Vec<usize>, AllocError>
+    requires { checked.now ≡ with_cargo_checksums_in lockfile.now }
+    ensures { IfOk result
+        (λ places. IsPlaces (IsWithoutChecksum (checked_packages lockfile.now))
+        (length lockfile.now.packages) places.items) }
+{
+    packages_without_checksum(alloc, &checked.packages)
+}
+
+// The first packages from registries without checksums, by the checksums that Cargo reads.
+fn unchecked(
+    alloc: Global,
+    lockfile: &Lockfile,
+    checked: &Lockfile,
+) -> std::result::Result<Vec<usize>, AllocError>
+    requires { checked.now ≡ with_cargo_checksums_in lockfile.now }
+    ensures { IfOk result
+        (λ places. IsPlaces (IsUnchecked (checked_packages lockfile.now))
+        (length lockfile.now.packages) places.items) }
+{
+    unchecked_registries(alloc, &checked.packages)
+}
+
+// The lockfile with the checksums that Cargo reads.
+fn checked_lockfile(alloc: Global, lockfile: &Lockfile) -> Result<Lockfile>
+    ensures ok { IfOk result (λ checked. checked ≡ with_cargo_checksums_in lockfile.now) }
+    ensures err { IsOkUnless result Memory }
+{
+    let checked = lockfile.clone()?.with_cargo_checksums(alloc)?;
+    Ok(checked)
+}
+
+/// What is wrong with the checksums, the sources that the format loses, and what is asked only where
+/// there are none of these.
+#[derive(Drop)]
+pub(crate) struct TextFindings {
+    pub(crate) checksums: ChecksumFindings,
+    pub(crate) lossy: Vec<String>,
+    pub(crate) asked: AskedFindings,
+}
+
+impl TextFindings {
+    /// Those of a text and its lockfile.
+    pub(crate) fn of(alloc: Global, text: &str, lockfile: &Lockfile) -> Result<TextFindings>
+        ensures without_checksum { IfOk result
+            (λ f. IsPlaces (IsWithoutChecksum (checked_packages lockfile.now))
+            (length lockfile.now.packages) f.checksums.without_checksum.items) }
+        ensures unchecked { IfOk result
+            (λ f. IsPlaces (IsUnchecked (checked_packages lockfile.now))
+            (length lockfile.now.packages) f.checksums.unchecked.items) }
+        ensures stale { IfOk result (λ f. f.checksums.stale.items
+            ≡ stale_keys lockfile.now.metadata lockfile.now.packages) }
+        ensures lossy { IfOk result (λ f.
+            AreLossy lockfile.now.version text.now (map string_bytes f.lossy.items)) }
+        ensures lost_dependencies { IfOk result (λ f. IsAskedUnless (map string_bytes f.lossy.items)
+            (AreLost lockfile.now.packages f.asked.lost_dependencies.items)
+            (f.asked.lost_dependencies.items ≡ [])) }
+        ensures orphans { IfOk result (λ f. IsAskedUnless (map string_bytes f.lossy.items)
+            (AreOrphans lockfile.now f.asked.orphans.items) (f.asked.orphans.items ≡ [])) }
+        ensures is_kept { IfOk result (λ f. IsAskedUnless (map string_bytes f.lossy.items)
+            (IsTrue f.asked.is_kept ↔ Survives lockfile.now lockfile.now.version)
+            (f.asked.is_kept ≡ true)) }
+        ensures other_line { IfOk result (λ f. IsAskedUnless (map string_bytes f.lossy.items)
+            (IsOtherLine text.now lockfile.now f.asked.other_line) (f.asked.other_line ≡ None)) }
+        ensures err { IsOkUnless result Memory }
+    {
+        let checked = checked_lockfile(alloc, lockfile)?;
+        let checksums = ChecksumFindings::of(alloc, lockfile, &checked)?;
+        let lossy = lossy_sources(alloc, text, lockfile)?;
+        let asked = AskedFindings::unless(alloc, text, lockfile, &checked, &lossy)?;
+        Ok(TextFindings {
+            checksums,
+            lossy,
+            asked,
+        })
+    }
+}
+
+// The sources whose tag, branch or revision the lockfile's format loses.
+fn lossy_sources(alloc: Global, text: &str, lockfile: &Lockfile) -> Result<Vec<String>>
+    ensures ok { IfOk result (λ found.
+        AreLossy lockfile.now.version text.now (map string_bytes found.items)) }
+    ensures err { IsOkUnless result Memory }
+{
+    match lockfile.version {
+        ResolveVersion::V1 | ResolveVersion::V2 | ResolveVersion::V3 => {
+            Lockfile::lossy_sources(alloc, text)
+        }
+        ResolveVersion::V4 => Ok(Vec::new(alloc)),
+    }
+}
+
+/// What is asked only where no source is lossy.
+#[derive(Drop)]
+pub(crate) struct AskedFindings {
+    pub(crate) lost_dependencies: Vec<(usize, usize)>,
+    pub(crate) orphans: Vec<usize>,
+    pub(crate) is_kept: bool,
+    pub(crate) other_line: Option<OtherLine>,
+}
+
+impl AskedFindings {
+    // Those of a text and its lockfile, or nothing where these sources are lossy.
+    fn unless(
+        alloc: Global,
+        text: &str,
+        lockfile: &Lockfile,
+        checked: &Lockfile,
+        lossy: &[String],
+    ) -> Result<AskedFindings>
+        requires { checked.now ≡ with_cargo_checksums_in lockfile.now }
+        ensures lost_dependencies { IfOk result (λ f. IsAskedUnless (map string_bytes lossy.now)
+            (AreLost lockfile.now.packages f.lost_dependencies.items)
+            (f.lost_dependencies.items ≡ [])) }
+        ensures orphans { IfOk result (λ f. IsAskedUnless (map string_bytes lossy.now)
+            (AreOrphans lockfile.now f.orphans.items) (f.orphans.items ≡ [])) }
+        ensures is_kept { IfOk result (λ f. IsAskedUnless (map string_bytes lossy.now)
+            (IsTrue f.is_kept ↔ Survives lockfile.now lockfile.now.version) (f.is_kept ≡ true)) }
+        ensures other_line { IfOk result (λ f. IsAskedUnless (map string_bytes lossy.now)
+            (IsOtherLine text.now lockfile.now f.other_line) (f.other_line ≡ None)) }
+        ensures err { IsOkUnless result Memory }
+    {
+        if lossy.is_empty() {
+            AskedFindings::of(alloc, text, lockfile, checked)
+        } else {
+            Ok(AskedFindings {
+                lost_dependencies: Vec::new(alloc),
+                orphans: Vec::new(alloc),
+                is_kept: true,
+                other_line: None,
+            })
+        }
+    }
+
+    // Those of a text and its lockfile.
+    fn of(
+        alloc: Global,
+        text: &str,
+        lockfile: &Lockfile,
+        checked: &Lockfile,
+    ) -> Result<AskedFindings>
+        requires { checked.now ≡ with_cargo_checksums_in lockfile.now }
+        ensures lost_dependencies { IfOk result
+            (λ f. AreLost lockfile.now.packages f.lost_dependencies.items) }
+        ensures orphans { IfOk result (λ f. AreOrphans lockfile.now f.orphans.items) }
+        ensures is_kept { IfOk result (λ f. IsTrue f.is_kept
+            ↔ Survives lockfile.now lockfile.now.version) }
+        ensures other_line { IfOk result
+            (λ f. IsOtherLine text.now lockfile.now f.other_line) }
+        ensures err { IsOkUnless result Memory }
+    {
+        let is_kept = lockfile.survives(alloc, lockfile.version)?;
+        let other_line = other_line(alloc, text, lockfile, checked, is_kept)?;
+        Ok(AskedFindings {
+            lost_dependencies: lost_dependencies(alloc, &lockfile.packages)?,
+            orphans: orphans_of(alloc, lockfile)?,
+            is_kept,
+            other_line,
+        })
+    }
+}
+
+// The orphans of a lockfile.
+fn orphans_of(alloc: Global, lockfile: &Lockfile) -> std::result::Result<Vec<usize>, AllocError>
+    ensures { IfOk result (λ places. AreOrphans lockfile.now places.items) }
+{
+    if lockfile.root.is_some() {
+        return Ok(Vec::new(alloc));
+    }
+    let places = orphans(alloc, &lockfile.packages)?;
+    Ok(places)
+}
+
+// The first line of a text that is not as Cargo writes it.
+fn other_line(
+    alloc: Global,
+    text: &str,
+    lockfile: &Lockfile,
+    checked: &Lockfile,
+    is_kept: bool,
+) -> Result<Option<OtherLine>>
+    requires checked { checked.now ≡ with_cargo_checksums_in lockfile.now }
+    requires kept { IsTrue is_kept ↔ Survives lockfile.now lockfile.now.version }
+    ensures ok { IfOk result (IsOtherLine text.now lockfile.now) }
+    ensures err { IsOkUnless result Memory }
+{
+    if lockfile.root.is_some() || !is_kept {
+        return Ok(None);
+    }
+    let printed = checked.to_string(alloc)?;
+    let other = first_other_line(alloc, text, printed.as_str())?;
+    Ok(other)
+}

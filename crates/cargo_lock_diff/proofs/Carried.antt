@@ -1,0 +1,144 @@
+-- Which dependencies the pairs of a difference carry onto which.
+use Rattle.std.proofs.Common.{◌≡◌, ℕ, suc, ◌<◌, Bool, true, false, not, List, [], ◌∷◌, ◌++◌, ◌⊎◌, inl, inr, length, get_or, refl, ap, sym, ◌∙◌, subst, arith, IsPermutation, IsSorted}
+use Rattle.std.specs.Prelude.{◌&&◌, ◌||◌}
+use Rattle.std.specs.Borrow.{Bor}
+use Rattle.std.specs.Cmp.{Equal-is}
+use Rattle.std.specs.declared.cmp.Ordering.{Ordering}
+use Rattle.std.specs.declared.cmp.Ordering.TheVariants.{Less, Equal, Greater}
+use Rattle.std.specs.List.{Contains, list_any}
+use Rattle.std.specs.List.Sorted.{IsNonDecreasingBy, IsPartitionPoint}
+use Rattle.std.specs.Ordering.{is_eq, ordering_index, ordering_then}
+use Rattle.std.proofs.lemmas.Bool.{cases_order}
+use Rattle.std.proofs.lemmas.List.{map-append}
+use Rattle.std.proofs.lemmas.List.Elements.{Contains-append_right, Contains-get_or}
+use Rattle.std.proofs.lemmas.List.Folds.{list_any_none}
+use Rattle.std.proofs.lemmas.List.Sorted.{IsPermutation-map, searchable_from_sorted}
+use Rattle.cargo_lock_parts.specs.Identity.{Identity, PackageData, identity_of}
+use Rattle.cargo_lock_diff.specs.Dependencies.{EqualIfCarried, IsCarried, are_targets, is_carried, is_carried_either, is_met, is_target}
+use Rattle.cargo_lock_diff.specs.Difference.{pairs_at}
+use Rattle.cargo_lock_diff.specs.Place.{target_cmp}
+use Rattle.cargo_lock_diff.specs.Targets.{pairs_cmp, targets_cmp, targets_of}
+use Rattle.cargo_lock_diff.proofs.Orders.{targets_total}
+use Rattle.cargo_lock_diff.proofs.Vouched.{any-there}
+
+-- ---- the law
+
+-- what passes is there
+any-found : {X : Type 0} (q : X → Bool) (xs : List X) → list_any q xs ≡ true → (x : X) × Contains xs x × (q x ≡ true)
+any-found q [] h = cc h
+any-found {X} q (x ∷ xs) h = go (q x) refl (any-found q xs) h
+  where
+    go : (b : Bool) → q x ≡ b → (list_any q xs ≡ true → (y : X) × Contains xs y × (q y ≡ true)) → (q x || list_any q xs) ≡ true
+        → (y : X) × Contains (x ∷ xs) y × (q y ≡ true)
+    go true hit later h = (x, Contains-get_or (x ∷ xs) 0 x (omega arith), hit)
+    go false miss later h =
+        let r = later (sym (ap (λ b. b || list_any q xs) miss) ∙ h) in (r.0, Contains-append_right (x ∷ []) xs r.0 r.1, r.2)
+
+or-false : (a b : Bool) → (a || b) ≡ false → (a ≡ false) × (b ≡ false)
+or-false true b h = cc h
+or-false false b h = (refl, h)
+
+not-false : (b : Bool) → not b ≡ false → b ≡ true
+not-false true h = refl
+not-false false h = cc h
+
+and-true : (a b : Bool) → (a && b) ≡ true → (a ≡ true) × (b ≡ true)
+and-true true b h = (refl, h)
+and-true false b h = cc h
+
+-- none fails where each passes, and the other way round
+none-fails : {X : Type 0} (q : X → Bool) (xs : List X) → ((x : X) → Contains xs x → q x ≡ true) → list_any (λ x. not (q x)) xs ≡ false
+none-fails q [] all = refl
+none-fails q (x ∷ xs) all =
+    let rest = none-fails q xs (λ y c. all y (suc c.0, omega (arith, c.1), c.2)) in
+    λ i. not (all x (0, omega arith, refl) i) || rest i
+
+each-passes : {X : Type 0} (q : X → Bool) (xs : List X) → list_any (λ x. not (q x)) xs ≡ false → (x : X) → Contains xs x → q x ≡ true
+each-passes {X} q xs h x there = go (q x) refl
+  where
+    go : (b : Bool) → q x ≡ b → q x ≡ true
+    go true hit = hit
+    go false miss =
+        let bad : list_any (λ y. not (q y)) xs ≡ true = any-there (λ y. not (q y)) xs x there (ap not miss) in
+        cc (bad, h)
+
+carried-is : (pairs : List (PackageData × PackageData)) (d e : Identity) → is_carried pairs d e ≡ true → IsCarried pairs d e
+carried-is pairs d e h =
+    let p = any-found (λ (q : PackageData × PackageData). are_targets q d e) pairs h in
+    let both = and-true (is_target p.0.0 d) (is_target p.0.1 e) p.2 in
+    (p.0, p.1, both.0, both.1)
+
+is-carried : (pairs : List (PackageData × PackageData)) (d e : Identity) → IsCarried pairs d e → is_carried pairs d e ≡ true
+is-carried pairs d e (p, there, old, new) = any-there (λ (q : PackageData × PackageData). are_targets q d e) pairs p there (λ i. old i && new i)
+
+pub equal_if_carried : EqualIfCarried
+equal_if_carried pairs old new = (
+  λ h.
+      let parts = or-false (list_any (λ d. not (is_met true pairs new.dependencies d)) old.dependencies)
+      (list_any (λ d. not (is_met false pairs old.dependencies d)) new.dependencies) h in (
+        λ d there.
+            let met = each-passes (is_met true pairs new.dependencies) old.dependencies parts.0 d there in
+            let e = any-found (is_carried_either true pairs d) new.dependencies met in
+            (e.0, e.1, carried-is pairs d e.0 e.2),
+        λ e there.
+            let met = each-passes (is_met false pairs old.dependencies) new.dependencies parts.1 e there in
+            let d = any-found (is_carried_either false pairs e) old.dependencies met in
+            (d.0, d.1, carried-is pairs d.0 e d.2),
+      ),
+  λ all.
+      let one = none-fails (is_met true pairs new.dependencies) old.dependencies
+      (λ d there. let e = all.0 d there in any-there (is_carried_either true pairs d) new.dependencies e.0 e.1 (is-carried pairs d e.0 e.2)) in
+      let other = none-fails (is_met false pairs old.dependencies) new.dependencies
+      (λ e there. let d = all.1 e there in any-there (is_carried_either false pairs e) old.dependencies d.0 d.1 (is-carried pairs d.0 e d.2)) in
+      λ i. one i || other i,
+)
+
+-- ---- looked up
+
+eq-then : (r s : Ordering) → is_eq (ordering_then r s) ≡ (is_eq r && is_eq s)
+eq-then Less s = refl
+eq-then Equal s = refl
+eq-then Greater s = refl
+
+-- the pairs are looked up by both identities at once
+abbrev ties : Identity → Identity → Bor PackageData × Bor PackageData → Bool
+ties d e p = is_eq (targets_cmp (targets_of p) (d, e))
+
+carried-at : (d e : Identity) (xs : List (Bor PackageData × Bor PackageData)) → is_carried (pairs_at xs) d e ≡ list_any (ties d e) xs
+carried-at d e [] = refl
+carried-at d e (x ∷ xs) = λ i. sym (eq-then (target_cmp (identity_of x.0.now) d) (target_cmp (identity_of x.1.now) e)) i || carried-at d e xs i
+
+pub carried-found : (d e : Identity) (xs : List (Bor PackageData × Bor PackageData)) (k : ℕ) → k < length xs
+    → ((x : Bor PackageData × Bor PackageData) → targets_cmp (targets_of (get_or xs k x)) (d, e) ≡ Equal) → is_carried (pairs_at xs) d e ≡ true
+carried-found d e [] k lt tie = absurd (omega (arith, lt))
+carried-found d e (y ∷ ys) k lt tie =
+    let xs : List (Bor PackageData × Bor PackageData) = y ∷ ys in
+    carried-at d e xs ∙ any-there (ties d e) xs (get_or xs k y) (Contains-get_or xs k y lt) ((Equal-is (targets_cmp (targets_of (get_or xs k y)) (d, e))).1 (tie y))
+
+not-eq : (r : Ordering) → (r ≡ Less) ⊎ (r ≡ Greater) → is_eq r ≡ false
+not-eq Less h = refl
+not-eq Equal (inl h) = cc h
+not-eq Equal (inr h) = cc h
+not-eq Greater h = refl
+
+pub carried-none : (d e : Identity) (xs : List (Bor PackageData × Bor PackageData)) (i : ℕ) → IsSorted pairs_cmp xs
+    → (IsNonDecreasingBy (λ (p : Bor PackageData × Bor PackageData). ordering_index (targets_cmp (targets_of p) (d, e))) xs
+    → IsPartitionPoint (λ (p : Bor PackageData × Bor PackageData). targets_cmp (targets_of p) (d, e) ≡ Less)
+    (λ (p : Bor PackageData × Bor PackageData). targets_cmp (targets_of p) (d, e) ≡ Greater) xs i)
+    → is_carried (pairs_at xs) d e ≡ false
+carried-none d e xs i up parted =
+    let parts = parted (searchable_from_sorted targets_total targets_of xs (d, e) up) in
+    carried-at d e xs ∙ list_any_none (ties d e) xs (λ k x lt. apart parts k x lt (cases_order k i))
+  where
+    apart : IsPartitionPoint (λ (p : Bor PackageData × Bor PackageData). targets_cmp (targets_of p) (d, e) ≡ Less)
+        (λ (p : Bor PackageData × Bor PackageData). targets_cmp (targets_of p) (d, e) ≡ Greater) xs i
+        → (k : ℕ) (x : Bor PackageData × Bor PackageData) → k < length xs → ((k ≡ i) ⊎ ((k < i) ⊎ (i < k))) → ties d e (get_or xs k x) ≡ false
+    apart parts k x lt (inl h) = not-eq (targets_cmp (targets_of (get_or xs k x)) (d, e)) (inr (parts.1 k x (omega (arith, h)) lt))
+    apart parts k x lt (inr (inl below)) = not-eq (targets_cmp (targets_of (get_or xs k x)) (d, e)) (inl (parts.0 k x (omega arith) below))
+    apart parts k x lt (inr (inr above)) = not-eq (targets_cmp (targets_of (get_or xs k x)) (d, e)) (inr (parts.1 k x (omega arith) lt))
+
+pub targets-made : (kept others all : List (Bor PackageData × Bor PackageData)) → IsPermutation (kept ++ others) all
+    → IsPermutation (pairs_at kept ++ pairs_at others) (pairs_at all)
+targets-made kept others all perm =
+    subst (λ zs. IsPermutation zs (pairs_at all)) (map-append (λ (p : Bor PackageData × Bor PackageData). (p.0.now, p.1.now)) kept others)
+    (IsPermutation-map (λ (p : Bor PackageData × Bor PackageData). (p.0.now, p.1.now)) (kept ++ others) all perm)

@@ -1,0 +1,64 @@
+-- The summary is one line behind those of the changes.
+use Rattle.std.proofs.Common.{◌≡◌, ℕ, Bool, false, List, [], ◌∷◌, ◌++◌, codes, map, refl, ap, sym, ◌∙◌}
+use Rattle.std.specs.Prelude.{◌==◌}
+use Rattle.std.specs.List.{flat_map}
+use Rattle.std.specs.Str.Lines.{lines}
+use Rattle.std.proofs.lemmas.List.{append-nil, append_assoc}
+use Rattle.shown.proofs.LinesOf.{each-is-line}
+use Rattle.shown.proofs.Printable.{Prints, decimal-prints, either_text, empty, join, literal, words}
+use Rattle.cargo_lock_parts.specs.Ascii.{newline}
+use Rattle.cargo_lock_diff.specs.declared.summary.Summary.{Summary}
+use Rattle.cargo_lock_diff.specs.Change.{ChangeData, line_of, lines_text}
+use Rattle.cargo_lock_diff.specs.Summary.{SummaryIsOneLine, counted, is_behind, summary_text}
+use Rattle.cargo_lock_diff.proofs.OneLine.{line-prints}
+
+counted-prints : (behind : Bool) (n : ℕ) {one more : List ℕ} → Prints one → Prints more → Prints (counted behind n one more)
+counted-prints behind n a b = either_text (n == 0) empty (join (either_text behind (literal (codes ", ") refl) empty)
+    (join (decimal-prints n) (words (codes " ") refl (either_text (n == 1) a b))))
+
+summary-prints : (s : Summary) → Prints (summary_text s)
+summary-prints s =
+    let b1 = is_behind false s.updated in
+    let b2 = is_behind b1 s.downgraded in
+    let b3 = is_behind b2 s.removed in
+    let b4 = is_behind b3 s.added in
+    let b5 = is_behind b4 s.sources in
+    let b6 = is_behind b5 s.checksums in
+    let b7 = is_behind b6 s.replacements in
+    let b8 = is_behind b7 s.dependencies in
+    join (counted-prints false s.updated (literal (codes "updated") refl) (literal (codes "updated") refl))
+    (join (counted-prints b1 s.downgraded (literal (codes "downgraded") refl) (literal (codes "downgraded") refl))
+    (join (counted-prints b2 s.removed (literal (codes "removed") refl) (literal (codes "removed") refl))
+    (join (counted-prints b3 s.added (literal (codes "added") refl) (literal (codes "added") refl))
+    (join (counted-prints b4 s.sources (literal (codes "moved") refl) (literal (codes "moved") refl))
+    (join (counted-prints b5 s.checksums (literal (codes "new checksum") refl) (literal (codes "new checksums") refl))
+    (join (counted-prints b6 s.replacements (literal (codes "replacement") refl) (literal (codes "replacements") refl))
+    (join (counted-prints b7 s.dependencies (literal (codes "with other dependencies") refl) (literal (codes "with other dependencies") refl))
+    (counted-prints b8 s.alarms (literal (codes "alarm") refl) (literal (codes "alarms") refl)))))))))
+
+-- a line of a change, or the last one
+data Line : Type 0 where
+  Of : ChangeData → Line
+  Last : Summary → Line
+
+abbrev text : Line → List ℕ
+text (Of change) = line_of change
+text (Last s) = summary_text s
+
+text-prints : (l : Line) → Prints (text l)
+text-prints (Of change) = line-prints change
+text-prints (Last s) = summary-prints s
+
+all-text : (changes : List ChangeData) (s : Summary) → flat_map (λ l. text l ++ newline ∷ []) (map Of changes ++ Last s ∷ [])
+    ≡ lines_text changes ++ (summary_text s ++ newline ∷ [])
+all-text [] s = append-nil (summary_text s ++ newline ∷ [])
+all-text (c ∷ cs) s = ap (λ zs. (line_of c ++ newline ∷ []) ++ zs) (all-text cs s)
+    ∙ sym (append_assoc (line_of c ++ newline ∷ []) (lines_text cs) (summary_text s ++ newline ∷ []))
+
+all-lines : (changes : List ChangeData) (s : Summary) → map text (map Of changes ++ Last s ∷ []) ≡ map line_of changes ++ summary_text s ∷ []
+all-lines [] s = refl
+all-lines (c ∷ cs) s = ap (λ zs. line_of c ∷ zs) (all-lines cs s)
+
+pub summary-is-one-line : SummaryIsOneLine
+summary-is-one-line changes s =
+    ap (λ t. lines t) (sym (all-text changes s)) ∙ each-is-line text text-prints (map Of changes ++ Last s ∷ []) ∙ all-lines changes s

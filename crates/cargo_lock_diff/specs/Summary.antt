@@ -1,0 +1,90 @@
+-- How many changes of each kind a difference has, and the last line, which says so.
+use Rattle.std.specs.Prelude.{◌≡◌, ℕ, ◌==◌, ◌||◌, Bool, true, false, not, List, [], ◌∷◌, ◌++◌}
+use Rattle.std.specs.Prelude.{codes, decimal, map}
+use Rattle.std.specs.Str.Lines.{lines}
+use Rattle.cargo_lock_parts.specs.Ascii.{newline}
+use Rattle.std.specs.Prelude.{count_by, if◌then◌else◌}
+use Rattle.cargo_lock_diff.specs.declared.summary.Kind.{Kind}
+use Rattle.cargo_lock_diff.specs.declared.summary.Kind.TheVariants as kind
+use Rattle.cargo_lock_diff.specs.declared.summary.Summary.{Summary}
+use Rattle.cargo_lock_diff.specs.Change.{ChangeData, Alarm, Moved, Checksum, Replaced, Updated}
+use Rattle.cargo_lock_diff.specs.Change.{Removed, Added, OtherDependencies, is_downgrade, line_of, lines_text}
+
+-- the change is another version: one that comes before the old one, or one that does not
+abbrev pub is_update : Bool → ChangeData → Bool
+is_update downgrade (Updated old new) =
+    if downgrade then is_downgrade old new else not (is_downgrade old new)
+is_update downgrade other = false
+
+-- the change is of the kind
+abbrev pub is_of : Kind → ChangeData → Bool
+is_of kind.Alarm (Alarm old new) = true
+is_of kind.Alarm other = false
+is_of kind.Source (Moved old new) = true
+is_of kind.Source other = false
+is_of kind.Checksum (Checksum old new) = true
+is_of kind.Checksum other = false
+is_of kind.Replacement (Replaced old new) = true
+is_of kind.Replacement other = false
+is_of kind.Updated change = is_update false change
+is_of kind.Downgraded change = is_update true change
+is_of kind.Removed (Removed old) = true
+is_of kind.Removed other = false
+is_of kind.Added (Added new) = true
+is_of kind.Added other = false
+is_of kind.Dependencies (OtherDependencies old new targets) = true
+is_of kind.Dependencies other = false
+
+-- how many changes are of each kind
+abbrev pub summary_of : List ChangeData → Summary
+summary_of changes = record {
+  alarms = count_by (is_of kind.Alarm) changes;
+  sources = count_by (is_of kind.Source) changes;
+  checksums = count_by (is_of kind.Checksum) changes;
+  replacements = count_by (is_of kind.Replacement) changes;
+  updated = count_by (is_of kind.Updated) changes;
+  downgraded = count_by (is_of kind.Downgraded) changes;
+  removed = count_by (is_of kind.Removed) changes;
+  added = count_by (is_of kind.Added) changes;
+  dependencies = count_by (is_of kind.Dependencies) changes;
+}
+
+-- a count with the word for one or for more: nothing for zero, and a comma before it if there is a
+-- count before it
+abbrev pub counted : Bool → ℕ → List ℕ → List ℕ → List ℕ
+counted behind n one more = if n == 0 then [] else (if behind then codes ", " else [])
+    ++ (decimal n ++ (codes " " ++ (if n == 1 then one else more)))
+
+-- there is a count before, or this one is not zero
+abbrev pub is_behind : Bool → ℕ → Bool
+is_behind behind n = behind || not (n == 0)
+
+-- the counts that are not zero
+abbrev pub summary_text : Summary → List ℕ
+summary_text s =
+    let behind_1 = is_behind false s.updated in
+    let behind_2 = is_behind behind_1 s.downgraded in
+    let behind_3 = is_behind behind_2 s.removed in
+    let behind_4 = is_behind behind_3 s.added in
+    let behind_5 = is_behind behind_4 s.sources in
+    let behind_6 = is_behind behind_5 s.checksums in
+    let behind_7 = is_behind behind_6 s.replacements in
+    let behind_8 = is_behind behind_7 s.dependencies in
+    counted false s.updated (codes "updated") (codes "updated")
+    ++ (counted behind_1 s.downgraded (codes "downgraded") (codes "downgraded")
+    ++ (counted behind_2 s.removed (codes "removed") (codes "removed")
+    ++ (counted behind_3 s.added (codes "added") (codes "added")
+    ++ (counted behind_4 s.sources (codes "moved") (codes "moved")
+    ++ (counted behind_5 s.checksums (codes "new checksum") (codes "new checksums")
+    ++ (counted behind_6 s.replacements (codes "replacement") (codes "replacements")
+    ++ (counted behind_7 s.dependencies
+    (codes "with other dependencies") (codes "with other dependencies")
+    ++ counted behind_8 s.alarms (codes "alarm") (codes "alarms"))))))))
+
+-- ---- law
+
+-- the lines of changes and the summary are exactly as many lines and one more
+abbrev pub SummaryIsOneLine : Type 0
+SummaryIsOneLine = (changes : List ChangeData) (s : Summary)
+    → lines (lines_text changes ++ (summary_text s ++ newline ∷ []))
+    ≡ map line_of changes ++ summary_text s ∷ []

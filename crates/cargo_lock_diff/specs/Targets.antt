@@ -1,0 +1,19 @@
+-- Pairs of packages, as targets are looked up in them. No public contract cites these.
+use Rattle.std.specs.Borrow.{Bor}
+use Rattle.std.specs.declared.cmp.Ordering.{Ordering}
+use Rattle.std.specs.Ordering.{on, then_cmp}
+use Rattle.cargo_lock_parts.specs.Identity.{Identity, PackageData, identity_of}
+use Rattle.cargo_lock_diff.specs.Place.{target_cmp}
+
+-- the order of an old and a new dependency
+abbrev pub targets_cmp : Identity × Identity → Identity × Identity → Ordering
+targets_cmp = then_cmp (on (λ t. t.0) target_cmp) (on (λ t. t.1) target_cmp)
+
+-- the identities of the packages of a pair
+abbrev pub targets_of : Bor PackageData × Bor PackageData → Identity × Identity
+targets_of p = (identity_of p.0.now, identity_of p.1.now)
+
+-- the order of pairs by the identities of their packages
+abbrev pub pairs_cmp : Bor PackageData × Bor PackageData → Bor PackageData × Bor PackageData
+    → Ordering
+pairs_cmp = on targets_of targets_cmp

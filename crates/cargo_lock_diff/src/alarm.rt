@@ -1,0 +1,203 @@
+//! Which new packages are alarms.
+
+ghost use Rattle.std.specs.Prelude.{◌≡◌, All, IfOk, IsPermutation, IsSorted, MatchOption};
+ghost use Rattle.std.specs.Prelude.{false, filter, true};
+ghost use Rattle.std.specs.List.{Contains, list_any};
+ghost use Rattle.cargo_lock_diff.specs.Alarm.{AreAlarms, IsFounded, has_checksum, is_alarm};
+ghost use Rattle.cargo_lock_diff.specs.Alarm.{is_suspect};
+ghost use Rattle.cargo_lock_diff.specs.Alarm as spec;
+ghost use Rattle.cargo_lock_diff.specs.Difference.{packages_at, pairs_at};
+ghost use Rattle.cargo_lock_diff.specs.Likeness.{is_alike, likeness_cmp};
+ghost use Rattle.cargo_lock_diff.specs.Matching.{seconds};
+ghost use Rattle.cargo_lock_diff.specs.Vouchers.{cmp_at};
+
+use crate::likeness::Likeness;
+use crate::same::{have_one_checksum, have_one_place, have_one_version};
+use cargo_lock_parts::package::Package;
+use std::alloc::{AllocError, Global};
+use std::marker::Model;
+
+// The old packages that have a checksum, in three orders, so that one that is like a package is
+// found by halving.
+#[derive(Drop)]
+pub(crate) struct Vouchers<'a> {
+    by_version: Vec<&'a Package>,
+    by_archive: Vec<&'a Package>,
+    by_place: Vec<&'a Package>,
+}
+
+impl<'a> Model for Vouchers<'a> {
+    ghost use Rattle.std.specs.Prelude.{List};
+    ghost use Rattle.cargo_lock_parts.specs.Identity.{PackageData};
+    ghost use Rattle.cargo_lock_diff.specs.Difference.{packages_at};
+    ghost use Rattle.cargo_lock_diff.specs.Vouchers.{AreVouchers};
+
+    ghost Value = { List PackageData };
+
+    ghost view = { λ v. packages_at v.by_version.items };
+
+    ghost invariant = { λ v. AreVouchers v.by_version.items v.by_archive.items v.by_place.items };
+}
+
+impl<'a> Vouchers<'a> {
+    // Those of these packages that have a checksum.
+    pub(crate) fn of(alloc: Global, olds: &Vec<&'a Package>) -> Result<Vouchers<'a>, AllocError>
+        ensures { IfOk result (λ v. IsPermutation
+            (filter has_checksum (packages_at olds.now.items)) v) }
+    {
+        let all = with_checksum(alloc, olds)?;
+        let by_version = sorted(alloc, Likeness::Version, &all)?;
+        let by_archive = sorted(alloc, Likeness::Archive, &all)?;
+        let by_place = sorted(alloc, Likeness::Place, &all)?;
+        Ok(Vouchers {
+            by_version,
+            by_archive,
+            by_place,
+        })
+    }
+
+    // Where a package is suspect, an old one of its name and version that has a checksum.
+    fn against(&self, new: &Package) -> Option<&'a Package>
+        ensures { MatchOption result (is_suspect self.now new.now ≡ false)
+            (λ old. (is_suspect self.now new.now ≡ true) × IsFounded old.now new.now) }
+    {
+        if new.checksum.is_none() {
+            return find(Likeness::Place, &self.by_place, new);
+        }
+        match find(Likeness::Archive, &self.by_archive, new) {
+            Some(_) => None,
+            None => find(Likeness::Version, &self.by_version, new),
+        }
+    }
+
+    // Where a pair is an alarm, its old package or another one of its name and version that has a
+    // checksum.
+    fn against_pair(&self, old: &'a Package, new: &Package) -> Option<&'a Package>
+        ensures { MatchOption result (is_alarm self.now (old.now, new.now) ≡ false)
+            (λ o. (is_alarm self.now (old.now, new.now) ≡ true)
+            × (is_alike Likeness.Name old.now new.now ≡ true → IsFounded o.now new.now)) }
+    {
+        if is_altered(old, new) {
+            Some(old)
+        } else {
+            self.against(new)
+        }
+    }
+}
+
+// The packages that have a checksum.
+fn with_checksum<'a>(
+    alloc: Global,
+    packages: &Vec<&'a Package>,
+) -> Result<Vec<&'a Package>, AllocError>
+    ensures { IfOk result
+        (λ all. packages_at all.items ≡ filter has_checksum (packages_at packages.now.items)) }
+{
+    let mut all = Vec::new(alloc);
+    for package in packages {
+        if package.checksum.is_some() {
+            all.push(*package)?;
+        }
+    }
+    Ok(all)
+}
+
+// The packages in the order by what a likeness looks at.
+fn sorted<'a>(
+    alloc: Global,
+    likeness: Likeness,
+    packages: &Vec<&'a Package>,
+) -> Result<Vec<&'a Package>, AllocError>
+    ensures items { IfOk result (λ all. IsPermutation packages.now.items all.items) }
+    ensures sorted { IfOk result (λ all. IsSorted (cmp_at likeness) all.items) }
+{
+    let mut all = Vec::with_capacity(alloc, packages.len())?;
+    all.extend_from_slice(packages.as_slice())?;
+    all.sort_by(|one, other| likeness.compare(one, other))?;
+    Ok(all)
+}
+
+// A package that is like another one, if there is one, among packages in that order.
+fn find<'a>(likeness: Likeness, sorted: &Vec<&'a Package>, one: &Package) -> Option<&'a Package>
+    requires { IsSorted (cmp_at likeness) sorted.now.items }
+    ensures { MatchOption result
+        (list_any (is_alike likeness one.now) (packages_at sorted.now.items) ≡ false)
+        (λ found. Contains (packages_at sorted.now.items) found.now
+        × (is_alike likeness one.now found.now ≡ true)) }
+{
+    match sorted.binary_search_by(|other| likeness.compare(other, one)) {
+        Ok(place) => Some(sorted[place]),
+        Err(_) => None,
+    }
+}
+
+// Whether the packages of a pair have one version, the old one has a checksum, and the new one has
+// another one, or none at the same place.
+fn is_altered(old: &Package, new: &Package) -> bool
+    ensures { result ≡ spec.is_altered old.now new.now }
+{
+    if !have_one_version(old, new) || old.checksum.is_none() {
+        return false;
+    }
+    if new.checksum.is_some() {
+        !have_one_checksum(old, new)
+    } else {
+        have_one_place(old, new)
+    }
+}
+
+// The alarms of pairs and of added packages.
+pub(crate) fn alarms<'a>(
+    alloc: Global,
+    vouchers: &Vouchers<'a>,
+    pairs: &Vec<(&'a Package, &'a Package)>,
+    added: &Vec<&'a Package>,
+) -> Result<Vec<(&'a Package, &'a Package)>, AllocError>
+    requires { All (λ p. is_alike Likeness.Name p.0 p.1 ≡ true) (pairs_at pairs.now.items) }
+    ensures { IfOk result (λ all. AreAlarms vouchers.now
+        (pairs_at pairs.now.items) (packages_at added.now.items) (pairs_at all.items)) }
+{
+    let mut all = alarms_of_pairs(alloc, vouchers, pairs)?;
+    let others = alarms_of_added(alloc, vouchers, added)?;
+    all.extend_from_slice(others.as_slice())?;
+    Ok(all)
+}
+
+// The alarms of pairs.
+fn alarms_of_pairs<'a>(
+    alloc: Global,
+    vouchers: &Vouchers<'a>,
+    pairs: &Vec<(&'a Package, &'a Package)>,
+) -> Result<Vec<(&'a Package, &'a Package)>, AllocError>
+    requires { All (λ p. is_alike Likeness.Name p.0 p.1 ≡ true) (pairs_at pairs.now.items) }
+    ensures founded { IfOk result (λ all. All (λ a. IsFounded a.0 a.1) (pairs_at all.items)) }
+    ensures told { IfOk result (λ all. seconds (pairs_at all.items)
+        ≡ seconds (filter (is_alarm vouchers.now) (pairs_at pairs.now.items))) }
+{
+    let mut all = Vec::new(alloc);
+    for pair in pairs {
+        if let Some(old) = vouchers.against_pair(pair.0, pair.1) {
+            all.push((old, pair.1))?;
+        }
+    }
+    Ok(all)
+}
+
+// The alarms of added packages.
+fn alarms_of_added<'a>(
+    alloc: Global,
+    vouchers: &Vouchers<'a>,
+    added: &Vec<&'a Package>,
+) -> Result<Vec<(&'a Package, &'a Package)>, AllocError>
+    ensures founded { IfOk result (λ all. All (λ a. IsFounded a.0 a.1) (pairs_at all.items)) }
+    ensures told { IfOk result (λ all. seconds (pairs_at all.items)
+        ≡ filter (is_suspect vouchers.now) (packages_at added.now.items)) }
+{
+    let mut all = Vec::new(alloc);
+    for new in added {
+        if let Some(old) = vouchers.against(new) {
+            all.push((old, *new))?;
+        }
+    }
+    Ok(all)
+}

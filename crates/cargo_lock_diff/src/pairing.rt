@@ -1,0 +1,83 @@
+//! The pairs of a difference.
+
+ghost use Rattle.std.specs.Prelude.{◌≡◌, IfOk, IsPermutation};
+ghost use Rattle.std.specs.List.{flat_map};
+ghost use Rattle.cargo_lock_diff.specs.Difference.{IsPairing, packages_at, pairs_at, turns};
+
+use crate::likeness::Likeness;
+use crate::matching::{pair_in_turn, pair_off};
+use cargo_lock_parts::package::Package;
+use std::alloc::{AllocError, Global};
+
+// The packages of an old and a new list: the pairs that are wholly alike, the other pairs in the
+// order of their old packages, and what is in no pair.
+#[derive(Drop)]
+pub(crate) struct Pairing<'a> {
+    pub(crate) kept: Vec<(&'a Package, &'a Package)>,
+    pub(crate) pairs: Vec<(&'a Package, &'a Package)>,
+    pub(crate) removed: Vec<&'a Package>,
+    pub(crate) added: Vec<&'a Package>,
+}
+
+// Pairs the packages of two lists.
+pub(crate) fn pair<'a>(
+    alloc: Global,
+    old: &Vec<&'a Package>,
+    new: &Vec<&'a Package>,
+) -> Result<Pairing<'a>, AllocError>
+    ensures { IfOk result (λ p. IsPairing (packages_at old.now.items) (packages_at new.now.items)
+        (pairs_at p.kept.items) (pairs_at p.pairs.items)
+        (packages_at p.removed.items) (packages_at p.added.items)) }
+{
+    let wholly = pair_off(alloc, Likeness::Whole, old, new)?;
+    let turns = turns();
+    let in_turn = pair_in_turn(alloc, &turns, wholly.old, wholly.new)?;
+    let pairs = in_order(alloc, &in_turn.passes)?;
+    Ok(Pairing {
+        kept: wholly.pairs,
+        pairs,
+        removed: in_turn.old,
+        added: in_turn.new,
+    })
+}
+
+// The likenesses by which packages are paired that are not wholly alike, in turn.
+fn turns() -> [Likeness; 5]
+    ensures { result ≡ turns }
+{
+    [
+        Likeness::Place,
+        Likeness::Line,
+        Likeness::Version,
+        Likeness::Origin,
+        Likeness::Name,
+    ]
+}
+
+// The pairs of all passes, in the order of their old packages.
+fn in_order<'a>(
+    alloc: Global,
+    passes: &Vec<Vec<(&'a Package, &'a Package)>>,
+) -> Result<Vec<(&'a Package, &'a Package)>, AllocError>
+    ensures { IfOk result (λ all. IsPermutation
+        (flat_map (λ pairs. pairs.items) passes.now.items) all.items) }
+{
+    let mut all = in_all(alloc, passes)?;
+    all.sort_by(|one, other| Likeness::Whole.compare(one.0, other.0))?;
+    Ok(all)
+}
+
+// The pairs of all passes.
+fn in_all<'a>(
+    alloc: Global,
+    passes: &Vec<Vec<(&'a Package, &'a Package)>>,
+) -> Result<Vec<(&'a Package, &'a Package)>, AllocError>
+    ensures { IfOk result
+        (λ all. all.items ≡ flat_map (λ pairs. pairs.items) passes.now.items) }
+{
+    let mut all = Vec::new(alloc);
+    for pairs in passes {
+        all.extend_from_slice(pairs.as_slice())?;
+    }
+    Ok(all)
+}

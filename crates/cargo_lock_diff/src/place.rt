@@ -1,0 +1,178 @@
+//! Where packages come from, as far as it counts for a difference.
+
+ghost use Rattle.std.specs.Prelude.{◌≡◌};
+ghost use Rattle.std.specs.Option.{option_cmp};
+ghost use Rattle.cargo_lock_parts.specs.Source.{kind_of};
+ghost use Rattle.cargo_lock_parts.specs.SourceKey as key;
+ghost use Rattle.cargo_lock_diff.specs.Place.{named_kind, origin_cmp, others_cmp, place_cmp};
+ghost use Rattle.cargo_lock_diff.specs.Place.{placed_identity_cmp, repository_cmp, sources_cmp};
+
+use cargo_lock_parts::dependency::Dependency;
+use cargo_lock_parts::package::{GitReference, SourceId, SourceKind};
+use std::cmp::Ordering;
+
+// What is seen of a source: all of it, all but the commit, or what a dependency names it by.
+#[derive(Clone, Copy)]
+enum Sight {
+    AsPlace,
+    AsOrigin,
+    AsNamed,
+}
+
+/// The order of two sources by place, an absent one before a present one. The registry of crates.io
+/// is one place by either of its two indexes and comes before the others, which compare by their
+/// keys.
+pub fn cmp_places(one: &Option<SourceId>, other: &Option<SourceId>) -> Ordering
+    ensures { result ≡ option_cmp place_cmp one.now other.now }
+{
+    cmp_sources(one, other, Sight::AsPlace)
+}
+
+/// The order of two sources by origin: by place, but for the commit of a repository.
+pub fn cmp_origins(one: &Option<SourceId>, other: &Option<SourceId>) -> Ordering
+    ensures { result ≡ option_cmp origin_cmp one.now other.now }
+{
+    cmp_sources(one, other, Sight::AsOrigin)
+}
+
+/// The order of two sources by what dependencies name them by: by origin, but that the branch
+/// `master` is the default branch, as which it was written before V3.
+pub fn cmp_named(one: &Option<SourceId>, other: &Option<SourceId>) -> Ordering
+    ensures { result ≡ option_cmp (sources_cmp Sight.AsNamed) one.now other.now }
+{
+    cmp_sources(one, other, Sight::AsNamed)
+}
+
+// The order of two sources.
+fn cmp_sources(one: &Option<SourceId>, other: &Option<SourceId>, sight: Sight) -> Ordering
+    ensures { result ≡ option_cmp (sources_cmp sight) one.now other.now }
+{
+    match (one, other) {
+        (None, None) => Ordering::Equal,
+        (None, Some(_)) => Ordering::Less,
+        (Some(_), None) => Ordering::Greater,
+        (Some(one), Some(other)) => cmp_present(one, other, sight),
+    }
+}
+
+// The order of two present sources.
+fn cmp_present(one: &SourceId, other: &SourceId, sight: Sight) -> Ordering
+    ensures { result ≡ sources_cmp sight one.now other.now }
+{
+    match (one.is_default_registry(), other.is_default_registry()) {
+        (true, true) => Ordering::Equal,
+        (true, false) => Ordering::Less,
+        (false, true) => Ordering::Greater,
+        (false, false) => cmp_others(one, other, sight),
+    }
+}
+
+// The order of two sources other than crates.io.
+fn cmp_others(one: &SourceId, other: &SourceId, sight: Sight) -> Ordering
+    ensures { result ≡ others_cmp sight one.now other.now }
+{
+    match sight {
+        Sight::AsPlace => one.cmp(other),
+        Sight::AsOrigin => cmp_repositories(one, other),
+        Sight::AsNamed => cmp_named_repositories(one, other),
+    }
+}
+
+// The order by URL, kind and reference.
+fn cmp_repositories(one: &SourceId, other: &SourceId) -> Ordering
+    ensures { result ≡ repository_cmp (λ kind. kind) one.now other.now }
+{
+    one.url()
+        .cmp(other.url())
+        .then(kind_number(one.kind()).cmp(&kind_number(other.kind())))
+        .then(git_reference_text(one.kind()).cmp(git_reference_text(other.kind())))
+}
+
+// The order by URL, kind and reference, where the branch `master` is the default branch.
+fn cmp_named_repositories(one: &SourceId, other: &SourceId) -> Ordering
+    ensures { result ≡ repository_cmp named_kind one.now other.now }
+{
+    one.url()
+        .cmp(other.url())
+        .then(named_number(one.kind()).cmp(&named_number(other.kind())))
+        .then(named_text(one.kind()).cmp(named_text(other.kind())))
+}
+
+// Where a kind stands in the order, where the branch `master` is the default branch.
+fn named_number(kind: &SourceKind) -> u8
+    ensures { result ≡ key.kind_number (named_kind (kind_of kind.now)) }
+{
+    match kind {
+        SourceKind::Git(GitReference::Branch(text)) => {
+            if text.as_str() == "master" { 0 } else { 2 }
+        }
+        _ => kind_number(kind),
+    }
+}
+
+// The text of the reference, where the branch `master` is the default branch.
+fn named_text(kind: &SourceKind) -> &str
+    ensures { result.now ≡ key.git_reference_text (named_kind (kind_of kind.now)) }
+{
+    match kind {
+        SourceKind::Git(GitReference::Branch(text)) => {
+            if text.as_str() == "master" {
+                ""
+            } else {
+                text.as_str()
+            }
+        }
+        _ => git_reference_text(kind),
+    }
+}
+
+// Where a kind with its reference stands in the order.
+fn kind_number(kind: &SourceKind) -> u8
+    ensures { result ≡ key.kind_number (kind_of kind.now) }
+{
+    match kind {
+        SourceKind::Git(GitReference::DefaultBranch) => 0,
+        SourceKind::Git(GitReference::Tag(_)) => 1,
+        SourceKind::Git(GitReference::Branch(_)) => 2,
+        SourceKind::Git(GitReference::Rev(_)) => 3,
+        SourceKind::Path => 4,
+        SourceKind::Registry => 5,
+        SourceKind::SparseRegistry => 6,
+        SourceKind::LocalRegistry => 7,
+        SourceKind::Directory => 8,
+    }
+}
+
+// The text of the reference, empty where there is none.
+fn git_reference_text(kind: &SourceKind) -> &str
+    ensures { result.now ≡ key.git_reference_text (kind_of kind.now) }
+{
+    match kind {
+        SourceKind::Git(GitReference::Tag(text)) => text.as_str(),
+        SourceKind::Git(GitReference::Branch(text)) => text.as_str(),
+        SourceKind::Git(GitReference::Rev(text)) => text.as_str(),
+        _ => "",
+    }
+}
+
+/// The order of two replacements by name, version and place, an absent one before a present one.
+pub fn cmp_replacements(one: &Option<Dependency>, other: &Option<Dependency>) -> Ordering
+    ensures { result ≡ option_cmp placed_identity_cmp one.now other.now }
+{
+    match (one, other) {
+        (None, None) => Ordering::Equal,
+        (None, Some(_)) => Ordering::Less,
+        (Some(_), None) => Ordering::Greater,
+        (Some(one), Some(other)) => cmp_dependencies(one, other),
+    }
+}
+
+// The order of two dependencies by name, version and place.
+fn cmp_dependencies(one: &Dependency, other: &Dependency) -> Ordering
+    ensures { result ≡ placed_identity_cmp one.now other.now }
+{
+    one.name
+        .cmp(&other.name)
+        .then(one.version.cmp(&other.version))
+        .then(cmp_places(&one.source, &other.source))
+}

@@ -1,0 +1,233 @@
+//! How many changes of each kind a difference has.
+
+ghost use Rattle.std.specs.Prelude.{◌≡◌, count_by, false, map};
+ghost use Rattle.cargo_lock_diff.specs.Change.{change_of};
+ghost use Rattle.cargo_lock_diff.specs.Summary as spec;
+
+use crate::change::Change;
+use crate::parts::is_downgrade;
+use std::fmt;
+
+/// The kind of a change.
+#[derive(Debug, Clone, Copy, PartialEq, Eq)]
+pub enum Kind {
+    /// `!`: an alarm.
+    Alarm,
+
+    /// `>`: another source.
+    Source,
+
+    /// `?`: a checksum that was not there.
+    Checksum,
+
+    /// `@`: another replacement.
+    Replacement,
+
+    /// `~`: another version that does not come before the old one.
+    Updated,
+
+    /// `~` with `(downgrade)`: a version that comes before the old one.
+    Downgraded,
+
+    /// `-`: a package that went.
+    Removed,
+
+    /// `+`: a package that came.
+    Added,
+
+    /// `=`: other dependencies.
+    Dependencies,
+}
+
+impl Kind {
+    /// Whether a change is of this kind.
+    pub fn is_of(self, change: &Change<'_>) -> bool
+        ensures { result ≡ spec.is_of self (change_of change.now) }
+    {
+        match self {
+            Kind::Alarm => matches!(change, Change::Alarm(_, _)),
+            Kind::Source => matches!(change, Change::Moved(_, _)),
+            Kind::Checksum => matches!(change, Change::Checksum(_, _)),
+            Kind::Replacement => matches!(change, Change::Replaced(_, _)),
+            Kind::Updated => is_update(change, false),
+            Kind::Downgraded => is_update(change, true),
+            Kind::Removed => matches!(change, Change::Removed(_)),
+            Kind::Added => matches!(change, Change::Added(_)),
+            Kind::Dependencies => matches!(change, Change::OtherDependencies(_, _, _)),
+        }
+    }
+}
+
+// Whether a change is another version: one that comes before the old one, or one that does not.
+fn is_update(change: &Change<'_>, downgrade: bool) -> bool
+    ensures { result ≡ spec.is_update downgrade (change_of change.now) }
+{
+    match change {
+        Change::Updated(old, new) => {
+            if downgrade {
+                is_downgrade(old, new)
+            } else {
+                !is_downgrade(old, new)
+            }
+        }
+        _ => false,
+    }
+}
+
+/// How many changes of each kind a difference has. Displayed, it is the last line without its
+/// newline: `2 updated, 1 downgraded, 1 removed, 1 added, 1 moved, 1 new checksum, 1 replacement,
+/// 1 with other dependencies, 1 alarm`. Counts of zero are left out, and those of several are
+/// `new checksums`, `replacements` and `alarms`.
+#[derive(Debug, Clone, Copy, PartialEq, Eq)]
+pub struct Summary {
+    /// How many alarms.
+    pub alarms: usize,
+
+    /// How many pairs of one version from another source.
+    pub sources: usize,
+
+    /// How many pairs of one version with a checksum that was not there.
+    pub checksums: usize,
+
+    /// How many pairs of one version with another replacement.
+    pub replacements: usize,
+
+    /// How many pairs with another version that does not come before the old one.
+    pub updated: usize,
+
+    /// How many pairs with a version that comes before the old one.
+    pub downgraded: usize,
+
+    /// How many packages that went.
+    pub removed: usize,
+
+    /// How many packages that came.
+    pub added: usize,
+
+    /// How many pairs with other dependencies.
+    pub dependencies: usize,
+}
+
+impl Summary {
+    /// The counts of some changes.
+    ///
+    /// ```
+    /// let changes = difference.all_changes(rt.alloc(), false)?;
+    /// let summary = Summary::of(changes.as_slice());
+    /// println!(rt; "{summary}")?;
+    /// ```
+    pub fn of(changes: &[Change<'_>]) -> Summary
+        ensures { result ≡ spec.summary_of (map change_of changes.now) }
+    {
+        Summary {
+            alarms: count(changes, Kind::Alarm),
+            sources: count(changes, Kind::Source),
+            checksums: count(changes, Kind::Checksum),
+            replacements: count(changes, Kind::Replacement),
+            updated: count(changes, Kind::Updated),
+            downgraded: count(changes, Kind::Downgraded),
+            removed: count(changes, Kind::Removed),
+            added: count(changes, Kind::Added),
+            dependencies: count(changes, Kind::Dependencies),
+        }
+    }
+}
+
+// How many changes are of a kind.
+fn count(changes: &[Change<'_>], kind: Kind) -> usize
+    ensures { result ≡ count_by (spec.is_of kind) (map change_of changes.now) }
+{
+    let mut number = 0;
+    for change in changes {
+        if kind.is_of(change) {
+            number += 1;
+        }
+    }
+    number
+}
+
+impl fmt::Display for Summary {
+    ghost use Rattle.std.specs.Prelude.{Some};
+    ghost use Rattle.cargo_lock_diff.specs.Summary.{summary_text};
+
+    ghost output = { λ summary. Some (summary_text summary) };
+
+    fn fmt<W: fmt::Write>(&self, f: &mut fmt::Formatter<W>) -> fmt::Result {
+        let updated = Counted::first(self.updated, "updated");
+        let downgraded = updated.then(self.downgraded, "downgraded", "downgraded");
+        let removed = downgraded.then(self.removed, "removed", "removed");
+        let added = removed.then(self.added, "added", "added");
+        let sources = added.then(self.sources, "moved", "moved");
+        let checksums = sources.then(self.checksums, "new checksum", "new checksums");
+        let replacements = checksums.then(self.replacements, "replacement", "replacements");
+        let words = "with other dependencies";
+        let dependencies = replacements.then(self.dependencies, words, words);
+        let alarms = dependencies.then(self.alarms, "alarm", "alarms");
+        write!(
+            f,
+            "{updated}{downgraded}{removed}{added}{sources}{checksums}{replacements}{dependencies}{alarms}"
+        )
+    }
+}
+
+// A count with the word for one or for more, and whether there is a count before it.
+#[derive(Clone, Copy)]
+struct Counted<'a> {
+    behind: bool,
+    number: usize,
+    one: &'a str,
+    more: &'a str,
+}
+
+impl<'a> Counted<'a> {
+    // The first count.
+    fn first(number: usize, word: &'a str) -> Counted<'a>
+        ensures { result ≡ record {
+          behind = false;
+          number = number;
+          one = word.entry;
+          more = word.entry;
+        } }
+    {
+        Counted {
+            behind: false,
+            number,
+            one: word,
+            more: word,
+        }
+    }
+
+    // The count behind this one.
+    fn then(self, number: usize, one: &'a str, more: &'a str) -> Counted<'a>
+        ensures { result ≡ record {
+          behind = spec.is_behind self.entry.behind self.entry.number;
+          number = number;
+          one = one.entry;
+          more = more.entry;
+        } }
+    {
+        Counted {
+            behind: self.behind || self.number != 0,
+            number,
+            one,
+            more,
+        }
+    }
+}
+
+impl fmt::Display for Counted<'_> {
+    ghost use Rattle.std.specs.Prelude.{Some};
+    ghost use Rattle.cargo_lock_diff.specs.Summary.{counted};
+
+    ghost output = { λ c. Some (counted c.behind c.number c.one.now c.more.now) };
+
+    fn fmt<W: fmt::Write>(&self, f: &mut fmt::Formatter<W>) -> fmt::Result {
+        if self.number == 0 {
+            return Ok(());
+        }
+        let comma = if self.behind { ", " } else { "" };
+        let number = self.number;
+        let word = if number == 1 { self.one } else { self.more };
+        write!(f, "{comma}{number} {word}")
+    }
+}

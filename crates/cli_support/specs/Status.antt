@@ -1,0 +1,25 @@
+-- The status that the program ends with where it reports a fault.
+use Rattle.std.specs.Prelude.{◌≡◌, ℕ, Bool, List, [], ◌∷◌, bytes_eq, codes, false, if◌then◌else◌}
+use Rattle.std.specs.List.{list_any}
+use Rattle.std.specs.Process.{exit_status}
+use Rattle.std.specs.declared.process.ExitCode.{ExitCode}
+
+-- the names of the commands that the original does not have
+abbrev pub own_commands : List (List ℕ)
+own_commands = codes "bom" ∷ codes "check" ∷ codes "diff" ∷ []
+
+-- the arguments without a leading `lock`, which cargo passes
+abbrev pub without_lock : List (List ℕ) → List (List ℕ)
+without_lock [] = []
+without_lock (word ∷ rest) = if bytes_eq word (codes "lock") then rest else word ∷ rest
+
+-- the first of the arguments is the name of such a command
+abbrev pub begin_with_own : List (List ℕ) → Bool
+begin_with_own [] = false
+begin_with_own (word ∷ rest) = list_any (bytes_eq word) own_commands
+
+-- The status is 2 where the arguments name a command that the original does not have, as `diff` and
+-- `grep` have it, and else 1, as the original has it.
+abbrev pub IsFaultStatus : List (List ℕ) → ExitCode → Type 0
+IsFaultStatus words status =
+    exit_status status ≡ (if begin_with_own (without_lock words) then 2 else 1)

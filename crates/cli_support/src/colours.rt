@@ -1,0 +1,85 @@
+//! Lines for a terminal in colours, each by its first character.
+
+use crate::output::put_all;
+use std::io::{ErrorKind, Write};
+use std::{io, str};
+
+/// What ends a coloured line.
+const PLAIN: &str = "\u{1b}[0m";
+
+/// A writer that prints each line of `diff` in the colour of its first character: `!` in bold red,
+/// `-` in red, `+` in green, `~`, `>`, `?` and `@` in yellow, and other lines as they are. What it
+/// takes has no control character but the newline, as `Terminal` sees to.
+#[derive(Drop)]
+pub struct Colours<W> {
+    out: W,
+
+    /// What ends the line that was begun, if one was.
+    end: Option<&'static str>,
+}
+
+impl<W: Write> Colours<W> {
+    /// The writer in front of this one.
+    pub fn new(out: W) -> Colours<W> {
+        Colours { out, end: None }
+    }
+
+    /// Prints a part of one line, which may end in a newline.
+    fn put_part(&mut self, part: &str) -> io::Result<()> {
+        let end = match self.end {
+            Some(end) => end,
+            None => self.begin(part)?,
+        };
+        match part.strip_suffix('\n') {
+            Some(text) => {
+                put_all(&mut self.out, text.as_bytes())?;
+                put_all(&mut self.out, end.as_bytes())?;
+                self.end = None;
+                put_all(&mut self.out, b"\n")
+            }
+            None => {
+                self.end = Some(end);
+                put_all(&mut self.out, part.as_bytes())
+            }
+        }
+    }
+
+    /// Begins a line. Returns what ends it.
+    fn begin(&mut self, line: &str) -> io::Result<&'static str> {
+        match colour(line) {
+            Some(colour) => {
+                put_all(&mut self.out, colour.as_bytes())?;
+                Ok(PLAIN)
+            }
+            None => Ok(""),
+        }
+    }
+}
+
+impl<W: Write> Write for Colours<W> {
+    /// Prints the bytes, which are whole characters of a text.
+    fn write(&mut self, bytes: &[u8]) -> io::Result<usize> {
+        let Ok(text) = str::from_utf8(bytes) else {
+            return Err(io::Error::from(ErrorKind::InvalidData));
+        };
+        for part in text.split_inclusive('\n') {
+            self.put_part(part)?;
+        }
+        Ok(bytes.len())
+    }
+
+    fn flush(&mut self) -> io::Result<()> {
+        self.out.flush()
+    }
+}
+
+/// What begins the colour of a line, if it has one.
+fn colour(line: &str) -> Option<&'static str> {
+    match line.chars().next()? {
+        '!' => Some("\u{1b}[1;31m"),
+        '-' => Some("\u{1b}[31m"),
+        '+' => Some("\u{1b}[32m"),
+        '~' | '>' | '?' | '@' => Some("\u{1b}[33m"),
+        _ => None,
+    }
+}
