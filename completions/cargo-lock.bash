@@ -44,12 +44,12 @@ _cargo_lock() {
         -f | --file | -o | --output) _cargo_lock_files ;;
         --root) _cargo_lock_packages ;;
         --author) ;;
-        *) _cargo_lock_offer '-f --file --any-size -o --output --root --author --serial --compact -h --help' ;;
+        *) _cargo_lock_offer '-f --file --any-size -o --output --root --author --timestamp --serial --compact -h --help' ;;
         esac
         ;;
     diff)
         if [[ $current == -* ]]; then
-            _cargo_lock_offer '--any-size -d --dependencies --exit-code -h --help'
+            _cargo_lock_offer '--any-size -d --dependencies --exit-code --json -h --help'
         else
             _cargo_lock_files
         fi
@@ -57,7 +57,7 @@ _cargo_lock() {
     check)
         case $previous in
         -f | --file) _cargo_lock_files ;;
-        *) _cargo_lock_offer '-f --file --any-size -h --help' ;;
+        *) _cargo_lock_offer '-f --file --any-size --json -h --help' ;;
         esac
         ;;
     help) _cargo_lock_offer 'list translate tree bom diff check help' ;;

@@ -52,6 +52,7 @@ complete -c cargo-lock -n '__cargo_lock_runs bom' -l any-size -d 'Reads a lockfi
 complete -c cargo-lock -n '__cargo_lock_runs bom' -s o -l output -r -F -d 'The file that is written, - for standard output'
 complete -c cargo-lock -n '__cargo_lock_runs bom' -l root -x -a '(__cargo_lock_packages)' -d 'The package that the bill is about, as for tree'
 complete -c cargo-lock -n '__cargo_lock_runs bom' -l author -x -d 'Who writes the bill'
+complete -c cargo-lock -n '__cargo_lock_runs bom' -l timestamp -d 'Adds the time: of SOURCE_DATE_EPOCH, or else of the clock'
 complete -c cargo-lock -n '__cargo_lock_runs bom' -l serial -d 'Adds a serial number, equal for equal bills'
 complete -c cargo-lock -n '__cargo_lock_runs bom' -l compact -d 'Writes one line, without spaces'
 complete -c cargo-lock -n '__cargo_lock_runs bom' -s h -l help -d 'Print help'
@@ -59,11 +60,13 @@ complete -c cargo-lock -n '__cargo_lock_runs bom' -s h -l help -d 'Print help'
 complete -c cargo-lock -n '__cargo_lock_runs diff' -l any-size -d 'Reads a lockfile of 256 MiB or more too'
 complete -c cargo-lock -n '__cargo_lock_runs diff' -s d -l dependencies -d 'Shows other dependencies of packages too'
 complete -c cargo-lock -n '__cargo_lock_runs diff' -l exit-code -d 'Ends with status 1 where anything differs, dependencies only with -d'
+complete -c cargo-lock -n '__cargo_lock_runs diff' -l json -d 'Prints one line of JSON'
 complete -c cargo-lock -n '__cargo_lock_runs diff' -s h -l help -d 'Print help'
 complete -c cargo-lock -n '__cargo_lock_runs diff' -F -d 'The lockfile'
 
 complete -c cargo-lock -n '__cargo_lock_runs check' -s f -l file -r -F -d 'The lockfile, - for standard input'
 complete -c cargo-lock -n '__cargo_lock_runs check' -l any-size -d 'Reads a lockfile of 256 MiB or more too'
+complete -c cargo-lock -n '__cargo_lock_runs check' -l json -d 'Prints one line of JSON'
 complete -c cargo-lock -n '__cargo_lock_runs check' -s h -l help -d 'Print help'
 
 complete -c cargo-lock -n '__cargo_lock_runs help' -a 'list translate tree bom diff check help' -d COMMAND

@@ -58,6 +58,7 @@ _cargo-lock() {
             '(-o --output)'{-o,--output}'[The file that is written, - for standard output]:PATH:_files' \
             '--root[The package that the bill is about, as for tree]:SPEC:_cargo-lock-packages' \
             '--author[Who writes the bill]:NAME:' \
+            '--timestamp[Adds the time: of SOURCE_DATE_EPOCH, or else of the clock]' \
             '--serial[Adds a serial number, equal for equal bills]' \
             '--compact[Writes one line, without spaces]' \
             '(- *)'{-h,--help}'[Print help]'
@@ -67,6 +68,7 @@ _cargo-lock() {
             '--any-size[Reads a lockfile of 256 MiB or more too]' \
             '(-d --dependencies)'{-d,--dependencies}'[Shows other dependencies of packages too]' \
             '--exit-code[Ends with status 1 where anything differs, dependencies only with -d]' \
+            '--json[Prints one line of JSON]' \
             '(- *)'{-h,--help}'[Print help]' \
             '1:OLD:_files' \
             '2:NEW:_files'
@@ -75,6 +77,7 @@ _cargo-lock() {
         _arguments -s \
             '(-f --file)'{-f,--file}'[The lockfile, - for standard input]:PATH:_files' \
             '--any-size[Reads a lockfile of 256 MiB or more too]' \
+            '--json[Prints one line of JSON]' \
             '(- *)'{-h,--help}'[Print help]'
         ;;
     help)

@@ -20,28 +20,31 @@ def fault_of(crates):
 def is_old(crate):
     """Returns whether the library of a crate was made of other sources than those at hand. That of
     `rt check` has a stamp. That of `rt ci` has none, and then a source that was written later
-    makes it old."""
+    makes it old. Its folder has the time at which `rt ci` put it there. Its files may be older than
+    the sources, since `rt ci` links the files that it kept from an earlier run."""
     stamp = rt.rtlib.text_of(f"{os.path.dirname(crate.rlib)}/stamp")
     if stamp is not None:
         return stamp != crate.stamp()
-    made = os.stat(f"{crate.rlib}/format").st_mtime
+    made = os.stat(crate.rlib).st_mtime
     return any(os.stat(it).st_mtime > made for it in rt.rtlib.files_of(crate.folder))
 
 
 def kept_of(crate, top):
-    """Returns the folder of the work that `rt check` kept of a crate in the checkout at top."""
-    folder = f"{top}/{os.path.relpath(crate.folder, ROOT)}"
-    return f"{folder}/{rt.rtlib.KEPT[1]}"
+    """Returns the folder of the work that `rt check` kept of a crate, if there is one: in the
+    checkout at top, or else in the one on this machine whose work serves the crate best."""
+    own = f"{top}/{os.path.relpath(crate.folder, ROOT)}/{rt.rtlib.KEPT[1]}"
+    return own if os.path.isdir(own) else rt.work_for(crate)
 
 
 def begin(crate, top, to):
     """Copies the work that `rt check` kept into an empty folder. Where that fails, it stays empty.
     Returns whether there is any."""
     kept = kept_of(crate, top)
-    if not os.path.isdir(kept):
+    if not kept:
         return False
     try:
-        shutil.copytree(kept, to, dirs_exist_ok=True)
+        os.rmdir(to)
+        rt.linked(kept, to)
     except (OSError, shutil.Error):
         shutil.rmtree(to, ignore_errors=True)
         os.makedirs(to)

@@ -7,7 +7,6 @@ use Rattle.std.proofs.lemmas.List.Elements.{Contains-append_left, Contains-get_o
 use Rattle.std.proofs.lemmas.List.Quantifiers.{all_pairs_push}
 use Rattle.std.proofs.lemmas.Option.{slice_get_within, same_Some}
 use Rattle.cargo_lock_parts.specs.Identity.{Identity, PackageData}
-use Rattle.cargo_lock_graph.specs.Targets.{HoldsOf}
 use Rattle.cargo_lock_check.specs.Dependencies.{AreDependencies, AreDependenciesBefore, HoldsAt, HoldsOfDependency, IsBefore}
 
 -- ---- one dependency

@@ -1,5 +1,5 @@
 -- Which dependencies of a package are known, one after another.
-use Rattle.std.proofs.Common.{◌≡◌, ◌<◌, ◌+◌, ◌↔◌, ℕ, Bool, true, false, cond, IsSome, List, length, get_or, slice_get, Option, Some, None, refl, sym, ap, subst, ◌∙◌, arith}
+use Rattle.std.proofs.Common.{◌≡◌, ◌<◌, ◌+◌, ◌↔◌, ℕ, Bool, true, false, cond, IsSome, List, slice_get, Option, Some, None, refl, sym, ap, subst, ◌∙◌}
 use Rattle.std.specs.Bool.{Decides}
 use Rattle.std.specs.BTreeMap.{BTreeMap, get, is_at}
 use Rattle.std.proofs.lemmas.Bool.{false≢true}
@@ -15,7 +15,7 @@ use Rattle.cargo_lock_check.specs.Seen.{AreLastDependencies}
 partial_of_key : IdentityKey → PartialKey
 partial_of_key k = record { name = k.name; version = Some k.version; source = k.source }
 
-same-identity : (a b : Identity) → Decides (is_at (partial_identity_cmp (identity_as_key a)) (identity_as_key b)) (identity_key a ≡ identity_key b)
+pub same-identity : (a b : Identity) → Decides (is_at (partial_identity_cmp (identity_as_key a)) (identity_as_key b)) (identity_key a ≡ identity_key b)
 unfolding partial_of_key
 same-identity a b =
     let tells = is_same_partial_identity-Decides (identity_as_key a) (identity_as_key b) in (

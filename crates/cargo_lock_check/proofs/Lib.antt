@@ -8,6 +8,7 @@ pub mod DependencySeen
 pub mod LostPlaces
 pub mod Matching
 pub mod Searching
+pub mod Asking
 pub mod StaleKeys
 pub mod Lines
 pub mod Carets

@@ -1,18 +1,26 @@
--- Whether a dependency is lost, by its matches.
-use Rattle.std.proofs.Common.{◌≡◌, ◌<◌, List, length, get_or, arith}
-use Rattle.std.proofs.lemmas.List.Elements.{Contains-get_or}
-use Rattle.cargo_lock_parts.specs.Identity.{Identity, PackageData}
-use Rattle.cargo_lock_graph.specs.Targets.{IsLost}
-use Rattle.cargo_lock_check.specs.declared.flaws.candidates.Match.{Match}
-use Rattle.cargo_lock_check.specs.Search.{AreMatches}
+-- Whether a dependency is lost, by the packages of its name and version.
+use Rattle.std.proofs.Common.{◌≡◌, ◌∙◌, ℕ, true, false, List, Option, Some, None, slice_get, sym}
+use Rattle.std.specs.Option.{is_some}
+use Rattle.cargo_lock_parts.specs.Identity.{HasNameAndVersion, Identity, PackageData}
+use Rattle.cargo_lock_graph.specs.Candidates.{BestFrom}
+use Rattle.cargo_lock_graph.specs.Targets.{HoldsOf, IsLastBelow, IsLost, rank_between}
+use Rattle.cargo_lock_graph.proofs.BestCandidates.{best-end, best-step}
 
-pub lost-empty : (packages : List PackageData) (d : Identity) (matches : List Match) → length matches ≡ 0 → AreMatches packages d matches → IsLost packages d
-lost-empty packages d matches empty are place rank f =
-    let one : Match = record { rank = rank; place = place } in
-    let low = ((are one).1 f).1 in
-    omega (arith, low, empty)
+-- the package at the next place does not match
+pub lost-next : (packages : List PackageData) (d : Identity) (bound place : ℕ) (p : PackageData) (rank : Option ℕ)
+    → IsLastBelow (HoldsOf (HasNameAndVersion d) packages) bound (Some place) → slice_get packages place ≡ Some p
+    → rank ≡ rank_between d.source p.source → is_some rank ≡ false → BestFrom packages d bound None → BestFrom packages d place None
+lost-next packages d bound place p None is at ranked none so_far =
+    best-step packages d bound place p None None is at (λ r f. let e = f.ranked in let bad : None ≡ Some r = ranked ∙ e in cc bad) so_far
+lost-next packages d bound place p (Some rank) is at ranked none so_far = cc none
 
-pub found-some : (packages : List PackageData) (d : Identity) (matches : List Match) → 0 < length matches → AreMatches packages d matches → ¬ IsLost packages d
-found-some packages d matches more are lost =
-    let m : Match = get_or matches 0 (record { rank = 0; place = 0 }) in
-    lost m.place m.rank ((are m).0 (Contains-get_or matches 0 (record { rank = 0; place = 0 }) more))
+-- there are no more of the name and the version
+pub lost-end : (packages : List PackageData) (d : Identity) (bound : ℕ) → IsLastBelow (HoldsOf (HasNameAndVersion d) packages) bound None
+    → BestFrom packages d bound None → IsLost packages d
+lost-end packages d bound none so_far = best-end packages d bound None none so_far
+
+-- the package at a place matches
+pub found-here : (packages : List PackageData) (d : Identity) (place : ℕ) (p : PackageData) (rank : Option ℕ) → slice_get packages place ≡ Some p
+    → HasNameAndVersion d p → rank ≡ rank_between d.source p.source → is_some rank ≡ true → IsLost packages d → ⊥
+found-here packages d place p None at named ranked some lost = cc some
+found-here packages d place p (Some rank) at named ranked some lost = lost place rank (p, at, record { named = named; ranked = sym ranked })

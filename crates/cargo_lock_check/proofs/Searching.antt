@@ -12,8 +12,8 @@ use Rattle.cargo_lock_parts.specs.Identity.{Identity, PackageData}
 use Rattle.cargo_lock_check.specs.declared.flaws.candidates.Match.{Match}
 use Rattle.cargo_lock_check.specs.declared.flaws.reach.Search.{Search}
 use Rattle.cargo_lock_check.specs.Places.{IsPlaces}
-use Rattle.cargo_lock_check.specs.Reach.{IsAskedBy, IsBestMatch, IsChain, IsOneOfBest, IsOrphan, IsReached, IsRoot, LeadsTo}
-use Rattle.cargo_lock_check.specs.Search.{HasReached, IsMarked, IsSearch}
+use Rattle.cargo_lock_check.specs.Reach.{AsksFor, IsBestMatch, IsChain, IsOneOfBest, IsOrphan, IsReached, IsRoot, IsStart, LeadsTo}
+use Rattle.cargo_lock_check.specs.Search.{HasBegun, HasReached, IsMarked, IsSearch}
 use Rattle.cargo_lock_check.proofs.Matching.{AreBestMatches}
 
 -- ---- marks
@@ -240,14 +240,10 @@ targets-all packages ds i a b end f =
     (λ k h. (h.0, subst (λ (es : List Identity). Contains es h.0) (sym whole) h.1, h.2))
     f
 
--- what a package asks for
-abbrev pub AskedTargets : List PackageData → PackageData → ℕ → Type 0
-AskedTargets packages p k = (d : Identity) × IsAskedBy p d × IsOneOfBest packages d k
-
 pub asked-alone : (packages : List PackageData) (p : PackageData) (ds : List Identity) (a b : Search) → ds ≡ p.dependencies → p.replace ≡ None
-    → HasReached (λ k. (d : Identity) × Contains ds d × IsOneOfBest packages d k) a b → HasReached (AskedTargets packages p) a b
+    → HasReached (λ k. (d : Identity) × Contains ds d × IsOneOfBest packages d k) a b → HasReached (AsksFor packages p) a b
 asked-alone packages p ds a b same none f =
-    reached-alike (λ k. (d : Identity) × Contains ds d × IsOneOfBest packages d k) (AskedTargets packages p) a b
+    reached-alike (λ k. (d : Identity) × Contains ds d × IsOneOfBest packages d k) (AsksFor packages p) a b
     (λ k h. (h.0, inl (subst (λ (es : List Identity). Contains es h.0) same h.1), h.2))
     (λ k h. elim h.1 [
       | inl among ↦ (h.0, subst (λ (es : List Identity). Contains es h.0) (sym same) among, h.2)
@@ -257,9 +253,9 @@ asked-alone packages p ds a b same none f =
 
 pub asked-both : (packages : List PackageData) (p : PackageData) (ds : List Identity) (r : Identity) (a b c : Search) → ds ≡ p.dependencies → p.replace ≡ Some r
     → HasReached (λ k. (d : Identity) × Contains ds d × IsOneOfBest packages d k) a b → HasReached (IsOneOfBest packages r) b c
-    → HasReached (AskedTargets packages p) a c
+    → HasReached (AsksFor packages p) a c
 asked-both packages p ds r a b c same some f g =
-    reached-both (λ k. (d : Identity) × Contains ds d × IsOneOfBest packages d k) (IsOneOfBest packages r) (AskedTargets packages p) a b c
+    reached-both (λ k. (d : Identity) × Contains ds d × IsOneOfBest packages d k) (IsOneOfBest packages r) (AsksFor packages p) a b c
     (λ k h. elim h.1 [
       | inl among ↦ inl (h.0, subst (λ (es : List Identity). Contains es h.0) (sym same) among, h.2)
       | inr replaced ↦ inr (subst (λ (e : Identity). IsOneOfBest packages e k) (same_Some h.0 r (sym replaced ∙ some)) h.2)
@@ -325,51 +321,107 @@ none-marked count k h =
     let e : false ≡ true = sym (get_or-replicate count k false false (omega (arith, low, long))) ∙ get_or_from_slice_get (replicate count false) k true false h in
     cc e
 
--- the packages of the workspace are reached, where nothing was reached before
-pub search-start : (packages : List PackageData) (a b : Search) → length a.reached.items ≡ length packages → ((k : ℕ) → ¬ IsMarked a.reached.items k) → a.waiting.items ≡ []
-    → HasReached (IsRoot packages) a b → IsSearch packages b
-search-start packages a b count bare empty f =
-    let new : (k : ℕ) → IsMarked b.reached.items k → IsRoot packages k × Contains b.waiting.items k = λ k h. elim (f.added k h) [
+-- P holds of the places that are reached, where nothing was reached before
+pub search-begun : (packages : List PackageData) (P : ℕ → Type 0) (a b : Search) → length a.reached.items ≡ length packages → ((k : ℕ) → ¬ IsMarked a.reached.items k) → a.waiting.items ≡ []
+    → HasReached P a b → HasBegun packages P b
+search-begun packages P a b count bare empty f =
+    let new : (k : ℕ) → IsMarked b.reached.items k → P k × Contains b.waiting.items k = λ k h. elim (f.added k h) [
       | inl old ↦ absurd (bare k old)
       | inr new ↦ new
+    ] in
+    let marked : (k : ℕ) → Contains b.waiting.items k → IsMarked b.reached.items k = λ k h. elim (f.marked k h) [
+      | inl old ↦ absurd (none-in k (subst (λ (ws : List ℕ). Contains ws k) empty old))
+      | inr marked ↦ marked
     ] in record {
       count = f.count ∙ count;
-      sound = λ k h. (k, [], (new k h).0, refl);
-      waits = λ k h. elim (f.marked k h) [
-        | inl old ↦ absurd (none-in k (subst (λ (ws : List ℕ). Contains ws k) empty old))
-        | inr marked ↦ marked
-      ];
-      roots = f.all;
-      closed = λ k l h leads. inl (new k h).1;
+      marked = λ k. (λ h. (new k h).0, f.all k);
+      waits = λ k. (λ h. (new k (marked k h)).0, λ p. (new k (f.all k p)).1);
     }
+
+-- where P and no more has been reached, and then Q, the two are
+pub begun-both : (packages : List PackageData) (P Q R : ℕ → Type 0) (a b : Search) → ((k : ℕ) → R k → P k ⊎ Q k) → ((k : ℕ) → P k → R k) → ((k : ℕ) → Q k → R k)
+    → HasBegun packages P a → HasReached Q a b → HasBegun packages R b
+begun-both packages P Q R a b cases first second h f =
+    let new : (k : ℕ) → IsMarked b.reached.items k → R k × Contains b.waiting.items k = λ k m. elim (f.added k m) [
+      | inl old ↦ let p : P k = (h.marked k).0 old in (first k p, f.waits k ((h.waits k).1 p))
+      | inr new ↦ (second k new.0, new.1)
+    ] in
+    let marked : (k : ℕ) → Contains b.waiting.items k → IsMarked b.reached.items k = λ k w. elim (f.marked k w) [
+      | inl old ↦ f.kept k ((h.marked k).1 ((h.waits k).0 old))
+      | inr marked ↦ marked
+    ] in
+    let all : (k : ℕ) → R k → IsMarked b.reached.items k = λ k r. elim (cases k r) [
+      | inl p ↦ f.kept k ((h.marked k).1 p)
+      | inr q ↦ f.all k q
+    ] in record {
+      count = f.count ∙ h.count;
+      marked = λ k. (λ m. (new k m).0, all k);
+      waits = λ k. (λ w. (new k (marked k w)).0, λ r. (new k (all k r)).1);
+    }
+
+-- a search goes on from the places at which a chain begins
+pub search-start : (packages : List PackageData) (root : Option PackageData) (s : Search) → HasBegun packages (IsStart packages root) s → IsSearch packages root s
+search-start packages root s h = record {
+  count = h.count;
+  sound = λ k m. (k, [], (h.marked k).0 m, refl);
+  waits = λ k w. (h.marked k).1 ((h.waits k).0 w);
+  starts = λ k start. (h.marked k).1 start;
+  closed = λ k l m leads. inl ((h.waits k).1 ((h.marked k).0 m));
+}
+
+-- there is no root apart from the packages
+pub start-rootless : (packages : List PackageData) (root : Option PackageData) (s : Search) → root ≡ None → HasBegun packages (IsRoot packages) s → IsSearch packages root s
+start-rootless packages root s none h =
+    let from : (k : ℕ) → IsStart packages root k → IsRoot packages k = λ k start. elim start [
+      | inl bare ↦ bare
+      | inr led ↦ let e : None ≡ Some led.0 = sym none ∙ led.1 in absurd (cc e)
+    ] in
+    search-start packages root s record {
+      count = h.count;
+      marked = λ k. (λ m. inl ((h.marked k).0 m), λ start. (h.marked k).1 (from k start));
+      waits = λ k. (λ w. inl ((h.waits k).0 w), λ start. (h.waits k).1 (from k start));
+    }
+
+-- what the root apart from the packages asks for is reached too
+pub start-rooted : (packages : List PackageData) (root : Option PackageData) (p : PackageData) (a b : Search) → root ≡ Some p
+    → HasBegun packages (IsRoot packages) a → HasReached (AsksFor packages p) a b → IsSearch packages root b
+start-rooted packages root p a b some h f =
+    search-start packages root b (begun-both packages (IsRoot packages) (AsksFor packages p) (IsStart packages root) a b
+    (λ k start. elim start [
+      | inl bare ↦ inl bare
+      | inr led ↦ inr (subst (λ (q : PackageData). AsksFor packages q k) (same_Some led.0 p (sym led.1 ∙ some)) led.2)
+    ])
+    (λ k bare. inl bare)
+    (λ k asked. inr (p, some, asked))
+    h f)
 
 chain-more : (packages : List PackageData) (a : ℕ) (chain : List ℕ) (b c : ℕ) → IsChain packages a chain b → LeadsTo packages b c → IsChain packages a (chain ++ c ∷ []) c
 chain-more packages a [] b c same leads = (subst (λ n. LeadsTo packages n c) (sym same) leads, refl)
 chain-more packages a (n ∷ ns) b c chain leads = (chain.0, chain-more packages n ns b c chain.1 leads)
 
-pub reached-next : (packages : List PackageData) (a b : ℕ) → IsReached packages a → LeadsTo packages a b → IsReached packages b
-reached-next packages a b h leads = (h.0, h.1 ++ b ∷ [], h.2, chain-more packages h.0 h.1 a b h.3 leads)
+pub reached-next : (packages : List PackageData) (root : Option PackageData) (a b : ℕ) → IsReached packages root a → LeadsTo packages a b → IsReached packages root b
+reached-next packages root a b h leads = (h.0, h.1 ++ b ∷ [], h.2, chain-more packages h.0 h.1 a b h.3 leads)
 
 -- what the package at the last place that waited leads to is reached
-pub search-next : (packages : List PackageData) (before popped after : Search) (place : ℕ)
-    → IsSearch packages before → popped.reached.items ≡ before.reached.items → before.waiting.items ≡ popped.waiting.items ++ place ∷ []
-    → HasReached (LeadsTo packages place) popped after → IsSearch packages after
-search-next packages before popped after place h same ends f =
+pub search-next : (packages : List PackageData) (root : Option PackageData) (before popped after : Search) (place : ℕ)
+    → IsSearch packages root before → popped.reached.items ≡ before.reached.items → before.waiting.items ≡ popped.waiting.items ++ place ∷ []
+    → HasReached (LeadsTo packages place) popped after → IsSearch packages root after
+search-next packages root before popped after place h same ends f =
     let old : (k : ℕ) → IsMarked before.reached.items k → IsMarked popped.reached.items k = λ k m. subst (λ (ms : List Bool). IsMarked ms k) (sym same) m in
     let back : (k : ℕ) → IsMarked popped.reached.items k → IsMarked before.reached.items k = λ k m. subst (λ (ms : List Bool). IsMarked ms k) same m in
     let there : Contains before.waiting.items place = subst (λ (ws : List ℕ). Contains ws place) (sym ends) (Contains-push popped.waiting.items place) in
-    let reached : IsReached packages place = h.sound place (h.waits place there) in
+    let reached : IsReached packages root place = h.sound place (h.waits place there) in
     record {
       count = f.count ∙ ap length same ∙ h.count;
       sound = λ k m. elim (f.added k m) [
         | inl before ↦ h.sound k (back k before)
-        | inr new ↦ reached-next packages place k reached new.0
+        | inr new ↦ reached-next packages root place k reached new.0
       ];
       waits = λ k w. elim (f.marked k w) [
         | inl waited ↦ f.kept k (old k (h.waits k (subst (λ (ws : List ℕ). Contains ws k) (sym ends) (Contains-append_left popped.waiting.items (place ∷ []) k waited))))
         | inr marked ↦ marked
       ];
-      roots = λ k root. f.kept k (old k (h.roots k root));
+      starts = λ k start. f.kept k (old k (h.starts k start));
       closed = λ a b m leads. elim (f.added a m) [
         | inl before ↦ elim (h.closed a b (back a before) leads) [
           | inl waited ↦ elim (Contains-push_cases popped.waiting.items place a (subst (λ (ws : List ℕ). Contains ws a) ends waited)) [
@@ -384,34 +436,34 @@ search-next packages before popped after place h same ends f =
 
 -- what a package asks for is what its place leads to
 pub leads-of : (packages : List PackageData) (place : ℕ) (p : PackageData) (a b : Search) → slice_get packages place ≡ Some p
-    → HasReached (AskedTargets packages p) a b → HasReached (LeadsTo packages place) a b
+    → HasReached (AsksFor packages p) a b → HasReached (LeadsTo packages place) a b
 leads-of packages place p a b at f =
-    reached-alike (AskedTargets packages p) (LeadsTo packages place) a b
+    reached-alike (AsksFor packages p) (LeadsTo packages place) a b
     (λ k h. (p, at, h))
-    (λ k h. subst (λ (q : PackageData). AskedTargets packages q k) (same_Some h.0 p (sym h.1 ∙ at)) h.2)
+    (λ k h. subst (λ (q : PackageData). AsksFor packages q k) (same_Some h.0 p (sym h.1 ∙ at)) h.2)
     f
 
 -- a place that waits is one of the packages
-pub waits-within : (packages : List PackageData) (s : Search) (rest : List ℕ) (place : ℕ) → IsSearch packages s → s.waiting.items ≡ rest ++ place ∷ [] → place < length packages
-waits-within packages s rest place h ends =
+pub waits-within : (packages : List PackageData) (root : Option PackageData) (s : Search) (rest : List ℕ) (place : ℕ) → IsSearch packages root s → s.waiting.items ≡ rest ++ place ∷ [] → place < length packages
+waits-within packages root s rest place h ends =
     let low = slice_get_within s.reached.items place true (h.waits place (subst (λ (ws : List ℕ). Contains ws place) (sym ends) (Contains-push rest place))) in
     let count = h.count in
     omega (arith, low, count)
 
 -- a chain from a reached place leads to reached places, where nothing waits
-chain-reached : (packages : List PackageData) (s : Search) → IsSearch packages s → s.waiting.items ≡ []
+chain-reached : (packages : List PackageData) (root : Option PackageData) (s : Search) → IsSearch packages root s → s.waiting.items ≡ []
     → (a : ℕ) (chain : List ℕ) (b : ℕ) → IsMarked s.reached.items a → IsChain packages a chain b → IsMarked s.reached.items b
-chain-reached packages s h empty a [] b marked same = subst (λ n. IsMarked s.reached.items n) same marked
-chain-reached packages s h empty a (n ∷ ns) b marked chain =
+chain-reached packages root s h empty a [] b marked same = subst (λ n. IsMarked s.reached.items n) same marked
+chain-reached packages root s h empty a (n ∷ ns) b marked chain =
     let next : IsMarked s.reached.items n = elim (h.closed a n marked chain.0) [
       | inl waits ↦ absurd (none-in a (subst (λ (ws : List ℕ). Contains ws a) empty waits))
       | inr reached ↦ reached
-    ] in chain-reached packages s h empty n ns b next chain.1
+    ] in chain-reached packages root s h empty n ns b next chain.1
 
-pub search-end : (packages : List PackageData) (s : Search) → IsSearch packages s → s.waiting.items ≡ [] → (k : ℕ) → IsMarked s.reached.items k ↔ IsReached packages k
-search-end packages s h empty k = (
+pub search-end : (packages : List PackageData) (root : Option PackageData) (s : Search) → IsSearch packages root s → s.waiting.items ≡ [] → (k : ℕ) → IsMarked s.reached.items k ↔ IsReached packages root k
+search-end packages root s h empty k = (
   h.sound k,
-  λ r. chain-reached packages s h empty r.0 r.1 k (h.roots r.0 r.2) r.3,
+  λ r. chain-reached packages root s h empty r.0 r.1 k (h.starts r.0 r.2) r.3,
 )
 
 -- ---- orphans
@@ -424,10 +476,10 @@ bare-of marks k low none =
       | inr bare ↦ at ∙ ap Some bare
     ]
 
-pub orphans-told : (packages : List PackageData) (marks : List Bool) (places : List ℕ) → length marks ≡ length packages
-    → ((k : ℕ) → IsMarked marks k ↔ IsReached packages k) → IsPlaces (λ k. slice_get marks k ≡ Some false) (length marks) places
-    → IsPlaces (IsOrphan packages) (length packages) places
-orphans-told packages marks places count marked are = record {
+pub orphans-told : (packages : List PackageData) (root : Option PackageData) (marks : List Bool) (places : List ℕ) → length marks ≡ length packages
+    → ((k : ℕ) → IsMarked marks k ↔ IsReached packages root k) → IsPlaces (λ k. slice_get marks k ≡ Some false) (length marks) places
+    → IsPlaces (IsOrphan packages root) (length packages) places
+orphans-told packages root marks places count marked are = record {
   ascending = are.ascending;
   told = λ k. (
     λ h.

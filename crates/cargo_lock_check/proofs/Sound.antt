@@ -1,8 +1,7 @@
 -- Nothing is found exactly where nothing is wrong, and no line is told exactly where nothing is found.
-use Rattle.std.proofs.Common.{◌≡◌, ◌<◌, ◌⊎◌, ◌↔◌, inl, inr, ℕ, zero, suc, Bool, true, false, cond, List, [], ◌∷◌, ◌++◌, length, map, slice_get, Option, Some, None, MatchOption, option_map, is_none, refl, sym, ap, subst, ◌∙◌, arith}
-use Rattle.std.specs.List.{Contains, cons_option, filter_map, list_any}
+use Rattle.std.proofs.Common.{◌≡◌, ◌<◌, ◌↔◌, inl, inr, ℕ, zero, suc, Bool, true, false, cond, List, [], ◌∷◌, ◌++◌, length, map, slice_get, Option, Some, None, MatchOption, option_map, refl, sym, ap, subst, ◌∙◌, arith}
+use Rattle.std.specs.List.{Contains, cons_option, filter_map}
 use Rattle.std.specs.Option.{option_and_then, option_to_list}
-use Rattle.std.specs.Str.Lines.{lines}
 use Rattle.std.proofs.lemmas.Bool.{ne_eqb}
 use Rattle.std.proofs.lemmas.Option.{slice_get_within, slice_get-get_or, slice_get-map}
 use Rattle.cargo_lock_parts.specs.Identity.{PackageData}
@@ -16,17 +15,17 @@ use Rattle.cargo_lock.specs.CargoChecksums.{cargo_checksum, with_checksum}
 use Rattle.std.proofs.lemmas.List.{length-map}
 use Rattle.cargo_lock_check.specs.Dependencies.{AreDependencies, HoldsAt, HoldsOfDependency, IsMisplacedAt, IsRepeatedAt, IsSameDependency}
 use Rattle.cargo_lock_check.specs.Finding.{Alike, BadName, FindingData, LookAlike, LossySource, LostDependency, Misplaced, MisplacedDependency, NoChecksum, NoChecksums, NoRoot, Orphan, OtherLine, RepeatedDependency, StaleChecksum, Twice, UserInfo}
-use Rattle.cargo_lock_check.specs.Findings.{AreFindings, AreLossy, FindingsData, IsEmpty, IsLostIn, IsOtherLine, IsWrittenByCargo, alike_at, cargo_printed_lines, checked_packages, dependency_at, misplaced_at, misplaced_dependency_at, no_root, package_at, source_at, told_of, told_of_checksums, told_of_format, told_of_formats, told_of_misleading, told_of_order, told_of_orphans, told_of_twice, with_next}
+use Rattle.cargo_lock_check.specs.Findings.{AreFindings, AreLossy, FindingsData, IsEmpty, IsLostIn, IsOther, IsOtherLine, IsWrittenByCargo, alike_at, checked_packages, dependency_at, misplaced_at, misplaced_dependency_at, package_at, source_at, told_of, told_of_checksums, told_of_format, told_of_formats, told_of_misleading, told_of_order, told_of_orphans, told_of_twice, with_next}
 use Rattle.cargo_lock_check.specs.Alike.{AreAlikeAt, ArePairsAlike, IsFirstAlike}
 use Rattle.cargo_lock_check.specs.Lost.{IsLostAt}
 use Rattle.cargo_lock_check.specs.Names.{IsBadlyNamed}
-use Rattle.cargo_lock_check.specs.Packages.{IsFirstUnchecked, IsMisplaced, IsTwice, IsUnchecked, IsWithoutChecksum, own_source, source_unless}
+use Rattle.cargo_lock_check.specs.Packages.{IsFirstUnchecked, IsMisplaced, IsTwice, IsUnchecked, IsWithoutChecksum, source_unless}
 use Rattle.cargo_lock_check.specs.Places.{IsPlaces}
 use Rattle.cargo_lock_check.specs.Reach.{IsOrphan}
 use Rattle.cargo_lock_check.specs.Sound.{EmptyIfSound, NoneToldIfEmpty}
 use Rattle.cargo_lock_check.specs.Sources.{HasUserInfo, IsFrom, IsFromAt, IsLookAlike}
 use Rattle.cargo_lock_check.specs.Stale.{stale_keys}
-use Rattle.cargo_lock_check.specs.Text.{IsFirstOther, OtherLineData, cargo_lines}
+use Rattle.cargo_lock_check.specs.Text.{OtherLineData}
 use Rattle.cargo_lock_check.proofs.StaleKeys.{cons-here, nothing-there, stale_keys_are_exact}
 
 -- ---- lists without members
@@ -88,15 +87,14 @@ other-none : (text : List ℕ) (l : LockfileData) (other : Option OtherLineData)
 other-none text l None is written = refl
 other-none text l (Some o) is written =
     absurd (bad (is.not_compared (λ compared.
-    let first = is.compared compared in
-    first.differ (written compared.rootless first.place))))
+    let other = is.compared compared in
+    elim (written compared.rootless) [
+      | inl same ↦ other.first.differ (same other.first.place)
+      | inr in_v1 ↦ other.not_in_v1 in_v1
+    ])))
   where
     bad : ◌≡◌ {A = Option OtherLineData} (Some o) None → ⊥
     bad e = cc e
-
-root-cases : (o : Option PackageData) → (o ≡ None) ⊎ (¬ (o ≡ None))
-root-cases None = inl refl
-root-cases (Some p) = inr (λ e. cc e)
 
 pub empty_if_sound : EmptyIfSound
 empty_if_sound text l f is = (
@@ -109,7 +107,7 @@ empty_if_sound text l f is = (
     apart = (alike-empty l.packages f.alike is.alike).0 e.alike;
     genuine = λ k h. (places-empty (IsFromAt IsLookAlike l.packages) (length l.packages) f.look_alikes is.look_alikes).0 e.look_alikes k (within _ l.packages k h) h;
     anonymous = λ k h. (places-empty (IsFromAt HasUserInfo l.packages) (length l.packages) f.with_user_info is.with_user_info).0 e.with_user_info k (within _ l.packages k h) h;
-    needed = λ rootless. (places-empty (IsOrphan l.packages) (length l.packages) f.orphans ((is.orphans.asked e.lossy).rootless rootless)).0 e.orphans;
+    needed = (places-empty (IsOrphan l.packages l.root) (length l.packages) f.orphans (is.orphans.asked e.lossy)).0 e.orphans;
     checksums = λ k h. (places-empty (IsWithoutChecksum (checked_packages l)) (length l.packages) f.without_checksum is.without_checksum).0 e.without_checksum k (within-checked _ l k h) h;
     checked = λ k h. (places-empty (IsUnchecked (checked_packages l)) (length l.packages) f.unchecked is.unchecked).0 e.unchecked k (within-checked _ l k h) h;
     metadata = λ key h. none-in (stale_keys l.metadata l.packages) key (sym is.stale ∙ e.stale) ((stale_keys_are_exact l.metadata l.packages key).1 h);
@@ -117,7 +115,7 @@ empty_if_sound text l f is = (
     listed_in_order = (dependencies-empty (IsMisplacedAt l.packages) f.misplaced_dependencies is.misplaced_dependencies).0 e.misplaced_dependencies;
     kept = (is.is_kept.asked e.lossy).0 e.is_kept;
     written = λ rootless.
-        subst (λ o. MatchOption o (IsWrittenByCargo text l) (IsFirstOther (lines text) (cargo_lines (lines text) (cargo_printed_lines l)))) e.other_line
+        subst (λ o. MatchOption o (IsWrittenByCargo text l) (IsOther text l)) e.other_line
         ((is.other_line.asked e.lossy).compared record { rootless = rootless; kept = (is.is_kept.asked e.lossy).0 e.is_kept });
   },
   λ s. let none = (lossy-empty l.version text f.lossy is.lossy).1 s.plain in record {
@@ -129,10 +127,7 @@ empty_if_sound text l f is = (
     alike = (alike-empty l.packages f.alike is.alike).1 s.apart;
     look_alikes = (places-empty (IsFromAt IsLookAlike l.packages) (length l.packages) f.look_alikes is.look_alikes).1 (λ k _. s.genuine k);
     with_user_info = (places-empty (IsFromAt HasUserInfo l.packages) (length l.packages) f.with_user_info is.with_user_info).1 (λ k _. s.anonymous k);
-    orphans = elim (root-cases l.root) [
-      | inl rootless ↦ (places-empty (IsOrphan l.packages) (length l.packages) f.orphans ((is.orphans.asked none).rootless rootless)).1 (s.needed rootless)
-      | inr rooted ↦ (is.orphans.asked none).rooted rooted
-    ];
+    orphans = (places-empty (IsOrphan l.packages l.root) (length l.packages) f.orphans (is.orphans.asked none)).1 s.needed;
     without_checksum = (places-empty (IsWithoutChecksum (checked_packages l)) (length l.packages) f.without_checksum is.without_checksum).1 (λ k _. s.checksums k);
     unchecked = (places-empty (IsUnchecked (checked_packages l)) (length l.packages) f.unchecked is.unchecked).1 (λ k _. s.checked k);
     stale = is.stale ∙ none-left (stale_keys l.metadata l.packages) (λ key c. s.metadata key ((stale_keys_are_exact l.metadata l.packages key).0 c));
@@ -246,24 +241,17 @@ told-none : (P : ℕ → Type 0) (finding : PackageData → FindingData) (packag
 told-none P finding packages places is e =
     filter_map-none (package_at finding packages) places (λ k c. some-package finding packages k ((is.told k).0 c).0) e
 
-orphans-none : (packages : List PackageData) (orphans : List ℕ) → IsPlaces (IsOrphan packages) (length packages) orphans
-    → told_of_orphans packages orphans ≡ [] → orphans ≡ []
-orphans-none packages orphans is e = go (list_any (λ p. is_none p.source) packages) orphans is e
-  where
-    go : (b : Bool) (places : List ℕ) → IsPlaces (IsOrphan packages) (length packages) places
-        → cond b (filter_map (package_at Orphan packages) places) (no_root places) ≡ [] → places ≡ []
-    go true places is e = told-none (IsOrphan packages) Orphan packages places is e
-    go false [] is e = refl
-    go false (k ∷ ks) is e =
-        let one : NoRoot ∷ [] ≡ [] = sym (ap (λ b. cond b [] (NoRoot ∷ [])) (ne_eqb (length (k ∷ ks)) 0 (λ z. omega (arith, z)))) ∙ e in
-        cc one
+orphans-none : (root : Option PackageData) (has_workspace : Bool) (packages : List PackageData) (orphans : List ℕ) → IsPlaces (IsOrphan packages root) (length packages) orphans
+    → told_of_orphans has_workspace packages orphans ≡ [] → orphans ≡ []
+orphans-none root true packages places is e = told-none (IsOrphan packages root) Orphan packages places is e
+orphans-none root false packages [] is e = refl
+orphans-none root false packages (k ∷ ks) is e =
+    let one : NoRoot ∷ [] ≡ [] = sym (ap (λ b. cond b [] (NoRoot ∷ [])) (ne_eqb (length (k ∷ ks)) 0 (λ z. omega (arith, z)))) ∙ e in
+    cc one
 
-no-orphans : (packages : List PackageData) → told_of_orphans packages [] ≡ []
-no-orphans packages = go (list_any (λ p. is_none p.source) packages)
-  where
-    go : (b : Bool) → cond b (filter_map (package_at Orphan packages) []) (no_root []) ≡ []
-    go true = refl
-    go false = refl
+no-orphans : (has_workspace : Bool) (packages : List PackageData) → told_of_orphans has_workspace packages [] ≡ []
+no-orphans true packages = refl
+no-orphans false packages = refl
 
 format-none : (b : Bool) (version : ResolveVersion) → told_of_format b version ≡ [] → b ≡ true
 format-none true version e = refl
@@ -283,7 +271,7 @@ told-nothing text l f is e =
     let m1 = append-none (filter_map (package_at BadName f.packages) f.badly_named) _ m.0 in
     let m2 = append-none (filter_map (alike_at f.packages) f.alike) _ m1.1 in
     let m3 = append-none (filter_map (source_at LookAlike f.packages) f.look_alikes) _ m2.1 in
-    let e3 = append-none (told_of_orphans f.packages f.orphans) _ m.1 in
+    let e3 = append-none (told_of_orphans f.has_workspace f.packages f.orphans) _ m.1 in
     let e4 = append-none (told_of_checksums f) _ e3.1 in
     let u = append-none (filter_map (package_at NoChecksum f.packages) f.without_checksum) _ e4.0 in
     let e5 = append-none (map StaleChecksum f.stale) _ e4.1 in
@@ -307,10 +295,8 @@ told-nothing text l f is e =
       look_alikes = sources-none IsLookAlike LookAlike l.packages f.look_alikes is.look_alikes (subst (λ ps. filter_map (source_at LookAlike ps) f.look_alikes ≡ []) here m3.0);
       with_user_info = sources-none HasUserInfo UserInfo l.packages f.with_user_info is.with_user_info
           (subst (λ ps. filter_map (source_at UserInfo ps) f.with_user_info ≡ []) here m3.1);
-      orphans = elim (root-cases l.root) [
-        | inl rootless ↦ orphans-none l.packages f.orphans ((is.orphans.asked none).rootless rootless) (subst (λ ps. told_of_orphans ps f.orphans ≡ []) here e3.0)
-        | inr rooted ↦ (is.orphans.asked none).rooted rooted
-      ];
+      orphans = orphans-none l.root f.has_workspace l.packages f.orphans (is.orphans.asked none)
+          (subst (λ ps. told_of_orphans f.has_workspace ps f.orphans ≡ []) here e3.0);
       without_checksum = told-none (IsWithoutChecksum (checked_packages l)) NoChecksum l.packages f.without_checksum is.without_checksum
           (subst (λ ps. filter_map (package_at NoChecksum ps) f.without_checksum ≡ []) here u.0);
       unchecked = filter_map-none (source_at NoChecksums l.packages) f.unchecked
@@ -334,7 +320,7 @@ nothing-told f e =
     ++ (filter_map (alike_at f.packages) (e.alike i)
     ++ (filter_map (source_at LookAlike f.packages) (e.look_alikes i)
     ++ filter_map (source_at UserInfo f.packages) (e.with_user_info i))))
-    ++ (told_of_orphans f.packages (e.orphans i)
+    ++ (told_of_orphans f.has_workspace f.packages (e.orphans i)
     ++ ((filter_map (package_at NoChecksum f.packages) (e.without_checksum i)
     ++ filter_map (source_at NoChecksums f.packages) (e.unchecked i))
     ++ (map StaleChecksum (e.stale i)
@@ -342,7 +328,7 @@ nothing-told f e =
     ++ filter_map (misplaced_dependency_at f.packages) (e.misplaced_dependencies i))
     ++ ((map (LossySource f.version) (e.lossy i) ++ told_of_format (e.is_kept i) f.version)
     ++ option_to_list (option_map OtherLine (e.other_line i))))))))))
-    ∙ ap (λ fs. fs ++ []) (no-orphans f.packages)
+    ∙ ap (λ fs. fs ++ []) (no-orphans f.has_workspace f.packages)
 
 pub none_told_if_empty : NoneToldIfEmpty
 none_told_if_empty text l f is = (told-nothing text l f is, nothing-told f)

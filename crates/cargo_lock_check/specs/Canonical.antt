@@ -1,5 +1,5 @@
 -- The URL of a source as Cargo compares packages by it.
-use Rattle.std.specs.Prelude.{◌<◌, ◌++◌, ◌-◌, ◌&&◌, ℕ, nat_lt, Bool, false, if◌then◌else◌, List, length, map, take, codes, bytes_eq, Option, None, Some, option_map, eqb}
+use Rattle.std.specs.Prelude.{◌++◌, ◌-◌, ℕ, nat_lt, Bool, false, if◌then◌else◌, List, length, map, take, codes, bytes_eq, Option, None, Some, option_map, eqb}
 use Rattle.std.specs.Char.{to_ascii_lowercase}
 use Rattle.std.specs.List.{ends_with}
 use Rattle.url.specs.Host.{host_text}

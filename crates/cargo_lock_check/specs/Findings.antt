@@ -1,6 +1,6 @@
 -- What is wrong with a lockfile, list by list.
-use Rattle.std.specs.Prelude.{◌≡◌, ◌↔◌, ◌==◌, ◌∷◌, ◌++◌, ℕ, suc, Bool, true, IsTrue, if◌then◌else◌, List, [], length, map, Option, None, MatchOption, is_none, option_map, slice_get}
-use Rattle.std.specs.List.{filter_map, list_any}
+use Rattle.std.specs.Prelude.{◌≡◌, ◌↔◌, ◌⊎◌, ◌==◌, ◌||◌, ◌∷◌, ◌++◌, ℕ, suc, Bool, true, false, IsTrue, if◌then◌else◌, List, [], length, map, Option, None, Some, MatchOption, is_none, option_map, slice_get}
+use Rattle.std.specs.List.{All, filter_map, list_any}
 use Rattle.std.specs.Option.{option_and_then, option_to_list}
 use Rattle.std.specs.Str.Lines.{lines}
 use Rattle.cargo_lock_parts.specs.Identity.{Identity, PackageData}
@@ -8,7 +8,7 @@ use Rattle.cargo_lock_parts.specs.Source.{Source}
 use Rattle.cargo_lock_references.specs.declared.version.ResolveVersion.{ResolveVersion}
 use Rattle.cargo_lock_references.specs.declared.version.ResolveVersion.TheVariants.{V1, V2, V3, V4}
 use Rattle.cargo_lock_encoding.specs.Lockfiles.{LockfileData}
-use Rattle.cargo_lock_encoding.specs.Survives.{Survives}
+use Rattle.cargo_lock_encoding.specs.Survives.{Survives, in_format}
 use Rattle.cargo_lock_encoding.specs.Text.{join_lines, lines_of}
 use Rattle.cargo_lock.specs.CargoChecksums.{with_cargo_checksums_in}
 use Rattle.cargo_lock.specs.LossySources.{AreLossySources, IsLossyIn}
@@ -42,6 +42,7 @@ pub record FindingsData : Type 0 where
   pub alike : List (ℕ × ℕ)
   pub look_alikes : List ℕ
   pub with_user_info : List ℕ
+  pub has_workspace : Bool
   pub orphans : List ℕ
   pub without_checksum : List ℕ
   pub unchecked : List ℕ
@@ -67,22 +68,48 @@ pub record IsCompared (l : LockfileData) : Type 0 where
   pub rootless : l.root ≡ None
   pub kept : Survives l l.version
 
--- each line of the text is as Cargo writes it
+-- each line of the text is as Cargo writes the lockfile
+abbrev pub IsWrittenAs : List ℕ → LockfileData → Type 0
+IsWrittenAs text l = AreSameLines (lines text) (cargo_lines (lines text) (cargo_printed_lines l))
+
+-- Only checksums tell V1 and V2 apart, which have no number: V1 has them in the metadata, and V2
+-- with the packages. A text without any is read as V2, and Cargo can have written it in V1 too.
+pub record CanBeV1 (l : LockfileData) : Type 0 where
+  pub version : l.version ≡ V2
+  pub bare : All (λ p. p.checksum ≡ None) l.packages
+
+-- the lockfile can be of V1, and each line of the text is as Cargo writes it there
+abbrev pub IsWrittenInV1 : List ℕ → LockfileData → Type 0
+IsWrittenInV1 text l = CanBeV1 l × IsWrittenAs text (in_format V1 l)
+
+-- each line of the text is as Cargo writes it in the lockfile's format, or in V1 where it can be that
 abbrev pub IsWrittenByCargo : List ℕ → LockfileData → Type 0
-IsWrittenByCargo text l =
-    AreSameLines (lines text) (cargo_lines (lines text) (cargo_printed_lines l))
+IsWrittenByCargo text l = IsWrittenAs text l ⊎ IsWrittenInV1 text l
+
+-- the first line that is not as Cargo writes it in the lockfile's format, where the text is not as
+-- Cargo writes it in V1 either
+pub record IsOther (text : List ℕ) (l : LockfileData) (other : OtherLineData) : Type 0 where
+  pub first : IsFirstOther (lines text) (cargo_lines (lines text) (cargo_printed_lines l)) other
+  pub not_in_v1 : ¬ IsWrittenInV1 text l
 
 -- the first line that is not as Cargo writes it, where the text is compared
 pub record IsOtherLine (text : List ℕ) (l : LockfileData) (other : Option OtherLineData) : Type 0
   where
-    pub compared : IsCompared l → MatchOption other (IsWrittenByCargo text l)
-        (IsFirstOther (lines text) (cargo_lines (lines text) (cargo_printed_lines l)))
+    pub compared : IsCompared l → MatchOption other (IsWrittenByCargo text l) (IsOther text l)
     pub not_compared : ¬ IsCompared l → other ≡ None
 
--- the orphans; they are not looked for where the lockfile has a root apart from its packages
-pub record AreOrphans (l : LockfileData) (orphans : List ℕ) : Type 0 where
-  pub rootless : l.root ≡ None → IsPlaces (IsOrphan l.packages) (length l.packages) orphans
-  pub rooted : ¬ (l.root ≡ None) → orphans ≡ []
+-- the orphans
+abbrev pub AreOrphans : LockfileData → List ℕ → Type 0
+AreOrphans l orphans = IsPlaces (IsOrphan l.packages l.root) (length l.packages) orphans
+
+-- the root apart from the packages is there, and is of the workspace: it has no source
+abbrev pub is_bare_root : Option PackageData → Bool
+is_bare_root None = false
+is_bare_root (Some p) = is_none p.source
+
+-- some package is of the workspace: one of the packages, or the root apart from them
+abbrev pub has_workspace : LockfileData → Bool
+has_workspace l = is_bare_root l.root || list_any (λ p. is_none p.source) l.packages
 
 -- the packages with the checksums that Cargo reads
 abbrev pub checked_packages : LockfileData → List PackageData
@@ -123,6 +150,7 @@ pub record AreFindings (text : List ℕ) (l : LockfileData) (f : FindingsData) :
   pub look_alikes : IsPlaces (IsFromAt IsLookAlike l.packages) (length l.packages) f.look_alikes
   pub with_user_info : IsPlaces (IsFromAt HasUserInfo l.packages) (length l.packages)
       f.with_user_info
+  pub has_workspace : f.has_workspace ≡ has_workspace l
   pub orphans : IsAskedUnless f.lossy (AreOrphans l f.orphans) (f.orphans ≡ [])
   pub without_checksum : IsPlaces (IsWithoutChecksum (checked_packages l)) (length l.packages)
       f.without_checksum
@@ -211,8 +239,8 @@ abbrev pub no_root : List ℕ → List FindingData
 no_root orphans = if length orphans == 0 then [] else NoRoot ∷ []
 
 -- each orphan, or where no package is of the workspace that alone
-abbrev pub told_of_orphans : List PackageData → List ℕ → List FindingData
-told_of_orphans packages orphans = if list_any (λ p. is_none p.source) packages
+abbrev pub told_of_orphans : Bool → List PackageData → List ℕ → List FindingData
+told_of_orphans has_workspace packages orphans = if has_workspace
     then filter_map (package_at Orphan packages) orphans else no_root orphans
 
 -- a format that does not keep its lockfile
@@ -250,7 +278,7 @@ abbrev pub told_of : FindingsData → List FindingData
 told_of f = filter_map (dependency_at LostDependency f.packages) f.lost_dependencies
     ++ (told_of_twice f
     ++ (told_of_misleading f
-    ++ (told_of_orphans f.packages f.orphans
+    ++ (told_of_orphans f.has_workspace f.packages f.orphans
     ++ (told_of_checksums f
     ++ (map StaleChecksum f.stale
     ++ (told_of_order f

@@ -2,8 +2,9 @@
 --
 -- A package leads to the packages that its dependencies and its replacement stand for. Where
 -- several match one of these equally well, as one at a branch and one at a commit of one
--- repository, it leads to each of them.
-use Rattle.std.specs.Prelude.{◌≡◌, ◌≤◌, ℕ, List, [], ◌∷◌, Some, None, ◌⊎◌}
+-- repository, it leads to each of them. A lockfile of V1 may have a root apart from its packages,
+-- which is of the workspace too.
+use Rattle.std.specs.Prelude.{◌≡◌, ◌≤◌, ℕ, List, [], ◌∷◌, Option, Some, None, ◌⊎◌}
 use Rattle.std.specs.List.{Contains}
 use Rattle.cargo_lock_parts.specs.Identity.{Identity, PackageData}
 use Rattle.cargo_lock_graph.specs.Targets.{HoldsOf, MatchesAt}
@@ -21,10 +22,13 @@ IsOneOfBest packages d place = (rank : ℕ) × IsBestMatch packages d rank place
 abbrev pub IsAskedBy : PackageData → Identity → Type 0
 IsAskedBy p d = Contains p.dependencies d ⊎ (p.replace ≡ Some d)
 
+-- the package at the place is one of those that match best what p asks for
+abbrev pub AsksFor : List PackageData → PackageData → ℕ → Type 0
+AsksFor packages p place = (d : Identity) × IsAskedBy p d × IsOneOfBest packages d place
+
 -- the package at b is one of those that match best what the package at a asks for
 abbrev pub LeadsTo : List PackageData → ℕ → ℕ → Type 0
-LeadsTo packages a b = HoldsOf
-    (λ p. (d : Identity) × IsAskedBy p d × IsOneOfBest packages d b) packages a
+LeadsTo packages a b = HoldsOf (λ p. AsksFor packages p b) packages a
 
 -- a chain from a place over these places to the last of them, where each leads to the next
 abbrev pub IsChain : List PackageData → ℕ → List ℕ → ℕ → Type 0
@@ -35,11 +39,19 @@ IsChain packages a (b ∷ bs) end = LeadsTo packages a b × IsChain packages b b
 abbrev pub IsRoot : List PackageData → ℕ → Type 0
 IsRoot packages place = HoldsOf (λ p. p.source ≡ None) packages place
 
--- a chain leads to the place from a package of the workspace
-abbrev pub IsReached : List PackageData → ℕ → Type 0
-IsReached packages place =
-    (root : ℕ) × (chain : List ℕ) × IsRoot packages root × IsChain packages root chain place
+-- the package at the place is one of those that match best what the root apart from them asks for
+abbrev pub RootLeadsTo : List PackageData → Option PackageData → ℕ → Type 0
+RootLeadsTo packages root place = (p : PackageData) × (root ≡ Some p) × AsksFor packages p place
+
+-- a chain to the place begins here: at a package of the workspace, or where the root leads to
+abbrev pub IsStart : List PackageData → Option PackageData → ℕ → Type 0
+IsStart packages root place = IsRoot packages place ⊎ RootLeadsTo packages root place
+
+-- a chain leads to the place from there
+abbrev pub IsReached : List PackageData → Option PackageData → ℕ → Type 0
+IsReached packages root place = (start : ℕ) × (chain : List ℕ) × IsStart packages root start
+    × IsChain packages start chain place
 
 -- no chain does
-abbrev pub IsOrphan : List PackageData → ℕ → Type 0
-IsOrphan packages place = ¬ IsReached packages place
+abbrev pub IsOrphan : List PackageData → Option PackageData → ℕ → Type 0
+IsOrphan packages root place = ¬ IsReached packages root place

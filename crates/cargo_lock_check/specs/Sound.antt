@@ -16,9 +16,10 @@ use Rattle.cargo_lock_check.specs.Stale.{IsStale}
 -- package stands twice, lists a dependency twice, has a name that Cargo does not take, is from a
 -- source that looks like crates.io and is another one, is from a source with user info, lacks a
 -- checksum that others have or is out of order, and neither is a dependency. Each registry
--- on the network has a checksum, and no checksum is of no package. No two packages have names that crates.io takes for one. The lockfile survives its
--- format. Where it has no root apart from its packages, those of the workspace lead to each package,
--- and each line of the text is as Cargo writes it.
+-- on the network has a checksum, and no checksum is of no package. No two packages have names that
+-- crates.io takes for one. The lockfile survives its format. The packages of the workspace lead to
+-- each package, and a root apart from the packages is one of them. Where there is none, each line of
+-- the text is as Cargo writes it.
 pub record IsSound (text : List ℕ) (l : LockfileData) : Type 0 where
   pub plain : (source : List ℕ) → ¬ IsLostIn l.version text source
   pub dependencies : (place at : ℕ) → ¬ IsLostAt l.packages place at
@@ -28,7 +29,7 @@ pub record IsSound (text : List ℕ) (l : LockfileData) : Type 0 where
   pub apart : (i j : ℕ) → i < j → ¬ AreAlikeAt l.packages i j
   pub genuine : (k : ℕ) → ¬ IsFromAt IsLookAlike l.packages k
   pub anonymous : (k : ℕ) → ¬ IsFromAt HasUserInfo l.packages k
-  pub needed : l.root ≡ None → (k : ℕ) → k < length l.packages → ¬ IsOrphan l.packages k
+  pub needed : (k : ℕ) → k < length l.packages → ¬ IsOrphan l.packages l.root k
   pub checksums : (k : ℕ) → ¬ IsWithoutChecksum (checked_packages l) k
   pub checked : (k : ℕ) → ¬ IsUnchecked (checked_packages l) k
   pub metadata : (key : List ℕ) → ¬ IsStale l.metadata l.packages key

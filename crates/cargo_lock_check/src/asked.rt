@@ -13,7 +13,8 @@ ghost use Rattle.cargo_lock_check.specs.Stale.{stale_keys};
 use crate::flaws::{
     lost_dependencies, orphans, packages_without_checksum, stale_keys, unchecked_registries,
 };
-use crate::text::{OtherLine, first_other_line};
+use crate::text::OtherLine;
+use crate::written::other_line;
 use cargo_lock::Lockfile;
 use cargo_lock_parts::error::Result;
 use cargo_lock_references::{MetadataKey, ResolveVersion};
@@ -220,30 +221,5 @@ impl AskedFindings {
 fn orphans_of(alloc: Global, lockfile: &Lockfile) -> std::result::Result<Vec<usize>, AllocError>
     ensures { IfOk result (λ places. AreOrphans lockfile.now places.items) }
 {
-    if lockfile.root.is_some() {
-        return Ok(Vec::new(alloc));
-    }
-    let places = orphans(alloc, &lockfile.packages)?;
-    Ok(places)
-}
-
-// The first line of a text that is not as Cargo writes it.
-fn other_line(
-    alloc: Global,
-    text: &str,
-    lockfile: &Lockfile,
-    checked: &Lockfile,
-    is_kept: bool,
-) -> Result<Option<OtherLine>>
-    requires checked { checked.now ≡ with_cargo_checksums_in lockfile.now }
-    requires kept { IsTrue is_kept ↔ Survives lockfile.now lockfile.now.version }
-    ensures ok { IfOk result (IsOtherLine text.now lockfile.now) }
-    ensures err { IsOkUnless result Memory }
-{
-    if lockfile.root.is_some() || !is_kept {
-        return Ok(None);
-    }
-    let printed = checked.to_string(alloc)?;
-    let other = first_other_line(alloc, text, printed.as_str())?;
-    Ok(other)
+    orphans(alloc, &lockfile.packages, &lockfile.root)
 }

@@ -6,7 +6,7 @@ ghost use Rattle.std.specs.Option.{option_to_list};
 ghost use Rattle.cargo_lock_parts.specs.declared.error.Error.TheVariants.{Memory};
 ghost use Rattle.cargo_lock_check.specs.Finding.{finding_of};
 ghost use Rattle.cargo_lock_check.specs.Finding as told;
-ghost use Rattle.cargo_lock_check.specs.Findings.{AreFindings, alike_at, dependency_at, dependency_finding_by, finding_by, misplaced_at, misplaced_dependency_at, no_root, package_at, source_at, source_finding_by, told_of_format, told_of_orphans};
+ghost use Rattle.cargo_lock_check.specs.Findings.{AreFindings, alike_at, dependency_at, dependency_finding_by, finding_by, has_workspace, is_bare_root, misplaced_at, misplaced_dependency_at, no_root, package_at, source_at, source_finding_by, told_of_format, told_of_orphans};
 ghost use Rattle.cargo_lock_check.specs.Alike.{ArePairsAlike};
 ghost use Rattle.cargo_lock_check.specs.Dependencies.{AreDependencies, IsMisplacedAt, IsRepeatedAt};
 ghost use Rattle.cargo_lock_check.specs.Names.{IsBadlyNamed};
@@ -75,8 +75,12 @@ pub struct Findings<'a> {
     /// The packages from a source whose URL has a user name or a password.
     pub with_user_info: Vec<usize>,
 
-    /// The packages that none of the workspace leads to, by dependencies and replacements. They are
-    /// not looked for where the lockfile has a root apart from its packages.
+    /// Whether some package is of the workspace, which has no source: one of the packages, or the
+    /// root apart from them.
+    pub has_workspace: bool,
+
+    /// The packages that none of the workspace leads to, by dependencies and replacements. A root
+    /// apart from the packages leads to what it asks for too.
     pub orphans: Vec<usize>,
 
     /// The packages without a checksum, though others from their registry have one. A package that
@@ -109,6 +113,9 @@ pub struct Findings<'a> {
     /// Cargo's own two may be missing. `%5E` in a URL is as `^`, which Cargo writes. In V1 the
     /// checksums are those that Cargo reads.
     ///
+    /// A lockfile of V2 without any checksum can have been written in V1 too. There is no such line
+    /// where the text is as Cargo writes it in one of the two, and else it is that of V2.
+    ///
     /// The text is not compared where the lockfile has a root apart from its packages, or does not
     /// survive its format, since it is then printed as another one.
     pub other_line: Option<OtherLine>,
@@ -131,6 +138,7 @@ impl<'a> Model for Findings<'a> {
       alike = f.alike.items;
       look_alikes = f.look_alikes.items;
       with_user_info = f.with_user_info.items;
+      has_workspace = f.has_workspace;
       orphans = f.orphans.items;
       without_checksum = f.without_checksum.items;
       unchecked = f.unchecked.items;
@@ -177,6 +185,7 @@ impl<'a> Findings<'a> {
             alike: misleading.alike,
             look_alikes: misleading.look_alikes,
             with_user_info: misleading.with_user_info,
+            has_workspace: has_workspace(lockfile),
             orphans: asked.orphans,
             without_checksum: checksums.without_checksum,
             unchecked: checksums.unchecked,
@@ -229,7 +238,7 @@ impl<'a> Findings<'a> {
         )?;
         self.add_twice(&mut all)?;
         self.add_misleading(&mut all)?;
-        add_orphans(&mut all, self.packages, &self.orphans)?;
+        add_orphans(&mut all, self.has_workspace, self.packages, &self.orphans)?;
         self.add_checksums(&mut all)?;
         add_stale(&mut all, &self.stale)?;
         self.add_order(&mut all)?;
@@ -528,13 +537,14 @@ fn flawed_source<'a>(packages: &'a [Package], place: usize, flaw: SourceFlaw) ->
 // Adds the orphans at these places, or that no package is of the workspace.
 fn add_orphans<'a>(
     all: &mut Vec<Finding<'a>>,
+    has_workspace: bool,
     packages: &'a [Package],
     places: &[usize],
 ) -> std::result::Result<(), AllocError>
     ensures { OnOk result (map finding_of all.new.items
-        ≡ map finding_of all.old.items ++ told_of_orphans packages.now places.now) }
+        ≡ map finding_of all.old.items ++ told_of_orphans has_workspace packages.now places.now) }
 {
-    if has_root(packages) {
+    if has_workspace {
         add_flawed(all, packages, places, Flaw::Orphan)?;
     } else {
         add_no_root(all, places)?;
@@ -543,10 +553,27 @@ fn add_orphans<'a>(
 }
 
 // Whether some package is of the workspace.
-fn has_root(packages: &[Package]) -> bool
+fn has_workspace(lockfile: &Lockfile) -> bool
+    ensures { result ≡ has_workspace lockfile.now }
+{
+    is_bare_root(&lockfile.root) || has_bare_package(&lockfile.packages)
+}
+
+// Whether some package has no source.
+fn has_bare_package(packages: &[Package]) -> bool
     ensures { result ≡ list_any (λ p. is_none p.source) packages.now }
 {
     packages.iter().any(|one| one.source.is_none())
+}
+
+// Whether the root apart from the packages is there, and has no source.
+fn is_bare_root(root: &Option<Package>) -> bool
+    ensures { result ≡ is_bare_root root.now }
+{
+    match root {
+        Some(root) => root.source.is_none(),
+        None => false,
+    }
 }
 
 // Adds that no package is of the workspace, where there are orphans.

@@ -10,7 +10,7 @@
 //! Each call gives its places once and in order, and none where nothing is wrong.
 //!
 //! ```
-//! for place in &orphans(rt.alloc(), &lockfile.packages)? {
+//! for place in &orphans(rt.alloc(), &lockfile.packages, &lockfile.root)? {
 //!     println!(rt; "{}", lockfile.packages[*place].name)?;
 //! }
 //! ```

@@ -28,6 +28,7 @@ pub mod findings;
 pub mod flaws;
 pub mod laws;
 pub mod text;
+mod written;
 
 pub use crate::finding::Finding;
 pub use crate::findings::Findings;

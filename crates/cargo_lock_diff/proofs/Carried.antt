@@ -1,24 +1,10 @@
 -- Which dependencies the pairs of a difference carry onto which.
-use Rattle.std.proofs.Common.{◌≡◌, ℕ, suc, ◌<◌, Bool, true, false, not, List, [], ◌∷◌, ◌++◌, ◌⊎◌, inl, inr, length, get_or, refl, ap, sym, ◌∙◌, subst, arith, IsPermutation, IsSorted}
+use Rattle.std.proofs.Common.{◌≡◌, suc, Bool, true, false, not, List, [], ◌∷◌, refl, ap, sym, ◌∙◌, arith}
 use Rattle.std.specs.Prelude.{◌&&◌, ◌||◌}
-use Rattle.std.specs.Borrow.{Bor}
-use Rattle.std.specs.Cmp.{Equal-is}
-use Rattle.std.specs.declared.cmp.Ordering.{Ordering}
-use Rattle.std.specs.declared.cmp.Ordering.TheVariants.{Less, Equal, Greater}
 use Rattle.std.specs.List.{Contains, list_any}
-use Rattle.std.specs.List.Sorted.{IsNonDecreasingBy, IsPartitionPoint}
-use Rattle.std.specs.Ordering.{is_eq, ordering_index, ordering_then}
-use Rattle.std.proofs.lemmas.Bool.{cases_order}
-use Rattle.std.proofs.lemmas.List.{map-append}
 use Rattle.std.proofs.lemmas.List.Elements.{Contains-append_right, Contains-get_or}
-use Rattle.std.proofs.lemmas.List.Folds.{list_any_none}
-use Rattle.std.proofs.lemmas.List.Sorted.{IsPermutation-map, searchable_from_sorted}
-use Rattle.cargo_lock_parts.specs.Identity.{Identity, PackageData, identity_of}
+use Rattle.cargo_lock_parts.specs.Identity.{Identity, PackageData}
 use Rattle.cargo_lock_diff.specs.Dependencies.{EqualIfCarried, IsCarried, are_targets, is_carried, is_carried_either, is_met, is_target}
-use Rattle.cargo_lock_diff.specs.Difference.{pairs_at}
-use Rattle.cargo_lock_diff.specs.Place.{target_cmp}
-use Rattle.cargo_lock_diff.specs.Targets.{pairs_cmp, targets_cmp, targets_of}
-use Rattle.cargo_lock_diff.proofs.Orders.{targets_total}
 use Rattle.cargo_lock_diff.proofs.Vouched.{any-there}
 
 -- ---- the law
@@ -92,53 +78,3 @@ equal_if_carried pairs old new = (
       (λ e there. let d = all.1 e there in any-there (is_carried_either false pairs e) old.dependencies d.0 d.1 (is-carried pairs d.0 e d.2)) in
       λ i. one i || other i,
 )
-
--- ---- looked up
-
-eq-then : (r s : Ordering) → is_eq (ordering_then r s) ≡ (is_eq r && is_eq s)
-eq-then Less s = refl
-eq-then Equal s = refl
-eq-then Greater s = refl
-
--- the pairs are looked up by both identities at once
-abbrev ties : Identity → Identity → Bor PackageData × Bor PackageData → Bool
-ties d e p = is_eq (targets_cmp (targets_of p) (d, e))
-
-carried-at : (d e : Identity) (xs : List (Bor PackageData × Bor PackageData)) → is_carried (pairs_at xs) d e ≡ list_any (ties d e) xs
-carried-at d e [] = refl
-carried-at d e (x ∷ xs) = λ i. sym (eq-then (target_cmp (identity_of x.0.now) d) (target_cmp (identity_of x.1.now) e)) i || carried-at d e xs i
-
-pub carried-found : (d e : Identity) (xs : List (Bor PackageData × Bor PackageData)) (k : ℕ) → k < length xs
-    → ((x : Bor PackageData × Bor PackageData) → targets_cmp (targets_of (get_or xs k x)) (d, e) ≡ Equal) → is_carried (pairs_at xs) d e ≡ true
-carried-found d e [] k lt tie = absurd (omega (arith, lt))
-carried-found d e (y ∷ ys) k lt tie =
-    let xs : List (Bor PackageData × Bor PackageData) = y ∷ ys in
-    carried-at d e xs ∙ any-there (ties d e) xs (get_or xs k y) (Contains-get_or xs k y lt) ((Equal-is (targets_cmp (targets_of (get_or xs k y)) (d, e))).1 (tie y))
-
-not-eq : (r : Ordering) → (r ≡ Less) ⊎ (r ≡ Greater) → is_eq r ≡ false
-not-eq Less h = refl
-not-eq Equal (inl h) = cc h
-not-eq Equal (inr h) = cc h
-not-eq Greater h = refl
-
-pub carried-none : (d e : Identity) (xs : List (Bor PackageData × Bor PackageData)) (i : ℕ) → IsSorted pairs_cmp xs
-    → (IsNonDecreasingBy (λ (p : Bor PackageData × Bor PackageData). ordering_index (targets_cmp (targets_of p) (d, e))) xs
-    → IsPartitionPoint (λ (p : Bor PackageData × Bor PackageData). targets_cmp (targets_of p) (d, e) ≡ Less)
-    (λ (p : Bor PackageData × Bor PackageData). targets_cmp (targets_of p) (d, e) ≡ Greater) xs i)
-    → is_carried (pairs_at xs) d e ≡ false
-carried-none d e xs i up parted =
-    let parts = parted (searchable_from_sorted targets_total targets_of xs (d, e) up) in
-    carried-at d e xs ∙ list_any_none (ties d e) xs (λ k x lt. apart parts k x lt (cases_order k i))
-  where
-    apart : IsPartitionPoint (λ (p : Bor PackageData × Bor PackageData). targets_cmp (targets_of p) (d, e) ≡ Less)
-        (λ (p : Bor PackageData × Bor PackageData). targets_cmp (targets_of p) (d, e) ≡ Greater) xs i
-        → (k : ℕ) (x : Bor PackageData × Bor PackageData) → k < length xs → ((k ≡ i) ⊎ ((k < i) ⊎ (i < k))) → ties d e (get_or xs k x) ≡ false
-    apart parts k x lt (inl h) = not-eq (targets_cmp (targets_of (get_or xs k x)) (d, e)) (inr (parts.1 k x (omega (arith, h)) lt))
-    apart parts k x lt (inr (inl below)) = not-eq (targets_cmp (targets_of (get_or xs k x)) (d, e)) (inl (parts.0 k x (omega arith) below))
-    apart parts k x lt (inr (inr above)) = not-eq (targets_cmp (targets_of (get_or xs k x)) (d, e)) (inr (parts.1 k x (omega arith) lt))
-
-pub targets-made : (kept others all : List (Bor PackageData × Bor PackageData)) → IsPermutation (kept ++ others) all
-    → IsPermutation (pairs_at kept ++ pairs_at others) (pairs_at all)
-targets-made kept others all perm =
-    subst (λ zs. IsPermutation zs (pairs_at all)) (map-append (λ (p : Bor PackageData × Bor PackageData). (p.0.now, p.1.now)) kept others)
-    (IsPermutation-map (λ (p : Bor PackageData × Bor PackageData). (p.0.now, p.1.now)) (kept ++ others) all perm)

@@ -8,11 +8,10 @@ use Rattle.shown.proofs.Printable.{Prints, either_text, empty, join, join_each, 
 use Rattle.cargo_lock_parts.specs.Identity.{Identity, PackageData}
 use Rattle.cargo_lock_parts.specs.Source.{Source}
 use Rattle.cargo_lock_parts.specs.SourceShown.{is_default_registry}
-use Rattle.cargo_lock_diff.specs.Dependencies.{is_met}
 use Rattle.cargo_lock_diff.specs.Same.{have_one_place}
 use Rattle.cargo_lock_diff.specs.Change.{Added, Alarm, ChangeData, Checksum, EachIsOneLine, Moved, OtherDependencies, Removed, Replaced, Updated}
-use Rattle.cargo_lock_diff.specs.Change.{checksum_mark, checksum_text, checksums_text, dependency_shown, downgrade_mark, is_downgrade, is_of_registry, line_of, named_text, only_in}
-use Rattle.cargo_lock_diff.specs.Change.{package_text, replacement_text, shown_unless_met, source_alone, source_behind, sources_text, updated_sources, version_shown}
+use Rattle.cargo_lock_diff.specs.Change.{checksum_mark, checksum_text, checksums_text, dependency_shown, downgrade_mark, is_downgrade, is_of_registry, line_of, named_text, signed_text, signed_texts}
+use Rattle.cargo_lock_diff.specs.Change.{package_text, replacement_text, source_alone, source_behind, sources_text, updated_sources, version_shown}
 
 version-prints : (v : Parts) → Prints (version_shown v)
 version-prints v = shown-prints Plain _
@@ -59,13 +58,12 @@ downgrade-prints old new = either_text (is_downgrade old new) (literal (codes " 
 mark-prints : (p : PackageData) → Prints (checksum_mark p)
 mark-prints p = either_text (is_of_registry p.source && not (is_some p.checksum)) (literal (codes ", no checksum") refl) empty
 
-unless_met-prints : (forward : Bool) (targets : List (PackageData × PackageData)) (others : List Identity) (d : Identity)
-    → Prints (shown_unless_met forward targets others d)
-unless_met-prints forward targets others d = either_text (is_met forward targets others d) empty
-    (words (codes " ") refl (join (either_text forward (literal (codes "-") refl) (literal (codes "+") refl)) (words (codes " ") refl (dependency-prints d))))
+signed-prints : (is_old : Bool) (d : Identity) → Prints (signed_text is_old d)
+signed-prints is_old d =
+    words (codes " ") refl (join (either_text is_old (literal (codes "-") refl) (literal (codes "+") refl)) (words (codes " ") refl (dependency-prints d)))
 
-only_in-prints : (forward : Bool) (targets : List (PackageData × PackageData)) (these others : List Identity) → Prints (only_in forward targets these others)
-only_in-prints forward targets these others = join_each (shown_unless_met forward targets others) (unless_met-prints forward targets others) these
+all-signed-print : (is_old : Bool) (ds : List Identity) → Prints (signed_texts is_old ds)
+all-signed-print is_old = join_each (signed_text is_old) (signed-prints is_old)
 
 pub line-prints : (c : ChangeData) → Prints (line_of c)
 line-prints (Alarm old new) = words (codes "! ") refl (join (package-prints new) (checksums-print old new))
@@ -77,10 +75,8 @@ line-prints (Updated old new) = words (codes "~ ") refl (join (named-prints old)
     (join (version-prints new.version) (join (updated-prints old new) (downgrade-prints old new)))))
 line-prints (Removed old) = words (codes "- ") refl (package-prints old)
 line-prints (Added new) = words (codes "+ ") refl (join (package-prints new) (mark-prints new))
-line-prints (OtherDependencies old new targets) = words (codes "= ") refl (join (package-prints new)
-    (words (codes ":") refl
-    (join (only_in-prints true targets old.dependencies new.dependencies)
-    (only_in-prints false targets new.dependencies old.dependencies))))
+line-prints (OtherDependencies old new gone came) = words (codes "= ") refl (join (package-prints new)
+    (words (codes ":") refl (join (all-signed-print true gone) (all-signed-print false came))))
 
 pub each-change-is-one-line : EachIsOneLine
 each-change-is-one-line = each-is-line line_of line-prints

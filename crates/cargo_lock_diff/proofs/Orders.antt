@@ -37,7 +37,7 @@ origin_total = on_total other_source (options_total (repository_total (λ kind. 
 named_total : IsTotalOrder (sources_cmp AsNamed)
 named_total = on_total other_source (options_total (repository_total named_kind))
 
-target_total : IsTotalOrder target_cmp
+pub target_total : IsTotalOrder target_cmp
 target_total = by_name_version_source-total (λ (d : Identity). d.name)
     (λ (d : Identity). d.version) (λ (d : Identity). d.source) version_total named_total
 

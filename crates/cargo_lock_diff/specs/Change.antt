@@ -19,8 +19,8 @@ use Rattle.cargo_lock_diff.specs.declared.change.Aspect.{Aspect}
 use Rattle.cargo_lock_diff.specs.declared.change.Aspect.TheVariants as aspect
 use Rattle.cargo_lock_diff.specs.declared.change.Change.{Change}
 use Rattle.cargo_lock_diff.specs.declared.change.Change.TheVariants as variant
-use Rattle.cargo_lock_diff.specs.Dependencies.{have_other_dependencies, is_met}
-use Rattle.cargo_lock_diff.specs.Difference.{DifferenceData, IsDifference}
+use Rattle.cargo_lock_diff.specs.Dependencies.{have_other_dependencies, only_in}
+use Rattle.cargo_lock_diff.specs.Difference.{DifferenceData, IsDifference, dependencies_at}
 use Rattle.cargo_lock_diff.specs.Keys.{whole_key}
 use Rattle.cargo_lock_diff.specs.Same.{have_one_place, have_one_replacement, have_one_version}
 use Rattle.shown.specs.Shown.{shown}
@@ -29,7 +29,7 @@ use Rattle.shown.specs.declared.form.Form.TheVariants.{Plain}
 -- One thing that differs. An alarm is of a new package and of an old one of its name and version
 -- that has a checksum. A pair of one version has another place, a checksum that it had not, or
 -- another replacement; a pair may have another version. A package went or came. A pair may have
--- other dependencies by the pairs of a difference.
+-- other dependencies: those that only the old one has, and those that only the new one has.
 pub data ChangeData : Type 0 where
   Alarm : PackageData → PackageData → ChangeData
   Moved : PackageData → PackageData → ChangeData
@@ -38,7 +38,7 @@ pub data ChangeData : Type 0 where
   Updated : PackageData → PackageData → ChangeData
   Removed : PackageData → ChangeData
   Added : PackageData → ChangeData
-  OtherDependencies : PackageData → PackageData → List (PackageData × PackageData) → ChangeData
+  OtherDependencies : PackageData → PackageData → List Identity → List Identity → ChangeData
 
 -- the change of the packages that references lead to
 abbrev pub change_of : Change → ChangeData
@@ -49,8 +49,8 @@ change_of (variant.Replaced old new) = Replaced old.now new.now
 change_of (variant.Updated old new) = Updated old.now new.now
 change_of (variant.Removed old) = Removed old.now
 change_of (variant.Added new) = Added new.now
-change_of (variant.OtherDependencies old new targets) =
-    OtherDependencies old.now new.now targets.now
+change_of (variant.OtherDependencies old new gone came) =
+    OtherDependencies old.now new.now (dependencies_at gone.items) (dependencies_at came.items)
 
 -- the packages of a pair differ in an aspect; all but the version counts where the version is one
 abbrev pub differs_in : Aspect → PackageData × PackageData → Bool
@@ -79,17 +79,24 @@ changes_of d = map (λ a. Alarm a.0 a.1) d.alarms ++ (changes_in aspect.Source d
     ++ (changes_in aspect.Checksum d.pairs ++ (changes_in aspect.Replacement d.pairs
     ++ (changes_in aspect.Version d.pairs ++ (map Removed d.removed ++ map Added d.added)))))
 
+-- what only one of the packages of a pair depends on, by the pairs of a difference
+abbrev pub dependency_change_of : List (PackageData × PackageData) → PackageData × PackageData
+    → ChangeData
+dependency_change_of targets p = OtherDependencies p.0 p.1
+    (only_in true targets p.0.dependencies p.1.dependencies)
+    (only_in false targets p.1.dependencies p.0.dependencies)
+
 -- the pairs with other dependencies by the pairs of a difference
 abbrev pub other_dependencies : List (PackageData × PackageData)
     → List (PackageData × PackageData) → List ChangeData
-other_dependencies targets pairs = map (λ p. OtherDependencies p.0 p.1 targets)
+other_dependencies targets pairs = map (dependency_change_of targets)
     (filter (λ p. have_other_dependencies targets p.0 p.1) pairs)
 
--- the changes of the dependencies of a difference: of the pairs that are wholly alike, and of the
--- other pairs
+-- the changes of the dependencies of a difference, by all its pairs: of the pairs that are wholly
+-- alike, and of the other pairs
 abbrev pub dependency_changes_of : DifferenceData → List ChangeData
-dependency_changes_of d = other_dependencies d.targets d.kept
-    ++ other_dependencies d.targets d.pairs
+dependency_changes_of d = other_dependencies (d.kept ++ d.pairs) d.kept
+    ++ other_dependencies (d.kept ++ d.pairs) d.pairs
 
 -- all changes of a difference: its changes, and with dependencies then the changes of those
 abbrev pub all_changes_of : Bool → DifferenceData → List ChangeData
@@ -176,18 +183,14 @@ abbrev pub checksum_mark : PackageData → List ℕ
 checksum_mark p =
     if is_of_registry p.source && not (is_some p.checksum) then codes ", no checksum" else []
 
--- a dependency with a sign before it, `-` for an old one and `+` for a new one, unless it meets one
--- of the others
-abbrev pub shown_unless_met : Bool → List (PackageData × PackageData) → List Identity → Identity
-    → List ℕ
-shown_unless_met forward targets others d = if is_met forward targets others d then []
-    else codes " " ++ ((if forward then codes "-" else codes "+")
+-- a dependency with a sign before it, `-` for an old one and `+` for a new one
+abbrev pub signed_text : Bool → Identity → List ℕ
+signed_text is_old d = codes " " ++ ((if is_old then codes "-" else codes "+")
     ++ (codes " " ++ dependency_shown d))
 
--- those of the first list that meet none of the second, each with its sign
-abbrev pub only_in : Bool → List (PackageData × PackageData) → List Identity → List Identity
-    → List ℕ
-only_in forward targets these others = flat_map (shown_unless_met forward targets others) these
+-- each with its sign
+abbrev pub signed_texts : Bool → List Identity → List ℕ
+signed_texts is_old = flat_map (signed_text is_old)
 
 -- the line of a change
 abbrev pub line_of : ChangeData → List ℕ
@@ -200,9 +203,8 @@ line_of (Updated old new) = codes "~ " ++ (named_text old ++ (codes " -> "
     ++ (version_shown new.version ++ (updated_sources old new ++ downgrade_mark old new))))
 line_of (Removed old) = codes "- " ++ package_text old
 line_of (Added new) = codes "+ " ++ (package_text new ++ checksum_mark new)
-line_of (OtherDependencies old new targets) = codes "= " ++ (package_text new ++ (codes ":"
-    ++ (only_in true targets old.dependencies new.dependencies
-    ++ only_in false targets new.dependencies old.dependencies)))
+line_of (OtherDependencies old new gone came) = codes "= " ++ (package_text new ++ (codes ":"
+    ++ (signed_texts true gone ++ signed_texts false came)))
 
 -- the line of each change, with its newline
 abbrev pub lines_text : List ChangeData → List ℕ

@@ -2,7 +2,7 @@
 -- compared by the packages that they are of, and not by the references that are written: an old and
 -- a new dependency are one where the package of the one and the package of the other are a pair.
 use Rattle.std.specs.Prelude.{◌≡◌, ◌↔◌, ◌&&◌, ◌||◌, Bool, true, false, not, List, if◌then◌else◌}
-use Rattle.std.specs.List.{Contains, list_any}
+use Rattle.std.specs.List.{Contains, filter, list_any}
 use Rattle.std.specs.Ordering.{eq_by_cmp}
 use Rattle.cargo_lock_parts.specs.Identity.{Identity, PackageData, identity_of}
 use Rattle.cargo_lock_diff.specs.Place.{target_cmp}
@@ -27,6 +27,11 @@ is_carried_either forward pairs d e = if forward then is_carried pairs d e else 
 -- some of the others is carried onto the dependency, or it onto that one
 abbrev pub is_met : Bool → List (PackageData × PackageData) → List Identity → Identity → Bool
 is_met forward pairs others d = list_any (is_carried_either forward pairs d) others
+
+-- those of the first list that meet none of the second
+abbrev pub only_in : Bool → List (PackageData × PackageData) → List Identity → List Identity
+    → List Identity
+only_in forward pairs these others = filter (λ d. not (is_met forward pairs others d)) these
 
 -- one of the two packages has a dependency that none of the other meets
 abbrev pub have_other_dependencies : List (PackageData × PackageData)

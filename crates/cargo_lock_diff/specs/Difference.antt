@@ -3,7 +3,7 @@ use Rattle.std.specs.Prelude.{◌≡◌, ℕ, ◌-◌, ◌↔◌, ◌&&◌, List
 use Rattle.std.specs.Prelude.{IsPermutation}
 use Rattle.std.specs.Borrow.{Bor}
 use Rattle.std.specs.List.{flat_map}
-use Rattle.cargo_lock_parts.specs.Identity.{PackageData}
+use Rattle.cargo_lock_parts.specs.Identity.{Identity, PackageData}
 use Rattle.cargo_lock_diff.specs.declared.likeness.Likeness.{Likeness}
 use Rattle.cargo_lock_diff.specs.declared.likeness.Likeness.TheVariants.{Name, Origin, Version}
 use Rattle.cargo_lock_diff.specs.declared.likeness.Likeness.TheVariants.{Line, Place, Whole}
@@ -21,15 +21,18 @@ packages_at = map (λ b. b.now)
 abbrev pub pairs_at : List (Bor PackageData × Bor PackageData) → List (PackageData × PackageData)
 pairs_at = map (λ p. (p.0.now, p.1.now))
 
+-- the dependencies that references lead to
+abbrev pub dependencies_at : List (Bor Identity) → List Identity
+dependencies_at = map (λ b. b.now)
+
 -- the pairs that are wholly alike, the pairs of what these leave, the old and the new packages that
--- are in no pair, the alarms, and all pairs, by which dependencies are compared
+-- are in no pair, and the alarms
 pub record DifferenceData : Type 0 where
   pub kept : List (PackageData × PackageData)
   pub pairs : List (PackageData × PackageData)
   pub removed : List PackageData
   pub added : List PackageData
   pub alarms : List (PackageData × PackageData)
-  pub targets : List (PackageData × PackageData)
 
 -- the likenesses by which packages are paired that are not wholly alike, in turn
 abbrev pub turns : List Likeness
@@ -47,12 +50,10 @@ pub record IsPairing (olds news : List PackageData) (kept pairs : List (PackageD
   pub in_turn : ArePairedInTurn (map is_alike turns) old new passes removed added
   pub in_all : IsPermutation (flat_map (λ pass. pass) passes) pairs
 
--- the packages are paired so, the alarms are those of the old packages, and dependencies are
--- compared by all pairs
+-- the packages are paired so, and the alarms are those of the old packages
 pub record IsDifference (olds news : List PackageData) (d : DifferenceData) : Type 0 where
   pub paired : IsPairing olds news d.kept d.pairs d.removed d.added
   pub alarmed : AreAlarms olds d.pairs d.added d.alarms
-  pub targeted : IsPermutation (d.kept ++ d.pairs) d.targets
 
 -- nothing is reported
 pub record IsEmpty (d : DifferenceData) : Type 0 where

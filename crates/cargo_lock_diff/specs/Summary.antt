@@ -32,7 +32,7 @@ is_of kind.Removed (Removed old) = true
 is_of kind.Removed other = false
 is_of kind.Added (Added new) = true
 is_of kind.Added other = false
-is_of kind.Dependencies (OtherDependencies old new targets) = true
+is_of kind.Dependencies (OtherDependencies old new gone came) = true
 is_of kind.Dependencies other = false
 
 -- how many changes are of each kind

@@ -1,8 +1,12 @@
 -- Pairs of packages, as targets are looked up in them. No public contract cites these.
+use Rattle.std.specs.Prelude.{◌≡◌, List}
 use Rattle.std.specs.Borrow.{Bor}
 use Rattle.std.specs.declared.cmp.Ordering.{Ordering}
+use Rattle.std.specs.List.Sorted.{IsStrictlySortedBy}
 use Rattle.std.specs.Ordering.{on, then_cmp}
 use Rattle.cargo_lock_parts.specs.Identity.{Identity, PackageData, identity_of}
+use Rattle.cargo_lock_diff.specs.Dependencies.{is_carried}
+use Rattle.cargo_lock_diff.specs.Difference.{pairs_at}
 use Rattle.cargo_lock_diff.specs.Place.{target_cmp}
 
 -- the order of an old and a new dependency
@@ -17,3 +21,18 @@ targets_of p = (identity_of p.0.now, identity_of p.1.now)
 abbrev pub pairs_cmp : Bor PackageData × Bor PackageData → Bor PackageData × Bor PackageData
     → Ordering
 pairs_cmp = on targets_of targets_cmp
+
+-- the order of dependencies
+abbrev pub dependencies_cmp : Bor Identity → Bor Identity → Ordering
+dependencies_cmp = on (λ b. b.now) target_cmp
+
+-- both lists are in order, the first carries as the pairs do, and the second so too, but from a new
+-- dependency to an old one
+pub record AreIndices (pairs by_old by_new : List (Bor PackageData × Bor PackageData)) : Type 0
+  where
+    pub old_sorted : IsStrictlySortedBy pairs_cmp by_old
+    pub new_sorted : IsStrictlySortedBy pairs_cmp by_new
+    pub old_carries : (d e : Identity)
+        → is_carried (pairs_at by_old) d e ≡ is_carried (pairs_at pairs) d e
+    pub new_carries : (d e : Identity)
+        → is_carried (pairs_at by_new) e d ≡ is_carried (pairs_at pairs) d e

@@ -1,6 +1,6 @@
 //! The changes that a difference reports, each as a line.
 
-ghost use Rattle.std.specs.Prelude.{◌≡◌, ◌++◌, IfOk, OnOk, map};
+ghost use Rattle.std.specs.Prelude.{◌≡◌, [], ◌∷◌, ◌++◌, IfOk, OnOk, map};
 ghost use Rattle.cargo_lock_diff.specs.Change.{Added, Alarm, Removed, change_in, change_of};
 ghost use Rattle.cargo_lock_diff.specs.Change.{changes_in, differs_in};
 ghost use Rattle.cargo_lock_diff.specs.Change as spec;
@@ -8,10 +8,11 @@ ghost use Rattle.cargo_lock_diff.specs.Difference.{packages_at, pairs_at};
 
 use crate::dependencies::Targets;
 use crate::parts::{
-    ChecksumMark, Checksums, DowngradeMark, Named, OnlyIn, PackageText, ReplacementText, Sources,
+    ChecksumMark, Checksums, DowngradeMark, Named, PackageText, ReplacementText, Signed, Sources,
     UpdatedSources,
 };
 use crate::same::{have_one_place, have_one_replacement, have_one_version};
+use cargo_lock_parts::dependency::Dependency;
 use cargo_lock_parts::package::Package;
 use shown::Shown;
 use std::alloc::{AllocError, Global};
@@ -22,7 +23,7 @@ use std::fmt;
 ///
 /// `SRC` is the source as a V4 lockfile has it, in round brackets; a package without a source has
 /// `(path)`, and one of crates.io nothing. All that is foreign is shown as `Shown` shows it.
-#[derive(Clone, Copy)]
+#[derive(Drop)]
 pub enum Change<'a> {
     /// An alarm: `! NAME VERSION SRC: checksum OLD -> NEW`, or `-> none`. The old package has the
     /// name and the version of the new one and a checksum, which the new one has not.
@@ -53,9 +54,10 @@ pub enum Change<'a> {
 
     /// An old and a new package of a pair, of which one has a dependency that the other has not:
     /// `= NAME VERSION SRC:`, of the new one, then ` - NAME VERSION SRC` for each dependency that
-    /// only the old one has, and ` + NAME VERSION SRC` for each that only the new one has. An old
-    /// and a new dependency are one where their packages are a pair of the difference.
-    OtherDependencies(&'a Package, &'a Package, &'a Targets<'a>),
+    /// only the old one has, and ` + NAME VERSION SRC` for each that only the new one has. Behind
+    /// the packages it has these dependencies, each list in the order of its package. An old and a
+    /// new dependency are one where their packages are a pair of the difference.
+    OtherDependencies(&'a Package, &'a Package, Vec<&'a Dependency>, Vec<&'a Dependency>),
 }
 
 impl fmt::Display for Change<'_> {
@@ -103,11 +105,11 @@ impl fmt::Display for Change<'_> {
                 let mark = ChecksumMark(new);
                 write!(f, "+ {package}{mark}")
             }
-            Change::OtherDependencies(old, new, targets) => {
+            Change::OtherDependencies(_, new, gone, came) => {
                 let package = PackageText(new);
-                let removed = OnlyIn(true, targets, &old.dependencies, &new.dependencies);
-                let added = OnlyIn(false, targets, &new.dependencies, &old.dependencies);
-                write!(f, "= {package}:{removed}{added}")
+                let gone = Signed(true, gone);
+                let came = Signed(false, came);
+                write!(f, "= {package}:{gone}{came}")
             }
         }
     }
@@ -211,7 +213,7 @@ pub(crate) fn add_added<'a>(
 // The pairs with other dependencies.
 pub(crate) fn other_dependencies<'a>(
     alloc: Global,
-    targets: &'a Targets<'a>,
+    targets: &Targets<'_>,
     pairs: &Vec<(&'a Package, &'a Package)>,
 ) -> Result<Vec<Change<'a>>, AllocError>
     ensures { IfOk result (λ all. map change_of all.items
@@ -219,9 +221,26 @@ pub(crate) fn other_dependencies<'a>(
 {
     let mut all = Vec::new(alloc);
     for pair in pairs {
-        if targets.have_other_dependencies(pair.0, pair.1) {
-            all.push(Change::OtherDependencies(pair.0, pair.1, targets))?;
-        }
+        add_dependencies(&mut all, alloc, targets, pair.0, pair.1)?;
     }
     Ok(all)
+}
+
+// Adds the change of a pair, where it has other dependencies.
+fn add_dependencies<'a>(
+    all: &mut Vec<Change<'a>>,
+    alloc: Global,
+    targets: &Targets<'_>,
+    old: &'a Package,
+    new: &'a Package,
+) -> Result<(), AllocError>
+    ensures { OnOk result (map change_of all.new.items ≡ map change_of all.old.items
+        ++ spec.other_dependencies targets.now ((old.now, new.now) ∷ [])) }
+{
+    let gone = targets.only_in(alloc, true, &old.dependencies, &new.dependencies)?;
+    let came = targets.only_in(alloc, false, &new.dependencies, &old.dependencies)?;
+    if !gone.is_empty() || !came.is_empty() {
+        all.push(Change::OtherDependencies(old, new, gone, came))?;
+    }
+    Ok(())
 }

@@ -1,13 +1,14 @@
 //! What one of the two packages of a pair depends on and the other does not.
 
-ghost use Rattle.std.specs.Prelude.{◌≡◌, ◌++◌, IfOk, IsPermutation, IsSorted, not};
-ghost use Rattle.std.specs.List.{list_any};
+ghost use Rattle.std.specs.Prelude.{◌≡◌, ◌++◌, ◌&&◌, IfOk, IsPermutation, IsSorted, map};
+ghost use Rattle.std.specs.List.{list_any, take_while};
+ghost use Rattle.std.specs.List.Sorted.{IsStrictlySortedBy};
 ghost use Rattle.cargo_lock_parts.specs.Identity.{identity_of};
-ghost use Rattle.cargo_lock_diff.specs.Dependencies.{is_carried, is_carried_either, is_met};
-ghost use Rattle.cargo_lock_diff.specs.Dependencies as spec;
-ghost use Rattle.cargo_lock_diff.specs.Difference.{pairs_at};
+ghost use Rattle.cargo_lock_diff.specs.Dependencies.{is_carried, is_met, is_target, only_in};
+ghost use Rattle.cargo_lock_diff.specs.Difference.{dependencies_at, pairs_at};
+ghost use Rattle.cargo_lock_diff.specs.Pairing.{exchanged};
 ghost use Rattle.cargo_lock_diff.specs.Place.{target_cmp};
-ghost use Rattle.cargo_lock_diff.specs.Targets.{pairs_cmp};
+ghost use Rattle.cargo_lock_diff.specs.Targets.{dependencies_cmp, pairs_cmp};
 
 use crate::place::cmp_named;
 use cargo_lock_parts::dependency::Dependency;
@@ -16,26 +17,31 @@ use std::alloc::{AllocError, Global};
 use std::cmp::Ordering;
 use std::marker::Model;
 
-/// The pairs of a difference, by which an old and a new dependency are one: where the package of
-/// the one and the package of the other are a pair. A dependency is of the package that has its
-/// name, its version and its origin; the commit does not count, since a reference may have none,
-/// and the branch `master` is the default branch, as which it was written before V3.
+// The pairs of a difference, by which an old and a new dependency are one: where the package of the
+// one and the package of the other are a pair. A dependency is of the package that has its name,
+// its version and its origin; the commit does not count, since a reference may have none, and the
+// branch `master` is the default branch, as which it was written before V3.
+//
+// The pairs are also there in the order of their old packages, and exchanged in the order of their
+// new ones, each time with one of those that dependencies do not tell apart.
 #[derive(Drop)]
-pub struct Targets<'a> {
+pub(crate) struct Targets<'a> {
     pairs: Vec<(&'a Package, &'a Package)>,
+    by_old: Vec<(&'a Package, &'a Package)>,
+    by_new: Vec<(&'a Package, &'a Package)>,
 }
 
 impl<'a> Model for Targets<'a> {
-    ghost use Rattle.std.specs.Prelude.{List, IsSorted};
+    ghost use Rattle.std.specs.Prelude.{List};
     ghost use Rattle.cargo_lock_parts.specs.Identity.{PackageData};
     ghost use Rattle.cargo_lock_diff.specs.Difference.{pairs_at};
-    ghost use Rattle.cargo_lock_diff.specs.Targets.{pairs_cmp};
+    ghost use Rattle.cargo_lock_diff.specs.Targets.{AreIndices};
 
     ghost Value = { List (PackageData × PackageData) };
 
     ghost view = { λ t. pairs_at t.pairs.items };
 
-    ghost invariant = { λ t. IsSorted pairs_cmp t.pairs.items };
+    ghost invariant = { λ t. AreIndices t.pairs.items t.by_old.items t.by_new.items };
 }
 
 impl<'a> Targets<'a> {
@@ -45,73 +51,99 @@ impl<'a> Targets<'a> {
         kept: &Vec<(&'a Package, &'a Package)>,
         others: &Vec<(&'a Package, &'a Package)>,
     ) -> Result<Targets<'a>, AllocError>
-        ensures { IfOk result (λ t. IsPermutation
-            (pairs_at kept.now.items ++ pairs_at others.now.items) t) }
+        ensures { IfOk result (λ t. t ≡ pairs_at kept.now.items ++ pairs_at others.now.items) }
     {
-        let pairs = sorted(alloc, kept, others)?;
-        Ok(Targets { pairs })
+        let pairs = joined(alloc, kept, others)?;
+        let by_old = in_order(joined(alloc, kept, others)?)?;
+        let by_new = in_order(exchanged_pairs(alloc, &pairs)?)?;
+        Ok(Targets {
+            pairs,
+            by_old,
+            by_new,
+        })
     }
 
-    /// Whether one of the two packages of a pair has a dependency that none of the other meets.
-    pub fn have_other_dependencies(&self, old: &Package, new: &Package) -> bool
-        ensures { result ≡ spec.have_other_dependencies self.now old.now new.now }
+    // Those of the first list that meet none of the second.
+    pub(crate) fn only_in<'d>(
+        &self,
+        alloc: Global,
+        forward: bool,
+        these: &'d Vec<Dependency>,
+        others: &Vec<Dependency>,
+    ) -> Result<Vec<&'d Dependency>, AllocError>
+        ensures { IfOk result (λ only. dependencies_at only.items
+            ≡ only_in forward self.now these.now.items others.now.items) }
     {
-        self.has_others(true, &old.dependencies, &new.dependencies)
-            || self.has_others(false, &new.dependencies, &old.dependencies)
+        let others = dependencies_in_order(alloc, others)?;
+        let only = self.only_beside(alloc, forward, these, &others)?;
+        Ok(only)
     }
 
-    // Whether one of the first list meets none of the second.
-    fn has_others(&self, forward: bool, these: &Vec<Dependency>, others: &Vec<Dependency>) -> bool
-        ensures { result ≡ list_any
-            (λ d. not (is_met forward self.now others.now.items d)) these.now.items }
+    // The same, of dependencies that are in order.
+    fn only_beside<'d>(
+        &self,
+        alloc: Global,
+        forward: bool,
+        these: &'d Vec<Dependency>,
+        others: &Vec<&Dependency>,
+    ) -> Result<Vec<&'d Dependency>, AllocError>
+        requires { IsSorted dependencies_cmp others.now.items }
+        ensures { IfOk result (λ only. dependencies_at only.items
+            ≡ only_in forward self.now these.now.items (dependencies_at others.now.items)) }
     {
-        these.iter().any(|one| !self.meets(forward, one, others))
-    }
-
-    // Whether a dependency meets one of these. Where they are sorted, as Cargo writes them, and it
-    // stands among them too, that one is found by halving.
-    pub(crate) fn meets(&self, forward: bool, one: &Dependency, others: &Vec<Dependency>) -> bool
-        ensures { result ≡ is_met forward self.now others.now.items one.now }
-    {
-        if let Ok(place) = others.binary_search(one) {
-            if self.carries_either(forward, one, &others[place]) {
-                return true;
+        let mut only = Vec::new(alloc);
+        for dependency in these {
+            if !self.meets(forward, dependency, others) {
+                only.push(dependency)?;
             }
         }
-        self.meets_any(forward, one, others)
+        Ok(only)
     }
 
-    // The same, by a look at each.
-    fn meets_any(&self, forward: bool, one: &Dependency, others: &Vec<Dependency>) -> bool
-        ensures { result ≡ is_met forward self.now others.now.items one.now }
-    {
-        others
-            .iter()
-            .any(|other| self.carries_either(forward, one, other))
-    }
-
-    // Whether a pair carries the first dependency onto the second, or the second onto the first.
-    fn carries_either(&self, forward: bool, one: &Dependency, other: &Dependency) -> bool
-        ensures { result ≡ is_carried_either forward self.now one.now other.now }
+    // Whether a dependency meets one of some that are in order.
+    fn meets(&self, forward: bool, one: &Dependency, others: &Vec<&Dependency>) -> bool
+        requires { IsSorted dependencies_cmp others.now.items }
+        ensures { result ≡ is_met forward self.now (dependencies_at others.now.items) one.now }
     {
         if forward {
-            self.carries(one, other)
+            leads(&self.by_old, one, others)
         } else {
-            self.carries(other, one)
+            leads(&self.by_new, one, others)
         }
     }
+}
 
-    // Whether a pair carries an old dependency onto a new one.
-    fn carries(&self, old: &Dependency, new: &Dependency) -> bool
-        ensures { result ≡ is_carried self.now old.now new.now }
-    {
-        let found = self.pairs.binary_search_by(|pair| cmp_target(pair.0, old).then(cmp_target(
-            pair.1, new,
-        )));
-        match found {
-            Ok(_) => true,
-            Err(_) => false,
-        }
+// Whether some pair of those in order carries a dependency onto one of some that are in order.
+fn leads(pairs: &Vec<(&Package, &Package)>, one: &Dependency, others: &Vec<&Dependency>) -> bool
+    requires pairs { IsStrictlySortedBy pairs_cmp pairs.now.items }
+    requires others { IsSorted dependencies_cmp others.now.items }
+    ensures { result ≡ list_any (is_carried (pairs_at pairs.now.items) one.now)
+        (dependencies_at others.now.items) }
+{
+    let from = pairs.partition_point(|pair| cmp_target(pair.0, one).is_lt());
+    first_lead(&pairs[from..], one, others)
+}
+
+// The same, of pairs of which the first ones are those that are of the dependency.
+fn first_lead(pairs: &[(&Package, &Package)], one: &Dependency, others: &Vec<&Dependency>) -> bool
+    requires { IsSorted dependencies_cmp others.now.items }
+    ensures { result ≡ list_any (λ p. list_any (is_target p.1.now)
+        (dependencies_at others.now.items)) (take_while (λ p. is_target p.0.now one.now) pairs.now) }
+{
+    pairs
+        .iter()
+        .take_while(|pair| cmp_target(pair.0, one).is_eq())
+        .any(|pair| is_among(pair.1, others))
+}
+
+// Whether one of some dependencies that are in order is of a package.
+fn is_among(package: &Package, others: &Vec<&Dependency>) -> bool
+    requires { IsSorted dependencies_cmp others.now.items }
+    ensures { result ≡ list_any (is_target «package».now) (dependencies_at others.now.items) }
+{
+    match others.binary_search_by(|other| cmp_turned(other, package)) {
+        Ok(_) => true,
+        Err(_) => false,
     }
 }
 
@@ -126,6 +158,13 @@ fn cmp_target(package: &Package, dependency: &Dependency) -> Ordering
         .then(cmp_named(&package.source, &dependency.source))
 }
 
+// The order of a dependency and a package.
+fn cmp_turned(dependency: &Dependency, package: &Package) -> Ordering
+    ensures { result ≡ target_cmp dependency.now (identity_of «package».now) }
+{
+    cmp_target(package, dependency).reverse()
+}
+
 // The order of two packages by name, version and named source.
 fn cmp_packages(one: &Package, other: &Package) -> Ordering
     ensures { result ≡ target_cmp (identity_of one.now) (identity_of other.now) }
@@ -136,19 +175,89 @@ fn cmp_packages(one: &Package, other: &Package) -> Ordering
         .then(cmp_named(&one.source, &other.source))
 }
 
-// The pairs of two lists, in the order by the names, versions and named sources of their packages.
-fn sorted<'a>(
+// The order of two dependencies by name, version and named source.
+fn cmp_dependencies(one: &Dependency, other: &Dependency) -> Ordering
+    ensures { result ≡ target_cmp one.now other.now }
+{
+    one.name
+        .cmp(&other.name)
+        .then(one.version.cmp(&other.version))
+        .then(cmp_named(&one.source, &other.source))
+}
+
+// The order of two pairs by the names, versions and named sources of their packages.
+fn cmp_pairs(one: &(&Package, &Package), other: &(&Package, &Package)) -> Ordering
+    ensures { result ≡ pairs_cmp one.now other.now }
+{
+    cmp_packages(one.0, other.0).then(cmp_packages(one.1, other.1))
+}
+
+// The pairs of two lists.
+fn joined<'a>(
     alloc: Global,
     kept: &Vec<(&'a Package, &'a Package)>,
     others: &Vec<(&'a Package, &'a Package)>,
 ) -> Result<Vec<(&'a Package, &'a Package)>, AllocError>
-    ensures items { IfOk result (λ all. IsPermutation
-        (kept.now.items ++ others.now.items) all.items) }
-    ensures sorted { IfOk result (λ all. IsSorted pairs_cmp all.items) }
+    ensures { IfOk result (λ all. all.items ≡ kept.now.items ++ others.now.items) }
 {
     let mut all = Vec::new(alloc);
     all.extend_from_slice(kept.as_slice())?;
     all.extend_from_slice(others.as_slice())?;
-    all.sort_by(|one, other| cmp_packages(one.0, other.0).then(cmp_packages(one.1, other.1)))?;
+    Ok(all)
+}
+
+// The pairs, the new package of each before the old one.
+fn exchanged_pairs<'a>(
+    alloc: Global,
+    pairs: &Vec<(&'a Package, &'a Package)>,
+) -> Result<Vec<(&'a Package, &'a Package)>, AllocError>
+    ensures { IfOk result (λ all. pairs_at all.items ≡ map exchanged (pairs_at pairs.now.items)) }
+{
+    let mut all = Vec::with_capacity(alloc, pairs.len())?;
+    for pair in pairs {
+        all.push((pair.1, pair.0))?;
+    }
+    Ok(all)
+}
+
+// The pairs in order, each time one of those that dependencies do not tell apart.
+fn in_order<'a>(
+    pairs: Vec<(&'a Package, &'a Package)>,
+) -> Result<Vec<(&'a Package, &'a Package)>, AllocError>
+    ensures sorted { IfOk result (λ all. IsStrictlySortedBy pairs_cmp all.items) }
+    ensures carries { IfOk result (λ all. (d e : _)
+        → is_carried (pairs_at all.items) d e ≡ is_carried (pairs_at pairs.entry.items) d e) }
+{
+    let mut all = pairs;
+    all.sort_by(|one, other| cmp_pairs(one, other))?;
+    all.dedup_by(|one, other| cmp_pairs(one, other).is_eq());
+    Ok(all)
+}
+
+// The dependencies in order.
+fn dependencies_in_order<'d>(
+    alloc: Global,
+    dependencies: &'d Vec<Dependency>,
+) -> Result<Vec<&'d Dependency>, AllocError>
+    ensures items { IfOk result
+        (λ all. IsPermutation dependencies.now.items (dependencies_at all.items)) }
+    ensures sorted { IfOk result (λ all. IsSorted dependencies_cmp all.items) }
+{
+    let mut all = references_to(alloc, dependencies)?;
+    all.sort_by(|one, other| cmp_dependencies(one, other))?;
+    Ok(all)
+}
+
+// References to some dependencies, in order.
+fn references_to<'d>(
+    alloc: Global,
+    dependencies: &'d Vec<Dependency>,
+) -> Result<Vec<&'d Dependency>, AllocError>
+    ensures { IfOk result (λ all. dependencies_at all.items ≡ dependencies.now.items) }
+{
+    let mut all = Vec::with_capacity(alloc, dependencies.len())?;
+    for dependency in dependencies {
+        all.push(dependency)?;
+    }
     Ok(all)
 }

@@ -45,9 +45,6 @@ pub struct Difference<'a> {
     /// an old package of its name, version and place has one, and it is not kept. And so is the new
     /// package of a pair of one version with two checksums.
     pub alarms: Vec<(&'a Package, &'a Package)>,
-
-    /// All pairs, by which dependencies are compared.
-    pub targets: Targets<'a>,
 }
 
 impl<'a> Model for Difference<'a> {
@@ -61,7 +58,6 @@ impl<'a> Model for Difference<'a> {
       removed = packages_at d.removed.items;
       added = packages_at d.added.items;
       alarms = pairs_at d.alarms.items;
-      targets = d.targets;
     } };
 }
 
@@ -84,14 +80,12 @@ impl<'a> Difference<'a> {
         let pairing = pair(alloc, &old, &new)?;
         let vouchers = Vouchers::of(alloc, &old)?;
         let alarms = alarms(alloc, &vouchers, &pairing.pairs, &pairing.added)?;
-        let targets = Targets::of(alloc, &pairing.kept, &pairing.pairs)?;
         Ok(Difference {
             kept: pairing.kept,
             pairs: pairing.pairs,
             removed: pairing.removed,
             added: pairing.added,
             alarms,
-            targets,
         })
     }
 
@@ -130,28 +124,29 @@ impl<'a> Difference<'a> {
     /// The pairs of which one package has a dependency that the other has not, each as
     /// `Change::OtherDependencies`: of the pairs that are kept, and of the others. An old and a new
     /// dependency are one where their packages are a pair. Fails when out of memory.
-    pub fn dependency_changes<'d>(&'d self, alloc: Global) -> Result<Vec<Change<'d>>, AllocError>
+    pub fn dependency_changes(&self, alloc: Global) -> Result<Vec<Change<'a>>, AllocError>
         ensures { IfOk result (λ all. map change_of all.items ≡ dependency_changes_of self.now) }
     {
-        let mut all = change::other_dependencies(alloc, &self.targets, &self.kept)?;
-        let others = change::other_dependencies(alloc, &self.targets, &self.pairs)?;
-        all.extend_from_slice(others.as_slice())?;
+        let targets = Targets::of(alloc, &self.kept, &self.pairs)?;
+        let kept = change::other_dependencies(alloc, &targets, &self.kept)?;
+        let others = change::other_dependencies(alloc, &targets, &self.pairs)?;
+        let all = joined(kept, others)?;
         Ok(all)
     }
 
     /// The changes, and with `dependencies` then the dependency changes. Fails when out of memory.
-    pub fn all_changes<'d>(
-        &'d self,
+    pub fn all_changes(
+        &self,
         alloc: Global,
         dependencies: bool,
-    ) -> Result<Vec<Change<'d>>, AllocError>
+    ) -> Result<Vec<Change<'a>>, AllocError>
         ensures { IfOk result
             (λ all. map change_of all.items ≡ all_changes_of dependencies self.now) }
     {
         let changes = self.changes(alloc)?;
         if dependencies {
             let others = self.dependency_changes(alloc)?;
-            let all = joined(alloc, changes.as_slice(), others.as_slice())?;
+            let all = joined(changes, others)?;
             Ok(all)
         } else {
             Ok(changes)
@@ -160,16 +155,12 @@ impl<'a> Difference<'a> {
 }
 
 // One list behind another.
-fn joined<'a>(
-    alloc: Global,
-    one: &[Change<'a>],
-    other: &[Change<'a>],
-) -> Result<Vec<Change<'a>>, AllocError>
-    ensures { IfOk result (λ all. all.items ≡ one.now ++ other.now) }
+fn joined<'a>(one: Vec<Change<'a>>, other: Vec<Change<'a>>) -> Result<Vec<Change<'a>>, AllocError>
+    ensures { IfOk result (λ all. all.items ≡ one.entry.items ++ other.entry.items) }
 {
-    let mut all = Vec::new(alloc);
-    all.extend_from_slice(one)?;
-    all.extend_from_slice(other)?;
+    let mut all = one;
+    let mut other = other;
+    all.append(&mut other)?;
     Ok(all)
 }
 

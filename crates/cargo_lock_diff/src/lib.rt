@@ -6,7 +6,7 @@
 
 mod alarm;
 pub mod change;
-pub mod dependencies;
+mod dependencies;
 pub mod difference;
 pub mod laws;
 pub mod likeness;

@@ -3,7 +3,6 @@
 ghost use Rattle.std.specs.Prelude.{◌≡◌};
 ghost use Rattle.cargo_lock_diff.specs.Change as spec;
 
-use crate::dependencies::Targets;
 use crate::same::have_one_place;
 use cargo_lock_parts::dependency::Dependency;
 use cargo_lock_parts::package::{Package, SourceId};
@@ -258,51 +257,25 @@ impl fmt::Display for ReplacementText<'_> {
     }
 }
 
-// The dependencies of the first list that meet none of the second, each with its sign.
+// Dependencies that only one of two packages has, each behind its sign.
 #[derive(Clone, Copy)]
-pub(crate) struct OnlyIn<'a>(
-    pub(crate) bool,
-    pub(crate) &'a Targets<'a>,
-    pub(crate) &'a Vec<Dependency>,
-    pub(crate) &'a Vec<Dependency>,
-);
+pub(crate) struct Signed<'a>(pub(crate) bool, pub(crate) &'a Vec<&'a Dependency>);
 
-impl fmt::Display for OnlyIn<'_> {
+impl fmt::Display for Signed<'_> {
     ghost use Rattle.std.specs.Prelude.{Some};
-    ghost use Rattle.cargo_lock_diff.specs.Change.{only_in};
+    ghost use Rattle.cargo_lock_diff.specs.Change.{signed_texts};
+    ghost use Rattle.cargo_lock_diff.specs.Difference.{dependencies_at};
 
-    ghost output = { λ shown. Some
-        (only_in shown.0 shown.1.now shown.2.now.items shown.3.now.items) };
+    ghost output = { λ shown. Some (signed_texts shown.0 (dependencies_at shown.1.now.items)) };
 
     fn fmt<W: fmt::Write>(&self, f: &mut fmt::Formatter<W>) -> fmt::Result {
-        let OnlyIn(forward, targets, these, others) = *self;
-        for dependency in these {
-            let part = UnlessMet(forward, targets, dependency, others);
-            write!(f, "{part}")?;
+        let Signed(is_old, dependencies) = *self;
+        let sign = if is_old { "-" } else { "+" };
+        for dependency in dependencies {
+            let text = DependencyText(dependency);
+            write!(f, " {sign} {text}")?;
         }
         Ok(())
-    }
-}
-
-// A dependency with its sign, unless it meets one of the others.
-#[derive(Clone, Copy)]
-struct UnlessMet<'a>(bool, &'a Targets<'a>, &'a Dependency, &'a Vec<Dependency>);
-
-impl fmt::Display for UnlessMet<'_> {
-    ghost use Rattle.std.specs.Prelude.{Some};
-    ghost use Rattle.cargo_lock_diff.specs.Change.{shown_unless_met};
-
-    ghost output = { λ shown. Some
-        (shown_unless_met shown.0 shown.1.now shown.3.now.items shown.2.now) };
-
-    fn fmt<W: fmt::Write>(&self, f: &mut fmt::Formatter<W>) -> fmt::Result {
-        let UnlessMet(forward, targets, dependency, others) = *self;
-        if targets.meets(forward, dependency, others) {
-            return Ok(());
-        }
-        let sign = if forward { "-" } else { "+" };
-        let text = DependencyText(dependency);
-        write!(f, " {sign} {text}")
     }
 }
 

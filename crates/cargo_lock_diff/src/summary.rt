@@ -53,7 +53,7 @@ impl Kind {
             Kind::Downgraded => is_update(change, true),
             Kind::Removed => matches!(change, Change::Removed(_)),
             Kind::Added => matches!(change, Change::Added(_)),
-            Kind::Dependencies => matches!(change, Change::OtherDependencies(_, _, _)),
+            Kind::Dependencies => matches!(change, Change::OtherDependencies(_, _, _, _)),
         }
     }
 }

@@ -1,25 +1,19 @@
 -- What `diff` prints, and its status.
-use Rattle.std.specs.Prelude.{◌≡◌, ◌≢◌, ℕ, List, [], ◌∷◌, ◌++◌, ◌⊎◌, Option, Some, None, true, false}
+use Rattle.std.specs.Prelude.{◌≡◌, ◌≢◌, ℕ, List, [], ◌∷◌, ◌++◌, Option, true, false}
 use Rattle.std.specs.Prelude.{codes}
 use Rattle.std.specs.Io.KnownBytes.{Appends}
-use Rattle.clap.specs.Matches.{one_text}
 use Rattle.clap.specs.declared.parser.matches.Found.{Found}
 use Rattle.cargo_lock_parts.specs.Ascii.{newline}
-use Rattle.cargo_lock_parts.specs.Identity.{PackageData}
 use Rattle.cargo_lock_diff.specs.Change.{ChangeData, lines_text, all_changes_of}
 use Rattle.cargo_lock_diff.specs.Difference.{DifferenceData, IsDifference}
 use Rattle.cargo_lock_diff.specs.Summary.{summary_of, summary_text}
 use Rattle.cargo_lock_encoding.specs.Lockfiles.{LockfileData}
+use Rattle.cargo_lock_json.specs.Difference.{difference_json}
+use Rattle.cargo_lock_json.specs.File.{FileData}
+use Rattle.cargo_lock_json.specs.Text.{IsJsonText}
+use Rattle.cli.specs.Json.{IsAsked, IsUnasked, PrintsLine, file_of}
 use Rattle.cargo_lock.specs.CargoChecksums.{with_cargo_checksums_in}
 use Rattle.cargo_lock.specs.Loads.{IsMeant}
-
--- the words have the flag of this name
-abbrev pub IsAsked : Found → List ℕ → Type 0
-IsAsked found name = one_text found name ≡ Some (codes "true")
-
--- they do not have it
-abbrev pub IsUnasked : Found → List ℕ → Type 0
-IsUnasked found name = (one_text found name ≡ None) ⊎ (one_text found name ≡ Some (codes "false"))
 
 -- this is told of a difference: with dependencies where the words ask for them
 pub record IsTold (found : Found) (d : DifferenceData) (told : List ChangeData) : Type 0 where
@@ -45,24 +39,35 @@ last_line (change ∷ changes) =
 abbrev pub told_text : List ChangeData → List ℕ
 told_text told = lines_text told ++ last_line told
 
--- the text is that of what is told of a difference, and the status is that of both
-abbrev pub TellsChanges : Found → DifferenceData → Option (List ℕ) → Option (List ℕ) → Type 0
-    → Type 0 → Type 0
-TellsChanges found d old new failure success = (told : List ChangeData) × IsTold found d told
-    × Appends old new (told_text told) × IsStatus found d told failure success
+-- what is printed of the changes that are told: where the words ask for JSON their document, and
+-- else their lines
+pub record PrintsTold (found : Found) (before after : FileData) (told : List ChangeData)
+    (old new : Option (List ℕ)) : Type 0 where
+  pub asked : IsAsked found (codes "json")
+      → PrintsLine (IsJsonText (difference_json before after told)) old new
+  pub unasked : IsUnasked found (codes "json") → Appends old new (told_text told)
 
--- those of the difference of two lists of packages
-abbrev pub TellsDifferenceOf : Found → List PackageData → List PackageData → Option (List ℕ)
+-- the text is that of what is told of a difference, and the status is that of both
+abbrev pub TellsChanges : Found → FileData → FileData → DifferenceData → Option (List ℕ)
+    → Option (List ℕ) → Type 0 → Type 0 → Type 0
+TellsChanges found before after d old new failure success = (told : List ChangeData)
+    × IsTold found d told × PrintsTold found before after told old new
+    × IsStatus found d told failure success
+
+-- those of the difference of the packages of two lockfiles
+abbrev pub TellsDifferenceOf : Found → LockfileData → LockfileData → Option (List ℕ)
     → Option (List ℕ) → Type 0 → Type 0 → Type 0
 TellsDifferenceOf found before after old new failure success = (d : DifferenceData)
-    × IsDifference before after d × TellsChanges found d old new failure success
+    × IsDifference before.packages after.packages d
+    × TellsChanges found (file_of found (codes "old") before) (file_of found (codes "new") after) d
+    old new failure success
 
 -- the lockfile is one that some text means, with the checksums that Cargo reads
 abbrev pub IsCompared : LockfileData → Type 0
 IsCompared x = (l : LockfileData) × IsMeant l × (x ≡ with_cargo_checksums_in l)
 
--- those of the packages of two such lockfiles
+-- those of two such lockfiles
 abbrev pub TellsDifference : Found → Option (List ℕ) → Option (List ℕ) → Type 0 → Type 0 → Type 0
 TellsDifference found old new failure success = (before after : LockfileData)
     × IsCompared before × IsCompared after
-    × TellsDifferenceOf found before.packages after.packages old new failure success
+    × TellsDifferenceOf found before after old new failure success

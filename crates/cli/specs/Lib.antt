@@ -1,4 +1,5 @@
 pub mod Bom
+pub mod Json
 pub mod Check
 pub mod Translate
 pub mod Diff

@@ -4,8 +4,8 @@ ghost use Rattle.clap.specs.Matches.{first_value, found_of};
 ghost use Rattle.cargo_lock_parts.specs.Ascii.{newline};
 ghost use Rattle.cargo_lock_bom.specs.Document.{IsBillText};
 ghost use Rattle.cargo_lock_bom.specs.Options.{within};
-ghost use Rattle.cli.specs.Bom.{IsAskedBill, IsBillOf, IsLineOf, PrintsBill, bill_packages};
-ghost use Rattle.cli.specs.Bom.{own_root};
+ghost use Rattle.cli.specs.Bom.{IsAskedBill, IsBillOf, IsLineOf, IsTimeAsked, PrintsBill};
+ghost use Rattle.cli.specs.Bom.{bill_packages, own_root};
 
 use crate::load::named_lockfile;
 use crate::spec::Spec;
@@ -16,10 +16,12 @@ use cargo_lock_bom::options::Options;
 use clap::{Arg, ArgAction, ArgMatches, Command};
 use cli_support::destination::put_out;
 use cli_support::words::{any_size, file, long_flag, output};
-use cli_support::{Fault, VERSION};
+use cli_support::{Fault, VERSION, time};
 use std::alloc::{AllocError, Global};
+use std::env::Env;
 use std::io::Write;
 use std::rt::Files;
+use std::time::Clock;
 
 /// What `bom` leaves out, as help shows it.
 const BOM_HELP: &str =
@@ -29,6 +31,9 @@ without a source has no purl: pkg:cargo/NAME@VERSION would be the package of cra
 
 /// The package that a bill is about, as help shows it.
 const ROOT_HELP: &str = "The package that the bill is about, as for tree; only one may fit";
+
+/// The time that a bill says, as help shows it.
+const TIME_HELP: &str = "Adds the time: of SOURCE_DATE_EPOCH, or else of the clock";
 
 /// The parser of this command: its options.
 pub(crate) fn command<'a>(alloc: Global) -> Result<Command<'a>, AllocError> {
@@ -40,6 +45,7 @@ pub(crate) fn command<'a>(alloc: Global) -> Result<Command<'a>, AllocError> {
         .arg(output(alloc))?
         .arg(named(alloc, "root", "SPEC").help(ROOT_HELP))?
         .arg(named(alloc, "author", "NAME").help("Who writes the bill"))?
+        .arg(long_flag(alloc, "timestamp").help(TIME_HELP))?
         .arg(long_flag(alloc, "serial").help("Adds a serial number, equal for equal bills"))?
         .arg(long_flag(alloc, "compact").help("Writes one line, without spaces"))
 }
@@ -53,9 +59,10 @@ fn named<'a>(alloc: Global, name: &'a str, shown: &'a str) -> Arg<'a> {
 }
 
 /// Writes the bill of materials of the lockfile and a newline: into the output file, or to `out`.
-/// Fails where the lockfile is not read or has no tree, where not one package is the root that the
-/// words name, where one text would refer to two of its packages, and where the output fails.
-pub(crate) fn run<R: Files + AllocGlobal, W: Write>(
+/// Fails where the time is not known, where the lockfile is not read or has no tree, where not one
+/// package is the root that the words name, where one text would refer to two of its packages, and
+/// where the output fails.
+pub(crate) fn run<R: Files + Env + Clock + AllocGlobal, W: Write>(
     rt: &R,
     options: &ArgMatches<'_>,
     out: &mut W,
@@ -63,32 +70,54 @@ pub(crate) fn run<R: Files + AllocGlobal, W: Write>(
     ensures { OnOk result
         (PrintsBill (found_of options.now) (W.contents out.old) (W.contents out.new)) }
 {
+    let time = asked_time(rt, options)?;
     let lockfile = named_lockfile(rt, options, "file")?;
-    let text = text_about(rt.alloc(), options, lockfile)?;
+    let text = text_about(rt.alloc(), options, time, lockfile)?;
     put_out(rt, options, text.as_str(), "", out)
 }
 
+/// The time, if the words ask for one.
+fn asked_time<R: Env + Clock + AllocGlobal>(
+    rt: &R,
+    options: &ArgMatches<'_>,
+) -> Result<Option<u64>, Fault>
+    ensures { IfOk result (IsTimeAsked (found_of options.now)) }
+{
+    if options.get_flag("timestamp") {
+        let time = time::now(rt)?;
+        Ok(Some(time))
+    } else {
+        Ok(None)
+    }
+}
+
 /// The text of the bill of materials of a lockfile that the words ask for, and a newline.
-fn text_about(alloc: Global, options: &ArgMatches<'_>, lockfile: Lockfile) -> Result<String, Fault>
-    ensures { IfOk result (λ text. IsAskedBill (found_of options.now) lockfile
+fn text_about(
+    alloc: Global,
+    options: &ArgMatches<'_>,
+    time: Option<u64>,
+    lockfile: Lockfile,
+) -> Result<String, Fault>
+    ensures { IfOk result (λ text. IsAskedBill (found_of options.now) time lockfile
         (string_bytes text)) }
 {
     let lockfile = lockfile.with_cargo_checksums(alloc)?;
-    text_of_lockfile(alloc, options, lockfile)
+    text_of_lockfile(alloc, options, time, lockfile)
 }
 
 /// The same of a lockfile with the checksums that Cargo reads.
 fn text_of_lockfile(
     alloc: Global,
     options: &ArgMatches<'_>,
+    time: Option<u64>,
     lockfile: Lockfile,
 ) -> Result<String, Fault>
-    ensures { IfOk result (λ text. IsBillOf (found_of options.now) lockfile
+    ensures { IfOk result (λ text. IsBillOf (found_of options.now) time lockfile
         (string_bytes text)) }
 {
     let (lockfile, own) = with_root(lockfile)?;
     let given = given_root(alloc, options, &lockfile.packages, own)?;
-    let said = said_of_bill(options, given);
+    let said = said_of_bill(options, given, time);
     let line = line_of(alloc, &lockfile, &said, options.get_flag("compact"))?;
     Ok(line)
 }
@@ -149,16 +178,20 @@ fn fitting(alloc: Global, packages: &[Package], spec: &str) -> Result<Vec<NodeIn
     Ok(fitting)
 }
 
-/// What the words say of a bill with this root, if one is given.
-fn said_of_bill<'a>(options: &ArgMatches<'a>, given: Option<NodeIndex>) -> Options<'a>
+/// What the words say of a bill with this root and this time, if they are given.
+fn said_of_bill<'a>(
+    options: &ArgMatches<'a>,
+    given: Option<NodeIndex>,
+    time: Option<u64>,
+) -> Options<'a>
     ensures root { «result».root ≡ given }
-    ensures timestamp { «result».timestamp ≡ None }
+    ensures timestamp { «result».timestamp ≡ time }
     ensures author { «result».author ≡ first_value (found_of options.now) (codes "author") }
 {
     Options {
         root: given,
         tool_version: VERSION,
-        timestamp: None,
+        timestamp: time,
         author: options.get_str("author"),
         has_serial: options.get_flag("serial"),
     }

@@ -1,12 +1,18 @@
 //! The command `check`: what is wrong with a lockfile.
 ghost use Rattle.std.specs.Prelude.{◌≡◌, IfOk, OnOk, map};
 ghost use Rattle.std.specs.Io.KnownBytes.{Appends};
+ghost use Rattle.clap.specs.Matches.{found_of};
 ghost use Rattle.cargo_lock_check.specs.Finding.{finding_of, lines_text};
-ghost use Rattle.cli.specs.Check.{IsFindingsStatus, TellsCheck, TellsFindings, TellsFindingsOf};
+ghost use Rattle.cargo_lock_json.specs.Findings.{findings_json};
+ghost use Rattle.cargo_lock_json.specs.Text.{IsJsonText};
+ghost use Rattle.cli.specs.Check.{IsFindingsStatus, PrintsFound, TellsCheck, TellsFindings};
+ghost use Rattle.cli.specs.Check.{TellsFindingsOf};
+ghost use Rattle.cli.specs.Json.{PrintsLine};
 
-use crate::load::{named_lockfile_of, named_text};
+use crate::load::{file, named_lockfile_of, named_text};
 use cargo_lock::Lockfile;
 use cargo_lock_check::{Finding, Findings};
+use cargo_lock_json::{File, findings_json};
 use clap::{ArgMatches, Command};
 use cli_support::output::put;
 use cli_support::{Fault, words};
@@ -43,54 +49,95 @@ pub(crate) fn command<'a>(alloc: Global) -> Result<Command<'a>, AllocError> {
         .about("Tells what is wrong with a lockfile")
         .after_help(FINDINGS_HELP)
         .arg(words::file(alloc))?
-        .arg(words::any_size(alloc))
+        .arg(words::any_size(alloc))?
+        .arg(words::json(alloc))
 }
 
-/// Prints what is wrong with the lockfile, a line for each finding. The status is 1 where there is
-/// one, and else 0. Fails where the lockfile is not read or `out` fails; a beginning of the text
-/// was then written in the last case, and nothing in the others.
+/// Prints what is wrong with the lockfile, a line for each finding, or where the words ask for it
+/// all as one line of JSON. The status is 1 where there is one, and else 0. Fails where the
+/// lockfile is not read or `out` fails; a beginning of the text was then written in the last case,
+/// and nothing in the others.
 pub(crate) fn run<R: Files + AllocGlobal, W: Write>(
     rt: &R,
     options: &ArgMatches<'_>,
     out: &mut W,
 ) -> Result<ExitCode, Fault>
-    ensures { IfOk result (λ status. TellsCheck (W.contents out.old) (W.contents out.new)
+    ensures { IfOk result (λ status. TellsCheck (found_of options.now)
+        (W.contents out.old) (W.contents out.new)
         (status ≡ ExitCode.FAILURE) (status ≡ ExitCode.SUCCESS)) }
 {
     let file = named_text(rt, options, "file")?;
     let text = file.as_str();
     let lockfile = named_lockfile_of(rt.alloc(), options, "file", text)?;
-    tell(rt.alloc(), text, &lockfile, out)
+    tell(rt.alloc(), options, text, &lockfile, out)
 }
 
 /// Prints what is wrong with a lockfile that was read from a text. Answers the status.
 fn tell<W: Write>(
     alloc: Global,
+    options: &ArgMatches<'_>,
     text: &str,
     lockfile: &Lockfile,
     out: &mut W,
 ) -> Result<ExitCode, Fault>
-    ensures { IfOk result (λ status.
-        TellsFindingsOf text.now lockfile.now (W.contents out.old) (W.contents out.new)
+    ensures { IfOk result (λ status. TellsFindingsOf (found_of options.now)
+        text.now lockfile.now (W.contents out.old) (W.contents out.new)
         (status ≡ ExitCode.FAILURE) (status ≡ ExitCode.SUCCESS)) }
 {
     let findings = Findings::of(alloc, text, lockfile)?;
-    tell_findings(alloc, &findings, out)
+    let file = file(options, "file", lockfile);
+    tell_findings(alloc, options, &file, &findings, out)
 }
 
 /// Prints the findings. Answers the status.
 fn tell_findings<W: Write>(
     alloc: Global,
+    options: &ArgMatches<'_>,
+    file: &File<'_>,
     findings: &Findings<'_>,
     out: &mut W,
 ) -> Result<ExitCode, Fault>
-    ensures { IfOk result (λ status.
-        TellsFindings findings.now (W.contents out.old) (W.contents out.new)
+    ensures { IfOk result (λ status. TellsFindings (found_of options.now) file.now findings.now
+        (W.contents out.old) (W.contents out.new)
         (status ≡ ExitCode.FAILURE) (status ≡ ExitCode.SUCCESS)) }
 {
     let all = findings.all(alloc)?;
-    print_findings(out, &all)?;
+    print_found(alloc, options, file, &all, out)?;
     Ok(status(&all))
+}
+
+/// Prints findings as the words ask for it: in JSON, or as lines.
+fn print_found<W: Write>(
+    alloc: Global,
+    options: &ArgMatches<'_>,
+    file: &File<'_>,
+    findings: &[Finding<'_>],
+    out: &mut W,
+) -> Result<(), Fault>
+    ensures { OnOk result (PrintsFound (found_of options.now) file.now
+        (map finding_of findings.now) (W.contents out.old) (W.contents out.new)) }
+{
+    if options.get_flag("json") {
+        print_document(alloc, file, findings, out)
+    } else {
+        print_findings(out, findings)
+    }
+}
+
+/// Prints the document of findings, and a newline.
+fn print_document<W: Write>(
+    alloc: Global,
+    file: &File<'_>,
+    findings: &[Finding<'_>],
+    out: &mut W,
+) -> Result<(), Fault>
+    ensures { OnOk result (PrintsLine
+        (IsJsonText (findings_json file.now (map finding_of findings.now)))
+        (W.contents out.old) (W.contents out.new)) }
+{
+    let text = findings_json(alloc, file, findings)?;
+    put(out, format_args!("{text}\n"))?;
+    Ok(())
 }
 
 /// Prints the findings in their order.

@@ -3,16 +3,20 @@ ghost use Rattle.std.specs.Prelude.{◌≡◌, IfOk, OnOk, map};
 ghost use Rattle.std.specs.Io.KnownBytes.{Appends};
 ghost use Rattle.clap.specs.Matches.{found_of};
 ghost use Rattle.cargo_lock_diff.specs.Change.{change_of, lines_text};
-ghost use Rattle.cli.specs.Diff.{IsCompared, IsStatus, IsTold, TellsChanges, TellsDifference};
-ghost use Rattle.cli.specs.Diff.{TellsDifferenceOf, last_line, told_text};
+ghost use Rattle.cargo_lock_json.specs.Difference.{difference_json};
+ghost use Rattle.cargo_lock_json.specs.Text.{IsJsonText};
+ghost use Rattle.cli.specs.Diff.{IsCompared, IsStatus, IsTold, PrintsTold, TellsChanges};
+ghost use Rattle.cli.specs.Diff.{TellsDifference, TellsDifferenceOf, last_line, told_text};
+ghost use Rattle.cli.specs.Json.{PrintsLine};
 
-use crate::load::named_lockfile;
+use crate::load::{file, named_lockfile};
 use cargo_lock::Lockfile;
 use cargo_lock_diff::{Change, Difference, Summary};
+use cargo_lock_json::{File, difference_json};
 use clap::{Arg, ArgAction, ArgMatches, Command};
 use cli_support::Fault;
 use cli_support::output::put;
-use cli_support::words::{any_size, flag, is_standard, long_flag};
+use cli_support::words::{any_size, flag, is_standard, json, long_flag};
 use std::alloc::{AllocError, Global};
 use std::io::Write;
 use std::process::ExitCode;
@@ -52,7 +56,8 @@ pub(crate) fn command<'a>(alloc: Global) -> Result<Command<'a>, AllocError> {
         .arg(flag(alloc, "dependencies", 'd').help("Shows other dependencies of packages too"))?
         .arg(long_flag(alloc, "exit-code").help(
             "Ends with status 1 where anything differs, dependencies only with -d",
-        ))
+        ))?
+        .arg(json(alloc))
 }
 
 /// The path of a lockfile, which help shows as `shown`.
@@ -64,10 +69,10 @@ fn path<'a>(alloc: Global, name: &'a str, shown: &'a str) -> Arg<'a> {
 }
 
 /// Prints what differs between the packages of two lockfiles, a line for each change, and where the
-/// words ask for it also what differs between their dependencies. The status is 1 where a package
-/// of one name, version and source has another digest, and where the words ask for it, also where
-/// anything is printed. Else it is 0. Fails where a lockfile is not read or `out` fails; a
-/// beginning of the text was then written in the last case, and nothing in the others.
+/// words ask for it also what differs between their dependencies, or all as one line of JSON. The
+/// status is 1 where a package of one name, version and source has another digest, and where the
+/// words ask for it, also where anything differs. Else it is 0. Fails where a lockfile is not read or
+/// `out` fails; a beginning of the text was then written in the last case, and nothing in the others.
 pub(crate) fn run<R: Files + AllocGlobal, W: Write>(
     rt: &R,
     options: &ArgMatches<'_>,
@@ -106,29 +111,68 @@ fn tell<W: Write>(
     new: &Lockfile,
     out: &mut W,
 ) -> Result<ExitCode, Fault>
-    ensures { IfOk result (λ status. TellsDifferenceOf (found_of options.now)
-        old.now.packages new.now.packages
+    ensures { IfOk result (λ status. TellsDifferenceOf (found_of options.now) old.now new.now
         (W.contents out.old) (W.contents out.new)
         (status ≡ ExitCode.FAILURE) (status ≡ ExitCode.SUCCESS)) }
 {
     let difference = Difference::of(alloc, &old.packages, &new.packages)?;
-    tell_changes(alloc, options, &difference, out)
+    let before = file(options, "old", old);
+    let after = file(options, "new", new);
+    tell_changes(alloc, options, &before, &after, &difference, out)
 }
 
 /// Prints the changes that a difference tells. Answers the status.
 fn tell_changes<W: Write>(
     alloc: Global,
     options: &ArgMatches<'_>,
+    before: &File<'_>,
+    after: &File<'_>,
     difference: &Difference<'_>,
     out: &mut W,
 ) -> Result<ExitCode, Fault>
-    ensures { IfOk result (λ status. TellsChanges (found_of options.now) difference.now
-        (W.contents out.old) (W.contents out.new)
+    ensures { IfOk result (λ status. TellsChanges (found_of options.now) before.now after.now
+        difference.now (W.contents out.old) (W.contents out.new)
         (status ≡ ExitCode.FAILURE) (status ≡ ExitCode.SUCCESS)) }
 {
     let changes = changes(alloc, options, difference)?;
-    print_all(out, changes.as_slice())?;
+    print_told(alloc, options, before, after, changes.as_slice(), out)?;
     Ok(status(options, difference, changes.as_slice()))
+}
+
+/// Prints changes as the words ask for it: in JSON, or as lines.
+fn print_told<W: Write>(
+    alloc: Global,
+    options: &ArgMatches<'_>,
+    before: &File<'_>,
+    after: &File<'_>,
+    changes: &[Change<'_>],
+    out: &mut W,
+) -> Result<(), Fault>
+    ensures { OnOk result (PrintsTold (found_of options.now) before.now after.now
+        (map change_of changes.now) (W.contents out.old) (W.contents out.new)) }
+{
+    if options.get_flag("json") {
+        print_document(alloc, before, after, changes, out)
+    } else {
+        print_all(out, changes)
+    }
+}
+
+/// Prints the document of changes, and a newline.
+fn print_document<W: Write>(
+    alloc: Global,
+    before: &File<'_>,
+    after: &File<'_>,
+    changes: &[Change<'_>],
+    out: &mut W,
+) -> Result<(), Fault>
+    ensures { OnOk result (PrintsLine (IsJsonText
+        (difference_json before.now after.now (map change_of changes.now)))
+        (W.contents out.old) (W.contents out.new)) }
+{
+    let text = difference_json(alloc, before, after, changes)?;
+    put(out, format_args!("{text}\n"))?;
+    Ok(())
 }
 
 /// The changes that the words ask for: those of packages, and then those of dependencies.

@@ -26,15 +26,17 @@ use cli_support::message::put_message;
 use cli_support::{VERSION, output, status, words};
 use std::alloc::{AllocError, Global};
 use std::convert::AsStr;
+use std::env::Env;
 use std::io::Write;
 use std::process::ExitCode;
 use std::rt::Files;
+use std::time::Clock;
 
 /// Runs the command that `words`, the arguments without the program's own name, ask for. What it
 /// prints goes to `out`, which is then flushed, and a fault goes to `err`, as one message. Where it
 /// returns success, nothing was written to `err`; where something was, the status is that of a
 /// fault.
-pub fn run<R: Files + AllocGlobal, S: AsStr, W: Write, E: Write>(
+pub fn run<R: Files + Env + Clock + AllocGlobal, S: AsStr, W: Write, E: Write>(
     rt: &R,
     words: &[S],
     out: &mut W,
@@ -61,7 +63,7 @@ pub fn report<E: Write>(err: &mut E, fault: &Fault, status: ExitCode) -> ExitCod
 
 /// Reads the words, and runs their command or prints the help or the version that they ask for.
 /// Returns the status.
-fn execute<R: Files + AllocGlobal, S: AsStr, W: Write>(
+fn execute<R: Files + Env + Clock + AllocGlobal, S: AsStr, W: Write>(
     rt: &R,
     words: &[S],
     out: &mut W,
@@ -98,7 +100,7 @@ fn parser<'a>(alloc: Global) -> Result<Command<'a>, AllocError> {
 }
 
 /// Runs the command that the parser found. Answers the status.
-fn dispatch<R: Files + AllocGlobal, W: Write>(
+fn dispatch<R: Files + Env + Clock + AllocGlobal, W: Write>(
     rt: &R,
     matches: &ArgMatches<'_>,
     out: &mut W,

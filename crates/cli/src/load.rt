@@ -1,10 +1,13 @@
 //! The lockfiles that the words name.
-ghost use Rattle.std.specs.Prelude.{IfErr, IfOk};
+ghost use Rattle.std.specs.Prelude.{◌≡◌, IfErr, IfOk};
+ghost use Rattle.clap.specs.Matches.{found_of};
 ghost use Rattle.cargo_lock.specs.Loads.{IsMeant};
 ghost use Rattle.cargo_lock_encoding.specs.Means.{TextMeans};
+ghost use Rattle.cli.specs.Json.{file_of};
 ghost use Rattle.cli.specs.Load.{IsOfLockfile};
 
 use cargo_lock::{Error, Lockfile};
+use cargo_lock_json::File;
 use clap::ArgMatches;
 use cli_support::fault::path_shown;
 use cli_support::{Fault, words};
@@ -77,6 +80,16 @@ pub(crate) fn named_lockfile_of(
     match lockfile_of(alloc, text) {
         Ok(lockfile) => Ok(lockfile),
         Err(fault) => Err(named(alloc, options, name, fault)),
+    }
+}
+
+/// The lockfile whose path the option or argument `name` has, as a document has it.
+pub(crate) fn file<'a>(options: &ArgMatches<'a>, name: &str, lockfile: &Lockfile) -> File<'a>
+    ensures { result ≡ file_of (found_of options.now) name.now lockfile.now }
+{
+    File {
+        path: words::given_path(options, name),
+        format: lockfile.version,
     }
 }
 

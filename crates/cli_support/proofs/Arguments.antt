@@ -1,5 +1,5 @@
 -- A leading `lock` of arguments, and the command after it.
-use Rattle.std.proofs.Common.{◌≡◌, ℕ, suc, ◌<◌, ◌-◌, List, [], ◌∷◌, Bool, true, false, codes, map, take, drop, length, slice_index_or, arith, ap, refl, bytes_eq}
+use Rattle.std.proofs.Common.{◌≡◌, ℕ, suc, ◌<◌, ◌-◌, List, [], ◌∷◌, true, false, codes, map, take, drop, length, slice_index_or, arith, ap, refl, bytes_eq}
 use Rattle.std.proofs.lemmas.List.{take_all}
 use Rattle.cli_support.specs.Status.{without_lock}
 

@@ -2,3 +2,4 @@ pub mod Destination
 pub mod Output
 pub mod Input
 pub mod Status
+pub mod Time

@@ -6,7 +6,7 @@ ghost use Rattle.std.specs.IoError.{error_kind};
 ghost use Rattle.shown.specs.Shown.{shown};
 ghost use Rattle.shown.specs.declared.form.Form.TheVariants as form;
 ghost use Rattle.cargo_lock_parts.specs.declared.error.Error.TheVariants.{Io, Memory};
-ghost use Rattle.cli_support.specs.declared.fault.Fault.TheVariants.{Library, Spec};
+ghost use Rattle.cli_support.specs.declared.fault.Fault.TheVariants.{Library, NoTime, Spec};
 
 use cargo_lock_parts::error::Error;
 use clap::error::ErrorKind;
@@ -61,6 +61,14 @@ pub enum Fault {
     #[error("error: {0} packages are `{1}`\n")]
     ManyRoots(usize, String),
 
+    /// The variable `SOURCE_DATE_EPOCH` has this text, as it is shown, and it names no time.
+    #[error("error: SOURCE_DATE_EPOCH is no time: `{0}`\n")]
+    NoTime(String),
+
+    /// The variable `SOURCE_DATE_EPOCH` is not UTF-8.
+    #[error("error: SOURCE_DATE_EPOCH is not UTF-8\n")]
+    TimeNotUtf8,
+
     /// The words name no command.
     #[error("error: no command\n")]
     NoCommand,
@@ -102,6 +110,17 @@ impl Fault {
         }
     }
 
+    /// The fault of a text of `SOURCE_DATE_EPOCH` that names no time, or running out of memory.
+    pub fn of_time(alloc: Global, text: &str) -> Fault
+        ensures { (result ≡ Library Memory) ⊎ ((said : String Global) × (result ≡ NoTime said)
+            × (string_bytes said ≡ shown form.Quoted text.now)) }
+    {
+        match text_shown(alloc, text) {
+            Ok(text) => Fault::NoTime(text),
+            Err(_) => Fault::Library(Error::Memory),
+        }
+    }
+
     /// The fault of a specification that fits no package, or running out of memory.
     pub fn of_spec(alloc: Global, spec: &str) -> Fault
         ensures { (result ≡ Library Memory)
@@ -118,8 +137,15 @@ impl Fault {
 pub fn path_shown(alloc: Global, path: Path<'_>) -> Result<String, AllocError>
     ensures { IfOk result (λ text. string_bytes text ≡ shown form.Quoted (path_bytes path.entry)) }
 {
-    let path = Quoted(path.as_str());
-    format!(in alloc; "{path}")
+    text_shown(alloc, path.as_str())
+}
+
+// A text as it is shown between backquotes.
+fn text_shown(alloc: Global, text: &str) -> Result<String, AllocError>
+    ensures { IfOk result (λ all. string_bytes all ≡ shown form.Quoted text.now) }
+{
+    let text = Quoted(text);
+    format!(in alloc; "{text}")
 }
 
 impl From<Error> for Fault {

@@ -11,6 +11,7 @@ pub mod message;
 pub mod output;
 pub mod saving;
 pub mod status;
+pub mod time;
 pub mod words;
 
 pub use crate::fault::Fault;

@@ -1,9 +1,9 @@
 //! The words that the program is called with.
-ghost use Rattle.std.specs.Prelude.{◌≡◌, IfErr, IfSome, None, Some, codes, map, option_map, unwrap_or};
+ghost use Rattle.std.specs.Prelude.{◌≡◌, IfErr, IfSome, None, Some, codes, map, option_map};
 ghost use Rattle.std.specs.Path.{path_bytes};
 ghost use Rattle.clap.specs.Matches.{first_value, found_of};
 ghost use Rattle.cli_support.specs.Destination.{IsPrinted};
-ghost use Rattle.cli_support.specs.Input.{IsInputPath, IsOfReading};
+ghost use Rattle.cli_support.specs.Input.{IsInputPath, IsOfReading, given_path_in};
 ghost use Rattle.cli_support.specs.Status as spec;
 
 use crate::fault::Fault;
@@ -116,14 +116,19 @@ fn of_bytes(bytes: Vec<u8>) -> Result<String, Fault>
     }
 }
 
+/// The path that the option or argument `name` has, as it was given: `Cargo.lock` where it has none.
+pub fn given_path<'a>(options: &ArgMatches<'a>, name: &str) -> &'a str
+    ensures { result.now ≡ given_path_in (found_of options.now) name.now }
+{
+    options.get_str(name).unwrap_or(DEFAULT_PATH)
+}
+
 /// The path that the option or argument `name` has: `Cargo.lock` where it has none, and that of
 /// standard input where it is `-`.
 pub fn path_of<'a>(options: &ArgMatches<'a>, name: &str) -> Path<'a>
-    ensures { IsInputPath
-        (unwrap_or (first_value (found_of options.now) name.now) (codes "Cargo.lock"))
-        (path_bytes result) }
+    ensures { IsInputPath (given_path_in (found_of options.now) name.now) (path_bytes result) }
 {
-    match options.get_str(name).unwrap_or(DEFAULT_PATH) {
+    match given_path(options, name) {
         STANDARD => Path::new(STANDARD_INPUT),
         path => Path::new(path),
     }
@@ -152,6 +157,11 @@ pub fn file<'a>(alloc: Global) -> Arg<'a> {
     value(alloc, "file", 'f', "PATH")
         .default_value(DEFAULT_PATH)
         .help("The lockfile, - for standard input")
+}
+
+/// The option by which a command prints JSON.
+pub fn json<'a>(alloc: Global) -> Arg<'a> {
+    long_flag(alloc, "json").help("Prints one line of JSON")
 }
 
 /// The option by which a lockfile of any length is read.

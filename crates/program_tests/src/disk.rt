@@ -2,10 +2,12 @@
 
 use std::alloc::{Allocator, Global};
 use std::cell::Cell;
+use std::env::{Env, FillError};
 use std::fs::{File, Metadata, OpenFile, OpenOptions, Permissions};
 use std::io::{self, ErrorKind, Read, Seek, SeekFrom, Write};
 use std::path::PathBuf;
 use std::rt::Files;
+use std::time::{Clock, Duration};
 
 /// How many bytes a call of writing takes at most, so that a text takes many.
 const TAKEN: usize = 20;
@@ -60,6 +62,30 @@ impl Alloc for Disk<'_> {
 
     fn alloc(&self) -> Global {
         self.host.alloc()
+    }
+}
+
+impl Env for Disk<'_> {
+    fn arg(&self, i: usize, buf: &mut [u8]) -> Result<usize, FillError> {
+        self.host.arg(i, buf)
+    }
+
+    fn var(&self, name: &str, buf: &mut [u8]) -> Result<usize, FillError> {
+        self.host.var(name, buf)
+    }
+
+    fn var_at(&self, i: usize, buf: &mut [u8]) -> Result<usize, FillError> {
+        self.host.var_at(i, buf)
+    }
+}
+
+impl Clock for Disk<'_> {
+    fn monotonic(&self) -> io::Result<Duration> {
+        self.host.monotonic()
+    }
+
+    fn since_1970(&self) -> io::Result<Duration> {
+        self.host.since_1970()
     }
 }
 

@@ -1,5 +1,5 @@
-//! Tests of what no row of the program's commands asks: outputs that fail, and a file system that
-//! fails at one of its calls.
+//! Tests of what no row of the program's commands asks: outputs that fail, a file system that fails
+//! at one of its calls, and the time of an environment.
 #![tactic(auto)]
 
 #[cfg(test)]
@@ -8,3 +8,5 @@ mod disk;
 mod output;
 #[cfg(test)]
 mod saving;
+#[cfg(test)]
+mod time;

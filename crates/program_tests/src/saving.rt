@@ -3,11 +3,13 @@
 
 use crate::disk::{Disk, Turns};
 use cli::run;
+use std::env::Env;
 use std::os::unix::fs::symlink;
 use std::path::PathBuf;
 use std::process::ExitCode;
 use std::rt::Files;
 use std::test::Fail;
+use std::time::Clock;
 use std::{env, fs, io, process};
 
 // What is read, in each folder.
@@ -122,7 +124,7 @@ impl<'a> Folder<'a> {
 
     // Runs the command over this file system, and tells whether it succeeded. Else its message is
     // that of the fault.
-    fn translate<R: Files + AllocGlobal>(&self, files: &R) -> Result<bool, Fail> {
+    fn translate<R: Files + Env + Clock + AllocGlobal>(&self, files: &R) -> Result<bool, Fail> {
         let input = self.at(NAME)?;
         let output = self.at(self.output.name)?;
         let words = [

@@ -117,7 +117,7 @@ fn put_repeated(
 }
 
 // The identity of a dependency, as a key.
-fn identity<'a>(dependency: &'a Dependency) -> PartialIdentity<'a>
+pub(crate) fn identity<'a>(dependency: &'a Dependency) -> PartialIdentity<'a>
     ensures { result ≡ identity_as_key dependency.now }
 {
     PartialIdentity {

@@ -6,7 +6,6 @@ ghost use Rattle.cargo_lock_graph.specs.Targets.{IsLost};
 ghost use Rattle.cargo_lock_check.specs.Dependencies.{AreDependenciesBefore};
 ghost use Rattle.cargo_lock_check.specs.Lost.{AreLost, IsLostAt};
 
-use crate::flaws::candidates::all_matches;
 use cargo_lock_graph::versions::Versions;
 use cargo_lock_parts::dependency::Dependency;
 use cargo_lock_parts::package::Package;
@@ -43,14 +42,13 @@ fn lost_among<'a>(
 {
     let mut lost = Vec::new(alloc);
     for (place, package) in packages.iter().enumerate() {
-        put_lost(alloc, &mut lost, versions, place, package)?;
+        put_lost(&mut lost, versions, place, package)?;
     }
     Ok(lost)
 }
 
 // Adds the lost dependencies of the package at a place.
 fn put_lost<'a>(
-    alloc: Global,
     lost: &mut Vec<(usize, usize)>,
     versions: &Versions<'a>,
     place: usize,
@@ -62,7 +60,7 @@ fn put_lost<'a>(
         (AreDependenciesBefore (IsLostAt versions.now) (place + 1) 0 lost.new.items) }
 {
     for (at, dependency) in package.dependencies.iter().enumerate() {
-        if is_lost(alloc, versions, dependency)? {
+        if is_lost(versions, dependency) {
             lost.push((place, at))?;
         }
     }
@@ -70,13 +68,15 @@ fn put_lost<'a>(
 }
 
 // Whether no package answers the dependency.
-fn is_lost<'a>(
-    alloc: Global,
-    versions: &Versions<'a>,
-    dependency: &'a Dependency,
-) -> Result<bool, AllocError>
-    ensures { IfOk result (λ lost. Decides lost (IsLost versions.now dependency.now)) }
+fn is_lost<'a>(versions: &Versions<'a>, dependency: &'a Dependency) -> bool
+    ensures { Decides result (IsLost versions.now dependency.now) }
 {
-    let found = all_matches(alloc, versions, dependency)?;
-    Ok(found.is_empty())
+    let mut next = versions.last(dependency);
+    while let Some(place) = next {
+        if versions.rank(dependency, place).is_some() {
+            return false;
+        }
+        next = versions.before(place);
+    }
+    true
 }

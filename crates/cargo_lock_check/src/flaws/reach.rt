@@ -1,18 +1,23 @@
 //! The packages that those of the workspace do not lead to.
 
-ghost use Rattle.std.specs.Prelude.{◌≡◌, ◌<◌, ◌↔◌, ℕ, Bool, false, IfOk, OnOk, Some, length};
+ghost use Rattle.std.specs.Prelude.{◌≡◌, ◌<◌, ◌↔◌, ℕ, Bool, cond, false, true, IfOk, None, OnOk, Some, is_some, length};
 ghost use Rattle.std.specs.Prelude.{slice_get};
 ghost use Rattle.cargo_lock_parts.specs.Identity.{Identity};
 ghost use Rattle.cargo_lock_check.specs.Places.{IsPlaces};
-ghost use Rattle.cargo_lock_check.specs.Reach.{IsAskedBy, IsOneOfBest, IsOrphan, IsReached};
-ghost use Rattle.cargo_lock_check.specs.Search.{HasReached, IsMarked, IsSearch};
+ghost use Rattle.cargo_lock_check.specs.Reach.{AsksFor, IsOneOfBest, IsOrphan, IsReached, IsRoot};
+ghost use Rattle.cargo_lock_check.specs.Search.{AreAsked, HasBegun, HasReached, IsMarked, IsSearch};
+ghost use Rattle.std.specs.BTreeMap.{get, is_at};
+ghost use Rattle.cargo_lock_parts.specs.PartialIdentity.{PartialIdentity, partial_identity_cmp};
+ghost use Rattle.cargo_lock_graph.specs.Candidates.{identity_as_key};
 ghost use Rattle.std.specs.List.{Contains};
 
 use crate::flaws::candidates::{all_matches, best_matches};
+use crate::flaws::dependencies::identity;
 use cargo_lock_graph::versions::Versions;
 use cargo_lock_parts::dependency::Dependency;
-use cargo_lock_parts::package::Package;
+use cargo_lock_parts::package::{Package, PartialIdentity};
 use std::alloc::{AllocError, Global};
+use std::collections::BTreeMap;
 
 // Which packages are reached so far, and the places of those whose dependencies are still to be
 // followed.
@@ -22,20 +27,25 @@ struct Search {
     waiting: Vec<usize>,
 }
 
-/// The places of the packages that no package without a source leads to, by dependencies and
-/// replacements. Those without a source are the packages of the workspace. A dependency without a
-/// package leads nowhere. Fails when out of memory.
+/// The places of the packages that neither a package without a source nor the root leads to, by
+/// dependencies and replacements. Those without a source are the packages of the workspace, and a
+/// root apart from the packages, which a lockfile of V1 may have, is one of them too. A dependency
+/// without a package leads nowhere. Fails when out of memory.
 ///
 /// ```
-/// for place in &orphans(rt.alloc(), &lockfile.packages)? {
+/// for place in &orphans(rt.alloc(), &lockfile.packages, &lockfile.root)? {
 ///     println!(rt; "{} is not needed", lockfile.packages[*place].name)?;
 /// }
 /// ```
-pub fn orphans(alloc: Global, packages: &[Package]) -> Result<Vec<usize>, AllocError>
+pub fn orphans(
+    alloc: Global,
+    packages: &[Package],
+    root: &Option<Package>,
+) -> Result<Vec<usize>, AllocError>
     ensures { IfOk result (λ places.
-        IsPlaces (IsOrphan packages.now) (length packages.now) places.items) }
+        IsPlaces (IsOrphan packages.now root.now) (length packages.now) places.items) }
 {
-    let reached = reached(alloc, packages)?;
+    let reached = reached(alloc, packages, root)?;
     let orphans = unmarked(alloc, &reached)?;
     Ok(orphans)
 }
@@ -54,16 +64,42 @@ fn unmarked(alloc: Global, marks: &[bool]) -> Result<Vec<usize>, AllocError>
     Ok(places)
 }
 
+// The dependencies that were asked for.
+type Asked<'a> = BTreeMap<PartialIdentity<'a>, bool>;
+
+// Whether an equal dependency was asked for.
+fn is_asked<'a>(asked: &Asked<'a>, dependency: &'a Dependency) -> bool
+    ensures { result
+        ≡ is_some (get partial_identity_cmp asked.now (identity_as_key dependency.now)) }
+{
+    asked.contains_key(&identity(dependency))
+}
+
+// Adds a dependency that was asked for.
+fn put_asked<'a>(asked: &mut Asked<'a>, dependency: &'a Dependency) -> Result<(), AllocError>
+    ensures { OnOk result ((q : PartialIdentity) → get partial_identity_cmp asked.new q
+        ≡ cond (is_at (partial_identity_cmp (identity_as_key dependency.now)) q) (Some true)
+        (get partial_identity_cmp asked.old q)) }
+{
+    asked.insert(identity(dependency), true)?;
+    Ok(())
+}
+
 // For each package whether it is reached.
-fn reached(alloc: Global, packages: &[Package]) -> Result<Vec<bool>, AllocError>
+fn reached(
+    alloc: Global,
+    packages: &[Package],
+    root: &Option<Package>,
+) -> Result<Vec<bool>, AllocError>
     ensures count { IfOk result (λ marks. length marks.items ≡ length packages.now) }
     ensures marks { IfOk result (λ marks.
-        (k : ℕ) → IsMarked marks.items k ↔ IsReached packages.now k) }
+        (k : ℕ) → IsMarked marks.items k ↔ IsReached packages.now root.now k) }
 {
     let versions = Versions::of(alloc, packages)?;
-    let mut search = Search::from_roots(alloc, packages)?;
+    let mut asked = BTreeMap::new(alloc);
+    let mut search = Search::begin(alloc, &versions, &mut asked, packages, root)?;
     while let Some(place) = search.waiting.pop() {
-        search.follow(alloc, &versions, &packages[place])?;
+        search.follow(alloc, &versions, &mut asked, &packages[place])?;
     }
     let Search {
         reached,
@@ -73,9 +109,29 @@ fn reached(alloc: Global, packages: &[Package]) -> Result<Vec<bool>, AllocError>
 }
 
 impl Search {
+    // A search that has reached each place at which a chain begins.
+    fn begin<'a>(
+        alloc: Global,
+        versions: &Versions<'a>,
+        asked: &mut Asked<'a>,
+        packages: &'a [Package],
+        root: &'a Option<Package>,
+    ) -> Result<Search, AllocError>
+        requires packages { versions.now ≡ packages.now }
+        requires none { (q : PartialIdentity) → get partial_identity_cmp asked.old q ≡ None }
+        ensures search { IfOk result (IsSearch packages.now root.now) }
+        ensures asked { IfOk result (λ search. AreAsked packages.now search asked.new) }
+    {
+        let mut search = Search::from_workspace(alloc, packages)?;
+        if let Some(root) = root {
+            search.follow(alloc, versions, asked, root)?;
+        }
+        Ok(search)
+    }
+
     // A search that has reached the packages without a source.
-    fn from_roots(alloc: Global, packages: &[Package]) -> Result<Search, AllocError>
-        ensures { IfOk result (λ search. IsSearch packages.now search) }
+    fn from_workspace(alloc: Global, packages: &[Package]) -> Result<Search, AllocError>
+        ensures { IfOk result (HasBegun packages.now (IsRoot packages.now)) }
     {
         let mut search = Search {
             reached: vec![in alloc; false; packages.len()]?,
@@ -94,35 +150,62 @@ impl Search {
         &mut self,
         alloc: Global,
         versions: &Versions<'a>,
+        asked: &mut Asked<'a>,
         package: &'a Package,
     ) -> Result<(), AllocError>
-        requires { length self.old.reached.items ≡ length versions.now }
-        ensures { OnOk result (HasReached
-            (λ k. (d : Identity) × IsAskedBy «package».now d × IsOneOfBest versions.now d k)
-            self.old self.new) }
+        requires count { length self.old.reached.items ≡ length versions.now }
+        requires asked { AreAsked versions.now self.old asked.old }
+        ensures reached { OnOk result
+            (HasReached (AsksFor versions.now «package».now) self.old self.new) }
+        ensures asked { OnOk result (AreAsked versions.now self.new asked.new) }
     {
-        self.reach_dependencies(alloc, versions, &package.dependencies)?;
+        self.ask_all(alloc, versions, asked, &package.dependencies)?;
         if let Some(replace) = &package.replace {
-            self.reach_best(alloc, versions, replace)?;
+            self.ask(alloc, versions, asked, replace)?;
         }
         Ok(())
     }
 
     // Reaches what some dependencies stand for.
-    fn reach_dependencies<'a>(
+    fn ask_all<'a>(
         &mut self,
         alloc: Global,
         versions: &Versions<'a>,
+        asked: &mut Asked<'a>,
         dependencies: &'a [Dependency],
     ) -> Result<(), AllocError>
-        requires { length self.old.reached.items ≡ length versions.now }
-        ensures { OnOk result (HasReached
+        requires count { length self.old.reached.items ≡ length versions.now }
+        requires asked { AreAsked versions.now self.old asked.old }
+        ensures reached { OnOk result (HasReached
             (λ k. (d : Identity) × Contains dependencies.now d × IsOneOfBest versions.now d k)
             self.old self.new) }
+        ensures asked { OnOk result (AreAsked versions.now self.new asked.new) }
     {
         for dependency in dependencies {
-            self.reach_best(alloc, versions, dependency)?;
+            self.ask(alloc, versions, asked, dependency)?;
         }
+        Ok(())
+    }
+
+    // Reaches the packages that match a dependency best, unless an equal one was asked for before.
+    fn ask<'a>(
+        &mut self,
+        alloc: Global,
+        versions: &Versions<'a>,
+        asked: &mut Asked<'a>,
+        dependency: &'a Dependency,
+    ) -> Result<(), AllocError>
+        requires count { length self.old.reached.items ≡ length versions.now }
+        requires asked { AreAsked versions.now self.old asked.old }
+        ensures reached { OnOk result
+            (HasReached (IsOneOfBest versions.now dependency.now) self.old self.new) }
+        ensures asked { OnOk result (AreAsked versions.now self.new asked.new) }
+    {
+        if is_asked(asked, dependency) {
+            return Ok(());
+        }
+        self.reach_best(alloc, versions, dependency)?;
+        put_asked(asked, dependency)?;
         Ok(())
     }
 

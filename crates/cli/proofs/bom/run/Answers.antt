@@ -13,8 +13,10 @@ returns g c =
     let line = string_bytes c.in_ok-text.text in
     on_ok_weaken c.put_out.result _ _ (λ taken. (
       c.in_ok-lockfile.lockfile,
+      c.in_ok-time.time,
       line,
       c.in_ok-lockfile.ensures,
+      c.in_ok-time.ensures,
       c.in_ok-text.ensures,
       subst (λ (text : List ℕ). TakesOutput output text old new) (append-nil c.as_str.result.now ∙ c.as_str.ensures.value) taken,
     )) c.put_out.ensures

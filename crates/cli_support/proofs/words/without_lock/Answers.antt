@@ -1,4 +1,4 @@
-use Rattle.std.proofs.Common.{◌≡◌, List, ℕ, Bool, arith, sym, ap, ◌∙◌, bytes_eq, codes}
+use Rattle.std.proofs.Common.{List, ℕ, Bool, arith, sym, ap, ◌∙◌, bytes_eq, codes}
 use Rattle.cli_support.proofs.Arguments.{lock-left-out, no-lock, none-left-out}
 use Rattle.cli_support.proofs.words.without_lock.Goals as goal
 

@@ -10,12 +10,12 @@ nine-joined a b c d e f g h i = simp append_assoc
 
 -- what was added one after another
 told-joined : (f : FindingsData) → (((((((filter_map (dependency_at LostDependency f.packages) f.lost_dependencies ++ told_of_twice f)
-    ++ told_of_misleading f) ++ told_of_orphans f.packages f.orphans) ++ told_of_checksums f)
+    ++ told_of_misleading f) ++ told_of_orphans f.has_workspace f.packages f.orphans) ++ told_of_checksums f)
     ++ map StaleChecksum f.stale) ++ told_of_order f) ++ told_of_formats f)
     ++ option_to_list (option_map OtherLine f.other_line) ≡ told_of f
 told-joined f =
     nine-joined (filter_map (dependency_at LostDependency f.packages) f.lost_dependencies) (told_of_twice f) (told_of_misleading f)
-    (told_of_orphans f.packages f.orphans) (told_of_checksums f) (map StaleChecksum f.stale)
+    (told_of_orphans f.has_workspace f.packages f.orphans) (told_of_checksums f) (map StaleChecksum f.stale)
     (told_of_order f) (told_of_formats f) (option_to_list (option_map OtherLine f.other_line))
 
 pub returns : goal.returns

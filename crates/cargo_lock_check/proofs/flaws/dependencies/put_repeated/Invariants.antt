@@ -1,4 +1,3 @@
-use Rattle.cargo_lock_parts.specs.Identity.{Identity}
 use Rattle.cargo_lock_check.specs.Dependencies.{AreDependenciesBefore, IsRepeatedAt}
 use Rattle.cargo_lock_check.specs.Seen.{AreLastDependencies}
 use Rattle.cargo_lock_check.proofs.flaws.dependencies.put_repeated.Given as goal

@@ -7,7 +7,7 @@ use Rattle.cargo_lock_check.specs.Dependencies.{HoldsOfDependency}
 use Rattle.cargo_lock_check.specs.Lost.{IsLostAt}
 use Rattle.cargo_lock_check.proofs.DependencyPlaces.{next-package, of-dependency, pass, put, there}
 use Rattle.cargo_lock_check.proofs.flaws.lost.put_lost.Goals as goal
-use Rattle.cargo_lock_check.proofs.flaws.lost.put_lost.Goals.{then-branch+in_ok-push, else-branch}
+use Rattle.cargo_lock_check.proofs.flaws.lost.put_lost.Goals.{then-is_lost+in_ok-push, else-is_lost}
 
 pub loop-at-preserved : goal.loop-at-preserved
 loop-at-preserved c =
@@ -20,13 +20,13 @@ loop-at-preserved c =
     let d : Identity = c.dependency-item.result in
     let here : slice_get p.dependencies at ≡ Some d =
     subst (λ (es : List Identity). slice_get es at ≡ Some d) whole (slice_get_read ds (length ds) at d refl c.loop-at-test.true c.dependency-item.is) in
-    elim c.if-branch.branch [
-      | then-branch+in_ok-push w ↦
-          let lost = c.in_ok-is_lost.ensures.0 w.if-branch.true in
+    elim c.if-is_lost.branch [
+      | then-is_lost+in_ok-push w ↦
+          let lost = c.is_lost.ensures.0 w.if-is_lost.true in
           rw w.lost-is (put (IsLostAt packages) place at c.loop-at.lost.items w.push.new.self.items c.loop-at.invariant (p, c.requires.«package», (d, here, lost)) w.in_ok-push.ensures.items)
-      | else-branch w ↦
+      | else-is_lost w ↦
           rw w.lost-is (pass (IsLostAt packages) place at c.loop-at.lost.items c.loop-at.invariant
-          (λ lost. false≢true (sym w.if-branch.false ∙ c.in_ok-is_lost.ensures.1
+          (λ lost. false≢true (sym w.if-is_lost.false ∙ c.is_lost.ensures.1
           ((of-dependency (IsLost packages) p.dependencies at d here).0
           ((there (HoldsOfDependency (IsLost packages)) packages place at p c.requires.«package»).0 lost)))))
     ]

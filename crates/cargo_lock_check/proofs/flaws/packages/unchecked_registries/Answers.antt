@@ -1,9 +1,8 @@
-use Rattle.std.proofs.Common.{◌∙◌, ◌≡◌, ◌↔◌, true, false, Some, None, refl, ap, sym, length, slice_get, arith}
+use Rattle.std.proofs.Common.{◌∙◌, ◌≡◌, Some, None, refl, ap, sym, length, slice_get, arith}
 use Rattle.std.proofs.lemmas.Bool.{false≢true}
 use Rattle.std.proofs.lemmas.Option.{slice_get_read}
 use Rattle.std.specs.Option.{option_copied}
 use Rattle.cargo_lock_check.specs.Packages.{IsUnchecked, own_source}
-use Rattle.cargo_lock_check.specs.Seen.{is_new}
 use Rattle.cargo_lock_check.proofs.Places.{places-end, places-pass, places-put}
 use Rattle.cargo_lock_check.proofs.SeenBefore.{none-unchecked, own-more, own-same, unchecked-known}
 use Rattle.cargo_lock_check.proofs.flaws.packages.unchecked_registries.Goals as goal

@@ -1,10 +1,13 @@
 use Rattle.std.proofs.Common.{◌+◌, length}
 use Rattle.cargo_lock_graph.specs.DrawingMade.{unmarked_count}
-use Rattle.cargo_lock_check.specs.Search.{IsSearch}
+use Rattle.cargo_lock_check.specs.Search.{AreAsked, IsSearch}
 use Rattle.cargo_lock_check.proofs.flaws.reach.reached.Given as goal
 
 abbrev pub invariant-loop-place : goal.invariant-loop-place
-invariant-loop-place l = IsSearch l.packages l.search
+invariant-loop-place l = record {
+  search : IsSearch l.packages l.root l.search;
+  asked : AreAsked l.packages l.search l.asked;
+}
 
 -- what is not reached and what waits
 abbrev pub decreases-loop-place : goal.decreases-loop-place

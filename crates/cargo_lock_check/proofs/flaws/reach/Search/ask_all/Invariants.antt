@@ -1,0 +1,10 @@
+use Rattle.cargo_lock_check.specs.Search.{AreAsked, HasReached}
+use Rattle.cargo_lock_check.proofs.Searching.{TargetsOf}
+use Rattle.cargo_lock_check.proofs.flaws.reach.Search.ask_all.Given as goal
+
+-- what the dependencies so far stand for is reached
+abbrev pub invariant-loop-dependency : goal.invariant-loop-dependency
+invariant-loop-dependency l = record {
+  reached : HasReached (TargetsOf l.versions l.dependencies l.dependency-index) l.initial.self l.self;
+  asked : AreAsked l.versions l.self l.asked;
+}

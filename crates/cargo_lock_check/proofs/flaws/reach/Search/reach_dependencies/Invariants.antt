@@ -1,7 +1,0 @@
-use Rattle.cargo_lock_check.specs.Search.{HasReached}
-use Rattle.cargo_lock_check.proofs.Searching.{TargetsOf}
-use Rattle.cargo_lock_check.proofs.flaws.reach.Search.reach_dependencies.Given as goal
-
--- what the dependencies so far stand for is reached
-abbrev pub invariant-loop-dependency : goal.invariant-loop-dependency
-invariant-loop-dependency l = HasReached (TargetsOf l.versions l.dependencies l.dependency-index) l.initial.self l.self

@@ -1,0 +1,5 @@
+pub mod Text
+pub mod File
+pub mod Package
+pub mod Difference
+pub mod Findings

@@ -1,0 +1,42 @@
+//! The lockfiles that a document is about.
+
+ghost use Rattle.std.specs.Prelude.{◌∷◌};
+ghost use Rattle.json.specs.Token.{key};
+ghost use Rattle.json.specs.Tree.{json_tokens};
+ghost use Rattle.cargo_lock_json.specs.Text.{Adds};
+ghost use Rattle.cargo_lock_json.specs.File.{file_json};
+
+use crate::text::Text;
+use cargo_lock_references::ResolveVersion;
+use std::alloc::AllocError;
+use std::marker::Model;
+
+/// A lockfile that a document is about.
+#[derive(Drop)]
+pub struct File<'a> {
+    /// The path as it was given, `-` for standard input.
+    pub path: &'a str,
+
+    /// The format of the lockfile.
+    pub format: ResolveVersion,
+}
+
+impl<'a> Model for File<'a> {
+    ghost use Rattle.cargo_lock_json.specs.File.{FileData};
+
+    ghost Value = { FileData };
+
+    ghost view = { λ file. record { path = file.path.now; format = file.format } };
+}
+
+// Writes a member whose value is a lockfile.
+#[tactic(auto, unfolding(crate::specs::File::file_json))]
+pub(crate) fn put_file(out: &mut Text, name: &str, file: &File<'_>) -> Result<(), AllocError>
+    ensures { Adds result out.old out.new (key name.now ∷ json_tokens (file_json «file».now)) }
+{
+    out.key(name)?;
+    out.begin_object()?;
+    out.string_member("path", file.path)?;
+    out.number_member("format", u32::from(file.format) as u64)?;
+    out.end_object()
+}

@@ -1,0 +1,115 @@
+//! Packages and dependencies in JSON.
+
+ghost use Rattle.std.specs.Prelude.{◌≡◌, ◌∷◌, codes, option_map, true};
+ghost use Rattle.semver.specs.Identifiers.{parts_of, parts_text};
+ghost use Rattle.json.specs.Token.{begin_object, key, string};
+ghost use Rattle.json.specs.Tree.{json_tokens};
+ghost use Rattle.cargo_lock_json.specs.Text.{Adds};
+ghost use Rattle.cargo_lock_parts.specs.Checksum.{digest_of, digest_text};
+ghost use Rattle.cargo_lock_parts.specs.SourceText.{text_of};
+ghost use Rattle.cargo_lock_json.specs.Package.{dependency_json, package_json, package_or_null};
+ghost use Rattle.cargo_lock_json.specs.Package.{text_or_null};
+
+use crate::text::Text;
+use cargo_lock_parts::dependency::Dependency;
+use cargo_lock_parts::package::{Checksum, Name, Package, SourceId, Version};
+use std::alloc::{AllocError, Global};
+
+// Writes a member whose value is a package, or null.
+pub(crate) fn put_package_or_null(
+    out: &mut Text,
+    alloc: Global,
+    name: &str,
+    package: Option<&Package>,
+) -> Result<(), AllocError>
+    ensures { Adds result out.old out.new (key name.now
+        ∷ json_tokens (package_or_null (option_map (λ p. p.now) «package».entry))) }
+{
+    match package {
+        Some(package) => {
+            out.key(name)?;
+            put_package(out, alloc, package)
+        }
+        None => out.null_member(name),
+    }
+}
+
+// Writes a package.
+#[tactic(auto, unfolding(crate::specs::Package::identity_json))]
+pub(crate) fn put_package(
+    out: &mut Text,
+    alloc: Global,
+    package: &Package,
+) -> Result<(), AllocError>
+    ensures { Adds result out.old out.new (json_tokens (package_json «package».now)) }
+{
+    put_identity(out, alloc, &package.name, &package.version, &package.source)?;
+    put_checksum(out, alloc, &package.checksum)?;
+    out.end_object()
+}
+
+// Writes a dependency.
+#[tactic(auto, unfolding(crate::specs::Package::identity_json))]
+pub(crate) fn put_dependency(
+    out: &mut Text,
+    alloc: Global,
+    dependency: &Dependency,
+) -> Result<(), AllocError>
+    ensures { Adds result out.old out.new (json_tokens (dependency_json dependency.now)) }
+{
+    put_identity(
+        out,
+        alloc,
+        &dependency.name,
+        &dependency.version,
+        &dependency.source,
+    )?;
+    out.null_member("checksum")?;
+    out.end_object()
+}
+
+// Begins an object, and writes a name, a version and a source.
+fn put_identity(
+    out: &mut Text,
+    alloc: Global,
+    name: &Name,
+    version: &Version,
+    source: &Option<SourceId>,
+) -> Result<(), AllocError>
+    ensures { Adds result out.old out.new (begin_object
+        ∷ key (codes "name") ∷ string name.now
+        ∷ key (codes "version") ∷ string (parts_text (parts_of version.now))
+        ∷ key (codes "source")
+        ∷ json_tokens (text_or_null (option_map (text_of true) source.now))) }
+{
+    out.begin_object()?;
+    out.string_member("name", name.as_str())?;
+    out.displayed_member(alloc, "version", version)?;
+    put_source(out, alloc, source)
+}
+
+// Writes the member for a source.
+fn put_source(out: &mut Text, alloc: Global, source: &Option<SourceId>) -> Result<(), AllocError>
+    ensures { Adds result out.old out.new (key (codes "source")
+        ∷ json_tokens (text_or_null (option_map (text_of true) source.now))) }
+{
+    match source {
+        Some(source) => out.displayed_member(alloc, "source", &source.as_url(true)),
+        None => out.null_member("source"),
+    }
+}
+
+// Writes the member for a checksum.
+fn put_checksum(
+    out: &mut Text,
+    alloc: Global,
+    checksum: &Option<Checksum>,
+) -> Result<(), AllocError>
+    ensures { Adds result out.old out.new (key (codes "checksum")
+        ∷ json_tokens (text_or_null (option_map digest_text (option_map digest_of checksum.now)))) }
+{
+    match checksum {
+        Some(checksum) => out.displayed_member(alloc, "checksum", checksum),
+        None => out.null_member("checksum"),
+    }
+}

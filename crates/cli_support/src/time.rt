@@ -1,0 +1,84 @@
+//! When a text is written.
+
+ghost use Rattle.std.specs.Prelude.{◌≡◌, ◌⊎◌, MatchResult, String, string_bytes};
+ghost use Rattle.std.specs.Char.{is_ascii_digit};
+ghost use Rattle.std.specs.List.{list_all};
+ghost use Rattle.std.specs.Option.{SomeIff};
+ghost use Rattle.std.specs.Str.Parse.{digits_value};
+ghost use Rattle.std.specs.declared.alloc.Global.{Global};
+ghost use Rattle.shown.specs.Shown.{shown};
+ghost use Rattle.shown.specs.declared.form.Form.TheVariants as form;
+ghost use Rattle.cargo_lock_parts.specs.declared.error.Error.TheVariants.{Memory};
+ghost use Rattle.cli_support.specs.Time.{NamesTime};
+ghost use Rattle.cli_support.specs.declared.fault.Fault.TheVariants.{Library, NoTime};
+
+use crate::fault::Fault;
+use std::alloc::{AllocError, Global};
+use std::env;
+use std::env::{Env, VarError};
+use std::time::{Clock, SystemTime, UNIX_EPOCH};
+
+/// The variable that says the time, as <https://reproducible-builds.org/specs/source-date-epoch/>
+/// has it.
+const VARIABLE: &str = "SOURCE_DATE_EPOCH";
+
+/// The last second of the year 9999.
+const LAST_SECOND: u64 = 253_402_300_799;
+
+/// The time in seconds since 1970 began: that of the variable `SOURCE_DATE_EPOCH`, where the
+/// environment has it, and else that of the clock. Fails where the text of the variable names no
+/// time, and where the clock fails.
+pub fn now<R: Env + Clock + AllocGlobal>(rt: &R) -> Result<u64, Fault> {
+    match env::var(rt, VARIABLE) {
+        Ok(text) => time_of(rt.alloc(), text.as_str()),
+        Err(VarError::NotPresent) => clock_time(rt),
+        Err(VarError::NotUnicode) => Err(Fault::TimeNotUtf8),
+        Err(VarError::OutOfMemory) => Err(Fault::from(AllocError)),
+    }
+}
+
+/// The time of the clock.
+fn clock_time<R: Clock>(rt: &R) -> Result<u64, Fault> {
+    let now = SystemTime::now(rt)?;
+    match now.duration_since(UNIX_EPOCH) {
+        Ok(passed) => Ok(passed.as_secs()),
+        Err(_) => Ok(0),
+    }
+}
+
+/// The time that a text names: digits alone, and at most the last second of the year 9999.
+///
+/// ```
+/// let time = time::time_of(rt.alloc(), "1718818205")?;
+/// ```
+pub fn time_of(alloc: Global, text: &str) -> Result<u64, Fault>
+    ensures { MatchResult result
+        (λ seconds. NamesTime text.now × (seconds ≡ digits_value 10 text.now))
+        (λ fault. (fault ≡ Library Memory) ⊎ (¬ (NamesTime text.now) × (said : String Global)
+        × (fault ≡ NoTime said) × (string_bytes said ≡ shown form.Quoted text.now))) }
+{
+    match seconds_of(text) {
+        Some(seconds) => Ok(seconds),
+        None => Err(Fault::of_time(alloc, text)),
+    }
+}
+
+/// The same, if it names one.
+fn seconds_of(text: &str) -> Option<u64>
+    ensures { SomeIff result (NamesTime text.now) (digits_value 10 text.now) }
+{
+    if !is_digits(text) {
+        return None;
+    }
+    match text.parse::<u64>() {
+        Ok(seconds) if seconds <= LAST_SECOND => Some(seconds),
+        _ => None,
+    }
+}
+
+/// Whether each character is a digit.
+fn is_digits(text: &str) -> bool
+    ensures { result ≡ list_all is_ascii_digit text.now }
+{
+    text.bytes().all(|byte| byte.is_ascii_digit())
+}
