@@ -1,15 +1,16 @@
 //! Case files: Markdown, in which each fenced block is a lockfile or asks something.
 //!
 //! A block `toml` is the text at hand for the blocks below it, and a block `toml beside` the text
-//! beside it. In a block `each CALL` each line is a case, `input => wanted`. Any other block is one
-//! case: its words are the call, which is asked of the text at hand, and its lines are the wanted
-//! answer.
+//! beside it. A block `toml FILE` or `toml beside FILE` has no lines: its text is that of a file
+//! beside the case files. In a block `each CALL` each line is a case, `INPUT => ANSWER`. Any other
+//! block is one case: its words are the call, which is asked of the text at hand, and its lines are
+//! the wanted answer.
 
 use crate::report::{Case, Report};
 use crate::{commands, notation};
 use cargo_lock::Error;
 use row_calls::Texts;
-use std::mem;
+use std::{fs, mem};
 
 #[derive(Drop)]
 struct Reader<'t> {
@@ -80,12 +81,33 @@ impl<'t> Reader<'t> {
 
     fn close(&mut self, call: &'t str) -> Result<(), Error> {
         let body = mem::replace(&mut self.body, String::new(self.rt.alloc()));
-        match call {
-            "toml" => self.at_hand = body,
-            "toml beside" => self.beside = body,
-            _ => return self.ask_block(call, body.as_str()),
+        match call.strip_prefix("toml") {
+            Some(words) => self.put_text(call, words, body),
+            None => self.ask_block(call, body.as_str()),
+        }
+    }
+
+    /// Takes the text at hand, or the text beside it.
+    fn put_text(&mut self, call: &'t str, words: &'t str, body: String) -> Result<(), Error> {
+        match words.strip_prefix(" beside") {
+            Some(file) => self.beside = self.text_of(call, file, body)?,
+            None => self.at_hand = self.text_of(call, words, body)?,
         }
         Ok(())
+    }
+
+    /// The text of a block, or of the file that the block names.
+    fn text_of(&mut self, call: &'t str, file: &str, body: String) -> Result<String, Error> {
+        let file = file.trim_start_matches(' ');
+        if file.is_empty() {
+            return Ok(body);
+        }
+        if !body.is_empty() {
+            let case = self.case(call, self.line);
+            self.report
+                .refuse(&case, "a block that names a file has no lines")?;
+        }
+        Ok(fs::read_to_string(self.rt, file)?)
     }
 
     fn ask_block(&mut self, call: &'t str, body: &str) -> Result<(), Error> {
@@ -142,7 +164,7 @@ impl<'t> Reader<'t> {
         }
         match line.split_once("=>") {
             Some((input, wanted)) => self.ask_sides(case, words, input, wanted),
-            None => self.report.refuse(case, line),
+            None => self.report.refuse_line(case, line),
         }
     }
 

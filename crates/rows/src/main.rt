@@ -1,8 +1,8 @@
-//! The program `rows`: asks the library what the case files beside it ask, and tells each case
-//! whose answer is another than the one that stands there.
+//! The program `rows`: asks the library what the case files beside it ask, and prints each case
+//! whose answer is another than the one that is written there.
 //!
 //! A case file is one whose name ends in `.md`. In one whose name begins with `failing` each case
-//! is to fail, so that what is told of failing cases is tested too.
+//! is to fail, so that what is printed of failing cases is tested too.
 #![tactic(auto)]
 
 mod cases;
@@ -26,13 +26,16 @@ fn main(rt: HostRuntime) -> ExitCode {
     }
 }
 
-/// Whether each case file holds.
+/// Whether each case file is as it is to be. Prints so where each is.
 fn run(rt: &HostRuntime) -> Result<bool, Error> {
     let mut holds = true;
     for name in case_files(rt)?.as_slice() {
         if !file_holds(rt, name.as_str())? {
             holds = false;
         }
+    }
+    if holds {
+        println!(rt; "each case holds, and each case of failing.md fails")?;
     }
     Ok(holds)
 }
@@ -54,22 +57,22 @@ fn case_files(rt: &HostRuntime) -> Result<Vec<String>, Error> {
 fn file_holds(rt: &HostRuntime, name: &str) -> Result<bool, Error> {
     let text = fs::read_to_string(rt, name)?;
     let report = cases::check(rt, name, text.as_str())?;
-    tell(rt, name, &report)
+    print(rt, name, &report)
 }
 
-/// Prints what is told of a file. Where a case fails that is to hold, its message goes to standard
-/// error too, of which the gate shows the end.
-fn tell(rt: &HostRuntime, name: &str, report: &Report) -> Result<bool, Error> {
+/// Prints the cases of a file that fail, and returns whether the file is as it is to be. Where it is
+/// not, prints why to standard error too, of which the gate shows the end.
+fn print(rt: &HostRuntime, name: &str, report: &Report) -> Result<bool, Error> {
     let failures = report.failures();
     print!(rt; "{failures}")?;
     if name.starts_with("failing") {
-        println!(rt; "{name}: each case fails, as it is to")?;
+        if !report.all_fail() {
+            eprintln!(rt; "{name}: a case holds that is to fail, or there is no case")?;
+        }
         return Ok(report.all_fail());
     }
-    if report.all_hold() {
-        println!(rt; "{name}: each case holds")?;
-        return Ok(true);
+    if !report.all_hold() {
+        eprintln!(rt; "{name}: a case fails, or there is no case\n{failures}")?;
     }
-    eprintln!(rt; "{failures}")?;
-    Ok(false)
+    Ok(report.all_hold())
 }

@@ -44,7 +44,16 @@ fn formats_survived(alloc: Global, lockfile: &Lockfile) -> Result<String, Error>
     let second = survives(alloc, lockfile, ResolveVersion::V2)?;
     let third = survives(alloc, lockfile, ResolveVersion::V3)?;
     let fourth = survives(alloc, lockfile, ResolveVersion::V4)?;
-    line(alloc, format_args!("{first} {second} {third} {fourth}"))
+    by_format(alloc, [first, second, third, fourth])
+}
+
+/// A line with each format and whether it keeps the lockfile.
+fn by_format(alloc: Global, kept: [bool; 4]) -> Result<String, Error> {
+    let [first, second, third, fourth] = kept;
+    line(
+        alloc,
+        format_args!("V1 {first}, V2 {second}, V3 {third}, V4 {fourth}"),
+    )
 }
 
 fn survives(alloc: Global, lockfile: &Lockfile, format: ResolveVersion) -> Result<bool, Error> {
@@ -56,7 +65,7 @@ fn formats_survived_as_text(alloc: Global, lockfile: &Lockfile) -> Result<String
     let second = lockfile.survives_as_text(alloc, ResolveVersion::V2)?;
     let third = lockfile.survives_as_text(alloc, ResolveVersion::V3)?;
     let fourth = lockfile.survives_as_text(alloc, ResolveVersion::V4)?;
-    line(alloc, format_args!("{first} {second} {third} {fourth}"))
+    by_format(alloc, [first, second, third, fourth])
 }
 
 /// The meaning after a translation through formats.
