@@ -144,19 +144,21 @@ fn sink_that_fails_at_each_call(rt: HostRuntime) {
     assert_eq!(rt; answer.as_str(), "each");
 }
 
-// A writer that takes some bytes a call for so many calls. Each later call answers this fault, or
-// that it took no bytes.
+// A writer that takes some bytes a call for so many calls. Each later call is counted, and returns
+// this fault, or that it took no bytes.
 #[derive(Drop)]
 struct Broken {
     taken: Vec<u8>,
     step: usize,
     calls: usize,
+    later_calls: u64,
     answer: Option<ErrorKind>,
 }
 
 impl Write for Broken {
     fn write(&mut self, bytes: &[u8]) -> io::Result<usize> {
         if self.calls == 0 {
+            self.later_calls = self.later_calls.wrapping_add(1);
             return match self.answer {
                 Some(kind) => Err(io::Error::from(kind)),
                 None => Ok(0),
@@ -224,8 +226,8 @@ fn render_into_writer(alloc: Global, tree: &Tree, out: &mut Broken) -> (Result<(
     (answer, sink.faults())
 }
 
-// Whether a writer that takes so many bytes a call, and answers this after so many calls, has taken
-// as many bytes of the drawing as are wanted, and its answer is told as one fault.
+// Whether a writer that fails in this way after so many calls has taken as many bytes of the drawing
+// as are wanted, is not asked again once it failed, and its failure is returned as one fault.
 fn is_told(alloc: Global, tree: &Tree, call: Call, writer: Broken, wanted: usize) -> bool {
     let mut writer = writer;
     let kind = writer.answer.unwrap_or(ErrorKind::WriteZero);
@@ -233,11 +235,12 @@ fn is_told(alloc: Global, tree: &Tree, call: Call, writer: Broken, wanted: usize
     let taken = writer.taken.as_slice();
     matches!(answer, Err(Error::Io(told)) if told == kind)
         && faults == 1
+        && writer.later_calls == 1
         && taken.len() == wanted
         && DRAWN.as_bytes().starts_with(taken)
 }
 
-// Whether each call tells this answer of a writer that takes so many bytes a call for so many
+// Whether each call returns this failure of a writer that takes so many bytes a call for so many
 // calls.
 fn each_tells(
     alloc: Global,
@@ -251,6 +254,7 @@ fn each_tells(
             taken: Vec::new(alloc),
             step,
             calls,
+            later_calls: 0,
             answer,
         };
         if !is_told(alloc, tree, call, writer, step.saturating_mul(calls)) {
@@ -260,8 +264,8 @@ fn each_tells(
     true
 }
 
-// The first count of calls, below the bytes of the drawing, after which the answer of a writer that
-// takes one byte a call is not told.
+// The first count of calls, below the bytes of the drawing, after which the failure of a writer that
+// takes one byte a call is not returned.
 fn first_not_told(alloc: Global, tree: &Tree, answer: Option<ErrorKind>) -> Option<usize> {
     (0..DRAWN.len()).find(|calls| !each_tells(alloc, tree, answer, 1, *calls))
 }
@@ -309,11 +313,13 @@ fn writer_that_takes_all(rt: HostRuntime) -> Result<(), Fail> {
             taken: Vec::new(rt.alloc()),
             step: 1,
             calls: DRAWN.len(),
+            later_calls: 0,
             answer: Some(ErrorKind::Other),
         };
         let (answer, faults) = call.draw(rt.alloc(), &tree, &mut writer);
         assert!(rt; answer.is_ok());
         assert_eq!(rt; faults, 0);
+        assert_eq!(rt; writer.later_calls, 0);
         assert_eq!(rt; writer.taken.as_slice(), DRAWN.as_bytes());
     }
     Ok(())
