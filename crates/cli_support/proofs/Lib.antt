@@ -1,3 +1,4 @@
 pub mod Writes
 pub mod Arguments
 pub mod Digits
+pub mod TerminalTexts

@@ -2,4 +2,5 @@ pub mod Destination
 pub mod Output
 pub mod Input
 pub mod Status
+pub mod Terminal
 pub mod Time

@@ -7,10 +7,12 @@
 pub mod colours;
 pub mod destination;
 pub mod fault;
+pub mod laws;
 pub mod message;
 pub mod output;
 pub mod saving;
 pub mod status;
+pub mod terminal;
 pub mod time;
 pub mod words;
 

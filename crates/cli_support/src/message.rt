@@ -1,5 +1,4 @@
-//! Messages and texts for people, in which no character that a stranger wrote can hide or move
-//! another.
+//! Messages for people, in which no character that a stranger wrote can hide or move another.
 
 use crate::fault::Fault;
 use crate::output::{put, put_all};
@@ -81,55 +80,6 @@ impl<W: Write> Message<'_, W> {
 /// Whether a character is none of U+0020 to U+007E.
 fn is_no_plain(c: char) -> bool {
     !(' '..='~').contains(&c)
-}
-
-/// A writer of text onto a terminal. The characters that a terminal obeys or does not show are
-/// printed by their numbers: control characters but the newline, those that change the direction of
-/// the text, separators of lines and paragraphs, and those without a width.
-#[derive(Drop)]
-pub struct Terminal<W> {
-    out: W,
-}
-
-impl<W: Write> Terminal<W> {
-    /// The writer in front of this one.
-    pub fn new(out: W) -> Terminal<W> {
-        Terminal { out }
-    }
-}
-
-impl<W: Write> Write for Terminal<W> {
-    /// Prints the bytes, which are whole characters of a text.
-    fn write(&mut self, bytes: &[u8]) -> io::Result<usize> {
-        match str::from_utf8(bytes) {
-            Ok(text) => put_visible(&mut self.out, text)?,
-            Err(_) => return Err(io::Error::from(ErrorKind::InvalidData)),
-        }
-        Ok(bytes.len())
-    }
-
-    fn flush(&mut self) -> io::Result<()> {
-        self.out.flush()
-    }
-}
-
-/// Prints a text for a terminal.
-fn put_visible<W: Write>(out: &mut W, text: &str) -> io::Result<()> {
-    for piece in text.split_inclusive(is_hidden) {
-        put_ended(out, piece, piece.strip_suffix(is_hidden))?;
-    }
-    Ok(())
-}
-
-/// Whether a terminal obeys the character or does not show it.
-fn is_hidden(c: char) -> bool {
-    match c {
-        '\n' => false,
-        '\0'..='\u{1f}' | '\u{7f}'..='\u{9f}' | '\u{61c}' => true,
-        '\u{200b}'..='\u{200f}' | '\u{2028}'..='\u{202e}' => true,
-        '\u{2060}'..='\u{2069}' | '\u{feff}' => true,
-        _ => false,
-    }
 }
 
 /// Prints a text. `plain` is all of it but its last character where that is not printed as it is.

@@ -1,0 +1,8 @@
+//! Laws of this crate, each the contract of a function without a body.
+
+ghost use Rattle.cli_support.specs.Terminal.{NothingIsHidden};
+
+/// What a terminal is shown of a text has no character that a terminal obeys or does not show.
+pub fn nothing_is_hidden()
+    ensures { NothingIsHidden }
+{}

@@ -1,0 +1,76 @@
+//! Text for a terminal, which is shown no character that it would obey or would not show.
+
+ghost use Rattle.std.specs.Prelude.{◌≡◌, OnOk};
+ghost use Rattle.std.specs.Io.KnownBytes.{Appends};
+ghost use Rattle.cli_support.specs.Terminal.{visible, visible_char};
+ghost use Rattle.cli_support.specs.Terminal as spec;
+
+use crate::output::put;
+use shown::Shown;
+use std::io;
+use std::io::{ErrorKind, Write};
+
+/// A writer of text onto a terminal. The characters that a terminal obeys or does not show are
+/// printed by their numbers: control characters but the newline, those that change the direction of
+/// the text, separators of lines and paragraphs, and those without a width.
+#[derive(Drop)]
+pub struct Terminal<W> {
+    out: W,
+}
+
+impl<W: Write> Terminal<W> {
+    /// The writer in front of this one.
+    pub fn new(out: W) -> Terminal<W> {
+        Terminal { out }
+    }
+}
+
+impl<W: Write> Write for Terminal<W> {
+    /// Prints the bytes, which are whole characters of a text.
+    fn write(&mut self, bytes: &[u8]) -> io::Result<usize> {
+        match str::from_utf8(bytes) {
+            Ok(text) => put_visible(&mut self.out, text)?,
+            Err(_) => return Err(io::Error::from(ErrorKind::InvalidData)),
+        }
+        Ok(bytes.len())
+    }
+
+    fn flush(&mut self) -> io::Result<()> {
+        self.out.flush()
+    }
+}
+
+/// Prints a text for a terminal. No character of what it prints is hidden
+/// (`laws::nothing_is_hidden`). Fails as the writer does.
+#[tactic(auto, unfolding(crate::specs::Terminal::visible))]
+pub fn put_visible<W: Write>(out: &mut W, text: &str) -> io::Result<()>
+    ensures { OnOk result (Appends (W.contents out.old) (W.contents out.new) (visible text.now)) }
+{
+    for c in text.chars() {
+        put_char(out, c)?;
+    }
+    Ok(())
+}
+
+/// Prints a character for a terminal.
+fn put_char<W: Write>(out: &mut W, c: char) -> io::Result<()>
+    ensures { OnOk result (Appends (W.contents out.old) (W.contents out.new) (visible_char c)) }
+{
+    if is_hidden(c) {
+        put(out, Shown(c))
+    } else {
+        put(out, c)
+    }
+}
+
+/// Whether a terminal obeys the character or does not show it.
+fn is_hidden(c: char) -> bool
+    ensures { result ≡ spec.is_hidden c }
+{
+    match c {
+        '\0'..='\u{9}' | '\u{b}'..='\u{1f}' | '\u{7f}'..='\u{9f}' => true,
+        '\u{61c}' | '\u{200b}'..='\u{200f}' | '\u{2028}'..='\u{202e}' => true,
+        '\u{2060}'..='\u{2069}' | '\u{feff}' => true,
+        _ => false,
+    }
+}
