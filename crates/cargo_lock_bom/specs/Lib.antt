@@ -3,6 +3,7 @@ pub mod Places
 pub mod Root
 pub mod Search
 pub mod Purl
+pub mod Iri
 pub mod References
 pub mod Component
 pub mod Dependencies

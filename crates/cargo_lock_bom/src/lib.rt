@@ -10,6 +10,7 @@
 mod component;
 mod dependencies;
 pub mod document;
+mod iri;
 pub mod laws;
 mod metadata;
 pub mod options;
