@@ -6,7 +6,6 @@ use Rattle.std.specs.Cmp.Lexicographic.{slice_cmp}
 use Rattle.std.specs.declared.cmp.Ordering.{Ordering}
 use Rattle.std.specs.declared.cmp.Ordering.TheVariants.{Less, Equal, Greater}
 use Rattle.std.specs.Ordering.{match_ordering, nat_cmp}
-use Rattle.url.specs.Parts.{serialize}
 use Rattle.serde_json.specs.Data.{Data, Members, Num, unsigned, null, boolean, number, array, object, string, member, no_members, put, depth, items_depth, members_depth}
 use Rattle.serde_json.specs.Read.{max_depth}
 use Rattle.serde_json.specs.View.{items_of}
@@ -19,6 +18,7 @@ use Rattle.cargo_lock_bom.specs.declared.root.Root.TheVariants.{Package, Workspa
 use Rattle.cargo_lock_bom.specs.Component.{AreComponents, base_members, component_at, component_if, component_of, hashes_of, put_some, repositories_by, repositories_if, repositories_of, root_component}
 use Rattle.cargo_lock_bom.specs.Dependencies.{AreEntries, AreOwnEntries, IsEntry, entry_with, reference_at}
 use Rattle.cargo_lock_bom.specs.Document.{IsAbout, IsBill, document_of}
+use Rattle.cargo_lock_bom.specs.Iri.{iri_text}
 use Rattle.cargo_lock_bom.specs.Metadata.{IsMetadata, authors_of, metadata_of, own_members}
 use Rattle.cargo_lock_bom.specs.Options.{OptionsData}
 use Rattle.cargo_lock_bom.specs.Purl.{purl_of}
@@ -101,7 +101,7 @@ kind_low Directory url precise = tt
 
 repositories_low : (source : Option Source) → IfLow (repositories_if source) 2
 repositories_low None = tt
-repositories_low (Some s) = kind_low s.kind (serialize (without_user_info s.url)) s.precise
+repositories_low (Some s) = kind_low s.kind (iri_text (without_user_info s.url)) s.precise
 
 base_low : (application : Bool) (p : PackageData) → members_depth (base_members application p) ≤ 2
 base_low application p = lit≤ tt

@@ -12,6 +12,8 @@ use Rattle.percent_encoding.specs.AsciiSet.{contains, should_percent_encode}
 use Rattle.percent_encoding.specs.Percent.{percent_encode, percent_encode_byte, encode_byte}
 use Rattle.percent_encoding.proofs.AsciiSetLemmas.{kept_from_outside, escaped_from_inside}
 use Rattle.cargo_lock_bom.specs.declared.purl.TheConstants.{SEGMENT, VALUE}
+use Rattle.cargo_lock_bom.specs.declared.iri.TheConstants.{HOST, IRI}
+use Rattle.cargo_lock_bom.specs.Iri.{plain_host_marks, plain_iri_marks, escaped_host, escaped_iri}
 use Rattle.cargo_lock_bom.specs.Purl.{plain_segment_marks, plain_url_marks, is_plain, escaped_but, escaped_text, escaped_url}
 
 -- the set holds the ASCII byte exactly if it does not stand as it is
@@ -72,6 +74,14 @@ value_right : all_below (is_right VALUE plain_url_marks) 128 ≡ true
 unfolding is_right
 value_right = refl
 
+iri_right : all_below (is_right IRI plain_iri_marks) 128 ≡ true
+unfolding is_right
+iri_right = refl
+
+host_right : all_below (is_right HOST plain_host_marks) 128 ≡ true
+unfolding is_right
+host_right = refl
+
 -- what is escaped of a name or a version
 pub percent_encode-segment : (text : List ℕ) → percent_encode SEGMENT text ≡ escaped_text text
 unfolding escaped_text
@@ -81,3 +91,13 @@ percent_encode-segment text = all_right SEGMENT plain_segment_marks segment_righ
 pub percent_encode-value : (text : List ℕ) → percent_encode VALUE text ≡ escaped_url text
 unfolding escaped_url
 percent_encode-value text = all_right VALUE plain_url_marks value_right refl text
+
+-- what is escaped in a reference
+pub percent_encode-iri : (text : List ℕ) → percent_encode IRI text ≡ escaped_iri text
+unfolding escaped_iri
+percent_encode-iri text = all_right IRI plain_iri_marks iri_right refl text
+
+-- what is escaped in a host
+pub percent_encode-host : (text : List ℕ) → percent_encode HOST text ≡ escaped_host text
+unfolding escaped_host
+percent_encode-host text = all_right HOST plain_host_marks host_right refl text

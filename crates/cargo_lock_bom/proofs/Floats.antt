@@ -5,7 +5,6 @@ use Rattle.std.specs.declared.cmp.Ordering.{Ordering}
 use Rattle.std.specs.declared.cmp.Ordering.TheVariants.{Less, Equal, Greater}
 use Rattle.std.specs.Ordering.{match_ordering, nat_cmp}
 use Rattle.std.specs.List.{AllZip, range_with_len}
-use Rattle.url.specs.Parts.{serialize}
 use Rattle.serde_json.specs.Data.{Data, Members, string, member, no_members, put}
 use Rattle.serde_json.specs.View.{items_of}
 use Rattle.serde_json.specs.Written.{has_float, items_have_float, members_have_float}
@@ -17,6 +16,7 @@ use Rattle.cargo_lock_bom.specs.declared.root.Root.TheVariants.{Package, Workspa
 use Rattle.cargo_lock_bom.specs.Component.{AreComponents, base_members, component_at, component_if, component_of, hashes_of, put_some, repositories_by, repositories_if, repositories_of, root_component}
 use Rattle.cargo_lock_bom.specs.Dependencies.{AreEntries, AreOwnEntries, IsEntry, entry_with, reference_at}
 use Rattle.cargo_lock_bom.specs.Document.{IsAbout, document_of}
+use Rattle.cargo_lock_bom.specs.Iri.{iri_text}
 use Rattle.cargo_lock_bom.specs.Metadata.{IsMetadata, authors_of, metadata_of, own_members}
 use Rattle.cargo_lock_bom.specs.Options.{OptionsData}
 use Rattle.cargo_lock_bom.specs.Purl.{purl_of}
@@ -97,7 +97,7 @@ kind_whole Directory url precise = tt
 
 repositories_whole : (source : Option Source) → IfWhole (repositories_if source)
 repositories_whole None = tt
-repositories_whole (Some s) = kind_whole s.kind (serialize (without_user_info s.url)) s.precise
+repositories_whole (Some s) = kind_whole s.kind (iri_text (without_user_info s.url)) s.precise
 
 component_whole : (application : Bool) (p : PackageData) → has_float (component_of application p) ≡ false
 unfolding component_of

@@ -3,7 +3,6 @@
 use Rattle.std.specs.Prelude.{◌≡◌, ℕ, Bool, true, false, List, codes, map, length, slice_get}
 use Rattle.std.specs.Prelude.{Option, Some, None, option_map}
 use Rattle.semver.specs.Identifiers.{parts_text}
-use Rattle.url.specs.Parts.{serialize}
 use Rattle.serde_json.specs.Data.{Data, Members, null, string, array, object, item, no_items}
 use Rattle.serde_json.specs.Data.{member, no_members, put}
 use Rattle.cargo_lock_parts.specs.Checksum.{digest_text}
@@ -12,6 +11,7 @@ use Rattle.cargo_lock_parts.specs.Source.{Kind, Source, Git}
 use Rattle.cargo_lock_graph.specs.Edges.{GraphData}
 use Rattle.cargo_lock_bom.specs.declared.root.Root.{Root}
 use Rattle.cargo_lock_bom.specs.declared.root.Root.TheVariants.{Package, Workspace, Nothing}
+use Rattle.cargo_lock_bom.specs.Iri.{iri_text}
 use Rattle.cargo_lock_bom.specs.Places.{IsPlaces}
 use Rattle.cargo_lock_bom.specs.Purl.{purl_of}
 use Rattle.cargo_lock_bom.specs.References.{package_reference, workspace_reference}
@@ -53,10 +53,11 @@ abbrev pub repositories_by : Kind → List ℕ → Option (List ℕ) → Option 
 repositories_by (Git reference) url precise = Some (repositories_of url precise)
 repositories_by other url precise = None
 
--- the repositories of a source: that of a git source, whose URL has no user name and no password
+-- the repositories of a source: that of a git source, whose URL is a reference without user name
+-- and password
 abbrev pub repositories_if : Option Source → Option Data
 repositories_if None = None
-repositories_if (Some s) = repositories_by s.kind (serialize (without_user_info s.url)) s.precise
+repositories_if (Some s) = repositories_by s.kind (iri_text (without_user_info s.url)) s.precise
 
 -- the component of a package: `purl` where it has a package URL, `hashes` where it has a checksum,
 -- and `externalReferences` where it comes from a repository

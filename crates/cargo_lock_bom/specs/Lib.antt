@@ -3,6 +3,7 @@ pub mod Places
 pub mod Root
 pub mod Search
 pub mod Purl
+pub mod Iri
 pub mod References
 pub mod Component
 pub mod Dependencies
@@ -10,3 +11,4 @@ pub mod Options
 pub mod Metadata
 pub mod Serial
 pub mod Document
+pub mod Printed

@@ -14,10 +14,10 @@ ghost use Rattle.cargo_lock_bom.specs.Component as spec;
 ghost use Rattle.cargo_lock_bom.specs.Purl.{purl_of};
 ghost use Rattle.cargo_lock_bom.specs.Root.{IsWithin};
 
+use crate::iri::iri_text;
 use crate::purl::purl;
 use crate::reference::reference;
 use crate::root::{Root, is_application, others};
-use crate::user_info::url_text;
 use cargo_lock_graph::graph::{Graph, NodeIndex};
 use cargo_lock_parts::package::{Checksum, Package, SourceId, SourceKind};
 use serde_json::{Map, Value, json, put};
@@ -186,7 +186,7 @@ fn repositories_of(alloc: Global, source: &SourceId) -> Result<Option<Value>, Al
 {
     match source.kind() {
         SourceKind::Git(_) => {
-            let url = url_text(alloc, source.url())?;
+            let url = iri_text(alloc, source.url())?;
             Ok(Some(repository(alloc, url, source.precise())?))
         }
         SourceKind::Path => Ok(None),

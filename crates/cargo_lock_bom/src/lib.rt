@@ -10,9 +10,11 @@
 mod component;
 mod dependencies;
 pub mod document;
+mod iri;
 pub mod laws;
 mod metadata;
 pub mod options;
+pub mod printed;
 pub mod purl;
 mod reach;
 pub mod reference;

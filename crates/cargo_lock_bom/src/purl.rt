@@ -25,7 +25,7 @@ const SEGMENT: AsciiSet = ascii_set!(
 );
 
 // Those that are escaped in a URL: the same but `/`.
-const VALUE: AsciiSet = ascii_set!(SEGMENT.remove(b'/'));
+pub(crate) const VALUE: AsciiSet = ascii_set!(SEGMENT.remove(b'/'));
 
 /// The package URL of a package: `pkg:cargo/serde@1.0.203`. After `?` stands where the package
 /// comes from, unless that is crates.io: `vcs_url=git%2Bhttps://example.org/lib%40COMMIT` of a
