@@ -1,5 +1,5 @@
 -- What `bom` leaves in the writer that stands for standard output.
-use Rattle.std.specs.Prelude.{◌≡◌, ℕ, Bool, true, false, List, Option, None, IsSome, codes}
+use Rattle.std.specs.Prelude.{◌≡◌, ℕ, Bool, List, Option, None, IsSome, codes}
 use Rattle.clap.specs.Matches.{first_value}
 use Rattle.clap.specs.declared.parser.matches.Found.{Found}
 use Rattle.cargo_lock_parts.specs.Identity.{PackageData}
@@ -9,7 +9,7 @@ use Rattle.cargo_lock_encoding.specs.Lockfiles.{LockfileData}
 use Rattle.cargo_lock.specs.CargoChecksums.{with_cargo_checksums_in}
 use Rattle.cargo_lock.specs.Loads.{IsMeant}
 use Rattle.cli_support.specs.Destination.{TakesOutput}
-use Rattle.cli.specs.Json.{IsAsked, IsUnasked}
+use Rattle.cli.specs.Json.{IsAsked, IsFlag, IsUnasked}
 
 -- there is a time exactly where the words ask for one
 pub record IsTimeAsked (found : Found) (time : Option ℕ) : Type 0 where
@@ -24,14 +24,9 @@ pub record IsSaid (found : Found) (time : Option ℕ) (l : LockfileData) (o : Op
     pub author : o.author ≡ first_value found (codes "author")
     pub timestamp : o.timestamp ≡ time
 
--- the bill is compact exactly where the words ask for that
-pub record IsCompactAsked (found : Found) (compact : Bool) : Type 0 where
-  pub asked : IsAsked found (codes "compact") → compact ≡ true
-  pub unasked : IsUnasked found (codes "compact") → compact ≡ false
-
--- the line is the bill of some packages, as the words ask for it
+-- the line is the bill of some packages, compact exactly where the words ask for that
 abbrev pub IsAskedLine : Found → List PackageData → OptionsData → List ℕ → Type 0
-IsAskedLine found packages o line = (compact : Bool) × IsCompactAsked found compact
+IsAskedLine found packages o line = (compact : Bool) × IsFlag found (codes "compact") compact
     × IsPrintedBill packages o compact line
 
 -- the line is that of the packages of a lockfile, with this time, if there is one

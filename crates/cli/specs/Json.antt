@@ -1,5 +1,6 @@
 -- What the words ask for by a flag, and documents of JSON that are printed.
-use Rattle.std.specs.Prelude.{◌≡◌, ℕ, List, [], ◌∷◌, ◌++◌, ◌⊎◌, Option, Some, None, codes}
+use Rattle.std.specs.Prelude.{◌≡◌, ℕ, Bool, true, false, List, [], ◌∷◌, ◌++◌, ◌⊎◌, Option, Some}
+use Rattle.std.specs.Prelude.{None, codes}
 use Rattle.std.specs.Io.KnownBytes.{Appends}
 use Rattle.clap.specs.Matches.{one_text}
 use Rattle.clap.specs.declared.parser.matches.Found.{Found}
@@ -15,6 +16,11 @@ IsAsked found name = one_text found name ≡ Some (codes "true")
 -- they do not have it
 abbrev pub IsUnasked : Found → List ℕ → Type 0
 IsUnasked found name = (one_text found name ≡ None) ⊎ (one_text found name ≡ Some (codes "false"))
+
+-- the words have the flag exactly where it is true
+pub record IsFlag (found : Found) (name : List ℕ) (flag : Bool) : Type 0 where
+  pub asked : IsAsked found name → flag ≡ true
+  pub unasked : IsUnasked found name → flag ≡ false
 
 -- a lockfile as a document has it: the path that an option or argument has, and its format
 abbrev pub file_of : Found → List ℕ → LockfileData → FileData

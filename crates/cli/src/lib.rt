@@ -1,13 +1,13 @@
 //! The program `cargo-lock` as a library: lists the packages of a lockfile, writes it in another
-//! format, draws its trees, writes its bill of materials, tells what differs between two and what
-//! is wrong with one.
+//! format, draws its trees, writes its bill of materials, and reports what differs between two and
+//! what is wrong with one.
 //!
 //! A fault is reported in one message on standard error that begins `*** error: `. The status is then
 //! 2 for `bom`, `check` and `diff`, which the original does not have, and else 1. Without a fault it
 //! is 0, all of the output was written and flushed, and what `diff` or `check` found may make it 1.
 #![tactic(auto)]
 
-ghost use Rattle.std.specs.Prelude.{◌≡◌, ◌⊎◌, map};
+ghost use Rattle.std.specs.Prelude.{◌≡◌, ◌⊎◌, IfErr, IfOk, map};
 ghost use Rattle.std.specs.Io.KnownBytes.{Keeps};
 ghost use Rattle.cli_support.specs.Status.{IsFaultStatus};
 
@@ -47,7 +47,17 @@ pub fn run<R: Files + Env + Clock + AllocGlobal, S: AsStr, W: Write, E: Write>(
     ensures fault { (Keeps (E.contents err.old) (E.contents err.new))
         ⊎ IsFaultStatus (map S.text words.now) result }
 {
-    match execute(rt, words, out) {
+    ended(err, words, execute(rt, words, out))
+}
+
+/// Returns the status that a command came to. Where it came to a fault, prints the message of that,
+/// and returns the status of a fault of the command.
+fn ended<S: AsStr, E: Write>(err: &mut E, words: &[S], outcome: Result<ExitCode, Fault>) -> ExitCode
+    ensures ok { IfOk outcome (λ status.
+        (result ≡ status) × Keeps (E.contents err.old) (E.contents err.new)) }
+    ensures fault { IfErr outcome (λ _. IsFaultStatus (map S.text words.now) result) }
+{
+    match outcome {
         Ok(status) => status,
         Err(fault) => report(err, &fault, status::of_fault(words)),
     }
@@ -100,7 +110,7 @@ fn parser<'a>(alloc: Global) -> Result<Command<'a>, AllocError> {
         .subcommand(check::command(alloc)?)
 }
 
-/// Runs the command that the parser found. Answers the status.
+/// Runs the command that the parser found. Returns the status.
 fn dispatch<R: Files + Env + Clock + AllocGlobal, W: Write>(
     rt: &R,
     matches: &ArgMatches<'_>,
