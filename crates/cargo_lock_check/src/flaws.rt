@@ -16,9 +16,9 @@
 //! ```
 
 pub mod alike;
-mod candidates;
 mod canonical;
 pub mod dependencies;
+mod groups;
 pub mod lost;
 pub mod names;
 pub mod order;

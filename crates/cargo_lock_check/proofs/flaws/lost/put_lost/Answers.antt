@@ -11,7 +11,7 @@ use Rattle.cargo_lock_check.proofs.flaws.lost.put_lost.Goals.{then-is_lost+in_ok
 
 pub loop-at-preserved : goal.loop-at-preserved
 loop-at-preserved c =
-    let packages : List PackageData = c.args.versions.now in
+    let packages : List PackageData = c.args.groups.now.packages in
     let p : PackageData = c.args.«package».now in
     let place = c.args.place in
     let at = c.loop-at.at in
@@ -33,7 +33,7 @@ loop-at-preserved c =
 
 pub returns : goal.returns
 returns c =
-    let packages : List PackageData = c.args.versions.now in
+    let packages : List PackageData = c.args.groups.now.packages in
     let p : PackageData = c.args.«package».now in
     let ds : List Identity = c.deref-dependency-items.result.now in
     let whole : ds ≡ p.dependencies = c.deref-dependency-items.ensures.value ∙ ap (λ (q : PackageData). q.dependencies) c.«package».view_is in

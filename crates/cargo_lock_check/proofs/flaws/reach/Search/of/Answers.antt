@@ -3,9 +3,9 @@ use Rattle.std.proofs.lemmas.Option.{slice_get_read}
 use Rattle.cargo_lock_parts.specs.Identity.{PackageData}
 use Rattle.cargo_lock_check.specs.declared.flaws.reach.Search.{Search}
 use Rattle.cargo_lock_check.specs.Reach.{AsksFor}
-use Rattle.cargo_lock_check.specs.Search.{AreAsked, HasReached}
+use Rattle.cargo_lock_check.specs.Search.{HasReached}
 use Rattle.cargo_lock_check.proofs.Searching.{leads-of, search-next, search-end, waits-within}
-use Rattle.cargo_lock_check.proofs.flaws.reach.reached.Goals as goal
+use Rattle.cargo_lock_check.proofs.flaws.reach.Search.of.Goals as goal
 
 pub bounds-packages-place : goal.bounds-packages-place
 bounds-packages-place c = waits-within c.args.packages.now c.args.root.now c.loop-place.search c.pop.new.self.items c.in-Some.place c.loop-place.invariant.search c.in-Some.ensures.items
@@ -13,11 +13,6 @@ bounds-packages-place c = waits-within c.args.packages.now c.args.root.now c.loo
 pub offset_bounds-packages-place : goal.offset_bounds-packages-place
 offset_bounds-packages-place c =
     let low = waits-within c.args.packages.now c.args.root.now c.loop-place.search c.pop.new.self.items c.in-Some.place c.loop-place.invariant.search c.in-Some.ensures.items in search (rules, low)
-
-pub follow-requires-clause-asked : goal.follow-requires-clause-asked
-follow-requires-clause-asked c =
-    let popped : Search = record { reached = c.loop-place.search.reached; waiting = c.pop.new.self } in
-    subst (λ (ps : List PackageData). AreAsked ps popped c.loop-place.asked) (sym c.in_ok-versions.ensures) c.loop-place.invariant.asked
 
 pub loop-place-preserved : goal.loop-place-preserved
 loop-place-preserved c =
@@ -31,8 +26,8 @@ loop-place-preserved c =
       search =
           search-next packages c.args.root.now c.loop-place.search popped c.follow.new.self place c.loop-place.invariant.search refl c.in-Some.ensures.items
           (leads-of packages place p popped c.follow.new.self at
-          (subst (λ (ps : List PackageData). HasReached (AsksFor ps p) popped c.follow.new.self) c.in_ok-versions.ensures c.in_ok-follow.ensures.reached));
-      asked = subst (λ (ps : List PackageData). AreAsked ps c.follow.new.self c.follow.new.asked) c.in_ok-versions.ensures c.in_ok-follow.ensures.asked;
+          (subst (λ (ps : List PackageData). HasReached (AsksFor ps p) popped c.follow.new.self) c.in_ok-groups.ensures c.in_ok-follow.ensures.reached));
+      asked = c.in_ok-follow.ensures.asked;
     }
 
 pub returns-clause-marks : goal.returns-clause-marks
