@@ -1,6 +1,6 @@
 -- How packages are put into groups, and how the best group of a dependency is found.
-use Rattle.std.proofs.Common.{◌≡◌, ◌<◌, ◌≤◌, ◌+◌, ◌⊎◌, inl, inr, ℕ, Bool, true, false, cond, nat_lt, List, [], ◌∷◌, ◌++◌, length, map, set, slice_get, unwrap_or, Option, Some, None, IfSome, MatchOption, is_none, option_map, refl, sym, ap, subst, ◌∙◌, arith, length-append}
-use Rattle.std.specs.Prelude.{Vec}
+use Rattle.std.proofs.Common.{◌≡◌, ◌<◌, ◌≤◌, ◌+◌, ◌⊎◌, inl, inr, ℕ, Bool, true, false, cond, nat_lt, List, [], ◌∷◌, ◌++◌, length, map, set, slice_get, unwrap_or, Option, Some, None, IfSome, MatchOption, not, option_map, refl, sym, ap, subst, ◌∙◌, arith, length-append}
+use Rattle.std.specs.Prelude.{Vec, is_some}
 use Rattle.std.specs.Bool.{Decides}
 use Rattle.std.specs.BTreeMap.{get, is_at}
 use Rattle.std.specs.Cmp.{Equal-is}
@@ -93,7 +93,7 @@ grouped-precise a b c d e p place precise one two three four =
       };
     }
 
-below-or-here : (k n : ℕ) → k < n + 1 → (k < n) ⊎ (k ≡ n)
+pub below-or-here : (k n : ℕ) → k < n + 1 → (k < n) ⊎ (k ≡ n)
 below-or-here k n low = elim (cases_Bool (nat_lt k n)) [
   | inl hit ↦ inl (ltb-true k n hit)
   | inr miss ↦ let h = ltb-false k n miss in inr (omega (arith, h, low))
@@ -263,7 +263,9 @@ pub rank-small : (packages : List PackageData) (d : Identity) (k rank : ℕ) →
 rank-small packages d k rank f = (rank-bounds d f.0 rank f.2).1
 
 -- whether a dependency is lost, by its best group
-pub lost-from : (groups : Grouping) (d : Identity) (o : Option BestGroup) → MatchOption o (IsLost groups.packages d) (IsBestGroup groups d)
-    → Decides (is_none o) (IsLost groups.packages d)
-lost-from groups d None lost = (λ e. lost, λ _. refl)
-lost-from groups d (Some best) is = (λ e. absurd (false≢true e), λ lost. absurd (lost is.some.0 best.rank is.some.1))
+pub lost-from : (groups : Grouping) (d : Identity) (o : Option BestGroup) (b : Bool) → is_some o ≡ not b → MatchOption o (IsLost groups.packages d) (IsBestGroup groups d)
+    → Decides b (IsLost groups.packages d)
+lost-from groups d None true e lost = (λ _. lost, λ _. refl)
+lost-from groups d None false e lost = absurd (false≢true e)
+lost-from groups d (Some best) true e is = absurd (false≢true (sym e))
+lost-from groups d (Some best) false e is = (λ h. absurd (false≢true h), λ lost. absurd (lost is.some.0 best.rank is.some.1))

@@ -77,7 +77,7 @@ reached-new old new place low bare marks waits =
 pub same-read : {X : Type 0} (xs : List X) (i : ℕ) (x d : X) → i < length xs → x ≡ get_or xs i x → get_or xs i d ≡ x
 same-read xs i x d low is = get_or_from_slice_get xs i x d (slice_get_read xs (length xs) i x refl low is)
 
-same-place : {X : Type 0} (xs : List X) (i : ℕ) (d e : X) → i < length xs → get_or xs i e ≡ get_or xs i d
+pub same-place : {X : Type 0} (xs : List X) (i : ℕ) (d e : X) → i < length xs → get_or xs i e ≡ get_or xs i d
 same-place xs i d e low = get_or_from_slice_get xs i (get_or xs i d) e (slice_get-get_or xs i d low)
 
 -- a place with a mark is reached

@@ -61,19 +61,28 @@ fn unmarked(alloc: Global, marks: &[bool]) -> Result<Vec<usize>, AllocError>
     Ok(places)
 }
 
-// Whether the packages of a group were all reached.
-fn is_asked(asked: &[bool], number: usize) -> bool
-    ensures { result ≡ true → IsMarked asked.now number }
-{
-    asked.get(number) == Some(&true)
+// For each group whether its packages were all reached.
+#[derive(Drop)]
+struct Asked {
+    groups: Vec<bool>,
 }
 
-// Keeps that the packages of a group were all reached.
-fn put_asked(asked: &mut [bool], number: usize)
-    ensures { (n : ℕ) → IsMarked asked.new n → IsMarked asked.old n ⊎ (n ≡ number) }
-{
-    if number < asked.len() {
-        asked[number] = true;
+impl Asked {
+    // Whether the packages of a group were all reached.
+    fn has(&self, number: usize) -> bool
+        ensures { result ≡ true → IsMarked self.now.groups.items number }
+    {
+        self.groups.get(number) == Some(&true)
+    }
+
+    // Keeps that the packages of a group were all reached.
+    fn put(&mut self, number: usize)
+        ensures { (n : ℕ) → IsMarked self.new.groups.items n
+            → IsMarked self.old.groups.items n ⊎ (n ≡ number) }
+    {
+        if number < self.groups.len() {
+            self.groups[number] = true;
+        }
     }
 }
 
@@ -109,7 +118,9 @@ impl Search {
         ensures marks { IfOk result (λ search.
             (k : ℕ) → IsMarked search.reached.items k ↔ IsReached packages.now root.now k) }
     {
-        let mut asked = vec![in alloc; false; groups.count()]?;
+        let mut asked = Asked {
+            groups: vec![in alloc; false; groups.count()]?,
+        };
         let mut search = Search::begin(alloc, groups, &mut asked, packages, root)?;
         while let Some(place) = search.waiting.pop() {
             search.follow(groups, &mut asked, &packages[place])?;
@@ -121,14 +132,14 @@ impl Search {
     fn begin<'a>(
         alloc: Global,
         groups: &Groups<'a>,
-        asked: &mut [bool],
+        asked: &mut Asked,
         packages: &'a [Package],
         root: &'a Option<Package>,
     ) -> Result<Search, AllocError>
         requires packages { groups.now.packages ≡ packages.now }
-        requires none { (n : ℕ) → ¬ IsMarked asked.old n }
+        requires none { (n : ℕ) → ¬ IsMarked asked.old.groups.items n }
         ensures search { IfOk result (IsSearch packages.now root.now) }
-        ensures asked { IfOk result (λ search. AreAsked groups.now search asked.new) }
+        ensures asked { IfOk result (λ search. AreAsked groups.now search asked.new.groups.items) }
     {
         let mut search = Search::from_workspace(alloc, packages)?;
         if let Some(root) = root {
@@ -157,14 +168,14 @@ impl Search {
     fn follow<'a>(
         &mut self,
         groups: &Groups<'a>,
-        asked: &mut [bool],
+        asked: &mut Asked,
         package: &'a Package,
     ) -> Result<(), AllocError>
         requires count { length self.old.reached.items ≡ length groups.now.packages }
-        requires asked { AreAsked groups.now self.old asked.old }
+        requires asked { AreAsked groups.now self.old asked.old.groups.items }
         ensures reached { OnOk result
             (HasReached (AsksFor groups.now.packages «package».now) self.old self.new) }
-        ensures asked { OnOk result (AreAsked groups.now self.new asked.new) }
+        ensures asked { OnOk result (AreAsked groups.now self.new asked.new.groups.items) }
     {
         self.ask_all(groups, asked, &package.dependencies)?;
         if let Some(replace) = &package.replace {
@@ -177,15 +188,15 @@ impl Search {
     fn ask_all<'a>(
         &mut self,
         groups: &Groups<'a>,
-        asked: &mut [bool],
+        asked: &mut Asked,
         dependencies: &'a [Dependency],
     ) -> Result<(), AllocError>
         requires count { length self.old.reached.items ≡ length groups.now.packages }
-        requires asked { AreAsked groups.now self.old asked.old }
+        requires asked { AreAsked groups.now self.old asked.old.groups.items }
         ensures reached { OnOk result (HasReached
             (λ k. (d : Identity) × Contains dependencies.now d × IsOneOfBest groups.now.packages d k)
             self.old self.new) }
-        ensures asked { OnOk result (AreAsked groups.now self.new asked.new) }
+        ensures asked { OnOk result (AreAsked groups.now self.new asked.new.groups.items) }
     {
         for dependency in dependencies {
             self.ask(groups, asked, dependency)?;
@@ -197,19 +208,19 @@ impl Search {
     fn ask<'a>(
         &mut self,
         groups: &Groups<'a>,
-        asked: &mut [bool],
+        asked: &mut Asked,
         dependency: &'a Dependency,
     ) -> Result<(), AllocError>
         requires count { length self.old.reached.items ≡ length groups.now.packages }
-        requires asked { AreAsked groups.now self.old asked.old }
+        requires asked { AreAsked groups.now self.old asked.old.groups.items }
         ensures reached { OnOk result
             (HasReached (IsOneOfBest groups.now.packages dependency.now) self.old self.new) }
-        ensures asked { OnOk result (AreAsked groups.now self.new asked.new) }
+        ensures asked { OnOk result (AreAsked groups.now self.new asked.new.groups.items) }
     {
-        match groups.best(dependency) {
-            Some(best) => self.ask_group(groups, asked, best, dependency),
-            None => Ok(()),
+        if let Some(best) = groups.best(dependency) {
+            self.ask_group(groups, asked, best, dependency)?;
         }
+        Ok(())
     }
 
     // Reaches the packages of a group that match a dependency best, unless all of the group were
@@ -217,23 +228,23 @@ impl Search {
     fn ask_group(
         &mut self,
         groups: &Groups<'_>,
-        asked: &mut [bool],
+        asked: &mut Asked,
         best: BestGroup,
         dependency: &Dependency,
     ) -> Result<(), AllocError>
         requires count { length self.old.reached.items ≡ length groups.now.packages }
-        requires asked { AreAsked groups.now self.old asked.old }
+        requires asked { AreAsked groups.now self.old asked.old.groups.items }
         requires all { HasMatches groups.now dependency.now best.rank best.number }
         ensures reached { OnOk result (HasReached
             (λ k. MatchesAt groups.now.packages dependency.now k best.rank) self.old self.new) }
-        ensures asked { OnOk result (AreAsked groups.now self.new asked.new) }
+        ensures asked { OnOk result (AreAsked groups.now self.new asked.new.groups.items) }
     {
-        if is_asked(asked, best.number) {
+        if asked.has(best.number) {
             return Ok(());
         }
         let is_whole = self.reach_matches(groups, best, dependency)?;
         if is_whole {
-            put_asked(asked, best.number);
+            asked.put(best.number);
         }
         Ok(())
     }

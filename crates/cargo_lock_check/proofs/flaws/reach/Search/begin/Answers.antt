@@ -18,12 +18,12 @@ returns-clause-search c =
     ]
 
 pub follow-requires-clause-asked : goal.follow-requires-clause-asked
-follow-requires-clause-asked c = asked-none c.args.groups.now c.in_ok-search.search c.args.asked.now c.requires.none
+follow-requires-clause-asked c = asked-none c.args.groups.now c.in_ok-search.search c.args.asked.now.groups.items c.requires.none
 
 pub returns-clause-asked : goal.returns-clause-asked
 returns-clause-asked c =
     elim c.match-root.branch [
       | in-Some+in_ok-follow w ↦ rw (w.search-is, w.asked-is)
           w.in_ok-follow.ensures.asked
-      | in_default w ↦ rw (w.search-is, w.asked-is) (asked-none c.args.groups.now c.in_ok-search.search c.args.asked.now c.requires.none)
+      | in_default w ↦ rw (w.search-is, w.asked-is) (asked-none c.args.groups.now c.in_ok-search.search c.args.asked.now.groups.items c.requires.none)
     ]

@@ -26,7 +26,7 @@ loop-place-preserved c =
       search =
           search-next packages c.args.root.now c.loop-place.search popped c.follow.new.self place c.loop-place.invariant.search refl c.in-Some.ensures.items
           (leads-of packages place p popped c.follow.new.self at
-          (subst (λ (ps : List PackageData). HasReached (AsksFor ps p) popped c.follow.new.self) c.in_ok-groups.ensures c.in_ok-follow.ensures.reached));
+          (subst (λ (ps : List PackageData). HasReached (AsksFor ps p) popped c.follow.new.self) c.requires c.in_ok-follow.ensures.reached));
       asked = c.in_ok-follow.ensures.asked;
     }
 

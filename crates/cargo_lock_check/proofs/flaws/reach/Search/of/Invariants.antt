@@ -6,7 +6,7 @@ use Rattle.cargo_lock_check.proofs.flaws.reach.Search.of.Given as goal
 abbrev pub invariant-loop-place : goal.invariant-loop-place
 invariant-loop-place l = record {
   search : IsSearch l.packages l.root l.search;
-  asked : AreAsked l.groups l.search l.asked.items;
+  asked : AreAsked l.groups l.search l.asked.groups.items;
 }
 
 -- what is not reached and what waits
