@@ -180,15 +180,20 @@ none-in x h = let low = h.1 in omega (arith, low)
 abbrev pub MatchesOf : List PackageData → Identity → ℕ → List ℕ → ℕ → ℕ → Type 0
 MatchesOf packages d rank places i k = Contains (take i places) k × MatchesAt packages d k rank
 
-pub matches-none : (packages : List PackageData) (d : Identity) (rank : ℕ) (places : List ℕ) (s : Search) → HasReached (MatchesOf packages d rank places 0) s s
-matches-none packages d rank places s = reached-none (MatchesOf packages d rank places 0) s (λ k h. none-in k h.0)
+pub matches-none : (packages : List PackageData) (d : Identity) (rank : ℕ) (places : List ℕ)
+    (s : Search) → HasReached (MatchesOf packages d rank places 0) s s
+matches-none packages d rank places s = reached-none (MatchesOf packages d rank places 0) s
+    (λ k h. none-in k h.0)
 
 -- the package at the next place matches
-pub matches-next : (packages : List PackageData) (d : Identity) (rank : ℕ) (places : List ℕ) (i place : ℕ) (a b c : Search) → i < length places → place ≡ get_or places i place
-    → MatchesAt packages d place rank → HasReached (MatchesOf packages d rank places i) a b → HasReached (λ k. k ≡ place) b c
+pub matches-next : (packages : List PackageData) (d : Identity) (rank : ℕ) (places : List ℕ)
+    (i place : ℕ) (a b c : Search) → i < length places → place ≡ get_or places i place
+    → MatchesAt packages d place rank → HasReached (MatchesOf packages d rank places i) a b
+    → HasReached (λ k. k ≡ place) b c
     → HasReached (MatchesOf packages d rank places (i + 1)) a c
 matches-next packages d rank places i place a b c low is fits f g =
-    reached-both (MatchesOf packages d rank places i) (λ k. k ≡ place) (MatchesOf packages d rank places (i + 1)) a b c
+    reached-both (MatchesOf packages d rank places i) (λ k. k ≡ place)
+    (MatchesOf packages d rank places (i + 1)) a b c
     (λ k h. elim (taken-cases places i k place low is h.0) [
       | inl before ↦ inl (before, h.1)
       | inr here ↦ inr (sym here)
@@ -201,10 +206,13 @@ matches-next packages d rank places i place a b c low is fits f g =
     f g
 
 -- the package at the next place does not match
-pub matches-same : (packages : List PackageData) (d : Identity) (rank : ℕ) (places : List ℕ) (i place : ℕ) (a b : Search) → i < length places → place ≡ get_or places i place
-    → ¬ MatchesAt packages d place rank → HasReached (MatchesOf packages d rank places i) a b → HasReached (MatchesOf packages d rank places (i + 1)) a b
+pub matches-same : (packages : List PackageData) (d : Identity) (rank : ℕ) (places : List ℕ)
+    (i place : ℕ) (a b : Search) → i < length places → place ≡ get_or places i place
+    → ¬ MatchesAt packages d place rank → HasReached (MatchesOf packages d rank places i) a b
+    → HasReached (MatchesOf packages d rank places (i + 1)) a b
 matches-same packages d rank places i place a b low is miss f =
-    reached-alike (MatchesOf packages d rank places i) (MatchesOf packages d rank places (i + 1)) a b
+    reached-alike (MatchesOf packages d rank places i) (MatchesOf packages d rank places (i + 1)) a
+    b
     (λ k h. (taken-before places i k place low h.0, h.1))
     (λ k h. elim (taken-cases places i k place low is h.0) [
       | inl before ↦ (before, h.1)
@@ -212,9 +220,11 @@ matches-same packages d rank places i place a b low is miss f =
     ])
     f
 
-pub matches-all : (packages : List PackageData) (d : Identity) (rank : ℕ) (places : List ℕ) (i : ℕ) (a b : Search) → length places ≤ i
+pub matches-all : (packages : List PackageData) (d : Identity) (rank : ℕ) (places : List ℕ) (i : ℕ)
+    (a b : Search) → length places ≤ i
     → ((k : ℕ) → MatchesAt packages d k rank → Contains places k)
-    → HasReached (MatchesOf packages d rank places i) a b → HasReached (λ k. MatchesAt packages d k rank) a b
+    → HasReached (MatchesOf packages d rank places i) a b
+    → HasReached (λ k. MatchesAt packages d k rank) a b
 matches-all packages d rank places i a b end all f =
     let whole : take i places ≡ places = take_all i places end in
     reached-alike (MatchesOf packages d rank places i) (λ k. MatchesAt packages d k rank) a b
@@ -223,20 +233,23 @@ matches-all packages d rank places i a b end all f =
     f
 
 -- what matches with the best rank is what matches best
-pub best-of : (groups : Grouping) (d : Identity) (best : BestGroup) (a b : Search) → IsBestGroup groups d best
-    → HasReached (λ k. MatchesAt groups.packages d k best.rank) a b → HasReached (IsOneOfBest groups.packages d) a b
+pub best-of : (groups : Grouping) (d : Identity) (best : BestGroup) (a b : Search)
+    → IsBestGroup groups d best
+    → HasReached (λ k. MatchesAt groups.packages d k best.rank) a b
+    → HasReached (IsOneOfBest groups.packages d) a b
 best-of groups d best a b is f =
     reached-alike (λ k. MatchesAt groups.packages d k best.rank) (IsOneOfBest groups.packages d) a b
     (λ k h. (best.rank, record { fits = h; least = is.least }))
     (λ k h.
-        let (l, there) = is.some in
-        let below = h.1.least l best.rank there in
-        let above = is.least k h.0 h.1.fits in
-        subst (λ n. MatchesAt groups.packages d k n) (omega (arith, below, above)) h.1.fits)
+    let (l, there) = is.some in
+    let below = h.1.least l best.rank there in
+    let above = is.least k h.0 h.1.fits in
+    subst (λ n. MatchesAt groups.packages d k n) (omega (arith, below, above)) h.1.fits)
     f
 
 -- no package matches
-pub best-none : (packages : List PackageData) (d : Identity) (s : Search) → IsLost packages d → HasReached (IsOneOfBest packages d) s s
+pub best-none : (packages : List PackageData) (d : Identity) (s : Search) → IsLost packages d
+    → HasReached (IsOneOfBest packages d) s s
 best-none packages d s lost = reached-none (IsOneOfBest packages d) s (λ k h. lost k h.0 h.1.fits)
 
 -- ---- the dependencies of a package, and its replacement

@@ -16,7 +16,7 @@ use Rattle.cargo_lock_parts.specs.PartialIdentity.{PartialIdentity, partial_iden
 use Rattle.cargo_lock_parts.specs.PartialIdentity.{partial_identity_total}
 use Rattle.cargo_lock_parts.specs.Rank.{commit_of}
 use Rattle.cargo_lock_parts.specs.Source.{Source, is_git}
-use Rattle.cargo_lock_parts.specs.SourceKey.{git_reference_text, text_cmp}
+use Rattle.cargo_lock_parts.specs.SourceKey.{git_reference_text, kind_number, text_cmp}
 use Rattle.cargo_lock_graph.specs.Candidates.{identity_as_key}
 
 -- what the packages of a group have in common
@@ -24,16 +24,18 @@ pub record Group : Type 0 where
   pub identity : PartialIdentity
   pub rank : ℕ
   pub is_open : Bool
+  pub kind : ℕ
   pub url : List ℕ
   pub text : List ℕ
 
 -- groups compare by their parts in order
 abbrev pub group_cmp : Group → Group → Ordering
 group_cmp =
-    then_cmp (then_cmp (then_cmp
+    then_cmp (then_cmp (then_cmp (then_cmp
     (on (λ g. g.identity) partial_identity_cmp)
     (on (λ g. g.rank) nat_cmp))
     (on (λ g. g.is_open) bool_cmp))
+    (on (λ g. g.kind) nat_cmp))
     (then_cmp (on (λ g. g.url) text_cmp) (on (λ g. g.text) text_cmp))
 
 -- groups that tie
@@ -43,15 +45,20 @@ is_same_group = eq_by_cmp group_cmp
 -- the order of groups is total
 pub group_total : IsTotalOrder group_cmp
 group_total =
-    then_total (then_total (then_total
+    then_total (then_total (then_total (then_total
     (on_total (λ (g : Group). g.identity) partial_identity_total)
     (on_total (λ (g : Group). g.rank) nat_cmp_total))
     (on_total (λ (g : Group). g.is_open) bool_cmp_total))
+    (on_total (λ (g : Group). g.kind) nat_cmp_total))
     (then_total
     (on_total (λ (g : Group). g.url) nat_list_cmp_total)
     (on_total (λ (g : Group). g.text) nat_list_cmp_total))
 
 -- ---- the group of an identity
+
+-- the sort of the reference, where the rank asks for the reference
+abbrev pub kind_at : ℕ → Source → ℕ
+kind_at rank s = if rank == 3 then kind_number s.kind else 0
 
 -- what a rank asks of a repository beside its URL: the commit, the reference, or nothing
 abbrev pub text_at : ℕ → Source → Option (List ℕ)
@@ -67,6 +74,7 @@ group_with rank is_open i s text = record {
   identity = record { name = i.name; version = i.version; source = None };
   rank = rank;
   is_open = is_open;
+  kind = kind_at rank s;
   url = serialize s.url;
   text = text;
 }
@@ -80,7 +88,14 @@ source_group rank is_open i (Some s) = option_map (group_with rank is_open i s) 
 abbrev pub group_of : ℕ → Bool → PartialIdentity → Option Group
 group_of rank is_open i =
     if rank == 1
-    then Some record { identity = i; rank = rank; is_open = false; url = []; text = [] }
+    then Some record {
+      identity = i;
+      rank = rank;
+      is_open = false;
+      kind = 0;
+      url = [];
+      text = [];
+    }
     else source_group rank is_open i i.source
 
 -- the source has a precise text

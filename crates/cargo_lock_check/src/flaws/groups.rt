@@ -9,7 +9,7 @@ ghost use Rattle.cargo_lock_parts.specs.Identity.{identity_of};
 ghost use Rattle.cargo_lock_parts.specs.Rank as rank;
 ghost use Rattle.cargo_lock_parts.specs.Rank.{commit_of};
 ghost use Rattle.cargo_lock_parts.specs.Source.{kind_of};
-ghost use Rattle.cargo_lock_parts.specs.SourceKey.{git_reference_text};
+ghost use Rattle.cargo_lock_parts.specs.SourceKey.{git_reference_text, kind_number};
 ghost use Rattle.cargo_lock_graph.specs.Candidates.{identity_as_key};
 ghost use Rattle.cargo_lock_graph.specs.Targets as target;
 ghost use Rattle.cargo_lock_graph.specs.Targets.{IsLost, Matches, MatchesAt};
@@ -82,6 +82,7 @@ struct Group<'a> {
     identity: PartialIdentity<'a>,
     rank: u8,
     is_open: bool,
+    kind: u8,
     url: &'a str,
     text: &'a str,
 }
@@ -95,6 +96,7 @@ impl<'a> Model for Group<'a> {
       identity = g.identity;
       rank = g.rank;
       is_open = g.is_open;
+      kind = g.kind;
       url = g.url.now;
       text = g.text.now;
     } };
@@ -149,7 +151,8 @@ impl<'a> Ord for Group<'a> {
     fn cmp(&self, other: &Group<'a>) -> Ordering {
         let identities = self.identity.cmp(&other.identity);
         let ranks = identities.then(self.rank.cmp(&other.rank));
-        match ranks.then(self.is_open.cmp(&other.is_open)) {
+        let openness = ranks.then(self.is_open.cmp(&other.is_open));
+        match openness.then(self.kind.cmp(&other.kind)) {
             Ordering::Less => Ordering::Less,
             Ordering::Equal => self.url.cmp(other.url).then(self.text.cmp(other.text)),
             Ordering::Greater => Ordering::Greater,
@@ -386,6 +389,7 @@ fn group_of<'a>(rank: u8, is_open: bool, identity: PartialIdentity<'a>) -> Optio
             identity,
             rank,
             is_open: false,
+            kind: 0,
             url: "",
             text: "",
         });
@@ -400,9 +404,38 @@ fn group_of<'a>(rank: u8, is_open: bool, identity: PartialIdentity<'a>) -> Optio
         },
         rank,
         is_open,
+        kind: kind_at(rank, source),
         url: source.url().as_str(),
         text,
     })
+}
+
+// The sort of the reference, where the rank asks for the reference.
+fn kind_at(rank: u8, source: &SourceId) -> u8
+    ensures { result ≡ spec.kind_at rank source.now }
+{
+    if rank == 3 {
+        kind_number(source.kind())
+    } else {
+        0
+    }
+}
+
+// Where a kind comes in the order of sources.
+fn kind_number(kind: &SourceKind) -> u8
+    ensures { result ≡ kind_number (kind_of kind.now) }
+{
+    match kind {
+        SourceKind::Git(GitReference::DefaultBranch) => 0,
+        SourceKind::Git(GitReference::Tag(_)) => 1,
+        SourceKind::Git(GitReference::Branch(_)) => 2,
+        SourceKind::Git(GitReference::Rev(_)) => 3,
+        SourceKind::Path => 4,
+        SourceKind::Registry => 5,
+        SourceKind::SparseRegistry => 6,
+        SourceKind::LocalRegistry => 7,
+        SourceKind::Directory => 8,
+    }
 }
 
 // What a rank asks of a repository beside its URL: the commit, the reference, or nothing.

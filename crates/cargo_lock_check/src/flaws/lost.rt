@@ -1,4 +1,4 @@
-//! The dependencies that no package answers.
+//! The dependencies that no package matches.
 
 ghost use Rattle.std.specs.Prelude.{◌≡◌, ◌+◌, IfOk, OnOk, Some, slice_get};
 ghost use Rattle.std.specs.Bool.{Decides};
@@ -12,7 +12,7 @@ use cargo_lock_parts::package::Package;
 use std::alloc::{AllocError, Global};
 
 /// The dependencies that no package has the name and the version of, with a source that matches.
-/// Each is told by the place of its package and its own place among the package's dependencies.
+/// Each is given as the place of its package and its own place among the package's dependencies.
 /// Fails when out of memory.
 ///
 /// ```
@@ -31,7 +31,7 @@ pub fn lost_dependencies(
     Ok(lost)
 }
 
-// The dependencies of packages that none of them answers.
+// The dependencies of packages that none of them matches.
 fn lost_among<'a>(
     alloc: Global,
     packages: &'a [Package],

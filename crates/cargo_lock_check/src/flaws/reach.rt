@@ -75,7 +75,7 @@ impl Asked {
         self.groups.get(number) == Some(&true)
     }
 
-    // Keeps that the packages of a group were all reached.
+    // Records that the packages of a group were all reached.
     fn put(&mut self, number: usize)
         ensures { (n : ℕ) → IsMarked self.new.groups.items n
             → IsMarked self.old.groups.items n ⊎ (n ≡ number) }
@@ -184,7 +184,7 @@ impl Search {
         Ok(())
     }
 
-    // Reaches what some dependencies stand for.
+    // Reaches the packages that match some dependencies best.
     fn ask_all<'a>(
         &mut self,
         groups: &Groups<'a>,
@@ -194,7 +194,8 @@ impl Search {
         requires count { length self.old.reached.items ≡ length groups.now.packages }
         requires asked { AreAsked groups.now self.old asked.old.groups.items }
         ensures reached { OnOk result (HasReached
-            (λ k. (d : Identity) × Contains dependencies.now d × IsOneOfBest groups.now.packages d k)
+            (λ k. (d : Identity) × Contains dependencies.now d
+            × IsOneOfBest groups.now.packages d k)
             self.old self.new) }
         ensures asked { OnOk result (AreAsked groups.now self.new asked.new.groups.items) }
     {
@@ -249,8 +250,8 @@ impl Search {
         Ok(())
     }
 
-    // Reaches the packages of a group that match a dependency best. Returns whether these are all of
-    // the group.
+    // Reaches the packages of a group that match a dependency best. Returns whether these are all
+    // of the group.
     fn reach_matches(
         &mut self,
         groups: &Groups<'_>,

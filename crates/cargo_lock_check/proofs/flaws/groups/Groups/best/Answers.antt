@@ -6,7 +6,8 @@ use Rattle.cargo_lock_check.proofs.Grouping.{below-or-here, rank-positive, rank-
 use Rattle.cargo_lock_check.proofs.flaws.groups.Groups.best.Goals as goal
 
 pub loop-rank-init : goal.loop-rank-init
-loop-rank-init c = λ k other low f. let high = rank-positive c.args.self.now.packages c.args.dependency.now k other f in omega (arith, low, high)
+loop-rank-init c = λ k other low f. let high = rank-positive c.args.self.now.packages
+    c.args.dependency.now k other f in omega (arith, low, high)
 
 pub returns-in-Some : goal.returns-in-Some
 returns-in-Some c = record {
@@ -21,7 +22,8 @@ returns-in-Some c = record {
 pub loop-rank-preserved : goal.loop-rank-preserved
 loop-rank-preserved c = λ k other low f. elim (below-or-here other c.loop-rank.rank low) [
   | inl below ↦ c.loop-rank.invariant k other below f
-  | inr same ↦ c.in_default.ensures k (subst (λ n. MatchesAt c.args.self.now.packages c.args.dependency.now k n) same f)
+  | inr same ↦ c.in_default.ensures k (subst (λ n. MatchesAt c.args.self.now.packages
+      c.args.dependency.now k n) same f)
 ]
 
 pub returns : goal.returns

@@ -4,4 +4,5 @@ use Rattle.cargo_lock_check.proofs.flaws.groups.Groups.best.Given as goal
 
 -- no package matches with a lesser rank
 abbrev pub invariant-loop-rank : goal.invariant-loop-rank
-invariant-loop-rank l = (k other : ℕ) → other < l.rank → ¬ MatchesAt l.self.packages l.dependency k other
+invariant-loop-rank l = (k other : ℕ) → other < l.rank → ¬ MatchesAt l.self.packages l.dependency k
+    other

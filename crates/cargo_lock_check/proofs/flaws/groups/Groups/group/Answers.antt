@@ -13,12 +13,16 @@ returns-in-Some c =
     let packages : List PackageData = c.self.inside.packages.now in
     let s : Numbered = c.self.inside.numbered in
     let d = c.args.dependency.now in
-    subst (λ (g : Grouping). MatchOption c.copied.result ((k : ℕ) → ¬ MatchesAt g.packages d k c.args.rank) (HasMatches g d c.args.rank)) c.self.view_is
-    (group-found packages s d c.args.rank c.in-Some.group c.copied.result c.self.invariant (sym c.group_for.ensures ∙ c.in-Some.is) (c.copied.ensures ∙ c.get.ensures.value))
+    subst (λ (g : Grouping). MatchOption c.copied.result
+    ((k : ℕ) → ¬ MatchesAt g.packages d k c.args.rank) (HasMatches g d c.args.rank))
+    c.self.view_is
+    (group-found packages s d c.args.rank c.in-Some.group c.copied.result c.self.invariant
+    (sym c.group_for.ensures ∙ c.in-Some.is) (c.copied.ensures ∙ c.get.ensures.value))
 
 pub returns-in-None : goal.returns-in-None
 returns-in-None c =
     let packages : List PackageData = c.self.inside.packages.now in
     let d = c.args.dependency.now in
     subst (λ (g : Grouping). (k : ℕ) → ¬ MatchesAt g.packages d k c.args.rank) c.self.view_is
-    (group-none packages c.self.inside.numbered d c.args.rank c.self.invariant (sym c.group_for.ensures ∙ c.in-None.is))
+    (group-none packages c.self.inside.numbered d c.args.rank c.self.invariant
+    (sym c.group_for.ensures ∙ c.in-None.is))

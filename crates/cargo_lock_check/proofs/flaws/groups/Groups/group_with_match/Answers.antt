@@ -15,12 +15,15 @@ loop-place-preserved c =
     λ k there f. elim (taken-cases places i k place low (same-place places i place 0 low) there) [
       | inl before ↦ c.loop-place.invariant k before f
       | inr here ↦
-          let fits = subst (λ n. MatchesAt c.args.self.now.packages c.args.dependency.now n c.args.rank) (sym here) f in
+          let fits = subst (λ n. MatchesAt c.args.self.now.packages c.args.dependency.now n
+          c.args.rank) (sym here) f in
           false≢true (sym c.if-is_match.false ∙ c.is_match.ensures.1 fits)
     ]
 
 pub returns : goal.returns
 returns c =
     let places = c.places-place-items.result.now in
-    let whole = sym c.places-place-items.ensures ∙ sym (take_all c.loop-place.place-index places c.loop-place-test.false) in
-    λ k f. c.loop-place.invariant k (subst (λ (ks : List ℕ). Contains ks k) whole (c.in_ok-number.ensures k f)) f
+    let whole = sym c.places-place-items.ensures ∙ sym (take_all c.loop-place.place-index places
+    c.loop-place-test.false) in
+    λ k f. c.loop-place.invariant k (subst (λ (ks : List ℕ). Contains ks k) whole
+    (c.in_ok-number.ensures k f)) f

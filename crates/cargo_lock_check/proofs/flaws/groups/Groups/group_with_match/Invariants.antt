@@ -5,4 +5,5 @@ use Rattle.cargo_lock_check.proofs.flaws.groups.Groups.group_with_match.Given as
 
 -- no package at the places so far matches
 abbrev pub invariant-loop-place : goal.invariant-loop-place
-invariant-loop-place l = (k : ℕ) → Contains (take l.place-index l.place-items) k → ¬ MatchesAt l.self.packages l.dependency k l.rank
+invariant-loop-place l = (k : ℕ) → Contains (take l.place-index l.place-items) k
+    → ¬ MatchesAt l.self.packages l.dependency k l.rank

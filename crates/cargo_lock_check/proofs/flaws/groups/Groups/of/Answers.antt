@@ -10,4 +10,5 @@ loop-place-preserved c =
     let p : PackageData = c.index-packages-place.result in
     let place = c.loop-place.place in
     groups-step packages place p c.loop-place.numbered c.put_package.new.self
-    (slice_get_read packages (length packages) place p refl c.loop-place-test.true c.index-packages-place.is) c.in_ok-put_package.ensures c.loop-place.invariant
+    (slice_get_read packages (length packages) place p refl c.loop-place-test.true
+    c.index-packages-place.is) c.in_ok-put_package.ensures c.loop-place.invariant
