@@ -5,8 +5,8 @@ pub mod Parts
 pub mod SeenBefore
 pub mod DependencyPlaces
 pub mod DependencySeen
-pub mod LostPlaces
-pub mod Matching
+pub mod GroupMatch
+pub mod Grouping
 pub mod Searching
 pub mod Asking
 pub mod StaleKeys

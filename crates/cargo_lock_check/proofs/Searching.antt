@@ -8,13 +8,14 @@ use Rattle.std.proofs.lemmas.Option.{get_or_from_slice_get, slice_get-get_or, sl
 use Rattle.std.proofs.Math.ListN.{length-set}
 use Rattle.cargo_lock_graph.specs.DrawingMade.{unmarked_count}
 use Rattle.cargo_lock_graph.proofs.DrawingMade.{unmarked_count-set}
+use Rattle.cargo_lock_graph.specs.Targets.{IsLost, MatchesAt}
 use Rattle.cargo_lock_parts.specs.Identity.{Identity, PackageData}
-use Rattle.cargo_lock_check.specs.declared.flaws.candidates.Match.{Match}
+use Rattle.cargo_lock_check.specs.declared.flaws.groups.BestGroup.{BestGroup}
 use Rattle.cargo_lock_check.specs.declared.flaws.reach.Search.{Search}
+use Rattle.cargo_lock_check.specs.Groups.{Grouping, IsBestGroup}
 use Rattle.cargo_lock_check.specs.Places.{IsPlaces}
-use Rattle.cargo_lock_check.specs.Reach.{AsksFor, IsBestMatch, IsChain, IsOneOfBest, IsOrphan, IsReached, IsRoot, IsStart, LeadsTo}
+use Rattle.cargo_lock_check.specs.Reach.{AsksFor, IsChain, IsOneOfBest, IsOrphan, IsReached, IsRoot, IsStart, LeadsTo}
 use Rattle.cargo_lock_check.specs.Search.{HasBegun, HasReached, IsMarked, IsSearch}
-use Rattle.cargo_lock_check.proofs.Matching.{AreBestMatches}
 
 -- ---- marks
 
@@ -32,7 +33,7 @@ marked-here marks place low =
     let long = length-set marks place true in
     slice_get-get_or (set marks place true) place false (omega (arith, low, long)) ∙ ap Some (get_or-set_same marks place true false low)
 
-marked-before : (marks : List Bool) (place k : ℕ) → IsMarked (set marks place true) k → IsMarked marks k ⊎ (k ≡ place)
+pub marked-before : (marks : List Bool) (place k : ℕ) → IsMarked (set marks place true) k → IsMarked marks k ⊎ (k ≡ place)
 marked-before marks place k h = elim (cases_eq k place) [
   | inl same ↦ inr same
   | inr other ↦
@@ -76,7 +77,7 @@ reached-new old new place low bare marks waits =
 pub same-read : {X : Type 0} (xs : List X) (i : ℕ) (x d : X) → i < length xs → x ≡ get_or xs i x → get_or xs i d ≡ x
 same-read xs i x d low is = get_or_from_slice_get xs i x d (slice_get_read xs (length xs) i x refl low is)
 
-same-place : {X : Type 0} (xs : List X) (i : ℕ) (d e : X) → i < length xs → get_or xs i e ≡ get_or xs i d
+pub same-place : {X : Type 0} (xs : List X) (i : ℕ) (d e : X) → i < length xs → get_or xs i e ≡ get_or xs i d
 same-place xs i d e low = get_or_from_slice_get xs i (get_or xs i d) e (slice_get-get_or xs i d low)
 
 -- a place with a mark is reached
@@ -106,10 +107,6 @@ taken-last xs i y low is =
     subst (λ zs. Contains zs y) (sym (take_more xs i y low ∙ ap (λ z. take i xs ++ z ∷ []) (sym is))) (Contains-push (take i xs) y)
 
 -- ---- steps joined
-
--- the places of the matches so far
-abbrev pub PlacesOf : List Match → ℕ → ℕ → Type 0
-PlacesOf matches i k = (m : Match) × Contains (take i matches) m × (m.place ≡ k)
 
 -- what the dependencies so far stand for
 abbrev pub TargetsOf : List PackageData → List Identity → ℕ → ℕ → Type 0
@@ -179,40 +176,81 @@ none-in x h = let low = h.1 in omega (arith, low)
 
 -- ---- the packages that match best
 
-pub matches-none : (matches : List Match) (s : Search) → HasReached (PlacesOf matches 0) s s
-matches-none matches s = reached-none (PlacesOf matches 0) s (λ k h. none-in h.0 h.1)
+-- the packages at the places so far that match the dependency with the rank
+abbrev pub MatchesOf : List PackageData → Identity → ℕ → List ℕ → ℕ → ℕ → Type 0
+MatchesOf packages d rank places i k = Contains (take i places) k × MatchesAt packages d k rank
 
-pub matches-next : (matches : List Match) (i : ℕ) (one : Match) (a b c : Search) → i < length matches
-    → HasReached (PlacesOf matches i) a b → HasReached (λ k. k ≡ (get_or matches i one).place) b c → HasReached (PlacesOf matches (i + 1)) a c
-matches-next matches i one a b c low f g =
-    let m : Match = get_or matches i one in
-    let is : m ≡ get_or matches i m = sym (same-place matches i one m low) in
-    reached-both (PlacesOf matches i) (λ k. k ≡ m.place) (PlacesOf matches (i + 1)) a b c
-    (λ k h. elim (taken-cases matches i h.0 m low is h.1) [
-      | inl before ↦ inl (h.0, before, h.2)
-      | inr here ↦ inr (sym (ap (λ (n : Match). n.place) here ∙ h.2))
+pub matches-none : (packages : List PackageData) (d : Identity) (rank : ℕ) (places : List ℕ)
+    (s : Search) → HasReached (MatchesOf packages d rank places 0) s s
+matches-none packages d rank places s = reached-none (MatchesOf packages d rank places 0) s
+    (λ k h. none-in k h.0)
+
+-- the package at the next place matches
+pub matches-next : (packages : List PackageData) (d : Identity) (rank : ℕ) (places : List ℕ)
+    (i place : ℕ) (a b c : Search) → i < length places → place ≡ get_or places i place
+    → MatchesAt packages d place rank → HasReached (MatchesOf packages d rank places i) a b
+    → HasReached (λ k. k ≡ place) b c
+    → HasReached (MatchesOf packages d rank places (i + 1)) a c
+matches-next packages d rank places i place a b c low is fits f g =
+    reached-both (MatchesOf packages d rank places i) (λ k. k ≡ place)
+    (MatchesOf packages d rank places (i + 1)) a b c
+    (λ k h. elim (taken-cases places i k place low is h.0) [
+      | inl before ↦ inl (before, h.1)
+      | inr here ↦ inr (sym here)
     ])
-    (λ k h. (h.0, taken-before matches i h.0 m low h.1, h.2))
-    (λ k same. (m, taken-last matches i m low is, sym same))
+    (λ k h. (taken-before places i k place low h.0, h.1))
+    (λ k same. (
+      subst (λ n. Contains (take (i + 1) places) n) (sym same) (taken-last places i place low is),
+      subst (λ n. MatchesAt packages d n rank) (sym same) fits,
+    ))
     f g
 
-pub match-within : (packages : List PackageData) (d : Identity) (matches : List Match) (i : ℕ) (one : Match) → i < length matches
-    → AreBestMatches packages d matches → (get_or matches i one).place < length packages
-match-within packages d matches i one low are =
-    let m : Match = get_or matches i one in
-    let f = ((are m).0 (Contains-get_or matches i one low)).fits in
-    slice_get_within packages m.place f.0 f.1
-
-pub matches-all : (packages : List PackageData) (d : Identity) (matches : List Match) (i : ℕ) (a b : Search) → length matches ≤ i
-    → AreBestMatches packages d matches → HasReached (PlacesOf matches i) a b → HasReached (IsOneOfBest packages d) a b
-matches-all packages d matches i a b end are f =
-    let whole : take i matches ≡ matches = take_all i matches end in
-    reached-alike (PlacesOf matches i) (IsOneOfBest packages d) a b
-    (λ k h. let m : Match = h.0 in
-    (m.rank, subst (λ n. IsBestMatch packages d m.rank n) h.2 ((are m).0 (subst (λ (ms : List Match). Contains ms m) whole h.1))))
-    (λ k h. let m : Match = record { rank = h.0; place = k } in
-    (m, subst (λ (ms : List Match). Contains ms m) (sym whole) ((are m).1 h.1), refl))
+-- the package at the next place does not match
+pub matches-same : (packages : List PackageData) (d : Identity) (rank : ℕ) (places : List ℕ)
+    (i place : ℕ) (a b : Search) → i < length places → place ≡ get_or places i place
+    → ¬ MatchesAt packages d place rank → HasReached (MatchesOf packages d rank places i) a b
+    → HasReached (MatchesOf packages d rank places (i + 1)) a b
+matches-same packages d rank places i place a b low is miss f =
+    reached-alike (MatchesOf packages d rank places i) (MatchesOf packages d rank places (i + 1)) a
+    b
+    (λ k h. (taken-before places i k place low h.0, h.1))
+    (λ k h. elim (taken-cases places i k place low is h.0) [
+      | inl before ↦ (before, h.1)
+      | inr here ↦ absurd (miss (subst (λ n. MatchesAt packages d n rank) (sym here) h.1))
+    ])
     f
+
+pub matches-all : (packages : List PackageData) (d : Identity) (rank : ℕ) (places : List ℕ) (i : ℕ)
+    (a b : Search) → length places ≤ i
+    → ((k : ℕ) → MatchesAt packages d k rank → Contains places k)
+    → HasReached (MatchesOf packages d rank places i) a b
+    → HasReached (λ k. MatchesAt packages d k rank) a b
+matches-all packages d rank places i a b end all f =
+    let whole : take i places ≡ places = take_all i places end in
+    reached-alike (MatchesOf packages d rank places i) (λ k. MatchesAt packages d k rank) a b
+    (λ k h. h.1)
+    (λ k h. (subst (λ (ks : List ℕ). Contains ks k) (sym whole) (all k h), h))
+    f
+
+-- what matches with the best rank is what matches best
+pub best-of : (groups : Grouping) (d : Identity) (best : BestGroup) (a b : Search)
+    → IsBestGroup groups d best
+    → HasReached (λ k. MatchesAt groups.packages d k best.rank) a b
+    → HasReached (IsOneOfBest groups.packages d) a b
+best-of groups d best a b is f =
+    reached-alike (λ k. MatchesAt groups.packages d k best.rank) (IsOneOfBest groups.packages d) a b
+    (λ k h. (best.rank, record { fits = h; least = is.least }))
+    (λ k h.
+    let (l, there) = is.some in
+    let below = h.1.least l best.rank there in
+    let above = is.least k h.0 h.1.fits in
+    subst (λ n. MatchesAt groups.packages d k n) (omega (arith, below, above)) h.1.fits)
+    f
+
+-- no package matches
+pub best-none : (packages : List PackageData) (d : Identity) (s : Search) → IsLost packages d
+    → HasReached (IsOneOfBest packages d) s s
+best-none packages d s lost = reached-none (IsOneOfBest packages d) s (λ k h. lost k h.0 h.1.fits)
 
 -- ---- the dependencies of a package, and its replacement
 

@@ -23,7 +23,7 @@ pub record AreDependencies (P : ℕ → ℕ → Type 0) (places : List (ℕ × �
   pub ascending : AllPairs IsBefore places
   pub told : (place at : ℕ) → Contains places (place, at) ↔ P place at
 
--- those of them that stand before a place of a package and a place of its dependencies
+-- those of them before a place of a package and a place of its dependencies
 pub record AreDependenciesBefore (P : ℕ → ℕ → Type 0) (place at : ℕ) (places : List (ℕ × ℕ)) : Type 0
   where
     pub ascending : AllPairs IsBefore places
@@ -44,7 +44,7 @@ IsMisplacedAt = HoldsAt IsAfterNext
 abbrev pub IsSameDependency : Identity → Identity → Type 0
 IsSameDependency d other = identity_key other ≡ identity_key d
 
--- the dependency at the place stands at an earlier place too
+-- the dependency at the place is at an earlier place too
 abbrev pub IsListedBefore : List Identity → ℕ → Type 0
 IsListedBefore dependencies at = HoldsOfDependency
     (λ d. (j : ℕ) × (j < at) × HoldsOfDependency (IsSameDependency d) dependencies j)

@@ -72,7 +72,7 @@ pub record IsCompared (l : LockfileData) : Type 0 where
 abbrev pub IsWrittenAs : List ℕ → LockfileData → Type 0
 IsWrittenAs text l = AreSameLines (lines text) (cargo_lines (lines text) (cargo_printed_lines l))
 
--- Only checksums tell V1 and V2 apart, which have no number: V1 has them in the metadata, and V2
+-- V1 and V2, which have no number, differ in checksums alone: V1 has them in the metadata, and V2
 -- with the packages. A text without any is read as V2, and Cargo can have written it in V1 too.
 pub record CanBeV1 (l : LockfileData) : Type 0 where
   pub version : l.version ≡ V2
@@ -82,7 +82,8 @@ pub record CanBeV1 (l : LockfileData) : Type 0 where
 abbrev pub IsWrittenInV1 : List ℕ → LockfileData → Type 0
 IsWrittenInV1 text l = CanBeV1 l × IsWrittenAs text (in_format V1 l)
 
--- each line of the text is as Cargo writes it in the lockfile's format, or in V1 where it can be that
+-- each line of the text is as Cargo writes it in the lockfile's format, or in V1 where it can be
+-- that
 abbrev pub IsWrittenByCargo : List ℕ → LockfileData → Type 0
 IsWrittenByCargo text l = IsWrittenAs text l ⊎ IsWrittenInV1 text l
 
@@ -180,7 +181,7 @@ pub record IsEmpty (f : FindingsData) : Type 0 where
   pub is_kept : f.is_kept ≡ true
   pub other_line : f.other_line ≡ None
 
--- ---- what is told, in this order
+-- ---- what is reported, in this order
 
 -- the finding of a dependency with a flaw
 abbrev pub dependency_finding_by : DependencyFlaw → PackageData → Identity → FindingData

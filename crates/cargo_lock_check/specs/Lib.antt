@@ -11,6 +11,8 @@ pub mod Dependencies
 pub mod Seen
 pub mod Lost
 pub mod Reach
+pub mod Group
+pub mod Groups
 pub mod Search
 pub mod Text
 pub mod TextReferences

@@ -1,4 +1,4 @@
--- The dependencies that no package answers.
+-- The dependencies that no package matches.
 use Rattle.std.specs.Prelude.{ℕ, List}
 use Rattle.cargo_lock_parts.specs.Identity.{PackageData}
 use Rattle.cargo_lock_graph.specs.Targets.{IsLost}

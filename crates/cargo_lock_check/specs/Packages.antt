@@ -7,7 +7,7 @@ use Rattle.cargo_lock_parts.specs.SourceKey.{key_of}
 use Rattle.cargo_lock_graph.specs.Targets.{HasIdentity, HoldsOf}
 use Rattle.cargo_lock_check.specs.Order.{package_order}
 
--- the identity of the package at the place stands at an earlier place too
+-- an earlier package has the identity of the package at the place too
 abbrev pub IsTwice : List PackageData → ℕ → Type 0
 IsTwice packages place = HoldsOf
     (λ p. (j : ℕ) × (j < place) × HoldsOf (HasIdentity (identity_of p)) packages j) packages place
@@ -17,8 +17,8 @@ pub record HasChecksumFrom (source : Source) (p : PackageData) : Type 0 where
   pub from : option_map key_of p.source ≡ Some (key_of source)
   pub checksum : IsSome p.checksum
 
--- the package has no checksum and nothing stands in for it, and it is from a registry on the
--- network from which some package has a checksum
+-- the package has no checksum and no replacement, and it is from a registry on the network from
+-- which some package has a checksum
 pub record LacksChecksum (packages : List PackageData) (p : PackageData) : Type 0 where
   pub checksum : p.checksum ≡ None
   pub replace : p.replace ≡ None
@@ -41,16 +41,16 @@ abbrev pub source_unless : Option Identity → Option Source → Option Source
 source_unless None source = source
 source_unless (Some other) source = None
 
--- the source of a package that nothing stands in for
+-- the source of a package without a replacement
 abbrev pub own_source : PackageData → Option Source
 own_source p = source_unless p.replace p.source
 
--- the package is from this source, by its key, and nothing stands in for it
+-- the package is from this source, by its key, and has no replacement
 abbrev pub IsOwnFrom : Source → PackageData → Type 0
 IsOwnFrom source p = option_map key_of (own_source p) ≡ Some (key_of source)
 
--- the package is the first from its registry, which is on the network, and from which no package has
--- a checksum; packages for which others stand in do not count
+-- the package is the first from its registry, which is on the network, and from which no package
+-- has a checksum; packages with a replacement do not count
 pub record IsFirstUnchecked (packages : List PackageData) (place : ℕ) (p : PackageData) : Type 0
   where
     pub source : Source

@@ -1,6 +1,6 @@
 -- Which packages those of the workspace lead to.
 --
--- A package leads to the packages that its dependencies and its replacement stand for. Where
+-- A package leads to the packages that match its dependencies and its replacement best. Where
 -- several match one of these equally well, as one at a branch and one at a commit of one
 -- repository, it leads to each of them. A lockfile of V1 may have a root apart from its packages,
 -- which is of the workspace too.

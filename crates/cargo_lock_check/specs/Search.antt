@@ -1,25 +1,11 @@
 -- What the search for the packages that the workspace leads to has found so far.
-use Rattle.std.specs.Prelude.{◌≡◌, ◌+◌, ◌↔◌, ◌⊎◌, ℕ, nat_le, Bool, true, List, Option, Some, IsSome, length}
-use Rattle.std.specs.Prelude.{slice_get}
-use Rattle.std.specs.BTreeMap.{BTreeMap, get}
-use Rattle.std.specs.List.{Contains, filter, list_all}
-use Rattle.cargo_lock_parts.specs.Identity.{Identity, PackageData}
-use Rattle.cargo_lock_parts.specs.PartialIdentity.{PartialIdentity, partial_identity_cmp}
-use Rattle.cargo_lock_graph.specs.Candidates.{identity_as_key}
+use Rattle.std.specs.Prelude.{◌≡◌, ◌+◌, ◌↔◌, ◌⊎◌, ℕ, Bool, true, List, Option, Some, length, slice_get}
+use Rattle.std.specs.List.{Contains}
+use Rattle.cargo_lock_parts.specs.Identity.{PackageData}
 use Rattle.cargo_lock_graph.specs.DrawingMade.{unmarked_count}
-use Rattle.cargo_lock_graph.specs.Targets.{MatchesAt}
-use Rattle.cargo_lock_check.specs.declared.flaws.candidates.Match.{Match}
 use Rattle.cargo_lock_check.specs.declared.flaws.reach.Search.{Search}
-use Rattle.cargo_lock_check.specs.Reach.{IsOneOfBest, IsReached, IsStart, LeadsTo}
-
--- these are the packages that match the dependency, each with its rank
-abbrev pub AreMatches : List PackageData → Identity → List Match → Type 0
-AreMatches packages d matches =
-    (m : Match) → Contains matches m ↔ MatchesAt packages d m.place m.rank
-
--- those of the matches that have the least rank, in order
-abbrev pub best_matches : List Match → List Match
-best_matches matches = filter (λ m. list_all (λ one. nat_le m.rank one.rank) matches) matches
+use Rattle.cargo_lock_check.specs.Groups.{Grouping, group_places}
+use Rattle.cargo_lock_check.specs.Reach.{IsReached, IsStart, LeadsTo}
 
 -- the place has a mark
 abbrev pub IsMarked : List Bool → ℕ → Type 0
@@ -39,11 +25,14 @@ pub record HasReached (P : ℕ → Type 0) (old new : Search) : Type 0 where
   pub measure : unmarked_count new.reached.items + length new.waiting.items
       ≡ unmarked_count old.reached.items + length old.waiting.items
 
--- what the dependencies that were asked for stand for has marks
-abbrev pub AreAsked : List PackageData → Search → BTreeMap PartialIdentity Bool → Type 0
-AreAsked packages search asked = (i : Identity)
-    → IsSome (get partial_identity_cmp asked (identity_as_key i))
-    → (k : ℕ) → IsOneOfBest packages i k → IsMarked search.reached.items k
+-- these places have marks
+abbrev pub AreReached : List ℕ → Search → Type 0
+AreReached places search = (k : ℕ) → Contains places k → IsMarked search.reached.items k
+
+-- the packages of the groups that have a mark have marks
+abbrev pub AreAsked : Grouping → Search → List Bool → Type 0
+AreAsked groups search asked = (n : ℕ) → IsMarked asked n
+    → AreReached (group_places groups n) search
 
 -- The places at which P holds have marks, and no others, and each of them waits.
 pub record HasBegun (packages : List PackageData) (P : ℕ → Type 0) (search : Search) : Type 0 where

@@ -21,8 +21,8 @@ abbrev pub AreChecked : List PackageData → ℕ → BTreeSet (Bor Source) → T
 AreChecked packages bound sources = (s : Source) → (has_source sources s ≡ true)
     ↔ ((j : ℕ) × (j < bound) × HoldsOf (HasChecksumFrom s) packages j)
 
--- the package has no checksum and nothing stands in for it, and it is from a registry on the
--- network that is among these sources
+-- the package has no checksum and no replacement, and it is from a registry on the network that is
+-- among these sources
 pub record LacksChecksumAmong (sources : BTreeSet (Bor Source)) (p : PackageData) : Type 0 where
   pub checksum : p.checksum ≡ None
   pub replace : p.replace ≡ None
@@ -37,7 +37,7 @@ AreLastDependencies dependencies bound last = (i : Identity)
     → IsLastBelow (HoldsOfDependency (IsSameDependency i) dependencies) bound
     (get partial_identity_cmp last (identity_as_key i))
 
--- the sources are those of the packages below a bound that nothing stands in for
+-- the sources are those of the packages below a bound without a replacement
 abbrev pub AreOwn : List PackageData → ℕ → BTreeSet (Bor Source) → Type 0
 AreOwn packages bound sources = (s : Source) → (has_source sources s ≡ true)
     ↔ ((j : ℕ) × (j < bound) × HoldsOf (IsOwnFrom s) packages j)

@@ -13,13 +13,13 @@ use Rattle.cargo_lock_check.specs.Sources.{HasUserInfo, IsFromAt, IsLookAlike}
 use Rattle.cargo_lock_check.specs.Stale.{IsStale}
 
 -- The format keeps the tag, branch or revision of each source. Each dependency has its package. No
--- package stands twice, lists a dependency twice, has a name that Cargo does not take, is from a
+-- package is there twice, lists a dependency twice, has a name that Cargo does not take, is from a
 -- source that looks like crates.io and is another one, is from a source with user info, lacks a
--- checksum that others have or is out of order, and neither is a dependency. Each registry
--- on the network has a checksum, and no checksum is of no package. No two packages have names that
+-- checksum that others have or is out of order, and neither is a dependency. Each registry on the
+-- network has a checksum, and no checksum is of no package. No two packages have names that
 -- crates.io takes for one. The lockfile survives its format. The packages of the workspace lead to
--- each package, and a root apart from the packages is one of them. Where there is none, each line of
--- the text is as Cargo writes it.
+-- each package, and a root apart from the packages is one of them. Where there is none, each line
+-- of the text is as Cargo writes it.
 pub record IsSound (text : List ℕ) (l : LockfileData) : Type 0 where
   pub plain : (source : List ℕ) → ¬ IsLostIn l.version text source
   pub dependencies : (place at : ℕ) → ¬ IsLostAt l.packages place at
@@ -45,7 +45,7 @@ abbrev pub EmptyIfSound : Type 0
 EmptyIfSound = (text : List ℕ) (l : LockfileData) (f : FindingsData) → AreFindings text l f
     → IsEmpty f ↔ IsSound text l
 
--- nothing is told exactly where nothing is found
+-- no finding is reported exactly where nothing is found
 abbrev pub NoneToldIfEmpty : Type 0
 NoneToldIfEmpty = (text : List ℕ) (l : LockfileData) (f : FindingsData) → AreFindings text l f
     → (told_of f ≡ []) ↔ IsEmpty f

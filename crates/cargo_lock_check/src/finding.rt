@@ -13,7 +13,7 @@ use shown::{Quoted, Shown};
 use std::fmt;
 
 /// One thing that is wrong with a lockfile. Displayed, it is a line without its newline: a word
-/// that tells what it is, a colon, and words about it. A package is shown as
+/// that names it, a colon, and words about it. A package is shown as
 /// `NAME VERSION (SOURCE)`, and one without a source as `NAME VERSION`.
 ///
 /// ```

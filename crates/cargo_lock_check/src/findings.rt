@@ -28,7 +28,7 @@ use cargo_lock_references::{MetadataKey, ResolveVersion};
 use std::alloc::{AllocError, Global};
 use std::marker::Model;
 
-/// What is wrong with a lockfile, as places in its list of packages, each told once and in order.
+/// What is wrong with a lockfile, as places in its list of packages, each once and in order.
 ///
 /// ```
 /// let lockfile = Lockfile::from_str(rt.alloc(), text)?;
@@ -93,7 +93,7 @@ pub struct Findings<'a> {
     pub unchecked: Vec<usize>,
 
     /// The keys of the metadata that begin `checksum ` and are of no package. Those with the value
-    /// `<none>`, which Cargo writes for packages without a checksum, are not told.
+    /// `<none>`, which Cargo writes for packages without a checksum, are left out.
     pub stale: Vec<MetadataKey>,
 
     /// The packages that come after the next one in Cargo's order (see `package_order`).
@@ -150,7 +150,7 @@ impl<'a> Model for Findings<'a> {
     } };
 }
 
-// The places of packages and of dependencies that stand more than once or are out of order.
+// The places of packages and of dependencies that are there more than once or out of order.
 #[derive(Drop)]
 struct ListPlaces {
     twice: Vec<usize>,
@@ -219,13 +219,13 @@ impl<'a> Findings<'a> {
             && self.other_line.is_none()
     }
 
-    /// The findings, in this order: lost dependencies, packages and dependencies that stand twice,
-    /// names that Cargo does not take, names that crates.io takes for one, sources that look like
-    /// crates.io, sources with user info, orphans, packages without a checksum, registries without any,
-    /// stale checksums,
-    /// misplaced packages and dependencies, sources that the format loses, the format, the text.
-    /// Where no package is of the workspace, that is told in place of the orphans. Fails when out
-    /// of memory.
+    /// The findings, in this order: lost dependencies, packages and dependencies that are there
+    /// twice, names that Cargo does not take, names that crates.io takes for one, sources that look
+    /// like crates.io, sources with user info, orphans, packages without a checksum, registries
+    /// without any, stale checksums, misplaced packages and dependencies, sources that the format
+    /// loses, the format, the text.
+    /// Where no package is of the workspace, that is reported in place of the orphans. Fails when
+    /// out of memory.
     pub fn all<'s>(&'s self, alloc: Global) -> std::result::Result<Vec<Finding<'s>>, AllocError>
         ensures { IfOk result (λ all. map finding_of all.items ≡ told_of self.now) }
     {
@@ -247,7 +247,7 @@ impl<'a> Findings<'a> {
         Ok(all)
     }
 
-    // Adds the packages and the dependencies that stand more than once.
+    // Adds the packages and the dependencies that are there more than once.
     fn add_twice<'s>(&'s self, all: &mut Vec<Finding<'s>>) -> std::result::Result<(), AllocError>
         ensures { OnOk result (map finding_of all.new.items
             ≡ map finding_of all.old.items ++ told_of_twice self.now) }

@@ -3,7 +3,7 @@
 //! for one, those from a source that looks like crates.io and is another one, those whose source
 //! has a user name or a password, those that none of the workspace leads to, those without the
 //! checksum that others of their registry have, the first ones from registries without checksums,
-//! and those out of Cargo's order; the dependencies that no package answers, that are listed twice
+//! and those out of Cargo's order; the dependencies that no package matches, that are listed twice
 //! and that are out of order; and the checksums of no package. These calls take a list of packages,
 //! and no lockfile.
 //!
@@ -16,9 +16,9 @@
 //! ```
 
 pub mod alike;
-mod candidates;
 mod canonical;
 pub mod dependencies;
+mod groups;
 pub mod lost;
 pub mod names;
 pub mod order;

@@ -14,7 +14,7 @@ pub fn findings_are_lines()
     ensures { EachIsOneLine }
 {}
 
-/// Of the findings of a text and its lockfile no line is told exactly where nothing is found.
+/// Of the findings of a text and its lockfile no line is reported exactly where nothing is found.
 pub fn no_line_is_told_where_nothing_is_found()
     ensures { NoneToldIfEmpty }
 {}

@@ -4,8 +4,8 @@
 //! one, a source with a user name or a password, a package that none of the workspace leads to, a
 //! package without the checksum that others of its registry have, a registry none of whose packages
 //! has one, a checksum of no package, packages or dependencies out of Cargo's order, a source whose
-//! tag, branch or revision the format loses, a format that does not keep the lockfile, and the first
-//! line that is not as Cargo writes it.
+//! tag, branch or revision the format loses, a format that does not keep the lockfile, and the
+//! first line that is not as Cargo writes it.
 //!
 //! ```
 //! let lockfile = Lockfile::from_str(rt.alloc(), text)?;
@@ -19,7 +19,7 @@
 //! ```
 //!
 //! `laws` says what the definitions of the contracts have to do with one another: nothing is found
-//! exactly where nothing is wrong, and then no line is told.
+//! exactly where nothing is wrong, and then no line is reported.
 #![tactic(auto)]
 
 mod asked;

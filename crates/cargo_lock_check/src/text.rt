@@ -117,7 +117,7 @@ fn lines_from<'a, 'b>(lines: &'b [&'a str], start: usize) -> &'b [&'a str]
     &lines[lines.len().min(start)..]
 }
 
-// Adds the comments that stand first.
+// Adds the comments at the beginning.
 fn add_comments<'a>(all: &mut Vec<&'a str>, lines: &[&'a str]) -> Result<(), AllocError>
     ensures { OnOk result (texts_at all.new.items
         ≡ texts_at all.old.items ++ take_while is_comment (texts_at lines.now)) }
@@ -204,8 +204,8 @@ fn with_carets(alloc: Global, text: &[u8]) -> Result<Vec<u8>, AllocError>
     Ok(plain)
 }
 
-// Adds what stands for the byte at a place, where the next `rest` bytes are passed over, and gives
-// how many bytes are then passed over.
+// Adds the byte at a place, or `^` for an escape there, unless it is one of the next `rest` bytes,
+// which are passed over. Returns how many bytes are then passed over.
 fn put_plain(plain: &mut Vec<u8>, text: &[u8], at: usize, rest: usize) -> Result<usize, AllocError>
     requires { at < length text.now }
     ensures { IfOk result (λ next.
@@ -223,7 +223,7 @@ fn put_plain(plain: &mut Vec<u8>, text: &[u8], at: usize, rest: usize) -> Result
     Ok(0)
 }
 
-// Whether `%5E` stands at a place.
+// Whether `%5E` is at a place.
 fn has_escape(text: &[u8], at: usize) -> bool
     requires { at < length text.now }
     ensures { result ≡ starts_with eqb (drop at text.now) (codes "%5E") }

@@ -55,7 +55,7 @@ fn is_written_in_v1(alloc: Global, text: &str, lockfile: &Lockfile) -> Result<bo
     Ok(other.is_none())
 }
 
-// Whether the format has no number, and no checksum is there that tells V1 from V2.
+// Whether the format has no number, and no checksum is there by which V1 differs from V2.
 fn can_be_v1(lockfile: &Lockfile) -> bool
     ensures { Decides result (CanBeV1 lockfile.now) }
 {

@@ -13,7 +13,7 @@ use std::cmp::Ordering;
 use std::collections::BTreeMap;
 
 /// The dependencies that a package lists before the next one, though they come after that one in
-/// Cargo's order (see `dependency_order`). Each is told by the place of its package and its own
+/// Cargo's order (see `dependency_order`). Each is given as the place of its package and its own
 /// place among the package's dependencies. Fails when out of memory.
 ///
 /// ```
@@ -70,9 +70,9 @@ fn is_misplaced(alloc: Global, dependencies: &[Dependency], at: usize) -> Result
     }
 }
 
-/// The dependencies that stand at an earlier place of the same package too, with one name, one
-/// version and one source: of each such dependency all but the first. Each is told by the place of
-/// its package and its own place among the package's dependencies. Fails when out of memory.
+/// The dependencies that the same package lists at an earlier place too, with one name, one version
+/// and one source: of each such dependency all but the first. Each is given as the place of its
+/// package and its own place among the package's dependencies. Fails when out of memory.
 ///
 /// ```
 /// if !repeated_dependencies(rt.alloc(), &lockfile.packages)?.is_empty() {

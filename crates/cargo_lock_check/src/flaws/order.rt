@@ -44,7 +44,7 @@ pub fn package_order(alloc: Global, one: &Package, other: &Package) -> Result<Or
     Ok(order)
 }
 
-// An absent source stands before a present one.
+// An absent source is less than a present one.
 fn cmp_package_sources(
     alloc: Global,
     one: &Option<SourceId>,
@@ -121,7 +121,7 @@ fn cmp_version_texts(alloc: Global, one: &Version, other: &Version) -> Result<Or
     Ok(one.as_str().cmp(other.as_str()))
 }
 
-// An absent source stands before a present one.
+// An absent source is less than a present one.
 fn cmp_dependency_sources(one: &Option<SourceId>, other: &Option<SourceId>) -> Ordering
     ensures { result ≡ option_cmp (by_kind_and_url serialize) one.now other.now }
 {

@@ -15,7 +15,7 @@ use std::alloc::{AllocError, Global};
 use std::cmp::Ordering;
 use std::collections::{BTreeMap, BTreeSet};
 
-/// The places of packages whose name, version and source stand at an earlier place too, so of each
+/// The places of packages whose name, version and source an earlier package has too, so of each
 /// such package all but the first. Fails when out of memory.
 ///
 /// ```
@@ -146,7 +146,7 @@ fn own_source<'a>(package: &'a Package) -> Option<&'a SourceId>
     package.source.as_ref()
 }
 
-// Adds a source, and tells whether it is a registry on the network that is new.
+// Adds a source, and returns whether it is a registry on the network that is new.
 fn see<'a>(
     checked: &BTreeSet<&'a SourceId>,
     seen: &mut BTreeSet<&'a SourceId>,

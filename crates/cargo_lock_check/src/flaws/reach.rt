@@ -1,23 +1,20 @@
 //! The packages that those of the workspace do not lead to.
 
-ghost use Rattle.std.specs.Prelude.{◌≡◌, ◌<◌, ◌↔◌, ℕ, Bool, cond, false, true, IfOk, None, OnOk, Some, is_some, length};
+ghost use Rattle.std.specs.Prelude.{◌≡◌, ◌<◌, ◌↔◌, ◌⊎◌, ℕ, false, true, IfOk, OnOk, Some, length};
 ghost use Rattle.std.specs.Prelude.{slice_get};
+ghost use Rattle.std.specs.List.{Contains};
 ghost use Rattle.cargo_lock_parts.specs.Identity.{Identity};
+ghost use Rattle.cargo_lock_graph.specs.Targets.{MatchesAt};
+ghost use Rattle.cargo_lock_check.specs.Groups.{HasMatches, group_places};
 ghost use Rattle.cargo_lock_check.specs.Places.{IsPlaces};
 ghost use Rattle.cargo_lock_check.specs.Reach.{AsksFor, IsOneOfBest, IsOrphan, IsReached, IsRoot};
-ghost use Rattle.cargo_lock_check.specs.Search.{AreAsked, HasBegun, HasReached, IsMarked, IsSearch};
-ghost use Rattle.std.specs.BTreeMap.{get, is_at};
-ghost use Rattle.cargo_lock_parts.specs.PartialIdentity.{PartialIdentity, partial_identity_cmp};
-ghost use Rattle.cargo_lock_graph.specs.Candidates.{identity_as_key};
-ghost use Rattle.std.specs.List.{Contains};
+ghost use Rattle.cargo_lock_check.specs.Search.{AreAsked, AreReached, HasBegun, HasReached};
+ghost use Rattle.cargo_lock_check.specs.Search.{IsMarked, IsSearch};
 
-use crate::flaws::candidates::{all_matches, best_matches};
-use crate::flaws::dependencies::identity;
-use cargo_lock_graph::versions::Versions;
+use crate::flaws::groups::{BestGroup, Groups};
 use cargo_lock_parts::dependency::Dependency;
-use cargo_lock_parts::package::{Package, PartialIdentity};
+use cargo_lock_parts::package::Package;
 use std::alloc::{AllocError, Global};
-use std::collections::BTreeMap;
 
 // Which packages are reached so far, and the places of those whose dependencies are still to be
 // followed.
@@ -64,25 +61,29 @@ fn unmarked(alloc: Global, marks: &[bool]) -> Result<Vec<usize>, AllocError>
     Ok(places)
 }
 
-// The dependencies that were asked for.
-type Asked<'a> = BTreeMap<PartialIdentity<'a>, bool>;
-
-// Whether an equal dependency was asked for.
-fn is_asked<'a>(asked: &Asked<'a>, dependency: &'a Dependency) -> bool
-    ensures { result
-        ≡ is_some (get partial_identity_cmp asked.now (identity_as_key dependency.now)) }
-{
-    asked.contains_key(&identity(dependency))
+// For each group whether its packages were all reached.
+#[derive(Drop)]
+struct Asked {
+    groups: Vec<bool>,
 }
 
-// Adds a dependency that was asked for.
-fn put_asked<'a>(asked: &mut Asked<'a>, dependency: &'a Dependency) -> Result<(), AllocError>
-    ensures { OnOk result ((q : PartialIdentity) → get partial_identity_cmp asked.new q
-        ≡ cond (is_at (partial_identity_cmp (identity_as_key dependency.now)) q) (Some true)
-        (get partial_identity_cmp asked.old q)) }
-{
-    asked.insert(identity(dependency), true)?;
-    Ok(())
+impl Asked {
+    // Whether the packages of a group were all reached.
+    fn has(&self, number: usize) -> bool
+        ensures { result ≡ true → IsMarked self.now.groups.items number }
+    {
+        self.groups.get(number) == Some(&true)
+    }
+
+    // Records that the packages of a group were all reached.
+    fn put(&mut self, number: usize)
+        ensures { (n : ℕ) → IsMarked self.new.groups.items n
+            → IsMarked self.old.groups.items n ⊎ (n ≡ number) }
+    {
+        if number < self.groups.len() {
+            self.groups[number] = true;
+        }
+    }
 }
 
 // For each package whether it is reached.
@@ -95,12 +96,8 @@ fn reached(
     ensures marks { IfOk result (λ marks.
         (k : ℕ) → IsMarked marks.items k ↔ IsReached packages.now root.now k) }
 {
-    let versions = Versions::of(alloc, packages)?;
-    let mut asked = BTreeMap::new(alloc);
-    let mut search = Search::begin(alloc, &versions, &mut asked, packages, root)?;
-    while let Some(place) = search.waiting.pop() {
-        search.follow(alloc, &versions, &mut asked, &packages[place])?;
-    }
+    let groups = Groups::of(alloc, packages)?;
+    let search = Search::of(alloc, &groups, packages, root)?;
     let Search {
         reached,
         waiting: _,
@@ -109,22 +106,44 @@ fn reached(
 }
 
 impl Search {
-    // A search that has reached each place at which a chain begins.
-    fn begin<'a>(
+    // The search at its end, which has reached all that the workspace leads to.
+    fn of<'a>(
         alloc: Global,
-        versions: &Versions<'a>,
-        asked: &mut Asked<'a>,
+        groups: &Groups<'a>,
         packages: &'a [Package],
         root: &'a Option<Package>,
     ) -> Result<Search, AllocError>
-        requires packages { versions.now ≡ packages.now }
-        requires none { (q : PartialIdentity) → get partial_identity_cmp asked.old q ≡ None }
+        requires { groups.now.packages ≡ packages.now }
+        ensures count { IfOk result (λ search. length search.reached.items ≡ length packages.now) }
+        ensures marks { IfOk result (λ search.
+            (k : ℕ) → IsMarked search.reached.items k ↔ IsReached packages.now root.now k) }
+    {
+        let mut asked = Asked {
+            groups: vec![in alloc; false; groups.count()]?,
+        };
+        let mut search = Search::begin(alloc, groups, &mut asked, packages, root)?;
+        while let Some(place) = search.waiting.pop() {
+            search.follow(groups, &mut asked, &packages[place])?;
+        }
+        Ok(search)
+    }
+
+    // A search that has reached each place at which a chain begins.
+    fn begin<'a>(
+        alloc: Global,
+        groups: &Groups<'a>,
+        asked: &mut Asked,
+        packages: &'a [Package],
+        root: &'a Option<Package>,
+    ) -> Result<Search, AllocError>
+        requires packages { groups.now.packages ≡ packages.now }
+        requires none { (n : ℕ) → ¬ IsMarked asked.old.groups.items n }
         ensures search { IfOk result (IsSearch packages.now root.now) }
-        ensures asked { IfOk result (λ search. AreAsked packages.now search asked.new) }
+        ensures asked { IfOk result (λ search. AreAsked groups.now search asked.new.groups.items) }
     {
         let mut search = Search::from_workspace(alloc, packages)?;
         if let Some(root) = root {
-            search.follow(alloc, versions, asked, root)?;
+            search.follow(groups, asked, root)?;
         }
         Ok(search)
     }
@@ -148,83 +167,113 @@ impl Search {
     // Reaches what a package leads to.
     fn follow<'a>(
         &mut self,
-        alloc: Global,
-        versions: &Versions<'a>,
-        asked: &mut Asked<'a>,
+        groups: &Groups<'a>,
+        asked: &mut Asked,
         package: &'a Package,
     ) -> Result<(), AllocError>
-        requires count { length self.old.reached.items ≡ length versions.now }
-        requires asked { AreAsked versions.now self.old asked.old }
+        requires count { length self.old.reached.items ≡ length groups.now.packages }
+        requires asked { AreAsked groups.now self.old asked.old.groups.items }
         ensures reached { OnOk result
-            (HasReached (AsksFor versions.now «package».now) self.old self.new) }
-        ensures asked { OnOk result (AreAsked versions.now self.new asked.new) }
+            (HasReached (AsksFor groups.now.packages «package».now) self.old self.new) }
+        ensures asked { OnOk result (AreAsked groups.now self.new asked.new.groups.items) }
     {
-        self.ask_all(alloc, versions, asked, &package.dependencies)?;
+        self.ask_all(groups, asked, &package.dependencies)?;
         if let Some(replace) = &package.replace {
-            self.ask(alloc, versions, asked, replace)?;
+            self.ask(groups, asked, replace)?;
         }
         Ok(())
     }
 
-    // Reaches what some dependencies stand for.
+    // Reaches the packages that match some dependencies best.
     fn ask_all<'a>(
         &mut self,
-        alloc: Global,
-        versions: &Versions<'a>,
-        asked: &mut Asked<'a>,
+        groups: &Groups<'a>,
+        asked: &mut Asked,
         dependencies: &'a [Dependency],
     ) -> Result<(), AllocError>
-        requires count { length self.old.reached.items ≡ length versions.now }
-        requires asked { AreAsked versions.now self.old asked.old }
+        requires count { length self.old.reached.items ≡ length groups.now.packages }
+        requires asked { AreAsked groups.now self.old asked.old.groups.items }
         ensures reached { OnOk result (HasReached
-            (λ k. (d : Identity) × Contains dependencies.now d × IsOneOfBest versions.now d k)
+            (λ k. (d : Identity) × Contains dependencies.now d
+            × IsOneOfBest groups.now.packages d k)
             self.old self.new) }
-        ensures asked { OnOk result (AreAsked versions.now self.new asked.new) }
+        ensures asked { OnOk result (AreAsked groups.now self.new asked.new.groups.items) }
     {
         for dependency in dependencies {
-            self.ask(alloc, versions, asked, dependency)?;
+            self.ask(groups, asked, dependency)?;
         }
-        Ok(())
-    }
-
-    // Reaches the packages that match a dependency best, unless an equal one was asked for before.
-    fn ask<'a>(
-        &mut self,
-        alloc: Global,
-        versions: &Versions<'a>,
-        asked: &mut Asked<'a>,
-        dependency: &'a Dependency,
-    ) -> Result<(), AllocError>
-        requires count { length self.old.reached.items ≡ length versions.now }
-        requires asked { AreAsked versions.now self.old asked.old }
-        ensures reached { OnOk result
-            (HasReached (IsOneOfBest versions.now dependency.now) self.old self.new) }
-        ensures asked { OnOk result (AreAsked versions.now self.new asked.new) }
-    {
-        if is_asked(asked, dependency) {
-            return Ok(());
-        }
-        self.reach_best(alloc, versions, dependency)?;
-        put_asked(asked, dependency)?;
         Ok(())
     }
 
     // Reaches the packages that match a dependency best.
-    fn reach_best<'a>(
+    fn ask<'a>(
         &mut self,
-        alloc: Global,
-        versions: &Versions<'a>,
+        groups: &Groups<'a>,
+        asked: &mut Asked,
         dependency: &'a Dependency,
     ) -> Result<(), AllocError>
-        requires { length self.old.reached.items ≡ length versions.now }
-        ensures { OnOk result
-            (HasReached (IsOneOfBest versions.now dependency.now) self.old self.new) }
+        requires count { length self.old.reached.items ≡ length groups.now.packages }
+        requires asked { AreAsked groups.now self.old asked.old.groups.items }
+        ensures reached { OnOk result
+            (HasReached (IsOneOfBest groups.now.packages dependency.now) self.old self.new) }
+        ensures asked { OnOk result (AreAsked groups.now self.new asked.new.groups.items) }
     {
-        let best = best_matches(all_matches(alloc, versions, dependency)?);
-        for one in &best {
-            self.reach(one.place)?;
+        if let Some(best) = groups.best(dependency) {
+            self.ask_group(groups, asked, best, dependency)?;
         }
         Ok(())
+    }
+
+    // Reaches the packages of a group that match a dependency best, unless all of the group were
+    // reached before.
+    fn ask_group(
+        &mut self,
+        groups: &Groups<'_>,
+        asked: &mut Asked,
+        best: BestGroup,
+        dependency: &Dependency,
+    ) -> Result<(), AllocError>
+        requires count { length self.old.reached.items ≡ length groups.now.packages }
+        requires asked { AreAsked groups.now self.old asked.old.groups.items }
+        requires all { HasMatches groups.now dependency.now best.rank best.number }
+        ensures reached { OnOk result (HasReached
+            (λ k. MatchesAt groups.now.packages dependency.now k best.rank) self.old self.new) }
+        ensures asked { OnOk result (AreAsked groups.now self.new asked.new.groups.items) }
+    {
+        if asked.has(best.number) {
+            return Ok(());
+        }
+        let is_whole = self.reach_matches(groups, best, dependency)?;
+        if is_whole {
+            asked.put(best.number);
+        }
+        Ok(())
+    }
+
+    // Reaches the packages of a group that match a dependency best. Returns whether these are all
+    // of the group.
+    fn reach_matches(
+        &mut self,
+        groups: &Groups<'_>,
+        best: BestGroup,
+        dependency: &Dependency,
+    ) -> Result<bool, AllocError>
+        requires count { length self.old.reached.items ≡ length groups.now.packages }
+        requires all { HasMatches groups.now dependency.now best.rank best.number }
+        ensures reached { OnOk result (HasReached
+            (λ k. MatchesAt groups.now.packages dependency.now k best.rank) self.old self.new) }
+        ensures whole { IfOk result (λ is_whole. is_whole ≡ true
+            → AreReached (group_places groups.now best.number) self.new) }
+    {
+        let mut is_whole = true;
+        for place in groups.places(best.number) {
+            if groups.is_match(best.rank, dependency, *place) {
+                self.reach(*place)?;
+            } else {
+                is_whole = false;
+            }
+        }
+        Ok(is_whole)
     }
 
     // Reaches a place. It waits where it was not reached before.

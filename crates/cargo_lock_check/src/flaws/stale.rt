@@ -14,7 +14,7 @@ use cargo_lock_references::{Metadata, MetadataKey, MetadataValue, ResolveVersion
 use std::alloc::{AllocError, Global};
 
 /// The keys of checksums, in order, that are of none of these packages. In the first format Cargo
-/// writes `<none>` for a package without a checksum; such keys are not told. The one error is
+/// writes `<none>` for a package without a checksum; such keys are left out. The one error is
 /// `Memory`.
 ///
 /// ```

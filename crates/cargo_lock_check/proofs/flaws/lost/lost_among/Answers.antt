@@ -4,4 +4,5 @@ use Rattle.cargo_lock_check.proofs.DependencyPlaces.{all}
 use Rattle.cargo_lock_check.proofs.flaws.lost.lost_among.Goals as goal
 
 pub returns : goal.returns
-returns c = all (HoldsOfDependency (IsLost c.args.packages.now)) c.args.packages.now c.loop-place.place c.loop-place.lost.items c.loop-place-test.false c.loop-place.invariant
+returns c = all (HoldsOfDependency (IsLost c.args.packages.now)) c.args.packages.now
+    c.loop-place.place c.loop-place.lost.items c.loop-place-test.false c.loop-place.invariant

@@ -3,4 +3,4 @@ use Rattle.cargo_lock_check.specs.Lost.{IsLostAt}
 use Rattle.cargo_lock_check.proofs.flaws.lost.put_lost.Given as goal
 
 abbrev pub invariant-loop-at : goal.invariant-loop-at
-invariant-loop-at l = AreDependenciesBefore (IsLostAt l.versions) l.place l.at l.lost.items
+invariant-loop-at l = AreDependenciesBefore (IsLostAt l.groups.packages) l.place l.at l.lost.items

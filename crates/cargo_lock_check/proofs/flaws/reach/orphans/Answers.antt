@@ -7,5 +7,7 @@ pub returns : goal.returns
 returns c =
     let marks : List Bool = c.in_ok-reached.reached.items in
     let places = c.in_ok-orphans.orphans.items in
-    orphans-told c.args.packages.now c.args.root.now marks places c.in_ok-reached.ensures.count c.in_ok-reached.ensures.marks
-    (subst (λ (ms : List Bool). IsPlaces (λ k. slice_get ms k ≡ Some false) (length ms) places) c.deref.ensures.value c.in_ok-orphans.ensures)
+    orphans-told c.args.packages.now c.args.root.now marks places c.in_ok-reached.ensures.count
+    c.in_ok-reached.ensures.marks
+    (subst (λ (ms : List Bool). IsPlaces (λ k. slice_get ms k ≡ Some false) (length ms) places)
+    c.deref.ensures.value c.in_ok-orphans.ensures)

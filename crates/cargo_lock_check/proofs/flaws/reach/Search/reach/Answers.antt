@@ -7,10 +7,13 @@ pub returns-in_ok-push : goal.returns-in_ok-push
 returns-in_ok-push c =
     let marks = c.args.self.now.reached.items in
     reached-new c.args.self.now _ c.args.place c.requires
-    (same-read marks c.args.place c.index.result.now true c.requires c.index.ensures ∙ c.if-not-index.true) refl c.in_ok-push.ensures.items
+    (same-read marks c.args.place c.index.result.now true c.requires c.index.ensures
+    ∙ c.if-not-index.true) refl c.in_ok-push.ensures.items
 
 pub returns-else-not-index : goal.returns-else-not-index
 returns-else-not-index c =
     let marks = c.args.self.now.reached.items in
     reached-again c.args.self.now c.args.place
-    (slice_get_read marks (length marks) c.args.place true refl c.requires (sym c.if-not-index.false ∙ c.index.ensures ∙ ap (λ b. get_or marks c.args.place b) c.if-not-index.false))
+    (slice_get_read marks (length marks) c.args.place true refl c.requires
+    (sym c.if-not-index.false ∙ c.index.ensures ∙ ap
+    (λ b. get_or marks c.args.place b) c.if-not-index.false))

@@ -1,12 +1,12 @@
 use Rattle.std.proofs.Common.{◌+◌, length}
 use Rattle.cargo_lock_graph.specs.DrawingMade.{unmarked_count}
 use Rattle.cargo_lock_check.specs.Search.{AreAsked, IsSearch}
-use Rattle.cargo_lock_check.proofs.flaws.reach.reached.Given as goal
+use Rattle.cargo_lock_check.proofs.flaws.reach.Search.of.Given as goal
 
 abbrev pub invariant-loop-place : goal.invariant-loop-place
 invariant-loop-place l = record {
   search : IsSearch l.packages l.root l.search;
-  asked : AreAsked l.packages l.search l.asked;
+  asked : AreAsked l.groups l.search l.asked.groups.items;
 }
 
 -- what is not reached and what waits

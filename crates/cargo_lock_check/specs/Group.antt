@@ -1,0 +1,112 @@
+-- What the packages of a group have in common.
+--
+-- Each rank of a match has a group of the packages that can match a dependency with it: they have
+-- the dependency's name and version, and of its source what the rank asks for. A dependency without
+-- a precise text can match each of them. One with a precise text can match with the ranks 3 and 4
+-- only packages without one, which have groups of their own, the open ones.
+use Rattle.std.specs.Prelude.{ℕ, Bool, false, ◌&&◌, ◌==◌, nat_lt, List, [], Option, Some, None}
+use Rattle.std.specs.Prelude.{is_some, option_map, if◌then◌else◌}
+use Rattle.std.specs.Cmp.{IsTotalOrder, bool_cmp_total, nat_cmp_total, on_total, then_total}
+use Rattle.std.specs.Cmp.Lexicographic.{nat_list_cmp_total}
+use Rattle.std.specs.Ordering.{bool_cmp, eq_by_cmp, nat_cmp, on, then_cmp}
+use Rattle.std.specs.declared.cmp.Ordering.{Ordering}
+use Rattle.url.specs.Parts.{serialize}
+use Rattle.cargo_lock_parts.specs.Identity.{Identity}
+use Rattle.cargo_lock_parts.specs.PartialIdentity.{PartialIdentity, partial_identity_cmp}
+use Rattle.cargo_lock_parts.specs.PartialIdentity.{partial_identity_total}
+use Rattle.cargo_lock_parts.specs.Rank.{commit_of}
+use Rattle.cargo_lock_parts.specs.Source.{Source, is_git}
+use Rattle.cargo_lock_parts.specs.SourceKey.{git_reference_text, kind_number, text_cmp}
+use Rattle.cargo_lock_graph.specs.Candidates.{identity_as_key}
+
+-- what the packages of a group have in common
+pub record Group : Type 0 where
+  pub identity : PartialIdentity
+  pub rank : ℕ
+  pub is_open : Bool
+  pub kind : ℕ
+  pub url : List ℕ
+  pub text : List ℕ
+
+-- groups compare by their parts in order
+abbrev pub group_cmp : Group → Group → Ordering
+group_cmp =
+    then_cmp (then_cmp (then_cmp (then_cmp
+    (on (λ g. g.identity) partial_identity_cmp)
+    (on (λ g. g.rank) nat_cmp))
+    (on (λ g. g.is_open) bool_cmp))
+    (on (λ g. g.kind) nat_cmp))
+    (then_cmp (on (λ g. g.url) text_cmp) (on (λ g. g.text) text_cmp))
+
+-- groups that tie
+abbrev pub is_same_group : Group → Group → Bool
+is_same_group = eq_by_cmp group_cmp
+
+-- the order of groups is total
+pub group_total : IsTotalOrder group_cmp
+group_total =
+    then_total (then_total (then_total (then_total
+    (on_total (λ (g : Group). g.identity) partial_identity_total)
+    (on_total (λ (g : Group). g.rank) nat_cmp_total))
+    (on_total (λ (g : Group). g.is_open) bool_cmp_total))
+    (on_total (λ (g : Group). g.kind) nat_cmp_total))
+    (then_total
+    (on_total (λ (g : Group). g.url) nat_list_cmp_total)
+    (on_total (λ (g : Group). g.text) nat_list_cmp_total))
+
+-- ---- the group of an identity
+
+-- the sort of the reference, where the rank asks for the reference
+abbrev pub kind_at : ℕ → Source → ℕ
+kind_at rank s = if rank == 3 then kind_number s.kind else 0
+
+-- what a rank asks of a repository beside its URL: the commit, the reference, or nothing
+abbrev pub text_at : ℕ → Source → Option (List ℕ)
+text_at rank s =
+    if is_git s.kind
+    then (if rank == 2 then commit_of s
+    else (if rank == 3 then Some (git_reference_text s.kind) else Some []))
+    else None
+
+-- the group with this text
+abbrev pub group_with : ℕ → Bool → PartialIdentity → Source → List ℕ → Group
+group_with rank is_open i s text = record {
+  identity = record { name = i.name; version = i.version; source = None };
+  rank = rank;
+  is_open = is_open;
+  kind = kind_at rank s;
+  url = serialize s.url;
+  text = text;
+}
+
+-- the group of a source, which is a repository
+abbrev pub source_group : ℕ → Bool → PartialIdentity → Option Source → Option Group
+source_group rank is_open i None = None
+source_group rank is_open i (Some s) = option_map (group_with rank is_open i s) (text_at rank s)
+
+-- the group of an identity for a rank, if it has one: for rank 1 that of all with the same identity
+abbrev pub group_of : ℕ → Bool → PartialIdentity → Option Group
+group_of rank is_open i =
+    if rank == 1
+    then Some record {
+      identity = i;
+      rank = rank;
+      is_open = false;
+      kind = 0;
+      url = [];
+      text = [];
+    }
+    else source_group rank is_open i i.source
+
+-- the source has a precise text
+abbrev pub has_precise : Option Source → Bool
+has_precise None = false
+has_precise (Some s) = is_some s.precise
+
+-- the packages that can match a dependency with the rank have no precise text
+abbrev pub asks_open : ℕ → Identity → Bool
+asks_open rank d = nat_lt 2 rank && has_precise d.source
+
+-- the group of the packages that can match a dependency with the rank
+abbrev pub group_for : ℕ → Identity → Option Group
+group_for rank d = group_of rank (asks_open rank d) (identity_as_key d)
