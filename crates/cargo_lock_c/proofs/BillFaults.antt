@@ -1,38 +1,12 @@
 -- Why there is no bill, by the status that says so.
-use Rattle.std.proofs.Common.{◌≡◌, ◌∙◌, ◌≤◌, ◌⊎◌, ℕ, List, arith, inl, inr, refl, subst}
-use Rattle.cargo_lock_parts.specs.declared.error.Error.{Error}
-use Rattle.cargo_lock_parts.specs.declared.error.Error.TheVariants.{Io, Parse, Version, Resolution, Memory}
-use Rattle.cargo_lock_parts.specs.Identity.{PackageData}
-use Rattle.cargo_lock_bom.specs.Printed.{IsUnprinted}
+use Rattle.std.proofs.Common.{◌≡◌, ◌≤◌, ◌⊎◌, ℕ, List, arith, inl, inr, refl}
 use Rattle.cargo_lock_encoding.specs.Lockfiles.{LockfileData}
 use Rattle.cargo_lock_encoding.specs.Means.{TextMeans}
 use Rattle.cargo_lock_c.specs.declared.refusal.Refusal.{Refusal}
 use Rattle.cargo_lock_c.specs.declared.refusal.Refusal.TheVariants.{NoLockfile, NoText, NoMemory, NoFormat, Lost, Unresolved, NoPackage, NoLine, NoNewLockfile, NoNewText, Repeated}
 use Rattle.cargo_lock_c.specs.Bills.{IsRepeatedText, IsUnresolvedBill, LacksBill, packages_in_bill}
-use Rattle.cargo_lock_c.specs.Statuses.{refusal_of_bill, status_of}
+use Rattle.cargo_lock_c.specs.Statuses.{status_of}
 use Rattle.cargo_lock_c.specs.Texts.{RefusesText}
-
--- the fault is not refused memory
-abbrev IsOther : Error → Type 0
-IsOther Memory = ⊥
-IsOther other = Unit {0}
-
--- a fault of printing a bill says why there is none
-pub lacks-bill : (packages : List PackageData) (fault : Error) → IsUnprinted packages fault
-    → LacksBill packages (refusal_of_bill fault)
-lacks-bill packages (Parse said) (inl impossible) = absurd impossible
-lacks-bill packages (Parse said) (inr (inl memory)) = absurd (subst IsOther memory tt)
-lacks-bill packages (Parse said) (inr (inr repeated)) = (repeated.0, repeated.1)
-lacks-bill packages (Resolution said) (inl lost) = (lost.0, lost.1)
-lacks-bill packages (Resolution said) (inr (inl memory)) = absurd (subst IsOther memory tt)
-lacks-bill packages (Resolution said) (inr (inr repeated)) = absurd repeated.2
-lacks-bill packages (Io kind) (inl impossible) = absurd impossible
-lacks-bill packages (Io kind) (inr (inl memory)) = absurd (subst IsOther memory tt)
-lacks-bill packages (Io kind) (inr (inr repeated)) = absurd repeated.2
-lacks-bill packages (Version fault) (inl impossible) = absurd impossible
-lacks-bill packages (Version fault) (inr (inl memory)) = absurd (subst IsOther memory tt)
-lacks-bill packages (Version fault) (inr (inr repeated)) = absurd repeated.2
-lacks-bill packages Memory _ = tt
 
 -- what a status says of a text without a bill
 pub record SaysOfBill (text : List ℕ) (status : ℕ) : Type 0 where
