@@ -17,7 +17,7 @@ use Rattle.std.proofs.lemmas.Option.{same_Some}
 use Rattle.std.proofs.lemmas.Slice.Eq.{bytes_eq-Decides}
 use Rattle.url.specs.Parts.{serialize}
 use Rattle.cargo_lock_parts.specs.Identity.{HasNameAndVersion, Identity, PackageData, identity_key, identity_of}
-use Rattle.cargo_lock_parts.specs.Rank.{are_different_texts, are_equal_texts, both_git, commit_of, has_rank_1, has_rank_2, has_rank_3, has_rank_4, is_open_git, is_same_other_kind, least_rank, rank_of, revision, same_kind, same_url_and_name}
+use Rattle.cargo_lock_parts.specs.Rank.{are_different_texts, are_equal_texts, both_git, commit_of, has_rank_1, has_rank_2, has_rank_3, has_rank_4, is_open_git, is_same_other_kind, least_rank, revision, same_kind, same_url_and_name}
 use Rattle.cargo_lock_parts.specs.Source.{Directory, Git, Kind, LocalRegistry, Path, Registry, Source, SparseRegistry, is_git}
 use Rattle.cargo_lock_parts.specs.SourceKey.{git_reference_text, key_of, kind_number, precise_if_git, text_cmp}
 use Rattle.cargo_lock_parts.proofs.RankLemmas.{rank_one_is_equal_keys}

@@ -1,4 +1,4 @@
-use Rattle.std.proofs.Common.{◌≡◌, ◌<◌, List, Some, arith, length, refl, slice_get}
+use Rattle.std.proofs.Common.{◌<◌, arith, length, refl}
 use Rattle.std.proofs.lemmas.Option.{slice_get_read}
 use Rattle.cargo_lock_check.proofs.Grouping.{added-more}
 use Rattle.cargo_lock_check.proofs.flaws.groups.add.Goals as goal

@@ -1,7 +1,6 @@
-use Rattle.std.proofs.Common.{◌⊎◌, ◌≤◌, inl, inr, ℕ, arith, nat_lt, subst}
+use Rattle.std.proofs.Common.{inl, inr, arith, nat_lt, subst}
 use Rattle.std.proofs.lemmas.Bool.{cases_Bool, ltb-true, ltb-false}
 use Rattle.cargo_lock_graph.specs.Targets.{MatchesAt}
-use Rattle.cargo_lock_check.specs.Groups.{Grouping}
 use Rattle.cargo_lock_check.proofs.Grouping.{below-or-here, rank-positive, rank-small}
 use Rattle.cargo_lock_check.proofs.flaws.groups.Groups.best.Goals as goal
 

@@ -1,8 +1,6 @@
-use Rattle.std.proofs.Common.{◌≡◌, ◌∙◌, ℕ, List, MatchOption, ap, subst, sym}
-use Rattle.std.specs.BTreeMap.{get}
+use Rattle.std.proofs.Common.{◌∙◌, ℕ, List, MatchOption, subst, sym}
 use Rattle.cargo_lock_parts.specs.Identity.{PackageData}
 use Rattle.cargo_lock_graph.specs.Targets.{MatchesAt}
-use Rattle.cargo_lock_check.specs.Group.{group_cmp}
 use Rattle.cargo_lock_check.specs.Groups.{Grouping, HasMatches}
 use Rattle.cargo_lock_check.specs.declared.flaws.groups.Numbered.{Numbered}
 use Rattle.cargo_lock_check.proofs.Grouping.{group-found, group-none}

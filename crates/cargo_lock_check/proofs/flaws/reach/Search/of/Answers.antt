@@ -1,4 +1,4 @@
-use Rattle.std.proofs.Common.{◌≡◌, ◌∙◌, ◌-◌, ℕ, List, [], ◌++◌, Some, ap, arith, length, refl, rules, slice_get, subst, sym, take, vec_len}
+use Rattle.std.proofs.Common.{◌≡◌, ◌∙◌, ◌-◌, ℕ, List, [], ◌++◌, Some, ap, arith, length, refl, rules, slice_get, subst, take, vec_len}
 use Rattle.std.proofs.lemmas.Option.{slice_get_read}
 use Rattle.cargo_lock_parts.specs.Identity.{PackageData}
 use Rattle.cargo_lock_check.specs.declared.flaws.reach.Search.{Search}

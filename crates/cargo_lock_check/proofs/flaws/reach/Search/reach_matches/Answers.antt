@@ -1,4 +1,4 @@
-use Rattle.std.proofs.Common.{◌≡◌, ◌∙◌, ◌⊎◌, ℕ, List, get_or, subst, sym}
+use Rattle.std.proofs.Common.{◌∙◌, ℕ, List, get_or, subst, sym}
 use Rattle.std.specs.List.{Contains}
 use Rattle.std.proofs.lemmas.Bool.{false≢true}
 use Rattle.cargo_lock_check.specs.Search.{AreReached}
