@@ -1,11 +1,11 @@
 -- The pairs of a difference: made by passes, as often as given, and mirrored.
-use Rattle.std.proofs.Common.{◌≡◌, true, false, List, [], ◌∷◌, ◌++◌, map, refl, ap, ◌∙◌, subst, IsPermutation, All}
+use Rattle.std.proofs.Common.{◌≡◌, true, false, List, [], ◌∷◌, ◌++◌, get_or, map, refl, ap, ◌∙◌, subst, IsPermutation, All}
 use Rattle.std.specs.Borrow.{Bor}
-use Rattle.std.specs.List.{flat_map}
+use Rattle.std.specs.List.{Contains, flat_map}
 use Rattle.std.specs.Cmp.{IsEquivalence}
 use Rattle.std.proofs.lemmas.List.{map-append}
-use Rattle.std.proofs.lemmas.List.Elements.{All-weaker}
-use Rattle.std.proofs.lemmas.List.Sorted.{All-permutation, IsPermutation-append_left, IsPermutation-append_right, IsPermutation-map, IsPermutation-trans}
+use Rattle.std.proofs.lemmas.List.Elements.{All-weaker, Contains-append_left, Contains-append_right, Contains-get_or}
+use Rattle.std.proofs.lemmas.List.Sorted.{All-permutation, Contains-permutation, IsPermutation-append_left, IsPermutation-append_right, IsPermutation-map, IsPermutation-sym, IsPermutation-trans}
 use Rattle.cargo_lock_parts.specs.Identity.{PackageData}
 use Rattle.cargo_lock_diff.specs.declared.likeness.Likeness.{Likeness}
 use Rattle.cargo_lock_diff.specs.declared.likeness.Likeness.TheVariants.{Whole}
@@ -14,6 +14,7 @@ use Rattle.cargo_lock_diff.specs.Matching.{AreMatched, PassesWithNone, is_alike_
 use Rattle.cargo_lock_diff.specs.Pairing.{ArePairedInTurn}
 use Rattle.cargo_lock_diff.specs.Difference.{IsPairing, packages_at, pairs_at, turns}
 use Rattle.cargo_lock_diff.proofs.Matched.{matched-map}
+use Rattle.cargo_lock_diff.proofs.Once.{map-there}
 use Rattle.cargo_lock_diff.proofs.InTurn.{all_pairs, in-turn-news, in-turn-olds, paired-map}
 
 -- the packages of each pair are so much alike
@@ -48,6 +49,16 @@ olds-told {olds = olds} {kept = kept} {pairs = pairs} {removed = removed} h = re
 pub news-told : {olds news : List PackageData} {kept pairs : List (PackageData × PackageData)} {removed added : List PackageData}
     → IsPairing olds news kept pairs removed added → IsPermutation news (seconds kept ++ (seconds pairs ++ added))
 news-told {news = news} {kept = kept} {pairs = pairs} {added = added} h = rest-told news (seconds kept) h.new (seconds pairs ++ added) h.wholly.news_told (left-news h)
+
+-- the old packages of pairs are old packages
+pub pairs-olds : {olds news : List PackageData} {kept pairs : List (PackageData × PackageData)} {removed added : List PackageData}
+    → IsPairing olds news kept pairs removed added → All (λ p. Contains olds p.0) pairs
+pairs-olds {olds = olds} {kept = kept} {pairs = pairs} {removed = removed} h = λ k d lt.
+    let p = get_or pairs k d in
+    let told = firsts pairs ++ removed in
+    Contains-permutation (firsts kept ++ told) olds p.0 (IsPermutation-sym olds (firsts kept ++ told) (olds-told h))
+    (Contains-append_right (firsts kept) told p.0 (Contains-append_left (firsts pairs) removed p.0
+    (map-there (λ (q : PackageData × PackageData). q.0) pairs p (Contains-get_or pairs k d lt))))
 
 -- no two packages that are told are wholly alike
 pub told-apart : {olds news : List PackageData} {kept pairs : List (PackageData × PackageData)} {removed added : List PackageData}

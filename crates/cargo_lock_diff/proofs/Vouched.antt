@@ -1,5 +1,5 @@
 -- What vouches for a package among all old packages and among those that have a checksum.
-use Rattle.std.proofs.Common.{◌≡◌, ℕ, suc, ◌+◌, ◌<◌, Bool, true, false, not, cond, List, [], ◌∷◌, ◌++◌, ◌⊎◌, inl, inr, Option, Some, None, take, length, get_or, refl, ap, sym, ◌∙◌, subst, arith, IsPermutation, IsSorted, All}
+use Rattle.std.proofs.Common.{◌≡◌, ℕ, suc, ◌+◌, ◌<◌, Bool, true, false, true≢false, not, cond, List, [], ◌∷◌, ◌++◌, ◌⊎◌, inl, inr, Option, Some, None, take, length, get_or, refl, ap, sym, ◌∙◌, subst, arith, IsPermutation, IsSorted, All}
 use Rattle.std.specs.Prelude.{◌&&◌, ◌||◌, MatchOption, is_some, option_map}
 use Rattle.std.specs.Borrow.{Bor}
 use Rattle.std.specs.Cmp.{Equal-is, eq_by_cmp_equiv}
@@ -10,9 +10,9 @@ use Rattle.std.specs.List.Sorted.{IsNonDecreasingBy, IsPartitionPoint}
 use Rattle.std.specs.Ordering.{is_eq, ordering_index, ordering_reverse}
 use Rattle.std.proofs.lemmas.Bool.{cases_order}
 use Rattle.std.proofs.lemmas.List.{append-nil, map-append}
-use Rattle.std.proofs.lemmas.List.Elements.{All-append, All-cons, All-contains, All-head, All-map, All-nil, All-push, All-tail, filter-append}
+use Rattle.std.proofs.lemmas.List.Elements.{All-append, All-cons, All-contains, All-contains_itself, All-filter, All-head, All-map, All-nil, All-push, All-tail, All-weaker, Contains-append_cases, Contains-append_left, Contains-push, filter-append, filter_passes}
 use Rattle.std.proofs.lemmas.List.Folds.{list_any_at, list_any_none}
-use Rattle.std.proofs.lemmas.List.Sorted.{All-permutation, Contains-permutation, IsPermutation-map, IsPermutation-refl, IsPermutation-sym, IsPermutation-trans, list_any-IsPermutation, searchable_from_sorted}
+use Rattle.std.proofs.lemmas.List.Sorted.{All-permutation, Contains-permutation, IsPermutation-filter_both, IsPermutation-map, IsPermutation-refl, IsPermutation-sym, IsPermutation-trans, list_any-IsPermutation, searchable_from_sorted}
 use Rattle.std.proofs.lemmas.Map.Views.{any-filter_same}
 use Rattle.cargo_lock_parts.specs.Identity.{PackageData}
 use Rattle.cargo_lock_parts.specs.IdentityOrder.{version_cmp}
@@ -47,11 +47,38 @@ pub suspect-among : (olds known : List PackageData) → IsPermutation (filter ha
 suspect-among olds known perm p =
     λ i. cond (has_checksum p) (vouched-among Version olds known p perm i && not (vouched-among Archive olds known p perm i)) (vouched-among Place olds known p perm i)
 
+-- what is kept by a filter is a member, and a member that passes is kept
+filter-from : {X : Type 0} (q : X → Bool) (xs : List X) (x : X) → Contains (filter q xs) x → Contains xs x
+filter-from {X} q xs x there = All-contains (λ (y : X). Contains xs y) (filter q xs) x (All-filter q (λ (y : X). Contains xs y) xs (All-contains_itself xs)) there
+
+filter-to : {X : Type 0} (q : X → Bool) (xs : List X) (x : X) → Contains xs x → q x ≡ true → Contains (filter q xs) x
+filter-to {X} q xs x there hit =
+    by (Contains-append_cases (filter q xs) (filter other xs) x
+    (Contains-permutation xs (filter q xs ++ filter other xs) x (IsPermutation-filter_both q other (λ y. refl) xs) there))
+  where
+    other : X → Bool
+    other y = not (q y)
+
+    by : Contains (filter q xs) x ⊎ Contains (filter other xs) x → Contains (filter q xs) x
+    by (inl h) = h
+    by (inr h) =
+        let miss : other x ≡ true = All-contains (λ (y : X). other y ≡ true) (filter other xs) x (filter_passes other xs) h in
+        absurd (true≢false (sym miss ∙ ap not hit))
+
+-- the old packages of pairs that have a checksum are among those that have one
+pub vouched-pairs : (olds known : List PackageData) → IsPermutation (filter has_checksum olds) known → (pairs : List (PackageData × PackageData))
+    → All (λ p. Contains olds p.0) pairs → All (λ p. has_checksum p.0 ≡ true → Contains known p.0) pairs
+vouched-pairs olds known perm pairs = All-weaker (λ (p : PackageData × PackageData). Contains olds p.0) (λ (p : PackageData × PackageData). has_checksum p.0 ≡ true → Contains known p.0)
+    (λ p there has. Contains-permutation (filter has_checksum olds) known p.0 perm (filter-to has_checksum olds p.0 there has)) pairs
+
 pub alarms-among : (olds known : List PackageData) → IsPermutation (filter has_checksum olds) known
     → (pairs : List (PackageData × PackageData)) (added : List PackageData) (alarms : List (PackageData × PackageData))
     → AreAlarms known pairs added alarms → AreAlarms olds pairs added alarms
 alarms-among olds known perm pairs added alarms a = record {
   founded = a.founded;
+  among = All-weaker (λ (p : PackageData × PackageData). Contains known p.0) (λ (p : PackageData × PackageData). Contains olds p.0)
+      (λ p there. filter-from has_checksum olds p.0 (Contains-permutation known (filter has_checksum olds) p.0 (IsPermutation-sym (filter has_checksum olds) known perm) there)) alarms a.among;
+  own = a.own;
   told = a.told ∙ (λ i. seconds (filter (λ p. is_altered p.0 p.1 || suspect-among olds known perm p.1 i) pairs) ++ filter (λ p. suspect-among olds known perm p i) added);
 }
 
@@ -74,11 +101,16 @@ vouched-in likeness {vs} v others perm p =
 symmetric : (likeness : Likeness) (a b : PackageData) → is_alike likeness a b ≡ true → is_alike likeness b a ≡ true
 symmetric likeness a b h = (eq_by_cmp_equiv (likeness_total likeness)).symm b a ∙ h
 
+-- what was looked up in a list in another order is there
+known-in : (vs others : List (Bor PackageData)) → IsPermutation vs others → (o : PackageData) → Contains (packages_at others) o → Contains (packages_at vs) o
+known-in vs others perm o = Contains-permutation (packages_at others) (packages_at vs) o
+    (IsPermutation-sym (packages_at vs) (packages_at others) (IsPermutation-map (λ (b : Bor PackageData). b.now) vs others perm))
+
 -- an old package that was looked up has a checksum, and the version of the package
 pub founded : {vs archs ps : List (Bor PackageData)} → AreVouchers vs archs ps → (others : List (Bor PackageData)) → IsPermutation vs others
     → (o p : PackageData) → Contains (packages_at others) o → is_alike Version p o ≡ true → IsFounded o p
 founded {vs} v others perm o p there like = (
-  checked v o (Contains-permutation (packages_at others) (packages_at vs) o (IsPermutation-sym (packages_at vs) (packages_at others) (IsPermutation-map (λ (b : Bor PackageData). b.now) vs others perm)) there),
+  checked v o (known-in vs others perm o there),
   symmetric Version p o like,
 )
 
@@ -126,7 +158,7 @@ Found likeness others p r = MatchOption r (list_any (is_alike likeness p) (packa
     (λ o. Contains (packages_at others) o.now × (is_alike likeness p o.now ≡ true))
 
 abbrev pub Against : List PackageData → PackageData → Option (Bor PackageData) → Type 0
-Against known p r = MatchOption r (is_suspect known p ≡ false) (λ o. (is_suspect known p ≡ true) × IsFounded o.now p)
+Against known p r = MatchOption r (is_suspect known p ≡ false) (λ o. (is_suspect known p ≡ true) × IsFounded o.now p × Contains known o.now)
 
 -- without a checksum
 pub against-place : {vs archs ps : List (Bor PackageData)} → AreVouchers vs archs ps → (p : PackageData) → has_checksum p ≡ false
@@ -138,6 +170,7 @@ against-place {vs} {archs} {ps} v p bare (Some o) found = (
   ap (λ b. cond b (is_vouched Version (packages_at vs) p && not (is_vouched Archive (packages_at vs) p)) (is_vouched Place (packages_at vs) p)) bare
       ∙ vouched-in Place v ps v.places p ∙ any-there (is_alike Place p) (packages_at ps) o.now found.0 found.1,
   founded v ps v.places o.now p found.0 (place-version p o.now found.1),
+  known-in vs ps v.places o.now found.0,
 )
 
 -- with a checksum that an old package has
@@ -173,6 +206,7 @@ against-version {vs} {archs} {ps} v p has none r found = by r found
     by (Some o) f = (
       known ∙ vouched-in Version v vs (IsPermutation-refl vs) p ∙ any-there (is_alike Version p) (packages_at vs) o.now f.0 f.1,
       founded v vs (IsPermutation-refl vs) o.now p f.0 f.1,
+      f.0,
     )
 
 -- an altered pair
@@ -226,15 +260,18 @@ filter-hit {X} q xs x hit = filter-append q xs (x ∷ []) ∙ ap (λ (b : Bool).
 filter-miss : {X : Type 0} (q : X → Bool) (xs : List X) (x : X) → q x ≡ false → filter q (xs ++ x ∷ []) ≡ filter q xs
 filter-miss {X} q xs x miss = filter-append q xs (x ∷ []) ∙ ap (λ (b : Bool). filter q xs ++ cond b (x ∷ []) []) miss ∙ append-nil (filter q xs)
 
-pub record AlarmsSo (told : List PackageData) (all : List (Bor PackageData × Bor PackageData)) : Type 0 where
+pub record AlarmsSo (known told : List PackageData) (all : List (Bor PackageData × Bor PackageData)) : Type 0 where
   pub founded : All (λ a. IsFounded a.0 a.1) (pairs_at all)
+  pub among : All (λ a. Contains known a.0) (pairs_at all)
   pub told_all : seconds (pairs_at all) ≡ told
 
-so-hit : (told : List PackageData) (all all' : List (Bor PackageData × Bor PackageData)) (o n : Bor PackageData)
-    → AlarmsSo told all → all' ≡ all ++ (o, n) ∷ [] → IsFounded o.now n.now → AlarmsSo (told ++ n.now ∷ []) all'
-so-hit told all all' o n so is h = rw is record {
+so-hit : (known told : List PackageData) (all all' : List (Bor PackageData × Bor PackageData)) (o n : Bor PackageData)
+    → AlarmsSo known told all → all' ≡ all ++ (o, n) ∷ [] → IsFounded o.now n.now → Contains known o.now → AlarmsSo known (told ++ n.now ∷ []) all'
+so-hit known told all all' o n so is h there = rw is record {
   founded = subst (λ zs. All (λ (a : PackageData × PackageData). IsFounded a.0 a.1) zs) (sym (map-append at all ((o, n) ∷ [])))
       (All-push (λ (a : PackageData × PackageData). IsFounded a.0 a.1) (pairs_at all) (o.now, n.now) so.founded h);
+  among = subst (λ zs. All (λ (a : PackageData × PackageData). Contains known a.0) zs) (sym (map-append at all ((o, n) ∷ [])))
+      (All-push (λ (a : PackageData × PackageData). Contains known a.0) (pairs_at all) (o.now, n.now) so.among there);
   told_all = ap (λ zs. seconds zs) (map-append at all ((o, n) ∷ [])) ∙ map-append (λ (a : PackageData × PackageData). a.1) (pairs_at all) ((o.now, n.now) ∷ [])
       ∙ ap (λ zs. zs ++ n.now ∷ []) so.told_all;
 }
@@ -243,61 +280,103 @@ so-hit told all all' o n so is h = rw is record {
     at p = (p.0.now, p.1.now)
 
 pub added-hit : (known : List PackageData) (items : List (Bor PackageData)) (i : ℕ) (x o : Bor PackageData) (all all' : List (Bor PackageData × Bor PackageData))
-    → i < length items → x ≡ get_or items i x → AlarmsSo (filter (is_suspect known) (packages_at (take i items))) all
-    → all' ≡ all ++ (o, x) ∷ [] → is_suspect known x.now ≡ true → IsFounded o.now x.now
-    → AlarmsSo (filter (is_suspect known) (packages_at (take (i + 1) items))) all'
-added-hit known items i x o all all' lt at so is hit h =
-    subst (λ zs. AlarmsSo zs all')
+    → i < length items → x ≡ get_or items i x → AlarmsSo known (filter (is_suspect known) (packages_at (take i items))) all
+    → all' ≡ all ++ (o, x) ∷ [] → is_suspect known x.now ≡ true → IsFounded o.now x.now → Contains known o.now
+    → AlarmsSo known (filter (is_suspect known) (packages_at (take (i + 1) items))) all'
+added-hit known items i x o all all' lt at so is hit h there =
+    subst (λ zs. AlarmsSo known zs all')
     (sym (ap (λ zs. filter (is_suspect known) (packages_at zs)) (one-more items i x lt at) ∙ ap (filter (is_suspect known)) (map-append (λ (b : Bor PackageData). b.now) (take i items) (x ∷ []))
     ∙ filter-hit (is_suspect known) (packages_at (take i items)) x.now hit))
-    (so-hit _ all all' o x so is h)
+    (so-hit known _ all all' o x so is h there)
 
 pub added-miss : (known : List PackageData) (items : List (Bor PackageData)) (i : ℕ) (x : Bor PackageData) (all : List (Bor PackageData × Bor PackageData))
-    → i < length items → x ≡ get_or items i x → AlarmsSo (filter (is_suspect known) (packages_at (take i items))) all
+    → i < length items → x ≡ get_or items i x → AlarmsSo known (filter (is_suspect known) (packages_at (take i items))) all
     → is_suspect known x.now ≡ false
-    → AlarmsSo (filter (is_suspect known) (packages_at (take (i + 1) items))) all
+    → AlarmsSo known (filter (is_suspect known) (packages_at (take (i + 1) items))) all
 added-miss known items i x all lt at so miss =
-    subst (λ zs. AlarmsSo zs all)
+    subst (λ zs. AlarmsSo known zs all)
     (sym (ap (λ zs. filter (is_suspect known) (packages_at zs)) (one-more items i x lt at) ∙ ap (filter (is_suspect known)) (map-append (λ (b : Bor PackageData). b.now) (take i items) (x ∷ []))
     ∙ filter-miss (is_suspect known) (packages_at (take i items)) x.now miss))
     so
 
 pub pairs-hit : (known : List PackageData) (items : List (Bor PackageData × Bor PackageData)) (i : ℕ) (x : Bor PackageData × Bor PackageData) (o : Bor PackageData)
     (all all' : List (Bor PackageData × Bor PackageData))
-    → i < length items → x ≡ get_or items i x → AlarmsSo (seconds (filter (is_alarm known) (pairs_at (take i items)))) all
-    → all' ≡ all ++ (o, x.1) ∷ [] → is_alarm known (x.0.now, x.1.now) ≡ true → IsFounded o.now x.1.now
-    → AlarmsSo (seconds (filter (is_alarm known) (pairs_at (take (i + 1) items)))) all'
-pairs-hit known items i x o all all' lt at so is hit h =
+    → i < length items → x ≡ get_or items i x → AlarmsSo known (seconds (filter (is_alarm known) (pairs_at (take i items)))) all
+    → all' ≡ all ++ (o, x.1) ∷ [] → is_alarm known (x.0.now, x.1.now) ≡ true → IsFounded o.now x.1.now → Contains known o.now
+    → AlarmsSo known (seconds (filter (is_alarm known) (pairs_at (take (i + 1) items)))) all'
+pairs-hit known items i x o all all' lt at so is hit h there =
     let p : PackageData × PackageData = (x.0.now, x.1.now) in
     let before : List (PackageData × PackageData) = pairs_at (take i items) in
-    subst (λ zs. AlarmsSo zs all')
+    subst (λ zs. AlarmsSo known zs all')
     (sym (ap (λ zs. seconds (filter (is_alarm known) (pairs_at zs))) (one-more items i x lt at)
     ∙ ap (λ zs. seconds (filter (is_alarm known) zs)) (map-append (λ (q : Bor PackageData × Bor PackageData). (q.0.now, q.1.now)) (take i items) (x ∷ []))
     ∙ ap (λ zs. seconds zs) (filter-hit (is_alarm known) before p hit) ∙ map-append (λ (q : PackageData × PackageData). q.1) (filter (is_alarm known) before) (p ∷ [])))
-    (so-hit _ all all' o x.1 so is h)
+    (so-hit known _ all all' o x.1 so is h there)
 
 pub pairs-miss : (known : List PackageData) (items : List (Bor PackageData × Bor PackageData)) (i : ℕ) (x : Bor PackageData × Bor PackageData)
     (all : List (Bor PackageData × Bor PackageData))
-    → i < length items → x ≡ get_or items i x → AlarmsSo (seconds (filter (is_alarm known) (pairs_at (take i items)))) all
+    → i < length items → x ≡ get_or items i x → AlarmsSo known (seconds (filter (is_alarm known) (pairs_at (take i items)))) all
     → is_alarm known (x.0.now, x.1.now) ≡ false
-    → AlarmsSo (seconds (filter (is_alarm known) (pairs_at (take (i + 1) items)))) all
+    → AlarmsSo known (seconds (filter (is_alarm known) (pairs_at (take (i + 1) items)))) all
 pairs-miss known items i x all lt at so miss =
     let p : PackageData × PackageData = (x.0.now, x.1.now) in
     let before : List (PackageData × PackageData) = pairs_at (take i items) in
-    subst (λ zs. AlarmsSo zs all)
+    subst (λ zs. AlarmsSo known zs all)
     (sym (ap (λ zs. seconds (filter (is_alarm known) (pairs_at zs))) (one-more items i x lt at)
     ∙ ap (λ zs. seconds (filter (is_alarm known) zs)) (map-append (λ (q : Bor PackageData × Bor PackageData). (q.0.now, q.1.now)) (take i items) (x ∷ []))
     ∙ ap (λ zs. seconds zs) (filter-miss (is_alarm known) before p miss)))
     so
 
+-- each pair that is altered is there itself
+abbrev pub AreOwn : List (PackageData × PackageData) → List (Bor PackageData × Bor PackageData) → Type 0
+AreOwn pairs all = All (λ p. is_altered p.0 p.1 ≡ true → Contains (pairs_at all) p) pairs
+
+own-more : (items : List (Bor PackageData × Bor PackageData)) (i : ℕ) (x : Bor PackageData × Bor PackageData) (all : List (Bor PackageData × Bor PackageData))
+    → i < length items → x ≡ get_or items i x → AreOwn (pairs_at (take i items)) all
+    → (is_altered x.0.now x.1.now ≡ true → Contains (pairs_at all) (x.0.now, x.1.now))
+    → AreOwn (pairs_at (take (i + 1) items)) all
+own-more items i x all lt at own here =
+    subst (λ zs. AreOwn zs all)
+    (sym (ap pairs_at (one-more items i x lt at) ∙ map-append (λ (q : Bor PackageData × Bor PackageData). (q.0.now, q.1.now)) (take i items) (x ∷ [])))
+    (All-push (λ (p : PackageData × PackageData). is_altered p.0 p.1 ≡ true → Contains (pairs_at all) p) (pairs_at (take i items)) (x.0.now, x.1.now) own here)
+
+-- an alarm whose old package is that of the pair where the pair is altered
+pub own-hit : (items : List (Bor PackageData × Bor PackageData)) (i : ℕ) (x : Bor PackageData × Bor PackageData) (o : Bor PackageData)
+    (all all' : List (Bor PackageData × Bor PackageData))
+    → i < length items → x ≡ get_or items i x → AreOwn (pairs_at (take i items)) all → all' ≡ all ++ (o, x.1) ∷ []
+    → (is_altered x.0.now x.1.now ≡ true → o.now ≡ x.0.now)
+    → AreOwn (pairs_at (take (i + 1) items)) all'
+own-hit items i x o all all' lt at own is mine =
+    let split : pairs_at all' ≡ pairs_at all ++ (o.now, x.1.now) ∷ [] = ap pairs_at is ∙ map-append (λ (q : Bor PackageData × Bor PackageData). (q.0.now, q.1.now)) all ((o, x.1) ∷ []) in
+    own-more items i x all' lt at
+    (All-weaker (λ (p : PackageData × PackageData). is_altered p.0 p.1 ≡ true → Contains (pairs_at all) p) (λ (p : PackageData × PackageData). is_altered p.0 p.1 ≡ true → Contains (pairs_at all') p)
+    (λ p there altered. subst (λ zs. Contains zs p) (sym split) (Contains-append_left (pairs_at all) ((o.now, x.1.now) ∷ []) p (there altered))) (pairs_at (take i items)) own)
+    (λ altered. subst (λ zs. Contains zs (x.0.now, x.1.now)) (sym split)
+    (subst (λ (q : PackageData). Contains (pairs_at all ++ (q, x.1.now) ∷ []) (x.0.now, x.1.now)) (sym (mine altered)) (Contains-push (pairs_at all) (x.0.now, x.1.now))))
+
+-- no alarm
+pub own-miss : (known : List PackageData) (items : List (Bor PackageData × Bor PackageData)) (i : ℕ) (x : Bor PackageData × Bor PackageData)
+    (all : List (Bor PackageData × Bor PackageData))
+    → i < length items → x ≡ get_or items i x → AreOwn (pairs_at (take i items)) all → is_alarm known (x.0.now, x.1.now) ≡ false
+    → AreOwn (pairs_at (take (i + 1) items)) all
+own-miss known items i x all lt at own miss =
+    own-more items i x all lt at own (λ altered. absurd (true≢false (sym (or-true (is_altered x.0.now x.1.now) (is_suspect known x.1.now) altered) ∙ miss)))
+  where
+    or-true : (a b : Bool) → a ≡ true → (a || b) ≡ true
+    or-true true b h = refl
+    or-true false b h = cc h
+
 -- one list behind another
 pub alarms-joined : (known : List PackageData) (pairs : List (PackageData × PackageData)) (added : List PackageData) (one other all : List (Bor PackageData × Bor PackageData))
-    → AlarmsSo (seconds (filter (is_alarm known) pairs)) one → AlarmsSo (filter (is_suspect known) added) other → all ≡ one ++ other
+    → AlarmsSo known (seconds (filter (is_alarm known) pairs)) one → AreOwn pairs one → AlarmsSo known (filter (is_suspect known) added) other → all ≡ one ++ other
     → AreAlarms known pairs added (pairs_at all)
-alarms-joined known pairs added one other all a b is =
+alarms-joined known pairs added one other all a own b is =
     let split : pairs_at all ≡ pairs_at one ++ pairs_at other = ap pairs_at is ∙ map-append (λ (q : Bor PackageData × Bor PackageData). (q.0.now, q.1.now)) one other in
     rw split record {
       founded = All-append (λ (p : PackageData × PackageData). IsFounded p.0 p.1) (pairs_at one) (pairs_at other) a.founded b.founded;
+      among = All-append (λ (p : PackageData × PackageData). Contains known p.0) (pairs_at one) (pairs_at other) a.among b.among;
+      own = All-weaker (λ (p : PackageData × PackageData). is_altered p.0 p.1 ≡ true → Contains (pairs_at one) p) (λ (p : PackageData × PackageData). is_altered p.0 p.1 ≡ true → Contains (pairs_at one ++ pairs_at other) p)
+          (λ p there altered. Contains-append_left (pairs_at one) (pairs_at other) p (there altered)) pairs own;
       told = map-append (λ (p : PackageData × PackageData). p.1) (pairs_at one) (pairs_at other) ∙ (λ i. a.told_all i ++ b.told_all i);
     }
 

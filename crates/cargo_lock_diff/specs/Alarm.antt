@@ -2,7 +2,7 @@
 -- nothing vouches for it any more.
 use Rattle.std.specs.Prelude.{◌≡◌, ◌&&◌, ◌||◌, ◌++◌, Bool, true, not, if◌then◌else◌, is_some, List}
 use Rattle.std.specs.Prelude.{All, filter}
-use Rattle.std.specs.List.{list_any}
+use Rattle.std.specs.List.{Contains, list_any}
 use Rattle.cargo_lock_parts.specs.Identity.{PackageData}
 use Rattle.cargo_lock_diff.specs.declared.likeness.Likeness.{Likeness}
 use Rattle.cargo_lock_diff.specs.declared.likeness.Likeness.TheVariants.{Version, Place, Archive}
@@ -41,9 +41,12 @@ abbrev pub IsFounded : PackageData → PackageData → Type 0
 IsFounded old new = (has_checksum old ≡ true) × (is_alike Version old new ≡ true)
 
 -- The alarms: each new package of a pair that is one and each added one that is suspect, in order,
--- with an old package of its name and version that has a checksum. Packages that are kept are none.
+-- with one of the old packages, of its name and version, that has a checksum. A pair whose packages
+-- are altered is an alarm itself. Packages that are kept are none.
 pub record AreAlarms (olds : List PackageData) (pairs : List (PackageData × PackageData))
     (added : List PackageData) (alarms : List (PackageData × PackageData)) : Type 0 where
   pub founded : All (λ a. IsFounded a.0 a.1) alarms
+  pub among : All (λ a. Contains olds a.0) alarms
+  pub own : All (λ p. is_altered p.0 p.1 ≡ true → Contains alarms p) pairs
   pub told : seconds alarms
       ≡ seconds (filter (is_alarm olds) pairs) ++ filter (is_suspect olds) added

@@ -1,16 +1,17 @@
 -- What differs between two lists of packages.
 use Rattle.std.specs.Prelude.{◌≡◌, ℕ, ◌-◌, ◌↔◌, ◌&&◌, List, [], ◌∷◌, ◌++◌, map, count_by}
-use Rattle.std.specs.Prelude.{IsPermutation}
+use Rattle.std.specs.Prelude.{IsPermutation, IsSorted}
 use Rattle.std.specs.Borrow.{Bor}
 use Rattle.std.specs.List.{flat_map}
+use Rattle.std.specs.Ordering.{on}
 use Rattle.cargo_lock_parts.specs.Identity.{Identity, PackageData}
 use Rattle.cargo_lock_diff.specs.declared.likeness.Likeness.{Likeness}
 use Rattle.cargo_lock_diff.specs.declared.likeness.Likeness.TheVariants.{Name, Origin, Version}
 use Rattle.cargo_lock_diff.specs.declared.likeness.Likeness.TheVariants.{Line, Place, Whole}
 use Rattle.cargo_lock_diff.specs.Alarm.{AreAlarms}
 use Rattle.cargo_lock_diff.specs.Keys.{whole_key}
-use Rattle.cargo_lock_diff.specs.Likeness.{is_alike}
-use Rattle.cargo_lock_diff.specs.Matching.{AreMatched, firsts, seconds}
+use Rattle.cargo_lock_diff.specs.Likeness.{is_alike, likeness_cmp}
+use Rattle.cargo_lock_diff.specs.Matching.{AreInOrder, AreMatched, firsts, seconds}
 use Rattle.cargo_lock_diff.specs.Pairing.{ArePairedInTurn, NoneOnBothSides, exchanged}
 
 -- the packages that references lead to
@@ -50,9 +51,13 @@ pub record IsPairing (olds news : List PackageData) (kept pairs : List (PackageD
   pub in_turn : ArePairedInTurn (map is_alike turns) old new passes removed added
   pub in_all : IsPermutation (flat_map (λ pass. pass) passes) pairs
 
--- the packages are paired so, and the alarms are those of the old packages
+-- The packages are paired so. What is kept and what is left come in the order of the lists, and the
+-- other pairs are sorted by what `Whole` looks at in their old packages. The alarms are those of
+-- the old packages.
 pub record IsDifference (olds news : List PackageData) (d : DifferenceData) : Type 0 where
   pub paired : IsPairing olds news d.kept d.pairs d.removed d.added
+  pub in_order : AreInOrder olds news d.kept d.removed d.added
+  pub sorted : IsSorted (on (λ p. p.0) (likeness_cmp Whole)) d.pairs
   pub alarmed : AreAlarms olds d.pairs d.added d.alarms
 
 -- nothing is reported

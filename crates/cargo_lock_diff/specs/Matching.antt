@@ -1,5 +1,5 @@
 -- Two lists whose members are paired off by a test.
-use Rattle.std.specs.Prelude.{◌≡◌, Bool, true, false, List, ◌++◌, map, IsPermutation, All}
+use Rattle.std.specs.Prelude.{◌≡◌, ◌⊎◌, Bool, true, false, List, [], ◌∷◌, ◌++◌, map, IsPermutation, All}
 use Rattle.std.specs.Borrow.{Bor}
 use Rattle.cargo_lock_parts.specs.Identity.{PackageData}
 use Rattle.cargo_lock_diff.specs.declared.likeness.Likeness.{Likeness}
@@ -12,6 +12,20 @@ firsts = map (λ p. p.0)
 -- the second members of pairs
 abbrev pub seconds : {X : Type 0} → List (X × X) → List X
 seconds = map (λ p. p.1)
+
+-- the first list is the second one with some of its members left out
+abbrev pub IsSublist : {X : Type 0} → List X → List X → Type 0
+IsSublist [] ys = Unit {0}
+IsSublist (x ∷ xs) [] = ⊥
+IsSublist (x ∷ xs) (y ∷ ys) = ((x ≡ y) × IsSublist xs ys) ⊎ IsSublist (x ∷ xs) ys
+
+-- pairs in the order of their old ones, and the old and the new ones that are left in the order of
+-- their lists
+pub record AreInOrder {X : Type 0} (olds news : List X) (pairs : List (X × X)) (old new : List X)
+    : Type 0 where
+  pub of_pairs : IsSublist (firsts pairs) olds
+  pub of_old : IsSublist old olds
+  pub of_new : IsSublist new news
 
 -- x passes the test with none of the list
 abbrev pub PassesWithNone : {X : Type 0} → (X → X → Bool) → X → List X → Type 0

@@ -1,6 +1,7 @@
 -- Packages with their places in a list. No public contract cites these.
-use Rattle.std.specs.Prelude.{Bool}
+use Rattle.std.specs.Prelude.{◌≡◌, ◌<◌, ◌==◌, Bool, List, All, length, map, slice_index_or}
 use Rattle.std.specs.Borrow.{Bor}
+use Rattle.std.specs.List.{IsDistinct}
 use Rattle.std.specs.declared.cmp.Ordering.{Ordering}
 use Rattle.std.specs.Ordering.{on, eq_by_cmp}
 use Rattle.cargo_lock_parts.specs.Identity.{PackageData}
@@ -15,6 +16,12 @@ placed_cmp likeness = on (λ p. p.item.now) (likeness_cmp likeness)
 -- the packages are alike
 abbrev pub are_alike : Likeness → Placed → Placed → Bool
 are_alike likeness = eq_by_cmp (placed_cmp likeness)
+
+-- each package is in the list at its place, and no two have one place
+pub record AreAt (list : List (Bor PackageData)) (placed : List Placed) : Type 0 where
+  pub there : All (λ p. (p.place < length list) × (slice_index_or list p.place p.item ≡ p.item))
+      placed
+  pub apart : IsDistinct (λ a b. a == b) (map (λ p. p.place) placed)
 
 -- the packages of a pair
 abbrev pub pair_of : Placed × Placed → Bor PackageData × Bor PackageData

@@ -4,7 +4,7 @@ ghost use Rattle.std.specs.Prelude.{◌≡◌, All, IfOk, IsPermutation, IsSorte
 ghost use Rattle.std.specs.Prelude.{false, filter, true};
 ghost use Rattle.std.specs.List.{Contains, list_any};
 ghost use Rattle.cargo_lock_diff.specs.Alarm.{AreAlarms, IsFounded, has_checksum, is_alarm};
-ghost use Rattle.cargo_lock_diff.specs.Alarm.{is_suspect};
+ghost use Rattle.cargo_lock_diff.specs.Alarm.{is_altered, is_suspect};
 ghost use Rattle.cargo_lock_diff.specs.Alarm as spec;
 ghost use Rattle.cargo_lock_diff.specs.Difference.{packages_at, pairs_at};
 ghost use Rattle.cargo_lock_diff.specs.Likeness.{is_alike, likeness_cmp};
@@ -56,10 +56,11 @@ impl<'a> Vouchers<'a> {
         })
     }
 
-    // Where a package is suspect, an old one of its name and version that has a checksum.
+    // Where a package is suspect, one of these of its name and version.
     fn against(&self, new: &Package) -> Option<&'a Package>
         ensures { MatchOption result (is_suspect self.now new.now ≡ false)
-            (λ old. (is_suspect self.now new.now ≡ true) × IsFounded old.now new.now) }
+            (λ old. (is_suspect self.now new.now ≡ true) × IsFounded old.now new.now
+            × Contains self.now old.now) }
     {
         if new.checksum.is_none() {
             return find(Likeness::Place, &self.by_place, new);
@@ -70,12 +71,15 @@ impl<'a> Vouchers<'a> {
         }
     }
 
-    // Where a pair is an alarm, its old package or another one of its name and version that has a
-    // checksum.
+    // Where a pair is an alarm, its old package if the pair is altered, and else one of these of its
+    // name and version.
     fn against_pair(&self, old: &'a Package, new: &Package) -> Option<&'a Package>
         ensures { MatchOption result (is_alarm self.now (old.now, new.now) ≡ false)
             (λ o. (is_alarm self.now (old.now, new.now) ≡ true)
-            × (is_alike Likeness.Name old.now new.now ≡ true → IsFounded o.now new.now)) }
+            × (is_alike Likeness.Name old.now new.now ≡ true → IsFounded o.now new.now)
+            × (is_altered old.now new.now ≡ true → o.now ≡ old.now)
+            × ((has_checksum old.now ≡ true → Contains self.now old.now)
+            → Contains self.now o.now)) }
     {
         if is_altered(old, new) {
             Some(old)
@@ -153,7 +157,9 @@ pub(crate) fn alarms<'a>(
     pairs: &Vec<(&'a Package, &'a Package)>,
     added: &Vec<&'a Package>,
 ) -> Result<Vec<(&'a Package, &'a Package)>, AllocError>
-    requires { All (λ p. is_alike Likeness.Name p.0 p.1 ≡ true) (pairs_at pairs.now.items) }
+    requires named { All (λ p. is_alike Likeness.Name p.0 p.1 ≡ true) (pairs_at pairs.now.items) }
+    requires vouched { All (λ p. has_checksum p.0 ≡ true → Contains vouchers.now p.0)
+        (pairs_at pairs.now.items) }
     ensures { IfOk result (λ all. AreAlarms vouchers.now
         (pairs_at pairs.now.items) (packages_at added.now.items) (pairs_at all.items)) }
 {
@@ -169,8 +175,15 @@ fn alarms_of_pairs<'a>(
     vouchers: &Vouchers<'a>,
     pairs: &Vec<(&'a Package, &'a Package)>,
 ) -> Result<Vec<(&'a Package, &'a Package)>, AllocError>
-    requires { All (λ p. is_alike Likeness.Name p.0 p.1 ≡ true) (pairs_at pairs.now.items) }
+    requires named { All (λ p. is_alike Likeness.Name p.0 p.1 ≡ true) (pairs_at pairs.now.items) }
+    requires vouched { All (λ p. has_checksum p.0 ≡ true → Contains vouchers.now p.0)
+        (pairs_at pairs.now.items) }
     ensures founded { IfOk result (λ all. All (λ a. IsFounded a.0 a.1) (pairs_at all.items)) }
+    ensures among { IfOk result
+        (λ all. All (λ a. Contains vouchers.now a.0) (pairs_at all.items)) }
+    ensures own { IfOk result (λ all. All
+        (λ p. is_altered p.0 p.1 ≡ true → Contains (pairs_at all.items) p)
+        (pairs_at pairs.now.items)) }
     ensures told { IfOk result (λ all. seconds (pairs_at all.items)
         ≡ seconds (filter (is_alarm vouchers.now) (pairs_at pairs.now.items))) }
 {
@@ -190,6 +203,8 @@ fn alarms_of_added<'a>(
     added: &Vec<&'a Package>,
 ) -> Result<Vec<(&'a Package, &'a Package)>, AllocError>
     ensures founded { IfOk result (λ all. All (λ a. IsFounded a.0 a.1) (pairs_at all.items)) }
+    ensures among { IfOk result
+        (λ all. All (λ a. Contains vouchers.now a.0) (pairs_at all.items)) }
     ensures told { IfOk result (λ all. seconds (pairs_at all.items)
         ≡ filter (is_suspect vouchers.now) (packages_at added.now.items)) }
 {

@@ -27,16 +27,18 @@ use std::marker::Model;
 /// ```
 #[derive(Drop)]
 pub struct Difference<'a> {
-    /// An old and a new package that have all in common. These are not reported.
+    /// An old and a new package that have all in common, in the order of the old ones. These are
+    /// not reported.
     pub kept: Vec<(&'a Package, &'a Package)>,
 
-    /// An old and a new package of one name that differ, sorted by the old one.
+    /// An old and a new package of one name that differ, sorted by the old one as
+    /// `Likeness::Whole` compares.
     pub pairs: Vec<(&'a Package, &'a Package)>,
 
-    /// The old packages that are in no pair.
+    /// The old packages that are in no pair, in their order.
     pub removed: Vec<&'a Package>,
 
-    /// The new packages that are in no pair.
+    /// The new packages that are in no pair, in their order.
     pub added: Vec<&'a Package>,
 
     /// The new packages that are alarms, each with an old one of its name and version that has a

@@ -4,10 +4,13 @@
 //! the order of the lists. So n packages take about n log n comparisons.
 
 ghost use Rattle.std.specs.Prelude.{◌≡◌, ◌↔◌, ◌<◌, ◌++◌, IfOk, IsTrue, IsPermutation, IsSorted};
-ghost use Rattle.std.specs.Prelude.{length, map, slice_index_or};
-ghost use Rattle.cargo_lock_diff.specs.Matching.{AreMatched, is_alike_at};
+ghost use Rattle.std.specs.Prelude.{List, length, map, slice_index_or};
+ghost use Rattle.std.specs.Borrow.{Bor};
+ghost use Rattle.cargo_lock_parts.specs.Identity.{PackageData};
+ghost use Rattle.cargo_lock_diff.specs.Matching.{AreInOrder, AreMatched, IsSublist, firsts};
+ghost use Rattle.cargo_lock_diff.specs.Matching.{is_alike_at};
 ghost use Rattle.cargo_lock_diff.specs.Pairing.{ArePaired, ArePairedInTurn, AreSplit, StandsOnce};
-ghost use Rattle.cargo_lock_diff.specs.Placing.{are_alike, pair_of, placed_cmp};
+ghost use Rattle.cargo_lock_diff.specs.Placing.{AreAt, are_alike, pair_of, placed_cmp};
 
 use crate::likeness::Likeness;
 use cargo_lock_parts::package::Package;
@@ -64,7 +67,9 @@ pub fn pair_off<'a>(
     olds: &Vec<&'a Package>,
     news: &Vec<&'a Package>,
 ) -> Result<Matching<'a>, AllocError>
-    ensures { IfOk result (λ m. AreMatched (is_alike_at likeness) olds.now.items news.now.items
+    ensures matched { IfOk result (λ m. AreMatched (is_alike_at likeness)
+        olds.now.items news.now.items m.pairs.items m.old.items m.new.items) }
+    ensures in_order { IfOk result (λ m. AreInOrder olds.now.items news.now.items
         m.pairs.items m.old.items m.new.items) }
 {
     let olds = sort(alloc, likeness, olds)?;
@@ -92,7 +97,9 @@ pub fn pair_unique<'a>(
     olds: &Vec<&'a Package>,
     news: &Vec<&'a Package>,
 ) -> Result<Matching<'a>, AllocError>
-    ensures { IfOk result (λ m. ArePaired (is_alike_at likeness) olds.now.items news.now.items
+    ensures paired { IfOk result (λ m. ArePaired (is_alike_at likeness)
+        olds.now.items news.now.items m.pairs.items m.old.items m.new.items) }
+    ensures in_order { IfOk result (λ m. AreInOrder olds.now.items news.now.items
         m.pairs.items m.old.items m.new.items) }
 {
     let olds = sort(alloc, likeness, olds)?;
@@ -118,9 +125,11 @@ pub fn pair_in_turn<'a>(
     olds: Vec<&'a Package>,
     news: Vec<&'a Package>,
 ) -> Result<Pairings<'a>, AllocError>
-    ensures { IfOk result (λ p. ArePairedInTurn (map is_alike_at likenesses.now)
+    ensures paired { IfOk result (λ p. ArePairedInTurn (map is_alike_at likenesses.now)
         olds.entry.items news.entry.items
         (map (λ pairs. pairs.items) p.passes.items) p.old.items p.new.items) }
+    ensures old_in_order { IfOk result (λ p. IsSublist p.old.items olds.entry.items) }
+    ensures new_in_order { IfOk result (λ p. IsSublist p.new.items news.entry.items) }
 {
     let mut passes = Vec::new(alloc);
     let mut old = olds;
@@ -198,6 +207,7 @@ fn sort<'a>(
     ensures items { IfOk result
         (λ all. IsPermutation packages.now.items (map (λ p. p.item) all.items)) }
     ensures sorted { IfOk result (λ all. IsSorted (placed_cmp likeness) all.items) }
+    ensures placed { IfOk result (λ all. AreAt packages.now.items all.items) }
 {
     let mut all = with_places(alloc, packages)?;
     all.sort_by(|one, other| likeness.compare(one.item, other.item))?;
@@ -209,7 +219,8 @@ fn with_places<'a>(
     alloc: Global,
     packages: &Vec<&'a Package>,
 ) -> Result<Vec<Placed<'a>>, AllocError>
-    ensures { IfOk result (λ all. map (λ p. p.item) all.items ≡ packages.now.items) }
+    ensures items { IfOk result (λ all. map (λ p. p.item) all.items ≡ packages.now.items) }
+    ensures placed { IfOk result (λ all. AreAt packages.now.items all.items) }
 {
     let mut all = Vec::with_capacity(alloc, packages.len())?;
     for (place, item) in packages.iter().enumerate() {
@@ -264,7 +275,10 @@ fn pairs_by_place<'a>(
     alloc: Global,
     mut pairs: Vec<(Placed<'a>, Placed<'a>)>,
 ) -> Result<Vec<(&'a Package, &'a Package)>, AllocError>
-    ensures { IfOk result (λ all. IsPermutation (map pair_of pairs.entry.items) all.items) }
+    ensures items { IfOk result
+        (λ all. IsPermutation (map pair_of pairs.entry.items) all.items) }
+    ensures in_order { IfOk result (λ all. (packages : List (Bor PackageData))
+        → AreAt packages (firsts pairs.entry.items) → IsSublist (firsts all.items) packages) }
 {
     pairs.sort_by_key(|pair| pair.0.place)?;
     let mut all = Vec::with_capacity(alloc, pairs.len())?;
@@ -279,7 +293,10 @@ fn items_by_place<'a>(
     alloc: Global,
     mut list: Vec<Placed<'a>>,
 ) -> Result<Vec<&'a Package>, AllocError>
-    ensures { IfOk result (λ all. IsPermutation (map (λ p. p.item) list.entry.items) all.items) }
+    ensures items { IfOk result
+        (λ all. IsPermutation (map (λ p. p.item) list.entry.items) all.items) }
+    ensures in_order { IfOk result (λ all. (packages : List (Bor PackageData))
+        → AreAt packages list.entry.items → IsSublist all.items packages) }
 {
     list.sort_by_key(|one| one.place)?;
     let mut all = Vec::with_capacity(alloc, list.len())?;

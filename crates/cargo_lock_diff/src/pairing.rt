@@ -1,8 +1,11 @@
 //! The pairs of a difference.
 
-ghost use Rattle.std.specs.Prelude.{◌≡◌, IfOk, IsPermutation};
+ghost use Rattle.std.specs.Prelude.{◌≡◌, IfOk, IsPermutation, IsSorted};
 ghost use Rattle.std.specs.List.{flat_map};
+ghost use Rattle.std.specs.Ordering.{on};
 ghost use Rattle.cargo_lock_diff.specs.Difference.{IsPairing, packages_at, pairs_at, turns};
+ghost use Rattle.cargo_lock_diff.specs.Likeness.{likeness_cmp};
+ghost use Rattle.cargo_lock_diff.specs.Matching.{AreInOrder};
 
 use crate::likeness::Likeness;
 use crate::matching::{pair_in_turn, pair_off};
@@ -25,9 +28,15 @@ pub(crate) fn pair<'a>(
     old: &Vec<&'a Package>,
     new: &Vec<&'a Package>,
 ) -> Result<Pairing<'a>, AllocError>
-    ensures { IfOk result (λ p. IsPairing (packages_at old.now.items) (packages_at new.now.items)
+    ensures paired { IfOk result (λ p. IsPairing
+        (packages_at old.now.items) (packages_at new.now.items)
         (pairs_at p.kept.items) (pairs_at p.pairs.items)
         (packages_at p.removed.items) (packages_at p.added.items)) }
+    ensures in_order { IfOk result (λ p. AreInOrder
+        (packages_at old.now.items) (packages_at new.now.items)
+        (pairs_at p.kept.items) (packages_at p.removed.items) (packages_at p.added.items)) }
+    ensures sorted { IfOk result (λ p. IsSorted (on (λ p. p.0) (likeness_cmp Likeness.Whole))
+        (pairs_at p.pairs.items)) }
 {
     let wholly = pair_off(alloc, Likeness::Whole, old, new)?;
     let turns = turns();
@@ -59,8 +68,10 @@ fn in_order<'a>(
     alloc: Global,
     passes: &Vec<Vec<(&'a Package, &'a Package)>>,
 ) -> Result<Vec<(&'a Package, &'a Package)>, AllocError>
-    ensures { IfOk result (λ all. IsPermutation
+    ensures items { IfOk result (λ all. IsPermutation
         (flat_map (λ pairs. pairs.items) passes.now.items) all.items) }
+    ensures sorted { IfOk result
+        (λ all. IsSorted (on (λ p. p.0.now) (likeness_cmp Likeness.Whole)) all.items) }
 {
     let mut all = in_all(alloc, passes)?;
     all.sort_by(|one, other| Likeness::Whole.compare(one.0, other.0))?;

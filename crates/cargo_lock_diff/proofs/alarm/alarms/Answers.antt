@@ -10,6 +10,6 @@ returns c =
     let one = c.in_ok-all.all.items in
     let other = c.in_ok-others.others.items in
     alarms-joined c.args.vouchers.now (pairs_at c.args.pairs.now.items) (packages_at c.args.added.now.items) one other c.extend_from_slice.new.self.items
-    record { founded = c.in_ok-all.ensures.founded; told_all = c.in_ok-all.ensures.told }
-    record { founded = c.in_ok-others.ensures.founded; told_all = c.in_ok-others.ensures.told }
+    record { founded = c.in_ok-all.ensures.founded; among = c.in_ok-all.ensures.among; told_all = c.in_ok-all.ensures.told } c.in_ok-all.ensures.own
+    record { founded = c.in_ok-others.ensures.founded; among = c.in_ok-others.ensures.among; told_all = c.in_ok-others.ensures.told }
     (c.in_ok-extend_from_slice.ensures.items ∙ ap (λ (zs : List (Bor PackageData × Bor PackageData)). one ++ zs) c.as_slice.ensures.value)
