@@ -45,7 +45,7 @@ sub-map f (x ∷ xs) [] h = absurd h
 sub-map f (x ∷ xs) (y ∷ ys) (inl h) = inl (ap f h.0, sub-map f xs ys h.1)
 sub-map f (x ∷ xs) (y ∷ ys) (inr h) = inr (sub-map f (x ∷ xs) ys h)
 
--- what holds of images of lists holds through the function
+-- lists that a function is applied to keep the order
 pub order-map : {X Y : Type 0} (f : X → Y) (olds news : List X) (pairs : List (X × X))
     (old new : List X) → AreInOrder olds news pairs old new
     → AreInOrder (map f olds) (map f news) (map (both f) pairs) (map f old) (map f new)
@@ -56,7 +56,7 @@ order-map {X} {Y} f olds news pairs old new h = record {
   of_new = sub-map f new news h.of_new;
 }
 
--- what is left of what is left
+-- what a later pairing leaves of what is left
 pub order-later : {X : Type 0} (olds news : List X) (pairs : List (X × X)) (old new o n : List X)
     → AreInOrder olds news pairs old new → IsSublist o old → IsSublist n new
     → AreInOrder olds news pairs o n
@@ -71,7 +71,7 @@ order-later olds news pairs old new o n h a b = record {
 abbrev pub item : Placed → Bor PackageData
 item p = p.item
 
--- the package is in the list, whose first place has this number
+-- the package is at its place in the list, whose first place has this number
 abbrev AtFrom : ℕ → List (Bor PackageData) → Placed → Type 0
 AtFrom start xs p = (start ≤ p.place) × (p.place < start + length xs)
     × (get_or xs (p.place - start) p.item ≡ p.item)
@@ -106,7 +106,8 @@ behind p ps up apart k d lt =
     (IsDistinct-head eqb p.place places apart) k 0
     (omega (arith, lt, length-map ps (λ (r : Placed). r.place))) in
     let at : get_or places k 0 ≡ q.place = get_or-map (λ (r : Placed). r.place) ps k d 0 lt in
-    let ne : p.place ≡ q.place → ⊥ = λ e. eqb-false p.place (get_or places k 0) other (e ∙ sym at) in
+    let ne : p.place ≡ q.place → ⊥
+    = λ e. eqb-false p.place (get_or places k 0) other (e ∙ sym at) in
     by (cases_order p.place q.place) le ne
   where
     by : {a b : ℕ} → (a ≡ b) ⊎ ((a < b) ⊎ (b < a)) → a ≤ b → (a ≡ b → ⊥) → a < b
@@ -136,7 +137,8 @@ from-places start (x ∷ xs) (p ∷ ps) all up apart =
           taken
               (λ k d lt. one-on start x xs (get_or ps k d) (all (suc k) d (omega (arith, lt)))
               (omega (arith, e, behind p ps up apart k d lt)))
-              (rises-tail p ps up) (IsDistinct-tail eqb p.place (map (λ (r : Placed). r.place) ps) apart),
+              (rises-tail p ps up)
+              (IsDistinct-tail eqb p.place (map (λ (r : Placed). r.place) ps) apart),
         )
     by (inr (inl lt)) h taken left = inr (left
         (λ k d within. one-on start x xs (get_or (p ∷ ps) k d) (all k d within)
@@ -227,14 +229,14 @@ pub put-in-order : (olds news : List (Bor PackageData)) (os ns : List Placed)
     → ((xs : List (Bor PackageData)) → AreAt xs o → IsSublist old xs)
     → ((xs : List (Bor PackageData)) → AreAt xs n → IsSublist new xs)
     → AreInOrder olds news pairs old new
-put-in-order olds news os ns merged o n pairs old new at_o at_n told_o told_n by_pairs by_old by_new =
+put-in-order olds news os ns merged o n pairs old new at_o at_n told_o told_n by_pairs by_o by_n =
     let seconds : List Placed = map (λ (p : Placed × Placed). p.1) merged in
     let in_o = at-permuted olds os (firsts merged ++ o) told_o at_o in
     let in_n = at-permuted news ns (seconds ++ n) told_n at_n in
     record {
       of_pairs = by_pairs olds (at-front olds (firsts merged) o in_o);
-      of_old = by_old olds (at-back olds (firsts merged) o in_o);
-      of_new = by_new news (at-back news seconds n in_n);
+      of_old = by_o olds (at-back olds (firsts merged) o in_o);
+      of_new = by_n news (at-back news seconds n in_n);
     }
 
 -- ---- numbered
@@ -262,7 +264,8 @@ numbered-push ps all p numbered place is = subst AreNumbered (sym is) pushed
         by (inr (inr above)) = absurd (omega (arith, above, lt, length_push ps p))
 
 numbered-apart : (ps : List Placed) → AreNumbered ps → AreApart ps
-numbered-apart [] numbered = IsDistinct-from_apart eqb [] (λ i j d below lt. absurd (omega (arith, lt)))
+numbered-apart [] numbered =
+    IsDistinct-from_apart eqb [] (λ i j d below lt. absurd (omega (arith, lt)))
 numbered-apart (p ∷ ps) numbered =
     IsDistinct-from_apart eqb (map place (p ∷ ps))
     (λ i j d below lt.
@@ -283,7 +286,8 @@ numbered-at xs ps is numbered = subst (λ (zs : List (Bor PackageData)). AreAt z
       let items : List (Bor PackageData) = map item ps in
       let at : p.place ≡ k = numbered k d lt in (
         omega (arith, at, lt, length-map ps item),
-        subst (λ (n : ℕ). get_or items n p.item ≡ p.item) (sym at) (get_or-map item ps k d p.item lt),
+        subst (λ (n : ℕ). get_or items n p.item ≡ p.item) (sym at)
+            (get_or-map item ps k d p.item lt),
       );
   apart = numbered-apart ps numbered;
 }

@@ -56,7 +56,7 @@ impl<'a> Vouchers<'a> {
         })
     }
 
-    // Where a package is suspect, one of these of its name and version.
+    // Where a package is suspect, one of these that has its name and version.
     fn against(&self, new: &Package) -> Option<&'a Package>
         ensures { MatchOption result (is_suspect self.now new.now ≡ false)
             (λ old. (is_suspect self.now new.now ≡ true) × IsFounded old.now new.now
@@ -71,8 +71,8 @@ impl<'a> Vouchers<'a> {
         }
     }
 
-    // Where a pair is an alarm, its old package if the pair is altered, and else one of these of its
-    // name and version.
+    // Where a pair is an alarm, its old package if the pair is altered, and else one of these that
+    // has the name and the version of the new one.
     fn against_pair(&self, old: &'a Package, new: &Package) -> Option<&'a Package>
         ensures { MatchOption result (is_alarm self.now (old.now, new.now) ≡ false)
             (λ o. (is_alarm self.now (old.now, new.now) ≡ true)

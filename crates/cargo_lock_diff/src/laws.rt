@@ -1,5 +1,7 @@
-//! Laws of differences, each the contract of a function without a body.
+//! Laws of differences, each the contract of a function. The body of a law of equality is `==`, and
+//! the others have none.
 
+ghost use Rattle.std.specs.Prelude.{◌≡◌, ◌↔◌, IsTrue};
 ghost use Rattle.cargo_lock_diff.specs.Change.{EachIsOneLine, NoneIfPermuted};
 ghost use Rattle.cargo_lock_diff.specs.Dependencies.{EqualIfCarried};
 ghost use Rattle.cargo_lock_diff.specs.Difference.{EmptyIfPermuted, NoneIsLeftAlone};
@@ -8,6 +10,9 @@ ghost use Rattle.cargo_lock_diff.specs.Difference.{PairingMirrored, ToldByCount,
 ghost use Rattle.cargo_lock_diff.specs.PairingLaws.{MirroredInTurn, NoneIsLeftInTurn};
 ghost use Rattle.cargo_lock_diff.specs.PairingLaws.{PairedExactly, ToldInTurn};
 ghost use Rattle.cargo_lock_diff.specs.Summary.{SummaryIsOneLine};
+
+use crate::likeness::Likeness;
+use crate::summary::{Kind, Summary};
 
 /// Each package is kept, in a pair or left, as often as it was given.
 pub fn packages_are_told_once()
@@ -85,3 +90,24 @@ pub fn exchanged_lists_have_exchanged_pairs()
 pub fn nothing_is_left_once_on_both_sides()
     ensures { NoneIsLeftInTurn }
 {}
+
+/// Two likenesses are equal exactly where they are one.
+pub fn likenesses_are_equal_by_value(likeness: Likeness, other: Likeness) -> bool
+    ensures { IsTrue result ↔ (likeness ≡ other) }
+{
+    likeness == other
+}
+
+/// Two kinds of changes are equal exactly where they are one.
+pub fn kinds_are_equal_by_value(kind: Kind, other: Kind) -> bool
+    ensures { IsTrue result ↔ (kind ≡ other) }
+{
+    kind == other
+}
+
+/// Two summaries are equal exactly where each of their counts is.
+pub fn summaries_are_equal_by_counts(summary: &Summary, other: &Summary) -> bool
+    ensures { IsTrue result ↔ (summary.now ≡ other.now) }
+{
+    *summary == *other
+}
