@@ -4,4 +4,3 @@ pub mod Check
 pub mod Translate
 pub mod Diff
 pub mod Load
-pub mod List

@@ -1,14 +1,4 @@
 //! The command `list`: the packages of a lockfile, one line each.
-ghost use Rattle.std.specs.Prelude.{◌≡◌, OnOk, codes, option_copied};
-ghost use Rattle.std.specs.Io.KnownBytes.{Appends};
-ghost use Rattle.std.specs.List.{flat_map};
-ghost use Rattle.semver.specs.Identifiers.{parts_of};
-ghost use Rattle.clap.specs.Matches.{found_of};
-ghost use Rattle.cli.specs.Json.{IsFlag};
-ghost use Rattle.cli.specs.List.{PrintsList, dependency_line, identity_line, list_text};
-ghost use Rattle.cli.specs.List.{package_lines};
-ghost use Rattle.cli.specs.List as spec;
-
 use crate::load::lockfile;
 use cargo_lock::{Dependency, Name, Package, SourceId, Version};
 use clap::{ArgMatches, Command};
@@ -43,25 +33,14 @@ pub(crate) fn run<R: Files + AllocGlobal, W: Write>(
     rt: &R,
     options: &ArgMatches<'_>,
     out: &mut W,
-) -> Result<(), Fault>
-    ensures { OnOk result
-        (PrintsList (found_of options.now) (W.contents out.old) (W.contents out.new)) }
-{
-    let detail = detail_of(options);
+) -> Result<(), Fault> {
+    let detail = Detail {
+        dependencies: options.get_flag("dependencies"),
+        sources: options.get_flag("sources"),
+    };
     let wanted = options.get_str("package");
     let lockfile = lockfile(rt, options, "file")?;
     print_packages(out, lockfile.packages.as_slice(), wanted, detail)
-}
-
-/// What the words ask for beside names and versions.
-fn detail_of(options: &ArgMatches<'_>) -> Detail
-    ensures dependencies { IsFlag (found_of options.now) (codes "dependencies") result.dependencies }
-    ensures sources { IsFlag (found_of options.now) (codes "sources") result.sources }
-{
-    Detail {
-        dependencies: options.get_flag("dependencies"),
-        sources: options.get_flag("sources"),
-    }
 }
 
 /// Prints each of the packages, or each that has the name that is asked for.
@@ -70,10 +49,7 @@ fn print_packages<W: Write>(
     packages: &[Package],
     wanted: Option<&str>,
     detail: Detail,
-) -> Result<(), Fault>
-    ensures { OnOk result (Appends (W.contents out.old) (W.contents out.new)
-        (list_text detail.dependencies detail.sources (option_copied wanted) packages.now)) }
-{
+) -> Result<(), Fault> {
     for package in packages {
         if is_wanted(package, wanted) {
             print_package(out, package, detail)?;
@@ -83,9 +59,7 @@ fn print_packages<W: Write>(
 }
 
 /// Whether the package has the name that is asked for. Without one each package is wanted.
-fn is_wanted(package: &Package, wanted: Option<&str>) -> bool
-    ensures { result ≡ spec.is_wanted (option_copied wanted) «package».now }
-{
+fn is_wanted(package: &Package, wanted: Option<&str>) -> bool {
     match wanted {
         Some(name) => package.name.as_str() == name,
         None => true,
@@ -93,17 +67,10 @@ fn is_wanted(package: &Package, wanted: Option<&str>) -> bool
 }
 
 /// Prints a package, and its dependencies where they are asked for.
-fn print_package<W: Write>(out: &mut W, package: &Package, detail: Detail) -> Result<(), Fault>
-    ensures { OnOk result (Appends (W.contents out.old) (W.contents out.new)
-        (package_lines detail.dependencies detail.sources «package».now)) }
-{
-    let Package {
-        name,
-        version,
-        source,
-        ..
-    } = package;
-    print_identity(out, "- ", name, version, source, detail.sources)?;
+fn print_package<W: Write>(out: &mut W, package: &Package, detail: Detail) -> Result<(), Fault> {
+    put(out, "- ")?;
+    let source = package.source.as_ref().filter(|_| detail.sources);
+    print_identity(out, &package.name, &package.version, source)?;
     if detail.dependencies {
         print_dependencies(out, package.dependencies.as_slice(), detail.sources)?;
     }
@@ -115,38 +82,26 @@ fn print_dependencies<W: Write>(
     out: &mut W,
     dependencies: &[Dependency],
     sources: bool,
-) -> Result<(), Fault>
-    ensures { OnOk result (Appends (W.contents out.old) (W.contents out.new)
-        (flat_map (dependency_line sources) dependencies.now)) }
-{
+) -> Result<(), Fault> {
     for dependency in dependencies {
-        let Dependency {
-            name,
-            version,
-            source,
-        } = dependency;
-        print_identity(out, "  - ", name, version, source, sources)?;
+        put(out, "  - ")?;
+        let source = dependency.source.as_ref().filter(|_| sources);
+        print_identity(out, &dependency.name, &dependency.version, source)?;
     }
     Ok(())
 }
 
-/// Prints a line: what begins it, a name, a version and, where it is asked for and there is one, a
-/// source in parentheses.
+/// Prints a name, a version and, where there is one, a source in parentheses, and ends the line.
 fn print_identity<W: Write>(
     out: &mut W,
-    mark: &str,
     name: &Name,
     version: &Version,
-    source: &Option<SourceId>,
-    sources: bool,
-) -> Result<(), Fault>
-    ensures { OnOk result (Appends (W.contents out.old) (W.contents out.new)
-        (identity_line sources mark.now
-        (record { name = name.now; version = parts_of version.now; source = source.now }))) }
-{
-    match source {
-        Some(source) if sources => put(out, format_args!("{mark}{name} {version} ({source})\n"))?,
-        _ => put(out, format_args!("{mark}{name} {version}\n"))?,
+    source: Option<&SourceId>,
+) -> Result<(), Fault> {
+    put(out, format_args!("{name} {version}"))?;
+    if let Some(source) = source {
+        put(out, format_args!(" ({source})"))?;
     }
+    put(out, "\n")?;
     Ok(())
 }
