@@ -16,8 +16,10 @@
  * no byte 0 at its end.
  *
  * A lockfile comes from a stranger, and the words of cargo_lock_fault have its names, with newlines
- * and control characters: do not print them on a terminal as they are. The lines of cargo_lock_diff
- * and cargo_lock_check have printable characters of ASCII alone, and show any other as `\u{..}` with its number.
+ * and control characters: do not print them on a terminal as they are. Nor a bill: it has the names
+ * too, and JSON escapes no control characters above U+001F. The lines of cargo_lock_diff and
+ * cargo_lock_check have printable characters of ASCII alone, and show any other as `\u{..}` with its
+ * number.
  */
 #ifndef CARGO_LOCK_H
 #define CARGO_LOCK_H
@@ -62,7 +64,10 @@ enum {
     /* The second of two texts is no lockfile. cargo_lock_fault says why. */
     CARGO_LOCK_NO_NEW_LOCKFILE = 10,
     /* The second of two texts is no UTF-8. */
-    CARGO_LOCK_NO_NEW_TEXT = 11
+    CARGO_LOCK_NO_NEW_TEXT = 11,
+    /* Two packages have the same name, version and source, user names and passwords aside, so a bill
+     * would refer to both by one text. */
+    CARGO_LOCK_REPEATED = 12
 };
 
 /* An edge, by the numbers of two packages in the lockfile's order, from 0: the package that depends,
@@ -125,6 +130,12 @@ uint32_t cargo_lock_diff(const uint8_t *old, size_t old_len, const uint8_t *new_
  * NO_MEMORY or NO_ROOM. */
 uint32_t cargo_lock_check(const uint8_t *text, size_t text_len, uint8_t *out, size_t out_len,
                           size_t *length);
+
+/* The bill of materials of the lockfile, CycloneDX 1.6 in JSON with a newline at the end, as
+ * `cargo-lock bom` prints it without options, and where it is compact as under `--compact`, in one
+ * line. DONE, NO_LOCKFILE, NO_TEXT, NO_MEMORY, NO_ROOM, UNRESOLVED or REPEATED. */
+uint32_t cargo_lock_bill(const uint8_t *text, size_t text_len, bool compact, uint8_t *out,
+                         size_t out_len, size_t *length);
 
 #ifdef __cplusplus
 }

@@ -111,12 +111,18 @@ static uint32_t check(void)
     return cargo_lock_check(text, text_len, (uint8_t *)room, ROOM, &length);
 }
 
+static uint32_t bill(void)
+{
+    return cargo_lock_bill(text, text_len, false, (uint8_t *)room, ROOM, &length);
+}
+
 static const struct {
     const char *name;
     uint32_t (*call)(void);
 } calls[] = {{"format", format},       {"fault", fault}, {"survives", survives},
              {"translate", translate}, {"edges", edges}, {"packages", packages},
-             {"tree", tree},           {"diff", diff}, {"check", check}};
+             {"tree", tree},           {"diff", diff},   {"check", check},
+             {"bill", bill}};
 
 /* ---- what is asked of each */
 

@@ -72,6 +72,8 @@ static uint32_t ask(void)
         return cargo_lock_diff(bytes, text_len, bytes, text_len, true, out, ROOM, &length);
     if (strcmp(call, "check") == 0)
         return cargo_lock_check(bytes, text_len, out, ROOM, &length);
+    if (strcmp(call, "bill") == 0)
+        return cargo_lock_bill(bytes, text_len, false, out, ROOM, &length);
     fprintf(stderr, "no call is %s\n", call);
     exit(2);
 }

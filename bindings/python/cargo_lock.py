@@ -32,7 +32,9 @@ __all__ = [
     "NotALockfile",
     "Package",
     "PackageError",
+    "RepeatedError",
     "UnresolvedError",
+    "bill",
     "check",
     "diff",
     "edges",
@@ -75,6 +77,11 @@ class PackageError(Error, IndexError):
 class LineError(Error):
     """A name or a source has a control character, as a tab or a newline, or a separator of lines or
     paragraphs."""
+
+
+class RepeatedError(Error):
+    """Two packages have the same name, version and source, user names and passwords aside, so a bill
+    would refer to both by one text."""
 
 
 class Package(NamedTuple):
@@ -189,11 +196,19 @@ def check(text: Text) -> list[str]:
     return _answer(_bytes(text), _library().cargo_lock_check).decode().split("\n")[:-1]
 
 
+def bill(text: Text, compact: bool = False) -> str:
+    """The bill of materials of the lockfile, CycloneDX 1.6 in JSON, as `cargo-lock bom` prints it
+    without options, and where it is compact as under `--compact`, in one line. Raises
+    `NotALockfile`, `UnresolvedError` and `RepeatedError`."""
+    return _answer(_bytes(text), _library().cargo_lock_bill, compact).decode()
+
+
 # ---- how they are made
 
 _INTERFACE = 1
 _DONE, _NO_LOCKFILE, _NO_TEXT, _NO_MEMORY, _NO_FORMAT = range(5)
 _NO_ROOM, _LOST, _UNRESOLVED, _NO_PACKAGE, _NO_LINE = range(5, 10)
+_REPEATED = 12
 # What is said of the second of two texts, and what is said of a text alone.
 _OF_NEW = {10: _NO_LOCKFILE, 11: _NO_TEXT}
 
@@ -204,6 +219,7 @@ _ERRORS: dict[int, tuple[type[Error], str]] = {
     _UNRESOLVED: (UnresolvedError, "no package fits some dependency"),
     _NO_PACKAGE: (PackageError, "there is no package of that number"),
     _NO_LINE: (LineError, "a name or a source has a control character or ends a line"),
+    _REPEATED: (RepeatedError, "a bill would refer to two packages by one text"),
 }
 
 
@@ -231,6 +247,7 @@ _CALLS: dict[str, list[Any]] = {
     "tree": [ctypes.c_size_t, ctypes.c_bool, ctypes.c_bool, *_ROOM],
     "diff": [ctypes.c_char_p, ctypes.c_size_t, ctypes.c_bool, *_ROOM],
     "check": _ROOM,
+    "bill": [ctypes.c_bool, *_ROOM],
 }
 
 _loaded: Optional[ctypes.CDLL] = None

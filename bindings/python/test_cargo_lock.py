@@ -1,5 +1,6 @@
 """Tests of the module `cargo_lock`. `bindings/run` runs them."""
 import ctypes
+import json
 import os
 import subprocess
 import sys
@@ -16,6 +17,8 @@ RIGHT = "git+https://example.org/right?branch=main#0123abc"
 # Three packages, of which the first depends on both others, and the second on the third.
 with open(os.path.join(os.path.dirname(__file__), "..", "three_packages.lock")) as file:
     LOCKFILE = file.read()
+with open(os.path.join(os.path.dirname(__file__), "..", "..", "VERSION")) as file:
+    VERSION = file.read().strip()
 DEEPEST = """
 import cargo_lock, sys, threading
 keys = ".".join("b" * 80)
@@ -79,6 +82,7 @@ class Texts(unittest.TestCase):
         lambda text: cargo_lock.diff(text, LOCKFILE),
         lambda text: cargo_lock.diff(LOCKFILE, text),
         cargo_lock.check,
+        cargo_lock.bill,
     )
 
     def test_each_type_of_a_text(self):
@@ -270,6 +274,50 @@ version = 3
     def test_a_text_that_is_no_lockfile(self):
         with self.assertRaisesRegex(cargo_lock.NotALockfile, "format version: `5`"):
             cargo_lock.check("version = 5")
+
+
+class Bills(unittest.TestCase):
+    REPEATED = """version = 3
+[[package]]
+name = "left"
+version = "1.0.0"
+source = "git+ssh://a@example.org/left"
+[[package]]
+name = "left"
+version = "1.0.0"
+source = "git+ssh://b@example.org/left"
+"""
+
+    def test_the_packages_and_what_each_depends_on(self):
+        bill = json.loads(cargo_lock.bill(LOCKFILE))
+        left, right = f"{CRATES_IO}#left@1.0.0", f"{RIGHT}#right@2.0.0+build"
+        self.assertEqual([it["bom-ref"] for it in bill["components"]], [left, right])
+        self.assertEqual(
+            [(it["ref"], it["dependsOn"]) for it in bill["dependencies"]],
+            [("app@0.1.0", [left, right]), (left, [right]), (right, [])],
+        )
+        self.assertEqual(bill["metadata"]["component"]["bom-ref"], "app@0.1.0")
+        self.assertEqual(bill["metadata"]["tools"]["components"][0]["version"], VERSION)
+
+    def test_one_line_or_many(self):
+        lines, line = cargo_lock.bill(LOCKFILE), cargo_lock.bill(LOCKFILE, compact=True)
+        self.assertEqual(json.loads(lines), json.loads(line))
+        self.assertEqual(line.index("\n"), len(line) - 1)
+        self.assertEqual(lines, json.dumps(json.loads(line), indent=2) + "\n")
+
+    def test_a_root_apart_from_the_packages(self):
+        text = '[root]\nname = "app"\nversion = "0.1.0"\n'
+        bill = json.loads(cargo_lock.bill(text))
+        self.assertEqual(bill["metadata"]["component"]["bom-ref"], "app@0.1.0")
+        self.assertEqual(bill["components"], [])
+
+    def test_a_lockfile_without_a_bill(self):
+        with self.assertRaises(cargo_lock.UnresolvedError):
+            cargo_lock.bill(UNRESOLVED)
+        with self.assertRaises(cargo_lock.RepeatedError):
+            cargo_lock.bill(self.REPEATED)
+        with self.assertRaisesRegex(cargo_lock.NotALockfile, "format version: `5`"):
+            cargo_lock.bill("version = 5")
 
 
 class Room(unittest.TestCase):

@@ -30,6 +30,7 @@ mod library {
     hands_out!(cargo_lock_translate, u8, format: u32);
     hands_out!(cargo_lock_packages, u8);
     hands_out!(cargo_lock_check, u8);
+    hands_out!(cargo_lock_bill, u8, compact: bool);
     hands_out!(cargo_lock_edges, Edge);
     hands_out!(cargo_lock_tree, u8, package: usize, inverted: bool, exact: bool);
     hands_out!(cargo_lock_diff, u8, new: *const u8, new_len: usize, dependencies: bool);
@@ -76,6 +77,14 @@ pub(crate) fn check(text: &[u8]) -> Result<String, Error> {
     // SAFETY: as above.
     words(text, |out, length| unsafe {
         library::cargo_lock_check(text.as_ptr(), text.len(), out.as_mut_ptr(), out.len(), length)
+    })
+}
+
+pub(crate) fn bill(text: &[u8], compact: bool) -> Result<String, Error> {
+    // SAFETY: as above.
+    words(text, |out, length| unsafe {
+        let (at, room) = (out.as_mut_ptr(), out.len());
+        library::cargo_lock_bill(text.as_ptr(), text.len(), compact, at, room, length)
     })
 }
 
@@ -176,6 +185,7 @@ fn fault_of(text: &[u8], status: u32) -> Error {
         7 => Error::Unresolved,
         8 => Error::NoPackage,
         9 => Error::NoLine,
+        12 => Error::Repeated,
         status => Error::UnknownStatus(status),
     }
 }

@@ -81,6 +81,10 @@ pub enum Error {
     /// or paragraphs.
     NoLine,
 
+    /// Two packages have the same name, version and source, user names and passwords aside, so a
+    /// bill would refer to both by one text.
+    Repeated,
+
     /// The library answered a status that this crate does not know.
     UnknownStatus(u32),
 }
@@ -96,6 +100,7 @@ impl fmt::Display for Error {
             Error::Unresolved => f.write_str("no package fits some dependency"),
             Error::NoPackage => f.write_str("there is no package of that number"),
             Error::NoLine => f.write_str("a name or a source has a control character or ends a line"),
+            Error::Repeated => f.write_str("a bill would refer to two packages by one text"),
             Error::UnknownStatus(status) => write!(f, "unknown status {status}"),
         }
     }
@@ -210,4 +215,12 @@ pub fn diff(
 pub fn check(text: impl AsRef<[u8]>) -> Result<Vec<String>, Error> {
     let lines = calls::check(text.as_ref())?;
     Ok(lines.lines().map(str::to_owned).collect())
+}
+
+/// The bill of materials of the lockfile, CycloneDX 1.6 in JSON, as `cargo-lock bom` prints it
+/// without options, and where it is compact as under `--compact`, in one line. Refused with
+/// `Unresolved` where a dependency has no package, and with `Repeated` where two packages have one
+/// reference.
+pub fn bill(text: impl AsRef<[u8]>, compact: bool) -> Result<String, Error> {
+    calls::bill(text.as_ref(), compact)
 }

@@ -1,8 +1,8 @@
 //! Tests of the calls over small lockfiles. `bindings/run` runs them.
 
 use proved_cargo_lock::{
-    check, diff, edges, fault, format, packages, survives, translate, tree, DiffError, Direction,
-    Edge, Error, Package,
+    bill, check, diff, edges, fault, format, packages, survives, translate, tree, DiffError,
+    Direction, Edge, Error, Package,
 };
 use std::thread;
 
@@ -125,6 +125,36 @@ fn findings() {
     assert_eq!(check(named("a")), Ok(Vec::new()));
     assert_eq!(check(named("1\\na")), Ok(vec![wanted]));
     assert_eq!(check(b"\xff"), Err(Error::NotUtf8));
+}
+
+#[test]
+fn bills() {
+    let version = include_str!("../../../VERSION").trim();
+    let tools = format!(
+        "{{\"components\":[{{\"name\":\"cargo-lock\",\"type\":\"application\",\
+         \"version\":\"{version}\"}}]}}"
+    );
+    let app = "{\"bom-ref\":\"app@0.1.0\",\"name\":\"app\",\"type\":\"application\",\
+               \"version\":\"0.1.0\"}";
+    let wanted = format!(
+        "{{\"bomFormat\":\"CycloneDX\",\"components\":[],\"dependencies\":[{{\"dependsOn\":[],\
+         \"ref\":\"app@0.1.0\"}}],\"metadata\":{{\"component\":{app},\
+         \"lifecycles\":[{{\"phase\":\"pre-build\"}}],\"tools\":{tools}}},\
+         \"specVersion\":\"1.6\",\"version\":1}}\n"
+    );
+    let text = "[root]\nname = \"app\"\nversion = \"0.1.0\"\n";
+    assert_eq!(bill(text, true), Ok(wanted));
+    let lines = bill(lockfile(), false).unwrap();
+    assert!(lines.starts_with("{\n  \"bomFormat\": \"CycloneDX\",\n") && lines.ends_with("}\n"));
+    let left = |user| {
+        let source = format!("git+ssh://{user}@example.org/left");
+        format!("[[package]]\nname = \"left\"\nversion = \"1.0.0\"\nsource = \"{source}\"\n")
+    };
+    assert_eq!(bill(left("a") + &left("b"), true), Err(Error::Repeated));
+    assert_eq!(bill(UNRESOLVED, false), Err(Error::Unresolved));
+    assert_eq!(bill(b"\xff", false), Err(Error::NotUtf8));
+    let words = Error::Repeated.to_string();
+    assert_eq!(words, "a bill would refer to two packages by one text");
 }
 
 #[test]

@@ -11,3 +11,4 @@ pub mod Options
 pub mod Metadata
 pub mod Serial
 pub mod Document
+pub mod Printed

@@ -14,6 +14,7 @@ mod iri;
 pub mod laws;
 mod metadata;
 pub mod options;
+pub mod printed;
 pub mod purl;
 mod reach;
 pub mod reference;

@@ -6,6 +6,10 @@ ghost use Rattle.cargo_lock_bom.specs.Options.{below, within};
 use cargo_lock_graph::graph::{Graph, NodeIndex};
 use std::marker::Model;
 
+/// The version of this project, which `cargo-lock --version` prints, and bills that it writes have.
+/// The file `VERSION` has it too.
+pub const VERSION: &str = "0.1.0";
+
 /// What a caller says of a bill of materials. Equal lockfiles have equal bills, where this is
 /// equal.
 #[derive(Debug, Drop)]

@@ -3,3 +3,4 @@ mod Refusals
 mod EdgeLists
 mod PackageLines
 mod EachLine
+mod BillFaults

@@ -5,3 +5,4 @@ pub mod Packages
 pub mod Graph
 pub mod Differences
 pub mod Findings
+pub mod Bills

@@ -8,6 +8,7 @@ use Rattle.cargo_lock_c.specs.declared.refusal.Refusal.TheVariants.{NoLockfile, 
 use Rattle.cargo_lock_c.specs.declared.refusal.Refusal.TheVariants.{NoFormat, Lost, Unresolved}
 use Rattle.cargo_lock_c.specs.declared.refusal.Refusal.TheVariants.{NoPackage, NoLine}
 use Rattle.cargo_lock_c.specs.declared.refusal.Refusal.TheVariants.{NoNewLockfile, NoNewText}
+use Rattle.cargo_lock_c.specs.declared.refusal.Refusal.TheVariants.{Repeated}
 
 -- the status of a call that gives no answer; 0 is that of an answer, and 5 that of an answer for
 -- which there is no room
@@ -22,6 +23,7 @@ status_of NoPackage = 8
 status_of NoLine = 9
 status_of NoNewLockfile = 10
 status_of NoNewText = 11
+status_of Repeated = 12
 
 -- how a refusal of reading a text is told, where it is the second of two
 abbrev pub refusal_of_new : Refusal → Refusal
@@ -37,3 +39,8 @@ refusal_of (Parse said) = NoLockfile
 refusal_of (Version fault) = NoLockfile
 refusal_of (Resolution said) = Unresolved
 refusal_of Memory = NoMemory
+
+-- how a fault of printing a bill is told: its `Parse` says that one text would refer to two packages
+abbrev pub refusal_of_bill : Error → Refusal
+refusal_of_bill (Parse said) = Repeated
+refusal_of_bill other = refusal_of other

@@ -96,7 +96,7 @@ fn lines_between(
 }
 
 /// The lockfile with the checksums that Cargo reads.
-fn compared(alloc: Global, lockfile: Lockfile) -> Result<Lockfile, Refusal>
+pub(crate) fn compared(alloc: Global, lockfile: Lockfile) -> Result<Lockfile, Refusal>
     ensures ok { IfOk result (λ l. l ≡ with_cargo_checksums_in lockfile) }
     ensures err { IfErr result (λ refusal. refusal ≡ NoMemory) }
 {

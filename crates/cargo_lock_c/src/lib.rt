@@ -5,6 +5,7 @@
 
 ghost use Rattle.std.specs.Prelude.{◌≡◌};
 
+mod bill;
 mod difference;
 mod edges;
 mod findings;

@@ -1,7 +1,7 @@
 //! Why a call gives no answer, and the status of each reason.
 
 ghost use Rattle.std.specs.Prelude.{◌≡◌};
-ghost use Rattle.cargo_lock_c.specs.Statuses.{refusal_of_new, status_of};
+ghost use Rattle.cargo_lock_c.specs.Statuses.{refusal_of_bill, refusal_of_new, status_of};
 
 use cargo_lock::Error;
 use std::alloc::{AllocError, AllocFailed};
@@ -44,6 +44,9 @@ pub(crate) enum Refusal {
 
     /// The second of two texts is no UTF-8.
     NoNewText,
+
+    /// One text would refer to two packages in a bill.
+    Repeated,
 }
 
 impl Refusal {
@@ -62,6 +65,7 @@ impl Refusal {
             Refusal::NoLine => 9,
             Refusal::NoNewLockfile => 10,
             Refusal::NoNewText => 11,
+            Refusal::Repeated => 12,
         }
     }
 
@@ -73,6 +77,16 @@ impl Refusal {
             Refusal::NoLockfile => Refusal::NoNewLockfile,
             Refusal::NoText => Refusal::NoNewText,
             other => other,
+        }
+    }
+
+    /// A fault of printing a bill.
+    pub(crate) fn of_bill(fault: Error) -> Refusal
+        ensures { result ≡ refusal_of_bill fault }
+    {
+        match fault {
+            Error::Parse(_) => Refusal::Repeated,
+            other => Refusal::from(other),
         }
     }
 }

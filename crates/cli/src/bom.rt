@@ -1,22 +1,18 @@
 //! The command `bom`: the bill of materials of a lockfile.
-ghost use Rattle.std.specs.Prelude.{◌≡◌, ◌∷◌, ◌++◌, [], None, IfOk, OnOk, codes, string_bytes};
+ghost use Rattle.std.specs.Prelude.{◌≡◌, None, IfOk, OnOk, codes, string_bytes};
 ghost use Rattle.clap.specs.Matches.{first_value, found_of};
-ghost use Rattle.cargo_lock_parts.specs.Ascii.{newline};
-ghost use Rattle.cargo_lock_bom.specs.Document.{IsBillText};
-ghost use Rattle.cargo_lock_bom.specs.Options.{within};
-ghost use Rattle.cli.specs.Bom.{IsAskedBill, IsBillOf, IsLineOf, IsTimeAsked, PrintsBill};
-ghost use Rattle.cli.specs.Bom.{bill_packages, own_root};
+ghost use Rattle.cli.specs.Bom.{IsAskedBill, IsAskedLine, IsBillOf, IsTimeAsked, PrintsBill};
 
 use crate::load::named_lockfile;
 use crate::spec::Spec;
-use cargo_lock::dependency::graph::{Graph, NodeIndex};
-use cargo_lock::{Error, Lockfile, Package};
-use cargo_lock_bom::document::{compact_text, pretty_text};
-use cargo_lock_bom::options::Options;
+use cargo_lock::dependency::graph::NodeIndex;
+use cargo_lock::{Lockfile, Package};
+use cargo_lock_bom::options::{Options, VERSION};
+use cargo_lock_bom::printed::{printed_bill, with_root};
 use clap::{Arg, ArgAction, ArgMatches, Command};
 use cli_support::destination::put_out;
 use cli_support::words::{any_size, file, long_flag, output};
-use cli_support::{Fault, VERSION, time};
+use cli_support::{Fault, time};
 use std::alloc::{AllocError, Global};
 use std::env::Env;
 use std::io::Write;
@@ -115,26 +111,10 @@ fn text_of_lockfile(
     ensures { IfOk result (λ text. IsBillOf (found_of options.now) time lockfile
         (string_bytes text)) }
 {
-    let (lockfile, own) = with_root(lockfile)?;
-    let given = given_root(alloc, options, &lockfile.packages, own)?;
+    let (packages, own) = with_root(lockfile.packages, lockfile.root)?;
+    let given = given_root(alloc, options, &packages, own)?;
     let said = said_of_bill(options, given, time);
-    let line = line_of(alloc, &lockfile, &said, options.get_flag("compact"))?;
-    Ok(line)
-}
-
-/// The lockfile with its root, if that is apart from its packages, as the last of them, and the node
-/// of that root.
-fn with_root(lockfile: Lockfile) -> Result<(Lockfile, Option<NodeIndex>), AllocError>
-    ensures packages { IfOk result (λ r. r.0.packages ≡ bill_packages lockfile) }
-    ensures root { IfOk result (λ r. r.1 ≡ own_root lockfile) }
-{
-    let mut lockfile = lockfile;
-    let Some(root) = lockfile.root.take() else {
-        return Ok((lockfile, None));
-    };
-    let node = NodeIndex::new(lockfile.packages.len());
-    lockfile.packages.push(root)?;
-    Ok((lockfile, Some(node)))
+    asked_line(alloc, options, &packages, &said)
 }
 
 /// The root that the words name, or else the own one. Fails where no package fits its specification,
@@ -197,44 +177,18 @@ fn said_of_bill<'a>(
     }
 }
 
-/// The text of the bill of materials of a lockfile, and a newline.
-fn line_of(
+/// The text of the bill of materials of packages, in one line where the words ask for that, and a
+/// newline.
+fn asked_line(
     alloc: Global,
-    lockfile: &Lockfile,
+    options: &ArgMatches<'_>,
+    packages: &Vec<Package>,
     said: &Options<'_>,
-    is_compact: bool,
-) -> Result<String, Error>
-    ensures { IfOk result
-        (λ text. IsLineOf lockfile.now.packages «said».now (string_bytes text)) }
+) -> Result<String, Fault>
+    ensures { IfOk result (λ text. IsAskedLine (found_of options.now) packages.now.items
+        «said».now (string_bytes text)) }
 {
-    let tree = lockfile.dependency_tree(alloc)?;
-    let text = text_of(alloc, tree.graph(), said, is_compact)?;
-    let line = with_newline(text)?;
+    let is_compact = options.get_flag("compact");
+    let line = printed_bill(alloc, packages, said, is_compact)?;
     Ok(line)
-}
-
-/// The text of the bill of materials of a graph.
-fn text_of(
-    alloc: Global,
-    graph: &Graph,
-    said: &Options<'_>,
-    is_compact: bool,
-) -> Result<String, Error>
-    ensures { IfOk result
-        (λ text. IsBillText graph.now (within graph.now «said».now) (string_bytes text)) }
-{
-    if is_compact {
-        compact_text(alloc, graph, said)
-    } else {
-        pretty_text(alloc, graph, said)
-    }
-}
-
-/// The text and a newline.
-fn with_newline(text: String) -> Result<String, AllocError>
-    ensures { IfOk result (λ line. string_bytes line ≡ string_bytes text ++ newline ∷ []) }
-{
-    let mut text = text;
-    text.push('\n')?;
-    Ok(text)
 }

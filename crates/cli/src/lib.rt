@@ -20,10 +20,11 @@ mod spec;
 mod translate;
 mod tree;
 
+use cargo_lock_bom::options::VERSION;
 use clap::{ArgMatches, Command};
 pub use cli_support::Fault;
 use cli_support::message::put_message;
-use cli_support::{VERSION, output, status, words};
+use cli_support::{output, status, words};
 use std::alloc::{AllocError, Global};
 use std::convert::AsStr;
 use std::env::Env;

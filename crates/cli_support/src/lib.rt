@@ -15,6 +15,3 @@ pub mod time;
 pub mod words;
 
 pub use crate::fault::Fault;
-
-/// The version of this project, which `cargo-lock --version` prints. The file `VERSION` has it too.
-pub const VERSION: &str = "0.1.0";

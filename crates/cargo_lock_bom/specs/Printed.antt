@@ -1,0 +1,41 @@
+-- The bill of materials of the packages of a lockfile, as the program prints it.
+use Rattle.std.specs.Prelude.{◌≡◌, ◌⊎◌, ℕ, Bool, List, [], ◌∷◌, ◌++◌, cond, length, Option}
+use Rattle.std.specs.Prelude.{option_map, option_to_list}
+use Rattle.json.specs.Layout.{pretty}
+use Rattle.json.specs.Print.{print}
+use Rattle.cargo_lock_parts.specs.declared.error.Error.{Error}
+use Rattle.cargo_lock_parts.specs.Ascii.{newline}
+use Rattle.cargo_lock_parts.specs.Identity.{PackageData}
+use Rattle.cargo_lock_graph.specs.Edges.{Edge, GraphData}
+use Rattle.cargo_lock_graph.specs.Targets.{AreEdgesOf, IsUnresolved, links}
+use Rattle.cargo_lock_bom.specs.Document.{IsBillText, IsLaidOut}
+use Rattle.cargo_lock_bom.specs.Options.{OptionsData, within}
+use Rattle.cargo_lock_bom.specs.References.{IsRepeatedFault}
+
+-- the packages of a bill: those of a lockfile, and last its root, if that is apart from them
+abbrev pub bill_packages : List PackageData → Option PackageData → List PackageData
+bill_packages packages root = packages ++ option_to_list root
+
+-- the node of such a root
+abbrev pub own_root : List PackageData → Option PackageData → Option ℕ
+own_root packages root = option_map (λ p. length packages) root
+
+-- the graph of packages with these edges
+abbrev pub graph_with : List PackageData → List Edge → GraphData
+graph_with packages edges = record { packages = packages; edges = edges }
+
+-- The line is a text that reads as the bill of some packages and of their edges, and a newline. The
+-- text is in one line where it is compact, and else laid out in lines.
+pub record IsPrintedBill (packages : List PackageData) (options : OptionsData) (compact : Bool)
+    (line : List ℕ) : Type 0 where
+  pub edges : List Edge
+  pub text : List ℕ
+  pub are_edges : AreEdgesOf packages edges
+  pub reads : IsBillText (graph_with packages edges) (within (graph_with packages edges) options) text
+  pub layout : IsLaidOut (cond compact print pretty) text
+  pub ended : line ≡ text ++ newline ∷ []
+
+-- why the bill of packages is not printed: some dependency has no package, or one text refers to two
+-- packages, or memory ran out
+abbrev pub IsUnprinted : List PackageData → Error → Type 0
+IsUnprinted packages e = IsUnresolved packages (links packages) e ⊎ IsRepeatedFault packages e

@@ -1,0 +1,91 @@
+//! The bill of materials of the packages of a lockfile, as the program prints it.
+
+ghost use Rattle.std.specs.Prelude.{◌≡◌, ◌⊎◌, ◌∷◌, ◌++◌, [], cond, IfErr, IfOk, string_bytes};
+ghost use Rattle.json.specs.Layout.{pretty};
+ghost use Rattle.json.specs.Print.{print};
+ghost use Rattle.cargo_lock_parts.specs.Ascii.{newline};
+ghost use Rattle.cargo_lock_graph.specs.Targets.{AreEdgesOf, IsUnresolved, links};
+ghost use Rattle.cargo_lock_bom.specs.Document.{IsBillText, IsLaidOut};
+ghost use Rattle.cargo_lock_bom.specs.Options.{within};
+ghost use Rattle.cargo_lock_bom.specs.Printed.{IsPrintedBill, IsUnprinted, bill_packages, own_root};
+ghost use Rattle.cargo_lock_bom.specs.References.{IsRepeatedFault};
+
+use crate::document::{compact_text, pretty_text};
+use crate::options::Options;
+use cargo_lock_graph::building::graph_of;
+use cargo_lock_graph::graph::{Graph, NodeIndex};
+use cargo_lock_parts::{Package, Result};
+use std::alloc::{AllocError, Global};
+
+/// The packages of a bill, which are those of a lockfile and, as the last of them, its root, if it
+/// has one apart from its packages, as lockfiles of format V1 have; and the node of that root.
+/// Fails when out of memory.
+pub fn with_root(
+    packages: Vec<Package>,
+    root: Option<Package>,
+) -> std::result::Result<(Vec<Package>, Option<NodeIndex>), AllocError>
+    ensures packages { IfOk result (λ made. made.0.items ≡ bill_packages packages.items root) }
+    ensures root { IfOk result (λ made. made.1 ≡ own_root packages.items root) }
+{
+    let mut packages = packages;
+    let Some(root) = root else {
+        return Ok((packages, None));
+    };
+    let node = NodeIndex::new(packages.len());
+    packages.push(root)?;
+    Ok((packages, Some(node)))
+}
+
+/// The text of the bill of materials of packages, in one line where it is compact, and a newline.
+///
+/// `Resolution` names the first dependency that no package fits, and `Parse` says that two packages
+/// have one text, by which the bill would refer to both, as `document` does.
+pub fn printed_bill(
+    alloc: Global,
+    packages: &Vec<Package>,
+    options: &Options<'_>,
+    is_compact: bool,
+) -> Result<String>
+    ensures ok { IfOk result (λ line.
+        IsPrintedBill packages.now.items «options».now is_compact (string_bytes line)) }
+    ensures err { IfErr result (IsUnprinted packages.now.items) }
+{
+    let graph = graph_alone(alloc, packages)?;
+    let text = text_of(alloc, &graph, options, is_compact)?;
+    let line = with_newline(text)?;
+    Ok(line)
+}
+
+// The graph of packages, without the nodes by their identities.
+fn graph_alone(alloc: Global, packages: &Vec<Package>) -> Result<Graph>
+    ensures packages { IfOk result (λ graph. graph.packages ≡ packages.now.items) }
+    ensures edges { IfOk result (λ graph. AreEdgesOf packages.now.items graph.edges) }
+    ensures err { IfErr result (λ e. IsUnresolved packages.now.items (links packages.now.items) e) }
+{
+    let (graph, _) = graph_of(alloc, packages)?;
+    Ok(graph)
+}
+
+// The text of the bill of materials of a graph.
+fn text_of(alloc: Global, graph: &Graph, options: &Options<'_>, is_compact: bool) -> Result<String>
+    ensures ok { IfOk result (λ text.
+        IsBillText graph.now (within graph.now «options».now) (string_bytes text)) }
+    ensures layout { IfOk result (λ text.
+        IsLaidOut (cond is_compact print pretty) (string_bytes text)) }
+    ensures err { IfErr result (IsRepeatedFault graph.now.packages) }
+{
+    if is_compact {
+        compact_text(alloc, graph, options)
+    } else {
+        pretty_text(alloc, graph, options)
+    }
+}
+
+// A text and a newline.
+fn with_newline(text: String) -> std::result::Result<String, AllocError>
+    ensures { IfOk result (λ line. string_bytes line ≡ string_bytes text ++ newline ∷ []) }
+{
+    let mut text = text;
+    text.push('\n')?;
+    Ok(text)
+}
