@@ -103,7 +103,8 @@ impl<'t> Reader<'t> {
             return Ok(body);
         }
         if !body.is_empty() {
-            let case = self.case(call, self.line);
+            let line = self.line;
+            let case = self.case(call, line);
             self.report
                 .refuse(&case, "a block that names a file has no lines")?;
         }
