@@ -20,7 +20,7 @@ complete -c cargo-lock -n '__cargo_lock_runs ""' -a translate -d 'Writes a lockf
 complete -c cargo-lock -n '__cargo_lock_runs ""' -a tree -d 'Draws the trees of packages'
 complete -c cargo-lock -n '__cargo_lock_runs ""' -a bom -d 'Writes a bill of materials, as CycloneDX 1.6 has it in JSON'
 complete -c cargo-lock -n '__cargo_lock_runs ""' -a diff -d 'Shows what differs between the packages of two lockfiles'
-complete -c cargo-lock -n '__cargo_lock_runs ""' -a check -d 'Tells what is wrong with a lockfile'
+complete -c cargo-lock -n '__cargo_lock_runs ""' -a check -d 'Prints what is wrong with a lockfile'
 complete -c cargo-lock -n '__cargo_lock_runs ""' -a help -d 'Print this message or the help of the given subcommand(s)'
 complete -c cargo-lock -n '__cargo_lock_runs ""' -s h -l help -d 'Print help'
 complete -c cargo-lock -n '__cargo_lock_runs ""' -s V -l version -d 'Print version'

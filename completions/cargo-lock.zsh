@@ -10,7 +10,7 @@ _cargo-lock() {
         'tree:Draws the trees of packages'
         'bom:Writes a bill of materials, as CycloneDX 1.6 has it in JSON'
         'diff:Shows what differs between the packages of two lockfiles'
-        'check:Tells what is wrong with a lockfile'
+        'check:Prints what is wrong with a lockfile'
         'help:Print this message or the help of the given subcommand(s)'
     )
     _arguments -C \

@@ -9,14 +9,14 @@
  * each. These are the caller's, are not null, also where they hold nothing, and do not overlap while
  * a call runs.
  *
- * Each call answers a status. At CARGO_LOCK_DONE the answer stands at the front of `out`, and
+ * Each call returns a status. At CARGO_LOCK_DONE the answer is at the front of `out`, and
  * `*length` is how many items it has. At CARGO_LOCK_NO_ROOM the answer is longer than `out_len`,
- * `*length` is how many items it has, and `out` is as it was: call again with that room. At any
- * other status `out`, `*length` and `*format` are as they were. A text in `out` is UTF-8 and has
+ * `*length` is how many items it has, and `out` is unchanged: call again with that room. At any
+ * other status `out`, `*length` and `*format` are unchanged. A text in `out` is UTF-8 and has
  * no byte 0 at its end.
  *
- * A lockfile comes from a stranger, and the words of cargo_lock_fault have its names, with newlines
- * and control characters: do not print them on a terminal as they are. Nor a bill: it has the names
+ * A lockfile comes from a stranger, and a message of cargo_lock_fault has its names, with newlines
+ * and control characters: do not print it unchanged on a terminal. Nor a bill: it has the names
  * too, and JSON escapes no control characters above U+001F. The lines of cargo_lock_diff and
  * cargo_lock_check have printable characters of ASCII alone, and show any other as `\u{..}` with its
  * number.

@@ -149,7 +149,7 @@ static uint32_t disturbed(const char *path, size_t at, long first)
         fail(path, calls[at].name, "blocks are left");
     blocks = 0;
     if (memcmp((uint8_t *)room + length, filled + length, ROOM - length))
-        fail(path, calls[at].name, "the room is changed where no answer stands");
+        fail(path, calls[at].name, "the buffer is changed outside of the answer");
     return status;
 }
 

@@ -62,7 +62,7 @@ static void expect(bool holds, const char *what, int line)
 
 #define EXPECT(it) expect(it, #it, __LINE__)
 
-/* A text in memory of its own, so that a byte read behind it is told. */
+/* A text in memory of its own, so that a read beyond its end is reported. */
 typedef struct {
     uint8_t *bytes;
     size_t length;
@@ -149,7 +149,7 @@ static uint32_t bill_in_lines(text given, uint8_t *out, size_t out_len, size_t *
 /* The lockfile that others are compared with. */
 static text other;
 
-/* A call that tells the changes from one lockfile to another, of which `given` is one. */
+/* A call that returns the changes from one lockfile to another, of which `given` is one. */
 #define CHANGES(call, old, new, dependencies)                                                     \
     static uint32_t call(text given, uint8_t *out, size_t out_len, size_t *length)                \
     {                                                                                             \
@@ -271,7 +271,7 @@ static void ask_answers(text third)
     ANSWERS(third, changes_back, "+ left 1.0.0\n= app 0.1.0 (path): + left 1.0.0\n");
     ANSWERS(third, changes_of_itself, "");
     ANSWERS(third, findings, "");
-    ANSWERS(misnamed, findings, "name: 1\\u{a}a is no name that Cargo takes\n");
+    ANSWERS(misnamed, findings, "name: 1\\u{a}a is not a name that Cargo accepts\n");
     free(misnamed.bytes);
     free(written);
     free(fourth.bytes);

@@ -268,7 +268,7 @@ version = 3
 
     def test_each_finding_is_a_line(self):
         text = f'{self.HEAD}name = "1\\na"\nversion = "1.0.0"\n'
-        wanted = ["name: 1\\u{a}a is no name that Cargo takes"]
+        wanted = ["name: 1\\u{a}a is not a name that Cargo accepts"]
         self.assertEqual(cargo_lock.check(text), wanted)
 
     def test_a_text_that_is_no_lockfile(self):

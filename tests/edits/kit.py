@@ -17,4 +17,16 @@ def load_rt():
     return module
 
 
+def by_truth(must_fail):
+    """Returns the kit's function that tries an edit, with whether the edit is refused in place of
+    the kit's word for what the try came to."""
+
+    def tried(*given):
+        outcome, said = must_fail(*given)
+        return outcome in (rt.REFUSED, rt.AT_LIMIT), said
+
+    return tried
+
+
 rt = load_rt()
+rt.must_fail = by_truth(rt.must_fail)

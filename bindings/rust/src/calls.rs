@@ -5,8 +5,8 @@ use crate::{DiffError, Edge, Error};
 mod library {
     use crate::Edge;
 
-    // Declares a call that hands items out: after the text and what it takes of its own come the
-    // room for the items, its length, and the number of items that it tells.
+    // Declares a call that returns items: after the text and the call's own arguments come the
+    // buffer for the items, its length, and the number of items that it sets.
     macro_rules! hands_out {
         ($call:ident, $item:ty $(, $name:ident: $type:ty)*) => {
             extern "C" {

@@ -9,7 +9,7 @@ use Rattle.cargo_lock.specs.Loads.{IsOfFile}
 
 pub refusal_of_text : (text : List ℕ) (r : Result LockfileData Error) → FindsUrls (TextMeans text) r → IfErr r IsOfFile
 refusal_of_text text (Ok l) h = tt
-refusal_of_text text (Err (Io kind)) h = tt
+refusal_of_text text (Err (Io kind)) h = λ _. h
 refusal_of_text text (Err (Parse message)) h = (text, h)
 refusal_of_text text (Err (Version fault)) h = h
 refusal_of_text text (Err (Resolution message)) h = h

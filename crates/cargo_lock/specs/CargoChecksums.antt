@@ -1,8 +1,10 @@
--- The checksums of packages as Cargo reads them. In V1 they stand in the metadata. A lockfile that
--- is read takes there, for each package, the first key of its name and version, whatever source the
--- key names (`checksum_in`), and so gives a package of one registry the checksum of its namesake
--- from another one. Cargo takes the key of the package's own source, and that is what these
--- definitions say, for tools that compare checksums.
+-- The checksums of packages as Cargo reads them. In V1 they are in the metadata. A lockfile that
+-- was read has, for each package, the checksum at the first key of its name and version, whatever
+-- source the key names (`checksum_in`), and so gives a package of one registry the checksum of its
+-- namesake from another one. Cargo takes the key of the package's own source. These definitions
+-- describe that, for tools that compare checksums.
+-- The rule is measured on the lockfiles of V1 in `tests/cargo`, which Cargo 1.95.0 wrote; Cargo's
+-- own is in its `src/cargo/core/resolver/encode.rs`.
 use Rattle.std.specs.Prelude.{ℕ, if◌then◌else◌, List, bytes_eq, codes, map, Option, None, Some}
 use Rattle.std.specs.FinMap.{get}
 use Rattle.std.specs.Option.{option_and_then, option_or}
@@ -25,23 +27,23 @@ abbrev pub key_from : PackageData → Source → List ℕ
 key_from p source = checksum_key
     (record { name = p.name; version = p.version; source = Some (unpinned source) })
 
--- the default branch of a repository whose branch `master` is meant by this reference
+-- the default branch of a repository, if this reference is its branch `master`
 abbrev pub default_branch : Source → Option GitReference → Option Source
 default_branch source (Some (Branch name)) = if bytes_eq name (codes "master")
     then Some (plain_source (Git DefaultBranch) None source.url) else None
 default_branch source other = None
 
--- the value at the key of a package from one more source, where there is one
+-- the value at the key of a package from another source, if there is one
 abbrev pub value_from_other : Texts → PackageData → Option Source → Option (List ℕ)
 value_from_other m p other = option_and_then (λ source. get m (key_from p source)) other
 
--- the value at the key of a package from this source, or else, from the branch `master`, at that
--- from the default branch: in V1 Cargo writes the latter key for both
+-- the value at the key of a package from this source, or else, for the branch `master`, at the key
+-- of the default branch: in V1 Cargo writes that key for both
 abbrev pub value_from : Texts → PackageData → Source → Option (List ℕ)
 value_from m p source = option_or (get m (key_from p source))
     (value_from_other m p (default_branch source (git_reference source.kind)))
 
--- the digest that the value is, if it is one; a package without a source has none
+-- the digest that the value reads as, if it does; a package without a source has none
 abbrev pub digest_of_key : Texts → PackageData → Option (List ℕ)
 digest_of_key m p = option_and_then digest_in (option_and_then (value_from m p) p.source)
 

@@ -1,5 +1,6 @@
--- What loading a file answers. What the file holds is no part of it: no contract can say that.
-use Rattle.std.specs.Prelude.{ℕ, List}
+-- What loading a file returns. No contract can say what the file holds.
+use Rattle.std.specs.Prelude.{◌≢◌, ℕ, List}
+use Rattle.std.specs.declared.io.ErrorKind.TheVariants.{OutOfMemory}
 use Rattle.cargo_lock_parts.specs.declared.error.Error.{Error}
 use Rattle.cargo_lock_parts.specs.declared.error.Error.TheVariants.{Io, Parse, Memory}
 use Rattle.cargo_lock_parts.specs.Error.{RefusesUrls}
@@ -10,10 +11,10 @@ use Rattle.cargo_lock_encoding.specs.Lockfiles.{LockfileData}
 abbrev pub IsMeant : LockfileData → Type 0
 IsMeant l = (text : List ℕ) × TextMeans text l
 
--- the fault of a file; the refusal of some text that means no lockfile, or of one with a URL that
--- has 4 GB or more; or running out of memory
+-- the error of a file, which never says that memory ran out; the error of some text that means no
+-- lockfile, or of one with a URL of 4 GB or more; or `Memory`
 abbrev pub IsOfFile : Error → Type 0
-IsOfFile (Io kind) = Unit {0}
+IsOfFile (Io kind) = kind ≢ OutOfMemory
 IsOfFile (Parse message) = (text : List ℕ)
     × RefusesUrls (Parse message) ((l : LockfileData) → ¬ TextMeans text l)
 IsOfFile Memory = Unit {0}

@@ -1,6 +1,8 @@
--- Git sources that lose their tag, branch or revision: it is not read as it is written. From V1 to
--- V3 Cargo writes its value as it is, and so `+`, `%`, `&` and `#` in it are read as something else.
+-- Git sources that lose their tag, branch or revision: it does not read back as it is written. From
+-- V1 to V3 Cargo writes its value unchanged, so `+`, `%`, `&` and `#` in it read as something else.
 -- From V4 on it escapes the value.
+-- The rule is measured on the lockfiles in `tests/cargo`, which Cargo 1.95.0 wrote; the escapes are
+-- those of the pull request 12852 of rust-lang/cargo.
 use Rattle.std.specs.Prelude.{◌≡◌, ◌↔◌, ◌++◌, ◌==◌, ℕ, Bool, not, true, false, if◌then◌else◌, List, [], ◌∷◌, bytes_eq, codes, length, take, Option, None, Some, unwrap_or, option_map}
 use Rattle.std.specs.List.{Contains, after_first, list_any}
 use Rattle.std.specs.List.Sorted.{IsStrictlySortedBy}
@@ -28,33 +30,34 @@ question_mark = 63
 abbrev pub is_question_mark : ℕ → Bool
 is_question_mark b = b == question_mark
 
--- what is written after the first question mark differs from this reference, as V1 to V3 write it
+-- the text after the first question mark differs from this reference, as V1 to V3 write it
 abbrev pub differs : List ℕ → Option GitReference → Bool
 differs text None = false
 differs text (Some reference) =
     not (bytes_eq (after_first is_question_mark text) (pair_text false reference))
 
--- The text of a source is that of a repository, and what stands in it after the first question mark
--- is not to the letter the tag, branch or revision that is read.
+-- The text of a source is that of a repository, and the text after the first question mark is not
+-- exactly the tag, branch or revision that is read from it.
 abbrev pub is_lossy : List ℕ → Bool
 is_lossy text = differs text (option_and_then (λ s. git_reference s.kind) (source_of text))
 
 -- ---- the sources that are written in a table
 
--- the source, where it has a question mark
+-- the source, if it has a question mark
 abbrev pub asked : List ℕ → List (List ℕ)
 asked text = if list_any is_question_mark text then text ∷ [] else []
 
--- these of a text that may be missing
+-- the sources with a question mark in a text that may be absent, by a function that gives the
+-- source
 abbrev pub asked_in : (List ℕ → List ℕ) → Option (List ℕ) → List (List ℕ)
 asked_in source None = []
 asked_in source (Some text) = asked (source text)
 
--- what stands before the last of these bytes, or else all
+-- the text before the last of these bytes, or else all of it
 abbrev pub before_last : ℕ → List ℕ → List ℕ
 before_last mark text = take (unwrap_or (rfind_below mark text (length text)) (length text)) text
 
--- the source of a reference, which stands between round brackets
+-- the source of a reference, which is in round brackets
 abbrev pub bracketed : List ℕ → List ℕ
 bracketed text = before_last right_bracket (after_first (λ b. b == left_bracket) text)
 
@@ -71,7 +74,7 @@ sources_of_items sources (item d ds) = sources d ++ sources_of_items sources ds
 abbrev pub sources_of_list : (Data → List (List ℕ)) → Data → List (List ℕ)
 sources_of_list sources d = unwrap_or (option_map (sources_of_items sources) (as_array d)) []
 
--- the source that the text of a package or a patch is, without its commit, which follows a `#`
+-- the source in the text of a package or a patch, without its commit, which follows a `#`
 abbrev pub own_source : Data → List (List ℕ)
 own_source d = asked_in (before_last number_sign) (as_str d)
 
@@ -118,12 +121,12 @@ pub record IsLossyIn (text source : List ℕ) : Type 0 where
   pub written : Contains (written_sources members) source
   pub lossy : is_lossy source ≡ true
 
--- these texts in ascending order, each once
+-- these texts in ascending order, each listed once
 pub record AreEachOnce (texts once : List (List ℕ)) : Type 0 where
   pub ascending : IsStrictlySortedBy text_cmp once
   pub same : (text : List ℕ) → Contains once text ↔ Contains texts text
 
--- the lossy sources of a text, each once, in ascending order
+-- the lossy sources of a text, each listed once, in ascending order
 pub record AreLossySources (text : List ℕ) (sources : List (List ℕ)) : Type 0 where
   pub ascending : IsStrictlySortedBy text_cmp sources
   pub told : (source : List ℕ) → Contains sources source ↔ IsLossyIn text source

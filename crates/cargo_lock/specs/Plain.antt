@@ -1,5 +1,5 @@
--- The lockfiles of plain projects: what comes from registries alone survives V2 to V4, and V1 where
--- some package has a checksum.
+-- The lockfiles of plain projects: a lockfile with only registry packages survives V2 to V4, and V1
+-- if some package has a checksum.
 use Rattle.std.specs.Prelude.{◌≡◌, ℕ, true, false, List, [], Some, None, IfSome, map, slice_get}
 use Rattle.std.specs.FinMap.{empty}
 use Rattle.std.specs.List.{AllByRecursion}
@@ -36,7 +36,7 @@ pub record IsPlainPackage (list : List Identity) (p : PackageData) : Type 0 wher
   pub dependencies : AllByRecursion (IsAmong list) p.dependencies
   pub replace : p.replace ≡ None
 
--- plain packages, no two of one name and version, and nothing else
+-- plain packages, no two with the same name and version, and nothing else
 pub record IsPlain (l : LockfileData) : Type 0 where
   pub packages : AllByRecursion (IsPlainPackage (map identity_of l.packages)) l.packages
   pub no_twins : HasNoTwins (map identity_of l.packages)
@@ -52,7 +52,7 @@ pub record HasSomeChecksum (l : LockfileData) : Type 0 where
   pub at : slice_get l.packages place ≡ Some bearer
   pub has : bearer.checksum ≡ Some digest
 
--- a plain lockfile survives V2, V3 and V4, and where some package has a checksum V1 too
+-- a plain lockfile survives V2, V3 and V4, and if some package has a checksum V1 too
 abbrev pub PlainSurvives : Type 0
 PlainSurvives = (l : LockfileData) → IsPlain l → Survives l V2 × Survives l V3 × Survives l V4
     × (HasSomeChecksum l → Survives l V1)

@@ -18,8 +18,8 @@ pub record IsPrintedBack (l x : LockfileData) : Type 0 where
   pub metadata : x.metadata ≡ metadata_of l.version l.metadata l.packages
   pub root : x.root ≡ None
 
--- Where a lockfile survives its own format and no package has both a replacement and dependencies,
--- its printed text means a lockfile of that format with equal packages and patches, the written
+-- If a lockfile survives its own format and no package has both a replacement and dependencies, its
+-- printed text means a lockfile of that format with equal packages and patches, the written
 -- metadata and no root.
 abbrev pub PrintedBack : Type 0
 PrintedBack = (l : LockfileData) → Survives l l.version → AllByRecursion HasAllPrinted l.packages
@@ -39,8 +39,8 @@ TextReadsBack l format =
 abbrev pub TextMeansOne : Type 0
 TextMeansOne = (text : List ℕ) (a b : LockfileData) → TextMeans text a → TextMeans text b → a ≡ b
 
--- The text printed in a format reads back exactly where the lockfile survives the format, has no
--- root, and no package has both a replacement and dependencies.
+-- The text printed in a format reads back exactly if the lockfile survives the format, has no root,
+-- and no package has both a replacement and dependencies.
 abbrev pub TextIsExact : Type 0
 TextIsExact = (l : LockfileData) (format : ResolveVersion)
     → (Survives l format × (l.root ≡ None) × AllByRecursion HasAllPrinted l.packages)

@@ -1,5 +1,5 @@
--- Lockfiles are equal field by field: packages, the root and patches as they compare, the metadata
--- pair by pair.
+-- Lockfiles are equal field by field: packages, the root and patches by their own equality, the
+-- metadata pair by pair.
 use Rattle.std.specs.Prelude.{◌≡◌, ◌&&◌, ◌↔◌, Bool, IsTrue, true, ℕ, List, map, nat_eq, option_map}
 use Rattle.std.specs.Cmp.{IsEquivalence, and_equiv, eq_by_cmp_equiv, nat_eq_equiv, on_equiv}
 use Rattle.std.specs.Cmp.Lexicographic.{lists_equiv, nat_list_eq_equiv, options_equiv, pointwise}
@@ -15,7 +15,7 @@ use Rattle.cargo_lock_references.specs.Records.{Texts}
 use Rattle.cargo_lock_encoding.specs.Table.{table_of}
 use Rattle.cargo_lock_encoding.specs.Text.{lines_of}
 
--- the keys are one and the texts are one
+-- the keys are the same and the texts are the same
 abbrev pub is_same_pair : List ℕ × List ℕ → List ℕ × List ℕ → Bool
 is_same_pair p q = pointwise nat_eq p.0 q.0 && pointwise nat_eq p.1 q.1
 
@@ -23,7 +23,7 @@ is_same_pair p q = pointwise nat_eq p.0 q.0 && pointwise nat_eq p.1 q.1
 abbrev pub is_same_metadata : Texts → Texts → Bool
 is_same_metadata m n = pointwise is_same_pair (entries m) (entries n)
 
--- lockfiles that `==` calls equal: all fields are the same
+-- lockfiles that are equal by `==`: all fields are the same
 abbrev pub is_same_lockfile : LockfileData → LockfileData → Bool
 is_same_lockfile = eq_of_both (eq_of_both (eq_of_both (eq_of_both
     (on (λ l. number_of l.version) nat_eq)
@@ -48,7 +48,7 @@ lockfile_equivalence = and_equiv (and_equiv (and_equiv (and_equiv
     (on_equiv (λ (l : LockfileData). l.metadata) (on_equiv entries (lists_equiv pair_equivalence))))
     (on_equiv (λ (l : LockfileData). l.patch) patch_equivalence)
 
--- ---- what equality looks at
+-- ---- what equality compares
 
 -- the same format and metadata, and, place by place, the same key of each package, of the root and
 -- of each unused patch
@@ -59,11 +59,11 @@ pub record HasSameKeys (a b : LockfileData) : Type 0 where
   pub metadata : a.metadata ≡ b.metadata
   pub patch : map identity_key a.patch ≡ map identity_key b.patch
 
--- `==` calls exactly those lockfiles equal that have the same keys
+-- exactly those lockfiles are equal by `==` that have the same keys
 abbrev pub EqualExactlyByKeys : Type 0
 EqualExactlyByKeys = (a b : LockfileData) → IsTrue (is_same_lockfile a b) ↔ HasSameKeys a b
 
--- lockfiles that `==` calls equal have equal tables and equal texts
+-- lockfiles that are equal by `==` have equal tables and equal texts
 abbrev pub EqualTablesAndTexts : Type 0
 EqualTablesAndTexts = (a b : LockfileData) → is_same_lockfile a b ≡ true → (table_of a ≡ table_of b)
     × (lines_of a ≡ lines_of b)

@@ -1,4 +1,4 @@
--- Translation of a lockfile over a list of formats: for each format in order the lockfile is
+-- Translation of a lockfile through a list of formats: for each format in order the lockfile is
 -- written as a table in that format, and the table is read; or it is printed as a text in that
 -- format, and the text is read.
 use Rattle.std.specs.Prelude.{◌≡◌, ◌⊎◌, ◌↔◌, List, [], ◌∷◌, Option, Some}
@@ -20,7 +20,7 @@ use Rattle.cargo_lock.specs.Printed.{IsTextStep, TextReadsBack}
 abbrev pub IsStep : ResolveVersion → LockfileData → LockfileData → Type 0
 IsStep format l x = Means (table_of (in_format format l)) x
 
--- steps, one after another, lead to x; without a format x is the lockfile itself
+-- steps, one after another, lead to x; without formats x is the lockfile itself
 abbrev pub LeadsBy : (ResolveVersion → LockfileData → LockfileData → Type 0)
     → List ResolveVersion → LockfileData → LockfileData → Type 0
 LeadsBy step [] l x = x ≡ l
@@ -52,7 +52,7 @@ metadata_through [] m packages = m
 metadata_through (format ∷ formats) m packages = metadata_through formats
     (metadata_of format m packages) packages
 
--- the last of the formats, or this one where there is none
+-- the last of the formats, or this one if there is none
 abbrev pub last_format : ResolveVersion → List ResolveVersion → ResolveVersion
 last_format format [] = format
 last_format format (next ∷ formats) = last_format next formats
@@ -74,7 +74,7 @@ ReadsBackEach (format ∷ formats) l =
 
 -- ---- computed
 
--- the lockfile that the chain gives
+-- the lockfile to which the chain leads
 abbrev pub translate_in_turn : List ResolveVersion → LockfileData → Option LockfileData
 translate_in_turn [] l = Some l
 translate_in_turn (format ∷ formats) l = meaning
@@ -82,12 +82,12 @@ translate_in_turn (format ∷ formats) l = meaning
 
 -- ---- laws
 
--- what a lockfile that survives its own format is read back as is written again as it was
+-- if a lockfile survives its own format, what it reads back as is written again unchanged
 abbrev pub WrittenAgain : Type 0
 WrittenAgain = (l x : LockfileData) → Survives l l.version → Means (table_of l) x → table_of x
     ≡ table_of l
 
--- Where the text of each step reads back, the chain by texts is the chain by tables.
+-- If the text of each step reads back, the chain by texts is the chain by tables.
 abbrev pub SameByTexts : Type 0
 SameByTexts = (formats : List ResolveVersion) (l x : LockfileData) → ReadsBackEach formats l
     → LeadsBy IsTextStep formats l x ↔ LeadsTo formats l x

@@ -23,7 +23,7 @@ pub use cargo_lock_references::{ResolveVersion, version};
 use std::alloc::AllocError;
 use std::marker::Model;
 
-/// A lockfile: the packages of a project, each in the one version that is used. Two are equal where
+/// A lockfile: the packages of a project, each in the one version that is used. Two are equal if
 /// all fields are.
 #[derive(Debug, Drop)]
 pub struct Lockfile {
@@ -33,7 +33,7 @@ pub struct Lockfile {
     /// The packages, in the lockfile's order.
     pub packages: Vec<Package>,
 
-    /// The root package, which old lockfiles have apart from the others.
+    /// The root package, if the lockfile has it separate from the others, as old lockfiles do.
     pub root: Option<Package>,
 
     /// The metadata.

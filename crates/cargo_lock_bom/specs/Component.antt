@@ -1,5 +1,6 @@
--- The components of a bill of materials: one for each package, and one for the workspace where that
--- is the root.
+-- The components of a bill of materials: one for each package, and one for the workspace if that is
+-- the root.
+-- The members are those of `component` in the JSON schema of CycloneDX 1.6.
 use Rattle.std.specs.Prelude.{◌≡◌, ℕ, Bool, true, false, List, codes, map, length, slice_get}
 use Rattle.std.specs.Prelude.{Option, Some, None, option_map}
 use Rattle.semver.specs.Identifiers.{parts_text}
@@ -18,7 +19,7 @@ use Rattle.cargo_lock_bom.specs.References.{package_reference, workspace_referen
 use Rattle.cargo_lock_bom.specs.Root.{is_application}
 use Rattle.cargo_lock_bom.specs.UserInfo.{without_user_info}
 
--- what a component is: an application, or else a library
+-- the type of a component: an application, or else a library
 abbrev pub type_text : Bool → List ℕ
 type_text true = codes "application"
 type_text false = codes "library"
@@ -30,7 +31,7 @@ base_members application p = member (codes "bom-ref") (string (package_reference
     (member (codes "type") (string (type_text application))
     (member (codes "version") (string (parts_text p.version)) no_members)))
 
--- the list of the one hash of a package, by the bytes of its checksum
+-- the list with the one hash of a package, by the bytes of its checksum
 abbrev pub hashes_of : List ℕ → Data
 hashes_of digest = array (item (object
     (member (codes "alg") (string (codes "SHA-256"))
@@ -41,7 +42,8 @@ abbrev pub put_some : List ℕ → Option Data → Members → Members
 put_some key None members = members
 put_some key (Some value) members = put key value members
 
--- the list of the one repository at a URL, with what is checked out of it, if that is known
+-- the list with the one repository at a URL, with the commit, tag, branch or revision, if it is
+-- known
 abbrev pub repositories_of : List ℕ → Option (List ℕ) → Data
 repositories_of url precise = array (item (object (put_some (codes "comment")
     (option_map string precise)
@@ -59,8 +61,8 @@ abbrev pub repositories_if : Option Source → Option Data
 repositories_if None = None
 repositories_if (Some s) = repositories_by s.kind (iri_text (without_user_info s.url)) s.precise
 
--- the component of a package: `purl` where it has a package URL, `hashes` where it has a checksum,
--- and `externalReferences` where it comes from a repository
+-- the component of a package: `purl` if it has a package URL, `hashes` if it has a checksum, and
+-- `externalReferences` if it comes from a repository
 unfoldable pub component_of : Bool → PackageData → Data
 component_of application p = object
     (put_some (codes "externalReferences") (repositories_if p.source)
@@ -73,12 +75,12 @@ abbrev pub component_if : Bool → Option PackageData → Data
 component_if application None = null
 component_if application (Some p) = component_of application p
 
--- the component of the package of a node: an application where the package has no source and no
--- other package needs it
+-- the component of the package of a node: an application if the package has no source and no other
+-- package needs it
 abbrev pub component_at : GraphData → ℕ → Data
 component_at graph node = component_if (is_application graph node) (slice_get graph.packages node)
 
--- the components of the packages that are not the root, in order, each once
+-- the components of the packages that are not the root, in order, each listed once
 pub record AreComponents (graph : GraphData) (root : Root) (components : List Data) : Type 0 where
   pub nodes : List ℕ
   pub are_others : IsPlaces (λ k. ¬ (root ≡ Package k)) (length graph.packages) nodes

@@ -1,4 +1,5 @@
 -- What each package depends on: the edges of the graph.
+-- The members are those of `dependency` in the JSON schema of CycloneDX 1.6.
 use Rattle.std.specs.Prelude.{◌≡◌, ℕ, ◌<◌, ◌↔◌, List, [], All, Contains, Option, Some, None, map}
 use Rattle.std.specs.Prelude.{◌∷◌, ◌++◌, true, length, codes, slice_get}
 use Rattle.std.specs.List.{AllZip, range_with_len}
@@ -14,7 +15,7 @@ use Rattle.cargo_lock_bom.specs.Places.{IsPlaces}
 use Rattle.cargo_lock_bom.specs.References.{package_reference, workspace_reference}
 use Rattle.cargo_lock_bom.specs.Root.{is_member}
 
--- the nodes to which edges lead from a node, ascending, each once
+-- the nodes to which edges lead from a node, ascending, each listed once
 pub record AreTargets (graph : GraphData) (node : ℕ) (targets : List ℕ) : Type 0 where
   pub ascending : IsStrictlyIncreasing targets
   pub are_nodes : All (λ k. k < length graph.packages) targets
@@ -52,13 +53,13 @@ pub record IsWorkspaceEntry (packages : List PackageData) (d : Data) : Type 0 wh
   pub are_members : IsPlaces (λ k. is_member packages k ≡ true) (length packages) members
   pub is : d ≡ entry_with packages workspace_reference members
 
--- the entries of a root that is no package
+-- the entries of a root that is not a package
 abbrev pub AreOwnEntries : List PackageData → Root → List Data → Type 0
 AreOwnEntries packages (Package node) own = own ≡ []
 AreOwnEntries packages Workspace own = (d : Data) × IsWorkspaceEntry packages d × (own ≡ d ∷ [])
 AreOwnEntries packages Nothing own = own ≡ []
 
--- the entries: one for each node, in order, and then one for the workspace, where that is the root
+-- the entries: one for each node, in order, and then one for the workspace, if that is the root
 pub record AreEntries (graph : GraphData) (root : Root) (entries : List Data) : Type 0 where
   pub of_nodes : List Data
   pub own : List Data

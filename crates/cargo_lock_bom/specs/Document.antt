@@ -1,4 +1,5 @@
 -- The bill of materials of a graph, as CycloneDX 1.6 has it in JSON.
+-- The members are those at the top of its JSON schema.
 use Rattle.std.specs.Prelude.{◌≡◌, ℕ, List, codes, Some}
 use Rattle.json.specs.Lex.{tokens}
 use Rattle.json.specs.Token.{Token}
@@ -16,7 +17,7 @@ use Rattle.cargo_lock_bom.specs.References.{HaveDistinctReferences}
 use Rattle.cargo_lock_bom.specs.Root.{IsRootOf}
 use Rattle.cargo_lock_bom.specs.Serial.{numbered}
 
--- the document of components, of entries that say what each depends on, and of metadata
+-- the document of components, of entries that list the dependencies of each, and of metadata
 unfoldable pub document_of : List Data → List Data → Data → Data
 document_of components entries metadata = object
     (member (codes "bomFormat") (string (codes "CycloneDX"))
@@ -38,8 +39,8 @@ pub record IsAbout (graph : GraphData) (root : Root) (options : OptionsData) (d 
     pub is : d ≡ document_of components entries metadata
 
 -- The bill of a graph: the root is the component of the metadata, each other package is one of the
--- components, in order, each once, each package has an entry, as the workspace has where that is
--- the root, and each text refers to one component. Where the caller asks for it, the bill has a
+-- components, in order, each listed once, each package has an entry, and so does the workspace if
+-- it is the root, and each text refers to one component. If the options ask for it, the bill has a
 -- serial number.
 pub record IsBill (graph : GraphData) (options : OptionsData) (d : Data) : Type 0 where
   pub root : Root

@@ -1,4 +1,5 @@
--- What a bill says of itself.
+-- The metadata of a bill.
+-- The members are those of `metadata` in the JSON schema of CycloneDX 1.6.
 use Rattle.std.specs.Prelude.{◌≡◌, ℕ, ◌*◌, false, List, ◌++◌, codes, pos, Option, Some, None}
 use Rattle.std.specs.Prelude.{option_map}
 use Rattle.jiff_core.specs.declared.civil.datetime.DateTime.{DateTime}
@@ -13,8 +14,8 @@ use Rattle.cargo_lock_bom.specs.Options.{OptionsData}
 
 -- ---- the time
 
--- the text of the time that many seconds after 1970 began, in UTC, as RFC 3339 has it:
--- `2024-06-19T17:30:05Z`
+-- the text of the time that is this many seconds after the start of 1970, in UTC, in the form of
+-- RFC 3339: `2024-06-19T17:30:05Z`
 pub record IsTimeText (seconds : ℕ) (text : List ℕ) : Type 0 where
   pub moment : DateTime
   pub is_moment : civil_nanos moment ≡ pos (seconds * 1_000_000_000)
@@ -27,7 +28,7 @@ IsTimeTextIf (Some seconds) text = (t : List ℕ) × IsTimeText seconds t × (te
 
 -- ---- the metadata
 
--- the list of the one author
+-- the list with the one author
 abbrev pub authors_of : List ℕ → Data
 authors_of author =
     array (item (object (member (codes "name") (string author) no_members)) no_items)
@@ -46,19 +47,19 @@ tools_of version = object
     (member (codes "version") (string version) no_members)))) no_items))
     no_members)
 
--- the members that each bill has
+-- the members that the metadata of each bill have
 abbrev pub own_members : List ℕ → Members
 own_members version = member (codes "lifecycles") lifecycles
     (member (codes "tools") (tools_of version) no_members)
 
--- these, and the author, the component of the root and the time, where there are such
+-- these, and the author, the component of the root and the time, if there are any
 unfoldable pub metadata_of : List ℕ → Option (List ℕ) → Option Data → Option (List ℕ) → Data
 metadata_of version author component time = object
     (put_some (codes "timestamp") (option_map string time)
     (put_some (codes "component") component
     (put_some (codes "authors") (option_map authors_of author) (own_members version))))
 
--- what the bill of a graph with this root says of itself
+-- the metadata of the bill of a graph with this root
 pub record IsMetadata (graph : GraphData) (root : Root) (options : OptionsData) (d : Data)
     : Type 0 where
   pub time : Option (List ℕ)

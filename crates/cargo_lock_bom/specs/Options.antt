@@ -1,9 +1,9 @@
--- What a caller says of a bill.
+-- The options of a bill.
 use Rattle.std.specs.Prelude.{ℕ, Bool, List, length, nat_lt, Option, Some, None, if◌then◌else◌}
 use Rattle.cargo_lock_graph.specs.Edges.{GraphData}
 
 -- the node of the root, if it is given, the version of the program that writes the bill, the time
--- in seconds since 1970, if the bill says one, its author, if it names one, and whether it has a
+-- in seconds since 1970, if the bill has one, its author, if it names one, and whether it has a
 -- serial number
 pub record OptionsData : Type 0 where
   pub root : Option ℕ
@@ -17,8 +17,8 @@ abbrev pub below : ℕ → Option ℕ → Option ℕ
 below limit None = None
 below limit (Some n) = if nat_lt n limit then Some n else None
 
--- what counts of what a caller says of the bill of a graph: all but a root that is no node, and a
--- time after the year 9999, which the format cannot say
+-- the options without those that are ignored for the bill of a graph: a root that is not a node,
+-- and a time after the year 9999, which the format cannot represent
 abbrev pub within : GraphData → OptionsData → OptionsData
 within graph o = record o {
   root = below (length graph.packages) o.root;

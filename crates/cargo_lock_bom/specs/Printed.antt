@@ -12,7 +12,7 @@ use Rattle.cargo_lock_bom.specs.Document.{IsBillText, IsLaidOut}
 use Rattle.cargo_lock_bom.specs.Options.{OptionsData, within}
 use Rattle.cargo_lock_bom.specs.References.{IsRepeatedFault}
 
--- the packages of a bill: those of a lockfile, and last its root, if that is apart from them
+-- the packages of a bill: those of a lockfile, followed by its root if that is separate from them
 abbrev pub bill_packages : List PackageData → Option PackageData → List PackageData
 bill_packages packages root = packages ++ option_to_list root
 
@@ -25,17 +25,18 @@ abbrev pub graph_with : List PackageData → List Edge → GraphData
 graph_with packages edges = record { packages = packages; edges = edges }
 
 -- The line is a text that reads as the bill of some packages and of their edges, and a newline. The
--- text is in one line where it is compact, and else laid out in lines.
+-- text is in one line if it is compact, and otherwise laid out in lines.
 pub record IsPrintedBill (packages : List PackageData) (options : OptionsData) (compact : Bool)
     (line : List ℕ) : Type 0 where
   pub edges : List Edge
   pub text : List ℕ
   pub are_edges : AreEdgesOf packages edges
-  pub reads : IsBillText (graph_with packages edges) (within (graph_with packages edges) options) text
+  pub reads : IsBillText (graph_with packages edges)
+      (within (graph_with packages edges) options) text
   pub layout : IsLaidOut (cond compact print pretty) text
   pub ended : line ≡ text ++ newline ∷ []
 
--- why the bill of packages is not printed: some dependency has no package, or one text refers to two
--- packages, or memory ran out
+-- why the bill of packages is not printed: no package matches some dependency, the same text refers
+-- to two packages, or memory ran out
 abbrev pub IsUnprinted : List PackageData → Error → Type 0
 IsUnprinted packages e = IsUnresolved packages (links packages) e ⊎ IsRepeatedFault packages e

@@ -1,5 +1,6 @@
 -- Package URLs: `pkg:cargo/NAME@VERSION`, and after `?` where the package comes from, unless that
 -- is crates.io.
+-- The rule is that of the package-URL specification and of its type `cargo`.
 use Rattle.std.specs.Prelude.{ℕ, Bool, ◌||◌, ◌==◌, List, [], ◌∷◌, ◌++◌, codes, Option, Some, None}
 use Rattle.std.specs.Prelude.{if◌then◌else◌}
 use Rattle.std.specs.Char.{is_ascii_alphanumeric}
@@ -16,15 +17,15 @@ use Rattle.cargo_lock_bom.specs.UserInfo.{without_user_info}
 
 -- ---- escapes
 
--- the marks that stand in a name and a version as they are
+-- the marks that are not escaped in a name and a version
 abbrev pub plain_segment_marks : List ℕ
 plain_segment_marks = codes "-._~:"
 
--- those that stand in a URL as they are
+-- the marks that are not escaped in a URL
 abbrev pub plain_url_marks : List ℕ
 plain_url_marks = codes "-._~:/"
 
--- the byte stands as it is: it is an ASCII letter, a digit or one of the marks
+-- the byte is not escaped: it is an ASCII letter, a digit or one of the marks
 abbrev pub is_plain : List ℕ → ℕ → Bool
 is_plain marks b = is_ascii_alphanumeric b || list_any (λ c. b == c) marks
 
@@ -51,13 +52,13 @@ commit_or_reference (Tag name) None = Some name
 commit_or_reference (Branch name) None = Some name
 commit_or_reference (Rev name) None = Some name
 
--- where a repository is, and what is checked out of it
+-- the URL of a repository, with the commit, tag, branch or revision that is checked out
 abbrev pub repository_text : List ℕ → Option (List ℕ) → List ℕ
 repository_text url None = codes "git+" ++ url
 repository_text url (Some revision) = codes "git+" ++ (url ++ (codes "@" ++ revision))
 
--- what says where a package comes from, by the kind, the URL text and the precise text of its
--- source
+-- the qualifiers that say where a package comes from, by the kind, the URL text and the precise
+-- text of its source
 abbrev pub qualifiers_by : Kind → List ℕ → Option (List ℕ) → List ℕ
 qualifiers_by (Git reference) url precise =
     codes "?vcs_url=" ++ escaped_url (repository_text url (commit_or_reference reference precise))
@@ -67,8 +68,8 @@ qualifiers_by SparseRegistry url precise = codes "?repository_url=" ++ escaped_u
 qualifiers_by LocalRegistry url precise = codes "?repository_url=" ++ escaped_url url
 qualifiers_by Directory url precise = codes "?repository_url=" ++ escaped_url url
 
--- what says where a package comes from: nothing of crates.io, and else the URL without user name
--- and password
+-- the qualifiers that say where a package comes from: none for crates.io, and otherwise the URL
+-- without user name and password
 unfoldable pub qualifiers : Source → List ℕ
 qualifiers s =
     if is_default_registry s then []

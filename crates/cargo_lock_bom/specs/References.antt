@@ -1,4 +1,5 @@
--- The texts by which a bill of materials refers to packages, each to one alone.
+-- The texts by which a bill of materials refers to packages, each to only one.
+-- The form is that of the package ID specifications in the Cargo Book.
 use Rattle.std.specs.Prelude.{◌≡◌, ◌≢◌, ℕ, false, List, ◌++◌, codes, map, take, slice_get, Contains}
 use Rattle.std.specs.Prelude.{AllPairs, Option, Some, None, option_map, ◌⊎◌}
 use Rattle.semver.specs.Identifiers.{parts_text}
@@ -10,7 +11,7 @@ use Rattle.cargo_lock_parts.specs.Source.{Source}
 use Rattle.cargo_lock_parts.specs.SourceText.{text_of}
 use Rattle.cargo_lock_bom.specs.UserInfo.{public_identity, public_source}
 
--- `NAME@VERSION`, after the source and `#` where there is one
+-- `NAME@VERSION`, after the source and `#` if there is a source
 abbrev pub reference_from : List ℕ → List ℕ → Option Source → List ℕ
 reference_from name version None = name ++ (codes "@" ++ version)
 reference_from name version (Some source) =
@@ -25,7 +26,7 @@ identity_reference d =
 abbrev pub package_reference : PackageData → List ℕ
 package_reference p = identity_reference (identity_of p)
 
--- the text that refers to the packages of the workspace together; that of a package has an `@`
+-- the text that refers to the packages of the workspace together; the text of a package has an `@`
 abbrev pub workspace_reference : List ℕ
 workspace_reference = codes "workspace"
 
@@ -33,21 +34,21 @@ workspace_reference = codes "workspace"
 abbrev pub WorkspaceIsNoPackage : Type 0
 WorkspaceIsNoPackage = (p : PackageData) → package_reference p ≢ workspace_reference
 
--- no two packages have one text
+-- no two packages have the same text
 abbrev pub HaveDistinctReferences : List PackageData → Type 0
 HaveDistinctReferences packages = AllPairs (λ x y. x ≢ y) (map package_reference packages)
 
--- the package stands at a place, and one before it has its text
+-- the package is at a place, and an earlier one has its text
 pub record IsRepeated (packages : List PackageData) (p : PackageData) : Type 0 where
   pub place : ℕ
   pub stands : slice_get packages place ≡ Some p
   pub earlier : Contains (map package_reference (take place packages)) (package_reference p)
 
--- what is said of such a package, without user name and password
+-- the text of the error for such a package, without user name and password
 abbrev pub repeated_text : PackageData → List ℕ
 repeated_text p = codes "two packages are " ++ dependency_text (public_identity (identity_of p))
 
--- memory ran out, or the fault is `Parse` and names a package whose text one before it has
+-- the error is `Memory`, or it is `Parse` and names a package whose text an earlier one has
 abbrev pub IsRepeatedFault : List PackageData → Error → Type 0
 IsRepeatedFault packages e = (e ≡ Memory)
     ⊎ ((p : PackageData) × IsRepeated packages p × IsParse e (repeated_text p))

@@ -1,4 +1,4 @@
--- What a bill is about: one package, the packages of the workspace together, or nothing.
+-- The root of a bill: one package, the packages of the workspace together, or nothing.
 use Rattle.std.specs.Prelude.{◌≡◌, ℕ, Bool, true, false, not, ◌&&◌, ◌==◌, ◌↔◌, List, Option, Some}
 use Rattle.std.specs.Prelude.{◌<◌, None, is_none, length, slice_get}
 use Rattle.std.specs.List.{list_any}
@@ -34,13 +34,14 @@ LeadsTo graph a b = IsReachable (far_ends Outgoing graph.edges) a b
 abbrev pub LeadsToMembers : GraphData → ℕ → Type 0
 LeadsToMembers graph node = (k : ℕ) → is_member graph.packages k ≡ true → LeadsTo graph node k
 
--- the package of the workspace that no other package needs, and that leads to each of the workspace
+-- the package of the workspace that no other package needs, and that leads to each package of the
+-- workspace
 pub record IsTop (graph : GraphData) (node : ℕ) : Type 0 where
   pub application : is_application graph node ≡ true
   pub leads : LeadsToMembers graph node
 
 -- The root of the bill of a graph: the node that the caller gave, or else the top of the workspace,
--- or else all packages of the workspace, or else, without any, nothing.
+-- or else all packages of the workspace, or else, if there are none, nothing.
 abbrev pub IsRootOf : GraphData → Option ℕ → Root → Type 0
 IsRootOf graph (Some node) root = root ≡ Package node
 IsRootOf graph None (Package node) = IsTop graph node
@@ -50,18 +51,18 @@ IsRootOf graph None Nothing = (k : ℕ) → is_member graph.packages k ≡ false
 
 -- ---- what the root leads to
 
--- some package of the workspace leads to the node, so the package of the node is no orphan
+-- some package of the workspace leads to the node, so the package of the node is not an orphan
 abbrev pub IsReached : GraphData → ℕ → Type 0
 IsReached graph node = (m : ℕ) × (is_member graph.packages m ≡ true) × LeadsTo graph m node
 
--- the root leads to the node: that of the workspace has edges to each package of the workspace
+-- the root leads to the node; a root that is the workspace has edges to each package of the
+-- workspace
 abbrev pub IsBelow : GraphData → Root → ℕ → Type 0
 IsBelow graph (Package root) node = LeadsTo graph root node
 IsBelow graph Workspace node = IsReached graph node
 IsBelow graph Nothing node = ⊥
 
--- where the caller gives no root, that of the bill leads to exactly the packages that are no
--- orphans
+-- if the caller gives no root, that of the bill leads to exactly the packages that are not orphans
 abbrev pub LeadsToAllButOrphans : GraphData → Root → Type 0
 LeadsToAllButOrphans graph root = (k : ℕ) → IsBelow graph root k ↔ IsReached graph k
 
@@ -69,7 +70,7 @@ LeadsToAllButOrphans graph root = (k : ℕ) → IsBelow graph root k ↔ IsReach
 abbrev pub TopIsOne : Type 0
 TopIsOne = (graph : GraphData) (a b : ℕ) → IsTop graph a → IsTop graph b → a ≡ b
 
--- the root is no node beyond the packages
+-- the root is not a node beyond the packages
 abbrev pub IsWithin : List PackageData → Root → Type 0
 IsWithin packages (Package node) = node < length packages
 IsWithin packages Workspace = Unit {0}

@@ -11,8 +11,8 @@ use Rattle.cargo_lock_bom.specs.Root.{is_member}
 abbrev pub IsMarked : List Bool → ℕ → Type 0
 IsMarked marks node = slice_get marks node ≡ Some true
 
--- The search has reached the nodes at which P holds. What it newly reached waits, and what waits
--- now waited before or has a mark.
+-- The search has reached the nodes at which P holds. The nodes that it newly reached wait, and each
+-- node that waits now waited before or has a mark.
 pub record HasReached (P : ℕ → Type 0) (old new : Search) : Type 0 where
   pub count : length new.reached.items ≡ length old.reached.items
   pub kept : (k : ℕ) → IsMarked old.reached.items k → IsMarked new.reached.items k
@@ -25,7 +25,7 @@ pub record HasReached (P : ℕ → Type 0) (old new : Search) : Type 0 where
   pub measure : unmarked_count new.reached.items + length new.waiting.items
       ≡ unmarked_count old.reached.items + length old.waiting.items
 
--- Among so many nodes, with these far ends: the start has a mark, and the far ends of a node with a
+-- Among `count` nodes, with these far ends: the start has a mark, and the far ends of a node with a
 -- mark have one, unless the node still waits. What has a mark is reachable.
 pub record IsSearch (far : ℕ → List ℕ) (start count : ℕ) (search : Search) : Type 0 where
   pub nodes : length search.reached.items ≡ count

@@ -1,4 +1,6 @@
 -- The serial number of a bill.
+-- CycloneDX 1.6 asks for a UUID of RFC 4122, which RFC 9562 replaces: version 5 is in its section
+-- 5.5.
 use Rattle.std.specs.Prelude.{Bool, true, false, ℕ, List, [], ◌∷◌, ◌++◌, codes, take}
 use Rattle.serde_json.specs.Data.{Data, object, string, put}
 use Rattle.serde_json.specs.Written.{compact_text}
@@ -14,7 +16,7 @@ url_namespace =
     0x6b ∷ 0xa7 ∷ 0xb8 ∷ 0x11 ∷ 0x9d ∷ 0xad ∷ 0x11 ∷ 0xd1 ∷ 0x80 ∷ 0xb4 ∷ 0x00 ∷ 0xc0 ∷ 0x4f ∷ 0xd4
     ∷ 0x30 ∷ 0xc8 ∷ []
 
--- the UUID of version 5 of a text, in the namespace of URLs, as RFC 4122 makes it of their SHA-1
+-- the UUID of version 5 of a text, in the namespace of URLs, made of the SHA-1 of both
 unfoldable pub name_id : List ℕ → List ℕ
 name_id text = with_version (with_variant (take 16 (sha1 (url_namespace ++ text))) RFC4122) Sha1
 
@@ -27,7 +29,7 @@ abbrev pub with_serial : List ℕ → Data → Data
 with_serial serial (object members) = object (put (codes "serialNumber") (string serial) members)
 with_serial serial other = other
 
--- the document as it is, or with the serial number of its text, which is that of one line without
+-- the document unchanged, or with the serial number of its text, which is in one line without
 -- spaces between its parts
 abbrev pub numbered : Bool → Data → Data
 numbered false d = d

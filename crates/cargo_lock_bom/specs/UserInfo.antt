@@ -1,4 +1,5 @@
--- What a bill says of a source: all but the user name and the password of its URL.
+-- What a bill contains of a source: all of it except the user name and the password of its URL.
+-- Both are parts of a URL in the URL Standard.
 use Rattle.std.specs.Prelude.{[], option_map}
 use Rattle.url.specs.Parts.{Parts}
 use Rattle.cargo_lock_parts.specs.Identity.{Identity}

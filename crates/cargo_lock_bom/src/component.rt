@@ -1,4 +1,5 @@
-//! The components of a bill of materials: the root, and the other packages, in order, each once.
+//! The components of a bill of materials: the root, and the other packages, in order, each listed
+//! once.
 
 ghost use Rattle.std.specs.Prelude.{◌≡◌, ◌<◌, All, IfOk, OnOk, Some, length, map, option_copied};
 ghost use Rattle.std.specs.Prelude.{option_map, string_bytes};
@@ -64,14 +65,13 @@ pub(crate) fn root_component(
     }
 }
 
-// The component of the packages of the workspace together.
+// The component that represents the packages of the workspace together.
 fn workspace(alloc: Global) -> Result<Value, AllocError>
     ensures { IfOk result (λ v. view v ≡ workspace_component) }
 {
     json!(in alloc; {"bom-ref": "workspace", "name": "workspace", "type": "application"})
 }
 
-// The component of the package of a node.
 fn component(alloc: Global, graph: &Graph, node: NodeIndex) -> Result<Value, AllocError>
     requires { node < length graph.now.packages }
     ensures { IfOk result (λ v. view v ≡ component_at graph.now node) }
@@ -81,7 +81,7 @@ fn component(alloc: Global, graph: &Graph, node: NodeIndex) -> Result<Value, All
     Ok(made)
 }
 
-// The component of a package, an application or a library.
+// The component of a package, as an application or as a library.
 #[tactic(auto, unfolding(crate::specs::Component::component_of))]
 fn component_of(alloc: Global, application: bool, package: &Package) -> Result<Value, AllocError>
     ensures { IfOk result (λ v. view v ≡ component_of application «package».now) }
@@ -133,7 +133,7 @@ fn base(
     Ok(members)
 }
 
-// What a component is.
+// The type of a component.
 fn type_text(application: bool) -> &'static str
     ensures { result.now ≡ type_text application }
 {
@@ -155,7 +155,7 @@ fn purl_value(alloc: Global, package: &Package) -> Result<Option<Value>, AllocEr
     }
 }
 
-// The list of one hash, if there is a checksum.
+// The list with the one hash of a package, if it has a checksum.
 fn hashes(alloc: Global, checksum: &Option<Checksum>) -> Result<Option<Value>, AllocError>
     ensures { IfOk result (λ v.
         option_map view v ≡ option_map hashes_of (option_map digest_of checksum.now)) }
@@ -170,7 +170,7 @@ fn hashes(alloc: Global, checksum: &Option<Checksum>) -> Result<Option<Value>, A
     }
 }
 
-// The list of one repository, if the source is one.
+// The list with the one repository of a package, if its source is one.
 fn repositories(alloc: Global, source: &Option<SourceId>) -> Result<Option<Value>, AllocError>
     ensures { IfOk result (λ v. option_map view v ≡ repositories_if source.now) }
 {
@@ -180,7 +180,7 @@ fn repositories(alloc: Global, source: &Option<SourceId>) -> Result<Option<Value
     }
 }
 
-// The list of one repository, if the source is one.
+// The list with the one repository, if the source is one.
 fn repositories_of(alloc: Global, source: &SourceId) -> Result<Option<Value>, AllocError>
     ensures { IfOk result (λ v. option_map view v ≡ repositories_if (Some source.now)) }
 {
@@ -197,7 +197,8 @@ fn repositories_of(alloc: Global, source: &SourceId) -> Result<Option<Value>, Al
     }
 }
 
-// The list of one repository at a URL, with what is checked out of it, if that is known.
+// The list with the one repository at a URL, with the commit, tag, branch or revision, if it is
+// known.
 fn repository(alloc: Global, url: String, precise: Option<&str>) -> Result<Value, AllocError>
     ensures { IfOk result (λ v.
         view v ≡ repositories_of (string_bytes url) (option_copied precise.entry)) }

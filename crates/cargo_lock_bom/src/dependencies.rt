@@ -17,7 +17,7 @@ use cargo_lock_graph::graph::{EdgeDirection, Graph, NodeIndex};
 use serde_json::{Value, json};
 use std::alloc::{AllocError, Global};
 
-/// The entries of the nodes of a graph, in order, and then that of the workspace, if it is the
+/// The entries of the nodes of a graph, in order, and then the entry of the workspace, if it is the
 /// root. Fails when out of memory.
 pub(crate) fn entries(alloc: Global, graph: &Graph, root: &Root) -> Result<Vec<Value>, AllocError>
     ensures { IfOk result (λ made. AreEntries graph.now root.now (map view made.items)) }
@@ -45,7 +45,6 @@ fn with_workspace(
     Ok(made)
 }
 
-// The entry of the workspace.
 fn workspace_entry(alloc: Global, graph: &Graph) -> Result<Value, AllocError>
     ensures { IfOk result (λ v. IsWorkspaceEntry graph.now.packages (view v)) }
 {
@@ -69,7 +68,6 @@ fn node_entries(alloc: Global, graph: &Graph) -> Result<Vec<Value>, AllocError>
     Ok(made)
 }
 
-// The entry of a node.
 fn entry(alloc: Global, graph: &Graph, node: NodeIndex) -> Result<Value, AllocError>
     requires { node < length graph.now.packages }
     ensures { IfOk result (λ v. IsEntry graph.now node (view v)) }
@@ -81,7 +79,7 @@ fn entry(alloc: Global, graph: &Graph, node: NodeIndex) -> Result<Value, AllocEr
     Ok(made)
 }
 
-// The entry of a text and of the texts of what its package depends on.
+// The entry of a text, with the texts of the packages on which its package depends.
 fn entry_of(alloc: Global, own: String, on: Vec<Value>) -> Result<Value, AllocError>
     ensures { IfOk result (λ v. view v ≡ object
         (member (codes "dependsOn") (array (items_view on.items))
@@ -104,7 +102,7 @@ fn references(alloc: Global, graph: &Graph, nodes: &[usize]) -> Result<Vec<Value
     Ok(made)
 }
 
-// The nodes to which the edges of a node lead, ascending, each once.
+// The nodes to which the edges of a node lead, ascending, each listed once.
 fn targets(alloc: Global, graph: &Graph, node: NodeIndex) -> Result<Vec<usize>, AllocError>
     ensures { IfOk result (λ targets. AreTargets graph.now node targets.items) }
 {

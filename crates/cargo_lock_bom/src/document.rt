@@ -22,28 +22,28 @@ use cargo_lock_parts::Result;
 use serde_json::{Map, Value, put};
 use std::alloc::{AllocError, Global};
 
-/// The bill of materials of a graph: its packages, and what its edges say that each depends on. The
-/// graph of a lockfile is that of its tree.
+/// The bill of materials of a graph: its packages, and for each package the packages on which it
+/// depends by the graph's edges. The graph of a lockfile is that of its tree.
 ///
-/// The member `components` has a package of crates.io as
-/// `{"bom-ref": "registry+https://github.com/rust-lang/crates.io-index#serde@1.0.203",
-/// "hashes": [{"alg": "SHA-256", "content": "7253ab.."}], "name": "serde",
-/// "purl": "pkg:cargo/serde@1.0.203", "type": "library", "version": "1.0.203"}`, without `hashes`
-/// where there is no checksum, and without `purl` where there is no source. A package of a
-/// repository has `"externalReferences": [{"comment": COMMIT, "type": "vcs", "url": URL}]` too. The
-/// `type` is `application` where a package has no source and no other package needs it. The member
-/// `dependencies` has, for each component, `{"dependsOn": [..], "ref": ".."}`, by their `bom-ref`.
+/// The member `components` has a package of crates.io as `{"bom-ref":
+/// "registry+https://github.com/rust-lang/crates.io-index#serde@1.0.203", "hashes": [{"alg":
+/// "SHA-256", "content": "7253ab.."}], "name": "serde", "purl": "pkg:cargo/serde@1.0.203", "type":
+/// "library", "version": "1.0.203"}`, without `hashes` if there is no checksum, and without `purl`
+/// if there is no source. A package of a repository also has `"externalReferences": [{"comment":
+/// COMMIT, "type": "vcs", "url": URL}]`. The `type` is `application` if the package has no source
+/// and no other package needs it. The member `dependencies` has, for each component, `{"dependsOn":
+/// [..], "ref": ".."}`, by their `bom-ref`.
 ///
-/// The member `metadata` has the component of the root, which `root_of` chooses: of a package it
-/// stands there in place of `components`, and of the workspace it is
+/// The member `metadata` has the component of the root, which `root_of` chooses. If the root is a
+/// package, it is in `metadata` in place of `components`; if it is the workspace, it is
 /// `{"bom-ref": "workspace", "name": "workspace", "type": "application"}`, whose entry depends on
-/// each package without a source. It has `"lifecycles": [{"phase": "pre-build"}]`, the program that
-/// wrote the bill, and what the options ask for: `"timestamp": "2024-06-19T17:30:05Z"` and
-/// `"authors": [{"name": AUTHOR}]`. The member `serialNumber`, if they ask for it, is
-/// `urn:uuid:ID`, where ID is of the document's text in one line without that member.
+/// each package without a source. The member also has `"lifecycles": [{"phase": "pre-build"}]`, the
+/// program that wrote the bill, and what the options ask for: `"timestamp": "2024-06-19T17:30:05Z"`
+/// and `"authors": [{"name": AUTHOR}]`. The member `serialNumber`, if they ask for it, is
+/// `urn:uuid:ID`, where ID is computed from the document's text in one line without that member.
 ///
-/// `Parse` says that two packages have one text, by which the bill would refer to both:
-/// `two packages are NAME VERSION (SOURCE)`.
+/// `Parse` means that two packages have the same `bom-ref`, so the bill would refer to both:
+/// `two packages are NAME VERSION (SOURCE)`. The other error is `Memory`.
 pub fn document(alloc: Global, graph: &Graph, options: &Options<'_>) -> Result<Value>
     ensures ok { IfOk result (λ v. IsBill graph.now (within graph.now «options».now) (view v)) }
     ensures err { IfErr result (IsRepeatedFault graph.now.packages) }
@@ -51,7 +51,7 @@ pub fn document(alloc: Global, graph: &Graph, options: &Options<'_>) -> Result<V
     document_within(alloc, graph, &options.within(graph))
 }
 
-// The same, where the root is a node and the time is one that the format can say.
+// The same, for a root that is a node and a time that the format can represent.
 fn document_within(alloc: Global, graph: &Graph, options: &Options<'_>) -> Result<Value>
     requires root { IfSome «options».now.root (λ node. node < length graph.now.packages) }
     requires time { IfSome «options».now.timestamp (λ seconds. seconds < 253_402_300_800) }
@@ -65,8 +65,8 @@ fn document_within(alloc: Global, graph: &Graph, options: &Options<'_>) -> Resul
     Ok(bill)
 }
 
-/// The text of the bill of materials of a graph, with one member or item a line, indented. Fails as
-/// `document` does.
+/// The text of the bill of materials of a graph, with one member or item per line, indented. The
+/// errors are those of `document`: `Parse` if two packages have the same `bom-ref`, and `Memory`.
 pub fn pretty_text(alloc: Global, graph: &Graph, options: &Options<'_>) -> Result<String>
     ensures ok { IfOk result (λ text. IsBillText graph.now
         (within graph.now «options».now) (string_bytes text)) }
@@ -76,8 +76,8 @@ pub fn pretty_text(alloc: Global, graph: &Graph, options: &Options<'_>) -> Resul
     Ok(document(alloc, graph, options)?.to_string_pretty(alloc)?)
 }
 
-/// The text of the bill of materials of a graph, in one line without spaces between its parts.
-/// Fails as `document` does.
+/// The text of the bill of materials of a graph, in one line without spaces between its parts. The
+/// errors are those of `document`: `Parse` if two packages have the same `bom-ref`, and `Memory`.
 pub fn compact_text(alloc: Global, graph: &Graph, options: &Options<'_>) -> Result<String>
     ensures ok { IfOk result (λ text. IsBillText graph.now
         (within graph.now «options».now) (string_bytes text)) }
@@ -105,7 +105,6 @@ fn bill_about(
     Ok(bill)
 }
 
-// The document of components, entries and metadata.
 #[tactic(auto, unfolding(crate::specs::Document::document_of))]
 fn document_of(
     alloc: Global,

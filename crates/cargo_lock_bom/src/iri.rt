@@ -1,7 +1,7 @@
-//! URLs as RFC 3987 has references, which JSON Schema calls `iri-reference`.
+//! URLs as references of RFC 3987, which JSON Schema calls `iri-reference`.
 //!
-//! The URL Standard leaves some bytes of a URL as they are that no reference has, such as `|` and
-//! `[` in a path. Here they are escaped. A `%` stays, also where no two digits follow it.
+//! The URL Standard does not escape some bytes of a URL that may not be in a reference, such as `|`
+//! and `[` in a path. Here they are escaped. A `%` stays, even if no two digits follow it.
 
 ghost use Rattle.std.specs.Prelude.{◌≡◌, IfOk, string_bytes};
 ghost use Rattle.percent_encoding.specs.Iter.{encoded_text};
@@ -33,7 +33,7 @@ const IRI: AsciiSet = ascii_set!(
         .remove(b'%')
 );
 
-// Those that are escaped in a host: the same but brackets.
+// The ASCII bytes that are escaped in a host: the same except brackets.
 const HOST: AsciiSet = ascii_set!(IRI.remove(b'[').remove(b']'));
 
 /// The text of a URL as a reference, without user name and password:
@@ -47,14 +47,13 @@ pub(crate) fn iri_text(alloc: Global, url: &Url) -> Result<String, AllocError>
     format!(in alloc; "{scheme}{host}{rest}")
 }
 
-// A host, escaped.
 fn escape_host(text: &str) -> PercentEncode<'_>
     ensures { encoded_text result ≡ escaped_host text.now }
 {
     utf8_percent_encode(text, HOST)
 }
 
-// What stands behind a host, escaped.
+// The text after a host, escaped.
 fn escape_iri(text: &str) -> PercentEncode<'_>
     ensures { encoded_text result ≡ escaped_iri text.now }
 {

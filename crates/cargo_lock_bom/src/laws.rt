@@ -3,8 +3,8 @@
 ghost use Rattle.cargo_lock_bom.specs.References.{WorkspaceIsNoPackage};
 ghost use Rattle.cargo_lock_bom.specs.Root.{TopIsOne};
 
-/// At most one package without a source is such that no other package needs it and that it leads to
-/// each package without a source.
+/// At most one package without a source is the top: no other package needs it, and it leads to each
+/// package without a source.
 pub fn there_is_one_top()
     ensures { TopIsOne }
 {}

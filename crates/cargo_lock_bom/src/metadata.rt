@@ -1,4 +1,4 @@
-//! What a bill of materials says of itself.
+//! The metadata of a bill of materials.
 
 ghost use Rattle.std.specs.Prelude.{◌≡◌, ◌<◌, ◌*◌, ℕ, IfOk, IfSome, List, Option, option_copied};
 ghost use Rattle.std.specs.Prelude.{option_map, pos, string_bytes};
@@ -18,7 +18,7 @@ use jiff_fmt::temporal::DateTimePrinter;
 use serde_json::{Map, Value, json, put};
 use std::alloc::{AllocError, Global};
 
-/// What the bill of a graph with this root says of itself. Fails when out of memory.
+/// The metadata of the bill of a graph with this root. Fails when out of memory.
 pub(crate) fn metadata(
     alloc: Global,
     graph: &Graph,
@@ -67,7 +67,7 @@ fn own_members(alloc: Global, version: &str) -> Result<Map<String, Value>, Alloc
     Ok(members)
 }
 
-// When the packages of the bill are chosen.
+// The phase in which the packages of the bill are chosen.
 fn lifecycles(alloc: Global) -> Result<Value, AllocError>
     ensures { IfOk result (λ v. view v ≡ lifecycles) }
 {
@@ -86,7 +86,7 @@ fn tools(alloc: Global, version: &str) -> Result<Value, AllocError>
     )
 }
 
-// The list of one author, if there is one.
+// The list with the one author, if there is one.
 fn authors(alloc: Global, author: Option<&str>) -> Result<Option<Value>, AllocError>
     ensures { IfOk result (λ v.
         option_map view v ≡ option_map authors_of (option_copied author.entry)) }
@@ -97,7 +97,7 @@ fn authors(alloc: Global, author: Option<&str>) -> Result<Option<Value>, AllocEr
     }
 }
 
-// The list of one author.
+// The list with the one author.
 fn authors_of(alloc: Global, author: &str) -> Result<Value, AllocError>
     ensures { IfOk result (λ v. view v ≡ authors_of author.now) }
 {
@@ -128,14 +128,12 @@ fn time_value(alloc: Global, seconds: u64) -> Result<Value, AllocError>
     Ok(value)
 }
 
-// A text as a value.
 fn text_value(text: String) -> Value
     ensures { view result ≡ string (string_bytes text) }
 {
     Value::String(text)
 }
 
-// The text of a time.
 fn time_text(alloc: Global, seconds: u64) -> Result<String, AllocError>
     requires { seconds < 253_402_300_800 }
     ensures { IfOk result (λ text. IsTimeText seconds (string_bytes text)) }
@@ -145,7 +143,6 @@ fn time_text(alloc: Global, seconds: u64) -> Result<String, AllocError>
     format!(in alloc; "{text}Z")
 }
 
-// So many seconds in nanoseconds.
 fn nanoseconds(seconds: u64) -> i128
     requires { seconds < 253_402_300_800 }
     ensures { result ≡ pos (seconds * 1_000_000_000) }

@@ -1,4 +1,4 @@
-//! What a caller says of a bill of materials.
+//! The options of a bill of materials.
 
 ghost use Rattle.std.specs.Prelude.{◌≡◌, ◌<◌, IfSome, length};
 ghost use Rattle.cargo_lock_bom.specs.Options.{below, within};
@@ -6,27 +6,26 @@ ghost use Rattle.cargo_lock_bom.specs.Options.{below, within};
 use cargo_lock_graph::graph::{Graph, NodeIndex};
 use std::marker::Model;
 
-/// The version of this project, which `cargo-lock --version` prints, and bills that it writes have.
-/// The file `VERSION` has it too.
+/// The version of this project, which `cargo-lock --version` prints and bills contain. The file
+/// `VERSION` has the same text.
 pub const VERSION: &str = "0.1.0";
 
-/// What a caller says of a bill of materials. Equal lockfiles have equal bills, where this is
-/// equal.
+/// The options of a bill of materials. Equal lockfiles have equal bills if their options are equal.
 #[derive(Debug, Drop)]
 pub struct Options<'a> {
-    /// The node of the root, if the caller gives it: that of a package that its user names, or of a
-    /// root that the lockfile itself has, as one of format V1. One that is no node of the graph does
-    /// not count.
+    /// The node of the root, if the caller gives it: that of a package that its user named, or of a
+    /// root that the lockfile itself has, as one of V1 may. A node that is not in the graph is
+    /// ignored.
     pub root: Option<NodeIndex>,
 
     /// The version of the program that writes the bill.
     pub tool_version: &'a str,
 
-    /// When the bill is written, in seconds since 1970 began, in UTC. Without it the bill says no
-    /// time. One after the year 9999, from 253402300800 on, does not count.
+    /// The time at which the bill is written, in seconds since the start of 1970, in UTC. Without
+    /// it the bill has no time. A time after the year 9999, from 253402300800 on, is ignored.
     pub timestamp: Option<u64>,
 
-    /// Who writes the bill. Without it the bill names no author.
+    /// The author of the bill. Without it the bill names no author.
     pub author: Option<&'a str>,
 
     /// Whether the bill has a serial number.
@@ -48,11 +47,11 @@ impl<'a> Model for Options<'a> {
     } };
 }
 
-/// From which number of seconds on a time is after the year 9999.
+/// The first second after the year 9999.
 const YEAR_10000: u64 = 253_402_300_800;
 
 impl<'a> Options<'a> {
-    /// What counts of these options for a graph.
+    /// The options without those that are ignored for this graph.
     pub(crate) fn within(&self, graph: &Graph) -> Options<'a>
         ensures is { «result» ≡ within graph.now «self».now }
         ensures root { IfSome «result».root (λ node. node < length graph.now.packages) }

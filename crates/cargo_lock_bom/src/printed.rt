@@ -17,8 +17,8 @@ use cargo_lock_graph::graph::{Graph, NodeIndex};
 use cargo_lock_parts::{Package, Result};
 use std::alloc::{AllocError, Global};
 
-/// The packages of a bill, which are those of a lockfile and, as the last of them, its root, if it
-/// has one apart from its packages, as lockfiles of format V1 have; and the node of that root.
+/// The packages of a bill, and the node of the separate root, if there is one. The packages are
+/// those of a lockfile, followed by its root if that is separate from them, as in lockfiles of V1.
 /// Fails when out of memory.
 pub fn with_root(
     packages: Vec<Package>,
@@ -36,10 +36,11 @@ pub fn with_root(
     Ok((packages, Some(node)))
 }
 
-/// The text of the bill of materials of packages, in one line where it is compact, and a newline.
+/// The text of the bill of materials of packages and a newline. The text is in one line if
+/// `is_compact` is true.
 ///
-/// `Resolution` names the first dependency that no package fits, and `Parse` says that two packages
-/// have one text, by which the bill would refer to both, as `document` does.
+/// `Resolution` names the first dependency that no package matches, and `Parse` means that two
+/// packages have the same `bom-ref`, as for `document`. The other error is `Memory`.
 pub fn printed_bill(
     alloc: Global,
     packages: &Vec<Package>,
@@ -56,7 +57,7 @@ pub fn printed_bill(
     Ok(line)
 }
 
-// The graph of packages, without the nodes by their identities.
+// The graph of packages, without the map of their nodes.
 fn graph_alone(alloc: Global, packages: &Vec<Package>) -> Result<Graph>
     ensures packages { IfOk result (λ graph. graph.packages ≡ packages.now.items) }
     ensures edges { IfOk result (λ graph. AreEdgesOf packages.now.items graph.edges) }
@@ -81,7 +82,6 @@ fn text_of(alloc: Global, graph: &Graph, options: &Options<'_>, is_compact: bool
     }
 }
 
-// A text and a newline.
 fn with_newline(text: String) -> std::result::Result<String, AllocError>
     ensures { IfOk result (λ line. string_bytes line ≡ string_bytes text ++ newline ∷ []) }
 {

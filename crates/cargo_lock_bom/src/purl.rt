@@ -24,17 +24,17 @@ const SEGMENT: AsciiSet = ascii_set!(
         .remove(b':')
 );
 
-// Those that are escaped in a URL: the same but `/`.
+// The ASCII bytes that are escaped in a URL: the same except `/`.
 pub(crate) const VALUE: AsciiSet = ascii_set!(SEGMENT.remove(b'/'));
 
-/// The package URL of a package: `pkg:cargo/serde@1.0.203`. After `?` stands where the package
-/// comes from, unless that is crates.io: `vcs_url=git%2Bhttps://example.org/lib%40COMMIT` of a
+/// The package URL of a package: `pkg:cargo/serde@1.0.203`. After `?` it says where the package
+/// comes from, unless that is crates.io: `vcs_url=git%2Bhttps://example.org/lib%40COMMIT` for a
 /// repository, with the commit, or else the tag, the branch or the revision, `repository_url=URL`
-/// of another registry, and `download_url=URL` of a folder. The URL is written without user name
+/// for another registry, and `download_url=URL` for a folder. The URL is written without user name
 /// and password, since a bill is published.
 ///
-/// A package without a source has none: `pkg:cargo/NAME@VERSION` names the package of crates.io,
-/// which is another one. Fails when out of memory.
+/// A package without a source has no package URL: `pkg:cargo/NAME@VERSION` is the package of
+/// crates.io, a different package. Fails when out of memory.
 pub fn purl(alloc: Global, package: &Package) -> Result<Option<String>, AllocError>
     ensures { IfOk result
         (λ text. option_map string_bytes text ≡ purl_of (identity_of «package».now)) }
@@ -52,21 +52,19 @@ pub fn purl(alloc: Global, package: &Package) -> Result<Option<String>, AllocErr
     }
 }
 
-// A name or a version, escaped.
 fn escape(text: &str) -> PercentEncode<'_>
     ensures { encoded_text result ≡ escaped_text text.now }
 {
     utf8_percent_encode(text, SEGMENT)
 }
 
-// A URL, escaped.
 fn escape_url(text: &str) -> PercentEncode<'_>
     ensures { encoded_text result ≡ escaped_url text.now }
 {
     utf8_percent_encode(text, VALUE)
 }
 
-// What says where a package comes from.
+// The qualifiers that say where a package comes from.
 #[tactic(auto, unfolding(crate::specs::Purl::qualifiers))]
 fn qualifiers(alloc: Global, source: &SourceId) -> Result<String, AllocError>
     ensures { IfOk result (λ text. string_bytes text ≡ spec.qualifiers source.now) }
@@ -78,7 +76,7 @@ fn qualifiers(alloc: Global, source: &SourceId) -> Result<String, AllocError>
     qualifiers_by(alloc, source.kind(), url.as_str(), source.precise())
 }
 
-// The same by the parts of the source.
+// The same, by the parts of the source.
 fn qualifiers_by(
     alloc: Global,
     kind: &SourceKind,
@@ -89,17 +87,17 @@ fn qualifiers_by(
         ≡ spec.qualifiers_by (kind_of kind.now) url.now (option_copied precise.entry)) }
 {
     match kind {
-        SourceKind::Git(reference) => of_repository(alloc, reference, url, precise),
-        SourceKind::Path => of_folder(alloc, url),
-        SourceKind::Registry => of_registry(alloc, url),
-        SourceKind::SparseRegistry => of_registry(alloc, url),
-        SourceKind::LocalRegistry => of_registry(alloc, url),
-        SourceKind::Directory => of_registry(alloc, url),
+        SourceKind::Git(reference) => repository_qualifier(alloc, reference, url, precise),
+        SourceKind::Path => download_qualifier(alloc, url),
+        SourceKind::Registry => registry_qualifier(alloc, url),
+        SourceKind::SparseRegistry => registry_qualifier(alloc, url),
+        SourceKind::LocalRegistry => registry_qualifier(alloc, url),
+        SourceKind::Directory => registry_qualifier(alloc, url),
     }
 }
 
-// What says of a package that it comes from a folder.
-fn of_folder(alloc: Global, url: &str) -> Result<String, AllocError>
+// The qualifier of a package from a folder.
+fn download_qualifier(alloc: Global, url: &str) -> Result<String, AllocError>
     ensures { IfOk result
         (λ text. string_bytes text ≡ codes "?download_url=" ++ escaped_url url.now) }
 {
@@ -107,8 +105,8 @@ fn of_folder(alloc: Global, url: &str) -> Result<String, AllocError>
     format!(in alloc; "?download_url={url}")
 }
 
-// What says of a package that it comes from a registry.
-fn of_registry(alloc: Global, url: &str) -> Result<String, AllocError>
+// The qualifier of a package from a registry.
+fn registry_qualifier(alloc: Global, url: &str) -> Result<String, AllocError>
     ensures { IfOk result
         (λ text. string_bytes text ≡ codes "?repository_url=" ++ escaped_url url.now) }
 {
@@ -116,8 +114,8 @@ fn of_registry(alloc: Global, url: &str) -> Result<String, AllocError>
     format!(in alloc; "?repository_url={url}")
 }
 
-// What says of a package that it comes from a repository.
-fn of_repository(
+// The qualifier of a package from a repository.
+fn repository_qualifier(
     alloc: Global,
     reference: &GitReference,
     url: &str,
@@ -132,7 +130,7 @@ fn of_repository(
     format!(in alloc; "?vcs_url={place}")
 }
 
-// Where a repository is, and what is checked out of it.
+// The URL of a repository, with the commit, tag, branch or revision that is checked out.
 fn place_of(alloc: Global, url: &str, revision: Option<&str>) -> Result<String, AllocError>
     ensures { IfOk result (λ text. string_bytes text
         ≡ repository_text url.now (option_copied revision.entry)) }

@@ -11,14 +11,14 @@ use crate::dependencies::ends;
 use cargo_lock_graph::graph::{Graph, NodeIndex};
 use std::alloc::{AllocError, Global};
 
-// Which nodes are reached so far, and those whose edges are still to be followed.
+// The nodes that are reached so far, and those whose edges are still to be followed.
 #[derive(Drop)]
 struct Search {
     reached: Vec<bool>,
     waiting: Vec<usize>,
 }
 
-/// For each node whether edges lead to it from the start, which is reached too. Fails when out of
+/// For each node, whether edges lead to it from the start, which is reached too. Fails when out of
 /// memory.
 pub(crate) fn reached_from(
     alloc: Global,
@@ -47,7 +47,6 @@ pub(crate) fn reached_from(
 }
 
 impl Search {
-    // Reaches some nodes.
     fn reach_all(&mut self, nodes: &[usize]) -> Result<(), AllocError>
         requires { All (λ k. k < length self.old.reached.items) nodes.now }
         ensures { OnOk result (HasReached (Contains nodes.now) self.old self.new) }
@@ -58,7 +57,7 @@ impl Search {
         Ok(())
     }
 
-    // Reaches a node. It waits where it was not reached before.
+    // Reaches a node, whose edges are still to be followed if it was not reached before.
     fn reach(&mut self, node: usize) -> Result<(), AllocError>
         requires { node < length self.old.reached.items }
         ensures { OnOk result (HasReached (λ k. k ≡ node) self.old self.new) }

@@ -18,8 +18,8 @@ use cargo_lock_parts::{Error, Package, Result};
 use std::alloc::{AllocError, Global};
 use std::collections::BTreeSet;
 
-/// The text by which a bill of materials refers to a package: `NAME@VERSION`, after the source and
-/// `#` where there is one, as in
+/// The text by which a bill of materials refers to a package, its `bom-ref`: `NAME@VERSION`, after
+/// the source and `#` if there is a source, as in
 /// `registry+https://github.com/rust-lang/crates.io-index#serde@1.0.203`. The URL of the source is
 /// written without user name and password, since a bill is published. Fails when out of memory.
 pub fn reference(alloc: Global, package: &Package) -> std::result::Result<String, AllocError>
@@ -36,7 +36,7 @@ pub fn reference(alloc: Global, package: &Package) -> std::result::Result<String
     }
 }
 
-/// Refuses a graph in which one text refers to two packages.
+/// Refuses a graph in which the same text refers to two packages.
 pub(crate) fn check_distinct(alloc: Global, graph: &Graph) -> Result<()>
     ensures ok { OnOk result (HaveDistinctReferences graph.now.packages) }
     ensures err { IfErr result (IsRepeatedFault graph.now.packages) }
@@ -51,7 +51,7 @@ pub(crate) fn check_distinct(alloc: Global, graph: &Graph) -> Result<()>
     Ok(())
 }
 
-// Adds the text of a package, and answers whether it was new.
+// Adds the text of a package, and returns whether it was new.
 fn add(alloc: Global, seen: &mut BTreeSet<String>, package: &Package) -> Result<bool>
     ensures new { IfOk result
         (λ new. new ≡ not (contains_text seen.old (package_reference «package».now))) }
@@ -64,7 +64,7 @@ fn add(alloc: Global, seen: &mut BTreeSet<String>, package: &Package) -> Result<
     Ok(new)
 }
 
-// The fault of a package whose text another one has.
+// The error for a package whose text another one has.
 fn repeated_fault(alloc: Global, package: &Package) -> Error
     ensures { (result ≡ Memory) ⊎ IsParse result (spec.repeated_text «package».now) }
 {
@@ -74,7 +74,7 @@ fn repeated_fault(alloc: Global, package: &Package) -> Error
     }
 }
 
-// What is said of such a package.
+// The text of the error for such a package.
 fn repeated_text(alloc: Global, package: &Package) -> Result<String>
     ensures ok { IfOk result (λ text. string_bytes text ≡ spec.repeated_text «package».now) }
     ensures err { IsOkUnless result Memory }

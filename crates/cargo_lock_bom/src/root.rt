@@ -1,4 +1,4 @@
-//! What a bill of materials is about.
+//! The root of a bill of materials.
 
 ghost use Rattle.std.specs.Prelude.{◌≡◌, ◌<◌, ◌↔◌, ℕ, true, IfOk, IfSome, IsTrue};
 ghost use Rattle.std.specs.Prelude.{MatchOption, None, length};
@@ -15,16 +15,16 @@ use crate::reach::reached_from;
 use cargo_lock_graph::graph::{EdgeDirection, Graph, NodeIndex};
 use std::alloc::{AllocError, Global};
 
-/// What a bill of materials is about.
+/// The root of a bill of materials, which is what the bill describes.
 #[derive(Clone, Copy, Debug, PartialEq, Eq)]
 pub enum Root {
     /// The package of a node.
     Package(NodeIndex),
 
-    /// The packages without a source together, where none of them leads to the others.
+    /// The packages without a source together, if no single one of them is the root.
     Workspace,
 
-    /// Nothing, where each package has a source.
+    /// Nothing, if each package has a source.
     Nothing,
 }
 
@@ -41,13 +41,13 @@ impl Root {
     }
 }
 
-/// What the bill of a graph is about: the package of the node that is given, if one is. Else it is
+/// The root of the bill of a graph: the package of the given node, if there is one. Otherwise it is
 /// the one package without a source that no other package needs and that leads to each package
-/// without a source. Where there is no such package, it is all of those without a source together,
-/// and where each package has a source, nothing.
+/// without a source. If there is no such package, it is all packages without a source together, and
+/// if each package has a source, nothing.
 ///
-/// A caller gives the node that its user names, or that of a root which the lockfile itself has, as
-/// one of format V1. Where none is given, the root leads to exactly the packages to which some
+/// A caller gives the node that its user named, or the node of a root that the lockfile itself has,
+/// as one of V1 may. If no node is given, the root leads to exactly the packages to which some
 /// package without a source leads. Fails when out of memory.
 pub fn root_of(alloc: Global, graph: &Graph, given: Option<NodeIndex>) -> Result<Root, AllocError>
     requires { IfSome given (λ node. node < length graph.now.packages) }
@@ -61,7 +61,7 @@ pub fn root_of(alloc: Global, graph: &Graph, given: Option<NodeIndex>) -> Result
     }
 }
 
-// The root where none is given.
+// The root if no node is given.
 fn own_root(alloc: Global, graph: &Graph) -> Result<Root, AllocError>
     ensures within { IfOk result (IsWithin graph.now.packages) }
     ensures root { IfOk result (IsRootOf graph.now None) }
@@ -73,7 +73,7 @@ fn own_root(alloc: Global, graph: &Graph) -> Result<Root, AllocError>
     }
 }
 
-// The root where no package leads to all of the workspace.
+// The root if no package leads to all packages of the workspace.
 fn root_without_top(graph: &Graph) -> Root
     requires { (k : ℕ) → ¬ IsTop graph.now k }
     ensures within { IsWithin graph.now.packages result }
@@ -100,7 +100,7 @@ fn first_member(graph: &Graph) -> Option<NodeIndex>
     None
 }
 
-// The package of the workspace that leads to each of it and that no other needs.
+// The package of the workspace that leads to each of its packages and that no other package needs.
 fn top(alloc: Global, graph: &Graph) -> Result<Option<NodeIndex>, AllocError>
     ensures { IfOk result (λ found.
         MatchOption found ((k : ℕ) → ¬ IsTop graph.now k) (IsTop graph.now)) }
@@ -153,7 +153,7 @@ fn have_marks(graph: &Graph, marks: &[bool]) -> bool
     true
 }
 
-/// Whether a package is one of the workspace, and no other package needs it. Fails when out of
+/// Whether a package is one of the workspace and no other package needs it. Fails when out of
 /// memory.
 pub(crate) fn is_application(
     alloc: Global,

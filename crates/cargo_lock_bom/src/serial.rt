@@ -9,8 +9,8 @@ use serde_json::{Value, put};
 use std::alloc::{AllocError, Global};
 use uuid::Uuid;
 
-/// A document as it is, or with a serial number, which its text tells: of equal documents it is
-/// equal. Fails when out of memory.
+/// The document, unchanged or with a serial number that is computed from its text, so equal
+/// documents have equal numbers. Fails when out of memory.
 pub(crate) fn numbered(
     alloc: Global,
     document: Value,
@@ -26,7 +26,6 @@ pub(crate) fn numbered(
     with_serial(alloc, document, serial)
 }
 
-// The serial number of a document.
 fn serial_of(alloc: Global, document: &Value) -> Result<String, AllocError>
     requires { has_float (view document.now) ≡ false }
     ensures { IfOk result
@@ -37,7 +36,6 @@ fn serial_of(alloc: Global, document: &Value) -> Result<String, AllocError>
     Ok(serial)
 }
 
-// The serial number of a text.
 #[tactic(auto, unfolding(crate::specs::Serial::name_id))]
 fn serial_text(alloc: Global, text: &str) -> Result<String, AllocError>
     ensures { IfOk result (λ serial. string_bytes serial ≡ spec.serial_text text.now) }
@@ -47,7 +45,6 @@ fn serial_text(alloc: Global, text: &str) -> Result<String, AllocError>
     format!(in alloc; "{urn}")
 }
 
-// The document with a serial number.
 fn with_serial(alloc: Global, document: Value, serial: String) -> Result<Value, AllocError>
     ensures { IfOk result
         (λ v. view v ≡ spec.with_serial (string_bytes serial) (view document)) }

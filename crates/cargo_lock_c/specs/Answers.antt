@@ -1,11 +1,11 @@
--- What a call leaves in the room that its caller gives for the answer.
+-- What a call leaves in the caller's buffer for the answer.
 use Rattle.std.specs.Prelude.{◌≡◌, ◌≢◌, ◌≤◌, ◌<◌, ℕ, List, length, take, drop}
 
--- The room is a list of items, old before the call and new after it, and so is the number that
--- tells the length of the answer. P holds of the answer. At status 0 the answer stands at the
--- front of the room. At status 5 it is longer than the room. The room is changed at status 0
--- alone, and there only where the answer stands; the number is the answer's length at both, and
--- else as it was.
+-- The buffer is a list of items, `old` before the call and `new` after it, and the length of the
+-- answer is `before` and `after`. P holds for the answer. At status 0 the answer is at the front of
+-- the buffer. At status 5 it is longer than the buffer. Only status 0 changes the buffer, and only
+-- where the answer is; at both statuses the length is that of the answer, and at others it is
+-- unchanged.
 pub record IsHandedOut {X : Type 0} (P : List X → Type 0) (status : ℕ) (old new : List X)
     (before after : ℕ) : Type 0 where
   pub answer : status ≡ 0 → P (take after new)

@@ -1,4 +1,4 @@
--- The bill of materials of a lockfile, as callers have it.
+-- The bill of materials of a lockfile, as callers get it.
 use Rattle.std.specs.Prelude.{ℕ, Bool, false, List, Option, None}
 use Rattle.cargo_lock_parts.specs.Identity.{Identity, PackageData}
 use Rattle.cargo_lock_graph.specs.Targets.{IsFirstLost, links}
@@ -12,8 +12,8 @@ use Rattle.cargo_lock.specs.CargoChecksums.{with_cargo_checksums_in}
 use Rattle.cargo_lock_c.specs.declared.refusal.Refusal.{Refusal}
 use Rattle.cargo_lock_c.specs.declared.refusal.Refusal.TheVariants.{NoMemory, Unresolved, Repeated}
 
--- what the program says of a bill without options: its own version, and the node of the root that
--- the lockfile has apart from its packages, if it has one
+-- the options of a bill that the program writes without options: its own version, and the node of
+-- the lockfile's separate root, if it has one
 abbrev pub own_options : Option ℕ → OptionsData
 own_options own = record {
   root = own;
@@ -27,7 +27,7 @@ own_options own = record {
 abbrev pub packages_in_bill : LockfileData → List PackageData
 packages_in_bill l = bill_packages (with_cargo_checksums_in l).packages l.root
 
--- these bytes are the bill of a lockfile as the program prints it without options, in one line where
+-- these bytes are the bill of a lockfile as the program prints it without options, in one line if
 -- it is compact
 abbrev pub IsBillOf : LockfileData → Bool → List ℕ → Type 0
 IsBillOf l compact bytes = IsPrintedBill (packages_in_bill l)
@@ -37,16 +37,16 @@ IsBillOf l compact bytes = IsPrintedBill (packages_in_bill l)
 abbrev pub IsBillText : List ℕ → Bool → List ℕ → Type 0
 IsBillText text compact bytes = (l : LockfileData) × TextMeans text l × IsBillOf l compact bytes
 
--- no package fits some dependency, of which this is the first
+-- no package matches some dependency, of which this is the first
 abbrev pub LosesFirst : List PackageData → Identity → Type 0
 LosesFirst packages d = IsFirstLost packages (links packages) d
 
--- the text is that of a lockfile, and in its bill no package fits some dependency
+-- the text is that of a lockfile, and in its bill no package matches some dependency
 abbrev pub IsUnresolvedBill : List ℕ → Type 0
 IsUnresolvedBill text = (l : LockfileData) × (d : Identity) × TextMeans text l
     × LosesFirst (packages_in_bill l) d
 
--- the text is that of a lockfile, and in its bill one text would refer to two packages
+-- the text is that of a lockfile, and in its bill the same text would refer to two packages
 abbrev pub IsRepeatedText : List ℕ → Type 0
 IsRepeatedText text = (l : LockfileData) × (p : PackageData) × TextMeans text l
     × IsRepeated (packages_in_bill l) p

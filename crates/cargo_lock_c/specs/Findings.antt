@@ -1,4 +1,4 @@
--- What is wrong with a lockfile, as callers have it: a line each.
+-- What is wrong with a lockfile, as callers get it: a line each.
 use Rattle.std.specs.Prelude.{◌≡◌, ℕ, List}
 use Rattle.cargo_lock_check.specs.Finding.{lines_text}
 use Rattle.cargo_lock_check.specs.Findings.{AreFindings, FindingsData, told_of}

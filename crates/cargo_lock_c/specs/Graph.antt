@@ -1,4 +1,4 @@
--- The graph of a lockfile's packages, as callers have it: edges, and the drawing of a package's
+-- The graph of a lockfile's packages, as callers get it: edges, and the drawing of a package's
 -- tree.
 use Rattle.std.specs.Prelude.{◌≡◌, ◌<◌, ◌≤◌, ℕ, Bool, List, length, map}
 use Rattle.std.specs.List.{flat_map, range_with_len}
@@ -15,12 +15,12 @@ use Rattle.cargo_lock_encoding.specs.Lockfiles.{LockfileData}
 use Rattle.cargo_lock_encoding.specs.Means.{TextMeans}
 use Rattle.cargo_lock_c.specs.declared.edges.Edge.{Edge as CallersEdge}
 
--- the edges of a node as callers have them, newest first
+-- the edges of a node as callers get them, newest first
 abbrev pub node_edges : List Edge → ℕ → List CallersEdge
 node_edges edges node = map (λ e. record { from = e.from; to = e.to })
     (edges_at Outgoing edges node)
 
--- those of each of the first so many nodes, in order
+-- the edges of each of the first nodes, as many as the number, in order
 abbrev pub edge_list : List Edge → ℕ → List CallersEdge
 edge_list edges count = flat_map (node_edges edges) (range_with_len 0 count)
 
@@ -29,7 +29,7 @@ abbrev pub IsEdgeList : List ℕ → List CallersEdge → Type 0
 IsEdgeList text listed = (l : LockfileData) × (edges : List Edge) × TextMeans text l
     × AreEdgesOf l.packages edges × (listed ≡ edge_list edges (length l.packages))
 
--- the text is that of a lockfile, and no package fits some dependency
+-- the text is that of a lockfile, and no package matches some dependency
 abbrev pub IsUnresolvedText : List ℕ → Type 0
 IsUnresolvedText text = (l : LockfileData) × (d : Identity) × TextMeans text l
     × IsFirstLost l.packages (links l.packages) d

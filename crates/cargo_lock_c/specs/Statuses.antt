@@ -1,4 +1,4 @@
--- The numbers that callers are told, and which fault of the library is told as which.
+-- The numbers that are returned to callers, and the refusal that each error of the library becomes.
 use Rattle.std.specs.Prelude.{ℕ}
 use Rattle.cargo_lock_parts.specs.declared.error.Error.{Error}
 use Rattle.cargo_lock_parts.specs.declared.error.Error.TheVariants.{Io, Parse, Version, Resolution}
@@ -10,8 +10,8 @@ use Rattle.cargo_lock_c.specs.declared.refusal.Refusal.TheVariants.{NoPackage, N
 use Rattle.cargo_lock_c.specs.declared.refusal.Refusal.TheVariants.{NoNewLockfile, NoNewText}
 use Rattle.cargo_lock_c.specs.declared.refusal.Refusal.TheVariants.{Repeated}
 
--- the status of a call that gives no answer; 0 is that of an answer, and 5 that of an answer for
--- which there is no room
+-- the status of a call that returns no answer; 0 is that of an answer, and 5 that of an answer that
+-- is longer than the buffer
 abbrev pub status_of : (refusal : Refusal) → ℕ
 status_of NoLockfile = 1
 status_of NoText = 2
@@ -25,14 +25,14 @@ status_of NoNewLockfile = 10
 status_of NoNewText = 11
 status_of Repeated = 12
 
--- how a refusal of reading a text is told, where it is the second of two
+-- the refusal for the second of two texts, from that of reading one
 abbrev pub refusal_of_new : Refusal → Refusal
 refusal_of_new NoLockfile = NoNewLockfile
 refusal_of_new NoText = NoNewText
 refusal_of_new other = other
 
--- how a fault of the library is told; reading a text and drawing into memory have no `Io` and no
--- `Version`
+-- the refusal for an error of the library; reading a text and drawing into memory have no `Io` and
+-- no `Version`
 abbrev pub refusal_of : Error → Refusal
 refusal_of (Io kind) = NoMemory
 refusal_of (Parse said) = NoLockfile
@@ -40,7 +40,8 @@ refusal_of (Version fault) = NoLockfile
 refusal_of (Resolution said) = Unresolved
 refusal_of Memory = NoMemory
 
--- how a fault of printing a bill is told: its `Parse` says that one text would refer to two packages
+-- the refusal for an error of printing a bill: its `Parse` says that the same text would refer to
+-- two packages
 abbrev pub refusal_of_bill : Error → Refusal
 refusal_of_bill (Parse said) = Repeated
 refusal_of_bill other = refusal_of other

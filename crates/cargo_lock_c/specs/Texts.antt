@@ -1,4 +1,4 @@
--- What the statuses say of the text that a caller hands over.
+-- What the statuses say of the text that a caller passes.
 use Rattle.std.specs.Prelude.{◌≡◌, ◌≤◌, ◌↔◌, ℕ, List, Some, IsUtf8}
 use Rattle.cargo_lock_references.specs.declared.version.ResolveVersion.{ResolveVersion}
 use Rattle.cargo_lock_references.specs.Format.{number_of, format_numbered}
@@ -7,11 +7,11 @@ use Rattle.cargo_lock_encoding.specs.Means.{TextMeans}
 use Rattle.cargo_lock_encoding.specs.Survives.{Survives, in_format}
 use Rattle.cargo_lock_encoding.specs.Text.{join_lines, lines_of}
 
--- the text is that of no lockfile
+-- the text is not that of a lockfile
 abbrev pub MeansNothing : List ℕ → Type 0
 MeansNothing text = (l : LockfileData) → ¬ TextMeans text l
 
--- status 1 comes only where the text is that of no lockfile, and status 2 only where it is no UTF-8
+-- status 1 comes only if the text is not that of a lockfile, and status 2 only if it is not UTF-8
 pub record RefusesText (text : List ℕ) (status : ℕ) : Type 0 where
   pub no_lockfile : status ≡ 1 → MeansNothing text
   pub no_text : status ≡ 2 → ¬ IsUtf8 text
@@ -30,8 +30,8 @@ abbrev pub IsLostInNumber : List ℕ → ℕ → Type 0
 IsLostInNumber text number = (l : LockfileData) × (format : ResolveVersion) × TextMeans text l
     × (format_numbered number ≡ Some format) × (¬ Survives l format)
 
--- What a status says of a text and the number of a format: 6 comes only where the lockfile of the
--- text does not survive the format, 4 exactly where no format has the number, and none above 6.
+-- What a status says of a text and the number of a format: 6 comes only if the lockfile of the text
+-- does not survive the format, 4 exactly if no format has the number, and none above 6 comes.
 pub record RefusesFormat (text : List ℕ) (number status : ℕ) : Type 0 where
   pub of_text : RefusesText text status
   pub lost : status ≡ 6 → IsLostInNumber text number

@@ -20,8 +20,8 @@ use cargo_lock_bom::printed::{printed_bill, with_root};
 use std::alloc::Global;
 
 /// The bill of materials of the lockfile of a text, as `cargo-lock bom` prints it without options,
-/// and where it is compact as under `--compact`. Status 7 where a dependency has no package, and 12
-/// where one text would refer to two packages.
+/// or, if it is compact, with `--compact`. Status 7 means that a dependency has no package, and 12
+/// that the same text would refer to two packages.
 #[unsafe(no_mangle)]
 pub extern "C" fn cargo_lock_bill(
     alloc: Global,
@@ -43,7 +43,7 @@ pub extern "C" fn cargo_lock_bill(
     }
 }
 
-/// The bill of the lockfile of the bytes of a text.
+/// The bill of the lockfile of a text's bytes.
 fn bill(alloc: Global, bytes: &[u8], compact: bool) -> Result<String, Refusal>
     ensures ok { IfOk result (λ bill. IsBillText bytes.now compact (string_bytes bill)) }
     ensures unresolved { IfErr result (λ refusal. status_of refusal ≡ 7
@@ -69,7 +69,7 @@ fn bill_of(alloc: Global, lockfile: Lockfile, compact: bool) -> Result<String, R
     printed(alloc, &packages, own, compact)
 }
 
-/// The bill of packages, about the one of this node, if there is one.
+/// The bill of packages, with the package of this node as its root, if there is one.
 fn printed(
     alloc: Global,
     packages: &Vec<Package>,
@@ -86,7 +86,8 @@ fn printed(
     }
 }
 
-/// What the program says of a bill without options, about the package of a node, if there is one.
+/// The options of a bill that the program writes without options, with this node as its root, if
+/// there is one.
 fn options_of(own: Option<NodeIndex>) -> Options<'static>
     ensures { «result» ≡ own_options own }
 {

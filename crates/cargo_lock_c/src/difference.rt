@@ -18,10 +18,10 @@ use cargo_lock::{Lockfile, Package};
 use cargo_lock_diff::{Change, Difference};
 use std::alloc::Global;
 
-/// What differs between the packages of two lockfiles, a line for each change, and where
-/// `dependencies` is set also what differs between their dependencies. The statuses 1 and 2 speak
-/// of the old text. The new one is read after it: status 10 where it is no lockfile, and 11 where
-/// it is no UTF-8.
+/// What differs between the packages of two lockfiles, a line for each change, and if
+/// `dependencies` is set also what differs between their dependencies. The statuses 1 and 2 are
+/// about the old text. The new one is read after it: status 10 means that it is not a lockfile, and
+/// 11 that it is not UTF-8.
 #[unsafe(no_mangle)]
 pub extern "C" fn cargo_lock_diff(
     alloc: Global,
@@ -44,7 +44,7 @@ pub extern "C" fn cargo_lock_diff(
     }
 }
 
-/// The lines of what differs between the lockfiles of the bytes of two texts.
+/// The lines of what differs between the lockfiles of two texts' bytes.
 fn difference_lines(
     alloc: Global,
     old: &[u8],
@@ -65,7 +65,7 @@ fn difference_lines(
     Ok(lines)
 }
 
-/// The lockfile of the bytes of the new text.
+/// The lockfile of the new text's bytes.
 fn read_new(alloc: Global, bytes: &[u8]) -> Result<Lockfile, Refusal>
     ensures ok { IfOk result (TextMeans bytes.now) }
     ensures refused { IfErr result (λ refusal. RefusesNewText bytes.now (status_of refusal)) }
@@ -74,7 +74,7 @@ fn read_new(alloc: Global, bytes: &[u8]) -> Result<Lockfile, Refusal>
 {
     match read(alloc, bytes) {
         Ok(lockfile) => Ok(lockfile),
-        Err(refusal) => Err(refusal.of_new()),
+        Err(refusal) => Err(refusal.into_new()),
     }
 }
 
@@ -123,7 +123,6 @@ fn lines_of_packages(
     Ok(lines)
 }
 
-/// The lines of changes.
 fn lines_of(alloc: Global, changes: &[Change<'_>]) -> Result<String, Refusal>
     ensures ok { IfOk result (λ lines. string_bytes lines
         ≡ lines_text (map change_of changes.now)) }

@@ -23,9 +23,9 @@ pub struct Edge {
     to: usize,
 }
 
-/// The edges of a lockfile's graph: those of package 0 first, and of each package the newest first,
-/// which is that of its last dependency. `length` counts edges. Status 7 where a dependency has no
-/// package.
+/// The edges of a lockfile's graph: those of package 0 first, and for each package the newest
+/// first, which is that of its last dependency. `length` counts edges. Status 7 means that a
+/// dependency has no package.
 #[unsafe(no_mangle)]
 pub extern "C" fn cargo_lock_edges(
     alloc: Global,
@@ -45,7 +45,7 @@ pub extern "C" fn cargo_lock_edges(
     }
 }
 
-/// The edges of the graph of the lockfile of the bytes of a text.
+/// The edges of the graph of the lockfile of a text's bytes.
 fn edges(alloc: Global, bytes: &[u8]) -> Result<Vec<Edge>, Refusal>
     ensures ok { IfOk result (λ edges. IsEdgeList bytes.now edges.items) }
     ensures unresolved { IfErr result (λ refusal. status_of refusal ≡ 7

@@ -18,7 +18,7 @@ use std::alloc::Global;
 use std::str;
 
 /// What is wrong with the lockfile of a text, a line for each finding, as `cargo-lock check` prints
-/// it. Where nothing is wrong there are no lines, and the length is 0.
+/// it. If nothing is wrong there are no lines, and the length is 0.
 #[unsafe(no_mangle)]
 pub extern "C" fn cargo_lock_check(
     alloc: Global,
@@ -37,7 +37,7 @@ pub extern "C" fn cargo_lock_check(
     }
 }
 
-/// The lines of what is wrong with the lockfile of the bytes of a text.
+/// The lines of what is wrong with the lockfile of a text's bytes.
 fn finding_lines(alloc: Global, bytes: &[u8]) -> Result<String, Refusal>
     ensures ok { IfOk result (λ lines. IsFindingsText bytes.now (string_bytes lines)) }
     ensures refused { IfErr result (λ refusal. RefusesText bytes.now (status_of refusal)) }
@@ -90,7 +90,6 @@ fn findings_of<'a>(
     }
 }
 
-/// The lines of findings.
 fn lines_of(alloc: Global, findings: &[Finding<'_>]) -> Result<String, Refusal>
     ensures ok { IfOk result (λ lines. string_bytes lines
         ≡ lines_text (map finding_of findings.now)) }

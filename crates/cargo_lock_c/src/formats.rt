@@ -17,7 +17,8 @@ use crate::refusal::{DONE, Refusal};
 use cargo_lock::{Lockfile, ResolveVersion};
 use std::alloc::Global;
 
-/// Whether the text is a lockfile that survives the format of a number: 0, or else 6.
+/// Whether the text is a lockfile that survives the format of a number: status 0 if it is, and 6 if
+/// it does not survive.
 #[unsafe(no_mangle)]
 pub extern "C" fn cargo_lock_survives(alloc: Global, text: &[u8], format: u32) -> u32
     ensures survives { result ≡ 0 → SurvivesNumber text.now format }
@@ -33,9 +34,9 @@ pub extern "C" fn cargo_lock_survives(alloc: Global, text: &[u8], format: u32) -
     }
 }
 
-/// The text, in the format of a number, of a lockfile that survives it. One that does not is
-/// refused with 6. Survival is of the table: a root, and the replacement of a package with
-/// dependencies, are in no text.
+/// The text, in the format of a number, of a lockfile that survives it. Status 6 means that the
+/// lockfile does not survive. Survival is that of the table: a root, and the replacement of a
+/// package with dependencies, are in no text.
 #[unsafe(no_mangle)]
 pub extern "C" fn cargo_lock_translate(
     alloc: Global,
@@ -66,7 +67,6 @@ fn translation(alloc: Global, bytes: &[u8], number: u32) -> Result<String, Refus
     Ok(text)
 }
 
-/// The text of a lockfile.
 fn text_of(alloc: Global, lockfile: &Lockfile) -> Result<String, Refusal>
     ensures ok { IfOk result (λ text. string_bytes text ≡ join_lines (lines_of lockfile.now)) }
     ensures err { IfErr result (λ refusal. refusal ≡ NoMemory) }
@@ -74,8 +74,8 @@ fn text_of(alloc: Global, lockfile: &Lockfile) -> Result<String, Refusal>
     Ok(lockfile.to_string(alloc)?)
 }
 
-/// The lockfile of the bytes of a text, set to the format of a number, which it survives. The
-/// number is looked at before the text.
+/// The lockfile of a text's bytes, set to the format of a number, which it survives. The number is
+/// checked before the text.
 fn survivor(alloc: Global, bytes: &[u8], number: u32) -> Result<Lockfile, Refusal>
     ensures ok { IfOk result (IsSurvivor bytes.now number) }
     ensures refused { IfErr result
@@ -102,7 +102,6 @@ fn format_of(alloc: Global, number: u32) -> Result<ResolveVersion, Refusal>
     }
 }
 
-/// Whether a lockfile survives a format.
 fn is_survivor(alloc: Global, lockfile: &Lockfile, format: ResolveVersion) -> Result<bool, Refusal>
     ensures ok { IfOk result (λ survives. IsTrue survives ↔ Survives lockfile.now format) }
     ensures err { IfErr result (λ refusal. refusal ≡ NoMemory) }
@@ -110,7 +109,6 @@ fn is_survivor(alloc: Global, lockfile: &Lockfile, format: ResolveVersion) -> Re
     Ok(lockfile.survives(alloc, format)?)
 }
 
-/// A lockfile, set to a format.
 fn set_to(lockfile: Lockfile, format: ResolveVersion) -> Lockfile
     ensures { result ≡ in_format format lockfile }
 {

@@ -1,12 +1,12 @@
-//! Answers, as they are handed to the caller.
+//! How answers are returned to the caller.
 
 ghost use Rattle.std.specs.Prelude.{◌≡◌, ◌⊎◌};
 ghost use Rattle.cargo_lock_c.specs.Answers.{IsHandedOut};
 
 use crate::refusal::{DONE, NO_ROOM};
 
-/// Copies an answer to the front of the room for it, and tells its length. Where the room is too
-/// short nothing is copied.
+/// Copies an answer to the front of the caller's buffer, and sets its length. If the buffer is too
+/// short, nothing is copied.
 pub(crate) fn hand_out<T: Copy>(answer: &[T], room: &mut [T], length: &mut usize) -> u32
     ensures handed { IsHandedOut (λ items. items ≡ answer.now) result room.old room.new
         length.old length.new }

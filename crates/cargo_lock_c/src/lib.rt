@@ -1,6 +1,6 @@
-//! The library for callers in C: the bytes of a lockfile in, a status out, and the answer in a
-//! buffer of the caller. Nothing is kept between two calls. `bindings/c/cargo_lock.h` is the
-//! header.
+//! The library for callers in C: it takes the bytes of a lockfile, returns a status, and writes the
+//! answer into a buffer of the caller. Nothing is kept between two calls. `bindings/c/cargo_lock.h`
+//! is the header.
 #![tactic(auto)]
 
 ghost use Rattle.std.specs.Prelude.{◌≡◌};
@@ -16,7 +16,7 @@ mod reading;
 mod refusal;
 mod tree;
 
-/// The number of this interface. It grows where a call changes.
+/// The number of this interface. It increases if a call changes.
 const INTERFACE: u32 = 1;
 
 /// The number of this interface, 1.

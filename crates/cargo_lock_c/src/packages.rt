@@ -19,9 +19,10 @@ use crate::refusal::Refusal;
 use cargo_lock::{Checksum, Package, SourceId};
 use std::alloc::Global;
 
-/// The packages of a lockfile in its order, a line each: name, version, source and checksum, with
-/// a tab between two. A source or a checksum that is missing is empty. Status 9 where a name or a
-/// source has a control character, as a tab or a newline, or a separator of lines or paragraphs.
+/// The packages of a lockfile in its order, a line each: name, version, source and checksum,
+/// separated by tabs. A source or a checksum that is absent is empty. Status 9 means that a name or
+/// a source has a control character, such as a tab or a newline, or a separator of lines or
+/// paragraphs.
 #[unsafe(no_mangle)]
 pub extern "C" fn cargo_lock_packages(
     alloc: Global,
@@ -41,7 +42,7 @@ pub extern "C" fn cargo_lock_packages(
     }
 }
 
-/// The lines of the packages of the lockfile of the bytes of a text.
+/// The lines of the packages of the lockfile of a text's bytes.
 fn package_lines(alloc: Global, bytes: &[u8]) -> Result<String, Refusal>
     ensures ok { IfOk result (λ lines. IsPackageList bytes.now (string_bytes lines)) }
     ensures no_line { IfErr result (λ refusal. status_of refusal ≡ 9 → LacksLine bytes.now) }
@@ -53,7 +54,6 @@ fn package_lines(alloc: Global, bytes: &[u8]) -> Result<String, Refusal>
     Ok(lines)
 }
 
-/// The lines of packages.
 fn lines_of(alloc: Global, packages: &[Package]) -> Result<String, Refusal>
     ensures ok { IfOk result (λ lines. All (λ p. has_line p ≡ true) packages.now
         × (string_bytes lines ≡ flat_map package_line packages.now)) }
@@ -68,7 +68,6 @@ fn lines_of(alloc: Global, packages: &[Package]) -> Result<String, Refusal>
     Ok(lines)
 }
 
-/// The line of a package.
 fn line_of(alloc: Global, package: &Package) -> Result<String, Refusal>
     ensures ok { IfOk result (λ line. (has_line «package».now ≡ true)
         × (string_bytes line ≡ package_line «package».now)) }
@@ -86,7 +85,7 @@ fn line_of(alloc: Global, package: &Package) -> Result<String, Refusal>
     Ok(line)
 }
 
-/// The text of a source, or none.
+/// The text of a source, or an empty one.
 fn source_text(alloc: Global, source: &Option<SourceId>) -> Result<String, Refusal>
     ensures ok { IfOk result (λ text. string_bytes text ≡ source_field source.now) }
     ensures err { IfErr result (λ refusal. refusal ≡ NoMemory) }
@@ -97,7 +96,7 @@ fn source_text(alloc: Global, source: &Option<SourceId>) -> Result<String, Refus
     }
 }
 
-/// The text of a checksum, or none.
+/// The text of a checksum, or an empty one.
 fn checksum_text(alloc: Global, checksum: &Option<Checksum>) -> Result<String, Refusal>
     ensures ok { IfOk result (λ text. string_bytes text
         ≡ checksum_field (option_map digest_of checksum.now)) }
@@ -116,7 +115,7 @@ fn is_plain(text: &str) -> bool
     text.chars().all(is_line_char)
 }
 
-/// Whether a character is no control character and separates no lines or paragraphs.
+/// Whether a character is not a control character and does not separate lines or paragraphs.
 fn is_line_char(c: char) -> bool
     ensures { result ≡ spec.is_line_char c }
 {

@@ -15,8 +15,8 @@ use cargo_lock::{Error, Lockfile};
 use std::alloc::Global;
 use std::str;
 
-/// The lockfile of a text. A URL of 4 GB or more is told as refused memory: no text of fewer than
-/// 2^24 bytes has one.
+/// The lockfile of a text. A URL of 4 GB or more is reported as out of memory: no text of fewer
+/// than 2^24 bytes has one.
 fn read_text(alloc: Global, text: &str) -> Result<Lockfile, Error>
     ensures { Finds (TextMeans text.now) result }
 {
@@ -27,7 +27,7 @@ fn read_text(alloc: Global, text: &str) -> Result<Lockfile, Error>
     }
 }
 
-/// The lockfile of the bytes of a text.
+/// The lockfile of a text's bytes.
 pub(crate) fn read(alloc: Global, bytes: &[u8]) -> Result<Lockfile, Refusal>
     ensures ok { IfOk result (TextMeans bytes.now) }
     ensures refused { IfErr result (λ refusal. RefusesText bytes.now (status_of refusal)) }
@@ -42,7 +42,8 @@ pub(crate) fn read(alloc: Global, bytes: &[u8]) -> Result<Lockfile, Refusal>
     }
 }
 
-/// Whether the text is a lockfile, and the number of its format.
+/// The number of the format of the text's lockfile. Status 1 means that the text is not a lockfile,
+/// and 2 that it is not UTF-8.
 #[unsafe(no_mangle)]
 pub extern "C" fn cargo_lock_format(alloc: Global, text: &[u8], format: &mut u32) -> u32
     ensures read { result ≡ 0 → IsInFormat text.now format.new }
@@ -59,7 +60,8 @@ pub extern "C" fn cargo_lock_format(alloc: Global, text: &[u8], format: &mut u32
     }
 }
 
-/// Why the text is no lockfile, in words. Where it is one there are none, and the length is 0.
+/// Why the text is not a lockfile, as a message. If it is one, the message is empty, and the length
+/// is 0.
 #[unsafe(no_mangle)]
 pub extern "C" fn cargo_lock_fault(
     alloc: Global,
@@ -78,7 +80,7 @@ pub extern "C" fn cargo_lock_fault(
     }
 }
 
-/// Why the bytes are no text of a lockfile.
+/// Why the bytes are not the text of a lockfile.
 fn fault_words(alloc: Global, bytes: &[u8]) -> Result<String, Refusal>
     ensures ok { IfOk result (λ words. string_bytes words ≢ [] → MeansNothing bytes.now) }
     ensures refused { IfErr result (λ refusal. RefusesText bytes.now (status_of refusal)) }
@@ -93,7 +95,7 @@ fn fault_words(alloc: Global, bytes: &[u8]) -> Result<String, Refusal>
     }
 }
 
-/// The words of a fault of reading, or refused memory.
+/// The message of an error of reading, or `NoMemory`.
 fn words_of(fault: Error) -> Result<String, Refusal>
     ensures ok { IfOk result (λ words. IsParse fault (string_bytes words)) }
     ensures err { IfErr result (λ refusal. refusal ≡ NoMemory) }

@@ -1,4 +1,4 @@
-//! Why a call gives no answer, and the status of each reason.
+//! Why a call returns no answer, and the status of each reason.
 
 ghost use Rattle.std.specs.Prelude.{◌≡◌};
 ghost use Rattle.cargo_lock_c.specs.Statuses.{refusal_of_bill, refusal_of_new, status_of};
@@ -6,22 +6,22 @@ ghost use Rattle.cargo_lock_c.specs.Statuses.{refusal_of_bill, refusal_of_new, s
 use cargo_lock::Error;
 use std::alloc::{AllocError, AllocFailed};
 
-/// The status of a call that gave its answer.
+/// The status of a call that returns its answer.
 pub(crate) const DONE: u32 = 0;
 
-/// The status of a call whose answer is longer than the room for it.
+/// The status of a call whose answer is longer than the caller's buffer.
 pub(crate) const NO_ROOM: u32 = 5;
 
 /// Why there is no answer.
 #[derive(Clone, Copy)]
 pub(crate) enum Refusal {
-    /// The text is no lockfile.
+    /// The text is not a lockfile.
     NoLockfile,
 
-    /// The bytes are no UTF-8.
+    /// The bytes are not UTF-8.
     NoText,
 
-    /// Memory was refused.
+    /// Memory ran out.
     NoMemory,
 
     /// There is no format of that number.
@@ -30,27 +30,27 @@ pub(crate) enum Refusal {
     /// The lockfile does not survive the format.
     Lost,
 
-    /// A dependency has no package.
+    /// No package matches a dependency.
     Unresolved,
 
     /// There is no package of that number.
     NoPackage,
 
-    /// A name or a source has a control character, and so can stand in no line.
+    /// A name or a source has a control character, and so cannot be in a line.
     NoLine,
 
-    /// The second of two texts is no lockfile.
+    /// The second of two texts is not a lockfile.
     NoNewLockfile,
 
-    /// The second of two texts is no UTF-8.
+    /// The second of two texts is not UTF-8.
     NoNewText,
 
-    /// One text would refer to two packages in a bill.
+    /// The same text would refer to two packages in a bill.
     Repeated,
 }
 
 impl Refusal {
-    /// The number that the caller is told.
+    /// The number that is returned to the caller.
     pub(crate) fn status(self) -> u32
         ensures { result ≡ status_of self }
     {
@@ -69,8 +69,8 @@ impl Refusal {
         }
     }
 
-    /// A refusal of reading a text, told of the second of two.
-    pub(crate) fn of_new(self) -> Refusal
+    /// The refusal for the second of two texts, from that of reading one.
+    pub(crate) fn into_new(self) -> Refusal
         ensures { result ≡ refusal_of_new self }
     {
         match self {
@@ -80,7 +80,7 @@ impl Refusal {
         }
     }
 
-    /// A fault of printing a bill.
+    /// The refusal for an error of printing a bill.
     pub(crate) fn of_bill(fault: Error) -> Refusal
         ensures { result ≡ refusal_of_bill fault }
     {

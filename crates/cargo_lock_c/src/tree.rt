@@ -24,10 +24,10 @@ use cargo_lock::dependency::Tree;
 use cargo_lock::dependency::graph::{EdgeDirection, NodeIndex};
 use std::alloc::Global;
 
-/// The drawing of the tree of a package, by its number in the lockfile's order: of what it
-/// depends on, or, where it is inverted, of what depends on it. A label is the name and the
-/// version, and where it is exact also the checksum, or else the source. Status 7 where a
-/// dependency has no package, and 8 where there is no package of that number.
+/// The drawing of the tree of a package, by its number in the lockfile's order: of what it depends
+/// on, or, if it is inverted, of what depends on it. A label is the name and the version, and if it
+/// is exact also the checksum, or else the source. Status 7 means that a dependency has no package,
+/// and 8 that there is no package of that number.
 #[unsafe(no_mangle)]
 pub extern "C" fn cargo_lock_tree(
     alloc: Global,
@@ -64,7 +64,7 @@ fn direction(inverted: bool) -> EdgeDirection
     }
 }
 
-/// The drawing of a node's tree, in the graph of the lockfile of the bytes of a text.
+/// The drawing of a node's tree, in the graph of the lockfile of a text's bytes.
 fn drawing(
     alloc: Global,
     bytes: &[u8],
@@ -90,7 +90,6 @@ fn drawing(
     Ok(drawing)
 }
 
-/// The tree of a lockfile.
 pub(crate) fn tree_of(alloc: Global, lockfile: &Lockfile) -> Result<Tree, Refusal>
     ensures packages { IfOk result (λ tree. tree.graph.packages ≡ lockfile.now.packages) }
     ensures edges { IfOk result (λ tree. AreEdgesOf lockfile.now.packages tree.graph.edges) }

@@ -1,4 +1,6 @@
--- The URL of a source as Cargo compares packages by it.
+-- The URL of a source in the form in which Cargo compares packages.
+-- The rule is that of Cargo's `src/cargo/util/canonical_url.rs`, measured on the lockfiles in
+-- `tests/cargo`, which Cargo 1.95.0 wrote.
 use Rattle.std.specs.Prelude.{◌++◌, ◌-◌, ℕ, nat_lt, Bool, false, if◌then◌else◌, List, length, map, take, codes, bytes_eq, Option, None, Some, option_map, eqb}
 use Rattle.std.specs.Char.{to_ascii_lowercase}
 use Rattle.std.specs.List.{ends_with}
@@ -6,7 +8,7 @@ use Rattle.url.specs.Host.{host_text}
 use Rattle.url.specs.Parts.{Parts, nonempty_host, text_between}
 use Rattle.url.specs.declared.slicing.Position.TheVariants.{AfterScheme, BeforePath, AfterPath, AfterFragment}
 
--- a text without this end, where it has it
+-- a text without this end, if it has it
 abbrev pub without_end : List ℕ → List ℕ → List ℕ
 without_end end text =
     if ends_with eqb text end then take (length text - length end) text else text

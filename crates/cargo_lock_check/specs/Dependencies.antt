@@ -14,20 +14,21 @@ HoldsOfDependency P dependencies at = (d : Identity) × (slice_get dependencies 
 abbrev pub HoldsAt : (List Identity → ℕ → Type 0) → List PackageData → ℕ → ℕ → Type 0
 HoldsAt P packages place at = HoldsOf (λ p. P p.dependencies at) packages place
 
--- the dependency of an earlier package, or an earlier one of the same package
+-- the dependency is of an earlier package, or is an earlier one of the same package
 abbrev pub IsBefore : ℕ × ℕ → ℕ × ℕ → Type 0
 IsBefore x y = (x.0 < y.0) ⊎ ((x.0 ≡ y.0) × (x.1 < y.1))
 
--- the dependencies of which P holds, in order, each as the place of its package and its own there
+-- the dependencies for which P holds, in order, each as the place of its package and its own place
+-- among the package's dependencies
 pub record AreDependencies (P : ℕ → ℕ → Type 0) (places : List (ℕ × ℕ)) : Type 0 where
   pub ascending : AllPairs IsBefore places
   pub told : (place at : ℕ) → Contains places (place, at) ↔ P place at
 
--- those of them before a place of a package and a place of its dependencies
-pub record AreDependenciesBefore (P : ℕ → ℕ → Type 0) (place at : ℕ) (places : List (ℕ × ℕ)) : Type 0
-  where
-    pub ascending : AllPairs IsBefore places
-    pub told : (k j : ℕ) → Contains places (k, j) ↔ (IsBefore (k, j) (place, at) × P k j)
+-- those of them that are before a place of a package and a place among its dependencies
+pub record AreDependenciesBefore (P : ℕ → ℕ → Type 0) (place at : ℕ)
+    (places : List (ℕ × ℕ)) : Type 0 where
+  pub ascending : AllPairs IsBefore places
+  pub told : (k j : ℕ) → Contains places (k, j) ↔ (IsBefore (k, j) (place, at) × P k j)
 
 -- the dependency at the place comes after the one at the next place in Cargo's order
 abbrev pub IsAfterNext : List Identity → ℕ → Type 0
@@ -44,12 +45,12 @@ IsMisplacedAt = HoldsAt IsAfterNext
 abbrev pub IsSameDependency : Identity → Identity → Type 0
 IsSameDependency d other = identity_key other ≡ identity_key d
 
--- the dependency at the place is at an earlier place too
+-- the dependency at the place is also at an earlier place
 abbrev pub IsListedBefore : List Identity → ℕ → Type 0
 IsListedBefore dependencies at = HoldsOfDependency
     (λ d. (j : ℕ) × (j < at) × HoldsOfDependency (IsSameDependency d) dependencies j)
     dependencies at
 
--- the package at the place `place` lists the dependency at the place `at` once more
+-- the package at the place `place` lists the dependency at the place `at` a second time
 abbrev pub IsRepeatedAt : List PackageData → ℕ → ℕ → Type 0
 IsRepeatedAt = HoldsAt IsListedBefore

@@ -35,7 +35,7 @@ pub data FindingData : Type 0 where
   NotKept : ResolveVersion → FindingData
   OtherLine : OtherLineData → FindingData
 
--- the finding of what references lead to
+-- the finding with its references resolved to what they refer to
 abbrev pub finding_of : Finding → FindingData
 finding_of (LostDependencyAt p d) = LostDependency p.now d.now
 finding_of (TwiceAt p) = Twice p.now
@@ -57,7 +57,7 @@ finding_of (OtherLineAt line) = OtherLine line.now
 
 -- ---- lines
 
--- a source, as it is shown
+-- a source, as it is displayed
 abbrev pub source_shown : Source → List ℕ
 source_shown source = shown Plain (text_of false source)
 
@@ -66,24 +66,24 @@ abbrev pub bracketed : Option Source → List ℕ
 bracketed None = []
 bracketed (Some source) = codes " (" ++ (source_shown source ++ codes ")")
 
--- the name, the version and the source, as they are shown
+-- the name, the version and the source, as they are displayed
 abbrev pub identity_shown : Identity → List ℕ
 identity_shown i = shown Plain i.name
     ++ (codes " " ++ (shown Plain (parts_text i.version) ++ bracketed i.source))
 
--- the same of a package
+-- the name, the version and the source of a package, as they are displayed
 abbrev pub package_text : PackageData → List ℕ
 package_text p = identity_shown (identity_of p)
 
 -- the line of a finding
 abbrev pub line_of : FindingData → List ℕ
 line_of (LostDependency p d) = codes "reference: " ++ (package_text p
-    ++ (codes " depends on " ++ (identity_shown d ++ codes ", which is no package")))
-line_of (Twice p) = codes "twice: " ++ (package_text p ++ codes " stands more than once")
+    ++ (codes " depends on " ++ (identity_shown d ++ codes ", which is missing from the lockfile")))
+line_of (Twice p) = codes "twice: " ++ (package_text p ++ codes " is listed more than once")
 line_of (RepeatedDependency p d) = codes "twice: " ++ (package_text p
     ++ (codes " lists " ++ (identity_shown d ++ codes " more than once")))
 line_of (BadName p) =
-    codes "name: " ++ (shown Plain p.name ++ codes " is no name that Cargo takes")
+    codes "name: " ++ (shown Plain p.name ++ codes " is not a name that Cargo accepts")
 line_of (Alike p q) = codes "alike: " ++ (package_text p
     ++ (codes " and " ++ (package_text q ++ codes " have one name on crates.io")))
 line_of (LookAlike source) =
@@ -99,7 +99,7 @@ line_of (NoChecksums source) =
 line_of (StaleChecksum key) =
     codes "stale: `" ++ (shown Quoted key ++ codes "` is in the metadata, and is of no package")
 line_of (Misplaced p next) = codes "order: " ++ (package_text p
-    ++ (codes " stands before " ++ package_text next))
+    ++ (codes " is listed before " ++ package_text next))
 line_of (MisplacedDependency p d next) = codes "order: " ++ (package_text p
     ++ (codes " lists " ++ (identity_shown d ++ (codes " before " ++ identity_shown next))))
 line_of (LossySource version text) = codes "format: V" ++ (decimal (number_of version)

@@ -30,7 +30,7 @@ use Rattle.cargo_lock_check.specs.Sources.{HasUserInfo, IsFromAt, IsLookAlike}
 use Rattle.cargo_lock_check.specs.Stale.{stale_keys}
 use Rattle.cargo_lock_check.specs.Text.{AreSameLines, IsFirstOther, OtherLineData, cargo_lines}
 
--- what is found, and the packages and the format that it is said of
+-- what is found, with the packages and the format to which it refers
 pub record FindingsData : Type 0 where
   pub packages : List PackageData
   pub version : ResolveVersion
@@ -52,18 +52,18 @@ pub record FindingsData : Type 0 where
   pub is_kept : Bool
   pub other_line : Option OtherLineData
 
--- ---- what is to be found
+-- ---- what is looked for
 
 -- the lines of a lockfile as this library prints it
 unfoldable pub printed_lines : LockfileData → List (List ℕ)
 printed_lines l = lines (join_lines (lines_of l))
 
--- those of the lockfile with the checksums that Cargo reads
+-- the lines of the lockfile with the checksums that Cargo reads
 abbrev pub cargo_printed_lines : LockfileData → List (List ℕ)
 cargo_printed_lines l = printed_lines (with_cargo_checksums_in l)
 
--- a text is compared where its lockfile has no root apart from its packages, which is never
--- printed, and survives its format
+-- a text is compared if its lockfile has no separate root, which is never printed, and survives its
+-- format
 pub record IsCompared (l : LockfileData) : Type 0 where
   pub rootless : l.root ≡ None
   pub kept : Survives l l.version
@@ -72,43 +72,44 @@ pub record IsCompared (l : LockfileData) : Type 0 where
 abbrev pub IsWrittenAs : List ℕ → LockfileData → Type 0
 IsWrittenAs text l = AreSameLines (lines text) (cargo_lines (lines text) (cargo_printed_lines l))
 
--- V1 and V2, which have no number, differ in checksums alone: V1 has them in the metadata, and V2
--- with the packages. A text without any is read as V2, and Cargo can have written it in V1 too.
+-- V1 and V2, which have no number in the file, differ in checksums alone: V1 has them in the
+-- metadata, and V2 with the packages. A text without checksums reads as V2, and Cargo may also have
+-- written it in V1.
 pub record CanBeV1 (l : LockfileData) : Type 0 where
   pub version : l.version ≡ V2
   pub bare : All (λ p. p.checksum ≡ None) l.packages
 
--- the lockfile can be of V1, and each line of the text is as Cargo writes it there
+-- the lockfile can be of V1, and each line of the text is as Cargo writes it in V1
 abbrev pub IsWrittenInV1 : List ℕ → LockfileData → Type 0
 IsWrittenInV1 text l = CanBeV1 l × IsWrittenAs text (in_format V1 l)
 
--- each line of the text is as Cargo writes it in the lockfile's format, or in V1 where it can be
--- that
+-- each line of the text is as Cargo writes it in the lockfile's format, or in V1 if the lockfile
+-- can be of V1
 abbrev pub IsWrittenByCargo : List ℕ → LockfileData → Type 0
 IsWrittenByCargo text l = IsWrittenAs text l ⊎ IsWrittenInV1 text l
 
--- the first line that is not as Cargo writes it in the lockfile's format, where the text is not as
+-- the first line that is not as Cargo writes it in the lockfile's format, if the text is not as
 -- Cargo writes it in V1 either
 pub record IsOther (text : List ℕ) (l : LockfileData) (other : OtherLineData) : Type 0 where
   pub first : IsFirstOther (lines text) (cargo_lines (lines text) (cargo_printed_lines l)) other
   pub not_in_v1 : ¬ IsWrittenInV1 text l
 
--- the first line that is not as Cargo writes it, where the text is compared
+-- the first line that is not as Cargo writes it, if the text is compared
 pub record IsOtherLine (text : List ℕ) (l : LockfileData) (other : Option OtherLineData) : Type 0
   where
     pub compared : IsCompared l → MatchOption other (IsWrittenByCargo text l) (IsOther text l)
     pub not_compared : ¬ IsCompared l → other ≡ None
 
--- the orphans
+-- the orphans of a lockfile
 abbrev pub AreOrphans : LockfileData → List ℕ → Type 0
 AreOrphans l orphans = IsPlaces (IsOrphan l.packages l.root) (length l.packages) orphans
 
--- the root apart from the packages is there, and is of the workspace: it has no source
+-- there is a separate root, and it is of the workspace: it has no source
 abbrev pub is_bare_root : Option PackageData → Bool
 is_bare_root None = false
 is_bare_root (Some p) = is_none p.source
 
--- some package is of the workspace: one of the packages, or the root apart from them
+-- some package is of the workspace: one of the packages, or the separate root
 abbrev pub has_workspace : LockfileData → Bool
 has_workspace l = is_bare_root l.root || list_any (λ p. is_none p.source) l.packages
 
@@ -123,15 +124,16 @@ IsLostIn V2 text source = IsLossyIn text source
 IsLostIn V3 text source = IsLossyIn text source
 IsLostIn V4 text source = ⊥
 
--- the sources that this format loses so, each once, in ascending order; V4 loses none
+-- the sources that this format loses, each listed once, in ascending order; V4 loses none
 abbrev pub AreLossy : ResolveVersion → List ℕ → List (List ℕ) → Type 0
 AreLossy V1 text lossy = AreLossySources text lossy
 AreLossy V2 text lossy = AreLossySources text lossy
 AreLossy V3 text lossy = AreLossySources text lossy
 AreLossy V4 text lossy = lossy ≡ []
 
--- What is asked only where no source is lossy; where one is, the second fact holds in its place.
--- References then may lead to no package for that reason alone, and the rest follows from it.
+-- What is only looked for if no source is lossy; if one is, `in_place` holds instead. A reference
+-- may then resolve to no package for that reason alone, and the other findings would follow from
+-- that.
 pub record IsAskedUnless (lossy : List (List ℕ)) (holds in_place : Type 0) : Type 0 where
   pub asked : lossy ≡ [] → holds
   pub not_asked : ¬ (lossy ≡ []) → in_place
@@ -198,7 +200,7 @@ dependency_at finding packages k = option_and_then
 abbrev pub with_next : PackageData → ℕ → Identity → Option FindingData
 with_next p at d = option_map (MisplacedDependency p d) (slice_get p.dependencies (suc at))
 
--- these of the package at a place
+-- the finding of the dependency at a place of the package at a place, and the next one
 abbrev pub misplaced_dependency_at : List PackageData → ℕ × ℕ → Option FindingData
 misplaced_dependency_at packages k = option_and_then
     (λ p. option_and_then (with_next p k.1) (slice_get p.dependencies k.1)) (slice_get packages k.0)
@@ -239,7 +241,7 @@ misplaced_at packages k = option_and_then
 abbrev pub no_root : List ℕ → List FindingData
 no_root orphans = if length orphans == 0 then [] else NoRoot ∷ []
 
--- each orphan, or where no package is of the workspace that alone
+-- each orphan, or, if no package is of the workspace, that alone
 abbrev pub told_of_orphans : Bool → List PackageData → List ℕ → List FindingData
 told_of_orphans has_workspace packages orphans = if has_workspace
     then filter_map (package_at Orphan packages) orphans else no_root orphans
@@ -255,7 +257,7 @@ told_of_misleading f = filter_map (package_at BadName f.packages) f.badly_named
     ++ (filter_map (source_at LookAlike f.packages) f.look_alikes
     ++ filter_map (source_at UserInfo f.packages) f.with_user_info))
 
--- each package and each dependency that stands more than once
+-- each package and each dependency that is listed more than once
 abbrev pub told_of_twice : FindingsData → List FindingData
 told_of_twice f = filter_map (package_at Twice f.packages) f.twice
     ++ filter_map (dependency_at RepeatedDependency f.packages) f.repeated

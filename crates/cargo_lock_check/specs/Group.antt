@@ -1,9 +1,9 @@
 -- What the packages of a group have in common.
 --
 -- Each rank of a match has a group of the packages that can match a dependency with it: they have
--- the dependency's name and version, and of its source what the rank asks for. A dependency without
--- a precise text can match each of them. One with a precise text can match with the ranks 3 and 4
--- only packages without one, which have groups of their own, the open ones.
+-- the dependency's name and version, and what the rank compares of its source. A dependency without
+-- a precise text can match each of them. With the ranks 3 and 4, a dependency with a precise text
+-- can match only packages without one, which are in groups of their own, the open ones.
 use Rattle.std.specs.Prelude.{ℕ, Bool, false, ◌&&◌, ◌==◌, nat_lt, List, [], Option, Some, None}
 use Rattle.std.specs.Prelude.{is_some, option_map, if◌then◌else◌}
 use Rattle.std.specs.Cmp.{IsTotalOrder, bool_cmp_total, nat_cmp_total, on_total, then_total}
@@ -56,11 +56,11 @@ group_total =
 
 -- ---- the group of an identity
 
--- the sort of the reference, where the rank asks for the reference
+-- the sort of the reference, if the rank compares the reference
 abbrev pub kind_at : ℕ → Source → ℕ
 kind_at rank s = if rank == 3 then kind_number s.kind else 0
 
--- what a rank asks of a repository beside its URL: the commit, the reference, or nothing
+-- what a rank compares of a repository beside its URL: the commit, the reference, or nothing
 abbrev pub text_at : ℕ → Source → Option (List ℕ)
 text_at rank s =
     if is_git s.kind
@@ -84,7 +84,8 @@ abbrev pub source_group : ℕ → Bool → PartialIdentity → Option Source →
 source_group rank is_open i None = None
 source_group rank is_open i (Some s) = option_map (group_with rank is_open i s) (text_at rank s)
 
--- the group of an identity for a rank, if it has one: for rank 1 that of all with the same identity
+-- the group of an identity for a rank, if it has one; for rank 1, all packages with the same
+-- identity
 abbrev pub group_of : ℕ → Bool → PartialIdentity → Option Group
 group_of rank is_open i =
     if rank == 1

@@ -12,7 +12,7 @@ use Rattle.cargo_lock_check.specs.Group.{Group, group_cmp, group_of, has_precise
 
 -- ---- the places of the packages of each group
 
--- the places that are kept
+-- the places in a list that may be absent
 abbrev pub places_in : {Z : Type 0} → Option (Vec ℕ Z) → List ℕ
 places_in None = []
 places_in (Some places) = places.items
@@ -87,7 +87,7 @@ pub record Grouping : Type 0 where
 abbrev pub HasMatch : List PackageData → Identity → ℕ → Type 0
 HasMatch packages d rank = (k : ℕ) × MatchesAt packages d k rank
 
--- the places of the group with the number, and none where there is none
+-- the places of the group with the number, or none if no group has it
 abbrev pub group_places : Grouping → ℕ → List ℕ
 group_places groups number = unwrap_or (slice_get groups.places number) []
 
@@ -96,8 +96,8 @@ abbrev pub HasMatches : Grouping → Identity → ℕ → ℕ → Type 0
 HasMatches groups d rank number = (k : ℕ) → MatchesAt groups.packages d k rank
     → Contains (group_places groups number) k
 
--- some package matches the dependency with this rank, none with a lesser one, and the group has all
--- that match with this rank
+-- some package matches the dependency with this rank, none matches with a lesser one, and the group
+-- has all packages that match with this rank
 pub record IsBestGroup (groups : Grouping) (d : Identity) (best : BestGroup) : Type 0 where
   pub some : HasMatch groups.packages d best.rank
   pub least : (k other : ℕ) → MatchesAt groups.packages d k other → best.rank ≤ other

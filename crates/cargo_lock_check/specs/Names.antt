@@ -1,4 +1,5 @@
--- Names of packages that Cargo does not take.
+-- Names of packages that Cargo does not accept.
+-- The rule is that of the `name` field in the Cargo Book, in ASCII alone, as crates.io asks for.
 use Rattle.std.specs.Prelude.{◌≡◌, ◌==◌, ◌&&◌, ◌||◌, ℕ, Bool, not, false, List, length, slice_index}
 use Rattle.std.specs.Char.{is_ascii_alphanumeric, is_ascii_digit}
 use Rattle.std.specs.List.{list_all}
@@ -15,6 +16,6 @@ abbrev pub is_cargo_name : List ℕ → Bool
 is_cargo_name name = not (length name == 0) && not (is_ascii_digit (slice_index name 0))
     && list_all is_name_byte name
 
--- the package at the place has another name
+-- Cargo does not accept the name of the package at the place
 abbrev pub IsBadlyNamed : List PackageData → ℕ → Type 0
 IsBadlyNamed packages place = HoldsOf (λ p. is_cargo_name p.name ≡ false) packages place

@@ -1,4 +1,4 @@
--- What is wrong with single packages of a list.
+-- What is wrong with packages of a list.
 use Rattle.std.specs.Prelude.{◌≡◌, ◌<◌, ℕ, suc, true, List, Option, Some, None, option_map, IsSome}
 use Rattle.std.specs.declared.cmp.Ordering.TheVariants.{Greater}
 use Rattle.cargo_lock_parts.specs.Identity.{Identity, PackageData, identity_of}
@@ -7,7 +7,7 @@ use Rattle.cargo_lock_parts.specs.SourceKey.{key_of}
 use Rattle.cargo_lock_graph.specs.Targets.{HasIdentity, HoldsOf}
 use Rattle.cargo_lock_check.specs.Order.{package_order}
 
--- an earlier package has the identity of the package at the place too
+-- an earlier package has the same identity as the package at the place
 abbrev pub IsTwice : List PackageData → ℕ → Type 0
 IsTwice packages place = HoldsOf
     (λ p. (j : ℕ) × (j < place) × HoldsOf (HasIdentity (identity_of p)) packages j) packages place
@@ -17,8 +17,8 @@ pub record HasChecksumFrom (source : Source) (p : PackageData) : Type 0 where
   pub from : option_map key_of p.source ≡ Some (key_of source)
   pub checksum : IsSome p.checksum
 
--- the package has no checksum and no replacement, and it is from a registry on the network from
--- which some package has a checksum
+-- the package has no checksum and no replacement, and is from a registry on the network of which
+-- some package has a checksum
 pub record LacksChecksum (packages : List PackageData) (p : PackageData) : Type 0 where
   pub checksum : p.checksum ≡ None
   pub replace : p.replace ≡ None
@@ -27,7 +27,7 @@ pub record LacksChecksum (packages : List PackageData) (p : PackageData) : Type 
   pub remote : is_remote_registry source.kind ≡ true
   pub other : (j : ℕ) × HoldsOf (HasChecksumFrom source) packages j
 
--- the package at the place does
+-- the package at the place lacks a checksum
 abbrev pub IsWithoutChecksum : List PackageData → ℕ → Type 0
 IsWithoutChecksum packages place = HoldsOf (LacksChecksum packages) packages place
 
@@ -36,7 +36,7 @@ abbrev pub IsMisplaced : List PackageData → ℕ → Type 0
 IsMisplaced packages place = HoldsOf
     (λ p. HoldsOf (λ next. package_order p next ≡ Greater) packages (suc place)) packages place
 
--- this source, where there is no replacement
+-- this source, if there is no replacement
 abbrev pub source_unless : Option Identity → Option Source → Option Source
 source_unless None source = source
 source_unless (Some other) source = None
@@ -49,8 +49,8 @@ own_source p = source_unless p.replace p.source
 abbrev pub IsOwnFrom : Source → PackageData → Type 0
 IsOwnFrom source p = option_map key_of (own_source p) ≡ Some (key_of source)
 
--- the package is the first from its registry, which is on the network, and from which no package
--- has a checksum; packages with a replacement do not count
+-- the package is the first of its registry, which is on the network and of which no package has a
+-- checksum; packages with a replacement do not count
 pub record IsFirstUnchecked (packages : List PackageData) (place : ℕ) (p : PackageData) : Type 0
   where
     pub source : Source
@@ -59,6 +59,6 @@ pub record IsFirstUnchecked (packages : List PackageData) (place : ℕ) (p : Pac
     pub none : (j : ℕ) → ¬ HoldsOf (HasChecksumFrom source) packages j
     pub first : (j : ℕ) → j < place → ¬ HoldsOf (IsOwnFrom source) packages j
 
--- the package at the place is
+-- the package at the place is the first unchecked one of its registry
 abbrev pub IsUnchecked : List PackageData → ℕ → Type 0
 IsUnchecked packages place = HoldsOf (IsFirstUnchecked packages place) packages place

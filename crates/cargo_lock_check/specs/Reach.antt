@@ -1,15 +1,16 @@
--- Which packages those of the workspace lead to.
+-- Which packages the packages of the workspace lead to.
 --
--- A package leads to the packages that match its dependencies and its replacement best. Where
--- several match one of these equally well, as one at a branch and one at a commit of one
--- repository, it leads to each of them. A lockfile of V1 may have a root apart from its packages,
--- which is of the workspace too.
+-- A package leads to the packages that match its dependencies and its replacement best. If several
+-- match one of these equally well, such as one at a branch and one at a commit of one repository,
+-- it leads to each of them. A lockfile of V1 may have a separate root, which is of the workspace
+-- too.
 use Rattle.std.specs.Prelude.{◌≡◌, ◌≤◌, ℕ, List, [], ◌∷◌, Option, Some, None, ◌⊎◌}
 use Rattle.std.specs.List.{Contains}
 use Rattle.cargo_lock_parts.specs.Identity.{Identity, PackageData}
 use Rattle.cargo_lock_graph.specs.Targets.{HoldsOf, MatchesAt}
 
--- the package at the place matches the dependency with this rank, and none has a lesser one
+-- the package at the place matches the dependency with this rank, and none matches with a lesser
+-- one
 pub record IsBestMatch (packages : List PackageData) (d : Identity) (rank place : ℕ) : Type 0 where
   pub fits : MatchesAt packages d place rank
   pub least : (k other : ℕ) → MatchesAt packages d k other → rank ≤ other
@@ -22,11 +23,12 @@ IsOneOfBest packages d place = (rank : ℕ) × IsBestMatch packages d rank place
 abbrev pub IsAskedBy : PackageData → Identity → Type 0
 IsAskedBy p d = Contains p.dependencies d ⊎ (p.replace ≡ Some d)
 
--- the package at the place is one of those that match best what p asks for
+-- the package at the place is one of those that match best a dependency or the replacement of p
 abbrev pub AsksFor : List PackageData → PackageData → ℕ → Type 0
 AsksFor packages p place = (d : Identity) × IsAskedBy p d × IsOneOfBest packages d place
 
--- the package at b is one of those that match best what the package at a asks for
+-- the package at b is one of those that match best a dependency or the replacement of the package
+-- at a
 abbrev pub LeadsTo : List PackageData → ℕ → ℕ → Type 0
 LeadsTo packages a b = HoldsOf (λ p. AsksFor packages p b) packages a
 
@@ -39,19 +41,21 @@ IsChain packages a (b ∷ bs) end = LeadsTo packages a b × IsChain packages b b
 abbrev pub IsRoot : List PackageData → ℕ → Type 0
 IsRoot packages place = HoldsOf (λ p. p.source ≡ None) packages place
 
--- the package at the place is one of those that match best what the root apart from them asks for
+-- the package at the place is one of those that match best a dependency or the replacement of the
+-- separate root
 abbrev pub RootLeadsTo : List PackageData → Option PackageData → ℕ → Type 0
 RootLeadsTo packages root place = (p : PackageData) × (root ≡ Some p) × AsksFor packages p place
 
--- a chain to the place begins here: at a package of the workspace, or where the root leads to
+-- a chain begins at the place: at a package of the workspace, or at one to which the separate root
+-- leads
 abbrev pub IsStart : List PackageData → Option PackageData → ℕ → Type 0
 IsStart packages root place = IsRoot packages place ⊎ RootLeadsTo packages root place
 
--- a chain leads to the place from there
+-- a chain leads to the place
 abbrev pub IsReached : List PackageData → Option PackageData → ℕ → Type 0
 IsReached packages root place = (start : ℕ) × (chain : List ℕ) × IsStart packages root start
     × IsChain packages start chain place
 
--- no chain does
+-- no chain leads to the place
 abbrev pub IsOrphan : List PackageData → Option PackageData → ℕ → Type 0
 IsOrphan packages root place = ¬ IsReached packages root place

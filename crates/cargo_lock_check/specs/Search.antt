@@ -11,8 +11,8 @@ use Rattle.cargo_lock_check.specs.Reach.{IsReached, IsStart, LeadsTo}
 abbrev pub IsMarked : List Bool → ℕ → Type 0
 IsMarked marks place = slice_get marks place ≡ Some true
 
--- The search has reached the places at which P holds. What it newly reached waits, and what waits
--- now waited before or has a mark.
+-- The search has reached the places at which P holds. The places that it newly reached wait, and
+-- each place that waits now waited before or has a mark.
 pub record HasReached (P : ℕ → Type 0) (old new : Search) : Type 0 where
   pub count : length new.reached.items ≡ length old.reached.items
   pub kept : (k : ℕ) → IsMarked old.reached.items k → IsMarked new.reached.items k
@@ -40,7 +40,7 @@ pub record HasBegun (packages : List PackageData) (P : ℕ → Type 0) (search :
   pub marked : (k : ℕ) → IsMarked search.reached.items k ↔ P k
   pub waits : (k : ℕ) → Contains search.waiting.items k ↔ P k
 
--- The places at which a chain begins have marks, and what a package with a mark leads to has one,
+-- The places at which a chain begins have marks. What a package with a mark leads to has a mark,
 -- unless the package still waits. What has a mark is reached.
 pub record IsSearch (packages : List PackageData) (root : Option PackageData) (search : Search)
     : Type 0 where

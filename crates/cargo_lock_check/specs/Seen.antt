@@ -1,4 +1,4 @@
--- What is kept of the packages that were seen. No public contract cites these.
+-- What is recorded of the packages so far. No public contract cites these definitions.
 use Rattle.std.specs.Prelude.{◌≡◌, ◌↔◌, ◌<◌, ◌&&◌, not, Bool, ℕ, true, List, Some, None}
 use Rattle.std.specs.Borrow.{Bor}
 use Rattle.std.specs.BTreeMap.{BTreeMap, get}
@@ -42,7 +42,7 @@ abbrev pub AreOwn : List PackageData → ℕ → BTreeSet (Bor Source) → Type 
 AreOwn packages bound sources = (s : Source) → (has_source sources s ≡ true)
     ↔ ((j : ℕ) × (j < bound) × HoldsOf (IsOwnFrom s) packages j)
 
--- the source is a registry on the network that is among neither these sources nor those
+-- the source is a registry on the network that is in neither of these two sets
 abbrev pub is_new : BTreeSet (Bor Source) → BTreeSet (Bor Source) → Source → Bool
 is_new checked seen source = is_remote_registry source.kind && not (has_source checked source)
     && not (has_source seen source)

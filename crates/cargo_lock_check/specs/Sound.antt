@@ -1,4 +1,4 @@
--- What it is that nothing is wrong.
+-- What it means that nothing is wrong.
 use Rattle.std.specs.Prelude.{◌≡◌, ◌↔◌, ◌<◌, ℕ, List, [], None, length}
 use Rattle.cargo_lock_encoding.specs.Lockfiles.{LockfileData}
 use Rattle.cargo_lock_encoding.specs.Survives.{Survives}
@@ -12,14 +12,15 @@ use Rattle.cargo_lock_check.specs.Reach.{IsOrphan}
 use Rattle.cargo_lock_check.specs.Sources.{HasUserInfo, IsFromAt, IsLookAlike}
 use Rattle.cargo_lock_check.specs.Stale.{IsStale}
 
--- The format keeps the tag, branch or revision of each source. Each dependency has its package. No
--- package is there twice, lists a dependency twice, has a name that Cargo does not take, is from a
--- source that looks like crates.io and is another one, is from a source with user info, lacks a
--- checksum that others have or is out of order, and neither is a dependency. Each registry on the
--- network has a checksum, and no checksum is of no package. No two packages have names that
--- crates.io takes for one. The lockfile survives its format. The packages of the workspace lead to
--- each package, and a root apart from the packages is one of them. Where there is none, each line
--- of the text is as Cargo writes it.
+-- The format keeps the tag, branch or revision of each source. A package matches each dependency.
+-- No package has the identity of an earlier one, lists a dependency more than once, has a name that
+-- Cargo does not accept, is from a source that looks like crates.io but is another one, is from a
+-- source with user info, lacks a checksum that others have, or is out of order, and neither is a
+-- dependency. Each registry on the network has a package with a checksum, and each checksum in the
+-- metadata is of a package. No two packages have different names that are the same to crates.io.
+-- The lockfile survives its format. The packages of the workspace lead to each package, and a
+-- separate root is one of them. If there is no separate root, each line of the text is as Cargo
+-- writes it.
 pub record IsSound (text : List ℕ) (l : LockfileData) : Type 0 where
   pub plain : (source : List ℕ) → ¬ IsLostIn l.version text source
   pub dependencies : (place at : ℕ) → ¬ IsLostAt l.packages place at
@@ -40,12 +41,12 @@ pub record IsSound (text : List ℕ) (l : LockfileData) : Type 0 where
 
 -- ---- laws
 
--- nothing is found exactly where nothing is wrong
+-- nothing is found exactly if nothing is wrong
 abbrev pub EmptyIfSound : Type 0
 EmptyIfSound = (text : List ℕ) (l : LockfileData) (f : FindingsData) → AreFindings text l f
     → IsEmpty f ↔ IsSound text l
 
--- no finding is reported exactly where nothing is found
+-- no finding is reported exactly if nothing is found
 abbrev pub NoneToldIfEmpty : Type 0
 NoneToldIfEmpty = (text : List ℕ) (l : LockfileData) (f : FindingsData) → AreFindings text l f
     → (told_of f ≡ []) ↔ IsEmpty f

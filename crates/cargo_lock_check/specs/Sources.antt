@@ -9,13 +9,13 @@ use Rattle.cargo_lock_parts.specs.Source.{Source}
 use Rattle.cargo_lock_parts.specs.SourceShown.{is_default_registry}
 use Rattle.cargo_lock_graph.specs.Targets.{HoldsOf}
 
--- the text names one of the two indexes of crates.io, in whatever case
+-- the text has the name of one of the two indexes of crates.io in it, in any case
 abbrev pub NamesIndex : List ℕ → Type 0
 NamesIndex text = HasSubslice (map to_ascii_lowercase text) (codes "crates.io-index")
     ⊎ HasSubslice (map to_ascii_lowercase text) (codes "index.crates.io")
 
--- the source looks like crates.io by its URL, as it is or with its escapes read, and is neither of
--- the two indexes of crates.io
+-- the source looks like crates.io by its URL, unchanged or with its escapes decoded, and is neither
+-- of the two indexes of crates.io
 pub record IsLookAlike (source : Source) : Type 0 where
   pub named : NamesIndex (serialize source.url) ⊎ NamesIndex (percent_decode (serialize source.url))
   pub other : is_default_registry source ≡ false

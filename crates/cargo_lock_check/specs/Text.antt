@@ -1,12 +1,15 @@
--- The lines of a text, and those that Cargo writes in its place.
+-- The lines of a text, and the lines that Cargo writes for its lockfile.
+-- The rule is measured on the lockfiles in `tests/cargo`, which Cargo 1.95.0 wrote; Cargo's own is
+-- in its `src/cargo/ops/lockfile.rs`.
 use Rattle.std.specs.Prelude.{◌≡◌, ◌≢◌, ◌<◌, ◌&&◌, ◌++◌, ◌∷◌, ◌==◌, ℕ, zero, suc, Bool, not, if◌then◌else◌, List, [], codes, drop, eqb, take, length, slice_index_or}
 use Rattle.std.specs.List.{dedup, starts_with, take_while}
 
--- the line at a place, and an empty one where there are no more
+-- the line at a place, or an empty one after the last
 abbrev pub line_at : List (List ℕ) → ℕ → List ℕ
 line_at lines k = slice_index_or lines k []
 
--- a text with `^` for each `%5E`, but for its first bytes, so many of which are passed over
+-- a text without its first bytes, as many as the number says, and with `^` for each `%5E` in the
+-- rest
 abbrev pub with_carets_after : ℕ → List ℕ → List ℕ
 with_carets_after n [] = []
 with_carets_after (suc n) (b ∷ bs) = with_carets_after n bs
@@ -18,8 +21,8 @@ with_carets_after zero (b ∷ bs) =
 abbrev pub with_carets : List ℕ → List ℕ
 with_carets text = with_carets_after 0 text
 
--- The line at a place, as it is compared. In the path of a URL Cargo leaves `^` as it is, where this
--- library has `%5E`.
+-- The line at a place, in the form that is compared. In the path of a URL Cargo writes `^`
+-- unchanged, where this library writes `%5E`.
 abbrev pub compared_at : List (List ℕ) → ℕ → List ℕ
 compared_at lines k = with_carets (line_at lines k)
 
@@ -39,22 +42,22 @@ are_empty a b = is_empty a && is_empty b
 abbrev pub kept_comments : List (List ℕ) → List (List ℕ)
 kept_comments written = take_while is_comment (drop 2 written)
 
--- the lockfile has no number of its format: this library prints an empty line after the comments
+-- the format has no number in the file: this library then prints an empty line after the comments
 abbrev pub is_unnumbered : List (List ℕ) → Bool
 is_unnumbered printed = is_empty (line_at printed 2)
 
--- the two comments, which may be missing where there is no number, as Cargo did not always write them
+-- the two comments, which may be missing if there is no number, as Cargo did not always write them
 abbrev pub header : List (List ℕ) → List (List ℕ) → List (List ℕ)
 header written printed =
     if is_unnumbered printed && not (is_comment (line_at written 0)) then [] else take 2 printed
 
--- where the lines after the two comments begin: Cargo prints no empty line there
+-- the place at which the lines after the two comments begin: Cargo prints no empty line there
 abbrev pub body_place : List (List ℕ) → ℕ
 body_place printed = if is_unnumbered printed then 3 else 2
 
--- The lines that Cargo writes in place of those that are written, for a lockfile that this library
--- prints in the lines `printed`: Cargo's two comments, the comments that it keeps, and the rest.
--- Between two unused patches Cargo leaves one line empty, where this library leaves two.
+-- The lines that Cargo writes in place of `written`, for a lockfile that this library prints as the
+-- lines `printed`: Cargo's two comments, the comments that it keeps, and the rest. Between two
+-- unused patches Cargo leaves one line empty, where this library leaves two.
 abbrev pub cargo_lines : List (List ℕ) → List (List ℕ) → List (List ℕ)
 cargo_lines written printed = dedup are_empty
     (header written printed ++ (kept_comments written ++ drop (body_place printed) printed))
@@ -63,13 +66,13 @@ cargo_lines written printed = dedup are_empty
 abbrev pub AreSameLines : List (List ℕ) → List (List ℕ) → Type 0
 AreSameLines written wanted = (k : ℕ) → compared_at written k ≡ compared_at wanted k
 
--- a line that is not as it should be: its number, from 1 on, and both texts
+-- a line that is not as Cargo writes it: its number, from 1 on, and both texts
 pub record OtherLineData : Type 0 where
   pub number : ℕ
   pub written : List ℕ
   pub wanted : List ℕ
 
--- it is the first such line
+-- it is the first line that differs
 pub record IsFirstOther (written wanted : List (List ℕ)) (other : OtherLineData) : Type 0 where
   pub place : ℕ
   pub number : other.number ≡ suc place

@@ -1,4 +1,4 @@
-//! What is found in the checksums, and what is asked only where the format loses no source.
+//! Findings about checksums, and those that are only looked for if the format loses no source.
 
 ghost use Rattle.std.specs.Prelude.{◌≡◌, ◌↔◌, [], None, true, IfOk, IsOkUnless, IsTrue, length, map, string_bytes};
 ghost use Rattle.cargo_lock_parts.specs.declared.error.Error.TheVariants.{Memory};
@@ -20,7 +20,7 @@ use cargo_lock_parts::error::Result;
 use cargo_lock_references::{MetadataKey, ResolveVersion};
 use std::alloc::{AllocError, Global};
 
-/// What is wrong with the checksums.
+/// The findings about checksums.
 #[derive(Drop)]
 pub(crate) struct ChecksumFindings {
     pub(crate) without_checksum: Vec<usize>,
@@ -29,7 +29,7 @@ pub(crate) struct ChecksumFindings {
 }
 
 impl ChecksumFindings {
-    // Those of a lockfile, and of the same with the checksums that Cargo reads.
+    // Those of a lockfile, where `checked` is the lockfile with the checksums that Cargo reads.
     fn of(alloc: Global, lockfile: &Lockfile, checked: &Lockfile) -> Result<ChecksumFindings>
         requires { checked.now ≡ with_cargo_checksums_in lockfile.now }
         ensures without_checksum { IfOk result
@@ -87,8 +87,8 @@ fn checked_lockfile(alloc: Global, lockfile: &Lockfile) -> Result<Lockfile>
     Ok(checked)
 }
 
-/// What is wrong with the checksums, the sources that the format loses, and what is asked only where
-/// there are none of these.
+/// The findings about checksums, the sources that the format loses, and the findings that are only
+/// looked for if it loses none.
 #[derive(Drop)]
 pub(crate) struct TextFindings {
     pub(crate) checksums: ChecksumFindings,
@@ -147,7 +147,7 @@ fn lossy_sources(alloc: Global, text: &str, lockfile: &Lockfile) -> Result<Vec<S
     }
 }
 
-/// What is asked only where no source is lossy.
+/// The findings that are only looked for if no source is lossy.
 #[derive(Drop)]
 pub(crate) struct AskedFindings {
     pub(crate) lost_dependencies: Vec<(usize, usize)>,
@@ -157,7 +157,7 @@ pub(crate) struct AskedFindings {
 }
 
 impl AskedFindings {
-    // Those of a text and its lockfile, or nothing where these sources are lossy.
+    // Those of a text and its lockfile, or none if there are lossy sources.
     fn unless(
         alloc: Global,
         text: &str,
@@ -217,7 +217,6 @@ impl AskedFindings {
     }
 }
 
-// The orphans of a lockfile.
 fn orphans_of(alloc: Global, lockfile: &Lockfile) -> std::result::Result<Vec<usize>, AllocError>
     ensures { IfOk result (λ places. AreOrphans lockfile.now places.items) }
 {

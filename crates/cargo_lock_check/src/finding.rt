@@ -1,4 +1,4 @@
-//! What is found in a lockfile, each as a line.
+//! The findings of a lockfile, each displayed as a line.
 
 ghost use Rattle.std.specs.Prelude.{Some};
 ghost use Rattle.std.specs.Fmt.{DisplaysOnOk};
@@ -12,38 +12,38 @@ use cargo_lock_references::{MetadataKey, ResolveVersion};
 use shown::{Quoted, Shown};
 use std::fmt;
 
-/// One thing that is wrong with a lockfile. Displayed, it is a line without its newline: a word
-/// that names it, a colon, and words about it. A package is shown as
-/// `NAME VERSION (SOURCE)`, and one without a source as `NAME VERSION`.
+/// One thing that is wrong with a lockfile. `Display` writes it as a line without a newline: its
+/// kind, a colon, and a text. A package is written as `NAME VERSION (SOURCE)`, and one without a
+/// source as `NAME VERSION`.
 ///
 /// ```
-/// for finding in &findings.all(rt.alloc())? {
+/// for finding in findings.all(rt.alloc())?.as_slice() {
 ///     println!(rt; "{finding}")?;
 /// }
 /// ```
 #[derive(Clone, Copy)]
 pub enum Finding<'a> {
-    /// A package depends on one that is not there:
-    /// `reference: PACKAGE depends on DEPENDENCY, which is no package`.
+    /// A package depends on one that is not in the lockfile:
+    /// `reference: PACKAGE depends on DEPENDENCY, which is missing from the lockfile`.
     LostDependency(&'a Package, &'a Dependency),
 
-    /// A package has the name, the version and the source of an earlier one:
-    /// `twice: PACKAGE stands more than once`.
+    /// An earlier package has the same name, version and source:
+    /// `twice: PACKAGE is listed more than once`.
     Twice(&'a Package),
 
     /// A package lists a dependency with the name, the version and the source of an earlier one:
     /// `twice: PACKAGE lists DEPENDENCY more than once`.
     RepeatedDependency(&'a Package, &'a Dependency),
 
-    /// A package has a name that Cargo does not take:
-    /// `name: NAME is no name that Cargo takes`.
+    /// A package has a name that Cargo does not accept:
+    /// `name: NAME is not a name that Cargo accepts`.
     BadName(&'a Package),
 
-    /// Two packages from crates.io have different names that crates.io takes for one:
+    /// Two packages from crates.io have different names that are the same name to crates.io:
     /// `alike: PACKAGE and PACKAGE have one name on crates.io`.
     Alike(&'a Package, &'a Package),
 
-    /// A package is from a source that looks like crates.io, and is another one:
+    /// A package is from a source that looks like crates.io but is another one:
     /// `source: SOURCE is not crates.io`.
     LookAlike(&'a SourceId),
 
@@ -55,7 +55,7 @@ pub enum Finding<'a> {
     /// `root: no package is of the workspace`.
     NoRoot,
 
-    /// A package is needed by no package of the workspace:
+    /// No package of the workspace needs the package:
     /// `orphan: PACKAGE: no package of the workspace leads to it`.
     Orphan(&'a Package),
 
@@ -67,19 +67,19 @@ pub enum Finding<'a> {
     /// `checksum: no package of SOURCE has one`.
     NoChecksums(&'a SourceId),
 
-    /// The metadata has the checksum of a package that is not there:
+    /// The metadata has the checksum of a package that is not in the lockfile:
     /// ``stale: `KEY` is in the metadata, and is of no package``.
     StaleChecksum(&'a MetadataKey),
 
-    /// A package comes after the next one in Cargo's order:
-    /// `order: PACKAGE stands before PACKAGE`.
+    /// A package is before the next one, though it comes after it in Cargo's order:
+    /// `order: PACKAGE is listed before PACKAGE`.
     Misplaced(&'a Package, &'a Package),
 
     /// A package lists a dependency before the next one, though it comes after it in Cargo's order:
     /// `order: PACKAGE lists DEPENDENCY before DEPENDENCY`.
     MisplacedDependency(&'a Package, &'a Dependency, &'a Dependency),
 
-    /// A git source whose tag, branch or revision is not read as it is written, in V1 to V3:
+    /// A git source whose tag, branch or revision does not read back as it is written, in V1 to V3:
     /// ``format: V3 loses the tag, branch or revision of `SOURCE`; V4 keeps it``.
     LossySource(ResolveVersion, &'a str),
 
@@ -103,12 +103,12 @@ impl fmt::Display for Finding<'_> {
             Finding::LostDependency(one, dependency) => write_lost_dependency(one, dependency, f),
             Finding::Twice(one) => {
                 let one = PackageText(one);
-                write!(f, "twice: {one} stands more than once")
+                write!(f, "twice: {one} is listed more than once")
             }
             Finding::RepeatedDependency(one, dependency) => write_repeated(one, dependency, f),
             Finding::BadName(one) => {
                 let name = Shown(&one.name);
-                write!(f, "name: {name} is no name that Cargo takes")
+                write!(f, "name: {name} is not a name that Cargo accepts")
             }
             Finding::Alike(one, other) => write_alike(one, other, f),
             Finding::LookAlike(source) => {
@@ -147,7 +147,6 @@ impl fmt::Display for Finding<'_> {
     }
 }
 
-// The line of a package and its dependency.
 fn write_lost_dependency<W: fmt::Write>(
     one: &Package,
     dependency: &Dependency,
@@ -160,11 +159,10 @@ fn write_lost_dependency<W: fmt::Write>(
     let dependency = DependencyText(dependency);
     write!(
         f,
-        "reference: {one} depends on {dependency}, which is no package"
+        "reference: {one} depends on {dependency}, which is missing from the lockfile"
     )
 }
 
-// The line of a package that lists a dependency once more.
 fn write_repeated<W: fmt::Write>(
     one: &Package,
     dependency: &Dependency,
@@ -178,7 +176,6 @@ fn write_repeated<W: fmt::Write>(
     write!(f, "twice: {one} lists {dependency} more than once")
 }
 
-// The line of two packages that are alike.
 fn write_alike<W: fmt::Write>(
     one: &Package,
     other: &Package,
@@ -192,7 +189,6 @@ fn write_alike<W: fmt::Write>(
     write!(f, "alike: {one} and {other} have one name on crates.io")
 }
 
-// The line of a package without a checksum.
 fn write_no_checksum<W: fmt::Write>(one: &Package, f: &mut fmt::Formatter<W>) -> fmt::Result
     ensures { DisplaysOnOk W.write_str_gives f.old result
         (Some (line_of (told.NoChecksum one.now))) f.new }
@@ -204,7 +200,6 @@ fn write_no_checksum<W: fmt::Write>(one: &Package, f: &mut fmt::Formatter<W>) ->
     )
 }
 
-// The line of a package and the next one.
 fn write_misplaced<W: fmt::Write>(
     one: &Package,
     next: &Package,
@@ -215,10 +210,9 @@ fn write_misplaced<W: fmt::Write>(
 {
     let one = PackageText(one);
     let next = PackageText(next);
-    write!(f, "order: {one} stands before {next}")
+    write!(f, "order: {one} is listed before {next}")
 }
 
-// The line of a package, one of its dependencies and the next one.
 fn write_misplaced_dependency<W: fmt::Write>(
     one: &Package,
     dependency: &Dependency,
@@ -234,7 +228,6 @@ fn write_misplaced_dependency<W: fmt::Write>(
     write!(f, "order: {one} lists {dependency} before {next}")
 }
 
-// The line of a source that is lossy in this format.
 fn write_lossy<W: fmt::Write>(
     version: ResolveVersion,
     text: &str,
@@ -268,7 +261,7 @@ impl fmt::Display for OtherLine {
     }
 }
 
-// The name, the version and the source of a package.
+// Displays the name, the version and the source of a package.
 #[derive(Clone, Copy)]
 struct PackageText<'a>(&'a Package);
 
@@ -287,7 +280,7 @@ impl fmt::Display for PackageText<'_> {
     }
 }
 
-// The same of a dependency.
+// Displays the name, the version and the source of a dependency.
 #[derive(Clone, Copy)]
 struct DependencyText<'a>(&'a Dependency);
 
@@ -306,7 +299,7 @@ impl fmt::Display for DependencyText<'_> {
     }
 }
 
-// A source in round brackets, where there is one.
+// Displays a source in round brackets, or nothing if there is none.
 #[derive(Clone, Copy)]
 struct BracketedSource<'a>(&'a Option<SourceId>);
 

@@ -28,96 +28,97 @@ use cargo_lock_references::{MetadataKey, ResolveVersion};
 use std::alloc::{AllocError, Global};
 use std::marker::Model;
 
-/// What is wrong with a lockfile, as places in its list of packages, each once and in order.
+/// What is wrong with a lockfile, as places in its list of packages, each listed once and in order.
 ///
 /// ```
 /// let lockfile = Lockfile::from_str(rt.alloc(), text)?;
 /// let findings = Findings::of(rt.alloc(), text, &lockfile)?;
-/// for finding in &findings.all(rt.alloc())? {
+/// for finding in findings.all(rt.alloc())?.as_slice() {
 ///     println!(rt; "{finding}")?;
 /// }
 /// ```
 #[derive(Drop)]
 pub struct Findings<'a> {
-    /// The packages that the places are of.
+    /// The packages of the lockfile, to which the places refer.
     pub packages: &'a [Package],
 
     /// The format of the lockfile.
     pub version: ResolveVersion,
 
-    /// The git sources whose tag, branch or revision the format loses, each once and in order (see
-    /// `Lockfile::lossy_sources`). V4 loses none. Where there are some, the lost dependencies, the
-    /// orphans, whether the lockfile survives and the text are not asked for.
+    /// The git sources whose tag, branch or revision the format loses, each listed once and in
+    /// order (see `Lockfile::lossy_sources`). V4 loses none. If there are any, the lost
+    /// dependencies, the orphans, whether the lockfile survives and the text are not looked for.
     pub lossy: Vec<String>,
 
-    /// The dependencies without a package, each as the place of the package that has it and its
-    /// own among the package's dependencies.
+    /// The dependencies that no package matches, each as the place of the package that has it and
+    /// its own place among the package's dependencies.
     pub lost_dependencies: Vec<(usize, usize)>,
 
-    /// The packages whose name, version and source an earlier one has too.
+    /// The packages for which an earlier one has the same name, version and source.
     pub twice: Vec<usize>,
 
-    /// The dependencies that their package lists at an earlier place too, each as the place of the
-    /// package and its own among the package's dependencies.
+    /// The dependencies that their package also lists at an earlier place, each as the place of the
+    /// package and its own place among the package's dependencies.
     pub repeated: Vec<(usize, usize)>,
 
-    /// The packages whose name Cargo does not take (see `badly_named_packages`).
+    /// The packages whose name Cargo does not accept (see `badly_named_packages`).
     pub badly_named: Vec<usize>,
 
-    /// The packages from crates.io with an earlier one of another name that crates.io takes for the
-    /// same, each after the first such one (see `packages_alike`).
+    /// The pairs of packages from crates.io with different names that are the same name to
+    /// crates.io. A pair is the first such package and a later one (see `packages_alike`).
     pub alike: Vec<(usize, usize)>,
 
-    /// The packages from a source that looks like crates.io and is another one (see
+    /// The packages from a source that looks like crates.io but is another one (see
     /// `look_alike_sources`).
     pub look_alikes: Vec<usize>,
 
     /// The packages from a source whose URL has a user name or a password.
     pub with_user_info: Vec<usize>,
 
-    /// Whether some package is of the workspace, which has no source: one of the packages, or the
-    /// root apart from them.
+    /// Whether a package of the workspace, which has no source, is among the packages or is the
+    /// separate root.
     pub has_workspace: bool,
 
-    /// The packages that none of the workspace leads to, by dependencies and replacements. A root
-    /// apart from the packages leads to what it asks for too.
+    /// The packages that no package of the workspace leads to, by dependencies and replacements. A
+    /// separate root leads to its own dependencies too.
     pub orphans: Vec<usize>,
 
-    /// The packages without a checksum, though others from their registry have one. A package that
-    /// is replaced needs none. In V1 the checksums are those that Cargo reads (see
+    /// The packages without a checksum, if others from their registry have one. A package that is
+    /// replaced needs none. In V1 the checksums are those that Cargo reads (see
     /// `Lockfile::with_cargo_checksums`).
     pub without_checksum: Vec<usize>,
 
-    /// The first package from each registry on the network from which no package has a checksum. A
-    /// package that is replaced does not count. In V1 the checksums are those that Cargo reads.
+    /// For each registry on the network from which no package has a checksum, its first package.
+    /// Packages that are replaced do not count. In V1 the checksums are those that Cargo reads.
     pub unchecked: Vec<usize>,
 
-    /// The keys of the metadata that begin `checksum ` and are of no package. Those with the value
-    /// `<none>`, which Cargo writes for packages without a checksum, are left out.
+    /// The keys of the metadata that begin with `checksum ` and are of no package. Keys with the
+    /// value `<none>`, which Cargo writes for packages without a checksum, are left out.
     pub stale: Vec<MetadataKey>,
 
     /// The packages that come after the next one in Cargo's order (see `package_order`).
     pub misplaced: Vec<usize>,
 
     /// The dependencies that their package lists before the next one, though they come after it in
-    /// Cargo's order (see `dependency_order`), each as the place of the package and its own among
-    /// the package's dependencies.
+    /// Cargo's order (see `dependency_order`), each as the place of the package and its own place
+    /// among the package's dependencies.
     pub misplaced_dependencies: Vec<(usize, usize)>,
 
     /// Whether the lockfile survives its format (see `Lockfile::survives`).
     pub is_kept: bool,
 
-    /// The first line of the text that is not as Cargo writes it. Lines are compared as Cargo
-    /// compares them, without their ends, so with `\r\n` as with `\n`. The comments after Cargo's
-    /// own two stay, as Cargo keeps them, and empty lines at the end are passed over. In V1 and V2
-    /// Cargo's own two may be missing. `%5E` in a URL is as `^`, which Cargo writes. In V1 the
-    /// checksums are those that Cargo reads.
+    /// The first line of the text that is not as Cargo writes it. As Cargo does, this compares
+    /// lines without their ends, so `\r\n` is the same as `\n`. The comments after Cargo's own two
+    /// stay, as Cargo keeps them, and empty lines at the end are ignored. In V1 and V2 Cargo's own
+    /// two comments may be missing. `%5E` in a URL is the same as `^`, which Cargo writes. In V1
+    /// the checksums are those that Cargo reads.
     ///
-    /// A lockfile of V2 without any checksum can have been written in V1 too. There is no such line
-    /// where the text is as Cargo writes it in one of the two, and else it is that of V2.
+    /// Cargo may also have written a lockfile of V2 without any checksum in V1. If the text is as
+    /// Cargo writes it in one of the two formats, there is no such line; if not, it is the line
+    /// that differs in V2.
     ///
-    /// The text is not compared where the lockfile has a root apart from its packages, or does not
-    /// survive its format, since it is then printed as another one.
+    /// The text is not compared if the lockfile has a separate root or does not survive its format,
+    /// since the printed lockfile is then another one.
     pub other_line: Option<OtherLine>,
 }
 
@@ -150,7 +151,7 @@ impl<'a> Model for Findings<'a> {
     } };
 }
 
-// The places of packages and of dependencies that are there more than once or out of order.
+// The places of packages and of dependencies that are listed more than once or out of order.
 #[derive(Drop)]
 struct ListPlaces {
     twice: Vec<usize>,
@@ -219,13 +220,12 @@ impl<'a> Findings<'a> {
             && self.other_line.is_none()
     }
 
-    /// The findings, in this order: lost dependencies, packages and dependencies that are there
-    /// twice, names that Cargo does not take, names that crates.io takes for one, sources that look
-    /// like crates.io, sources with user info, orphans, packages without a checksum, registries
-    /// without any, stale checksums, misplaced packages and dependencies, sources that the format
-    /// loses, the format, the text.
-    /// Where no package is of the workspace, that is reported in place of the orphans. Fails when
-    /// out of memory.
+    /// The findings, in this order: lost dependencies, packages and dependencies that are listed
+    /// more than once, names that Cargo does not accept, names that are the same to crates.io,
+    /// sources that look like crates.io, sources with user info, orphans, packages without a
+    /// checksum, registries without any, stale checksums, packages and dependencies that are out of
+    /// order, sources that the format loses, the format, the text. If no package is of the
+    /// workspace, that is reported in place of the orphans. Fails when out of memory.
     pub fn all<'s>(&'s self, alloc: Global) -> std::result::Result<Vec<Finding<'s>>, AllocError>
         ensures { IfOk result (λ all. map finding_of all.items ≡ told_of self.now) }
     {
@@ -247,7 +247,7 @@ impl<'a> Findings<'a> {
         Ok(all)
     }
 
-    // Adds the packages and the dependencies that are there more than once.
+    // Adds the packages and the dependencies that are listed more than once.
     fn add_twice<'s>(&'s self, all: &mut Vec<Finding<'s>>) -> std::result::Result<(), AllocError>
         ensures { OnOk result (map finding_of all.new.items
             ≡ map finding_of all.old.items ++ told_of_twice self.now) }
@@ -312,7 +312,6 @@ impl<'a> Findings<'a> {
 }
 
 impl ListPlaces {
-    // The places of these packages.
     fn of(alloc: Global, packages: &[Package]) -> std::result::Result<ListPlaces, AllocError>
         ensures twice { IfOk result
             (λ f. IsPlaces (IsTwice packages.now) (length packages.now) f.twice.items) }
@@ -332,7 +331,7 @@ impl ListPlaces {
     }
 }
 
-// The places of packages that may mislead a reader, by their names or sources.
+// The places of packages with names or sources that may mislead a reader.
 #[derive(Drop)]
 struct MisleadingPlaces {
     badly_named: Vec<usize>,
@@ -342,7 +341,6 @@ struct MisleadingPlaces {
 }
 
 impl MisleadingPlaces {
-    // The places of these packages.
     fn of(alloc: Global, packages: &[Package]) -> std::result::Result<MisleadingPlaces, AllocError>
         ensures badly_named { IfOk result (λ f. IsPlaces (IsBadlyNamed packages.now)
             (length packages.now) f.badly_named.items) }
@@ -361,7 +359,6 @@ impl MisleadingPlaces {
     }
 }
 
-// Adds a finding, if there is one.
 fn add_some<'a>(
     all: &mut Vec<Finding<'a>>,
     finding: Option<Finding<'a>>,
@@ -378,14 +375,14 @@ fn add_some<'a>(
 // What may be wrong with a dependency.
 #[derive(Clone, Copy)]
 enum DependencyFlaw {
-    // It has no package.
+    // No package matches it.
     Lost,
 
-    // Its package lists it at an earlier place too.
+    // Its package also lists it at an earlier place.
     Repeated,
 }
 
-// Adds the dependencies at these places, each with this flaw.
+// Adds a finding with this flaw for the dependency at each of these places.
 fn add_dependencies<'a>(
     all: &mut Vec<Finding<'a>>,
     packages: &'a [Package],
@@ -402,7 +399,6 @@ fn add_dependencies<'a>(
     Ok(())
 }
 
-// The finding of a dependency with a flaw.
 fn flawed_dependency<'a>(
     packages: &'a [Package],
     place: usize,
@@ -420,13 +416,13 @@ fn flawed_dependency<'a>(
     })
 }
 
-// What may be wrong with a package by itself.
+// What may be wrong with a package.
 #[derive(Clone, Copy)]
 enum Flaw {
-    // An earlier package has its identity.
+    // An earlier package has the same identity.
     Twice,
 
-    // Cargo does not take its name.
+    // Cargo does not accept its name.
     BadName,
 
     // No package of the workspace leads to it.
@@ -436,7 +432,7 @@ enum Flaw {
     NoChecksum,
 }
 
-// Adds the packages at these places, each with this flaw.
+// Adds a finding with this flaw for the package at each of these places.
 fn add_flawed<'a>(
     all: &mut Vec<Finding<'a>>,
     packages: &'a [Package],
@@ -453,7 +449,6 @@ fn add_flawed<'a>(
     Ok(())
 }
 
-// The finding of a package with a flaw.
 fn flawed_package<'a>(packages: &'a [Package], place: usize, flaw: Flaw) -> Option<Finding<'a>>
     ensures { option_map finding_of result ≡ package_at (finding_by flaw) packages.now place }
 {
@@ -466,7 +461,7 @@ fn flawed_package<'a>(packages: &'a [Package], place: usize, flaw: Flaw) -> Opti
     })
 }
 
-// Adds the packages at these pairs of places, which are alike.
+// Adds a finding for each of these pairs of places.
 fn add_alike<'a>(
     all: &mut Vec<Finding<'a>>,
     packages: &'a [Package],
@@ -481,7 +476,6 @@ fn add_alike<'a>(
     Ok(())
 }
 
-// The finding of two packages that are alike.
 fn alike_packages<'a>(packages: &'a [Package], earlier: usize, place: usize) -> Option<Finding<'a>>
     ensures { option_map finding_of result ≡ alike_at packages.now (earlier, place) }
 {
@@ -493,7 +487,7 @@ fn alike_packages<'a>(packages: &'a [Package], earlier: usize, place: usize) -> 
 // What may be wrong with a source.
 #[derive(Clone, Copy)]
 enum SourceFlaw {
-    // It looks like crates.io, and is another one.
+    // It looks like crates.io but is another one.
     LookAlike,
 
     // Its URL has a user name or a password.
@@ -503,7 +497,7 @@ enum SourceFlaw {
     Unchecked,
 }
 
-// Adds the sources of the packages at these places, each with this flaw.
+// Adds a finding with this flaw for the source of the package at each of these places.
 fn add_sources<'a>(
     all: &mut Vec<Finding<'a>>,
     packages: &'a [Package],
@@ -520,7 +514,6 @@ fn add_sources<'a>(
     Ok(())
 }
 
-// The finding of the source of a package.
 fn flawed_source<'a>(packages: &'a [Package], place: usize, flaw: SourceFlaw) -> Option<Finding<'a>>
     ensures { option_map finding_of result
         ≡ source_at (source_finding_by flaw) packages.now place }
@@ -534,7 +527,7 @@ fn flawed_source<'a>(packages: &'a [Package], place: usize, flaw: SourceFlaw) ->
     })
 }
 
-// Adds the orphans at these places, or that no package is of the workspace.
+// Adds the orphans at these places. If no package is of the workspace, adds that alone.
 fn add_orphans<'a>(
     all: &mut Vec<Finding<'a>>,
     has_workspace: bool,
@@ -552,21 +545,20 @@ fn add_orphans<'a>(
     Ok(())
 }
 
-// Whether some package is of the workspace.
 fn has_workspace(lockfile: &Lockfile) -> bool
     ensures { result ≡ has_workspace lockfile.now }
 {
     is_bare_root(&lockfile.root) || has_bare_package(&lockfile.packages)
 }
 
-// Whether some package has no source.
+// Whether some package has no source, as those of the workspace.
 fn has_bare_package(packages: &[Package]) -> bool
     ensures { result ≡ list_any (λ p. is_none p.source) packages.now }
 {
     packages.iter().any(|one| one.source.is_none())
 }
 
-// Whether the root apart from the packages is there, and has no source.
+// Whether there is a separate root, and it has no source.
 fn is_bare_root(root: &Option<Package>) -> bool
     ensures { result ≡ is_bare_root root.now }
 {
@@ -576,7 +568,7 @@ fn is_bare_root(root: &Option<Package>) -> bool
     }
 }
 
-// Adds that no package is of the workspace, where there are orphans.
+// Adds that no package is of the workspace, if there are orphans.
 fn add_no_root(all: &mut Vec<Finding<'_>>, orphans: &[usize]) -> std::result::Result<(), AllocError>
     ensures { OnOk result (map finding_of all.new.items
         ≡ map finding_of all.old.items ++ no_root orphans.now) }
@@ -587,7 +579,7 @@ fn add_no_root(all: &mut Vec<Finding<'_>>, orphans: &[usize]) -> std::result::Re
     Ok(())
 }
 
-// Adds the keys.
+// Adds a finding for each of these keys.
 fn add_stale<'a>(
     all: &mut Vec<Finding<'a>>,
     keys: &'a [MetadataKey],
@@ -601,7 +593,7 @@ fn add_stale<'a>(
     Ok(())
 }
 
-// Adds the packages at these places, which come after the next one.
+// Adds a finding for each of these places, at which a package comes after the next one.
 fn add_misplaced<'a>(
     all: &mut Vec<Finding<'a>>,
     packages: &'a [Package],
@@ -616,7 +608,6 @@ fn add_misplaced<'a>(
     Ok(())
 }
 
-// The finding of a package and the next one.
 fn misplaced_package<'a>(packages: &'a [Package], place: usize) -> Option<Finding<'a>>
     ensures { option_map finding_of result ≡ misplaced_at packages.now place }
 {
@@ -625,7 +616,7 @@ fn misplaced_package<'a>(packages: &'a [Package], place: usize) -> Option<Findin
     Some(Finding::Misplaced(one, next))
 }
 
-// Adds the dependencies at these places, which come after the next one.
+// Adds a finding for each of these places, at which a dependency comes after the next one.
 fn add_misplaced_dependencies<'a>(
     all: &mut Vec<Finding<'a>>,
     packages: &'a [Package],
@@ -641,7 +632,6 @@ fn add_misplaced_dependencies<'a>(
     Ok(())
 }
 
-// The finding of a dependency and the next one.
 fn misplaced_dependency<'a>(packages: &'a [Package], place: usize, at: usize) -> Option<Finding<'a>>
     ensures { option_map finding_of result ≡ misplaced_dependency_at packages.now (place, at) }
 {
@@ -651,7 +641,7 @@ fn misplaced_dependency<'a>(packages: &'a [Package], place: usize, at: usize) ->
     Some(Finding::MisplacedDependency(one, dependency, next))
 }
 
-// Adds the sources that a format loses.
+// Adds a finding for each of these sources, which the format loses.
 fn add_lossy<'a>(
     all: &mut Vec<Finding<'a>>,
     sources: &'a [String],
@@ -666,7 +656,7 @@ fn add_lossy<'a>(
     Ok(())
 }
 
-// Adds that the format does not keep the lockfile.
+// Adds that the format does not keep the lockfile, if it does not.
 fn add_format(
     all: &mut Vec<Finding<'_>>,
     is_kept: bool,
@@ -681,7 +671,6 @@ fn add_format(
     Ok(())
 }
 
-// The finding of a line.
 fn other_line_finding<'a>(line: &'a Option<OtherLine>) -> Option<Finding<'a>>
     ensures { option_map finding_of result ≡ option_map told.OtherLine line.now }
 {

@@ -1,17 +1,20 @@
-//! Which packages of a list are wrong, by their places: those of which an earlier one has the
-//! identity, those whose name Cargo does not take, those from crates.io whose names crates.io takes
-//! for one, those from a source that looks like crates.io and is another one, those whose source
-//! has a user name or a password, those that none of the workspace leads to, those without the
-//! checksum that others of their registry have, the first ones from registries without checksums,
-//! and those out of Cargo's order; the dependencies that no package matches, that are listed twice
-//! and that are out of order; and the checksums of no package. These calls take a list of packages,
-//! and no lockfile.
+//! Which packages of a list are wrong, by their places:
 //!
-//! Each call gives its places once and in order, and none where nothing is wrong.
+//! - packages with the identity of an earlier one, and dependencies that are listed more than once,
+//! - names that Cargo does not accept, and names on crates.io that are the same to crates.io,
+//! - sources that look like crates.io but are another one, and sources with a user name or a
+//! password,
+//! - packages that no package of the workspace leads to, and dependencies that no package matches,
+//! - packages without the checksum that others of their registry have, the first packages of
+//! registries without checksums, and checksums of no package,
+//! - packages and dependencies that are out of Cargo's order.
+//!
+//! These calls take a list of packages, and no lockfile. Each returns its places once and in order,
+//! and none if nothing is wrong.
 //!
 //! ```
-//! for place in &orphans(rt.alloc(), &lockfile.packages, &lockfile.root)? {
-//!     println!(rt; "{}", lockfile.packages[*place].name)?;
+//! for place in orphans(rt.alloc(), &lockfile.packages, &lockfile.root)?.as_slice() {
+//!     println!(rt; "package {place} is not needed")?;
 //! }
 //! ```
 

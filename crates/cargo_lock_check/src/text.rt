@@ -16,10 +16,10 @@ pub struct OtherLine {
     /// Its number, from 1 on.
     pub number: usize,
 
-    /// The line, empty where the text has ended.
+    /// The line, empty if the text has ended.
     pub written: String,
 
-    /// The line that Cargo writes, empty where it writes no more.
+    /// The line that Cargo writes, empty if it writes no more.
     pub wanted: String,
 }
 
@@ -78,7 +78,7 @@ fn cargo_lines<'a>(
     Ok(all)
 }
 
-// The two comments, which may be missing where the format has no number.
+// Cargo's two comments, which may be missing if the format has no number.
 fn header<'a, 'b>(written: &[&'a str], printed: &'b [&'a str]) -> &'b [&'a str]
     ensures { texts_at result.now ≡ header (texts_at written.now) (texts_at printed.now) }
 {
@@ -89,21 +89,21 @@ fn header<'a, 'b>(written: &[&'a str], printed: &'b [&'a str]) -> &'b [&'a str]
     }
 }
 
-// Whether the format has no number.
+// Whether the format has no number in the file.
 fn is_unnumbered(printed: &[&str]) -> bool
     ensures { result ≡ is_unnumbered (texts_at printed.now) }
 {
     line_at(printed, 2).is_empty()
 }
 
-// Where the lines after the two comments begin that Cargo writes too.
+// The place after the two comments at which the lines begin that Cargo writes too.
 fn body_place(printed: &[&str]) -> usize
     ensures { result ≡ body_place (texts_at printed.now) }
 {
     if is_unnumbered(printed) { 3 } else { 2 }
 }
 
-// Leaves one of empty lines in a row.
+// Removes all but one of consecutive empty lines.
 fn leave_one_empty(lines: &mut Vec<&str>)
     ensures { texts_at lines.new.items ≡ dedup are_empty (texts_at lines.old.items) }
 {
@@ -131,14 +131,12 @@ fn add_comments<'a>(all: &mut Vec<&'a str>, lines: &[&'a str]) -> Result<(), All
     Ok(())
 }
 
-// Whether a line begins with `#`.
 fn is_comment(line: &str) -> bool
     ensures { result ≡ is_comment line.now }
 {
     line.starts_with('#')
 }
 
-// The first line that differs.
 fn first_other(
     alloc: Global,
     written: &[&str],
@@ -204,8 +202,8 @@ fn with_carets(alloc: Global, text: &[u8]) -> Result<Vec<u8>, AllocError>
     Ok(plain)
 }
 
-// Adds the byte at a place, or `^` for an escape there, unless it is one of the next `rest` bytes,
-// which are passed over. Returns how many bytes are then passed over.
+// Adds the byte at a place, or `^` for an escape there. Does nothing if it is one of the next
+// `rest` bytes, which are skipped. Returns how many bytes are skipped after it.
 fn put_plain(plain: &mut Vec<u8>, text: &[u8], at: usize, rest: usize) -> Result<usize, AllocError>
     requires { at < length text.now }
     ensures { IfOk result (λ next.
@@ -231,7 +229,7 @@ fn has_escape(text: &[u8], at: usize) -> bool
     text[at..].starts_with(b"%5E")
 }
 
-// The line at a place, empty where there are no more.
+// The line at a place, or an empty one after the last.
 fn line_at<'a>(lines: &[&'a str], place: usize) -> &'a str
     ensures { result.now ≡ line_at (texts_at lines.now) place }
 {

@@ -42,7 +42,7 @@ pub(crate) fn other_line(
     Ok(other)
 }
 
-// Whether the lockfile can be of V1, and the text is as Cargo writes it there.
+// Whether the lockfile can be of V1, and the text is as Cargo writes it in V1.
 fn is_written_in_v1(alloc: Global, text: &str, lockfile: &Lockfile) -> Result<bool>
     ensures ok { IfOk result (λ written. Decides written (IsWrittenInV1 text.now lockfile.now)) }
     ensures err { IsOkUnless result Memory }
@@ -55,14 +55,13 @@ fn is_written_in_v1(alloc: Global, text: &str, lockfile: &Lockfile) -> Result<bo
     Ok(other.is_none())
 }
 
-// Whether the format has no number, and no checksum is there by which V1 differs from V2.
+// Whether the format is V2 and no package has a checksum, by which V1 would differ from it.
 fn can_be_v1(lockfile: &Lockfile) -> bool
     ensures { Decides result (CanBeV1 lockfile.now) }
 {
     is_v2(lockfile.version) && are_bare(&lockfile.packages)
 }
 
-// Whether the format is V2.
 fn is_v2(version: ResolveVersion) -> bool
     ensures { Decides result (version ≡ V2) }
 {

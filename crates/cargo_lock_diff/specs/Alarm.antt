@@ -1,5 +1,5 @@
--- Which new packages are alarms: their archive is another one than the old lockfile vouched for, or
--- nothing vouches for it any more.
+-- Which new packages are alarms: their archive is not the one whose checksum the old lockfile has,
+-- or they have no checksum any more.
 use Rattle.std.specs.Prelude.{◌≡◌, ◌&&◌, ◌||◌, ◌++◌, Bool, true, not, if◌then◌else◌, is_some, List}
 use Rattle.std.specs.Prelude.{All, filter}
 use Rattle.std.specs.List.{Contains, list_any}
@@ -14,25 +14,25 @@ use Rattle.cargo_lock_diff.specs.Same.{have_one_checksum, have_one_place, have_o
 abbrev pub has_checksum : PackageData → Bool
 has_checksum p = is_some p.checksum
 
--- some of these packages has a checksum, and is so much like p
+-- some of these packages has a checksum, and is like p by this likeness
 abbrev pub is_vouched : Likeness → List PackageData → PackageData → Bool
 is_vouched likeness olds p = list_any (λ o. has_checksum o && is_alike likeness p o) olds
 
--- A package with a checksum is suspect where an old one of its name and version has a checksum, and
--- none of those has this one. A package without a checksum is suspect where an old one of its name,
+-- A package with a checksum is suspect if an old one of its name and version has a checksum, and
+-- none of those has this one. A package without a checksum is suspect if an old one of its name,
 -- version and place has one.
 abbrev pub is_suspect : List PackageData → PackageData → Bool
 is_suspect olds p =
     if has_checksum p then is_vouched Version olds p && not (is_vouched Archive olds p)
     else is_vouched Place olds p
 
--- the packages of a pair have one version, the old one has a checksum, and the new one has another
--- one, or none at the same place
+-- the packages of a pair have the same version, the old one has a checksum, and the new one has a
+-- different one, or none at the same place
 abbrev pub is_altered : PackageData → PackageData → Bool
 is_altered old new = have_one_version old new && (has_checksum old
     && (if has_checksum new then not (have_one_checksum old new) else have_one_place old new))
 
--- a pair is an alarm where its packages are altered, or its new one is suspect
+-- a pair is an alarm if its packages are altered, or its new one is suspect
 abbrev pub is_alarm : List PackageData → PackageData × PackageData → Bool
 is_alarm olds p = is_altered p.0 p.1 || is_suspect olds p.1
 
@@ -40,9 +40,10 @@ is_alarm olds p = is_altered p.0 p.1 || is_suspect olds p.1
 abbrev pub IsFounded : PackageData → PackageData → Type 0
 IsFounded old new = (has_checksum old ≡ true) × (is_alike Version old new ≡ true)
 
--- The alarms: each new package of a pair that is one and each added one that is suspect, in order,
--- with one of the old packages, of its name and version, that has a checksum. A pair whose packages
--- are altered is an alarm itself. Packages that are kept are none.
+-- The alarms: each new package of a pair that is an alarm and each added one that is suspect, in
+-- order, with one of the old packages, of its name and version, that has a checksum. If the
+-- packages of a pair are altered, the pair itself is the alarm. Packages that are kept are no
+-- alarms.
 pub record AreAlarms (olds : List PackageData) (pairs : List (PackageData × PackageData))
     (added : List PackageData) (alarms : List (PackageData × PackageData)) : Type 0 where
   pub founded : All (λ a. IsFounded a.0 a.1) alarms

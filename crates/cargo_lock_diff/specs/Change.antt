@@ -27,9 +27,10 @@ use Rattle.shown.specs.Shown.{shown}
 use Rattle.shown.specs.declared.form.Form.TheVariants.{Plain}
 
 -- One thing that differs. An alarm is of a new package and of an old one of its name and version
--- that has a checksum. A pair of one version has another place, a checksum that it had not, or
--- another replacement; a pair may have another version. A package went or came. A pair may have
--- other dependencies: those that only the old one has, and those that only the new one has.
+-- that has a checksum. A pair of the same version has another place, a checksum that it did not
+-- have, or another replacement; a pair may have another version. A package was removed or added. A
+-- pair may have other dependencies: those that only the old one has, and those that only the new
+-- one has.
 pub data ChangeData : Type 0 where
   Alarm : PackageData → PackageData → ChangeData
   Moved : PackageData → PackageData → ChangeData
@@ -40,7 +41,7 @@ pub data ChangeData : Type 0 where
   Added : PackageData → ChangeData
   OtherDependencies : PackageData → PackageData → List Identity → List Identity → ChangeData
 
--- the change of the packages that references lead to
+-- the change of the packages to which the references refer
 abbrev pub change_of : Change → ChangeData
 change_of (variant.Alarm old new) = Alarm old.now new.now
 change_of (variant.Moved old new) = Moved old.now new.now
@@ -52,7 +53,8 @@ change_of (variant.Added new) = Added new.now
 change_of (variant.OtherDependencies old new gone came) =
     OtherDependencies old.now new.now (dependencies_at gone.items) (dependencies_at came.items)
 
--- the packages of a pair differ in an aspect; all but the version counts where the version is one
+-- the packages of a pair differ in an aspect; all but the version are compared only if the version
+-- is the same
 abbrev pub differs_in : Aspect → PackageData × PackageData → Bool
 differs_in aspect.Source p = have_one_version p.0 p.1 && not (have_one_place p.0 p.1)
 differs_in aspect.Checksum p =
@@ -72,14 +74,14 @@ abbrev pub changes_in : Aspect → List (PackageData × PackageData) → List Ch
 changes_in one pairs = map (change_in one) (filter (differs_in one) pairs)
 
 -- the changes of a difference, in the order in which they are reported: alarms first, then other
--- sources, new checksums, other replacements, other versions, packages that went and packages that
--- came
+-- sources, new checksums, other replacements, other versions, packages that were removed and
+-- packages that were added
 abbrev pub changes_of : DifferenceData → List ChangeData
 changes_of d = map (λ a. Alarm a.0 a.1) d.alarms ++ (changes_in aspect.Source d.pairs
     ++ (changes_in aspect.Checksum d.pairs ++ (changes_in aspect.Replacement d.pairs
     ++ (changes_in aspect.Version d.pairs ++ (map Removed d.removed ++ map Added d.added)))))
 
--- what only one of the packages of a pair depends on, by the pairs of a difference
+-- the dependencies that only one of the packages of a pair has, by the pairs of a difference
 abbrev pub dependency_change_of : List (PackageData × PackageData) → PackageData × PackageData
     → ChangeData
 dependency_change_of targets p = OtherDependencies p.0 p.1
@@ -98,21 +100,22 @@ abbrev pub dependency_changes_of : DifferenceData → List ChangeData
 dependency_changes_of d = other_dependencies (d.kept ++ d.pairs) d.kept
     ++ other_dependencies (d.kept ++ d.pairs) d.pairs
 
--- all changes of a difference: its changes, and with dependencies then the changes of those
+-- all changes of a difference: its changes, and then the changes of dependencies if they are asked
+-- for
 abbrev pub all_changes_of : Bool → DifferenceData → List ChangeData
 all_changes_of dependencies d = if dependencies then changes_of d ++ dependency_changes_of d
     else changes_of d
 
 -- ---- lines
 
--- the source in round brackets behind a version: `(path)` where there is none, and nothing for the
+-- the source in round brackets after a version: `(path)` if there is none, and nothing for the
 -- registry of crates.io
 abbrev pub source_behind : Option Source → List ℕ
 source_behind None = codes " (path)"
 source_behind (Some source) = if is_default_registry source then []
     else codes " (" ++ (shown Plain (text_of true source) ++ codes ")")
 
--- the source by itself: `(path)` where there is none, and `crates.io` for its registry
+-- the source by itself: `(path)` if there is none, and `crates.io` for its registry
 abbrev pub source_alone : Option Source → List ℕ
 source_alone None = codes "(path)"
 source_alone (Some source) = if is_default_registry source then codes "crates.io"
@@ -141,11 +144,11 @@ version_shown version = shown Plain (parts_text version)
 abbrev pub named_text : PackageData → List ℕ
 named_text p = shown Plain p.name ++ (codes " " ++ version_shown p.version)
 
--- the name, the version and the source behind it
+-- the name, the version and the source after them
 abbrev pub package_text : PackageData → List ℕ
 package_text p = named_text p ++ source_behind p.source
 
--- a dependency: its name, its version and its source behind it
+-- a dependency: its name, its version and its source after them
 abbrev pub dependency_shown : Identity → List ℕ
 dependency_shown d = shown Plain d.name
     ++ (codes " " ++ (version_shown d.version ++ source_behind d.source))
@@ -155,21 +158,21 @@ abbrev pub replacement_text : Option Identity → List ℕ
 replacement_text None = codes "none"
 replacement_text (Some d) = dependency_shown d
 
--- of a pair with other versions: both sources where the places differ, or else the source
+-- for a pair with other versions: both sources if the places differ, or else the source
 abbrev pub updated_sources : PackageData → PackageData → List ℕ
 updated_sources old new =
     if have_one_place old new then source_behind new.source else sources_text old new
 
--- the precedence of versions: build metadata does not count
+-- the precedence of versions: build metadata is ignored
 abbrev pub precedence_cmp : Parts → Parts → Ordering
 precedence_cmp = then_cmp (on (λ v. v.0) nat_cmp) (then_cmp (on (λ v. v.1) nat_cmp)
     (then_cmp (on (λ v. v.2) nat_cmp) (on (λ v. v.3) pre_cmp)))
 
--- the new version comes before the old one
+-- the new version is less than the old one
 abbrev pub is_downgrade : PackageData → PackageData → Bool
 is_downgrade old new = is_gt (precedence_cmp old.version new.version)
 
--- the mark of a pair whose new version comes before the old one
+-- the mark of a pair whose new version is less than the old one
 abbrev pub downgrade_mark : PackageData → PackageData → List ℕ
 downgrade_mark old new = if is_downgrade old new then codes " (downgrade)" else []
 
@@ -216,7 +219,7 @@ lines_text = flat_map (λ change. line_of change ++ newline ∷ [])
 abbrev pub EachIsOneLine : Type 0
 EachIsOneLine = (changes : List ChangeData) → lines (lines_text changes) ≡ map line_of changes
 
--- no change is reported exactly where the lists have the same whole keys, each as often
+-- no change is reported exactly if the lists have the same whole keys, each as often
 abbrev pub NoneIfPermuted : Type 0
 NoneIfPermuted = (olds news : List PackageData) (d : DifferenceData) → IsDifference olds news d
     → (changes_of d ≡ []) ↔ IsPermutation (map whole_key olds) (map whole_key news)

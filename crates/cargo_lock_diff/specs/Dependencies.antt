@@ -1,14 +1,14 @@
--- What one of the two packages of a pair depends on and the other does not. Dependencies are
--- compared by the packages that they are of, and not by the references that are written: an old and
--- a new dependency are one where the package of the one and the package of the other are a pair.
+-- The dependencies that only one of the two packages of a pair has. Dependencies are compared by
+-- their packages, and not by the references that are written: an old and a new dependency are the
+-- same if their packages are a pair.
 use Rattle.std.specs.Prelude.{◌≡◌, ◌↔◌, ◌&&◌, ◌||◌, Bool, true, false, not, List, if◌then◌else◌}
 use Rattle.std.specs.List.{Contains, filter, list_any}
 use Rattle.std.specs.Ordering.{eq_by_cmp}
 use Rattle.cargo_lock_parts.specs.Identity.{Identity, PackageData, identity_of}
 use Rattle.cargo_lock_diff.specs.Place.{target_cmp}
 
--- the dependency is of the package: it has its name, its version and its origin. The commit does
--- not count, since a reference may have none, and the branch `master` is the default branch.
+-- the dependency is of the package: it has its name, its version and its origin. The commit is
+-- ignored, since a reference may have none, and the branch `master` is the default branch.
 abbrev pub is_target : PackageData → Identity → Bool
 is_target p d = eq_by_cmp target_cmp (identity_of p) d
 
@@ -20,7 +20,7 @@ are_targets p d e = is_target p.0 d && is_target p.1 e
 abbrev pub is_carried : List (PackageData × PackageData) → Identity → Identity → Bool
 is_carried pairs d e = list_any (λ p. are_targets p d e) pairs
 
--- the same, where the first one is the old one or the new one
+-- the same, where `forward` says whether the first one is the old one
 abbrev pub is_carried_either : Bool → List (PackageData × PackageData) → Identity → Identity → Bool
 is_carried_either forward pairs d e = if forward then is_carried pairs d e else is_carried pairs e d
 
@@ -28,7 +28,7 @@ is_carried_either forward pairs d e = if forward then is_carried pairs d e else 
 abbrev pub is_met : Bool → List (PackageData × PackageData) → List Identity → Identity → Bool
 is_met forward pairs others d = list_any (is_carried_either forward pairs d) others
 
--- those of the first list that meet none of the second
+-- the dependencies of the first list that meet none of the second
 abbrev pub only_in : Bool → List (PackageData × PackageData) → List Identity → List Identity
     → List Identity
 only_in forward pairs these others = filter (λ d. not (is_met forward pairs others d)) these
@@ -47,7 +47,7 @@ abbrev pub IsCarried : List (PackageData × PackageData) → Identity → Identi
 IsCarried pairs d e = (p : PackageData × PackageData) × Contains pairs p
     × (is_target p.0 d ≡ true) × (is_target p.1 e ≡ true)
 
--- Packages have no other dependencies exactly where the pairs carry the old ones onto the new ones:
+-- Packages have the same dependencies exactly if the pairs carry the old ones onto the new ones:
 -- each old one onto some new one, and onto each new one some old one.
 abbrev pub EqualIfCarried : Type 0
 EqualIfCarried = (pairs : List (PackageData × PackageData)) (old new : PackageData)

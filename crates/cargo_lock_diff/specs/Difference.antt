@@ -14,20 +14,20 @@ use Rattle.cargo_lock_diff.specs.Likeness.{is_alike, likeness_cmp}
 use Rattle.cargo_lock_diff.specs.Matching.{AreInOrder, AreMatched, firsts, seconds}
 use Rattle.cargo_lock_diff.specs.Pairing.{ArePairedInTurn, NoneOnBothSides, exchanged}
 
--- the packages that references lead to
+-- the packages to which the references refer
 abbrev pub packages_at : List (Bor PackageData) → List PackageData
 packages_at = map (λ b. b.now)
 
--- the pairs of packages that pairs of references lead to
+-- the pairs of packages to which the pairs of references refer
 abbrev pub pairs_at : List (Bor PackageData × Bor PackageData) → List (PackageData × PackageData)
 pairs_at = map (λ p. (p.0.now, p.1.now))
 
--- the dependencies that references lead to
+-- the dependencies to which the references refer
 abbrev pub dependencies_at : List (Bor Identity) → List Identity
 dependencies_at = map (λ b. b.now)
 
--- the pairs that are wholly alike, the pairs of what these leave, the old and the new packages that
--- are in no pair, and the alarms
+-- the pairs that are wholly alike, the pairs of the other packages, the old and the new packages
+-- that are in no pair, and the alarms
 pub record DifferenceData : Type 0 where
   pub kept : List (PackageData × PackageData)
   pub pairs : List (PackageData × PackageData)
@@ -35,13 +35,13 @@ pub record DifferenceData : Type 0 where
   pub added : List PackageData
   pub alarms : List (PackageData × PackageData)
 
--- the likenesses by which packages are paired that are not wholly alike, in turn
+-- the likenesses by which the packages that are not wholly alike are paired, in turn
 abbrev pub turns : List Likeness
 turns = Place ∷ Line ∷ Version ∷ Origin ∷ Name ∷ []
 
--- Packages that are wholly alike are paired first, as often as both lists have them. What is left
--- is paired by each likeness in turn, where what two packages have in common stands once on each
--- side.
+-- Packages that are wholly alike are paired first, as often as both lists have them. The others are
+-- paired by each likeness in turn, if exactly one package on each side has what the two packages
+-- have in common.
 pub record IsPairing (olds news : List PackageData) (kept pairs : List (PackageData × PackageData))
     (removed added : List PackageData) : Type 0 where
   pub old : List PackageData
@@ -51,9 +51,9 @@ pub record IsPairing (olds news : List PackageData) (kept pairs : List (PackageD
   pub in_turn : ArePairedInTurn (map is_alike turns) old new passes removed added
   pub in_all : IsPermutation (flat_map (λ pass. pass) passes) pairs
 
--- The packages are paired so. What is kept and what is left come in the order of the lists, and the
--- other pairs are sorted by what `Whole` looks at in their old packages. The alarms are those of
--- the old packages.
+-- The packages are paired in this way. The kept packages and those that are left are in the order
+-- of the lists, and the other pairs are sorted by what `Whole` compares in their old packages. The
+-- alarms are those of the old packages.
 pub record IsDifference (olds news : List PackageData) (d : DifferenceData) : Type 0 where
   pub paired : IsPairing olds news d.kept d.pairs d.removed d.added
   pub in_order : AreInOrder olds news d.kept d.removed d.added
@@ -87,14 +87,14 @@ ToldOnce = (olds news : List PackageData) (d : DifferenceData) → IsDifference 
     → IsPermutation olds (firsts d.kept ++ old_told d)
     × IsPermutation news (seconds d.kept ++ new_told d)
 
--- of each package as many old ones are reported as the old list has more of it than the new list,
--- and as many new ones as the new list has more
+-- for each package, as many old ones are reported as the old list has more of it than the new list,
+-- and as many new ones as the new list has more of it
 abbrev pub ToldByCount : Type 0
 ToldByCount = (olds news : List PackageData) (d : DifferenceData) → IsDifference olds news d
     → (p : PackageData) → (count_of p (old_told d) ≡ count_of p olds - count_of p news)
     × (count_of p (new_told d) ≡ count_of p news - count_of p olds)
 
--- nothing is reported exactly where the lists have the same whole keys, each as often
+-- nothing is reported exactly if the lists have the same whole keys, each as often
 abbrev pub EmptyIfPermuted : Type 0
 EmptyIfPermuted = (olds news : List PackageData) (d : DifferenceData) → IsDifference olds news d
     → IsEmpty d ↔ IsPermutation (map whole_key olds) (map whole_key news)
@@ -103,8 +103,9 @@ EmptyIfPermuted = (olds news : List PackageData) (d : DifferenceData) → IsDiff
 abbrev pub count_of_pair : PackageData → PackageData → List (PackageData × PackageData) → ℕ
 count_of_pair a b = count_by (λ p. is_alike Whole a p.0 && is_alike Whole b p.1)
 
--- The order of the lists does not count: of other lists with the same whole keys, each as often, as
--- many pairs are wholly like two packages, and as many of what is left are wholly like one.
+-- The order of the lists does not matter: for other lists with the same whole keys, each as often,
+-- as many pairs are wholly like two packages, and as many of the packages that are left are wholly
+-- like one.
 abbrev pub OrderDoesNotCount : Type 0
 OrderDoesNotCount = (olds news olds' news' : List PackageData)
     (kept pairs kept' pairs' : List (PackageData × PackageData))
@@ -117,14 +118,15 @@ OrderDoesNotCount = (olds news olds' news' : List PackageData)
     × ((p : PackageData) → count_of p removed ≡ count_of p removed')
     × ((p : PackageData) → count_of p added ≡ count_of p added')
 
--- where the lists are exchanged, the members of all pairs are, and what is left
+-- if the lists are exchanged, the members of all pairs are exchanged, and so are the packages that
+-- are left
 abbrev pub PairingMirrored : Type 0
 PairingMirrored = (olds news : List PackageData) (kept pairs : List (PackageData × PackageData))
     (removed added : List PackageData) → IsPairing olds news kept pairs removed added
     → IsPairing news olds (map exchanged kept) (map exchanged pairs) added removed
 
--- No name, version and place has exactly one removed and exactly one added package, nor has a name
--- and origin, nor a name.
+-- No name, version and place has exactly one removed and exactly one added package. The same holds
+-- for a name and origin, and for a name.
 abbrev pub NoneIsLeftAlone : Type 0
 NoneIsLeftAlone = (olds news : List PackageData) (d : DifferenceData) → IsDifference olds news d
     → NoneOnBothSides (is_alike Place) d.removed d.added

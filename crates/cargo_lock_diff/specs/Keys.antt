@@ -6,7 +6,7 @@ use Rattle.cargo_lock_parts.specs.Source.{Source}
 use Rattle.cargo_lock_parts.specs.SourceKey.{Key, key_of}
 use Rattle.cargo_lock_diff.specs.Place.{other_source}
 
--- the place of a source: none for the registry of crates.io, and else its key
+-- the place of a source: none for the registry of crates.io, and otherwise its key
 abbrev pub place_of : Source → Option Key
 place_of s = option_map key_of (other_source s)
 

@@ -32,8 +32,9 @@ pub record AreInOrder {X : Type 0} (olds news : List X) (pairs : List (X × X)) 
 abbrev pub PassesWithNone : {X : Type 0} → (X → X → Bool) → X → List X → Type 0
 PassesWithNone test x ys = All (λ y. test x y ≡ false) ys
 
--- Each of the old and of the new stands in a pair or is left, as often as it stood in its list;
--- those of a pair pass the test; and no old one that is left passes it with a new one that is left.
+-- Each of the old and of the new is in a pair or is left, as often as it was in its list; the
+-- members of a pair pass the test; and no old one that is left passes it with a new one that is
+-- left.
 pub record AreMatched {X : Type 0} (test : X → X → Bool) (olds news : List X)
     (pairs : List (X × X)) (old new : List X) : Type 0 where
   pub olds_told : IsPermutation olds (firsts pairs ++ old)
@@ -41,6 +42,6 @@ pub record AreMatched {X : Type 0} (test : X → X → Bool) (olds news : List X
   pub paired : All (λ p. test p.0 p.1 ≡ true) pairs
   pub apart : All (λ o. PassesWithNone test o new) old
 
--- the packages that references lead to are alike
+-- the packages to which the references refer are alike
 abbrev pub is_alike_at : Likeness → Bor PackageData → Bor PackageData → Bool
 is_alike_at likeness a b = is_alike likeness a.now b.now

@@ -1,4 +1,4 @@
--- Two lists whose members are paired where what they have in common stands once in each list.
+-- Two lists whose members are paired if each is the only one of its list that is like the other.
 use Rattle.std.specs.Prelude.{◌≡◌, Bool, true, List, [], ◌∷◌, ◌++◌, count_by, IsPermutation, All}
 use Rattle.cargo_lock_diff.specs.Matching.{firsts, seconds}
 
@@ -10,7 +10,7 @@ StandsOnce same x xs = count_by (same x) xs ≡ 1
 abbrev pub NoneOnBothSides : {X : Type 0} → (X → X → Bool) → List X → List X → Type 0
 NoneOnBothSides {X} same old new = (x : X) → StandsOnce same x old → StandsOnce same x new → ⊥
 
--- Each of the old and of the new stands in a pair or is left, as often as it stood in its list. The
+-- Each of the old and of the new is in a pair or is left, as often as it was in its list. The
 -- members of a pair are alike, and no other member of their lists is like them. And nothing is left
 -- that has exactly one like it among the old and exactly one among the new that are left.
 pub record ArePaired {X : Type 0} (same : X → X → Bool) (olds news : List X)
@@ -22,13 +22,13 @@ pub record ArePaired {X : Type 0} (same : X → X → Bool) (olds news : List X)
   pub news_once : All (λ p. StandsOnce same p.1 news) pairs
   pub none_left : NoneOnBothSides same old new
 
--- The members of a list, taken apart: those that stand once in it, and the others.
+-- The members of a list, separated: those that are like no other member, and the others.
 pub record AreSplit {X : Type 0} (same : X → X → Bool) (all alone others : List X) : Type 0 where
   pub told : IsPermutation all (alone ++ others)
   pub once : All (λ x. StandsOnce same x all) alone
   pub more : All (λ x. StandsOnce same x all → ⊥) others
 
--- Several pairings in turn, each of what the ones before it have left: the pairs of each.
+-- Several pairings in turn, each of the members that the earlier ones have left: the pairs of each.
 abbrev pub ArePairedInTurn : {X : Type 0} → List (X → X → Bool) → List X → List X
     → List (List (X × X)) → List X → List X → Type 0
 ArePairedInTurn [] olds news [] old new = (olds ≡ old) × (news ≡ new)

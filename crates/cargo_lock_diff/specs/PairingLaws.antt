@@ -1,4 +1,4 @@
--- What holds of pairings by what stands once, alone and in turn.
+-- Laws of pairings by the only ones that are alike, for one pairing and for several in turn.
 use Rattle.std.specs.Prelude.{◌≡◌, ◌↔◌, Bool, true, List, ◌∷◌, ◌++◌, map, IsPermutation, All}
 use Rattle.std.specs.List.{Contains, flat_map}
 use Rattle.cargo_lock_parts.specs.Identity.{PackageData}
@@ -17,7 +17,7 @@ pub record AreOnlyAlike {X : Type 0} (same : X → X → Bool) (olds news : List
   pub old_once : StandsOnce same a olds
   pub new_once : StandsOnce same b news
 
--- the pairs are exactly those: so they hang on no order of the lists
+-- the pairs are exactly those, so they do not depend on the order of the lists
 abbrev pub PairedExactly : Type 0
 PairedExactly = (likeness : Likeness) (olds news : List PackageData)
     (pairs : List (PackageData × PackageData)) (old new : List PackageData)
@@ -32,7 +32,7 @@ ToldInTurn = (likenesses : List Likeness) (olds news : List PackageData)
     → IsPermutation olds (firsts (flat_map (λ pairs. pairs) passes) ++ old)
     × IsPermutation news (seconds (flat_map (λ pairs. pairs) passes) ++ new)
 
--- where the lists are exchanged, the members of the pairs are, and what is left
+-- if the lists are exchanged, the members of the pairs are exchanged, and so is what is left
 abbrev pub MirroredInTurn : Type 0
 MirroredInTurn = (likenesses : List Likeness) (olds news : List PackageData)
     (passes : List (List (PackageData × PackageData))) (old new : List PackageData)
@@ -40,9 +40,9 @@ MirroredInTurn = (likenesses : List Likeness) (olds news : List PackageData)
     → ArePairedInTurn (map is_alike likenesses) news olds
     (map (λ pairs. map exchanged pairs) passes) new old
 
--- After all pairings nothing stands once on both sides by a likeness, where it is finer than all
--- likenesses that come after it. (Where it is not, a later pairing can take away one of two that
--- are alike by it, and leave the other alone.)
+-- After all pairings, no member is left that is the only one alike on both sides, by a likeness
+-- that is finer than all likenesses after it. (If it is not finer, a later pairing can remove one
+-- of two that are alike by it, and leave the other as the only one.)
 abbrev pub NoneIsLeftInTurn : Type 0
 NoneIsLeftInTurn = (before : List Likeness) (likeness : Likeness) (later : List Likeness)
     → All (λ other. IsFiner (is_alike likeness) (is_alike other)) later

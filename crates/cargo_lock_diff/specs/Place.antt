@@ -1,5 +1,5 @@
--- Where packages come from, as far as it counts for a difference: the registry of crates.io is one
--- place by either of its two indexes, and any other source is a place by its key.
+-- Where packages come from, as differences compare it: the registry of crates.io is the same place
+-- by either of its two indexes, and any other source is a place by its key.
 use Rattle.std.specs.Prelude.{Option, Some, None, bytes_eq, codes, if◌then◌else◌}
 use Rattle.std.specs.Option.{option_cmp}
 use Rattle.std.specs.declared.cmp.Ordering.{Ordering}
@@ -24,21 +24,21 @@ named_kind (Git (Branch text)) =
     if bytes_eq text (codes "master") then Git DefaultBranch else Git (Branch text)
 named_kind other = other
 
--- the order by URL, kind and reference, whatever the commit is; the kind may be seen as another one
+-- the order by URL, kind and reference, without the commit; the function may replace the kind
 abbrev pub repository_cmp : (Kind → Kind) → Source → Source → Ordering
 repository_cmp seen = then_cmp (then_cmp
     (on (λ s. serialize s.url) text_cmp)
     (on (λ s. kind_number (seen s.kind)) nat_cmp))
     (on (λ s. git_reference_text (seen s.kind)) text_cmp)
 
--- the order of sources other than crates.io: by all, but for the commit, or as dependencies name
+-- the order of sources other than crates.io: whole, without the commit, or as dependencies name
 -- them
 abbrev pub others_cmp : Sight → Source → Source → Ordering
 others_cmp AsPlace = source_cmp
 others_cmp AsOrigin = repository_cmp (λ kind. kind)
 others_cmp AsNamed = repository_cmp named_kind
 
--- the same of all sources: crates.io comes before the others
+-- the same for all sources: crates.io is before the others
 abbrev pub sources_cmp : Sight → Source → Source → Ordering
 sources_cmp sight = on other_source (option_cmp (others_cmp sight))
 
@@ -46,7 +46,7 @@ sources_cmp sight = on other_source (option_cmp (others_cmp sight))
 abbrev pub place_cmp : Source → Source → Ordering
 place_cmp = sources_cmp AsPlace
 
--- sources compare by origin: by place, but for the commit
+-- sources compare by origin: by place, without the commit
 abbrev pub origin_cmp : Source → Source → Ordering
 origin_cmp = sources_cmp AsOrigin
 

@@ -1,4 +1,4 @@
--- Packages with their places in a list. No public contract cites these.
+-- Packages with their places in a list. No public contract cites these definitions.
 use Rattle.std.specs.Prelude.{◌≡◌, ◌<◌, ◌==◌, Bool, List, All, length, map, slice_index_or}
 use Rattle.std.specs.Borrow.{Bor}
 use Rattle.std.specs.List.{IsDistinct}
@@ -9,7 +9,7 @@ use Rattle.cargo_lock_diff.specs.declared.likeness.Likeness.{Likeness}
 use Rattle.cargo_lock_diff.specs.declared.matching.Placed.{Placed}
 use Rattle.cargo_lock_diff.specs.Likeness.{likeness_cmp}
 
--- the order of the packages by what a likeness looks at
+-- the order of the packages by what a likeness compares
 abbrev pub placed_cmp : Likeness → Placed → Placed → Ordering
 placed_cmp likeness = on (λ p. p.item.now) (likeness_cmp likeness)
 
@@ -17,7 +17,7 @@ placed_cmp likeness = on (λ p. p.item.now) (likeness_cmp likeness)
 abbrev pub are_alike : Likeness → Placed → Placed → Bool
 are_alike likeness = eq_by_cmp (placed_cmp likeness)
 
--- each package is in the list at its place, and no two have one place
+-- each package is in the list at its place, and no two have the same place
 pub record AreAt (list : List (Bor PackageData)) (placed : List Placed) : Type 0 where
   pub there : All (λ p. (p.place < length list) × (slice_index_or list p.place p.item ≡ p.item))
       placed

@@ -7,18 +7,18 @@ use Rattle.cargo_lock_parts.specs.IdentityOrder.{version_cmp}
 use Rattle.cargo_lock_parts.specs.SourceKey.{text_cmp}
 use Rattle.cargo_lock_diff.specs.Place.{place_cmp, placed_identity_cmp}
 
--- the versions are one
+-- the versions are the same
 abbrev pub have_one_version : PackageData → PackageData → Bool
 have_one_version = eq_by_cmp (on (λ p. p.version) version_cmp)
 
--- the sources are one place, or both are absent
+-- the sources are the same place, or both are absent
 abbrev pub have_one_place : PackageData → PackageData → Bool
 have_one_place = eq_by_cmp (on (λ p. p.source) (option_cmp place_cmp))
 
--- the checksums are one, or both are absent
+-- the checksums are the same, or both are absent
 abbrev pub have_one_checksum : PackageData → PackageData → Bool
 have_one_checksum = eq_by_cmp (on (λ p. p.checksum) (option_cmp text_cmp))
 
--- the replacements are one by name, version and place, or both are absent
+-- the replacements are the same by name, version and place, or both are absent
 abbrev pub have_one_replacement : PackageData → PackageData → Bool
 have_one_replacement = eq_by_cmp (on (λ p. p.replace) (option_cmp placed_identity_cmp))

@@ -10,7 +10,7 @@ use Rattle.cargo_lock_diff.specs.declared.summary.Summary.{Summary}
 use Rattle.cargo_lock_diff.specs.Change.{ChangeData, Alarm, Moved, Checksum, Replaced, Updated}
 use Rattle.cargo_lock_diff.specs.Change.{Removed, Added, OtherDependencies, is_downgrade, line_of, lines_text}
 
--- the change is another version: one that comes before the old one, or one that does not
+-- the change is another version: one that is less than the old one, or one that is not
 abbrev pub is_update : Bool → ChangeData → Bool
 is_update downgrade (Updated old new) =
     if downgrade then is_downgrade old new else not (is_downgrade old new)
@@ -49,8 +49,8 @@ summary_of changes = record {
   dependencies = count_by (is_of kind.Dependencies) changes;
 }
 
--- a count with the word for one or for more: nothing for zero, and a comma before it if there is a
--- count before it
+-- a count with its noun in the singular or the plural: nothing for zero, and a comma first if a
+-- count precedes it
 abbrev pub counted : Bool → ℕ → List ℕ → List ℕ → List ℕ
 counted behind n one more = if n == 0 then [] else (if behind then codes ", " else [])
     ++ (decimal n ++ (codes " " ++ (if n == 1 then one else more)))
@@ -83,7 +83,7 @@ summary_text s =
 
 -- ---- law
 
--- the lines of changes and the summary are exactly as many lines and one more
+-- the lines of changes and the summary are exactly as many lines as changes, and one more
 abbrev pub SummaryIsOneLine : Type 0
 SummaryIsOneLine = (changes : List ChangeData) (s : Summary)
     → lines (lines_text changes ++ (summary_text s ++ newline ∷ []))

@@ -1,4 +1,5 @@
--- Pairs of packages, as targets are looked up in them. No public contract cites these.
+-- Pairs of packages, in the form in which targets are looked up in them. No public contract cites
+-- these definitions.
 use Rattle.std.specs.Prelude.{◌≡◌, List}
 use Rattle.std.specs.Borrow.{Bor}
 use Rattle.std.specs.declared.cmp.Ordering.{Ordering}
@@ -26,8 +27,8 @@ pairs_cmp = on targets_of targets_cmp
 abbrev pub dependencies_cmp : Bor Identity → Bor Identity → Ordering
 dependencies_cmp = on (λ b. b.now) target_cmp
 
--- both lists are in order, the first carries as the pairs do, and the second so too, but from a new
--- dependency to an old one
+-- both lists have the pairs in an order: the first is for looking up an old dependency, the second
+-- for looking up a new one
 pub record AreIndices (pairs by_old by_new : List (Bor PackageData × Bor PackageData)) : Type 0
   where
     pub old_sorted : IsStrictlySortedBy pairs_cmp by_old

@@ -1,4 +1,5 @@
--- The old packages that have a checksum, as they are looked up. No public contract cites these.
+-- The old packages that have a checksum, in the form in which they are looked up. No public
+-- contract cites these definitions.
 use Rattle.std.specs.Prelude.{◌≡◌, true, List, All, IsPermutation, IsSorted}
 use Rattle.std.specs.Borrow.{Bor}
 use Rattle.std.specs.declared.cmp.Ordering.{Ordering}
@@ -9,7 +10,7 @@ use Rattle.cargo_lock_diff.specs.declared.likeness.Likeness.TheVariants.{Version
 use Rattle.cargo_lock_diff.specs.Alarm.{has_checksum}
 use Rattle.cargo_lock_diff.specs.Likeness.{likeness_cmp}
 
--- the order of the packages that references lead to
+-- the order of the packages to which the references refer
 abbrev pub cmp_at : Likeness → Bor PackageData → Bor PackageData → Ordering
 cmp_at likeness = on (λ b. b.now) (likeness_cmp likeness)
 

@@ -18,7 +18,7 @@ use std::alloc::{AllocError, Global};
 use std::marker::Model;
 
 // The old packages that have a checksum, in three orders, so that one that is like a package is
-// found by halving.
+// found by binary search.
 #[derive(Drop)]
 pub(crate) struct Vouchers<'a> {
     by_version: Vec<&'a Package>,
@@ -56,7 +56,7 @@ impl<'a> Vouchers<'a> {
         })
     }
 
-    // Where a package is suspect, one of these that has its name and version.
+    // If a package is suspect, one of these that has its name and version.
     fn against(&self, new: &Package) -> Option<&'a Package>
         ensures { MatchOption result (is_suspect self.now new.now ≡ false)
             (λ old. (is_suspect self.now new.now ≡ true) × IsFounded old.now new.now
@@ -71,8 +71,8 @@ impl<'a> Vouchers<'a> {
         }
     }
 
-    // Where a pair is an alarm, its old package if the pair is altered, and else one of these that
-    // has the name and the version of the new one.
+    // If a pair is an alarm, its old package if the pair is altered, and otherwise one of these
+    // that has the name and the version of the new one.
     fn against_pair(&self, old: &'a Package, new: &Package) -> Option<&'a Package>
         ensures { MatchOption result (is_alarm self.now (old.now, new.now) ≡ false)
             (λ o. (is_alarm self.now (old.now, new.now) ≡ true)
@@ -106,7 +106,7 @@ fn with_checksum<'a>(
     Ok(all)
 }
 
-// The packages in the order by what a likeness looks at.
+// The packages, sorted by what the likeness compares.
 fn sorted<'a>(
     alloc: Global,
     likeness: Likeness,
@@ -135,8 +135,8 @@ fn find<'a>(likeness: Likeness, sorted: &Vec<&'a Package>, one: &Package) -> Opt
     }
 }
 
-// Whether the packages of a pair have one version, the old one has a checksum, and the new one has
-// another one, or none at the same place.
+// Whether the packages of a pair have the same version, the old one has a checksum, and the new one
+// has a different one, or none at the same place.
 fn is_altered(old: &Package, new: &Package) -> bool
     ensures { result ≡ spec.is_altered old.now new.now }
 {
@@ -169,7 +169,6 @@ pub(crate) fn alarms<'a>(
     Ok(all)
 }
 
-// The alarms of pairs.
 fn alarms_of_pairs<'a>(
     alloc: Global,
     vouchers: &Vouchers<'a>,
@@ -196,7 +195,6 @@ fn alarms_of_pairs<'a>(
     Ok(all)
 }
 
-// The alarms of added packages.
 fn alarms_of_added<'a>(
     alloc: Global,
     vouchers: &Vouchers<'a>,

@@ -18,45 +18,46 @@ use shown::Shown;
 use std::alloc::{AllocError, Global};
 use std::fmt;
 
-/// One thing that differs. Displayed, it is a line without its newline, whose first sign says what
-/// it is.
+/// One thing that differs. `Display` writes it as a line without a newline, whose first sign says
+/// what it is.
 ///
 /// `SRC` is the source as a V4 lockfile has it, in round brackets; a package without a source has
-/// `(path)`, and one of crates.io nothing. All that is foreign is shown as `Shown` shows it.
+/// `(path)`, and one of crates.io nothing. Texts that come from a lockfile are shown as `Shown`
+/// shows them.
 #[derive(Drop)]
 pub enum Change<'a> {
     /// An alarm: `! NAME VERSION SRC: checksum OLD -> NEW`, or `-> none`. The old package has the
-    /// name and the version of the new one and a checksum, which the new one has not.
+    /// name and the version of the new one and a checksum, which the new one does not have.
     Alarm(&'a Package, &'a Package),
 
-    /// A pair of one version from another place: `> NAME VERSION: OLD -> NEW`. Here a source has no
-    /// brackets, and crates.io is named.
+    /// A pair of the same version from another place: `> NAME VERSION: OLD -> NEW`. Here a source
+    /// has no brackets, and crates.io is named.
     Moved(&'a Package, &'a Package),
 
-    /// A pair of one version, of which the new package alone has a checksum:
+    /// A pair of the same version, of which only the new package has a checksum:
     /// `? NAME VERSION SRC: checksum none -> NEW`.
     Checksum(&'a Package, &'a Package),
 
-    /// A pair of one version with another replacement:
+    /// A pair of the same version with another replacement:
     /// `@ NAME VERSION SRC: replacement OLD -> NEW`, each as `NAME VERSION SRC` or `none`.
     Replaced(&'a Package, &'a Package),
 
-    /// A pair of two versions: `~ NAME OLD -> NEW`, then `: OLD -> NEW` where the places differ,
-    /// and else `SRC`, and at last `(downgrade)` where the new version comes before the old one.
+    /// A pair of two versions: `~ NAME OLD -> NEW`, then `: OLD -> NEW` if the places differ, and
+    /// otherwise `SRC`, and at last `(downgrade)` if the new version is less than the old one.
     Updated(&'a Package, &'a Package),
 
-    /// A package that went: `- NAME VERSION SRC`.
+    /// A package that was removed: `- NAME VERSION SRC`.
     Removed(&'a Package),
 
-    /// A package that came: `+ NAME VERSION SRC`, then `, no checksum` where it is from a registry
-    /// and has none.
+    /// A package that was added: `+ NAME VERSION SRC`, then `, no checksum` if it is from a
+    /// registry and has none.
     Added(&'a Package),
 
-    /// An old and a new package of a pair, of which one has a dependency that the other has not:
-    /// `= NAME VERSION SRC:`, of the new one, then ` - NAME VERSION SRC` for each dependency that
-    /// only the old one has, and ` + NAME VERSION SRC` for each that only the new one has. Behind
-    /// the packages it has these dependencies, each list in the order of its package. An old and a
-    /// new dependency are one where their packages are a pair of the difference.
+    /// An old and a new package of a pair, of which one has a dependency that the other does not
+    /// have: `= NAME VERSION SRC:`, of the new one, then ` - NAME VERSION SRC` for each dependency
+    /// that only the old one has, and ` + NAME VERSION SRC` for each that only the new one has.
+    /// After the packages come these dependencies, each list in the order of its package. An old
+    /// and a new dependency are the same if their packages are a pair of the difference.
     OtherDependencies(&'a Package, &'a Package, Vec<&'a Dependency>, Vec<&'a Dependency>),
 }
 
@@ -115,7 +116,8 @@ impl fmt::Display for Change<'_> {
     }
 }
 
-// What a pair may differ in. All but the version counts where the version is one.
+// The aspects in which a pair may differ. All but the version are compared only if the version is
+// the same.
 #[derive(Clone, Copy)]
 pub(crate) enum Aspect {
     Source,
@@ -125,7 +127,7 @@ pub(crate) enum Aspect {
 }
 
 impl Aspect {
-    // Whether the packages of a pair differ in it.
+    // Whether the packages of a pair differ in this aspect.
     fn differs(self, old: &Package, new: &Package) -> bool
         ensures { result ≡ differs_in self (old.now, new.now) }
     {
@@ -138,7 +140,7 @@ impl Aspect {
         }
     }
 
-    // The change of a pair in it.
+    // The change of a pair in this aspect.
     fn change<'a>(self, old: &'a Package, new: &'a Package) -> Change<'a>
         ensures { change_of result ≡ change_in self (old.now, new.now) }
     {
@@ -151,7 +153,6 @@ impl Aspect {
     }
 }
 
-// Adds the alarms.
 pub(crate) fn add_alarms<'a>(
     all: &mut Vec<Change<'a>>,
     alarms: &Vec<(&'a Package, &'a Package)>,
@@ -182,7 +183,7 @@ pub(crate) fn add_pairs<'a>(
     Ok(())
 }
 
-// Adds packages that went.
+// Adds packages that were removed.
 pub(crate) fn add_removed<'a>(
     all: &mut Vec<Change<'a>>,
     packages: &Vec<&'a Package>,
@@ -196,7 +197,7 @@ pub(crate) fn add_removed<'a>(
     Ok(())
 }
 
-// Adds packages that came.
+// Adds packages that were added.
 pub(crate) fn add_added<'a>(
     all: &mut Vec<Change<'a>>,
     packages: &Vec<&'a Package>,
@@ -226,7 +227,7 @@ pub(crate) fn other_dependencies<'a>(
     Ok(all)
 }
 
-// Adds the change of a pair, where it has other dependencies.
+// Adds the change of a pair, if it has other dependencies.
 fn add_dependencies<'a>(
     all: &mut Vec<Change<'a>>,
     alloc: Global,

@@ -1,4 +1,4 @@
-//! What one of the two packages of a pair depends on and the other does not.
+//! The dependencies that only one of the two packages of a pair has.
 
 ghost use Rattle.std.specs.Prelude.{◌≡◌, ◌++◌, ◌&&◌, IfOk, IsPermutation, IsSorted, map};
 ghost use Rattle.std.specs.List.{list_any, take_while};
@@ -17,13 +17,13 @@ use std::alloc::{AllocError, Global};
 use std::cmp::Ordering;
 use std::marker::Model;
 
-// The pairs of a difference, by which an old and a new dependency are one: where the package of the
-// one and the package of the other are a pair. A dependency is of the package that has its name,
-// its version and its origin; the commit does not count, since a reference may have none, and the
-// branch `master` is the default branch, as which it was written before V3.
+// The pairs of a difference, by which an old and a new dependency are the same: if their packages
+// are a pair. A dependency is of the package that has its name, its version and its origin; the
+// commit is ignored, since a reference may have none, and the branch `master` is the default
+// branch, as which it was written before V3.
 //
-// The pairs are also there in the order of their old packages, and exchanged in the order of their
-// new ones, each time with one of those that dependencies do not tell apart.
+// The pairs are also in the order of their old packages, and exchanged in the order of their new
+// ones. Of pairs that dependencies do not distinguish, these two lists have one.
 #[derive(Drop)]
 pub(crate) struct Targets<'a> {
     pairs: Vec<(&'a Package, &'a Package)>,
@@ -63,7 +63,7 @@ impl<'a> Targets<'a> {
         })
     }
 
-    // Those of the first list that meet none of the second.
+    // The dependencies of the first list that meet none of the second.
     pub(crate) fn only_in<'d>(
         &self,
         alloc: Global,
@@ -79,7 +79,7 @@ impl<'a> Targets<'a> {
         Ok(only)
     }
 
-    // The same, of dependencies that are in order.
+    // The same, for dependencies that are in order.
     fn only_beside<'d>(
         &self,
         alloc: Global,
@@ -113,7 +113,8 @@ impl<'a> Targets<'a> {
     }
 }
 
-// Whether some pair of those in order carries a dependency onto one of some that are in order.
+// Whether some of the pairs, which are in order, carries a dependency onto one of some that are in
+// order.
 fn leads(pairs: &Vec<(&Package, &Package)>, one: &Dependency, others: &Vec<&Dependency>) -> bool
     requires pairs { IsStrictlySortedBy pairs_cmp pairs.now.items }
     requires others { IsSorted dependencies_cmp others.now.items }
@@ -124,11 +125,12 @@ fn leads(pairs: &Vec<(&Package, &Package)>, one: &Dependency, others: &Vec<&Depe
     first_lead(&pairs[from..], one, others)
 }
 
-// The same, of pairs of which the first ones are those that are of the dependency.
+// The same, if the pairs of the dependency are the first ones.
 fn first_lead(pairs: &[(&Package, &Package)], one: &Dependency, others: &Vec<&Dependency>) -> bool
     requires { IsSorted dependencies_cmp others.now.items }
-    ensures { result ≡ list_any (λ p. list_any (is_target p.1.now)
-        (dependencies_at others.now.items)) (take_while (λ p. is_target p.0.now one.now) pairs.now) }
+    ensures { result ≡ list_any
+        (λ p. list_any (is_target p.1.now) (dependencies_at others.now.items))
+        (take_while (λ p. is_target p.0.now one.now) pairs.now) }
 {
     pairs
         .iter()
@@ -206,7 +208,7 @@ fn joined<'a>(
     Ok(all)
 }
 
-// The pairs, the new package of each before the old one.
+// The pairs, with the new package of each before the old one.
 fn exchanged_pairs<'a>(
     alloc: Global,
     pairs: &Vec<(&'a Package, &'a Package)>,
@@ -220,7 +222,7 @@ fn exchanged_pairs<'a>(
     Ok(all)
 }
 
-// The pairs in order, each time one of those that dependencies do not tell apart.
+// The pairs in order, with only one of those that dependencies do not distinguish.
 fn in_order<'a>(
     pairs: Vec<(&'a Package, &'a Package)>,
 ) -> Result<Vec<(&'a Package, &'a Package)>, AllocError>
@@ -234,7 +236,6 @@ fn in_order<'a>(
     Ok(all)
 }
 
-// The dependencies in order.
 fn dependencies_in_order<'d>(
     alloc: Global,
     dependencies: &'d Vec<Dependency>,
@@ -248,7 +249,7 @@ fn dependencies_in_order<'d>(
     Ok(all)
 }
 
-// References to some dependencies, in order.
+// References to the dependencies, in order.
 fn references_to<'d>(
     alloc: Global,
     dependencies: &'d Vec<Dependency>,

@@ -13,11 +13,11 @@ use std::marker::Model;
 
 /// What differs between an old and a new list of packages.
 ///
-/// Packages are paired. First those that have the name, the version, the place, the checksum and
-/// the replacement in common, as often as both lists have them. What is left is paired in turn by
-/// name, version and place; by name, origin and release line; by name and version; by name and
-/// origin; and by name: each time exactly where one old and one new package that are left, and no
-/// other ones, have that in common. `Likeness` says what these words mean.
+/// Packages are paired. First come those that have the same name, version, place, checksum and
+/// replacement, as often as both lists have them. The others are paired in turn by name, version
+/// and place; by name, origin and release line; by name and version; by name and origin; and by
+/// name: each time if exactly one old and one new package that are left have the same ones.
+/// `Likeness` defines these terms.
 ///
 /// ```
 /// let difference = Difference::of(rt.alloc(), &old.packages, &new.packages)?;
@@ -27,11 +27,11 @@ use std::marker::Model;
 /// ```
 #[derive(Drop)]
 pub struct Difference<'a> {
-    /// An old and a new package that have all in common, in the order of the old ones. These are
-    /// not reported.
+    /// Pairs of an old and a new package that have all of these in common, in the order of the old
+    /// ones. These are not reported.
     pub kept: Vec<(&'a Package, &'a Package)>,
 
-    /// An old and a new package of one name that differ, sorted by the old one as
+    /// Pairs of an old and a new package of one name that differ, sorted by the old one as
     /// `Likeness::Whole` compares.
     pub pairs: Vec<(&'a Package, &'a Package)>,
 
@@ -42,10 +42,11 @@ pub struct Difference<'a> {
     pub added: Vec<&'a Package>,
 
     /// The new packages that are alarms, each with an old one of its name and version that has a
-    /// checksum. Pairs do not hide them. A package is one if it has a checksum, some old package of
-    /// its name and version has one, and none of those has this one. It is one too if it has none,
-    /// an old package of its name, version and place has one, and it is not kept. And so is the new
-    /// package of a pair of one version with two checksums.
+    /// checksum. Pairs do not hide them. A package with a checksum is an alarm if some old package
+    /// of its name and version has a checksum, and none of those has this one. A package without a
+    /// checksum is an alarm if an old package of its name, version and place has one and the
+    /// package is not kept. The new package of a pair with the same version and two checksums is an
+    /// alarm too.
     pub alarms: Vec<(&'a Package, &'a Package)>,
 }
 
@@ -107,8 +108,8 @@ impl<'a> Difference<'a> {
     }
 
     /// The changes, in their order: alarms first, then other sources, new checksums, other
-    /// replacements, other versions, packages that went and packages that came. Fails when out of
-    /// memory.
+    /// replacements, other versions, packages that were removed and packages that were added. Fails
+    /// when out of memory.
     pub fn changes(&self, alloc: Global) -> Result<Vec<Change<'a>>, AllocError>
         ensures { IfOk result (λ all. map change_of all.items ≡ changes_of self.now) }
     {
@@ -123,9 +124,9 @@ impl<'a> Difference<'a> {
         Ok(all)
     }
 
-    /// The pairs of which one package has a dependency that the other has not, each as
-    /// `Change::OtherDependencies`: of the pairs that are kept, and of the others. An old and a new
-    /// dependency are one where their packages are a pair. Fails when out of memory.
+    /// The pairs of which one package has a dependency that the other does not have, each as
+    /// `Change::OtherDependencies`: first of the pairs that are kept, then of the others. An old
+    /// and a new dependency are the same if their packages are a pair. Fails when out of memory.
     pub fn dependency_changes(&self, alloc: Global) -> Result<Vec<Change<'a>>, AllocError>
         ensures { IfOk result (λ all. map change_of all.items ≡ dependency_changes_of self.now) }
     {
@@ -136,7 +137,8 @@ impl<'a> Difference<'a> {
         Ok(all)
     }
 
-    /// The changes, and with `dependencies` then the dependency changes. Fails when out of memory.
+    /// The changes, followed by the dependency changes if `dependencies` is true. Fails when out of
+    /// memory.
     pub fn all_changes(
         &self,
         alloc: Global,
@@ -156,7 +158,7 @@ impl<'a> Difference<'a> {
     }
 }
 
-// One list behind another.
+// One list after another.
 fn joined<'a>(one: Vec<Change<'a>>, other: Vec<Change<'a>>) -> Result<Vec<Change<'a>>, AllocError>
     ensures { IfOk result (λ all. all.items ≡ one.entry.items ++ other.entry.items) }
 {
@@ -166,7 +168,7 @@ fn joined<'a>(one: Vec<Change<'a>>, other: Vec<Change<'a>>) -> Result<Vec<Change
     Ok(all)
 }
 
-// References to some packages, in order.
+// References to the packages, in order.
 fn references_to<'a>(alloc: Global, packages: &'a [Package]) -> Result<Vec<&'a Package>, AllocError>
     ensures { IfOk result (λ all. packages_at all.items ≡ packages.now) }
 {

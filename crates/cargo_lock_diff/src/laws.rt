@@ -19,36 +19,38 @@ pub fn packages_are_told_once()
     ensures { ToldOnce }
 {}
 
-/// Of each package as many old ones are reported as the old list has more of it than the new list,
-/// and as many new ones as the new list has more.
+/// For each package, as many old ones are reported as the old list has more of it than the new
+/// list, and as many new ones as the new list has more of it.
 pub fn packages_are_told_by_count()
     ensures { ToldByCount }
 {}
 
-/// Nothing is reported exactly where both lists have the same packages, each as often, in any
-/// order.
+/// Nothing is reported exactly if both lists have the same packages, each as often, in any order.
 pub fn equal_packages_have_no_difference()
     ensures { EmptyIfPermuted }
 {}
 
-/// No change is reported exactly there: each pair has one at least.
+/// No change is reported exactly if both lists have the same packages, each as often: each pair has
+/// at least one change.
 pub fn equal_packages_tell_no_change()
     ensures { NoneIfPermuted }
 {}
 
-/// Where the lists are exchanged, the members of all pairs are, and what is left.
+/// If the lists are exchanged, the members of all pairs are exchanged, and so are the packages that
+/// are left.
 pub fn exchanged_packages_have_exchanged_pairs()
     ensures { PairingMirrored }
 {}
 
-/// The order of the lists does not count: of other lists with the same packages, each as often, as
-/// many pairs are wholly like two packages, and as many of what is left are wholly like one.
+/// The order of the lists does not matter: for other lists with the same packages, each as often,
+/// as many pairs are wholly like two packages, and as many of the packages that are left are wholly
+/// like one.
 pub fn order_of_packages_does_not_count()
     ensures { OrderDoesNotCount }
 {}
 
-/// No name, version and place has exactly one removed and exactly one added package, nor has a name
-/// and origin, nor a name.
+/// No name, version and place has exactly one removed and exactly one added package; neither has a
+/// name and origin, nor a name.
 pub fn no_package_is_left_alone()
     ensures { NoneIsLeftAlone }
 {}
@@ -58,13 +60,13 @@ pub fn changes_are_lines()
     ensures { EachIsOneLine }
 {}
 
-/// The lines of changes and the summary are exactly as many lines and one more.
+/// The lines of changes and the summary are exactly as many lines as changes, and one more.
 pub fn summaries_are_lines()
     ensures { SummaryIsOneLine }
 {}
 
-/// The packages of a pair have no other dependencies exactly where the pairs carry the old ones
-/// onto the new ones.
+/// The packages of a pair have the same dependencies exactly if the pairs carry the old ones onto
+/// the new ones.
 pub fn equal_dependencies_are_carried()
     ensures { EqualIfCarried }
 {}
@@ -75,37 +77,38 @@ pub fn pairs_are_exactly_those_only_alike()
     ensures { PairedExactly }
 {}
 
-/// Of several pairings in turn each package is in one pair or left, as often as it was given.
+/// After several pairings in turn, each package is in one pair or left, as often as it was given.
 pub fn packages_are_paired_once_or_left()
     ensures { ToldInTurn }
 {}
 
-/// Where the lists are exchanged, the members of all pairs are, and what is left.
+/// If the lists are exchanged, the members of all pairs are exchanged, and so are the packages that
+/// are left.
 pub fn exchanged_lists_have_exchanged_pairs()
     ensures { MirroredInTurn }
 {}
 
-/// After all pairings, nothing is left once on both sides by a likeness that is finer than all
-/// likenesses after it.
+/// After all pairings, no package is left that is the only one alike on both sides, by a likeness
+/// that is finer than all likenesses after it.
 pub fn nothing_is_left_once_on_both_sides()
     ensures { NoneIsLeftInTurn }
 {}
 
-/// Two likenesses are equal exactly where they are one.
+/// Two likenesses are equal exactly if they are the same.
 pub fn likenesses_are_equal_by_value(likeness: Likeness, other: Likeness) -> bool
     ensures { IsTrue result ↔ (likeness ≡ other) }
 {
     likeness == other
 }
 
-/// Two kinds of changes are equal exactly where they are one.
+/// Two kinds of changes are equal exactly if they are the same.
 pub fn kinds_are_equal_by_value(kind: Kind, other: Kind) -> bool
     ensures { IsTrue result ↔ (kind ≡ other) }
 {
     kind == other
 }
 
-/// Two summaries are equal exactly where each of their counts is.
+/// Two summaries are equal exactly if each of their counts is.
 pub fn summaries_are_equal_by_counts(summary: &Summary, other: &Summary) -> bool
     ensures { IsTrue result ↔ (summary.now ≡ other.now) }
 {

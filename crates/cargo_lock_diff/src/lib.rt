@@ -1,7 +1,7 @@
 //! What differs between the packages of two lockfiles.
 //!
-//! Packages are told apart by name, version, place, checksum and replacement. What they depend on
-//! is reported for itself. What a lockfile has beside its packages is not compared.
+//! Packages are distinguished by name, version, place, checksum and replacement. Their dependencies
+//! are reported separately. The rest of a lockfile is not compared.
 #![tactic(auto)]
 
 mod alarm;

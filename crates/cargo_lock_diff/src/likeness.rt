@@ -14,9 +14,9 @@ use std::cmp::Ordering;
 /// What two packages have in common.
 ///
 /// The *place* of a package is where its source is: nowhere without a source, crates.io for either
-/// of its two indexes, and else the source with its commit. The *origin* is the place without the
-/// commit. The *release line* is the first number of the version that is not zero, and those before
-/// it: `1` of 1.2.3, `0.4` of 0.4.20, and `0.0.3` of 0.0.3.
+/// of its two indexes, and otherwise the source with its commit. The *origin* is the place without
+/// the commit. The *release line* is the first number of the version that is not zero, and the
+/// numbers before it: `1` for 1.2.3, `0.4` for 0.4.20, and `0.0.3` for 0.0.3.
 #[derive(Debug, Clone, Copy, PartialEq, Eq)]
 pub enum Likeness {
     /// The name.
@@ -42,8 +42,8 @@ pub enum Likeness {
 }
 
 impl Likeness {
-    /// The order of two packages by what they are to have in common: they tie where they have it.
-    /// An absent source, checksum or replacement comes before a present one.
+    /// The order of two packages by what they are to have in common: they tie if they have it. An
+    /// absent source, checksum or replacement is before a present one.
     pub fn compare(self, one: &Package, other: &Package) -> Ordering
         ensures { result ≡ likeness_cmp self one.now other.now }
     {
@@ -91,7 +91,7 @@ fn by_place(one: &Package, other: &Package) -> Ordering
     by_version(one, other).then(cmp_places(&one.source, &other.source))
 }
 
-// The order by all that is looked at.
+// The order by name, version, place, checksum and replacement.
 fn by_all(one: &Package, other: &Package) -> Ordering
     ensures { result ≡ likeness_cmp Likeness.Whole one.now other.now }
 {
@@ -100,7 +100,7 @@ fn by_all(one: &Package, other: &Package) -> Ordering
         .then(cmp_replacements(&one.replace, &other.replace))
 }
 
-// The release line of a version, with zero for each number behind it.
+// The release line of a version, with zero for each number after it.
 fn release_line(version: &Version) -> [u64; 3]
     ensures { result ≡ spec.release_line (parts_of version.now) }
 {
@@ -120,7 +120,6 @@ pub(crate) fn cmp_checksums(one: &Package, other: &Package) -> Ordering
     digest(one).cmp(&digest(other))
 }
 
-// The bytes of the checksum.
 fn digest(one: &Package) -> Option<[u8; 32]>
     ensures { result ≡ one.now.checksum }
 {

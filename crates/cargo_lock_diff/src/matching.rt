@@ -1,7 +1,7 @@
 //! Pairs off the packages of two lists that are alike.
 //!
-//! Both lists are sorted by what is looked at and then merged, and what comes out is put back into
-//! the order of the lists. So n packages take about n log n comparisons.
+//! Both lists are sorted by what is compared and then merged, and the results are put back into the
+//! order of the lists. So n packages take about n log n comparisons.
 
 ghost use Rattle.std.specs.Prelude.{◌≡◌, ◌↔◌, ◌<◌, ◌++◌, IfOk, IsTrue, IsPermutation, IsSorted};
 ghost use Rattle.std.specs.Prelude.{List, length, map, slice_index_or};
@@ -82,14 +82,14 @@ pub fn pair_off<'a>(
 }
 
 // The packages of a list with their places: those that are like no other one, in the order by what
-// is looked at, and the others.
+// is compared, and the others.
 #[derive(Drop)]
 struct Split<'a> {
     alone: Vec<Placed<'a>>,
     others: Vec<Placed<'a>>,
 }
 
-/// Pairs those packages that are like exactly one old and exactly one new package: each other.
+/// Pairs each old and new package that are alike, if no other package of their lists is like them.
 /// Fails when out of memory.
 pub fn pair_unique<'a>(
     alloc: Global,
@@ -118,7 +118,8 @@ pub fn pair_unique<'a>(
     Ok(Matching { pairs, old, new })
 }
 
-/// Pairs by each likeness in turn what the ones before it have left. Fails when out of memory.
+/// Pairs by each likeness in turn the packages that the earlier ones have left. Fails when out of
+/// memory.
 pub fn pair_in_turn<'a>(
     alloc: Global,
     likenesses: &[Likeness],
@@ -143,14 +144,14 @@ pub fn pair_in_turn<'a>(
     Ok(Pairings { passes, old, new })
 }
 
-// Two packages are alike.
+// Whether two packages are alike.
 fn tie<'a>(likeness: Likeness, one: &Placed<'a>, other: &Placed<'a>) -> bool
     ensures { result ≡ are_alike likeness one.now other.now }
 {
     likeness.compare(one.item, other.item) == Ordering::Equal
 }
 
-// Whether the package at a place of a sorted list is like no other: its neighbours are others.
+// Whether the package at a place of a sorted list is like no other: its neighbours are not like it.
 fn is_alone<'a>(likeness: Likeness, sorted: &[Placed<'a>], place: usize) -> bool
     requires within { place < length sorted.now }
     requires sorted { IsSorted (placed_cmp likeness) sorted.now }
@@ -167,7 +168,7 @@ fn is_alone<'a>(likeness: Likeness, sorted: &[Placed<'a>], place: usize) -> bool
     true
 }
 
-// Takes a sorted list apart into the packages that are like no other one, and the others.
+// Separates a sorted list into the packages that are like no other one, and the others.
 fn take_apart<'a>(
     alloc: Global,
     likeness: Likeness,
@@ -190,7 +191,7 @@ fn take_apart<'a>(
     Ok(Split { alone, others })
 }
 
-// One list behind another.
+// One list after another.
 fn joined<'a>(mut list: Vec<Placed<'a>>, more: &[Placed<'a>]) -> Result<Vec<Placed<'a>>, AllocError>
     ensures { IfOk result (λ all. all.items ≡ list.entry.items ++ more.now) }
 {
@@ -198,7 +199,7 @@ fn joined<'a>(mut list: Vec<Placed<'a>>, more: &[Placed<'a>]) -> Result<Vec<Plac
     Ok(list)
 }
 
-// The packages with their places, in the order by what is looked at.
+// The packages with their places, in the order by what is compared.
 fn sort<'a>(
     alloc: Global,
     likeness: Likeness,
@@ -229,7 +230,7 @@ fn with_places<'a>(
     Ok(all)
 }
 
-// Pairs off what is alike in two lists that are sorted by what is looked at.
+// Pairs off the packages that are alike in two lists that are sorted by what is compared.
 fn merge<'a>(
     alloc: Global,
     likeness: Likeness,

@@ -13,7 +13,7 @@ use cargo_lock_parts::package::Package;
 use std::alloc::{AllocError, Global};
 
 // The packages of an old and a new list: the pairs that are wholly alike, the other pairs in the
-// order of their old packages, and what is in no pair.
+// order of their old packages, and the packages in no pair.
 #[derive(Drop)]
 pub(crate) struct Pairing<'a> {
     pub(crate) kept: Vec<(&'a Package, &'a Package)>,
@@ -50,7 +50,7 @@ pub(crate) fn pair<'a>(
     })
 }
 
-// The likenesses by which packages are paired that are not wholly alike, in turn.
+// The likenesses by which the packages that are not wholly alike are paired, in turn.
 fn turns() -> [Likeness; 5]
     ensures { result ≡ turns }
 {

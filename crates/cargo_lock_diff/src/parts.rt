@@ -28,7 +28,7 @@ impl fmt::Display for Named<'_> {
     }
 }
 
-// The name, the version and the source behind it.
+// The name, the version and the source after them.
 #[derive(Clone, Copy)]
 pub(crate) struct PackageText<'a>(pub(crate) &'a Package);
 
@@ -46,7 +46,7 @@ impl fmt::Display for PackageText<'_> {
     }
 }
 
-// The source in round brackets behind a version.
+// The source in round brackets after a version.
 #[derive(Clone, Copy)]
 struct SourceBehind<'a>(&'a Option<SourceId>);
 
@@ -117,7 +117,7 @@ impl fmt::Display for Sources<'_> {
     }
 }
 
-// Of a pair with other versions: both sources where the places differ, or else the source.
+// For a pair with other versions: both sources if the places differ, or else the source.
 #[derive(Clone, Copy)]
 pub(crate) struct UpdatedSources<'a>(pub(crate) &'a Package, pub(crate) &'a Package);
 
@@ -138,7 +138,7 @@ impl fmt::Display for UpdatedSources<'_> {
     }
 }
 
-// The mark of a pair whose new version comes before the old one.
+// The mark of a pair whose new version is less than the old one.
 #[derive(Clone, Copy)]
 pub(crate) struct DowngradeMark<'a>(pub(crate) &'a Package, pub(crate) &'a Package);
 
@@ -158,7 +158,7 @@ impl fmt::Display for DowngradeMark<'_> {
     }
 }
 
-// Whether the new version comes before the old one, whatever the build metadata is.
+// Whether the new version is less than the old one, whatever the build metadata is.
 pub(crate) fn is_downgrade(old: &Package, new: &Package) -> bool
     ensures { result ≡ spec.is_downgrade old.now new.now }
 {
@@ -257,7 +257,7 @@ impl fmt::Display for ReplacementText<'_> {
     }
 }
 
-// Dependencies that only one of two packages has, each behind its sign.
+// Dependencies that only one of two packages has, each after its sign.
 #[derive(Clone, Copy)]
 pub(crate) struct Signed<'a>(pub(crate) bool, pub(crate) &'a Vec<&'a Dependency>);
 
@@ -279,7 +279,7 @@ impl fmt::Display for Signed<'_> {
     }
 }
 
-// The name, the version and the source behind it.
+// The name, the version and the source after them.
 #[derive(Clone, Copy)]
 struct DependencyText<'a>(&'a Dependency);
 

@@ -1,4 +1,4 @@
-//! Where packages come from, as far as it counts for a difference.
+//! Where packages come from, as differences compare it.
 
 ghost use Rattle.std.specs.Prelude.{◌≡◌};
 ghost use Rattle.std.specs.Option.{option_cmp};
@@ -11,7 +11,7 @@ use cargo_lock_parts::dependency::Dependency;
 use cargo_lock_parts::package::{GitReference, SourceId, SourceKind};
 use std::cmp::Ordering;
 
-// What is seen of a source: all of it, all but the commit, or what a dependency names it by.
+// How sources are compared: whole, without the commit, or as dependencies name them.
 #[derive(Clone, Copy)]
 enum Sight {
     AsPlace,
@@ -20,23 +20,23 @@ enum Sight {
 }
 
 /// The order of two sources by place, an absent one before a present one. The registry of crates.io
-/// is one place by either of its two indexes and comes before the others, which compare by their
-/// keys.
+/// is the same place by either of its two indexes and is before the other sources, which compare by
+/// their keys.
 pub fn cmp_places(one: &Option<SourceId>, other: &Option<SourceId>) -> Ordering
     ensures { result ≡ option_cmp place_cmp one.now other.now }
 {
     cmp_sources(one, other, Sight::AsPlace)
 }
 
-/// The order of two sources by origin: by place, but for the commit of a repository.
+/// The order of two sources by origin: by place, without the commit of a repository.
 pub fn cmp_origins(one: &Option<SourceId>, other: &Option<SourceId>) -> Ordering
     ensures { result ≡ option_cmp origin_cmp one.now other.now }
 {
     cmp_sources(one, other, Sight::AsOrigin)
 }
 
-/// The order of two sources by what dependencies name them by: by origin, but that the branch
-/// `master` is the default branch, as which it was written before V3.
+/// The order of two sources as dependencies name them: by origin, with the branch `master` as the
+/// default branch, as which it was written before V3.
 pub fn cmp_named(one: &Option<SourceId>, other: &Option<SourceId>) -> Ordering
     ensures { result ≡ option_cmp (sources_cmp Sight.AsNamed) one.now other.now }
 {
@@ -88,7 +88,7 @@ fn cmp_repositories(one: &SourceId, other: &SourceId) -> Ordering
         .then(git_reference_text(one.kind()).cmp(git_reference_text(other.kind())))
 }
 
-// The order by URL, kind and reference, where the branch `master` is the default branch.
+// The order by URL, kind and reference, with the branch `master` as the default branch.
 fn cmp_named_repositories(one: &SourceId, other: &SourceId) -> Ordering
     ensures { result ≡ repository_cmp named_kind one.now other.now }
 {
@@ -98,7 +98,7 @@ fn cmp_named_repositories(one: &SourceId, other: &SourceId) -> Ordering
         .then(named_text(one.kind()).cmp(named_text(other.kind())))
 }
 
-// Where a kind stands in the order, where the branch `master` is the default branch.
+// The place of a kind in the order, with the branch `master` as the default branch.
 fn named_number(kind: &SourceKind) -> u8
     ensures { result ≡ key.kind_number (named_kind (kind_of kind.now)) }
 {
@@ -110,7 +110,7 @@ fn named_number(kind: &SourceKind) -> u8
     }
 }
 
-// The text of the reference, where the branch `master` is the default branch.
+// The text of the reference, with the branch `master` as the default branch.
 fn named_text(kind: &SourceKind) -> &str
     ensures { result.now ≡ key.git_reference_text (named_kind (kind_of kind.now)) }
 {
@@ -126,7 +126,7 @@ fn named_text(kind: &SourceKind) -> &str
     }
 }
 
-// Where a kind with its reference stands in the order.
+// The place of a kind with its reference in the order.
 fn kind_number(kind: &SourceKind) -> u8
     ensures { result ≡ key.kind_number (kind_of kind.now) }
 {
@@ -143,7 +143,7 @@ fn kind_number(kind: &SourceKind) -> u8
     }
 }
 
-// The text of the reference, empty where there is none.
+// The text of the reference, empty if there is none.
 fn git_reference_text(kind: &SourceKind) -> &str
     ensures { result.now ≡ key.git_reference_text (kind_of kind.now) }
 {

@@ -8,28 +8,28 @@ use crate::place::{cmp_places, cmp_replacements};
 use cargo_lock_parts::package::Package;
 use std::cmp::Ordering;
 
-// Whether the versions are one.
+// Whether the versions are the same.
 pub(crate) fn have_one_version(old: &Package, new: &Package) -> bool
     ensures { result ≡ spec.have_one_version old.now new.now }
 {
     old.version.cmp(&new.version) == Ordering::Equal
 }
 
-// Whether the sources are one place, or both are absent.
+// Whether the sources are the same place, or both are absent.
 pub(crate) fn have_one_place(old: &Package, new: &Package) -> bool
     ensures { result ≡ spec.have_one_place old.now new.now }
 {
     cmp_places(&old.source, &new.source) == Ordering::Equal
 }
 
-// Whether the checksums are one, or both are absent.
+// Whether the checksums are the same, or both are absent.
 pub(crate) fn have_one_checksum(old: &Package, new: &Package) -> bool
     ensures { result ≡ spec.have_one_checksum old.now new.now }
 {
     cmp_checksums(old, new) == Ordering::Equal
 }
 
-// Whether the replacements are one, or both are absent.
+// Whether the replacements are the same, or both are absent.
 pub(crate) fn have_one_replacement(old: &Package, new: &Package) -> bool
     ensures { result ≡ spec.have_one_replacement old.now new.now }
 {

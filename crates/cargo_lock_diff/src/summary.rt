@@ -23,16 +23,16 @@ pub enum Kind {
     /// `@`: another replacement.
     Replacement,
 
-    /// `~`: another version that does not come before the old one.
+    /// `~`: another version that is not less than the old one.
     Updated,
 
-    /// `~` with `(downgrade)`: a version that comes before the old one.
+    /// `~` with `(downgrade)`: a version that is less than the old one.
     Downgraded,
 
-    /// `-`: a package that went.
+    /// `-`: a package that was removed.
     Removed,
 
-    /// `+`: a package that came.
+    /// `+`: a package that was added.
     Added,
 
     /// `=`: other dependencies.
@@ -58,7 +58,7 @@ impl Kind {
     }
 }
 
-// Whether a change is another version: one that comes before the old one, or one that does not.
+// Whether a change is another version: one that is less than the old one, or one that is not.
 fn is_update(change: &Change<'_>, downgrade: bool) -> bool
     ensures { result ≡ spec.is_update downgrade (change_of change.now) }
 {
@@ -74,34 +74,34 @@ fn is_update(change: &Change<'_>, downgrade: bool) -> bool
     }
 }
 
-/// How many changes of each kind a difference has. Displayed, it is the last line without its
+/// How many changes of each kind a difference has. `Display` writes it as the last line without its
 /// newline: `2 updated, 1 downgraded, 1 removed, 1 added, 1 moved, 1 new checksum, 1 replacement,
-/// 1 with other dependencies, 1 alarm`. Counts of zero are left out, and those of several are
+/// 1 with other dependencies, 1 alarm`. Counts of zero are left out, and the plural nouns are
 /// `new checksums`, `replacements` and `alarms`.
 #[derive(Debug, Clone, Copy, PartialEq, Eq)]
 pub struct Summary {
     /// How many alarms.
     pub alarms: usize,
 
-    /// How many pairs of one version from another source.
+    /// How many pairs of the same version from another source.
     pub sources: usize,
 
-    /// How many pairs of one version with a checksum that was not there.
+    /// How many pairs of the same version with a checksum that was not there.
     pub checksums: usize,
 
-    /// How many pairs of one version with another replacement.
+    /// How many pairs of the same version with another replacement.
     pub replacements: usize,
 
-    /// How many pairs with another version that does not come before the old one.
+    /// How many pairs with another version that is not less than the old one.
     pub updated: usize,
 
-    /// How many pairs with a version that comes before the old one.
+    /// How many pairs with a version that is less than the old one.
     pub downgraded: usize,
 
-    /// How many packages that went.
+    /// How many packages that were removed.
     pub removed: usize,
 
-    /// How many packages that came.
+    /// How many packages that were added.
     pub added: usize,
 
     /// How many pairs with other dependencies.
@@ -109,7 +109,7 @@ pub struct Summary {
 }
 
 impl Summary {
-    /// The counts of some changes.
+    /// The counts of these changes, by kind.
     ///
     /// ```
     /// let changes = difference.all_changes(rt.alloc(), false)?;
@@ -170,7 +170,7 @@ impl fmt::Display for Summary {
     }
 }
 
-// A count with the word for one or for more, and whether there is a count before it.
+// A count with its noun in the singular or the plural, and whether there is a count before it.
 #[derive(Clone, Copy)]
 struct Counted<'a> {
     behind: bool,
@@ -197,7 +197,7 @@ impl<'a> Counted<'a> {
         }
     }
 
-    // The count behind this one.
+    // The count after this one.
     fn then(self, number: usize, one: &'a str, more: &'a str) -> Counted<'a>
         ensures { result ≡ record {
           behind = spec.is_behind self.entry.behind self.entry.number;

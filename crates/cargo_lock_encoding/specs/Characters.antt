@@ -1,5 +1,7 @@
 -- Characters of TOML by name: those that a string escapes, the letters of their escapes, and the
 -- ends of the ranges of letters and digits.
+-- The escapes are those of basic strings in TOML 1.1.0, and the letters and digits those of its
+-- bare keys.
 use Rattle.std.specs.Prelude.{ℕ}
 
 -- `'\u{8}'`

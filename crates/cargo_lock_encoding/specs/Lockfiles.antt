@@ -25,7 +25,7 @@ pub record LockfileData : Type 0 where
 abbrev pub format_of : EncodedData → Option ResolveVersion
 format_of e = format_by e.version e.packages e.metadata
 
--- the references of git sources are escaped where the number of the table is that of V4
+-- the references of git sources are escaped if the number of the table is that of V4
 abbrev pub is_escaped_number : Option ℤ → Bool
 is_escaped_number None = false
 is_escaped_number (Some (negsuc n)) = false

@@ -1,4 +1,4 @@
--- `Means` as it is computed. The lemmas that the two agree are in proofs/.
+-- `Means` as it is computed. The lemmas that the two agree are in `proofs/`.
 use Rattle.std.specs.Prelude.{ℕ, List, [], Option, Some, option_map, map}
 use Rattle.toml.specs.Data.{Members}
 use Rattle.cargo_lock_parts.specs.Identity.{Identity, PackageData}
@@ -39,7 +39,7 @@ root_package e = package_of [] e.checksum e
 abbrev pub all_packages : ResolveVersion → Texts → List EncodedPackage → Option (List PackageData)
 all_packages v m es = map_all (listed_package v (reading_list v (map encoded_identity es)) m) es
 
--- what is found out about values
+-- what is determined from values
 pub record ResolvedData : Type 0 where
   pub version : ResolveVersion
   pub packages : List PackageData
@@ -53,7 +53,7 @@ resolved_values e = do
   root ← map_some root_package e.root
   Some (record { version = version; packages = packages; root = root })
 
--- these with the metadata and the patches
+-- the lockfile of what the values determine, with their metadata and their patches
 abbrev pub completed_lockfile : EncodedData → ResolvedData → LockfileData
 completed_lockfile e r =
     record {
@@ -65,6 +65,7 @@ completed_lockfile e r =
           = e.patch;
     }
 
+-- the lockfile of values, if there is one
 unfoldable pub lockfile_of : EncodedData → Option LockfileData
 lockfile_of e = option_map (completed_lockfile e) (resolved_values e)
 

@@ -1,4 +1,6 @@
 -- Which lockfile a table means.
+-- The rule is that of `TryFrom<EncodableLockfile> for Lockfile` in `src/lockfile/encoding.rs` of
+-- the Rust crate `cargo-lock` 11.0.1.
 use Rattle.std.specs.Prelude.{◌≡◌, ℕ, List, [], Option, Some, map}
 use Rattle.std.specs.List.{AllZip}
 use Rattle.toml.specs.Data.{Members}
@@ -15,7 +17,8 @@ use Rattle.cargo_lock_encoding.specs.Lockfiles.{EncodedData, LockfileData}
 use Rattle.cargo_lock_references.specs.ResolvesTo.{ResolvesTo}
 use Rattle.cargo_lock_encoding.specs.TableReading.{encoded_at}
 
--- the list in which the references of packages are looked up: in V1 they are in full
+-- the list in which the references of packages are resolved: an empty one in V1, where they are in
+-- full
 abbrev pub reading_list : ResolveVersion → List Identity → List Identity
 reading_list V1 list = []
 reading_list V2 list = list
@@ -29,7 +32,7 @@ encoded_checksum V2 m e = e.checksum
 encoded_checksum V3 m e = e.checksum
 encoded_checksum V4 m e = e.checksum
 
--- the package that an encoded package means, with this checksum and its dependencies looked up in
+-- the package that an encoded package means, with this checksum and its dependencies resolved in
 -- this list; its replacement is in full in every format
 pub record IsPackage (list : List Identity) (digest : Option (List ℕ)) (encoded : EncodedPackage)
     (p : PackageData) : Type 0 where
@@ -61,13 +64,13 @@ pub record IsLocked (e : EncodedData) (l : LockfileData) : Type 0 where
   pub patch : l.patch ≡ e.patch
 
 -- The table means the lockfile: its values are read key by key, package k is that of encoded
--- package k, and sources are taken to the letter.
+-- package k, and sources are equal in every part, not only in their keys.
 pub record Means (t : Members) (l : LockfileData) : Type 0 where
   pub encoded : EncodedData
   pub values : encoded_at t ≡ Some encoded
   pub lockfile_of : IsLocked encoded l
 
--- the text is that of a TOML table, which means the lockfile
+-- the text is that of a TOML table that means the lockfile
 pub record TextMeans (text : List ℕ) (l : LockfileData) : Type 0 where
   pub table : Members
   pub parsed : parse_document text ≡ Some table

@@ -1,4 +1,5 @@
--- The table that the printed text of a lockfile is read as.
+-- The table that the printed text of a lockfile reads as.
+-- What a text is read as is the rule of TOML 1.1.0, as the kit's crate `toml` defines it.
 use Rattle.std.specs.Prelude.{◌≡◌, ◌^◌, ◌<◌, ℤ, pos, negsuc, nat_le, if◌then◌else◌, List, [], ◌∷◌}
 use Rattle.std.specs.Prelude.{Option, Some, None, ◌⊎◌, option_map, map, codes}
 use Rattle.toml.specs.Data.{integer, Members}
@@ -18,7 +19,7 @@ printed_number None = None
 printed_number (Some (negsuc n)) = None
 printed_number (Some (pos n)) = if nat_le 3 n then Some (pos n) else None
 
--- the replacement that the text has: none where there are dependencies
+-- the replacement that the text has: none if there are dependencies
 abbrev pub printed_replace : List Reference → Option Reference → Option Reference
 printed_replace [] replace = replace
 printed_replace (f ∷ fs) replace = None
@@ -34,9 +35,8 @@ printed_package e = record {
   replace = printed_replace e.dependencies e.replace;
 }
 
--- The table of values as their text has it: without the root, without a list of packages where it
--- is empty, without the replacement of a package that has dependencies, and without a number below
--- 3.
+-- The table of values as their text has it: without the root, without the list of packages if it is
+-- empty, without the replacement of a package that has dependencies, and without a number below 3.
 abbrev pub printed_table : EncodedData → Members
 printed_table e = present_members (
     (codes "metadata", metadata_value e.metadata)

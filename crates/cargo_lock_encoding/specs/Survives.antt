@@ -1,5 +1,6 @@
--- When a lockfile survives a format, so that what is written in it reads back: conditions on its
--- parts, one by one. Each says that a written text is read as what it was written for.
+-- When a lockfile survives a format, so that what is written in the format reads back: conditions
+-- on its parts, one by one. Each says that a written text reads as the value for which it was
+-- written.
 use Rattle.std.specs.Prelude.{◌≡◌, ◌↔◌, true, false, List, [], IfSome, option_map, map}
 use Rattle.std.specs.List.{AllByRecursion}
 use Rattle.cargo_lock_parts.specs.Identity.{Identity, PackageData, identity_key, identity_of}
@@ -18,7 +19,7 @@ use Rattle.cargo_lock_encoding.specs.Table.{table_of}
 
 -- ---- packages
 
--- a dependency, by its reference in full, which is looked up by itself
+-- a dependency, by its reference in full, which is resolved without a list
 abbrev pub FullReferenceSurvives : ResolveVersion → Identity → Type 0
 FullReferenceSurvives format d = ReferenceSurvives (in_full (is_escaped format) d) [] d
 
@@ -33,14 +34,14 @@ pub record OwnPartsSurvive (format : ResolveVersion) (p : PackageData) : Type 0 
   pub source : IfSome p.source (SourceSurvives (is_escaped format))
   pub replace : IfSome p.replace (FullReferenceSurvives format)
 
--- a package whose dependencies are written in these references, and looked up in this list
+-- a package whose dependencies are written as these references, and resolved in this list
 pub record PackageSurvives (format : ResolveVersion) (reference : Identity → Reference)
     (list : List Identity)
     (p : PackageData) : Type 0 where
   pub own : OwnPartsSurvive format p
   pub dependencies : AllByRecursion (λ d. ReferenceSurvives (reference d) list d) p.dependencies
 
--- a package among these, but for its checksum
+-- a package among these, without its checksum
 abbrev pub SurvivesAmong : ResolveVersion → List Identity → PackageData → Type 0
 SurvivesAmong format list p =
     PackageSurvives format (written_reference format list) (reading_list format list) p
@@ -56,7 +57,7 @@ ChecksumSurvives V4 m p = IfSome p.checksum DigestReadsBack
 abbrev pub ListedSurvives : ResolveVersion → List Identity → Texts → PackageData → Type 0
 ListedSurvives format list m p = SurvivesAmong format list p × ChecksumSurvives format m p
 
--- the root: its references are in full, and its checksum stands with it in every format
+-- the root: its references are in full, and it keeps its checksum in every format
 abbrev pub RootSurvives : ResolveVersion → PackageData → Type 0
 RootSurvives format p =
     PackageSurvives format (in_full (is_escaped format)) [] p × IfSome p.checksum DigestReadsBack
@@ -68,7 +69,7 @@ PatchSurvives format i = VersionSurvives i.version
 
 -- ---- lockfiles
 
--- V1 and V2 have no number in the table: the written metadata tells them apart
+-- V1 and V2 have no number in the table: the written metadata distinguishes them
 abbrev pub FormatSurvives : ResolveVersion → Texts → Type 0
 FormatSurvives V1 m = has_checksum_key m ≡ true
 FormatSurvives V2 m = has_checksum_key m ≡ false
@@ -85,7 +86,7 @@ pub record Survives (l : LockfileData) (format : ResolveVersion) : Type 0 where
   pub patch : AllByRecursion (PatchSurvives format) l.patch
   pub told : FormatSurvives format (metadata_of format l.metadata l.packages)
 
--- ---- what survival is for
+-- ---- the purpose of survival
 
 -- the lockfile, set to this format
 abbrev pub in_format : ResolveVersion → LockfileData → LockfileData
@@ -110,7 +111,7 @@ ReadsBack l format =
     (x : LockfileData) × Means (table_of (in_format format l)) x × (x.version ≡ format)
     × HasSamePackages x l
 
--- a lockfile survives a format exactly where what is written in it reads back
+-- a lockfile survives a format exactly if what is written in it reads back
 abbrev pub SurvivesExactly : Type 0
 SurvivesExactly = (l : LockfileData) (format : ResolveVersion) → Survives l format
     ↔ ReadsBack l format

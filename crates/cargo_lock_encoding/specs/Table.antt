@@ -1,4 +1,6 @@
 -- The table of a lockfile.
+-- The rule is that of `From<&Lockfile> for EncodableLockfile` in `src/lockfile/encoding.rs` of the
+-- Rust crate `cargo-lock` 11.0.1.
 use Rattle.std.specs.Prelude.{ℕ, ℤ, pos, Bool, List, [], ◌∷◌, Option, Some, None, option_map, map}
 use Rattle.std.specs.Prelude.{codes}
 use Rattle.std.specs.FinMap.{entries}
@@ -21,7 +23,7 @@ use Rattle.cargo_lock_encoding.specs.Lockfiles.{EncodedData, LockfileData, is_es
 
 -- ---- the values that are written
 
--- the number that is written: Cargo leaves out those of the first two formats
+-- the number that is written: Cargo leaves out those of V1 and V2
 abbrev pub written_version : ResolveVersion → Option ℤ
 written_version V1 = None
 written_version V2 = None
@@ -35,7 +37,8 @@ written_checksum V2 checksum = checksum
 written_checksum V3 checksum = checksum
 written_checksum V4 checksum = checksum
 
--- a package with this checksum and with its dependencies written so; a replacement is in full
+-- a package with this checksum and with its dependencies written as these references; a replacement
+-- is in full
 abbrev pub encoded_package_with : ResolveVersion → Option (List ℕ) → (Identity → Reference)
     → PackageData → EncodedPackage
 encoded_package_with format checksum reference p = record {
@@ -56,6 +59,7 @@ encoded_package_of format list p = encoded_package_with format (written_checksum
 abbrev pub encoded_root : ResolveVersion → PackageData → EncodedPackage
 encoded_root format p = encoded_package_with format p.checksum (in_full (is_escaped format)) p
 
+-- the values of a lockfile's table
 unfoldable pub encoded_of : LockfileData → EncodedData
 encoded_of l = record {
   version = written_version l.version;
@@ -67,7 +71,7 @@ encoded_of l = record {
 
 -- ---- tables
 
--- a member before others, where its value is there
+-- a member before others, if it has a value
 abbrev pub present_member : List ℕ → Option Data → Members → Members
 present_member k None rest = rest
 present_member k (Some d) rest = member k d rest
@@ -77,7 +81,7 @@ abbrev pub present_members : List (List ℕ × Option Data) → Members
 present_members [] = no_members
 present_members (m ∷ ms) = present_member m.0 m.1 (present_members ms)
 
--- a list that is left out where it is empty
+-- a list that is left out if it is empty
 abbrev pub unless_empty : List Data → Option Data
 unless_empty [] = None
 unless_empty (d ∷ ds) = Some (array (items_of (d ∷ ds)))
@@ -123,7 +127,7 @@ unused_patch_value escaped i = table (patch_table escaped i)
 abbrev pub unused_table : List Data → Members
 unused_table values = member (codes "unused") (array (items_of values)) no_members
 
--- the table of unused patches, unless there is none
+-- the table of unused patches, unless there are none
 abbrev pub unless_no_patch : List Data → Option Data
 unless_no_patch [] = None
 unless_no_patch (d ∷ ds) = Some (table (unused_table (d ∷ ds)))
@@ -137,12 +141,12 @@ abbrev pub text_members : List (List ℕ × List ℕ) → Members
 text_members [] = no_members
 text_members (m ∷ ms) = member m.0 (string m.1) (text_members ms)
 
--- a table of texts, unless there is none
+-- a table of texts, unless there are none
 abbrev pub unless_no_text : List (List ℕ × List ℕ) → Option Data
 unless_no_text [] = None
 unless_no_text (m ∷ ms) = Some (table (text_members (m ∷ ms)))
 
--- the metadata as a value, unless there is none
+-- the metadata as a value, unless it is empty
 abbrev pub metadata_value : Texts → Option Data
 metadata_value m = unless_no_text (entries m)
 
@@ -171,7 +175,7 @@ put k d no_members = member k d no_members
 put k d (member l e ms) = match_ordering (slice_cmp nat_cmp k l) (member k d (member l e ms))
     (member l d ms) (member l e (put k d ms))
 
--- a value put at a key, where there is one
+-- a value put at a key, if there is one
 abbrev pub put_present : List ℕ → Option Data → Members → Members
 put_present k None ms = ms
 put_present k (Some d) ms = put k d ms

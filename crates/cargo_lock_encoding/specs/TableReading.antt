@@ -1,5 +1,7 @@
 -- The values of a table, as Cargo writes them: a key's value is a text, a whole number, a list or a
--- table, and a text is read as a version, a source, a checksum or a reference.
+-- table, and a text reads as a version, a source, a checksum or a reference.
+-- The keys are those of `EncodableLockfile` and `EncodablePackage` in `src/lockfile/encoding.rs` of
+-- the Rust crate `cargo-lock` 11.0.1.
 use Rattle.std.specs.Prelude.{ℕ, ℤ, List, [], ◌∷◌, Option, Some, None, option_map, codes}
 use Rattle.std.specs.FinMap.{empty, insert}
 use Rattle.std.specs.Option.{option_and_then}
@@ -36,25 +38,25 @@ abbrev pub members_in : Data → Option Members
 members_in (table ms) = Some ms
 members_in _ = None
 
--- what a value reads as, where it may be missing
+-- what a value reads as, if it may be absent
 abbrev pub optional_by : {X : Type 0} → (Data → Option X) → Option Data → Option (Option X)
 optional_by read None = Some None
 optional_by read (Some d) = option_map Some (read d)
 
--- a text that may not be missing
+-- a text that is required
 abbrev pub required_text : Option Data → Option (List ℕ)
 required_text o = option_and_then text_in o
 
--- a list that is empty where it is missing
+-- a list that is empty if it is absent
 abbrev pub optional_list : Option Data → Option Items
 optional_list None = Some no_items
 optional_list (Some d) = items_in d
 
--- a list that may not be missing
+-- a list that is required
 abbrev pub required_list : Option Data → Option Items
 required_list o = option_and_then items_in o
 
--- each item read, or none where some item reads as none
+-- each item read, or none if some item reads as none
 abbrev pub read_all : {X : Type 0} → (Data → Option X) → Items → Option (List X)
 read_all read no_items = Some []
 read_all read (item d ds) = read d >>= λ x. option_map (λ xs. x ∷ xs) (read_all read ds)
@@ -105,6 +107,7 @@ package_at_key ms = do
 abbrev pub encoded_package_in : Data → Option EncodedPackage
 encoded_package_in d = members_in d >>= package_at_key
 
+-- the packages of a table, under `package`
 unfoldable pub encoded_packages_at : Members → Option (List EncodedPackage)
 encoded_packages_at ms = do
   list ← optional_list (get_member (codes "package") ms)
@@ -115,6 +118,7 @@ pub record EncodedPackages : Type 0 where
   pub listed : List EncodedPackage
   pub root : Option EncodedPackage
 
+-- the packages of a table and its root, under `package` and `root`
 unfoldable pub all_encoded_packages_at : Members → Option EncodedPackages
 all_encoded_packages_at ms = do
   listed ← encoded_packages_at ms
@@ -123,7 +127,7 @@ all_encoded_packages_at ms = do
 
 -- ---- metadata: texts by keys
 
--- each pair put in turn
+-- the map after each pair is put into it in turn
 abbrev pub put_all : Texts → List (List ℕ × List ℕ) → Texts
 put_all m [] = m
 put_all m (e ∷ es) = put_all (insert m e.0 e.1) es
@@ -137,7 +141,7 @@ pairs_at (member k d ms) = text_in d >>= λ v. option_map (λ es. (k, v) ∷ es)
 abbrev pub texts_at : Members → Option Texts
 texts_at ms = option_map (put_all empty) (pairs_at ms)
 
--- the metadata that a value is, where there is one
+-- the metadata that a value is, or empty metadata if there is no value
 abbrev pub metadata_in : Option Data → Option Texts
 metadata_in None = Some empty
 metadata_in (Some d) = members_in d >>= texts_at
@@ -152,12 +156,12 @@ unused_patch_in d = members_in d >>= identity_at
 abbrev pub patch_at : Members → Option (List Identity)
 patch_at ms = required_list (get_member (codes "unused") ms) >>= read_all unused_patch_in
 
--- the unused patches that a value is, where there is one
+-- the unused patches that a value is, or none if there is no value
 abbrev pub patch_in : Option Data → Option (List Identity)
 patch_in None = Some []
 patch_in (Some d) = members_in d >>= patch_at
 
--- ---- all
+-- ---- the whole table
 
 -- the values of a table
 unfoldable pub encoded_at : Members → Option EncodedData

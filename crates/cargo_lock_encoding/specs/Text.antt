@@ -1,4 +1,6 @@
 -- The text of a lockfile, line by line, as Cargo writes it.
+-- The rule is that of `serialize_resolve` and `emit_package` in Cargo's `src/cargo/ops/lockfile.rs`
+-- at `0c70319`, as `src/lockfile/encoding.rs` of the Rust crate `cargo-lock` 11.0.1 adapts them.
 use Rattle.std.specs.Prelude.{◌≡◌, ℕ, ℤ, pos, negsuc, ◌+◌, ◌/◌, ◌%◌, ◌==◌, ◌&&◌, ◌||◌, nat_lt}
 use Rattle.std.specs.Prelude.{nat_le, Bool, true, false, if◌then◌else◌, List, [], ◌∷◌, ◌++◌, Option}
 use Rattle.std.specs.Prelude.{Some, None, OnOk, Result, String, option_map, map, codes, decimal}
@@ -25,7 +27,7 @@ use Rattle.cargo_lock_encoding.specs.Lockfiles.{EncodedData, LockfileData, is_es
 use Rattle.cargo_lock_encoding.specs.Table.{encoded_of}
 
 -- ---- strings: a TOML basic string. Escaped are the quotation mark, the backslash, the characters
--- below U+0020 and U+007F. TOML asks for each of these but the tab, which it lets stand as it is.
+-- below U+0020, and U+007F. TOML requires each of these escapes except that of the tab.
 
 -- an upper-case hexadecimal digit: from ten on a letter, and 55 is ten less than `A`
 abbrev pub hex_digit : ℕ → ℕ
@@ -35,7 +37,7 @@ hex_digit n = if nat_lt n 10 then digit_zero + n else 55 + n
 abbrev pub control_escape : ℕ → List ℕ
 control_escape c = codes "\\u00" ++ (hex_digit (c / 16) ∷ hex_digit (c % 16) ∷ [])
 
--- the letter after the backslash, where a character has one
+-- the letter after the backslash, if a character has one
 abbrev pub short_escape : ℕ → Option ℕ
 short_escape c =
     if c == quotation_mark then Some quotation_mark
@@ -47,45 +49,45 @@ short_escape c =
     else if c == carriage_return then Some lower_r
     else None
 
--- an escape of one letter, or else one by number, or else these bytes as they are
+-- an escape of one letter, or else one by number, or else these bytes unchanged
 abbrev pub escape_or : List ℕ → Option ℕ → ℕ → List ℕ
 escape_or plain (Some letter) c = backslash ∷ letter ∷ []
 escape_or plain None c = if nat_lt c space || (c == delete) then control_escape c else plain
 
--- a character as the code escapes it, which is the same as its bytes, each escaped
+-- a character as the code escapes it, which is the same as each of its bytes escaped
 abbrev pub escape_char : ℕ → List ℕ
 escape_char c = escape_or (encode_utf8 c) (short_escape c) c
 
--- a byte as it is in a string of TOML: one past ASCII, which is a part of a character, is plain
+-- a byte as it is in a TOML string: one past ASCII, which is a part of a character, is not escaped
 abbrev pub escape_byte : ℕ → List ℕ
 escape_byte b = escape_or (b ∷ []) (short_escape b) b
 
--- the bytes of the text, each as it is escaped
+-- the bytes of the text, each escaped
 unfoldable pub escape : List ℕ → List ℕ
 escape text = flat_map escape_byte text
 
--- a text between quotation marks
+-- a text in quotation marks
 abbrev pub quote : List ℕ → List ℕ
 quote text = quotation_mark ∷ (escape text ++ quotation_mark ∷ [])
 
--- ---- keys of the metadata: bare where TOML allows it
+-- ---- keys of the metadata: bare if TOML allows it
 
--- a byte that stands in a key without quotation marks
+-- a byte that may be in a key without quotation marks
 abbrev pub is_bare_byte : ℕ → Bool
 is_bare_byte b =
     (nat_le upper_a b && nat_le b upper_z) || (nat_le lower_a b && nat_le b lower_z)
     || (nat_le digit_zero b && nat_le b digit_nine) || (b == underscore) || (b == hyphen)
 
--- the text has a byte
+-- the text has at least one byte
 abbrev pub is_nonempty_text : List ℕ → Bool
 is_nonempty_text [] = false
 is_nonempty_text (b ∷ bs) = true
 
--- the key is nonempty and of such bytes alone
+-- the key is not empty and has only such bytes
 abbrev pub is_bare_key : List ℕ → Bool
 is_bare_key key = is_nonempty_text key && list_all is_bare_byte key
 
--- a key with quotation marks where it needs them
+-- a key, with quotation marks if it needs them
 abbrev pub key_text : List ℕ → List ℕ
 key_text key = if is_bare_key key then key else quote key
 
@@ -111,7 +113,7 @@ replace_line f = field (codes "replace") (reference_text f)
 abbrev pub dependency_line : Reference → List ℕ
 dependency_line f = space ∷ (quote (reference_text f) ++ comma ∷ [])
 
--- the dependencies, or where there are none the replacement
+-- the dependencies, or if there are none, the replacement
 abbrev pub reference_lines : List Reference → Option Reference → List (List ℕ)
 reference_lines [] replace = option_to_list (option_map replace_line replace)
 reference_lines (f ∷ fs) replace =
@@ -142,13 +144,13 @@ abbrev pub metadata_lines : List (List ℕ × List ℕ) → List (List ℕ)
 metadata_lines [] = []
 metadata_lines (m ∷ ms) = [] ∷ codes "[metadata]" ∷ map pair_line (m ∷ ms)
 
--- the number stands in the file from V3 on
+-- the number is in the file from V3 on
 abbrev pub version_lines : Option ℤ → List (List ℕ)
 version_lines None = []
 version_lines (Some (negsuc n)) = []
 version_lines (Some (pos n)) = if nat_le 3 n then (codes "version = " ++ decimal n) ∷ [] else []
 
--- the two comments that each lockfile begins with
+-- the two comments with which each lockfile begins
 abbrev pub comment_lines : List (List ℕ)
 comment_lines =
     codes "# This file is automatically @generated by Cargo."
@@ -165,16 +167,16 @@ encoded_lines e =
 abbrev pub lines_of : LockfileData → List (List ℕ)
 lines_of l = encoded_lines (encoded_of l)
 
--- each line, and a newline after it
+-- each line and its newline
 abbrev pub join_lines : List (List ℕ) → List ℕ
 join_lines lines = flat_map (λ line. line ++ newline ∷ []) lines
 
 -- ---- what is added to a text
 
--- the bytes are added at the end of the text, where memory suffices
+-- the bytes are added at the end of the text, if memory suffices
 abbrev pub Adds : {X Y Z : Type 0} → Result X Y → String Z → String Z → List ℕ → Type 0
 Adds answer before after bytes = OnOk answer (string_bytes after ≡ string_bytes before ++ bytes)
 
--- the lines are, each with a newline after it
+-- the lines are added, each with a newline after it, if memory suffices
 abbrev pub AddsLines : {X Y Z : Type 0} → Result X Y → String Z → String Z → List (List ℕ) → Type 0
 AddsLines answer before after lines = Adds answer before after (join_lines lines)

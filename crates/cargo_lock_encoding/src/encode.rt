@@ -21,9 +21,9 @@ use cargo_lock_references::{EncodableDependencyRef, EncodablePackage, EncodableP
 use std::alloc::{AllocError, Global};
 
 impl LockfileRef<'_> {
-    /// The values of the lockfile's table, in the lockfile's format. Its packages' references are
-    /// without the words that the packages make needless, except in V1. The references of the root
-    /// and all replacements are in full. The one error is `Memory`.
+    /// The values of the lockfile's table, in the lockfile's format. The references of its packages
+    /// are without the parts that are redundant among the packages, except in V1. The references of
+    /// the root and all replacements are in full. The one error is `Memory`.
     #[tactic(auto, unfolding(crate::specs::Table::encoded_of))]
     pub fn to_encodable(&self, alloc: Global) -> Result<EncodableLockfile>
         ensures ok { IfOk result (λ e. e ≡ encoded_of self.now) }
@@ -40,7 +40,7 @@ impl LockfileRef<'_> {
     }
 }
 
-// The number that is written: from the third format on.
+// The number that is written: from V3 on.
 pub(crate) fn written_version(format: ResolveVersion) -> Option<i64>
     ensures { result ≡ written_version format }
 {
@@ -53,8 +53,8 @@ pub(crate) fn written_version(format: ResolveVersion) -> Option<i64>
 
 // ---- packages
 
-// The packages of a lockfile, as they are written. Their references are without the words that the
-// packages make needless, except in V1. Replacements are in full.
+// The packages of a lockfile, as they are written. Their references are without the parts that are
+// redundant among the packages, except in V1. Replacements are in full.
 fn all_encoded_packages(
     alloc: Global,
     format: ResolveVersion,
@@ -161,7 +161,7 @@ pub(crate) fn written_reference<'a>(
     }
 }
 
-// A dependency without needless words.
+// A dependency without redundant parts.
 fn shortest_reference<'a>(
     format: ResolveVersion,
     list: &Indexed<'a, Package>,

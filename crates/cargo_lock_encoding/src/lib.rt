@@ -1,7 +1,7 @@
-//! What stands in a lockfile: the values of its table and what they mean, the table and the text of
-//! a lockfile, and whether it survives a format.
+//! The contents of a lockfile: the values of its table and what they mean, the table and the text
+//! of a lockfile, and whether it survives a format.
 //!
-//! The crate `cargo_lock` gives what its users need of this under its own paths. Use that one.
+//! The crate `cargo_lock` exports what its users need of this under its own paths. Use that one.
 #![tactic(auto)]
 
 mod encode;

@@ -1,4 +1,4 @@
-//! What the values of a table mean: the format is found, and the references are looked up.
+//! What the values of a table mean: their format is determined, and their references are resolved.
 
 ghost use Rattle.std.specs.Prelude.{◌≡◌, [], map, option_map};
 ghost use Rattle.cargo_lock_parts.specs.Checksum.{digest_of};
@@ -24,7 +24,7 @@ use cargo_lock_references::{EncodableDependency, EncodablePackage, Metadata, Res
 use std::alloc::Global;
 use std::marker::Model;
 
-/// What is found out about the values of a table, with each reference looked up.
+/// What is determined from the values of a table, with each reference resolved.
 #[derive(Debug, Drop)]
 pub struct Resolved {
     /// The format.
@@ -49,12 +49,13 @@ impl Model for Resolved {
     } };
 }
 
-/// What is found out about values: their format, and the packages and the root with each reference
-/// looked up. In V1 the references are in full, and the checksums are those that the metadata
-/// holds. From V2 on the references of packages are looked up among the packages. Replacements and
-/// the references of the root are in full in every format.
+/// What is determined from values: their format, and the packages and the root with each reference
+/// resolved. In V1 the references are in full, and the checksums are those in the metadata. From V2
+/// on the references of packages are resolved among the packages. Replacements and the references
+/// of the root are in full in every format.
 ///
-/// `Parse` says that the values have no format, or that a reference stands for nothing.
+/// `Parse` means that the values have no format, or that a reference does not resolve. The other
+/// error is `Memory`.
 pub fn resolved_values(alloc: Global, values: &EncodableLockfile) -> Result<Resolved>
     ensures { Reads (λ r. r) result (resolved_values values.now) }
 {
@@ -92,9 +93,9 @@ impl EncodableLockfile {
     }
 }
 
-// The packages of these encoded packages in this format, with each reference looked up. In V1 the
-// references are in full, and the checksums are those that the metadata holds. From V2 on the
-// references are looked up among the encoded packages. Replacements are in full in every format.
+// The packages of these encoded packages in this format, with each reference resolved. In V1 the
+// references are in full, and the checksums are those in the metadata. From V2 on the references
+// are resolved among the encoded packages. Replacements are in full in every format.
 fn all_packages(
     alloc: Global,
     format: ResolveVersion,
@@ -152,7 +153,7 @@ fn package_in_full(
     with_references(alloc, encoded, checksum, &Indexed::empty(alloc))
 }
 
-// The packages from V2 on: their references are looked up by name, and they have their checksums.
+// The packages from V2 on: their references are resolved by name, and they have their checksums.
 fn packages_by_name(alloc: Global, listed: &[EncodablePackage]) -> Result<Vec<Package>>
     ensures { Reads (λ v. v.items) result
         (map_all (λ e. package_of (map encoded_identity listed.now) e.checksum e) listed.now) }
@@ -191,7 +192,7 @@ fn own_checksum(encoded: &EncodablePackage) -> Option<Checksum>
     encoded.checksum
 }
 
-// The package of an encoded package, its references looked up in this list.
+// The package of an encoded package, with its references resolved in this list.
 fn with_references<'a>(
     alloc: Global,
     encoded: &'a EncodablePackage,

@@ -14,8 +14,7 @@ use std::marker::Model;
 // The sources by their texts.
 type Sources = BTreeMap<String, SourceId>;
 
-/// The sources of the texts that were read so far. Where a text is read again, its source is
-/// shared.
+/// The sources of the texts that were read so far. If a text is read again, its source is shared.
 #[derive(Drop)]
 pub(crate) struct ReadSources {
     sources: Sources,
@@ -39,7 +38,7 @@ impl ReadSources {
         }
     }
 
-    /// The source that a text reads as, from `SourceId::from_url` where the text is new.
+    /// The source that a text reads as, from `SourceId::from_url` if the text is new.
     pub(crate) fn read(&mut self, alloc: Global, text: &str) -> Result<SourceId>
         ensures { ReadsUrls (λ source. source) result (source_of text.now) }
     {
@@ -58,7 +57,7 @@ fn no_sources(alloc: Global) -> Sources
     BTreeMap::new(alloc)
 }
 
-// The source that the map has for a text.
+// The source that the map has for a text, if it has one.
 fn known_source(sources: &Sources, text: &str) -> std::result::Result<Option<SourceId>, AllocError>
     ensures { AreRead sources.now → IfOk result
         (λ found. IfSome found (λ source. source_of text.now ≡ Some source)) }

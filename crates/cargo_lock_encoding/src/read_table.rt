@@ -1,14 +1,14 @@
 //! The values of a table.
 //!
-//! The values are read in the order in which the keys are named here, and the first fault is
-//! answered. A fault of `semver` is a `Parse` here, so that a table is refused with `Parse` alone.
+//! The values are read in the order in which the keys are named here, and the first error is
+//! returned. An error of `semver` is `Parse` here, so a table is refused only with `Parse`.
 
 ghost use Rattle.std.specs.Prelude.{◌≡◌, ◌⊎◌, ◌++◌, IsOkUnless, OnOk, codes, option_map};
 ghost use Rattle.std.specs.FinMap.{insert};
 ghost use Rattle.toml.specs.Data.{get_member};
 ghost use Rattle.toml.specs.View.{items_view, table_view, view};
 ghost use Rattle.cargo_lock_parts.specs.Checksum.{digest_of};
-ghost use Rattle.cargo_lock_parts.specs.Error.{IsParse, IsParseOrMemory, ReadsUrls};
+ghost use Rattle.cargo_lock_parts.specs.Error.{IsParse, IsParseOrMemory, Reads, ReadsUrls};
 ghost use Rattle.cargo_lock_parts.specs.declared.error.Error.TheVariants.{Memory};
 ghost use Rattle.cargo_lock_references.specs.Reference.{reference_of, mark_plain};
 ghost use Rattle.cargo_lock_references.specs.Records.{texts_of};
@@ -36,9 +36,9 @@ use std::alloc::Global;
 use std::marker::Model;
 use toml::{Table, Value};
 
-/// Reads the values of a table. `Parse` says what is refused: the first value that is missing, of
-/// another type or no text of its kind, in the order of the keys here. A URL of 4 GB or more is
-/// refused too.
+/// Reads the values of a table. `Parse` says which value is refused: the first one that is absent,
+/// of another type, or a text that does not read, in the order of the keys here. `Parse` also comes
+/// for a URL of 4 GB or more. The other error is `Memory`.
 #[tactic(auto, unfolding(crate::specs::TableReading::encoded_at))]
 pub fn encoded_at(alloc: Global, table: &Table) -> Result<EncodableLockfile>
     ensures { ReadsUrls (λ e. e) result (encoded_at (table_view table.now)) }
@@ -83,9 +83,9 @@ fn all_encoded_packages_at(alloc: Global, table: &Table) -> Result<AllEncodedPac
     Ok(AllEncodedPackages { listed, root })
 }
 
-// ---- faults
+// ---- errors
 
-// The fault of a value or of an element of another type. The key is that of the list.
+// The error for a value or an element of another type. For an element, `key` is that of its list.
 fn wrong_type(alloc: Global, key: &str) -> Error
     ensures kind { IsParseOrMemory result }
     ensures text { (result ≡ Memory)
@@ -94,7 +94,7 @@ fn wrong_type(alloc: Global, key: &str) -> Error
     Error::parse(format!(in alloc; "wrong type: `{key}`"))
 }
 
-// The fault of a required key that is missing.
+// The error for a required key that is absent.
 fn missing_key(alloc: Global, key: &str) -> Error
     ensures kind { IsParseOrMemory result }
     ensures text { (result ≡ Memory)
@@ -105,7 +105,6 @@ fn missing_key(alloc: Global, key: &str) -> Error
 
 // ---- values by their types
 
-// The value at a key.
 fn value_at<'a>(table: &'a Table, key: &str) -> Option<&'a Value>
     ensures { option_map (λ v. view v.now) result ≡ get_member key.now (table_view table.now) }
 {
@@ -114,7 +113,7 @@ fn value_at<'a>(table: &'a Table, key: &str) -> Option<&'a Value>
 
 // The text that a value is.
 fn text_in<'a>(alloc: Global, value: &'a Value, key: &str) -> Result<&'a str>
-    ensures { ReadsUrls (λ s. s.now) result (text_in (view value.now)) }
+    ensures { Reads (λ s. s.now) result (text_in (view value.now)) }
 {
     match value.as_str() {
         Some(text) => Ok(text),
@@ -122,9 +121,9 @@ fn text_in<'a>(alloc: Global, value: &'a Value, key: &str) -> Result<&'a str>
     }
 }
 
-// The text at a key that may not be missing.
+// The text at a key that is required.
 fn required_text<'a>(alloc: Global, table: &'a Table, key: &str) -> Result<&'a str>
-    ensures { ReadsUrls
+    ensures { Reads
         (λ s. s.now) result (required_text (get_member key.now (table_view table.now))) }
 {
     match value_at(table, key) {
@@ -133,9 +132,9 @@ fn required_text<'a>(alloc: Global, table: &'a Table, key: &str) -> Result<&'a s
     }
 }
 
-// The whole number at a key, where the key is there.
+// The whole number at a key, if the key is present.
 fn number_at(alloc: Global, table: &Table, key: &str) -> Result<Option<i64>>
-    ensures { ReadsUrls
+    ensures { Reads
         (λ o. o) result (optional_by number_in (get_member key.now (table_view table.now))) }
 {
     let Some(value) = value_at(table, key) else {
@@ -149,7 +148,7 @@ fn number_at(alloc: Global, table: &Table, key: &str) -> Result<Option<i64>>
 
 // The list that a value is.
 fn list_in<'a>(alloc: Global, value: &'a Value, key: &str) -> Result<&'a [Value]>
-    ensures { ReadsUrls (λ s. items_view s.now) result (items_in (view value.now)) }
+    ensures { Reads (λ s. items_view s.now) result (items_in (view value.now)) }
 {
     match value.as_array() {
         Some(list) => Ok(list.as_slice()),
@@ -157,9 +156,9 @@ fn list_in<'a>(alloc: Global, value: &'a Value, key: &str) -> Result<&'a [Value]
     }
 }
 
-// The list at a key, empty where it is missing.
+// The list at a key, empty if the key is absent.
 fn optional_list<'a>(alloc: Global, table: &'a Table, key: &str) -> Result<&'a [Value]>
-    ensures { ReadsUrls
+    ensures { Reads
         (λ s. items_view s.now) result (optional_list (get_member key.now (table_view table.now))) }
 {
     match value_at(table, key) {
@@ -168,9 +167,9 @@ fn optional_list<'a>(alloc: Global, table: &'a Table, key: &str) -> Result<&'a [
     }
 }
 
-// The list at a key that may not be missing.
+// The list at a key that is required.
 fn required_list<'a>(alloc: Global, table: &'a Table, key: &str) -> Result<&'a [Value]>
-    ensures { ReadsUrls
+    ensures { Reads
         (λ s. items_view s.now) result (required_list (get_member key.now (table_view table.now))) }
 {
     match value_at(table, key) {
@@ -181,7 +180,7 @@ fn required_list<'a>(alloc: Global, table: &'a Table, key: &str) -> Result<&'a [
 
 // ---- texts
 
-// The source that a value is the text of.
+// The source that a value reads as.
 fn source_in(alloc: Global, sources: &mut ReadSources, value: &Value, key: &str) -> Result<SourceId>
     ensures { ReadsUrls (λ s. s) result (source_in (view value.now)) }
 {
@@ -190,7 +189,7 @@ fn source_in(alloc: Global, sources: &mut ReadSources, value: &Value, key: &str)
     Ok(source)
 }
 
-// The source at a key that may be missing.
+// The source at a key, if the key is present.
 fn source_at(
     alloc: Global,
     sources: &mut ReadSources,
@@ -206,7 +205,7 @@ fn source_at(
     }
 }
 
-// A source that was read.
+// A source that was read, which is marked plain.
 fn mark_plain(source: Option<SourceId>) -> Option<EncodableSourceId>
     ensures { result ≡ option_map mark_plain source }
 {
@@ -216,18 +215,18 @@ fn mark_plain(source: Option<SourceId>) -> Option<EncodableSourceId>
     }
 }
 
-// The checksum that a value is the text of.
+// The checksum that a value reads as.
 fn checksum_from(alloc: Global, value: &Value, key: &str) -> Result<Checksum>
-    ensures { ReadsUrls digest_of result (checksum_from (view value.now)) }
+    ensures { Reads digest_of result (checksum_from (view value.now)) }
 {
     let text = text_in(alloc, value, key)?;
     let checksum = Checksum::from_str(alloc, text)?;
     Ok(checksum)
 }
 
-// The checksum at a key that may be missing.
+// The checksum at a key, if the key is present.
 fn checksum_at(alloc: Global, table: &Table, key: &str) -> Result<Option<Checksum>>
-    ensures { ReadsUrls (option_map digest_of) result
+    ensures { Reads (option_map digest_of) result
         (optional_by checksum_from (get_member key.now (table_view table.now))) }
 {
     match value_at(table, key) {
@@ -236,7 +235,7 @@ fn checksum_at(alloc: Global, table: &Table, key: &str) -> Result<Option<Checksu
     }
 }
 
-// The reference that a text is.
+// The reference that a text reads as.
 fn reference_of(alloc: Global, text: &str) -> Result<EncodableDependency>
     ensures { ReadsUrls (λ f. f) result (reference_of text.now) }
 {
@@ -248,7 +247,7 @@ fn reference_of(alloc: Global, text: &str) -> Result<EncodableDependency>
     }
 }
 
-// The reference that a value is the text of.
+// The reference that a value reads as.
 fn reference_in(alloc: Global, value: &Value, key: &str) -> Result<EncodableDependency>
     ensures { ReadsUrls (λ f. f) result (reference_in (view value.now)) }
 {
@@ -257,7 +256,7 @@ fn reference_in(alloc: Global, value: &Value, key: &str) -> Result<EncodableDepe
     Ok(reference)
 }
 
-// The reference at a key that may be missing.
+// The reference at a key, if the key is present.
 fn reference_at_key(alloc: Global, table: &Table, key: &str) -> Result<Option<EncodableDependency>>
     ensures { ReadsUrls
         (λ o. o) result (optional_by reference_in (get_member key.now (table_view table.now))) }
@@ -268,7 +267,6 @@ fn reference_at_key(alloc: Global, table: &Table, key: &str) -> Result<Option<En
     }
 }
 
-// The references of a list.
 fn references_of(alloc: Global, list: &[Value], key: &str) -> Result<Vec<EncodableDependency>>
     ensures { ReadsUrls (λ v. v.items) result (read_all reference_in (items_view list.now)) }
 {
@@ -299,7 +297,6 @@ fn identity_at(alloc: Global, sources: &mut ReadSources, table: &Table) -> Resul
     })
 }
 
-// The package of a table.
 #[tactic(auto, unfolding(crate::specs::TableReading::package_at_key))]
 fn package_at_key(
     alloc: Global,
@@ -327,7 +324,6 @@ fn package_at_key(
     })
 }
 
-// The package that a value is.
 fn encoded_package_in(
     alloc: Global,
     sources: &mut ReadSources,
@@ -342,7 +338,6 @@ fn encoded_package_in(
     }
 }
 
-// The packages of a list.
 fn encoded_packages_of(
     alloc: Global,
     sources: &mut ReadSources,
@@ -359,7 +354,6 @@ fn encoded_packages_of(
     Ok(listed)
 }
 
-// The packages of a table.
 #[tactic(auto, unfolding(crate::specs::TableReading::encoded_packages_at))]
 fn encoded_packages_at(
     alloc: Global,
@@ -372,7 +366,7 @@ fn encoded_packages_at(
     encoded_packages_of(alloc, sources, list, "package")
 }
 
-// The package at a key that may be missing.
+// The package at a key, if the key is present.
 fn table_at_key(
     alloc: Global,
     sources: &mut ReadSources,
@@ -415,7 +409,7 @@ fn texts_at(alloc: Global, table: &Table) -> Result<Metadata>
     Ok(metadata)
 }
 
-// The metadata at a key, empty where it is missing.
+// The metadata at a key, empty if the key is absent.
 fn metadata_at(alloc: Global, table: &Table, key: &str) -> Result<Metadata>
     ensures { ReadsUrls
         (λ m. texts_of m.entries) result (metadata_in (get_member key.now (table_view table.now))) }
@@ -431,7 +425,6 @@ fn metadata_at(alloc: Global, table: &Table, key: &str) -> Result<Metadata>
 
 // ---- patches
 
-// The unused patch that a value is.
 fn unused_patch_in(
     alloc: Global,
     sources: &mut ReadSources,
@@ -446,7 +439,6 @@ fn unused_patch_in(
     }
 }
 
-// The unused patches of a list.
 fn patches_of(
     alloc: Global,
     sources: &mut ReadSources,
@@ -473,7 +465,7 @@ fn patch_at(alloc: Global, table: &Table) -> Result<Patch>
     Ok(Patch { unused })
 }
 
-// The unused patches at a key, none where it is missing.
+// The unused patches at a key, none if the key is absent.
 fn patch_at_key(alloc: Global, table: &Table, key: &str) -> Result<Patch>
     ensures { ReadsUrls (λ p. p) result (patch_in (get_member key.now (table_view table.now))) }
 {

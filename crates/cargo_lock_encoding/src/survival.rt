@@ -35,14 +35,14 @@ use cargo_lock_references::{EncodableDependencyRef, ResolveVersion};
 use std::alloc::Global;
 
 impl LockfileRef<'_> {
-    /// Whether the lockfile survives a format: whether its table, written in this format, is read
-    /// back as a lockfile of this format with equal packages, root and patches. It is told from
-    /// the parts, without writing the table: every version and source reads back from its text,
-    /// each reference, as it is written, resolves to the dependency that it stands for,
-    /// checksums are found again, and V1 and V2 can be told apart.
+    /// Whether the lockfile survives a format: whether its table, written in this format, reads
+    /// back as a lockfile of this format with equal packages, root and patches. This is decided
+    /// part by part, without writing the table: every version and source reads back from its text,
+    /// each reference, as it is written, resolves to its dependency, checksums are found again, and
+    /// the table reads back as V1 or as V2 by its metadata.
     ///
     /// A path source is not written, so a package with one survives no format. The one error is
-    /// `Memory`, and a source of 4 GB or more is refused with it too.
+    /// `Memory`, which is also the error for a source of 4 GB or more.
     pub fn survives(&self, alloc: Global, format: ResolveVersion) -> Result<bool>
         ensures ok { IfOk result (λ b. IsTrue b ↔ Survives self.now format) }
         ensures err { IsOkUnless result Memory }
@@ -58,7 +58,7 @@ impl LockfileRef<'_> {
     }
 }
 
-// Whether the written metadata tells the format, where the table has no number.
+// Whether the format follows from the written metadata, if the table has no number.
 fn format_survives(format: ResolveVersion, metadata: &Metadata) -> bool
     ensures { IsTrue result ↔ FormatSurvives format (texts_of metadata.now.entries) }
 {
@@ -122,7 +122,7 @@ fn packages_survive(
     ensures err { IsOkUnless result Memory }
 {
     let packages = Indexed::of(alloc, list)?;
-    // Its keys are looked up in V1 alone. From V2 on only those of no package are left.
+    // Its keys are looked up only in V1. From V2 on only the keys of no package are left.
     let read = ReadMetadata::of(alloc, metadata)?;
     for package in list {
         if !package_survives(alloc, format, &read, &packages, package)? {
@@ -163,7 +163,7 @@ fn own_parts_survive(alloc: Global, format: ResolveVersion, package: &Package) -
     )
 }
 
-// A replacement is in full, and looked up by itself.
+// A replacement is in full, and resolved without a list.
 fn replace_survives(
     alloc: Global,
     format: ResolveVersion,
@@ -181,7 +181,8 @@ fn replace_survives(
 
 // ---- checksums
 
-// Whether the checksum is found again: in V1 in the written metadata. From V2 on every one is.
+// Whether the checksum is found again: in V1 in the written metadata. From V2 on every one is
+// found.
 fn checksum_survives(
     format: ResolveVersion,
     metadata: &ReadMetadata<'_>,
@@ -199,7 +200,8 @@ fn checksum_survives(
     }
 }
 
-// Whether the metadata holds for the package the checksum that it has, or none.
+// Whether the metadata has for the package the checksum that the package has, or none if it has
+// none.
 fn is_told_alike(metadata: &ReadMetadata<'_>, package: &Package) -> Result<bool>
     ensures ok { IfOk result (λ b. IsTrue b ↔ ChecksumSurvives V1 metadata.now «package».now) }
     ensures err { IsOkUnless result Memory }
@@ -218,7 +220,7 @@ fn same_checksum(a: &Option<Checksum>, b: &Option<Checksum>) -> bool
     }
 }
 
-// Every checksum reads back from its text.
+// The contract says that every checksum reads back from its text.
 fn digest_reads_back(checksum: &Option<Checksum>)
     ensures { IfSome (option_map digest_of checksum.now) DigestReadsBack }
 {
@@ -254,7 +256,7 @@ fn references_survive<'a>(
     Ok(true)
 }
 
-// Whether a reference, as it is written, survives where it is looked up: in V1 by itself.
+// Whether a reference, as it is written, survives where it is resolved: in V1 without a list.
 fn written_reference_survives<'a>(
     alloc: Global,
     format: ResolveVersion,
@@ -307,7 +309,7 @@ fn full_reference_survives(
 // ---- lists
 
 // Whether each of some items survives, by `survives`. Stops at the first that does not, and at the
-// first fault.
+// first error.
 fn all_survive<'a, T, F: Fn(&'a T) -> Result<bool>>(items: &'a [T], survives: F) -> Result<bool>
     requires { F.IsAlwaysCallable survives }
     ensures ok { IfOk result (λ b. MatchBool b

@@ -54,7 +54,7 @@ impl LockfileRef<'_> {
         Ok(table)
     }
 
-    // The table of the metadata that are written.
+    // The table of the metadata that is written.
     fn metadata_value(&self, alloc: Global) -> Result<Option<Value>>
         ensures ok { IfOk result (λ v. option_map view v
             ≡ metadata_value (metadata_of self.now.version self.now.metadata self.now.packages)) }
@@ -65,14 +65,14 @@ impl LockfileRef<'_> {
     }
 }
 
-// Whether the sources of patches are escaped where the table has this number: it is that of V4.
+// Whether the sources of patches are escaped if the table has this number: it is that of V4.
 pub(crate) fn is_escaped_number(number: &Option<i64>) -> bool
     ensures { result ≡ is_escaped_number number.now }
 {
     matches!(number, Some(4))
 }
 
-// The table of the values of a lockfile that are there.
+// The table of those values of a lockfile that are present.
 fn lockfile_members(
     alloc: Global,
     metadata: Option<Value>,
@@ -154,7 +154,7 @@ fn package_value<'a>(
     encoded_package_value(alloc, &encoded)
 }
 
-// The table of the root of a lockfile, as it is written in a format, where there is one.
+// The table of the root of a lockfile, as it is written in a format, if there is a root.
 fn root_value(
     alloc: Global,
     format: ResolveVersion,
@@ -207,7 +207,7 @@ fn package_table(
     )
 }
 
-// A table of the values of a package that are there.
+// A table of those values of a package that are present.
 fn package_members(
     alloc: Global,
     checksum: Option<Value>,
@@ -312,7 +312,7 @@ fn version_value(alloc: Global, version: &Version) -> std::result::Result<Value,
 
 // ---- patches
 
-// The table of the unused patches, their sources escaped or plain, unless there is none.
+// The table of the unused patches, their sources escaped or plain, unless there are none.
 fn patch_value(
     alloc: Global,
     escaped: bool,
@@ -325,7 +325,7 @@ fn patch_value(
     unused_value(alloc, unused)
 }
 
-// A table of unused patches, unless there is none.
+// A table of unused patches, unless there are none.
 fn unused_value(alloc: Global, unused: Vec<Value>) -> std::result::Result<Option<Value>, AllocError>
     ensures { IfOk result (λ v. option_map view v ≡ unless_no_patch (map view unused.items)) }
 {
@@ -365,7 +365,7 @@ fn patch_table(
     patch_members(alloc, name, source, version)
 }
 
-// A table of the values of an unused patch that are there.
+// A table of those values of an unused patch that are present.
 fn patch_members(
     alloc: Global,
     name: Value,
@@ -402,7 +402,7 @@ fn metadata_value(
     Ok(Some(Value::from(table)))
 }
 
-// A table of texts. `len` says that the keys ascend, so each text is put after those before it.
+// A table of texts. `len` says that the keys ascend, so each text is added after those before it.
 fn text_table(alloc: Global, metadata: &Metadata) -> std::result::Result<Table, AllocError>
     ensures { IfOk result (λ t. table_view t ≡ text_members metadata.now.entries) }
 {
@@ -430,7 +430,7 @@ fn put_text(
 
 // ---- values
 
-// The values as a list, unless there is none.
+// The values as a list, unless there are none.
 fn unless_empty(values: Vec<Value>) -> Option<Value>
     ensures { option_map view result ≡ unless_empty (map view values.items) }
 {
@@ -441,7 +441,7 @@ fn unless_empty(values: Vec<Value>) -> Option<Value>
     }
 }
 
-// Puts a value, where there is one, at a key.
+// Puts a value at a key, if there is one.
 fn put_present(
     alloc: Global,
     table: &mut Table,
@@ -458,7 +458,6 @@ fn put_present(
     }
 }
 
-// Puts a value at a key.
 fn put(
     alloc: Global,
     table: &mut Table,

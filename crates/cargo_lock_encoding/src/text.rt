@@ -1,8 +1,8 @@
-//! The text of a lockfile, line by line. What is written of a package is `encoded_package_of` of
-//! `encode.rt`.
+//! The text of a lockfile, line by line. `encoded_package_of` of `encode.rt` decides what is
+//! written of a package.
 //!
-//! The empty line between two blocks is written with the second one, so the text does not end in
-//! an empty line that would have to be taken back.
+//! The empty line between two blocks is written with the second one, so no empty line has to be
+//! removed at the end of the text.
 
 ghost use Rattle.std.specs.Prelude.{◌≡◌, ◌++◌, ◌∷◌, [], ◌<◌, IfOk, IsOkUnless, codes, false, map};
 ghost use Rattle.std.specs.Prelude.{option_map, string_bytes};
@@ -42,7 +42,7 @@ use cargo_lock_references::{
 };
 use std::alloc::{AllocError, Global};
 
-// What a function that adds to the text answers: memory may run out.
+// The result of a function that adds to the text: memory may run out.
 type Put = std::result::Result<(), AllocError>;
 
 // ---- strings
@@ -59,7 +59,7 @@ fn hex_digit(n: u32) -> char
     }
 }
 
-// The letter after the backslash, where a character has one.
+// The letter after the backslash, if a character has one.
 fn short_escape(c: char) -> Option<char>
     ensures { result ≡ short_escape c }
 {
@@ -103,7 +103,7 @@ fn put_escaped(out: &mut String, text: &str) -> Put
     Ok(())
 }
 
-// A string between quotation marks.
+// A string in quotation marks.
 fn put_quoted(out: &mut String, text: &str) -> Put
     ensures { Adds result out.old out.new (quote text.now) }
 {
@@ -114,7 +114,7 @@ fn put_quoted(out: &mut String, text: &str) -> Put
 
 // ---- lines
 
-// The line `key = "text"`, of a key that is bare.
+// The line `key = "text"` for a bare key.
 fn put_field(out: &mut String, key: &str, text: &str) -> Put
     ensures { AddsLines result out.old out.new (field key.now text.now ∷ []) }
 {
@@ -146,7 +146,7 @@ fn put_source(alloc: Global, out: &mut String, source: &SourceIdAsUrl<'_>) -> Pu
     put_field(out, "source", text.as_str())
 }
 
-// The source of a package or a patch, where it is written.
+// The source of a package or a patch, if it is written.
 fn put_marked_source(alloc: Global, out: &mut String, source: &Option<SourceIdAsUrl<'_>>) -> Put
     ensures { AddsLines result out.old out.new
         (option_to_list (option_map source_line source.now)) }
@@ -195,7 +195,7 @@ fn put_each_dependency(
     Ok(())
 }
 
-// The list of the dependencies, of which there are some.
+// The list of the dependencies, of which there is at least one.
 fn put_dependencies(
     alloc: Global,
     out: &mut String,
@@ -227,7 +227,7 @@ fn put_replacement(
     }
 }
 
-// The dependencies, or where there are none the replacement.
+// The dependencies, or if there are none, the replacement.
 fn put_references(
     alloc: Global,
     out: &mut String,
@@ -357,7 +357,7 @@ fn put_patches(alloc: Global, out: &mut String, patch: &Patch, escaped: bool) ->
 
 // ---- metadata
 
-// Whether a key of TOML may have the byte and stand without quotation marks.
+// Whether a key of TOML may have the byte without quotation marks.
 fn is_bare_byte(byte: u8) -> bool
     ensures { result ≡ is_bare_byte byte }
 {
@@ -370,7 +370,7 @@ fn has_bare_bytes(key: &str) -> bool
     key.as_bytes().iter().all(|byte| is_bare_byte(*byte))
 }
 
-// Whether a key stands without quotation marks.
+// Whether a key is written without quotation marks.
 fn is_bare_key(key: &str) -> bool
     ensures { result ≡ is_bare_key key.now }
 {
@@ -471,9 +471,9 @@ impl LockfileRef<'_> {
 }
 
 impl EncodableLockfile {
-    /// The text of the lockfile, as Cargo writes it: its packages, the patches that no package uses
-    /// and its metadata, and its number from the third format on. The sources of patches are
-    /// escaped where the number is 4. The root is not written. The one error is `Memory`.
+    /// The text of the lockfile, as Cargo writes it: its packages, the patches that no package
+    /// uses, its metadata, and from V3 on its number. The sources of patches are escaped if the
+    /// number is 4. The root is not written. The one error is `Memory`.
     pub fn to_string(&self, alloc: Global) -> Result<String>
         ensures ok { IfOk result (λ text. string_bytes text ≡ join_lines (encoded_lines self.now)) }
         ensures err { IsOkUnless result Memory }
@@ -506,7 +506,7 @@ fn put_comments(out: &mut String) -> Put
     )
 }
 
-// Adds the number of the format, which stands in the file from the third on.
+// Adds the number of the format, which is in the file from V3 on.
 fn put_format(alloc: Global, out: &mut String, version: &Option<i64>) -> Put
     ensures { AddsLines result out.old out.new (version_lines version.now) }
 {

@@ -1,4 +1,5 @@
-//! The values of a lockfile's table, and the parts of a lockfile, as the crate above passes them.
+//! The values of a lockfile's table, and the parts of a lockfile, in which the crate above passes
+//! them.
 
 ghost use Rattle.std.specs.Prelude.{◌≡◌, IfOk, IsOkUnless, option_map};
 ghost use Rattle.cargo_lock_parts.specs.declared.error.Error.TheVariants.{Memory};
@@ -14,17 +15,16 @@ use cargo_lock_references::{EncodablePackage, Metadata, ResolveVersion};
 use std::alloc::Global;
 use std::marker::Model;
 
-/// A lockfile as its table has it: with its references not looked up yet, and with the number of
-/// the format.
+/// A lockfile as its table has it: its references are not resolved yet, and its format is a number.
 #[derive(Debug, Drop)]
 pub struct EncodableLockfile {
-    /// The number under `version`, where there is one.
+    /// The number under `version`, if there is one.
     pub version: Option<i64>,
 
     /// The packages.
     pub package: Vec<EncodablePackage>,
 
-    /// The root package, which old lockfiles have apart from the others.
+    /// The root package, if the table has it separate from the others, as old lockfiles do.
     pub root: Option<EncodablePackage>,
 
     /// The metadata.
@@ -53,10 +53,10 @@ impl Model for EncodableLockfile {
 }
 
 impl EncodableLockfile {
-    /// The checksum that the metadata holds for a package: the value at the first key, in byte
-    /// order, that reads as the package's name and version. Keys that do not read are passed over,
-    /// and a value that is no checksum is none. The one error is `Memory`, and a key with a URL of
-    /// 4 GB or more is refused with it too.
+    /// The checksum in the metadata for a package: the value at the first key, in byte order, that
+    /// reads as the package's name and version. Keys that do not read are ignored, and a value that
+    /// is not a checksum counts as no checksum. The one error is `Memory`, which is also the error
+    /// for a key with a URL of 4 GB or more.
     pub fn find_checksum(&self, alloc: Global, package: &Package) -> Result<Option<Checksum>>
         ensures ok { IfOk result (λ found. option_map digest_of found
             ≡ checksum_in self.now.metadata «package».now.name «package».now.version) }
@@ -69,7 +69,7 @@ impl EncodableLockfile {
     }
 }
 
-/// The parts of a lockfile, borrowed: its references are looked up.
+/// The parts of a lockfile, borrowed; its references are resolved.
 #[derive(Drop)]
 pub struct LockfileRef<'a> {
     /// The format.

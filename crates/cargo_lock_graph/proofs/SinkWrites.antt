@@ -4,24 +4,9 @@ use Rattle.std.specs.Prelude.{IsErr}
 use Rattle.std.specs.Io.KnownBytes.{Appends, Keeps}
 use Rattle.std.proofs.lemmas.List.{append-nil}
 use Rattle.cargo_lock_parts.specs.declared.error.Error.{Error}
-use Rattle.cargo_lock_parts.specs.declared.error.Error.TheVariants.{Io, Parse, Version, Resolution, Memory}
-use Rattle.cargo_lock_graph.specs.Sinks.{Taken, IsSound, HasFailed, IsWritten, IsRendered, IsRenderedInto, IsRenderedTo}
-
-pub appends_nothing : (o : Option (List ℕ)) → Appends o o []
-appends_nothing None = tt
-appends_nothing (Some xs) = sym (append-nil xs)
-
-pub appends_more : (a b c : Option (List ℕ)) (x y : List ℕ) → Appends a b x → Appends b c y → Appends a c (x ++ y)
-appends_more None b c x y h k = tt
-appends_more (Some xs) None c x y h k = absurd h
-appends_more (Some xs) (Some ys) None x y h k = absurd k
-appends_more (Some xs) (Some ys) (Some zs) x y h k = k ∙ ap (λ (ws : List ℕ). ws ++ y) h ∙ append_assoc xs x y
-
-pub appends_keeps : (a b c : Option (List ℕ)) (x : List ℕ) → Appends a b x → Keeps b c → Appends a c x
-appends_keeps None b c x h k = tt
-appends_keeps (Some xs) None c x h k = absurd h
-appends_keeps (Some xs) (Some ys) None x h k = absurd k
-appends_keeps (Some xs) (Some ys) (Some zs) x h k = k ∙ h
+use Rattle.cargo_lock_parts.specs.declared.error.Error.TheVariants.{Memory}
+use Rattle.cargo_lock_parts.proofs.Appended.{appends_more}
+use Rattle.cargo_lock_graph.specs.Sinks.{Taken, IsSound, HasFailed, IsWritten, IsRendered}
 
 pub sound_more : (a b c : Taken) → IsSound a b → IsSound b c → IsSound a c
 sound_more a b c p q = (q.0 ∙ p.0, q.1 ∙ p.1)
@@ -64,30 +49,3 @@ keeps_self (Some xs) = refl
 
 pub rendered_memory : {T : Type 0} (r : Result T Error) (o : Taken) (text : List ℕ) → r ≡ Err Memory → IsRendered o o text r
 rendered_memory {T} r o text is = subst (λ (x : Result T Error). IsRendered o o text x) (sym is) (keeps_self o.bytes, (refl, refl))
-
--- what is said of a sink
-pub rendered_into : {T : Type 0} (r : Result T Error) (a b : Taken) (text : List ℕ) → IsRendered a b text r → IsRenderedInto a.bytes b.bytes a.failures b.failures text r
-rendered_into (Ok x) a b text h = (h.0, h.1.0)
-rendered_into (Err (Io kind)) a b text h = (h.0, h.1.0)
-rendered_into (Err Memory) a b text h = (h.0, h.1.0)
-rendered_into (Err (Parse said)) a b text h = h
-rendered_into (Err (Version fault)) a b text h = h
-rendered_into (Err (Resolution said)) a b text h = h
-
--- what is said of a writer
-pub rendered_to : {T : Type 0} (r : Result T Error) (a b : Taken) (text : List ℕ) → IsRendered a b text r → IsRenderedTo a.bytes b.bytes text r
-rendered_to (Ok x) a b text h = h.0
-rendered_to (Err (Io kind)) a b text h = h.0
-rendered_to (Err Memory) a b text h = h.0
-rendered_to (Err (Parse said)) a b text h = h
-rendered_to (Err (Version fault)) a b text h = h
-rendered_to (Err (Resolution said)) a b text h = h
-
--- it is of the same borrow in each case
-pub same_borrow : {T : Type 0} (r : Result T Error) (a b : Taken) (text : List ℕ) → IsRendered a b text r → b.borrow ≡ a.borrow
-same_borrow (Ok x) a b text h = h.1.1
-same_borrow (Err (Io kind)) a b text h = h.1.1
-same_borrow (Err Memory) a b text h = h.1.1
-same_borrow (Err (Parse said)) a b text h = absurd h
-same_borrow (Err (Version fault)) a b text h = absurd h
-same_borrow (Err (Resolution said)) a b text h = absurd h

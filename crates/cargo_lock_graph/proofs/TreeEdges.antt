@@ -1,10 +1,14 @@
 -- How the nodes and the edges of a lockfile's packages are built up, package by package.
 use Rattle.std.proofs.Common.{◌≡◌, ◌<◌, ◌+◌, ℕ, cond, List, [], ◌∷◌, ◌++◌, length, get_or, map, take, drop, slice_get, Some, IfSome, refl, sym, ap, subst, ◌∙◌, append_assoc, append-nil}
-use Rattle.std.specs.BTreeMap.{BTreeMap, get, is_at}
+use Rattle.std.specs.BTreeMap.{BTreeMap, get, insert_entry, is_at, keys}
+use Rattle.std.specs.Map.{keys_of}
+use Rattle.std.specs.Ordering.{match_ordering}
+use Rattle.std.specs.declared.cmp.Ordering.{Ordering}
+use Rattle.std.specs.declared.cmp.Ordering.TheVariants.{Less, Equal, Greater}
 use Rattle.std.specs.List.{All, AllZip}
 use Rattle.std.proofs.lemmas.List.{drop_more, map-append, take_more, take-append-drop}
 use Rattle.std.proofs.lemmas.List.Concat.{flat_map-append}
-use Rattle.std.proofs.lemmas.List.Elements.{All-append, All-cons, All-nil}
+use Rattle.std.proofs.lemmas.List.Elements.{All-append, All-cons, All-head, All-nil, All-tail}
 use Rattle.std.proofs.lemmas.Option.{slice_get_read, slice_get_within}
 use Rattle.cargo_lock_parts.specs.declared.error.Error.{Error}
 use Rattle.cargo_lock_parts.specs.declared.error.Error.TheVariants.{Io, Parse, Version, Resolution, Memory}
@@ -13,7 +17,7 @@ use Rattle.cargo_lock_parts.specs.IdentityLaws.{is_same_identity-Decides}
 use Rattle.cargo_lock_parts.specs.IdentityOrder.{identity_cmp}
 use Rattle.cargo_lock_graph.specs.Chains.{AreBetween}
 use Rattle.cargo_lock_graph.specs.Edges.{Edge}
-use Rattle.cargo_lock_graph.specs.Targets.{AreEdgesOf, HasIdentity, HasTarget, HoldsOf, IsEdgeOf, IsFirstLost, IsLastBelow, IsLastWith, IsLost, IsLostFault, IsTarget, IsUnresolved, Link, links, links_of, links_to}
+use Rattle.cargo_lock_graph.specs.Targets.{AreEdgesOf, HasIdentity, HasTarget, HoldsOf, IsEdgeOf, IsFirstLost, IsLastBelow, IsLastWith, IsLost, IsLostFault, IsOfPackage, IsTarget, IsUnresolved, Link, links, links_of, links_to}
 use Rattle.cargo_lock_graph.proofs.BestCandidates.{last-step}
 
 -- ---- nodes
@@ -27,6 +31,26 @@ nodes-step packages place nodes grown p low is grows so_far i =
     subst (λ o. IsLastBelow (HoldsOf (HasIdentity i) packages) (place + 1) o) (sym (grows i))
     (last-step (HasIdentity i) packages place p (is_at (identity_cmp (identity_of p)) i) (get identity_cmp nodes i)
     (slice_get_read packages (length packages) place p refl low is) (is_same_identity-Decides (identity_of p) i) (so_far i))
+
+keys-inserted : (P : Identity → Type 0) (es : List (Identity × ℕ)) (i : Identity) (node : ℕ) → All P (keys_of es) → P i → All P (keys_of (insert_entry identity_cmp es i node))
+keys-inserted P [] i node h p = All-cons P i [] p h
+keys-inserted P (e ∷ es) i node h p =
+    by (identity_cmp i e.0) (All-cons P e.0 (keys_of (insert_entry identity_cmp es i node)) (All-head P e.0 (keys_of es) h) (keys-inserted P es i node (All-tail P e.0 (keys_of es) h) p))
+  where
+    by : (o : Ordering) → All P (keys_of (e ∷ insert_entry identity_cmp es i node)) → All P (keys_of (match_ordering o ((i, node) ∷ e ∷ es) ((e.0, node) ∷ es) (e ∷ insert_entry identity_cmp es i node)))
+    by Less later = All-cons P i (keys_of (e ∷ es)) p h
+    by Equal later = h
+    by Greater later = later
+
+-- a new key is that of the package at the place
+pub keys-step : (packages : List PackageData) (place node : ℕ) (nodes grown : BTreeMap Identity ℕ) (p : PackageData)
+    → place < length packages → p ≡ get_or packages place p
+    → grown.entries ≡ insert_entry identity_cmp nodes.entries (identity_of p) node
+    → All (IsOfPackage packages) (keys nodes) → All (IsOfPackage packages) (keys grown)
+keys-step packages place node nodes grown p low is grows so_far =
+    subst (λ (es : List (Identity × ℕ)). All (IsOfPackage packages) (keys_of es)) (sym grows)
+    (keys-inserted (IsOfPackage packages) nodes.entries (identity_of p) node so_far
+    (place, (p, slice_get_read packages (length packages) place p refl low is, refl)))
 
 -- the node of a package of the list
 pub node-here : (packages candidates : List PackageData) (k source : ℕ) (p : PackageData)

@@ -87,48 +87,42 @@ unmarked_count-none (suc n) = omega (arith, unmarked_count-none n)
 abbrev Known : ℕ → Option ℕ → Type 0
 Known edges f = IfSome f (λ edge. edge < edges)
 
-pub held_start : (nodes edges capacity : ℕ) (marks : List Bool) (fs : List (Option ℕ)) → marks ≡ replicate nodes false → fs ≡ [] → nodes ≤ capacity → IsHeld nodes edges marks fs capacity 0
+pub held_start : (nodes edges capacity : ℕ) (marks : List Bool) (fs : List (Option ℕ)) → marks ≡ replicate nodes false → fs ≡ [] → nodes ≤ capacity → IsHeld nodes edges marks fs capacity
 held_start nodes edges capacity marks fs none empty le = record {
   long = ap length none ∙ length-replicate nodes false;
   known = subst (All (Known edges)) (sym empty) (λ k d out. absurd (omega arith));
   room = omega (arith, ap length empty, ap unmarked_count none, unmarked_count-none nodes);
   reserved = le;
-  at_most = omega (arith, ap length empty);
-  bound = omega arith;
 }
 
-pub held_pop : (nodes edges : ℕ) (marks : List Bool) (old fs : List (Option ℕ)) (f : Option ℕ) (capacity most : ℕ) → old ≡ fs ++ f ∷ [] → IsHeld nodes edges marks old capacity most → IsHeld nodes edges marks fs capacity most × Known edges f
-held_pop nodes edges marks old fs f capacity most was h =
+pub held_pop : (nodes edges : ℕ) (marks : List Bool) (old fs : List (Option ℕ)) (f : Option ℕ) (capacity : ℕ) → old ≡ fs ++ f ∷ [] → IsHeld nodes edges marks old capacity → IsHeld nodes edges marks fs capacity × Known edges f
+held_pop nodes edges marks old fs f capacity was h =
     let parts = All-pop (Known edges) old fs (Some f) was h.known in
-    (record { long = h.long; known = parts.0; room = omega (arith, h.room, ap length was, length_push fs f); reserved = h.reserved; at_most = omega (arith, h.at_most, ap length was, length_push fs f); bound = h.bound }, parts.1)
+    (record { long = h.long; known = parts.0; room = omega (arith, h.room, ap length was, length_push fs f); reserved = h.reserved }, parts.1)
 
 -- another frame in place of the last one
-pub held_on : (nodes edges : ℕ) (marks : List Bool) (fs mid : List (Option ℕ)) (f f' : Option ℕ) (capacity capacity' most : ℕ) → mid ≡ fs ++ f' ∷ [] → capacity ≤ capacity' → IsHeld nodes edges marks (fs ++ f ∷ []) capacity most → Known edges f' → IsHeld nodes edges marks mid capacity' most
-held_on nodes edges marks fs mid f f' capacity capacity' most is le h known =
-    let popped = (held_pop nodes edges marks (fs ++ f ∷ []) fs f capacity most refl h).0 in
+pub held_on : (nodes edges : ℕ) (marks : List Bool) (fs mid : List (Option ℕ)) (f f' : Option ℕ) (capacity capacity' : ℕ) → mid ≡ fs ++ f' ∷ [] → capacity ≤ capacity' → IsHeld nodes edges marks (fs ++ f ∷ []) capacity → Known edges f' → IsHeld nodes edges marks mid capacity'
+held_on nodes edges marks fs mid f f' capacity capacity' is le h known =
+    let popped = (held_pop nodes edges marks (fs ++ f ∷ []) fs f capacity refl h).0 in
     record {
       long = h.long;
       known = subst (All (Known edges)) (sym is) (All-push (Known edges) fs f' popped.known known);
       room = omega (arith, h.room, length_push fs f, length_push fs f', ap length is);
       reserved = omega (arith, h.reserved);
-      at_most = omega (arith, h.at_most, length_push fs f, length_push fs f', ap length is);
-      bound = h.bound;
     }
 
 -- one more frame, and a mark for its node
-pub held_new : (nodes edges : ℕ) (marks : List Bool) (fs new : List (Option ℕ)) (g : Option ℕ) (m capacity capacity' most most' : ℕ) → new ≡ fs ++ g ∷ [] → capacity ≤ capacity' → IsHeld nodes edges marks fs capacity most → get_or marks m true ≡ false → Known edges g
-    → length new ≤ most' → most' ≤ nodes → IsHeld nodes edges (set marks m true) new capacity' most'
-held_new nodes edges marks fs new g m capacity capacity' most most' is le h t known held bound = record {
+pub held_new : (nodes edges : ℕ) (marks : List Bool) (fs new : List (Option ℕ)) (g : Option ℕ) (m capacity capacity' : ℕ) → new ≡ fs ++ g ∷ [] → capacity ≤ capacity' → IsHeld nodes edges marks fs capacity → get_or marks m true ≡ false → Known edges g
+    → IsHeld nodes edges (set marks m true) new capacity'
+held_new nodes edges marks fs new g m capacity capacity' is le h t known = record {
   long = length-set marks m true ∙ h.long;
   known = subst (All (Known edges)) (sym is) (All-push (Known edges) fs g h.known known);
   room = omega (arith, h.room, ap length is, length_push fs g, unmarked_count-set marks m t);
   reserved = omega (arith, h.reserved);
-  at_most = held;
-  bound = bound;
 }
 
-pub room_new : (nodes edges : ℕ) (marks : List Bool) (fs : List (Option ℕ)) (m capacity most : ℕ) → IsHeld nodes edges marks fs capacity most → get_or marks m true ≡ false → suc (length fs) ≤ nodes
-room_new nodes edges marks fs m capacity most h t = omega (arith, h.room, unmarked_count-set marks m t)
+pub room_new : (nodes edges : ℕ) (marks : List Bool) (fs : List (Option ℕ)) (m capacity : ℕ) → IsHeld nodes edges marks fs capacity → get_or marks m true ≡ false → suc (length fs) ≤ nodes
+room_new nodes edges marks fs m capacity h t = omega (arith, h.room, unmarked_count-set marks m t)
 
 pub read_mark : (marks : List Bool) (m : ℕ) (x b : Bool) → m < length marks → x ≡ get_or marks m x → x ≡ b → get_or marks m true ≡ b
 read_mark marks m x b lt h t = sym (get_or_read marks m x lt h true) ∙ t

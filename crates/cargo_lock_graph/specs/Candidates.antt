@@ -1,5 +1,5 @@
 -- How the package of a dependency is found: as the last one with its identity, or else among the
--- packages of its name and version, from the last to the first.
+-- packages with its name and version, from the last to the first.
 use Rattle.std.specs.Prelude.{◌≡◌, ℕ, ◌<◌, ◌≤◌, nat_lt, cond, List, Option, Some, None, length}
 use Rattle.std.specs.Prelude.{slice_get}
 use Rattle.std.specs.BTreeMap.{BTreeMap, get}
@@ -20,7 +20,7 @@ AreLastPlaces packages bound places = (i : Identity)
     (get partial_identity_cmp places (identity_as_key i))
 
 -- For the packages below a bound, `last` has for each name and version the last place of those with
--- both, and `earlier` has for each place the last place before it of those with the same ones.
+-- both, and `earlier` has for each place the last earlier place with the same name and version.
 pub record AreVersions (packages : List PackageData) (bound : ℕ) (last : BTreeMap PartialIdentity ℕ)
     (earlier : List (Option ℕ)) : Type 0 where
   pub count : length earlier ≡ bound
@@ -31,7 +31,8 @@ pub record AreVersions (packages : List PackageData) (bound : ℕ) (last : BTree
       → slice_get earlier k ≡ Some place
       → IsLastBelow (HoldsOf (HasNameAndVersion (identity_of p)) packages) k place
 
--- the best of the places from a bound on: none of them has a lesser rank, and no later one the same
+-- the best of the places from a bound on: none of them has a lesser rank, and no later one has the
+-- same
 abbrev pub BestFrom : List PackageData → Identity → ℕ → Option Best → Type 0
 BestFrom packages d bound None = (k rank : ℕ) → bound ≤ k → ¬ MatchesAt packages d k rank
 BestFrom packages d bound (Some best) = (bound ≤ best.place)
@@ -39,12 +40,13 @@ BestFrom packages d bound (Some best) = (bound ≤ best.place)
     × ((k rank : ℕ) → bound ≤ k → MatchesAt packages d k rank → (best.rank ≤ rank)
     × (best.place < k → best.rank < rank))
 
--- the better of the best so far and an earlier place
+-- the better one: the best so far, or an earlier place
 abbrev pub better_one : Best → ℕ → ℕ → Option Best
 better_one best rank place = cond (nat_lt rank best.rank)
     (Some record { rank = rank; place = place }) (Some best)
 
--- the best so far or the candidate with this rank, if it has one, where that is less
+-- the candidate with this rank, if it has one and nothing so far is as good, or else the best so
+-- far
 abbrev pub better_candidate : Option Best → Option ℕ → ℕ → Option Best
 better_candidate best None place = best
 better_candidate None (Some rank) place = Some record { rank = rank; place = place }

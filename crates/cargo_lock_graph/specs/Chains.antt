@@ -1,11 +1,11 @@
--- How a graph keeps the edges at each node: as a chain, from the newest to the next older one.
+-- How a graph stores the edges at each node: as a chain, from the newest to the next older one.
 use Rattle.std.specs.Prelude.{◌≡◌, ℕ, ◌<◌, List, Option, Some, length, take, slice_get}
 use Rattle.std.specs.List.{All}
 use Rattle.cargo_lock_graph.specs.declared.graph.EdgeDirection.{EdgeDirection}
 use Rattle.cargo_lock_graph.specs.Edges.{Edge, near_end, edges_at, edges_from}
 
--- Chains of the edges at each of so many nodes. `newest` has for each node the place of the newest
--- edge there, and `older` has for each edge the place of the next older edge at the same node. From
+-- Chains of the edges at each of `count` nodes. `newest` has for each node the place of its newest
+-- edge, and `older` has for each edge the place of the next older edge at the same node. From
 -- either of them on, the chain is the list of the edges there, newest first.
 pub record AreChains (direction : EdgeDirection) (count : ℕ) (edges : List Edge)
     (newest older : List (Option ℕ)) : Type 0 where
@@ -16,7 +16,7 @@ pub record AreChains (direction : EdgeDirection) (count : ℕ) (edges : List Edg
   pub from_older : (k : ℕ) (e : Edge) (place : Option ℕ) → slice_get edges k ≡ Some e
       → slice_get older k ≡ Some place
       → edges_from direction edges place ≡ edges_at direction (take k edges) (near_end direction e)
-  -- what is named is there, and what is older comes earlier
+  -- each place in the chains is that of an edge, and an older edge has a lesser place
   pub within : (node place : ℕ) → slice_get newest node ≡ Some (Some place) → place < length edges
   pub earlier : (k place : ℕ) → slice_get older k ≡ Some (Some place) → place < k
 

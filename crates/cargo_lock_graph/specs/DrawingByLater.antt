@@ -1,17 +1,17 @@
--- The text of a drawing, the prefix of each line told by the entries that come later. A lemma says
--- that this and `drawn` are one text.
+-- The text of a drawing, with the prefix of each line computed from the later entries. A lemma says
+-- that this text is the same as `drawn`.
 use Rattle.std.specs.Prelude.{ℕ, zero, suc, Bool, true, false, List, [], ◌∷◌, ◌++◌}
 use Rattle.cargo_lock_parts.specs.Ascii.{newline}
 use Rattle.cargo_lock_graph.specs.declared.drawing.entry.Entry.{Entry}
 use Rattle.cargo_lock_graph.specs.Drawing.{children}
 use Rattle.cargo_lock_graph.specs.DrawingText.{SymbolTexts, level_text, branch_text}
 
--- there is a number
+-- the list is not empty
 abbrev pub is_any : List ℕ → Bool
 is_any [] = false
 is_any (n ∷ ns) = true
 
--- an entry one deeper than this depth follows before one that is no deeper
+-- an entry at one level below this depth follows before one that is no deeper
 abbrev pub goes_on : ℕ → List Entry → Bool
 goes_on depth later = is_any (children depth later)
 

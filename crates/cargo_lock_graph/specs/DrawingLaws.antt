@@ -16,7 +16,7 @@ use Rattle.cargo_lock_graph.specs.DrawingLines.{LabelsAreDistinct, AreLines, Has
 use Rattle.cargo_lock_graph.specs.DrawingLines.{ended_lines}
 use Rattle.cargo_lock_graph.specs.Labels.{label_at}
 
--- the drawing in words is the drawing by recursion
+-- the definition of a drawing by place is the same as the one by recursion
 abbrev pub DrawingsAreOneForm : Type 0
 DrawingsAreOneForm = (far : ℕ → List ℕ) (start : ℕ) (es : List Entry)
     → (IsDrawing far start es ↔ DrawsFrom far start es)
@@ -26,7 +26,7 @@ abbrev pub DrawingExists : Type 0
 DrawingExists = (far : ℕ → List ℕ) (nodes start : ℕ) → AreBelow far nodes → start < nodes
     → (es : List Entry) × IsDrawing far start es
 
--- and no second one
+-- there is no second one
 abbrev pub DrawingIsUnique : Type 0
 DrawingIsUnique = (far : ℕ → List ℕ) (start : ℕ) (es fs : List Entry) → IsDrawing far start es
     → IsDrawing far start fs → es ≡ fs
@@ -37,13 +37,13 @@ GraphHasOneDrawing = (d : EdgeDirection) (graph : GraphData) (start : ℕ)
     → (es : List Entry) × IsDrawing (far_ends d graph.edges) start es
     × ((fs : List Entry) → IsDrawing (far_ends d graph.edges) start fs → fs ≡ es)
 
--- There are one plus as many entries as edges that leave a node that occurs.
+-- A drawing has one entry more than there are edges that leave a node that occurs.
 abbrev pub EntriesAreCounted : Type 0
 EntriesAreCounted = (d : EdgeDirection) (edges : List Edge) (start : ℕ) (es : List Entry)
     → IsDrawing (far_ends d edges) start es
     → length es ≡ suc (length (filter (λ e. is_one_of (near_end d e) (nodes_of es)) edges))
 
--- a node occurs exactly where it is reachable
+-- a node occurs exactly if it is reachable
 abbrev pub OccursWhereReachable : Type 0
 OccursWhereReachable = (far : ℕ → List ℕ) (start n : ℕ) (es : List Entry) → IsDrawing far start es
     → (Occurs n es ↔ IsReachable far start n)
@@ -65,21 +65,21 @@ abbrev pub EdgesMatch : Type 0
 EdgesMatch = (far : ℕ → List ℕ) (start : ℕ) (es : List Entry) → IsDrawing far start es
     → EdgesMatchEntries far start es
 
--- the text as it is defined is the text that looks at later entries
+-- the text as it is defined is the text that is computed from later entries
 abbrev pub TextByLater : Type 0
 TextByLater = (far : ℕ → List ℕ) (start : ℕ) (es : List Entry) (s : SymbolTexts)
     (label : ℕ → List ℕ) → IsDrawing far start es
     → drawing_text s label es ≡ drawn_by_later s label es
 
--- Where no label holds a newline, the text is one line an entry: the first is the first entry's
--- label, and each later one tells its entry's depth and label.
+-- If no label has a newline, the text has one line for each entry: the first is the label of the
+-- first entry, and each later one reads as its entry's depth and label.
 abbrev pub TextTellsDrawing : Type 0
 TextTellsDrawing = (far : ℕ → List ℕ) (start : ℕ) (label : ℕ → List ℕ) (es : List Entry)
     → IsDrawing far start es → AreLines label es
     → TellAll label es (cut [] (drawing_text standard_symbols label es))
 
--- Where no label holds a newline and different nodes have different labels, drawings with one text
--- are one.
+-- If no label has a newline and different nodes have different labels, drawings with the same text
+-- are the same.
 abbrev pub TextIsOfOneDrawing : Type 0
 TextIsOfOneDrawing = (far gar : ℕ → List ℕ) (start other : ℕ) (label : ℕ → List ℕ)
     (es fs : List Entry)
@@ -87,12 +87,12 @@ TextIsOfOneDrawing = (far gar : ℕ → List ℕ) (start other : ℕ) (label : �
     → LabelsAreDistinct label es fs
     → drawing_text standard_symbols label es ≡ drawing_text standard_symbols label fs → es ≡ fs
 
--- The text is its lines, each ended by a newline, and nothing stands after the last.
+-- The text is its lines, each ended by a newline, and nothing is after the last one.
 abbrev pub TextIsEndedLines : Type 0
 TextIsEndedLines = (s : SymbolTexts) (label : ℕ → List ℕ) (es : List Entry)
     → drawing_text s label es ≡ ended_lines (cut [] (drawing_text s label es))
 
--- Where the packages of the entries hold no newline in name, version and exact text, no label does.
+-- If the packages of the entries have no newline in name, version and exact text, no label has one.
 abbrev pub EntriesAreLines : Type 0
 EntriesAreLines = (exact : Bool) (packages : List PackageData) (es : List Entry)
     → All (λ e. (p : PackageData) → slice_get packages e.node ≡ Some p → HasNoNewline p) es

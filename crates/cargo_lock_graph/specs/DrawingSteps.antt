@@ -1,5 +1,5 @@
--- What a drawing is, by recursion on its entries. A law says that `DrawsFrom` and `IsDrawing` are
--- one.
+-- The definition of a drawing by recursion on its entries. A law says that `DrawsFrom` and
+-- `IsDrawing` are the same.
 use Rattle.std.specs.Prelude.{◌≡◌, ℕ, suc, ◌<◌, ◌≤◌, cond, List, [], ◌∷◌}
 use Rattle.cargo_lock_graph.specs.declared.drawing.entry.Entry.{Entry}
 use Rattle.cargo_lock_graph.specs.Drawing.{children, is_one_of}
@@ -9,11 +9,11 @@ abbrev pub AreSteps : ℕ → List Entry → Type 0
 AreSteps before [] = Unit {0}
 AreSteps before (e ∷ later) = (0 < e.depth) × (e.depth ≤ suc before) × AreSteps e.depth later
 
--- what the children of an entry of this node are, after entries of these nodes
+-- the nodes of the children of an entry of this node, after entries of these nodes
 abbrev pub children_after : (ℕ → List ℕ) → List ℕ → ℕ → List ℕ
 children_after far earlier node = cond (is_one_of node earlier) [] (far node)
 
--- each entry has the children that are expected
+-- each entry has the children that `children_after` gives
 abbrev pub HaveChildren : (ℕ → List ℕ) → List ℕ → List Entry → Type 0
 HaveChildren far earlier [] = Unit {0}
 HaveChildren far earlier (e ∷ later) =

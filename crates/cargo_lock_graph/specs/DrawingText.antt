@@ -1,5 +1,7 @@
--- The text of a drawing: one line an entry, its prefix told by the entries before it and their
--- children.
+-- The text of a drawing: one line for each entry, whose prefix is computed from the earlier entries
+-- and their children.
+-- The rule is that of `Presenter` in `src/dependency/tree.rs` of the Rust crate `cargo-lock`
+-- 11.0.1, which has code of `cargo-tree`.
 use Rattle.std.specs.Prelude.{ℕ, zero, suc, ◌-◌, Bool, false, ◌||◌, cond, eqb, leb, List, [], ◌∷◌}
 use Rattle.std.specs.Prelude.{◌++◌, drop, length, get_or}
 use Rattle.cargo_lock_parts.specs.Ascii.{newline, space}
@@ -22,13 +24,13 @@ standard_symbols = record {
   right = 226 ∷ 148 ∷ 128 ∷ [];
 }
 
--- what stands for a level above an entry: `down` where more follows on the level, otherwise a
+-- the part of a prefix for a level above an entry: `down` if more follows on the level, otherwise a
 -- space, and then three spaces
 abbrev pub level_text : SymbolTexts → Bool → List ℕ
 level_text s more = cond more s.down (space ∷ []) ++ (space ∷ space ∷ space ∷ [])
 
--- what stands before an entry's label: `tee` where more follows on its own level, otherwise `ell`,
--- and then `right` twice and a space
+-- the part of a prefix directly before an entry's label: `tee` if more follows on its own level,
+-- otherwise `ell`, and then `right` twice and a space
 abbrev pub branch_text : SymbolTexts → Bool → List ℕ
 branch_text s more = (cond more s.tee s.ell ++ s.right) ++ (s.right ++ space ∷ [])
 
@@ -36,7 +38,7 @@ branch_text s more = (cond more s.tee s.ell ++ s.right) ++ (s.right ++ space ∷
 abbrev pub depth_at : List Entry → ℕ → ℕ
 depth_at es k = (get_or es k no_entry).depth
 
--- the place of the last entry of a depth that stands before a place
+-- the last place, before a place, of an entry of a depth
 abbrev pub last_before : List Entry → ℕ → ℕ → ℕ
 last_before es depth zero = 0
 last_before es depth (suc k) = cond (eqb (depth_at es k) depth) k (last_before es depth k)
@@ -49,7 +51,7 @@ children_at es p = child_places (depth_at es p) (suc p) (drop (suc p) es)
 abbrev pub parent_of : List Entry → ℕ → ℕ
 parent_of es k = last_before es (depth_at es k - 1) k
 
--- one of the numbers is greater
+-- one of the numbers is greater than this one
 abbrev pub is_any_above : ℕ → List ℕ → Bool
 is_any_above k [] = false
 is_any_above k (n ∷ ns) = leb (suc k) n || is_any_above k ns
@@ -58,14 +60,14 @@ is_any_above k (n ∷ ns) = leb (suc k) n || is_any_above k ns
 abbrev pub has_later_sibling : List Entry → ℕ → Bool
 has_later_sibling es k = is_any_above k (children_at es (parent_of es k))
 
--- What stands for the levels 1 to a number above the entry at a place. The ancestor at a level is
--- the last entry before of that depth.
+-- The parts for the levels 1 to a number above the entry at a place. The ancestor at a level is the
+-- last earlier entry of that depth.
 abbrev pub levels_at : SymbolTexts → List Entry → ℕ → ℕ → List ℕ
 levels_at s es k zero = []
 levels_at s es k (suc level) =
     levels_at s es k level ++ level_text s (has_later_sibling es (last_before es (suc level) k))
 
--- the prefix of an entry of this depth, which stands at a place: nothing at depth 0
+-- the prefix of an entry of this depth at a place: nothing at depth 0
 abbrev pub prefix_at : SymbolTexts → List Entry → ℕ → ℕ → List ℕ
 prefix_at s es k zero = []
 prefix_at s es k (suc level) = levels_at s es k level ++ branch_text s (has_later_sibling es k)

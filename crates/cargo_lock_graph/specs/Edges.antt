@@ -1,26 +1,39 @@
 -- The graph of a lockfile's packages, and the edges at a node.
 --
 -- A graph has a node for each package, and an edge for each dependency of a package: it goes from
--- the package's node to the node of the package that the dependency stands for. Edges are looked at
--- in one of two directions: along them, from a package to what it depends on, or against them, from
--- a package to what depends on it.
+-- the package's node to the node of the package to which the dependency resolves. Edges are
+-- followed in one of two directions: forwards, from a package to what it depends on, or backwards,
+-- from a package to what depends on it.
+-- Nodes and edges are those of `Tree::new` in `src/dependency/tree.rs` of the Rust crate
+-- `cargo-lock` 11.0.1; how well a source has to match is this library's own rule.
 use Rattle.std.specs.Prelude.{ℕ, ◌-◌, Bool, not, ◌==◌, List, [], ◌∷◌, Option, Some, None, length}
 use Rattle.std.specs.Prelude.{map, reverse, take, slice_get}
 use Rattle.std.specs.List.{filter, list_any, range_with_len}
+use Rattle.std.specs.Ordering.{nat_cmp, on}
+use Rattle.std.specs.declared.cmp.Ordering.{Ordering}
 use Rattle.cargo_lock_parts.specs.Identity.{Identity, PackageData}
 use Rattle.cargo_lock_graph.specs.declared.graph.EdgeDirection.{EdgeDirection}
 use Rattle.cargo_lock_graph.specs.declared.graph.EdgeDirection.TheVariants.{Outgoing, Incoming}
 
--- an edge: the nodes that it goes from and to, and the dependency that it is there for
+-- an edge: the nodes from and to which it goes, and the dependency that it represents
 pub record Edge : Type 0 where
   pub from : ℕ
   pub to : ℕ
   pub dependency : Identity
 
--- a graph: node k is that of package k, and the edges stand in the order in which they were added
+-- a graph: node k is the node of package k, and the edges are in the order in which they were added
 pub record GraphData : Type 0 where
   pub packages : List PackageData
   pub edges : List Edge
+
+-- the number of a direction in their order
+abbrev pub direction_number : EdgeDirection → ℕ
+direction_number Outgoing = 0
+direction_number Incoming = 1
+
+-- directions compare by their numbers
+abbrev pub direction_cmp : EdgeDirection → EdgeDirection → Ordering
+direction_cmp = on direction_number nat_cmp
 
 -- the node at which an edge starts, in a direction
 abbrev pub near_end : EdgeDirection → Edge → ℕ
@@ -40,11 +53,11 @@ is_at direction node e = near_end direction e == node
 abbrev pub edges_at : EdgeDirection → List Edge → ℕ → List Edge
 edges_at direction edges node = reverse (filter (is_at direction node) edges)
 
--- the nodes to which they lead
+-- the nodes to which these edges lead
 abbrev pub far_ends : EdgeDirection → List Edge → ℕ → List ℕ
 far_ends direction edges node = map (far_end direction) (edges_at direction edges node)
 
--- those of some nodes at which no edge starts
+-- the nodes among these at which no edge starts
 abbrev pub externals_among : EdgeDirection → List Edge → List ℕ → List ℕ
 externals_among direction edges nodes = filter
     (λ node. not (list_any (is_at direction node) edges)) nodes
@@ -71,6 +84,6 @@ edges_from direction edges None = []
 edges_from direction edges (Some place) = edge_and_older direction (take place edges)
     (slice_get edges place)
 
--- the nodes to which they lead
+-- the nodes to which these edges lead
 abbrev pub far_ends_from : EdgeDirection → List Edge → Option ℕ → List ℕ
 far_ends_from direction edges place = map (far_end direction) (edges_from direction edges place)

@@ -7,7 +7,6 @@ pub mod DrawingByLater
 pub mod ReadLine
 pub mod DrawingLines
 pub mod DrawingMade
-pub mod DrawingLevels
 pub mod DrawingLaws
 pub mod Edges
 pub mod Chains

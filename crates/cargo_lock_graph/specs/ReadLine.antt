@@ -1,15 +1,15 @@
--- The depth and the label that a line of a drawing tells, where no tree is known.
+-- The depth and the label that a line of a drawing reads as, without a tree.
 use Rattle.std.specs.Prelude.{ℕ, zero, suc, true, false, cond, eqb, List, [], ◌∷◌, length, Option}
 use Rattle.std.specs.Prelude.{Some, None}
 use Rattle.cargo_lock_graph.specs.DrawingText.{standard_symbols, level_text, branch_text}
 
--- what follows this beginning, if a line has it
+-- what follows this prefix, if a line has it
 abbrev pub strip : List ℕ → List ℕ → Option (List ℕ)
 strip [] line = Some line
 strip (x ∷ front) [] = None
 strip (x ∷ front) (y ∷ line) = cond (eqb x y) (strip front line) None
 
--- the first, or else the second
+-- the first value, or else the second
 abbrev pub or_else : {A : Type 0} → Option A → Option A → Option A
 or_else (Some x) o = Some x
 or_else None o = o
@@ -19,7 +19,7 @@ abbrev pub deeper_by : Option (ℕ × List ℕ) → Option (ℕ × List ℕ)
 deeper_by None = None
 deeper_by (Some x) = Some (suc x.0, x.1)
 
--- what is read of the rest of a line, one deeper
+-- what the rest of a line reads as, one deeper
 abbrev pub then_read : (List ℕ → Option (ℕ × List ℕ)) → Option (List ℕ) → Option (ℕ × List ℕ)
 then_read read None = None
 then_read read (Some rest) = deeper_by (read rest)
@@ -30,7 +30,8 @@ as_label None = None
 as_label (Some rest) = Some (1, rest)
 
 -- After `tee` or `ell`, `right` twice and a space, a label at depth 1. After `down` or a space, and
--- three spaces, what the rest tells, one deeper. Otherwise nothing. At most `fuel` levels are read.
+-- three spaces, what the rest reads as, one deeper. Otherwise nothing. At most `fuel` levels are
+-- read.
 abbrev pub read_levels : ℕ → List ℕ → Option (ℕ × List ℕ)
 read_levels zero line = None
 read_levels (suc fuel) line =

@@ -1,8 +1,8 @@
--- Which package a dependency stands for, and so the edges of a lockfile's graph.
+-- The package to which a dependency resolves, and the edges of a lockfile's graph.
 --
 -- A dependency has the name and the version of its package. Its source may differ from that of the
--- package, as one on a branch from one at a commit: of the packages with its name and version those
--- are meant whose source matches best, and of these the last.
+-- package, as one at a branch differs from one at a commit: the dependency resolves to a package
+-- with its name and version whose source matches best, and among several of these to the last.
 use Rattle.std.specs.Prelude.{◌≡◌, ℕ, ◌<◌, ◌≤◌, List, ◌∷◌, ◌++◌, length, map, slice_get, Option}
 use Rattle.std.specs.Prelude.{Some, None, string_bytes, codes}
 use Rattle.std.specs.List.{All, AllZip, flat_map}
@@ -16,11 +16,11 @@ use Rattle.cargo_lock_graph.specs.Edges.{Edge}
 
 -- ---- places
 
--- P holds of the package at the place
+-- P holds for the package at the place
 abbrev pub HoldsOf : (PackageData → Type 0) → List PackageData → ℕ → Type 0
 HoldsOf P packages place = (p : PackageData) × (slice_get packages place ≡ Some p) × P p
 
--- the last of the places below a bound at which P holds, or none where it holds at none of them
+-- the last of the places below a bound at which P holds, or none if it holds at none of them
 abbrev pub IsLastBelow : (ℕ → Type 0) → ℕ → Option ℕ → Type 0
 IsLastBelow P bound None = (k : ℕ) → k < bound → ¬ P k
 IsLastBelow P bound (Some place) = (place < bound) × P place
@@ -34,9 +34,14 @@ HasIdentity i p = identity_key (identity_of p) ≡ identity_key i
 abbrev pub IsLastWith : List PackageData → Identity → Option ℕ → Type 0
 IsLastWith packages i place = IsLastBelow (HoldsOf (HasIdentity i) packages) (length packages) place
 
+-- the identity is that of a package of the list, in every part: to the letter, not only by its key
+abbrev pub IsOfPackage : List PackageData → Identity → Type 0
+IsOfPackage packages i = (place : ℕ) × HoldsOf (λ p. identity_of p ≡ i) packages place
+
 -- ---- targets
 
--- how well sources match that may be absent: an absent one matches an absent one alone, and best
+-- the rank of two sources that may be absent: an absent one matches only an absent one, with the
+-- best rank
 abbrev pub rank_between : Option Source → Option Source → Option ℕ
 rank_between None None = Some 1
 rank_between None (Some b) = None
@@ -48,19 +53,19 @@ pub record Matches (d : Identity) (rank : ℕ) (p : PackageData) : Type 0 where
   pub named : HasNameAndVersion d p
   pub ranked : rank_between d.source p.source ≡ Some rank
 
--- the package at the place does
+-- the package at the place matches the dependency with this rank
 abbrev pub MatchesAt : List PackageData → Identity → ℕ → ℕ → Type 0
 MatchesAt packages d place rank = HoldsOf (Matches d rank) packages place
 
--- the place of the package that a dependency stands for: none that fits has a lesser rank, and no
--- later one has the same
+-- the place of the package to which a dependency resolves: none that matches has a lesser rank, and
+-- no later one has the same
 pub record IsTarget (packages : List PackageData) (d : Identity) (place : ℕ) : Type 0 where
   pub rank : ℕ
   pub fits : MatchesAt packages d place rank
   pub least : (k other : ℕ) → MatchesAt packages d k other → rank ≤ other
   pub last : (k : ℕ) → MatchesAt packages d k rank → k ≤ place
 
--- no package fits the dependency
+-- no package matches the dependency
 abbrev pub IsLost : List PackageData → Identity → Type 0
 IsLost packages d = (place rank : ℕ) → ¬ MatchesAt packages d place rank
 
@@ -84,7 +89,7 @@ abbrev pub links : List PackageData → List Link
 links packages = flat_map links_of packages
 
 -- the edge of a package's dependency: from the last place with the package's identity to the place
--- of the package that the dependency stands for
+-- of the package to which the dependency resolves
 pub record IsEdgeOf (packages : List PackageData) (link : Link) (e : Edge) : Type 0 where
   pub from : IsLastWith packages (identity_of link.from) (Some e.from)
   pub to : IsTarget packages link.dependency e.to
@@ -94,13 +99,13 @@ pub record IsEdgeOf (packages : List PackageData) (link : Link) (e : Edge) : Typ
 abbrev pub AreEdgesOf : List PackageData → List Edge → Type 0
 AreEdgesOf packages edges = AllZip (IsEdgeOf packages) (links packages) edges
 
--- ---- refusals
+-- ---- errors
 
--- some package fits the link's dependency
+-- some package matches the link's dependency
 abbrev pub HasTarget : List PackageData → Link → Type 0
 HasTarget packages link = (place : ℕ) × IsTarget packages link.dependency place
 
--- the dependency is the first of these that no package fits
+-- the dependency is the first of these that no package matches
 pub record IsFirstLost (packages : List PackageData) (among : List Link)
     (d : Identity) : Type 0 where
   pub front : List Link
@@ -110,18 +115,19 @@ pub record IsFirstLost (packages : List PackageData) (among : List Link)
   pub found : All (HasTarget packages) front
   pub none : IsLost packages d
 
--- the words of the fault of a dependency without a package
+-- the text of the error for a dependency without a package
 abbrev pub lost_text : Identity → List ℕ
 lost_text d = codes "failed to find dependency: " ++ dependency_text d
 
--- memory ran out, or no package fits the dependency, and the text names it
+-- the error is `Memory`, or no package matches the dependency and the text names it
 abbrev pub IsLostFault : List PackageData → Identity → Error → Type 0
 IsLostFault packages d (Resolution message) =
     IsLost packages d × (string_bytes message ≡ lost_text d)
 IsLostFault packages d Memory = Unit {0}
 IsLostFault packages d other = ⊥
 
--- memory ran out, or no package fits some dependency among these, and the text names the first such
+-- the error is `Memory`, or no package matches some dependency among these, and the text names the
+-- first one
 abbrev pub IsUnresolved : List PackageData → List Link → Error → Type 0
 IsUnresolved packages among (Resolution message) = (d : Identity) × IsFirstLost packages among d
     × (string_bytes message ≡ lost_text d)
@@ -135,7 +141,7 @@ abbrev pub EdgesAreOne : Type 0
 EdgesAreOne = (packages : List PackageData) (a b : List Edge) → AreEdgesOf packages a
     → AreEdgesOf packages b → a ≡ b
 
--- packages have none where some dependency has no package
+-- packages have none if some dependency has no package
 abbrev pub LostHaveNoEdges : Type 0
 LostHaveNoEdges = (packages : List PackageData) (d : Identity) (edges : List Edge)
     → IsFirstLost packages (links packages) d → ¬ AreEdgesOf packages edges

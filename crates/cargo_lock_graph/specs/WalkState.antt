@@ -1,22 +1,21 @@
 -- What a walk over a graph has still to draw, and what it holds.
 use Rattle.std.specs.Prelude.{◌≡◌, ℕ, suc, ◌+◌, ◌≤◌, ◌<◌, Bool, List, [], ◌∷◌, ◌++◌, length, IfSome}
-use Rattle.std.specs.Prelude.{All, Option, max, vec_capacity}
+use Rattle.std.specs.Prelude.{All, Option, vec_capacity}
 use Rattle.cargo_lock_graph.specs.declared.graph.EdgeDirection.{EdgeDirection}
 use Rattle.cargo_lock_graph.specs.declared.drawing.entry.Entry.{Entry}
 use Rattle.cargo_lock_graph.specs.declared.drawing.walk.Walk.{Walk}
-use Rattle.cargo_lock_graph.specs.DrawingMade.{AreMarked, entries_below, unmarked_count, rest_of}
-use Rattle.cargo_lock_graph.specs.DrawingLevels.{levels_with}
+use Rattle.cargo_lock_graph.specs.DrawingMade.{entries_below, unmarked_count, rest_of}
 use Rattle.cargo_lock_graph.specs.Edges.{Edge, GraphData, far_ends, far_ends_from}
 
--- What the frames hold, where the first of them stands at this depth: a frame is the place of the
--- next edge to draw, and stands for it and the older ones at its node.
+-- The entries that wait in the frames, if the first of the frames is at this depth: a frame is the
+-- place of the next edge to draw, and represents that edge and the older ones at its node.
 abbrev pub entries_waiting : EdgeDirection → List Edge → ℕ → List (Option ℕ) → List Entry
 entries_waiting direction edges depth [] = []
 entries_waiting direction edges depth (f ∷ fs) =
     entries_waiting direction edges (suc depth) fs
     ++ entries_below (suc depth) (far_ends_from direction edges f)
 
--- what is still to be drawn, where these nodes have marks
+-- what is still to be drawn, if these nodes have marks
 unfoldable pub entries_to_come : EdgeDirection → List Edge → List Bool → List (Option ℕ)
     → List Entry
 entries_to_come direction edges marks frames = rest_of (far_ends direction edges) marks
@@ -26,26 +25,17 @@ entries_to_come direction edges marks frames = rest_of (far_ends direction edges
 abbrev pub to_come : GraphData → Walk → List Entry
 to_come graph walk = entries_to_come walk.direction graph.edges walk.visited.items walk.stack.items
 
--- Marks of so many nodes, frames that name edges, and room for a frame of each node that has no
--- mark. There were never more frames than `most`.
+-- Marks of `nodes` nodes, frames that refer to edges, and capacity for a frame of each node that
+-- has no mark. So there are at most as many frames as nodes.
 pub record IsHeld (nodes edges : ℕ) (marks : List Bool) (frames : List (Option ℕ))
-    (capacity most : ℕ) : Type 0 where
+    (capacity : ℕ) : Type 0 where
   pub long : length marks ≡ nodes
   pub known : All (λ f. IfSome f (λ edge. edge < edges)) frames
   pub room : length frames + unmarked_count marks ≤ nodes
   pub reserved : nodes ≤ capacity
-  pub at_most : length frames ≤ most
-  pub bound : most ≤ nodes
 
 -- the walk goes over this graph
 abbrev pub IsOn : GraphData → Walk → Type 0
 IsOn graph walk =
     IsHeld (length graph.packages) (length graph.edges) walk.visited.items walk.stack.items
-    (vec_capacity walk.stack) walk.most
-
--- The walk drew an entry: its node has a mark, and `most` counts the levels that the entry opens.
--- This is said of the nodes that had a mark before.
-abbrev pub HasDrawn : Walk → Walk → Entry → Type 0
-HasDrawn old new e = (earlier : List ℕ) → AreMarked old.visited.items earlier
-    → AreMarked new.visited.items (e.node ∷ earlier)
-    × (new.most ≡ max old.most (levels_with earlier e))
+    (vec_capacity walk.stack)

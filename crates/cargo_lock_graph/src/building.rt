@@ -1,17 +1,17 @@
-//! The graph of packages: their nodes and their edges. The package that an edge leads to is found
-//! by `Candidates::find` of `targets.rt`.
+//! The graph of packages: their nodes and their edges. `Candidates::find` of `targets.rt` finds the
+//! package to which an edge leads.
 
 ghost use Rattle.std.specs.Prelude.{◌≡◌, ◌++◌, cond, List, Some, IfErr, IfOk, IsOkUnless};
 ghost use Rattle.std.specs.Prelude.{MatchResult, OnOk};
-ghost use Rattle.std.specs.BTreeMap.{get, is_at};
-ghost use Rattle.std.specs.List.{AllZip};
+ghost use Rattle.std.specs.BTreeMap.{get, insert_entry, is_at, keys};
+ghost use Rattle.std.specs.List.{All, AllZip};
 ghost use Rattle.cargo_lock_parts.specs.declared.error.Error.TheVariants.{Memory};
 ghost use Rattle.cargo_lock_parts.specs.Identity.{Identity, identity_of};
 ghost use Rattle.cargo_lock_parts.specs.IdentityOrder.{identity_cmp};
 ghost use Rattle.cargo_lock_graph.specs.Edges.{Edge};
 ghost use Rattle.cargo_lock_graph.specs.Targets.{AreEdgesOf, IsEdgeOf, IsLastWith, IsLost};
-ghost use Rattle.cargo_lock_graph.specs.Targets.{IsLostFault, IsTarget, IsUnresolved, links};
-ghost use Rattle.cargo_lock_graph.specs.Targets.{links_of};
+ghost use Rattle.cargo_lock_graph.specs.Targets.{IsLostFault, IsOfPackage, IsTarget};
+ghost use Rattle.cargo_lock_graph.specs.Targets.{IsUnresolved, links, links_of};
 
 use crate::graph::{Graph, NodeIndex, Nodes, StoredEdge, clone_packages};
 use crate::targets::Candidates;
@@ -21,10 +21,12 @@ use cargo_lock_parts::package::Package;
 use std::alloc::Global;
 use std::collections::BTreeMap;
 
-// The nodes of these packages by their identities. Of packages with one identity it is the last.
+// The nodes of these packages by their identities. If packages have the same identity, it is the
+// node of the last one.
 fn nodes_of(alloc: Global, packages: &Vec<Package>) -> Result<Nodes>
     ensures ok { IfOk result
         (λ nodes. (i : Identity) → IsLastWith packages.now.items i (get identity_cmp nodes i)) }
+    ensures keys { IfOk result (λ nodes. All (IsOfPackage packages.now.items) (keys nodes)) }
     ensures err { IsOkUnless result Memory }
 {
     let mut nodes = BTreeMap::new(alloc);
@@ -39,6 +41,8 @@ fn put_node(nodes: &mut Nodes, package: &Package, node: NodeIndex) -> Result<()>
     ensures ok { OnOk result ((q : Identity) → get identity_cmp nodes.new q
         ≡ cond (is_at (identity_cmp (identity_of «package».now)) q) (Some node)
         (get identity_cmp nodes.old q)) }
+    ensures entries { OnOk result (nodes.new.entries
+        ≡ insert_entry identity_cmp nodes.old.entries (identity_of «package».now) node) }
     ensures err { IsOkUnless result Memory }
 {
     let identity = Dependency::of(package)?;
@@ -46,36 +50,28 @@ fn put_node(nodes: &mut Nodes, package: &Package, node: NodeIndex) -> Result<()>
     Ok(())
 }
 
-/// The graph of these packages, and its nodes by their identities. Node k is that of package k, and
-/// each dependency of each package is an edge, in order. It leads to the package with its name and
-/// version whose source matches best, and to the last of those that match equally well. Of packages
-/// with one identity the last has the edges of all.
+/// The graph of these packages, and its nodes by their identities. Node k is the node of package k,
+/// and each dependency of each package is an edge, in order. An edge leads to the package with the
+/// dependency's name and version whose source matches best, and among equally good matches to the
+/// last one. If packages have the same identity, the last one has the edges of all.
 ///
-/// `Resolution` names the first dependency that no package fits.
+/// `Resolution` names the first dependency that no package matches. The other error is `Memory`.
 pub fn graph_of(alloc: Global, packages: &Vec<Package>) -> Result<(Graph, Nodes)>
     ensures packages { IfOk result (λ made. made.0.packages ≡ packages.now.items) }
     ensures edges { IfOk result (λ made. AreEdgesOf packages.now.items made.0.edges) }
     ensures nodes { IfOk result
         (λ made. (i : Identity) → IsLastWith packages.now.items i (get identity_cmp made.1 i)) }
+    ensures keys { IfOk result (λ made. All (IsOfPackage packages.now.items) (keys made.1)) }
     ensures err { IfErr result (λ e. IsUnresolved packages.now.items (links packages.now.items) e) }
 {
     let nodes = nodes_of(alloc, packages)?;
-    let graph = graph_with(alloc, packages)?;
+    let edges = edges_of(alloc, packages)?;
+    let packages = clone_packages(packages)?;
+    let graph = Graph::new(alloc, packages, edges)?;
     Ok((graph, nodes))
 }
 
-// The graph of these packages.
-fn graph_with(alloc: Global, packages: &Vec<Package>) -> Result<Graph>
-    ensures packages { IfOk result (λ graph. graph.packages ≡ packages.now.items) }
-    ensures edges { IfOk result (λ graph. AreEdgesOf packages.now.items graph.edges) }
-    ensures err { IfErr result (λ e. IsUnresolved packages.now.items (links packages.now.items) e) }
-{
-    let edges = edges_of(alloc, packages)?;
-    let packages = clone_packages(packages)?;
-    Ok(Graph::new(alloc, packages, edges)?)
-}
-
-// The edges of these packages.
+// The edges of the dependencies of these packages, in order.
 fn edges_of(alloc: Global, packages: &[Package]) -> Result<Vec<StoredEdge>>
     ensures { MatchResult result
         (λ edges. AreEdgesOf packages.now edges.items)
@@ -111,7 +107,7 @@ fn put_edges<'a>(
     Ok(())
 }
 
-// The edge of a dependency.
+// The edge from a node to that of the package to which a dependency resolves.
 fn edge_of<'a>(
     alloc: Global,
     candidates: &Candidates<'a>,
@@ -123,7 +119,10 @@ fn edge_of<'a>(
         × (e.dependency ≡ dependency.now))
         (λ e. IsLostFault candidates.now dependency.now e) }
 {
-    let target = target_of(alloc, candidates, dependency)?;
+    let target = match candidates.find(dependency) {
+        Some(place) => NodeIndex::new(place),
+        None => return Err(resolution_fault(alloc, candidates, dependency)),
+    };
     let dependency = dependency.clone()?;
     Ok(StoredEdge {
         source,
@@ -132,23 +131,7 @@ fn edge_of<'a>(
     })
 }
 
-// The node of the package that a dependency stands for.
-fn target_of<'a>(
-    alloc: Global,
-    candidates: &Candidates<'a>,
-    dependency: &'a Dependency,
-) -> Result<NodeIndex>
-    ensures { MatchResult result
-        (λ node. IsTarget candidates.now dependency.now node)
-        (λ e. IsLostFault candidates.now dependency.now e) }
-{
-    match candidates.find(dependency) {
-        Some(place) => Ok(NodeIndex::new(place)),
-        None => Err(resolution_fault(alloc, candidates, dependency)),
-    }
-}
-
-// The fault of a dependency that no package fits.
+// The error for a dependency that no package matches.
 fn resolution_fault(alloc: Global, candidates: &Candidates<'_>, dependency: &Dependency) -> Error
     requires { IsLost candidates.now dependency.now }
     ensures { IsLostFault candidates.now dependency.now result }

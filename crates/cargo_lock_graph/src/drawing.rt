@@ -1,4 +1,4 @@
-//! Drawings of graphs: the text of what is reachable from a node, put onto a sink or a writer.
+//! Drawings of graphs: the text of what is reachable from a node, written to a sink or a writer.
 
 pub mod entry;
 mod label;

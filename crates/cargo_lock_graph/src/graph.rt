@@ -1,8 +1,8 @@
 //! The graph of packages.
 //!
-//! There is a node for each package and an edge for each dependency. The edges at a node are kept
-//! as two chains, of those that leave it and of those that enter it, so that they are found without
-//! a look at the others.
+//! There is a node for each package and an edge for each dependency. The edges at a node are two
+//! chains, one of those that leave it and one of those that enter it, so they are found without a
+//! look at the other edges.
 
 ghost use Rattle.std.specs.Prelude.{◌≡◌, ◌+◌, ◌^◌, ◌<◌, ◌≤◌, [], ◌∷◌, All, IfOk, IfSome};
 ghost use Rattle.std.specs.Prelude.{MatchOption, Some, None, length, option_map, unwrap_or};
@@ -38,7 +38,7 @@ impl Model for NodeIndex {
 }
 
 impl NodeIndex {
-    /// The node at a place in the list of packages.
+    /// The node of the package at this place in the list of packages.
     pub fn new(index: usize) -> NodeIndex
         ensures { result ≡ index }
     {
@@ -53,13 +53,13 @@ impl NodeIndex {
     }
 }
 
-/// Which edges of a node are meant, and so which way they are followed.
+/// The edges of a node that are followed, and so the direction.
 #[derive(Clone, Copy, Debug, PartialEq, Eq, PartialOrd, Ord, Hash)]
 pub enum EdgeDirection {
     /// The edges that leave the node, to what its package depends on.
     Outgoing,
 
-    /// The edges that enter the node, from what depends on its package.
+    /// The edges that enter the node, from the packages that depend on it.
     Incoming,
 }
 
@@ -164,7 +164,6 @@ impl Clone for Chains {
 }
 
 impl Chains {
-    // The chains of these edges.
     fn of(
         alloc: Global,
         count: usize,
@@ -190,7 +189,6 @@ impl Chains {
         })
     }
 
-    // The place of the newest edge at a node, if there is one.
     fn newest_edge(&self, node: NodeIndex) -> Option<usize>
         ensures { result ≡ unwrap_or (slice_get self.now.newest_edge.items node) None }
     {
@@ -212,7 +210,6 @@ impl Chains {
 }
 
 impl Graph {
-    // The graph of these packages and edges.
     pub(crate) fn new(
         alloc: Global,
         packages: Vec<Package>,
@@ -264,14 +261,30 @@ impl Graph {
         }
     }
 
-    /// The package of a node, if there is such a node.
+    /// The package of a node, or `None` if there is no such node.
+    ///
+    /// ```
+    /// if let Some(package) = tree.graph().node_weight(*node) {
+    ///     let name = &package.name;
+    ///     let version = &package.version;
+    ///     write!(names, "{name} {version}\n")?;
+    /// }
+    /// ```
     pub fn node_weight(&self, index: NodeIndex) -> Option<&Package>
         ensures { option_map (λ p. p.now) result ≡ slice_get self.now.packages index }
     {
         self.packages.get(index.0)
     }
 
-    /// The edges that leave or enter a node, newest first. A number that is no node has none.
+    /// The edges that leave or enter a node, newest first. A number that is not a node has none.
+    ///
+    /// ```
+    /// for needed in graph.edges_directed(node, EdgeDirection::Outgoing) {
+    ///     let package = &graph[needed.target()];
+    ///     let name = &package.name;
+    ///     write!(names, "{name}\n")?;
+    /// }
+    /// ```
     pub fn edges_directed(&self, index: NodeIndex, direction: EdgeDirection) -> DirectedEdges<'_>
         ensures edges { result ≡ edges_at direction self.now.edges index }
         ensures within { AreBetween (length self.now.packages) result }
@@ -286,7 +299,7 @@ impl Graph {
     }
 
     /// The nodes that no edge leaves or enters, in ascending order. An edge from a node to itself
-    /// does both.
+    /// both leaves and enters it.
     pub fn externals(&self, direction: EdgeDirection) -> Externals<'_>
         ensures nodes { result ≡ externals direction self.now }
         ensures within { All (λ node. node < length self.now.packages) result }
@@ -298,8 +311,8 @@ impl Graph {
         }
     }
 
-    // The place of the newest edge at a node. There is none where no edge is at the node, and none
-    // at a number that is no node.
+    // The place of the newest edge at a node. There is none if no edge is at the node, or if the
+    // number is not a node.
     pub(crate) fn newest_edge(&self, node: NodeIndex, direction: EdgeDirection) -> Option<usize>
         ensures edges { edges_from direction self.now.edges result
             ≡ edges_at direction self.now.edges node }
@@ -311,7 +324,7 @@ impl Graph {
         }
     }
 
-    // The first node, from this one on, at which no edge is.
+    // The first node, from this one on, at which no edge starts in the direction.
     fn first_external(&self, direction: EdgeDirection, from: usize) -> Option<usize>
         ensures external { MatchOption result
             (externals_from direction self.now from ≡ [])
@@ -341,7 +354,6 @@ impl Graph {
         }
     }
 
-    // The edge at a place.
     fn edge(&self, place: usize) -> EdgeRef<'_>
         requires { place < length self.now.edges }
         ensures { slice_get self.now.edges place ≡ Some result }
@@ -351,7 +363,6 @@ impl Graph {
         }
     }
 
-    // The node to which an edge leads.
     pub(crate) fn far_end(&self, edge: usize, direction: EdgeDirection) -> NodeIndex
         requires { edge < length self.now.edges }
         ensures end { option_map (far_end direction) (slice_get self.now.edges edge) ≡ Some result }
@@ -465,7 +476,7 @@ impl<'g> EdgeRef<'g> {
         edge.target
     }
 
-    /// The dependency for which the edge is there.
+    /// The dependency that the edge represents.
     pub fn weight(&self) -> &'g Dependency
         ensures { result.now ≡ self.now.dependency }
     {

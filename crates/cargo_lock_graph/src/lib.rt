@@ -1,6 +1,6 @@
 //! Graphs of packages and their drawings.
 //!
-//! The crate `cargo_lock` gives what its users need of this under its own paths. Use that one.
+//! The crate `cargo_lock` exports what its users need of this under its own paths. Use that one.
 #![tactic(auto)]
 
 pub mod building;

@@ -1,4 +1,4 @@
-//! Which package a dependency stands for.
+//! The package to which a dependency resolves.
 
 ghost use Rattle.std.specs.Prelude.{◌≡◌, ◌<◌, IfOk, IfSome, MatchOption, Some, length};
 ghost use Rattle.std.specs.Prelude.{option_map, slice_get};
@@ -16,7 +16,7 @@ use std::alloc::{AllocError, Global};
 use std::collections::BTreeMap;
 use std::marker::Model;
 
-// Places of packages by what they are looked up by.
+// Places of packages by the keys by which packages are looked up.
 type Places<'a> = BTreeMap<PartialIdentity<'a>, usize>;
 
 // A list of packages, with the last place of each identity and the places of each name and version.
@@ -61,9 +61,9 @@ impl<'a> Candidates<'a> {
         })
     }
 
-    // The place of the package that a dependency stands for: the last of those that match best. A
-    // package with the dependency's identity matches best, and no other is looked at where there is
-    // one.
+    // The place of the package to which a dependency resolves: the last of those that match best. A
+    // package with the dependency's identity matches best, so if there is one, no other is
+    // compared.
     pub(crate) fn find(&self, dependency: &'a Dependency) -> Option<usize>
         ensures { MatchOption result
             (IsLost self.now dependency.now)
@@ -99,7 +99,7 @@ impl<'a> Candidates<'a> {
     }
 }
 
-// The place of the package that a dependency stands for, by names, versions and sources: the last
+// The place of the package to which a dependency resolves, by names, versions and sources: the last
 // of those that match best.
 fn best_place<'a>(versions: &Versions<'a>, dependency: &'a Dependency) -> Option<usize>
     ensures { MatchOption result
@@ -144,14 +144,13 @@ fn identity<'a>(
     }
 }
 
-// The place of the best.
 fn place_of(best: Option<Best>) -> Option<usize>
     ensures { result ≡ option_map (λ b. b.place) best }
 {
     best.map(|best| best.place)
 }
 
-// The better of the best so far and an earlier package.
+// The better match: the best so far, or an earlier package.
 fn better_candidate(best: Option<Best>, rank: Option<u8>, place: usize) -> Option<Best>
     ensures { result ≡ spec.better_candidate best rank place }
 {

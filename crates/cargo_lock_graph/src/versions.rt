@@ -11,17 +11,14 @@ use std::collections::BTreeMap;
 use std::marker::Model;
 
 /// A list of packages, with the last place of each name and version, and from each place the one
-/// before it. So the packages that a dependency may stand for are gone through without a look at
-/// the others, from the last to the first.
+/// before it. So the packages to which a dependency may resolve are visited from the last to the
+/// first, without a look at the others.
 ///
 /// ```
-/// let versions = Versions::of(rt.alloc(), &lockfile.packages)?;
-/// let mut next = versions.last(&dependency);
-/// while let Some(place) = next {
-///     if let Some(rank) = versions.rank(&dependency, place) {
+/// if let Some(place) = versions.last(dependency) {
+///     if let Some(rank) = versions.rank(dependency, place) {
 ///         println!(rt; "package {place} matches with rank {rank}")?;
 ///     }
-///     next = versions.before(place);
 /// }
 /// ```
 #[derive(Drop)]
@@ -64,8 +61,8 @@ impl<'a> Versions<'a> {
         })
     }
 
-    /// The last place of the packages with the name and the version of a dependency. `None` where
-    /// no package has both.
+    /// The last place of the packages with the name and the version of a dependency. `None` if no
+    /// package has both.
     pub fn last(&self, dependency: &'a Dependency) -> Option<usize>
         ensures { IsLastBelow (HoldsOf (HasNameAndVersion dependency.now) self.now)
             (length self.now) result }
@@ -75,7 +72,8 @@ impl<'a> Versions<'a> {
     }
 
     /// The last place before this one of the packages with the name and the version of the package
-    /// here. `None` where this is the first of them, and where no package is here.
+    /// at this place. `None` if the package is the first of them, or if there is no package at this
+    /// place.
     pub fn before(&self, place: usize) -> Option<usize>
         ensures here { (p : PackageData) → slice_get self.now place ≡ Some p
             → IsLastBelow (HoldsOf (HasNameAndVersion (identity_of p)) self.now) place result }
@@ -84,9 +82,9 @@ impl<'a> Versions<'a> {
         *self.earlier.get(place)?
     }
 
-    /// How well the source of the package at a place matches that of a dependency: the less the
-    /// better. An absent one matches an absent one alone, and best. `None` where they do not match,
-    /// and where no package is at the place.
+    /// How well the source of the package at a place matches that of a dependency: the smaller the
+    /// better. An absent source matches only an absent one, and with the best rank. `None` if they
+    /// do not match, or if no package is at the place.
     pub fn rank(&self, dependency: &Dependency, place: usize) -> Option<u8>
         ensures here { (p : PackageData) → slice_get self.now place ≡ Some p
             → result ≡ rank_between dependency.now.source p.source }
@@ -97,7 +95,7 @@ impl<'a> Versions<'a> {
     }
 }
 
-// How well sources match that may be absent.
+// The rank of two sources that may be absent.
 fn rank_between(a: &Option<SourceId>, b: &Option<SourceId>) -> Option<u8>
     ensures { result ≡ rank_between a.now b.now }
 {

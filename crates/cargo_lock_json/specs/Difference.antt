@@ -13,7 +13,7 @@ use Rattle.cargo_lock_json.specs.Text.{items_of}
 
 -- ---- changes
 
--- what a change is of; an alarm is of a checksum
+-- the kind of a change; an alarm is about a checksum
 abbrev pub kind_text : ChangeData → List ℕ
 kind_text (Alarm old new) = codes "checksum"
 kind_text (Moved old new) = codes "source"
@@ -30,7 +30,7 @@ abbrev pub is_alarm : ChangeData → Bool
 is_alarm (Alarm old new) = true
 is_alarm other = false
 
--- the old package of a change, which one that came has not
+-- the old package of a change, none if a package was added
 abbrev pub old_of : ChangeData → Option PackageData
 old_of (Alarm old new) = Some old
 old_of (Moved old new) = Some old
@@ -41,7 +41,7 @@ old_of (Removed old) = Some old
 old_of (Added new) = None
 old_of (OtherDependencies old new gone came) = Some old
 
--- the new package of a change, which one that went has not
+-- the new package of a change, none if a package was removed
 abbrev pub new_of : ChangeData → Option PackageData
 new_of (Alarm old new) = Some new
 new_of (Moved old new) = Some new
@@ -52,21 +52,21 @@ new_of (Removed old) = None
 new_of (Added new) = Some new
 new_of (OtherDependencies old new gone came) = Some new
 
--- the dependencies that only the old package has, of a change of dependencies
+-- the dependencies that only the old package has, if the change is one of dependencies
 abbrev pub removed_of : ChangeData → List Identity
 removed_of (OtherDependencies old new gone came) = gone
 removed_of other = []
 
--- the dependencies that only the new package has, of a change of dependencies
+-- the dependencies that only the new package has, if the change is one of dependencies
 abbrev pub added_of : ChangeData → List Identity
 added_of (OtherDependencies old new gone came) = came
 added_of other = []
 
--- the array of some dependencies
+-- the array of the dependencies
 abbrev pub dependencies_json : List Identity → Json
 dependencies_json ds = array (items_of (map dependency_json ds))
 
--- a change
+-- the JSON of a change
 unfoldable pub change_json : ChangeData → Json
 change_json c = object
     (member (codes "kind") (string (kind_text c))
@@ -78,7 +78,7 @@ change_json c = object
 
 -- ---- the document
 
--- a number
+-- the JSON of a count
 abbrev pub count_json : ℕ → Json
 count_json n = number (decimal n)
 

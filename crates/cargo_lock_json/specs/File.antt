@@ -1,4 +1,4 @@
--- The lockfiles that a document is about, in JSON.
+-- The lockfiles that a document describes, in JSON.
 use Rattle.std.specs.Prelude.{ℕ, List, codes, decimal}
 use Rattle.json.specs.Json.{Json, number, string, object, member, no_members}
 use Rattle.cargo_lock_references.specs.declared.version.ResolveVersion.{ResolveVersion}

@@ -12,7 +12,7 @@ use Rattle.cargo_lock_json.specs.File.{FileData}
 use Rattle.cargo_lock_json.specs.Package.{dependency_json, package_json, package_or_null}
 use Rattle.cargo_lock_json.specs.Text.{items_of}
 
--- which kind of finding it is
+-- the kind of a finding
 abbrev pub kind_text : FindingData → List ℕ
 kind_text (LostDependency p d) = codes "lost-dependency"
 kind_text (Twice p) = codes "twice"
@@ -32,12 +32,12 @@ kind_text (LossySource version text) = codes "lossy-source"
 kind_text (NotKept version) = codes "not-kept"
 kind_text (OtherLine line) = codes "other-line"
 
--- the number of the line that a finding is of, or null
+-- the number of the line to which a finding refers, or null
 abbrev pub line_json : FindingData → Json
 line_json (OtherLine line) = number (decimal line.number)
 line_json other = null
 
--- the package that a finding is of, the first where it is of two
+-- the package to which a finding refers; of two packages, the first
 abbrev pub package_of : FindingData → Option PackageData
 package_of (LostDependency p d) = Some p
 package_of (Twice p) = Some p
@@ -50,7 +50,7 @@ package_of (Misplaced p next) = Some p
 package_of (MisplacedDependency p d next) = Some p
 package_of other = None
 
--- what a finding names behind its package: another package, or a dependency of it, or null
+-- what a finding names besides its package: another package, or a dependency of it, or null
 abbrev pub other_json : FindingData → Json
 other_json (LostDependency p d) = dependency_json d
 other_json (RepeatedDependency p d) = dependency_json d
@@ -59,7 +59,7 @@ other_json (Misplaced p next) = package_json next
 other_json (MisplacedDependency p d next) = dependency_json d
 other_json other = null
 
--- a finding
+-- the JSON of a finding
 unfoldable pub finding_json : FindingData → Json
 finding_json f = object
     (member (codes "kind") (string (kind_text f))

@@ -6,13 +6,12 @@ use Rattle.cargo_lock_parts.specs.Checksum.{digest_text}
 use Rattle.cargo_lock_parts.specs.Identity.{Identity, PackageData, identity_of}
 use Rattle.cargo_lock_parts.specs.SourceText.{text_of}
 
--- a text, or null where there is none
+-- a text, or null if there is none
 abbrev pub text_or_null : Option (List ℕ) → Json
 text_or_null None = null
 text_or_null (Some text) = string text
 
--- a name, a version, a source as a V4 lockfile has it, and a checksum, the last two as they are or
--- null
+-- a name, a version, a source as a V4 lockfile has it, and a checksum; the last two may be null
 unfoldable pub identity_json : Identity → Option (List ℕ) → Json
 identity_json i checksum = object
     (member (codes "name") (string i.name)
@@ -20,11 +19,11 @@ identity_json i checksum = object
     (member (codes "source") (text_or_null (option_map (text_of true) i.source))
     (member (codes "checksum") (text_or_null (option_map digest_text checksum)) no_members))))
 
--- a package
+-- the JSON of a package
 abbrev pub package_json : PackageData → Json
 package_json p = identity_json (identity_of p) p.checksum
 
--- a package, or null where there is none
+-- a package, or null if there is none
 abbrev pub package_or_null : Option PackageData → Json
 package_or_null None = null
 package_or_null (Some p) = package_json p

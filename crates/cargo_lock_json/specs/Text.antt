@@ -1,4 +1,5 @@
 -- A text of JSON in one line.
+-- JSON is that of RFC 8259.
 use Rattle.std.specs.Prelude.{◌≡◌, ◌≢◌, ◌<◌, ◌^◌, ℕ, List, [], ◌∷◌, ◌++◌, All, decimal}
 use Rattle.std.specs.Prelude.{OnOk, Result, Some}
 use Rattle.json.specs.Json.{Items, Json, item, no_items}
@@ -16,17 +17,17 @@ pub record IsDecimal (s : List ℕ) : Type 0 where
   pub fits : value < 2 ^ 64
   pub is : s ≡ decimal value
 
--- a number is one of 64 bits
+-- a token that is a number is one of 64 bits
 abbrev pub HasDecimal : Token → Type 0
 HasDecimal (number s) = IsDecimal s
 HasDecimal other = Unit {0}
 
--- a writer began with nothing, and each number that it wrote is one of 64 bits
+-- a writer began with no text, and each number that it wrote is one of 64 bits
 pub record IsPlain (w : Written) : Type 0 where
   pub before : w.before ≡ []
   pub tokens : All HasDecimal w.tokens
 
--- after a success, the tokens are behind those that were there
+-- after a success, the tokens are added after those that were there
 pub record Adds {E : Type 0} (r : Result (Unit {0}) E) (old new tokens : List Token) : Type 0 where
   pub is : OnOk r (new ≡ old ++ tokens)
 

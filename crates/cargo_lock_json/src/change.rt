@@ -36,7 +36,7 @@ pub(crate) fn put_change(
     out.end_object()
 }
 
-// What a change is of.
+// The kind of a change, as the document has it.
 fn kind(change: &Change<'_>) -> &'static str
     ensures { result.now ≡ kind_text (change_of change.now) }
 {
@@ -57,14 +57,12 @@ fn kind(change: &Change<'_>) -> &'static str
     }
 }
 
-// Whether a change is an alarm.
 fn is_alarm(change: &Change<'_>) -> bool
     ensures { result ≡ spec.is_alarm (change_of change.now) }
 {
     matches!(change, Change::Alarm(_, _))
 }
 
-// The old package of a change.
 fn old<'a>(change: &Change<'a>) -> Option<&'a Package>
     ensures { option_map (λ p. p.now) result ≡ old_of (change_of change.now) }
 {
@@ -80,7 +78,6 @@ fn old<'a>(change: &Change<'a>) -> Option<&'a Package>
     }
 }
 
-// The new package of a change.
 fn new<'a>(change: &Change<'a>) -> Option<&'a Package>
     ensures { option_map (λ p. p.now) result ≡ new_of (change_of change.now) }
 {
@@ -96,7 +93,7 @@ fn new<'a>(change: &Change<'a>) -> Option<&'a Package>
     }
 }
 
-// Writes the member for the dependencies that only the old package has.
+// Writes the member with the dependencies that only the old package has.
 fn put_removed(out: &mut Text, alloc: Global, change: &Change<'_>) -> Result<(), AllocError>
     ensures { Adds result out.old out.new (key (codes "removed")
         ∷ json_tokens (dependencies_json (removed_of (change_of change.now)))) }
@@ -108,7 +105,7 @@ fn put_removed(out: &mut Text, alloc: Global, change: &Change<'_>) -> Result<(),
     }
 }
 
-// Writes the member for the dependencies that only the new package has.
+// Writes the member with the dependencies that only the new package has.
 fn put_added(out: &mut Text, alloc: Global, change: &Change<'_>) -> Result<(), AllocError>
     ensures { Adds result out.old out.new (key (codes "added")
         ∷ json_tokens (dependencies_json (added_of (change_of change.now)))) }
@@ -120,7 +117,6 @@ fn put_added(out: &mut Text, alloc: Global, change: &Change<'_>) -> Result<(), A
     }
 }
 
-// Writes an empty array.
 fn put_none(out: &mut Text) -> Result<(), AllocError>
     ensures { Adds result out.old out.new (json_tokens (dependencies_json [])) }
 {
@@ -128,7 +124,7 @@ fn put_none(out: &mut Text) -> Result<(), AllocError>
     out.end_array()
 }
 
-// Writes the array of some dependencies.
+// Writes the array of the dependencies.
 fn put_dependencies(
     out: &mut Text,
     alloc: Global,

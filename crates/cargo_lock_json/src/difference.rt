@@ -20,8 +20,14 @@ use std::alloc::{AllocError, Global};
 /// "counts":{"alarm":0,..},"changes":[..]}`. Fails when out of memory.
 ///
 /// ```
-/// let old = File { path: "old.lock", format: ResolveVersion::V3 };
-/// let new = File { path: "Cargo.lock", format: ResolveVersion::V4 };
+/// let old = File {
+///     path: "old.lock",
+///     format: ResolveVersion::V3,
+/// };
+/// let new = File {
+///     path: "Cargo.lock",
+///     format: ResolveVersion::V4,
+/// };
 /// let changes = difference.all_changes(rt.alloc(), false)?;
 /// let text = difference_json(rt.alloc(), &old, &new, changes.as_slice())?;
 /// ```
@@ -40,7 +46,6 @@ pub fn difference_json(
     Ok(out.into_string())
 }
 
-// Writes the document.
 fn put_difference(
     out: &mut Text,
     alloc: Global,
@@ -62,7 +67,7 @@ fn put_difference(
     out.end_object()
 }
 
-// Writes the member for the counts.
+// Writes the member with the counts.
 fn put_counts(out: &mut Text, summary: &Summary) -> Result<(), AllocError>
     ensures { Adds result out.old out.new (key (codes "counts")
         ∷ json_tokens (counts_json summary.now)) }
@@ -81,7 +86,7 @@ fn put_counts(out: &mut Text, summary: &Summary) -> Result<(), AllocError>
     out.end_object()
 }
 
-// Writes the member for the changes.
+// Writes the member with the changes.
 fn put_changes(out: &mut Text, alloc: Global, changes: &[Change<'_>]) -> Result<(), AllocError>
     ensures { Adds result out.old out.new (key (codes "changes") ∷ json_tokens
         (array (items_of (map change_json (map change_of changes.now))))) }

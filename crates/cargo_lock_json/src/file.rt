@@ -1,4 +1,4 @@
-//! The lockfiles that a document is about.
+//! The lockfiles that a document describes.
 
 ghost use Rattle.std.specs.Prelude.{◌∷◌};
 ghost use Rattle.json.specs.Token.{key};
@@ -11,7 +11,7 @@ use cargo_lock_references::ResolveVersion;
 use std::alloc::AllocError;
 use std::marker::Model;
 
-/// A lockfile that a document is about.
+/// A lockfile that a document describes.
 #[derive(Drop)]
 pub struct File<'a> {
     /// The path as it was given, `-` for standard input.

@@ -23,9 +23,12 @@ use std::alloc::{AllocError, Global};
 /// of memory.
 ///
 /// ```
-/// let file = File { path: "Cargo.lock", format: lockfile.version };
+/// let file = File {
+///     path: "Cargo.lock",
+///     format: lockfile.version,
+/// };
 /// let all = findings.all(rt.alloc())?;
-/// let text = findings_json(rt.alloc(), &file, &all)?;
+/// let text = findings_json(rt.alloc(), &file, all.as_slice())?;
 /// ```
 pub fn findings_json(
     alloc: Global,
@@ -40,7 +43,6 @@ pub fn findings_json(
     Ok(out.into_string())
 }
 
-// Writes the document.
 fn put_findings(
     out: &mut Text,
     alloc: Global,
@@ -71,7 +73,6 @@ fn put_array(out: &mut Text, alloc: Global, findings: &[Finding<'_>]) -> Result<
     out.end_array()
 }
 
-// Writes a finding.
 fn put_finding(out: &mut Text, alloc: Global, finding: &Finding<'_>) -> Result<(), AllocError>
     ensures { Adds result out.old out.new (json_tokens (finding_json (finding_of finding.now))) }
 {
@@ -84,7 +85,7 @@ fn put_finding(out: &mut Text, alloc: Global, finding: &Finding<'_>) -> Result<(
     out.end_object()
 }
 
-// Which kind of finding it is.
+// The kind of a finding, as the document has it.
 fn kind(finding: &Finding<'_>) -> &'static str
     ensures { result.now ≡ kind_text (finding_of finding.now) }
 {
@@ -109,7 +110,7 @@ fn kind(finding: &Finding<'_>) -> &'static str
     }
 }
 
-// The package that a finding is of.
+// The package to which a finding refers; of two packages, the first.
 fn package<'a>(finding: &Finding<'a>) -> Option<&'a Package>
     ensures { option_map (λ p. p.now) result ≡ package_of (finding_of finding.now) }
 {
@@ -127,7 +128,7 @@ fn package<'a>(finding: &Finding<'a>) -> Option<&'a Package>
     }
 }
 
-// Writes the member for the number of a line.
+// Writes the member with the number of a line.
 fn put_line(out: &mut Text, finding: &Finding<'_>) -> Result<(), AllocError>
     ensures { Adds result out.old out.new (key (codes "line")
         ∷ json_tokens (line_json (finding_of finding.now))) }
@@ -138,7 +139,7 @@ fn put_line(out: &mut Text, finding: &Finding<'_>) -> Result<(), AllocError>
     }
 }
 
-// Writes the member for what a finding names behind its package.
+// Writes the member with what a finding names besides its package.
 fn put_other(out: &mut Text, alloc: Global, finding: &Finding<'_>) -> Result<(), AllocError>
     ensures { Adds result out.old out.new (key (codes "other")
         ∷ json_tokens (other_json (finding_of finding.now))) }

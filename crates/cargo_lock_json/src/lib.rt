@@ -1,5 +1,5 @@
 //! What the commands print with `--json`: a difference, and what is wrong with a lockfile, each as
-//! one line of JSON whose keys are in a fixed order. Texts are as the lockfile has them, and JSON
+//! one line of JSON whose keys are in a fixed order. Texts are those of the lockfile, and JSON
 //! escapes them.
 //!
 //! `docs/JSON.md` has both documents.

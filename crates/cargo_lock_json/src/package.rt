@@ -34,7 +34,6 @@ pub(crate) fn put_package_or_null(
     }
 }
 
-// Writes a package.
 #[tactic(auto, unfolding(crate::specs::Package::identity_json))]
 pub(crate) fn put_package(
     out: &mut Text,
@@ -48,7 +47,6 @@ pub(crate) fn put_package(
     out.end_object()
 }
 
-// Writes a dependency.
 #[tactic(auto, unfolding(crate::specs::Package::identity_json))]
 pub(crate) fn put_dependency(
     out: &mut Text,
@@ -88,7 +86,7 @@ fn put_identity(
     put_source(out, alloc, source)
 }
 
-// Writes the member for a source.
+// Writes the member with a source.
 fn put_source(out: &mut Text, alloc: Global, source: &Option<SourceId>) -> Result<(), AllocError>
     ensures { Adds result out.old out.new (key (codes "source")
         ∷ json_tokens (text_or_null (option_map (text_of true) source.now))) }
@@ -99,7 +97,7 @@ fn put_source(out: &mut Text, alloc: Global, source: &Option<SourceId>) -> Resul
     }
 }
 
-// Writes the member for a checksum.
+// Writes the member with a checksum.
 fn put_checksum(
     out: &mut Text,
     alloc: Global,

@@ -12,11 +12,11 @@ use std::alloc::{AllocError, Global};
 use std::fmt;
 use std::marker::Model;
 
-// How many bytes a text has room for at first.
+// The initial capacity of a text in bytes.
 const ROOM: usize = 1024;
 
-// A text of JSON. Contracts see its tokens. Each call fails when out of memory, and the text is
-// then no use any more.
+// A text of JSON. Contracts see its tokens. Each call fails when out of memory, and the text can
+// then not be used any more.
 #[derive(Drop)]
 pub(crate) struct Text {
     writer: Writer,

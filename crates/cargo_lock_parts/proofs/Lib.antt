@@ -1,3 +1,4 @@
+pub mod Appended
 pub mod Ascii
 pub mod Computed
 pub mod DefaultRegistry

@@ -1,7 +1,7 @@
 -- The URL of a folder on this machine, by a rule of this crate: the path is cut at `/`, parts that
--- are empty or `.` are dropped, and the others are escaped. What then stands after `file://` is
--- read as any URL. There a part `..` takes back the part before it, if there is one, unless that
--- part is the first and is a letter and `:`: `/a/../b` is `/b`, and `/C:/../b` is `/C:/b`.
+-- are empty or `.` are dropped, and the others are escaped. The text after `file://` is then read
+-- as any URL. There a part `..` removes the part before it, if there is one, unless that part is
+-- the first and is a letter and `:`: `/a/../b` is `/b`, and `/C:/../b` is `/C:/b`.
 use Rattle.std.specs.Prelude.{◌≡◌, ℕ, Bool, true, false, not, ◌&&◌, ◌||◌, ◌==◌, List, [], ◌∷◌, ◌++◌}
 use Rattle.std.specs.Prelude.{length, filter, codes, bytes_eq, Option, Some, None, is_some}
 use Rattle.std.specs.Prelude.{option_map, option_and_then, if◌then◌else◌, Result}
@@ -20,7 +20,7 @@ use Rattle.cargo_lock_parts.specs.SourceReading.{plain_source, url_of}
 abbrev pub is_slash : ℕ → Bool
 is_slash b = b == slash
 
--- the path is one from the root
+-- the path is absolute
 abbrev pub begins_with_slash : List ℕ → Bool
 begins_with_slash [] = false
 begins_with_slash (b ∷ bytes) = is_slash b
@@ -35,11 +35,11 @@ path_parts path = filter is_kept_part (slice_split is_slash path)
 
 -- ---- their text in a URL
 
--- the marks that stand in a part as they are
+-- the marks that are not escaped in a part
 abbrev pub plain_marks : List ℕ
 plain_marks = codes "-._~!$&'()*+,;=:@"
 
--- the byte stands in a part as it is
+-- the byte is not escaped in a part
 abbrev pub is_plain_byte : ℕ → Bool
 is_plain_byte b = is_ascii_alphanumeric b || list_any (λ c. b == c) plain_marks
 
@@ -76,19 +76,19 @@ unfoldable pub source_at : Kind → List ℕ → Option Source
 source_at kind path =
     option_map (plain_source kind None) (option_and_then url_of (file_url_text path))
 
--- what is said of a path that does not begin with `/`
+-- the text of the error for a path that does not begin with `/`
 abbrev pub invalid_path : List ℕ → List ℕ
 invalid_path path = codes "invalid path url `" ++ path ++ codes "`"
 
--- The answer is the source of this kind at the path. `Parse` comes where there is none, and names a
--- path that does not begin with `/`. It also comes of a URL of 4 GB or more, which the URL of a
+-- The result is the source of this kind at the path. `Parse` comes if there is none, and then names
+-- a path that does not begin with `/`. It also comes for a URL of 4 GB or more, which the URL of a
 -- short path never has.
 abbrev pub ReadsFolder : Result Source Error → Kind → List ℕ → Type 0
 ReadsFolder result kind path = ReadsUrls (λ source. source) result (source_at kind path)
     × (IsShort path → Reads (λ source. source) result (source_at kind path))
     × (begins_with_slash path ≡ false → RefusesWith result (invalid_path path))
 
--- each path from the root has a source
+-- each absolute path has a source
 abbrev pub RootedPathsHaveSources : Type 0
 RootedPathsHaveSources = (kind : Kind) (path : List ℕ) → begins_with_slash path ≡ true
     → is_some (source_at kind path) ≡ true

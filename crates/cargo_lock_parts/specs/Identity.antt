@@ -8,8 +8,8 @@ use Rattle.cargo_lock_parts.specs.Source.{Source}
 use Rattle.cargo_lock_parts.specs.SourceKey.{Key, key_of}
 use Rattle.cargo_lock_parts.specs.SourceText.{text_of}
 
--- a name, a version and an optional source: what a dependency is, and what tells a package from
--- others
+-- a name, a version and an optional source: what a dependency is, and what distinguishes a package
+-- from others
 pub record Identity : Type 0 where
   pub name : List ℕ
   pub version : Parts
@@ -34,15 +34,15 @@ pub record HasNameAndVersion (d : Identity) (p : PackageData) : Type 0 where
   pub name : d.name ≡ p.name
   pub version : d.version ≡ p.version
 
--- ---- keys: equality looks at a source by its key, and at all else as it stands
+-- ---- keys: equality compares sources by their keys, and all else unchanged
 
--- what equality of identities looks at: the source by its key, and all else as it is
+-- what equality of identities compares: the source by its key, and all else unchanged
 pub record IdentityKey : Type 0 where
   pub name : List ℕ
   pub version : Parts
   pub source : Option Key
 
--- what equality of packages looks at
+-- what equality of packages compares
 pub record PackageKey : Type 0 where
   pub identity : IdentityKey
   pub checksum : Option (List ℕ)
@@ -69,6 +69,6 @@ abbrev pub source_part : Option Source → List ℕ
 source_part None = []
 source_part (Some source) = codes " (" ++ text_of false source ++ codes ")"
 
--- the text that a dependency is displayed as
+-- the text that `Display` writes of a dependency
 abbrev pub dependency_text : Identity → List ℕ
 dependency_text d = d.name ++ codes " " ++ parts_text d.version ++ source_part d.source

@@ -1,5 +1,7 @@
 -- The order of dependencies and of packages: field by field, sources by their keys, and an absent
 -- value before a present one. What ties is equal.
+-- Versions are in the order of SemVer 2.0.0, section 11, and then by build metadata, as the crate
+-- `semver` orders them.
 use Rattle.std.specs.Prelude.{ℕ, Bool, List, ◌++◌, Option}
 use Rattle.std.specs.Option.{option_cmp}
 use Rattle.std.specs.declared.cmp.Ordering.{Ordering}
@@ -30,7 +32,7 @@ by_name_version_source name version source version_order source_order = then_cmp
     (on version version_order))
     (on source (option_cmp source_order))
 
--- identities compare by name, version and source; an absent source stands before a present one
+-- identities compare by name, version and source; an absent source is before a present one
 abbrev pub identity_cmp : Identity → Identity → Ordering
 identity_cmp = by_name_version_source (λ d. d.name) (λ d. d.version) (λ d. d.source)
     version_cmp source_cmp
@@ -61,7 +63,7 @@ is_same_patch = pointwise is_same_identity
 abbrev pub version_hash : Parts → HashWrites
 version_hash v = fed.u64 v.0 ++ (fed.u64 v.1 ++ (fed.u64 v.2 ++ (fed.str v.3 ++ fed.str v.4)))
 
--- what a hasher is fed of a source that may be absent
+-- what a hasher is fed of a source
 abbrev pub source_hash : Source → HashWrites
 source_hash s = key_hash (key_of s)
 
@@ -69,6 +71,7 @@ source_hash s = key_hash (key_of s)
 abbrev pub identity_hash : Identity → HashWrites
 identity_hash d = fed.str d.name ++ version_hash d.version ++ fed.option source_hash d.source
 
--- the replacement and the checksum follow from the rest in most lockfiles, and are not fed
+-- what a hasher is fed of a package: its identity and its dependencies. The replacement and the
+-- checksum follow from the rest in most lockfiles, and are not hashed.
 abbrev pub package_hash : PackageData → HashWrites
 package_hash p = identity_hash (identity_of p) ++ fed.slice identity_hash p.dependencies

@@ -1,4 +1,4 @@
--- A name and, where they are meant, a version and a source: what packages are looked up by.
+-- A name and, optionally, a version and a source: the keys by which packages are looked up.
 use Rattle.std.specs.Prelude.{◌≡◌, ℕ, Bool, List, Option, Some, None, option_map, refl}
 use Rattle.std.specs.Option.{option_cmp}
 use Rattle.std.specs.declared.cmp.Ordering.{Ordering}
@@ -32,7 +32,7 @@ name_alone name = record { name = name; version = None; source = None }
 abbrev pub name_and_version : List ℕ → Parts → PartialIdentity
 name_and_version name version = record { name = name; version = Some version; source = None }
 
--- they compare by name, version and source; an absent part stands before a present one
+-- they compare by name, version and source; an absent part is before a present one
 abbrev pub partial_identity_cmp : PartialIdentity → PartialIdentity → Ordering
 partial_identity_cmp = by_name_version_source (λ i. i.name) (λ i. i.version) (λ i. i.source)
     (option_cmp version_cmp) source_cmp
@@ -49,13 +49,13 @@ partial_identity_total = by_name_version_source-total (λ (i : PartialIdentity).
 
 -- ---- keys
 
--- what their equality looks at
+-- what equality of partial identities compares
 pub record PartialKey : Type 0 where
   pub name : List ℕ
   pub version : Option Parts
   pub source : Option Key
 
--- what equality looks at
+-- the key of a partial identity
 abbrev pub partial_key : PartialIdentity → PartialKey
 partial_key i = record { name = i.name; version = i.version; source = option_map key_of i.source }
 

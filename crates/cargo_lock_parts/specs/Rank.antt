@@ -11,9 +11,9 @@ use Rattle.cargo_lock_parts.specs.Source.{Kind, Source, Rev, Git, is_git}
 use Rattle.cargo_lock_parts.specs.SourceKey.{kind_number, git_reference_text, key_of}
 use Rattle.cargo_lock_parts.specs.SourceKey.{is_same_source}
 
--- ---- what the conditions look at
+-- ---- what the conditions compare
 
--- the value of `Rev`, where the source is a repository at one
+-- the value of `Rev`, if the source is a repository with one
 abbrev pub revision : Kind → Option (List ℕ)
 revision (Git (Rev text)) = Some text
 revision other = None
@@ -34,7 +34,7 @@ are_different_texts None y = false
 are_different_texts (Some x) None = false
 are_different_texts (Some x) (Some y) = not (bytes_eq x y)
 
--- the same URL text and the same name, or no name in both
+-- the same URL text, and the same name or none in either
 abbrev pub same_url_and_name : Source → Source → Bool
 same_url_and_name a b =
     bytes_eq (serialize a.url) (serialize b.url) && option_eq bytes_eq a.name b.name
@@ -50,16 +50,16 @@ same_kind j k = (kind_number j == kind_number k)
 
 -- ---- the conditions
 
--- equal keys
+-- the keys are equal
 abbrev pub has_rank_1 : Source → Source → Bool
 has_rank_1 a b = is_same_source a b
 
--- repositories with the same URL and name, which both have a commit, and these are equal
+-- repositories with the same URL and name, which both have a commit, and the commits are equal
 abbrev pub has_rank_2 : Source → Source → Bool
 has_rank_2 a b =
     same_url_and_name a b && both_git a b && are_equal_texts (commit_of a) (commit_of b)
 
--- repositories with the same URL, name and reference, of which one at least has no precise text
+-- repositories with the same URL, name and reference, at least one of which has no precise text
 abbrev pub has_rank_3 : Source → Source → Bool
 has_rank_3 a b =
     same_url_and_name a b && both_git a b && same_kind a.kind b.kind
@@ -95,19 +95,19 @@ rank_of a b = least_rank (has_rank_1 a b) (has_rank_2 a b) (has_rank_3 a b) (has
 
 -- ---- the laws of the rank
 
--- it is the same from both sides
+-- the rank is the same in both directions
 abbrev pub RankIsSymmetric : Type 0
 RankIsSymmetric = (a b : Source) → rank_of a b ≡ rank_of b a
 
--- it is 1 exactly where the keys are equal
+-- the rank is 1 exactly if the keys are equal
 abbrev pub RankOneIsEqualKeys : Type 0
 RankOneIsEqualKeys = (a b : Source) → (rank_of a b ≡ Some 1) ↔ (key_of a ≡ key_of b)
 
--- there is none exactly where the condition of rank 4 fails
+-- there is no rank exactly if the condition of rank 4 does not hold
 abbrev pub NoRankIsNoMatch : Type 0
 NoRankIsNoMatch = (a b : Source) → (rank_of a b ≡ None) ↔ (has_rank_4 a b ≡ false)
 
--- so each of the other conditions implies that of rank 4
+-- each of the other conditions implies that of rank 4
 abbrev pub RanksImplyLast : Type 0
 RanksImplyLast = (a b : Source) → (has_rank_1 a b || has_rank_2 a b || has_rank_3 a b) ≡ true
     → has_rank_4 a b ≡ true

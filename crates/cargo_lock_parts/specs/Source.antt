@@ -28,24 +28,24 @@ pub record Source : Type 0 where
   pub precise : Option (List ℕ)
   pub name : Option (List ℕ)
 
--- a source that is to be written, escaped or plain
+-- a source that is to be displayed, escaped or plain
 pub record MarkedSource : Type 0 where
   pub source : Source
   pub escaped : Bool
 
--- a reference that is to be written, escaped or plain
+-- a reference that is to be displayed, escaped or plain
 pub record MarkedGitReference : Type 0 where
   pub reference : GitReference
   pub escaped : Bool
 
--- the reference without the room that its text keeps
+-- the reference without the capacity of its text
 abbrev pub git_reference_of : reference.GitReference → GitReference
 git_reference_of reference.TheVariants.DefaultBranch = DefaultBranch
 git_reference_of (reference.TheVariants.Tag text) = Tag (string_bytes text)
 git_reference_of (reference.TheVariants.Branch text) = Branch (string_bytes text)
 git_reference_of (reference.TheVariants.Rev text) = Rev (string_bytes text)
 
--- the kind without the room that its texts keep
+-- the kind without the capacity of its texts
 abbrev pub kind_of : SourceKind → Kind
 kind_of (kind.Git reference) = Git (git_reference_of reference)
 kind_of kind.Path = Path
@@ -54,7 +54,7 @@ kind_of kind.SparseRegistry = SparseRegistry
 kind_of kind.LocalRegistry = LocalRegistry
 kind_of kind.Directory = Directory
 
--- the source is a path: it may be read from a lockfile, and is never written into one
+-- the source is a path source: a lockfile may name it, and it is never written into one
 abbrev pub is_path : Kind → Bool
 is_path Path = true
 is_path other = false
@@ -71,7 +71,7 @@ is_registry SparseRegistry = true
 is_registry LocalRegistry = true
 is_registry other = false
 
--- the source is a registry that is asked over the network
+-- the source is a registry that is fetched over the network
 abbrev pub is_remote_registry : Kind → Bool
 is_remote_registry Registry = true
 is_remote_registry SparseRegistry = true

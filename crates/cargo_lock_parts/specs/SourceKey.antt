@@ -1,9 +1,8 @@
 -- The key of a source: what equality, order and hash look at.
 --
--- The precise text of a git source pins a commit, and so tells two git sources apart. That of any
--- other source does not count. A registry that was read from a text has the word `locked`, which
--- only says that it stood in a lockfile, one that a call made has none, and a call may set any
--- text.
+-- The precise text of a git source pins a commit, and so distinguishes two git sources. That of any
+-- other source does not matter: a registry that was read from a text has `locked`, which only says
+-- that it was in a lockfile, one that a call made has none, and a call may set any text.
 use Rattle.std.specs.Prelude.{ℕ, Bool, List, [], ◌++◌, Option, None, unwrap_or}
 use Rattle.std.specs.Option.{option_cmp}
 use Rattle.std.specs.declared.cmp.Ordering.{Ordering}
@@ -12,10 +11,11 @@ use Rattle.std.specs.Cmp.Lexicographic.{slice_cmp}
 use Rattle.std.specs.Hash.{HashWrites}
 use Rattle.std.specs.Hash as fed
 use Rattle.url.specs.Parts.{serialize}
-use Rattle.cargo_lock_parts.specs.Source.{Kind, Source, DefaultBranch, Tag, Branch, Rev, Git, Path}
-use Rattle.cargo_lock_parts.specs.Source.{Registry, SparseRegistry, LocalRegistry, Directory}
+use Rattle.cargo_lock_parts.specs.Source.{GitReference, Kind, Source, DefaultBranch, Tag, Branch}
+use Rattle.cargo_lock_parts.specs.Source.{Rev, Git, Path, Registry, SparseRegistry, LocalRegistry}
+use Rattle.cargo_lock_parts.specs.Source.{Directory}
 
--- where a kind with its reference stands in the order
+-- the place of a kind with its reference in the order
 abbrev pub kind_number : Kind → ℕ
 kind_number (Git DefaultBranch) = 0
 kind_number (Git (Tag text)) = 1
@@ -39,7 +39,7 @@ abbrev pub precise_if_git : Kind → Option (List ℕ) → Option (List ℕ)
 precise_if_git (Git reference) precise = precise
 precise_if_git other precise = None
 
--- what tells a source from others
+-- what distinguishes a source from others
 pub record Key : Type 0 where
   pub url : List ℕ
   pub name : Option (List ℕ)
@@ -59,7 +59,15 @@ key_of s = record {
 abbrev pub text_cmp : List ℕ → List ℕ → Ordering
 text_cmp = slice_cmp nat_cmp
 
--- keys compare by their parts in order, and an absent text stands before a present one
+-- kinds compare by their places in the order, and two of one place by the texts of their references
+abbrev pub kind_cmp : Kind → Kind → Ordering
+kind_cmp = then_cmp (on kind_number nat_cmp) (on git_reference_text text_cmp)
+
+-- git references compare as the kinds that have them
+abbrev pub git_reference_cmp : GitReference → GitReference → Ordering
+git_reference_cmp = on Git kind_cmp
+
+-- keys compare by their parts in order, and an absent text is before a present one
 abbrev pub key_cmp : Key → Key → Ordering
 key_cmp =
     then_cmp (then_cmp (then_cmp (then_cmp

@@ -1,4 +1,7 @@
--- The source that a text reads as: a word, `+` and a URL, as Cargo writes it.
+-- The source that a text reads as: a prefix, `+` and a URL, as Cargo writes it.
+-- The rule is that of `SourceId::from_url` in `src/package/source.rs` of the Rust crate
+-- `cargo-lock` 11.0.1, which adapts Cargo's `source_id.rs`; URLs and forms are those of the URL
+-- Standard of 19 November 2026.
 use Rattle.std.specs.Prelude.{ℕ, List, [], map, codes, bytes_eq, Option, Some, None, unwrap_or}
 use Rattle.std.specs.Prelude.{option_map, ◌==◌, if◌then◌else◌}
 use Rattle.std.specs.Str.Lossy.{utf8_lossy}
@@ -41,7 +44,8 @@ git_reference_in pairs = unwrap_or
 
 -- ---- the source
 
--- a git source: the query is its reference, the fragment its precise text, and the URL has neither
+-- a git source: its reference is in the query, its precise text is the fragment, and its URL has
+-- neither
 abbrev pub git_source : Parts → Source
 git_source url = record {
   url = without_tail url;
@@ -58,7 +62,7 @@ plain_source kind precise url = record { url = url; kind = kind; precise = preci
 abbrev pub url_of : List ℕ → Option Parts
 url_of text = result_ok (parse_url None text)
 
--- the protocol that a word names
+-- the protocol that a prefix names
 abbrev pub protocol_of : List ℕ → Option Protocol
 protocol_of word =
     if bytes_eq word (codes "git") then Some protocol.Git
@@ -74,12 +78,12 @@ source_by protocol.Registry url = plain_source Registry (Some (codes "locked")) 
 source_by protocol.Sparse url = plain_source SparseRegistry (Some (codes "locked")) url
 source_by protocol.Path url = plain_source Path None url
 
--- the source of a word and a URL
+-- the source of a prefix and a URL
 abbrev pub source_by_word : Option Protocol → Option Parts → Option Source
 source_by_word None url = None
 source_by_word (Some protocol) url = option_map (source_by protocol) url
 
--- the source that a text reads as: cut at the first `+`
+-- the source that a text reads as: its prefix ends at the first `+`
 unfoldable pub source_of : List ℕ → Option Source
 source_of text =
     if list_any (λ b. b == plus_sign) text

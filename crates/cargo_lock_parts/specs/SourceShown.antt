@@ -1,4 +1,6 @@
--- What is said of a registry: whether it is that of crates.io, and how it is shown to people.
+-- Whether a registry is that of crates.io, and how a registry is shown to people.
+-- The rules are those of `is_default_registry`, `display_index` and `display_registry_name` in
+-- `src/package/source.rs` of the Rust crate `cargo-lock` 11.0.1.
 use Rattle.std.specs.Prelude.{ℕ, Bool, false, List, ◌++◌, codes, bytes_eq, Option, None, unwrap_or}
 use Rattle.std.specs.Prelude.{option_map, if◌then◌else◌}
 use Rattle.url.specs.Parts.{serialize}
@@ -10,7 +12,7 @@ use Rattle.cargo_lock_parts.specs.SourceReading.{plain_source, url_of}
 abbrev pub crates_io_index : List ℕ
 crates_io_index = codes "https://github.com/rust-lang/crates.io-index"
 
--- the URL text of the index of crates.io that is asked file by file
+-- the URL text of the sparse index of crates.io
 abbrev pub crates_io_sparse_url : List ℕ
 crates_io_sparse_url = codes "https://index.crates.io/"
 
@@ -31,7 +33,7 @@ is_default_registry s = is_crates_io s.kind (serialize s.url)
 unfoldable pub default_registry : Option Source
 default_registry = option_map (plain_source Registry None) (url_of crates_io_index)
 
--- the index of a source, in words
+-- the index of a source, as it is shown to people
 abbrev pub index_text : Source → List ℕ
 index_text s =
     if is_default_registry s then codes "crates.io index"

@@ -1,5 +1,7 @@
--- The text of a source: its word, `+` and its URL, and of a git source the reference and the
+-- The text of a source: its prefix, `+` and its URL, and for a git source the reference and the
 -- commit too. Cargo escapes the reference's value from format V4 on.
+-- The rule is that of `SourceIdAsUrl` in `src/package/source.rs` of the Rust crate `cargo-lock`
+-- 11.0.1, and the escapes are those of the pull request 12852 of rust-lang/cargo.
 use Rattle.std.specs.Prelude.{ℕ, Bool, List, [], ◌++◌, codes, Option, Some, None, if◌then◌else◌}
 use Rattle.form_urlencoded.specs.Form.{byte_serialize}
 use Rattle.url.specs.Parts.{serialize}
@@ -7,7 +9,7 @@ use Rattle.cargo_lock_parts.specs.Source.{Kind, GitReference, Source, MarkedSour
 use Rattle.cargo_lock_parts.specs.Source.{MarkedGitReference, DefaultBranch, Tag, Branch, Rev, Git}
 use Rattle.cargo_lock_parts.specs.Source.{Path, Registry, SparseRegistry, LocalRegistry, Directory}
 
--- a reference's value, as it is or escaped as in a form
+-- a reference's value, unchanged or escaped as in a form
 abbrev pub value_text : Bool → List ℕ → List ℕ
 value_text escaped value = if escaped then byte_serialize value else value
 

@@ -40,7 +40,12 @@ impl Model for Dependency {
 impl Dependency {
     ghost use Rattle.cargo_lock_parts.specs.Identity.{HasNameAndVersion, identity_of};
 
-    /// The dependency on a package: its name, version and source.
+    /// The dependency on a package: its name, version and source. The one error is `Memory`.
+    ///
+    /// ```
+    /// let dependency = Dependency::of(library)?;
+    /// application.dependencies.push(dependency)?;
+    /// ```
     pub fn of(package: &Package) -> Result<Dependency>
         ensures ok { IfOk result (λ d. d ≡ identity_of «package».now) }
         ensures err { IsOkUnless result Memory }

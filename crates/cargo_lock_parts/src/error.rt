@@ -1,4 +1,4 @@
-//! What a call of this crate answers in place of a value.
+//! The errors of this crate's calls.
 
 use semver::Error as VersionError;
 use std::alloc::{AllocError, AllocFailed, Global};
@@ -6,32 +6,32 @@ use std::io;
 use std::num::ParseIntError;
 use thiserror::Error;
 
-/// Why a call failed. Displayed, each variant but the last begins with the words below and ends
-/// with the text that it holds.
+/// Why a call failed. `Display` writes each variant as the text of its attribute `error`, with the
+/// value that the variant holds in place of `{0}`.
 #[derive(Debug, Drop, Error)]
 pub enum Error {
-    /// A file or a writer failed in the call.
+    /// A file could not be read, or a writer failed.
     #[error("I/O operation failed: {0}")]
     Io(io::ErrorKind),
 
-    /// A text or a table is none of those that the call reads.
+    /// A text or a table is not one that the call reads. The text says why.
     #[error("parse error: {0}")]
     Parse(String),
 
-    /// A text is no version.
+    /// A text is not a version.
     #[error("version error: {0}")]
     Version(VersionError),
 
-    /// A dependency has no package.
+    /// A dependency resolves to no package.
     #[error("resolution error: {0}")]
     Resolution(String),
 
-    /// A growth was refused.
+    /// Memory ran out.
     #[error("out of memory")]
     Memory,
 }
 
-/// What the calls of this crate answer.
+/// The result of this crate's calls.
 pub type Result<T> = std::result::Result<T, Error>;
 
 impl From<io::Error> for Error {
@@ -82,17 +82,17 @@ impl<T: Drop> From<AllocFailed<T>> for Error {
     }
 }
 
-// The words of the refusal of a URL of 4 GB or more.
+// The text of the error for a URL of 4 GB or more.
 pub(crate) const TOO_LONG: &str = "invalid url: more than 4 GB";
 
-/// A text of fewer bytes has no URL of 4 GB or more.
+/// Texts of fewer bytes hold no URL of 4 GB or more.
 pub const SHORT_LENGTH: usize = 16777216;
 
 impl Error {
     ghost use Rattle.std.specs.Prelude.{◌≡◌, ◌↔◌, IsTrue};
     ghost use Rattle.cargo_lock_parts.specs.Error.{IsParseOrMemory, IsTooLong, parse_fault};
 
-    /// `Parse` with the text that was made, or `Memory` where its memory was refused.
+    /// `Parse` with this text, or `Memory` if the text could not be made.
     pub fn parse(text: std::result::Result<String, AllocError>) -> Error
         ensures { result ≡ parse_fault text }
     {
@@ -102,8 +102,8 @@ impl Error {
         }
     }
 
-    /// Whether the fault is that of a URL of 4 GB or more, which is refused though it may be one.
-    /// No text of fewer than 2^24 bytes is refused so.
+    /// Whether this is the error for a URL of 4 GB or more, which is refused though it may be a
+    /// valid URL. Texts of fewer than 2^24 bytes never get this error.
     pub fn is_too_long(&self) -> bool
         ensures { IsTrue result ↔ IsTooLong self.now }
     {
@@ -113,7 +113,8 @@ impl Error {
         }
     }
 
-    /// The fault of a text that is no whole number: `Parse` with the words of `std`.
+    /// `Parse` for a text that is not a whole number, or `Memory` if memory runs out. The text of
+    /// the error is what `Display` of `fault` writes, which is tested and not in the contract.
     pub fn from_int(alloc: Global, fault: ParseIntError) -> Error
         ensures { IsParseOrMemory result }
     {

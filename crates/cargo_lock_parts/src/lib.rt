@@ -1,4 +1,4 @@
-//! The parts of a lockfile: names, checksums, sources, packages, and what refuses them.
+//! The parts of a lockfile: names, checksums, sources, packages, and the errors of reading them.
 //!
 //! The crate `cargo_lock` gives all of this under its own paths. Use that one.
 #![tactic(auto)]

@@ -43,7 +43,7 @@ pub struct Package {
     #[serde(default, skip_serializing_if = "Vec::is_empty")]
     pub dependencies: Vec<Dependency>,
 
-    /// What stands in for the package.
+    /// The dependency that replaces the package, from its `replace` key.
     pub replace: Option<Dependency>,
 }
 
@@ -159,7 +159,7 @@ impl Ord for Package {
     }
 }
 
-// An absent checksum stands before a present one.
+// An absent checksum is before a present one.
 fn cmp_checksums(a: &Option<Checksum>, b: &Option<Checksum>) -> Ordering
     ensures { result
         ≡ option_cmp text_cmp (option_map digest_of a.now) (option_map digest_of b.now) }

@@ -10,7 +10,7 @@ use std::marker::Model;
 /// The patches of a lockfile that no package uses.
 #[derive(Debug, Drop, Serialize, Deserialize)]
 pub struct Patch {
-    /// The packages that would stand in for others.
+    /// The packages that would replace others.
     pub unused: Vec<Dependency>,
 }
 
@@ -24,7 +24,7 @@ impl Model for Patch {
 }
 
 impl Patch {
-    /// No patch. It takes no memory.
+    /// No patch. It allocates nothing.
     pub fn new(alloc: Global) -> Patch
         ensures { result ≡ [] }
     {

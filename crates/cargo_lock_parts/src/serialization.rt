@@ -1,4 +1,4 @@
-//! What the types of lockfiles share in being written to a format of `serde` and read from one.
+//! What the types of lockfiles share when `serde` writes and reads them.
 
 use crate::error::Error;
 use serde::{Deserializer, Format};
@@ -6,8 +6,8 @@ use std::alloc::Global;
 
 pub mod version;
 
-/// The format's error for a text that was refused. Its message is the refusal as it is displayed,
-/// and running out of memory is told as that.
+/// The format's error for a text that was refused. Its message is what `Display` writes of `fault`,
+/// and for `Memory` it is the format's error for running out of memory.
 pub fn format_error<F: Format>(
     alloc: Global,
     from: &Deserializer<'_, '_, F>,

@@ -1,14 +1,14 @@
--- What a search answers.
+-- What a search returns.
 use Rattle.std.specs.Prelude.{Result, Ok, Err}
 use Rattle.cargo_lock_parts.specs.declared.error.Error.{Error}
 use Rattle.cargo_lock_parts.specs.Error.{Refuses, RefusesUrls}
 
--- `Ok` only with what P holds of, and `Parse` only where P holds of nothing
+-- `Ok` only with a value for which P holds, and `Parse` only if P holds for none
 abbrev pub Finds : {X : Type 0} → (X → Type 0) → Result X Error → Type 0
 Finds {X} P (Ok x) = P x
 Finds {X} P (Err e) = Refuses e ((x : X) → ¬ P x)
 
--- the same where URLs are read, one of which may have 4 GB or more
+-- the same if URLs are read, one of which may have 4 GB or more
 abbrev pub FindsUrls : {X : Type 0} → (X → Type 0) → Result X Error → Type 0
 FindsUrls {X} P (Ok x) = P x
 FindsUrls {X} P (Err e) = RefusesUrls e ((x : X) → ¬ P x)

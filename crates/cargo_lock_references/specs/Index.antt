@@ -1,4 +1,4 @@
--- An index of a list by name, and by name and version: where the items of each stand.
+-- An index of a list by name, and by name and version: the places of the items of each.
 use Rattle.std.specs.Prelude.{◌≡◌, ◌+◌, ◌&&◌, if◌then◌else◌, Bool, true, false, ℕ, List, [], ◌∷◌}
 use Rattle.std.specs.Prelude.{Option, Some, None, slice_get}
 use Rattle.std.specs.BTreeMap.{BTreeMap, get}
@@ -15,45 +15,46 @@ abbrev pub first_place : Occurrence → ℕ
 first_place (Only place) = place
 first_place (First place) = place
 
--- there is one item alone
+-- there is exactly one item
 abbrev pub is_only : Option Occurrence → Bool
 is_only None = false
 is_only (Some (Only place)) = true
 is_only (Some (First place)) = false
 
--- the item that stands first
+-- the first item
 abbrev pub first_item : {X : Type 0} → List X → Option Occurrence → Option X
 first_item xs None = None
 first_item xs (Some found) = slice_get xs (first_place found)
 
--- where the items stand that pass, counted from a number on: the only one, or the first of several
+-- the place of the items that pass, counted from a number on: the place of the only one, or of the
+-- first of several
 abbrev pub occurrence_from : {X : Type 0} → (X → Bool) → ℕ → List X → Option Occurrence
 occurrence_from p place [] = None
 occurrence_from p place (x ∷ xs) =
     if p x then Some (if list_any p xs then First place else Only place)
     else occurrence_from p (place + 1) xs
 
--- where the items of a list stand that pass
+-- the place of the items of a list that pass
 abbrev pub occurrence : {X : Type 0} → (X → Bool) → List X → Option Occurrence
 occurrence p xs = occurrence_from p 0 xs
 
--- where they stand once one more item passes, at a place after all others
+-- their place after one more item passes, at a place after all others
 abbrev pub with_one_more : ℕ → Option Occurrence → Occurrence
 with_one_more place None = Only place
 with_one_more place (Some (Only first)) = First first
 with_one_more place (Some (First first)) = First first
 
--- the identity has the name and, where one is meant, the version
+-- the identity has the name and, if there is one, the version
 abbrev pub is_of : List ℕ → Option Parts → Identity → Bool
 is_of name version i = same_text i.name name && has_version version i.version
 
--- what the map has for a name and, where one is meant, a version
+-- what the map has for a name and, if there is one, a version
 abbrev pub occurrence_at : BTreeMap PartialIdentity Occurrence → List ℕ → Option Parts
     → Option Occurrence
 occurrence_at m name version =
     get partial_identity_cmp m record { name = name; version = version; source = None }
 
--- the map has, for each name and each name with a version, where the items of it stand
+-- the map has, for each name and each name with a version, the place of its items
 abbrev pub AreOccurrences : {X : Type 0} → (X → Identity) → List X
     → BTreeMap PartialIdentity Occurrence → Type 0
 AreOccurrences identity xs m = (name : List ℕ) (version : Option Parts)

@@ -1,5 +1,6 @@
--- The metadata of a lockfile. In V1 it holds the checksums of the packages: the key `checksum ` and
--- the displayed identity of a package, and the digest in hex.
+-- The metadata of a lockfile. In V1 it has the checksums of the packages: the key is `checksum `
+-- and the text of a package's identity, and the value is the digest in hex.
+-- The rule is that of `src/metadata.rs` of the Rust crate `cargo-lock` 11.0.1.
 use Rattle.std.specs.Prelude.{◌&&◌, not, if◌then◌else◌, Bool, false, ℕ, List, [], ◌∷◌, ◌++◌, Option}
 use Rattle.std.specs.Prelude.{Some, None, Result, Ok, Err, codes, take, drop, reverse}
 use Rattle.std.specs.FinMap.{entries, from_entries, retain_keys}
@@ -22,16 +23,16 @@ use Rattle.cargo_lock_references.specs.ResolutionSearch.{own_words, same_text, s
 unfoldable pub checksum_key : Identity → List ℕ
 checksum_key d = codes "checksum " ++ dependency_text d
 
--- the key begins `checksum `
+-- the key begins with `checksum `
 unfoldable pub is_checksum : List ℕ → Bool
 is_checksum k = same_text (codes "checksum ") (take 9 k)
 
--- an identity, or the refusal where there is none
+-- an identity, or the refusal if there is none
 abbrev pub or_refused : Option Identity → Result Identity Refusal
 or_refused None = Err NoReference
 or_refused (Some i) = Ok i
 
--- the identity that a reference is by itself: without a version it is none
+-- the identity that a reference is by itself, which needs a version
 abbrev pub own_identity : Result Reference Refusal → Result Identity Refusal
 own_identity (Err refusal) = Err refusal
 own_identity (Ok f) = or_refused (own_words f)
@@ -45,7 +46,7 @@ key_or_refusal k = if is_checksum k then own_identity (reference_or_refusal (dro
 abbrev pub key_identity : List ℕ → Option Identity
 key_identity k = result_ok (key_or_refusal k)
 
--- ---- the checksum that the metadata holds for a package
+-- ---- the checksum in the metadata for a package
 
 -- the identity has this name and this version
 abbrev pub is_named : List ℕ → Parts → Option Identity → Bool
@@ -56,22 +57,18 @@ is_named name version (Some d) = same_text d.name name && same_parts d.version v
 abbrev pub reads_as : List ℕ → Parts → List ℕ → Bool
 reads_as name version k = is_named name version (key_identity k)
 
--- the value at the first of the pairs whose key reads so, as a checksum
-abbrev pub checksum_among : List (List ℕ × List ℕ) → List ℕ → Parts → Option (List ℕ)
-checksum_among pairs name version = find
-    (λ e. reads_as name version e.0) pairs >>= λ e. digest_in e.1
-
 -- the value at the least key that reads as this name and this version, as a checksum
 unfoldable pub checksum_in : Texts → List ℕ → Parts → Option (List ℕ)
-checksum_in m name version = checksum_among (entries m) name version
+checksum_in m name version = find (λ e. reads_as name version e.0) (entries m)
+    >>= λ e. digest_in e.1
 
--- some key begins `checksum `
+-- some key begins with `checksum `
 unfoldable pub has_checksum_key : Texts → Bool
 has_checksum_key m = list_any (λ e. is_checksum e.0) (entries m)
 
 -- ---- the metadata that is written
 
--- the key and the text of a package's checksum, where it has one, before other pairs
+-- the key and the text of a package's checksum, if it has one, before other pairs
 abbrev pub pairs_before : PackageData → Option (List ℕ) → List (List ℕ × List ℕ)
     → List (List ℕ × List ℕ)
 pairs_before p None pairs = pairs
@@ -91,7 +88,7 @@ with_checksums m ps = from_entries (reverse (checksum_pairs ps) ++ entries m)
 abbrev pub has_key : List ℕ → PackageData → Bool
 has_key k p = same_text k (checksum_key (identity_of p))
 
--- from V2 on: the old pairs whose key is no package's checksum key
+-- from V2 on: the old pairs whose key is not a package's checksum key
 unfoldable pub without_checksums : Texts → List PackageData → Texts
 without_checksums m ps = retain_keys m (λ k. not (list_any (has_key k) ps))
 

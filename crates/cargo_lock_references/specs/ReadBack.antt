@@ -19,11 +19,11 @@ use Rattle.cargo_lock_references.specs.Words.{IsDense, IsWord}
 abbrev pub VersionSurvives : Parts → Type 0
 VersionSurvives v = version_of (parts_text v) ≡ Some v
 
--- the text of the source, as it is marked, reads as a source with the same key
+-- the text of the source, by its mark, reads as a source with the same key
 abbrev pub SourceTextReadsBack : MarkedSource → Type 0
 SourceTextReadsBack m = option_map key_of (source_of (marked_text m)) ≡ Some (key_of m.source)
 
--- the source is no path, so it is written, and its text reads back
+-- the source is not a path, so it is written, and its text reads back
 abbrev pub SourceSurvives : Bool → Source → Type 0
 SourceSurvives escaped s = (is_path s.kind ≡ false) × SourceTextReadsBack (mark escaped s)
 
@@ -33,17 +33,18 @@ DigestReadsBack digest = digest_in (digest_text digest) ≡ Some digest
 
 -- ---- references
 
--- each part of the reference is one word that reads back
+-- each part of the reference is written without white space and reads back
 pub record WordsReadBack (f : Reference) : Type 0 where
   pub name : IsWord f.name
   pub version : IfSome f.version (λ v. IsWord (parts_text v) × VersionSurvives v)
   pub source : IfSome f.source (λ m. IsDense (marked_text m) × SourceTextReadsBack m)
 
--- the reference stands for an identity that is equal to this one
+-- the reference resolves to an identity that is equal to this one
 abbrev pub ResolvesToEqual : Reference → List Identity → Identity → Type 0
 ResolvesToEqual f list d = (i : Identity) × ResolvesTo f list i × (identity_key i ≡ identity_key d)
 
--- a reference to this dependency: its text reads back, and stands for the dependency in this list
+-- a reference to this dependency: its text reads back, and it resolves to the dependency in this
+-- list
 pub record ReferenceSurvives (f : Reference) (list : List Identity) (d : Identity) : Type 0 where
   pub written : WordsReadBack f
   pub resolves : ResolvesToEqual f list d

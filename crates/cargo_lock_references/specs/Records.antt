@@ -11,7 +11,7 @@ use Rattle.cargo_lock_references.specs.declared.version.ResolveVersion.{ResolveV
 use Rattle.cargo_lock_references.specs.declared.version.ResolveVersion.TheVariants.{V1, V2, V3, V4}
 use Rattle.cargo_lock_references.specs.Reference.{Reference}
 
--- a package as its table has it: its references are not looked up yet
+-- a package as its table has it: its references are not resolved yet
 pub record EncodedPackage : Type 0 where
   pub name : List ℕ
   pub version : Parts
@@ -29,15 +29,15 @@ abbrev pub encoded_identity : EncodedPackage → Identity
 encoded_identity e =
     record { name = e.name; version = e.version; source = unmarked_source e.source }
 
--- texts by texts
+-- a map from texts to texts
 abbrev pub Texts : Type 0
 Texts = FinMap (slice_cmp nat_cmp) (List ℕ)
 
--- the pairs of a map, as the map that contracts speak of
+-- the pairs of a map, as the map that contracts use
 abbrev pub texts_of : List (List ℕ × List ℕ) → Texts
 texts_of pairs = from_entries pairs
 
--- how the map is stored
+-- the form in which the map is stored
 abbrev pub texts_code : Coded Texts
 texts_code = code (coded_list coded_ℕ) (coded_list coded_ℕ)
 

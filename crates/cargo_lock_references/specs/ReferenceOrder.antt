@@ -14,11 +14,11 @@ use Rattle.cargo_lock_parts.specs.Source.{MarkedSource}
 use Rattle.cargo_lock_parts.specs.SourceKey.{Key, key_of, source_cmp}
 use Rattle.cargo_lock_references.specs.Reference.{Reference}
 
--- a source compares by its key alone, however it is marked
+-- a source compares by its key alone, whatever its mark
 abbrev pub marked_cmp : MarkedSource → MarkedSource → Ordering
 marked_cmp = on (λ m. m.source) source_cmp
 
--- marked sources that tie: the mark does not count
+-- marked sources that tie: the mark is ignored
 abbrev pub is_same_marked : MarkedSource → MarkedSource → Bool
 is_same_marked = eq_by_cmp marked_cmp
 
@@ -35,7 +35,7 @@ reference_cmp = by_name_version_source (λ f. f.name) (λ f. f.version) (λ f. f
 abbrev pub is_same_reference : Reference → Reference → Bool
 is_same_reference = eq_by_cmp reference_cmp
 
--- the version follows from the name in most lockfiles, and is not fed
+-- the version follows from the name in most lockfiles, and is not hashed
 abbrev pub reference_hash : Reference → HashWrites
 reference_hash f = fed.str f.name ++ fed.option marked_hash f.source
 
@@ -45,15 +45,15 @@ reference_hash f = fed.str f.name ++ fed.option marked_hash f.source
 abbrev pub marked_key : MarkedSource → Key
 marked_key m = key_of m.source
 
--- what equality of references looks at
+-- what equality of references compares
 abbrev pub reference_key : Reference → PartialKey
 reference_key f =
     record { name = f.name; version = f.version; source = option_map marked_key f.source }
 
--- `a == b` of references holds exactly where their keys are the same
+-- `a == b` of references holds exactly if their keys are the same
 abbrev pub EqualReferences : Type 0
 EqualReferences = IsEqualityOfKeys is_same_reference reference_key
 
--- `a == b` of marked sources holds exactly where the keys of the sources are the same
+-- `a == b` of marked sources holds exactly if the keys of the sources are the same
 abbrev pub EqualMarkedSources : Type 0
 EqualMarkedSources = IsEqualityOfKeys is_same_marked marked_key

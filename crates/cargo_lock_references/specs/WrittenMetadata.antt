@@ -1,5 +1,7 @@
--- What the written metadata has at each key, said by the places of the packages and without a list
+-- What the written metadata has at each key, defined by the places of the packages, without a list
 -- in which one pair hides another.
+-- The rule is that of `From<&Lockfile> for EncodableLockfile` in `src/lockfile/encoding.rs` of the
+-- Rust crate `cargo-lock` 11.0.1.
 use Rattle.std.specs.Prelude.{◌≡◌, ◌≢◌, ◌<◌, ℕ, List, Some, None, slice_get}
 use Rattle.std.specs.FinMap.{get}
 use Rattle.cargo_lock_parts.specs.Checksum.{digest_text}

@@ -1,5 +1,7 @@
--- The reference that is written for a dependency: in V1 in full, and from V2 on without the words
--- that the packages of the lockfile make needless.
+-- The reference that is written for a dependency: in V1 in full, and from V2 on without the parts
+-- that are redundant among the packages of the lockfile.
+-- The rule is that of `EncodableDependency::from_dependency` and `v2` in `src/lockfile/encoding.rs`
+-- of the Rust crate `cargo-lock` 11.0.1; V2 is the pull request 7070 of rust-lang/cargo.
 use Rattle.std.specs.Prelude.{◌≡◌, ◌⊎◌, ◌&&◌, ◌==◌, Bool, true, false, if◌then◌else◌, ℕ, List}
 use Rattle.std.specs.Prelude.{Option, Some, None, option_map, slice_get, count_by}
 use Rattle.semver.specs.Parse.{Parts}
@@ -25,7 +27,7 @@ HasName name i = i.name ≡ name
 abbrev pub HasNameAndVersion : List ℕ → Parts → Identity → Type 0
 HasNameAndVersion name version i = (i.name ≡ name) × (i.version ≡ version)
 
--- a path source is not written
+-- the source, unless it is a path, which is not written
 abbrev pub unless_path : Bool → Source → Option Source
 unless_path path s = if path then None else Some s
 
@@ -60,8 +62,8 @@ abbrev pub HasUniqueVersion : List Identity → Reference → Type 0
 HasUniqueVersion list f = (v : Parts) × (f.version ≡ Some v)
     × IsUnique (HasNameAndVersion f.name v) list
 
--- The reference, shortened: its name alone, where one place has that. Otherwise its name and
--- version, where one place has both. Otherwise the reference as it is.
+-- The reference, shortened: its name alone if exactly one place has it; otherwise its name and
+-- version if exactly one place has both; otherwise the reference unchanged.
 abbrev pub ShortensTo : List Identity → Reference → Reference → Type 0
 ShortensTo list f g =
     (HasUniqueName list f × (g ≡ one_word f.name))
@@ -82,11 +84,12 @@ has_name_and_version name version i = same_text i.name name && same_parts i.vers
 abbrev pub exactly_one : (Identity → Bool) → List Identity → Bool
 exactly_one p list = count_by p list == 1
 
--- the reference has a version, and one package has both
+-- the version is written, and exactly one identity has it and the name
 abbrev pub is_version_unique : List Identity → List ℕ → Option Parts → Bool
 is_version_unique list name None = false
 is_version_unique list name (Some v) = exactly_one (has_name_and_version name v) list
 
+-- the reference without the words that the identities make needless
 unfoldable pub shorten : List Identity → Reference → Reference
 shorten list f =
     if exactly_one (has_name f.name) list then one_word f.name
@@ -103,7 +106,7 @@ written_reference V4 list d = shorten list (in_full true d)
 abbrev pub ShortenedByPlaces : Type 0
 ShortenedByPlaces = (list : List Identity) (f : Reference) → ShortensTo list f (shorten list f)
 
--- what is shortened stays as it is
+-- what is shortened stays unchanged
 abbrev pub ShortenedTwice : Type 0
 ShortenedTwice = (list : List Identity) (f : Reference) → shorten list (shorten list f)
     ≡ shorten list f

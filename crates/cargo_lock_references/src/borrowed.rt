@@ -1,5 +1,4 @@
-//! References and packages that borrow their parts, so that what is only printed or looked up is
-//! not copied.
+//! References and packages that borrow their parts, so that printing and looking up copy nothing.
 
 ghost use Rattle.std.specs.Prelude.{◌≡◌, IfOk, option_map};
 ghost use Rattle.semver.specs.Identifiers.{parts_of};
@@ -21,10 +20,10 @@ pub struct EncodableDependencyRef<'a> {
     /// The name.
     pub name: &'a Name,
 
-    /// The version, where it is written.
+    /// The version, if it is written.
     pub version: Option<&'a Version>,
 
-    /// The source, where it is written, marked for its text.
+    /// The source, if it is written, with the mark for its text.
     pub source: Option<SourceIdAsUrl<'a>>,
 }
 
@@ -45,8 +44,8 @@ impl<'a> Model for EncodableDependencyRef<'a> {
 impl<'a> EncodableDependencyRef<'a> {
     ghost use Rattle.cargo_lock_references.specs.WrittenReference.{in_full};
 
-    /// The reference to a dependency in full: its name, its version and its source, unless that is
-    /// absent or a path. The source is marked escaped for V4, and plain before.
+    /// The reference to a dependency in full: its name, its version and its source, unless the
+    /// source is absent or a path. The source is marked escaped for V4, and plain before.
     pub fn from_dependency(
         dependency: &'a Dependency,
         format: ResolveVersion,
@@ -60,7 +59,7 @@ impl<'a> EncodableDependencyRef<'a> {
         }
     }
 
-    /// A copy that owns its parts.
+    /// A copy that owns its parts. Fails when out of memory.
     pub fn to_owned(&self) -> std::result::Result<EncodableDependency, AllocError>
         ensures { IfOk result (λ copy. copy ≡ self.now) }
     {
@@ -81,7 +80,7 @@ pub struct EncodablePackageRef<'a> {
     /// The version.
     pub version: &'a Version,
 
-    /// Where the package comes from, marked for its text.
+    /// Where the package comes from, with the mark for the source's text.
     pub source: Option<SourceIdAsUrl<'a>>,
 
     /// The checksum. A lockfile of V1 has it in the metadata.
@@ -90,7 +89,7 @@ pub struct EncodablePackageRef<'a> {
     /// What the package depends on.
     pub dependencies: Vec<EncodableDependencyRef<'a>>,
 
-    /// What stands in for the package.
+    /// The reference to the package that replaces it.
     pub replace: Option<EncodableDependencyRef<'a>>,
 }
 
@@ -113,7 +112,7 @@ impl<'a> Model for EncodablePackageRef<'a> {
 }
 
 impl<'a> EncodablePackageRef<'a> {
-    /// A copy that owns its parts.
+    /// A copy that owns its parts. Fails when out of memory.
     pub fn to_owned(&self, alloc: Global) -> std::result::Result<EncodablePackage, AllocError>
         ensures { IfOk result (λ copy. copy ≡ self.now) }
     {
@@ -186,7 +185,7 @@ fn mark(source: SourceId, escaped: bool) -> EncodableSourceId
     }
 }
 
-/// A source as it is written, escaped or plain: a path source is not.
+/// A source as it is written, escaped or plain, or `None` for a path source, which is not written.
 pub fn written_source<'a>(escaped: bool, source: &'a Option<SourceId>) -> Option<SourceIdAsUrl<'a>>
     ensures { result ≡ written_source escaped source.now }
 {
@@ -226,7 +225,7 @@ impl fmt::Display for EncodableDependencyRef<'_> {
 }
 
 impl EncodablePackage {
-    /// The package with its parts borrowed.
+    /// The package with its parts borrowed. Fails when out of memory.
     pub fn by_ref(&self, alloc: Global) -> std::result::Result<EncodablePackageRef<'_>, AllocError>
         ensures { IfOk result (λ borrowed. borrowed ≡ self.now) }
     {

@@ -5,7 +5,7 @@ use crate::source::EncodableSourceId;
 use cargo_lock_parts::package::{Checksum, Name, Version};
 use std::marker::Model;
 
-/// A package as its table has it: its references are not looked up yet.
+/// A package as its table has it: its references are not resolved yet.
 #[derive(Debug, Drop)]
 pub struct EncodablePackage {
     /// The name.
@@ -14,7 +14,7 @@ pub struct EncodablePackage {
     /// The version.
     pub version: Version,
 
-    /// Where the package comes from, marked for its text.
+    /// Where the package comes from, with the mark for the source's text.
     pub source: Option<EncodableSourceId>,
 
     /// The checksum. A lockfile of V1 has it in the metadata.
@@ -23,7 +23,7 @@ pub struct EncodablePackage {
     /// What the package depends on.
     pub dependencies: Vec<EncodableDependency>,
 
-    /// What stands in for the package.
+    /// The reference to the package that replaces it.
     pub replace: Option<EncodableDependency>,
 }
 

@@ -1,4 +1,4 @@
-//! What has an identity: packages, and packages as a table has them.
+//! Values with an identity: packages, and packages as a table has them.
 
 ghost use Rattle.std.specs.Prelude.{◌≡◌, IfOk, option_map};
 
@@ -8,7 +8,7 @@ use cargo_lock_parts::package::{Name, Package, SourceId, Version};
 use std::alloc::AllocError;
 use std::ops::Deref;
 
-/// What has a name, a version and perhaps a source.
+/// A value with a name, a version and optionally a source.
 pub trait Identified {
     ghost use Rattle.std.specs.Prelude.{◌≡◌, option_map};
     ghost use Rattle.semver.specs.Identifiers.{parts_of};
@@ -68,7 +68,7 @@ impl Identified for EncodablePackage {
     }
 }
 
-/// A copy of the identity of an item.
+/// A copy of the identity of an item. Fails when out of memory.
 pub fn identity<T: Identified>(item: &T) -> Result<Dependency, AllocError>
     ensures { IfOk result (λ copy. copy ≡ T.identity item.now) }
 {
@@ -79,7 +79,7 @@ pub fn identity<T: Identified>(item: &T) -> Result<Dependency, AllocError>
     })
 }
 
-/// A copy of a source.
+/// A copy of a source. Fails when out of memory.
 pub fn copy_source(source: Option<&SourceId>) -> Result<Option<SourceId>, AllocError>
     ensures { IfOk result (λ copy. copy ≡ option_map (λ s. s.now) source.entry) }
 {

@@ -1,5 +1,5 @@
-//! A list of packages with an index, so that references are looked up and shortened without a walk
-//! over the list.
+//! A list of packages with an index, which finds and shortens references without a walk over the
+//! list.
 
 ghost use Rattle.std.specs.Prelude.{◌≡◌, ◌&&◌, [], cond, if◌then◌else◌, ℕ, List, Option, Some};
 ghost use Rattle.std.specs.Prelude.{None, IfOk, OnOk, map, option_copied, option_map};
@@ -21,10 +21,10 @@ use std::alloc::{AllocError, Global};
 use std::collections::BTreeMap;
 use std::marker::Model;
 
-// Where the items of a name stand, or those of a name and a version.
+// The place of the items of a name, or of a name and a version.
 #[derive(Clone, Copy)]
 enum Occurrence {
-    // There is one item, at this place.
+    // There is only one item, at this place.
     Only(usize),
 
     // There are several, and the first one is at this place.
@@ -42,17 +42,17 @@ impl Occurrence {
     }
 }
 
-// Whether there is one item alone.
+// Whether there is exactly one item.
 fn is_only(found: Option<Occurrence>) -> bool
     ensures { result ≡ spec.is_only found }
 {
     matches!(found, Some(Occurrence::Only(_)))
 }
 
-// Where the items stand, by their names, and by their names and versions.
+// The places of items, by their names, and by their names and versions.
 type Occurrences<'a> = BTreeMap<PartialIdentity<'a>, Occurrence>;
 
-/// A list, and where the items of each name, and of each name and version, stand in it.
+/// A list, with the places of the items of each name, and of each name and version.
 #[derive(Drop)]
 pub struct Indexed<'a, T: Identified> {
     list: &'a [T],
@@ -70,7 +70,7 @@ impl<'a, T: Identified> Model for Indexed<'a, T> {
     ghost invariant = { λ x. AreOccurrences T.identity x.list.now x.occurrences };
 }
 
-// Where the items of this list stand.
+// The places of the items of this list.
 fn occurrences_of<'a, T: Identified>(
     alloc: Global,
     list: &'a [T],
@@ -125,7 +125,7 @@ fn add_under<'a>(
 }
 
 impl<'a, T: Identified> Indexed<'a, T> {
-    /// The list with its index.
+    /// The list with its index. Fails when out of memory.
     pub fn of(alloc: Global, list: &'a [T]) -> Result<Indexed<'a, T>, AllocError>
         ensures { IfOk result (λ indexed. indexed ≡ list.now) }
     {
@@ -133,7 +133,7 @@ impl<'a, T: Identified> Indexed<'a, T> {
         Ok(Indexed { list, occurrences })
     }
 
-    /// The empty list.
+    /// The empty list. It allocates nothing.
     pub fn empty(alloc: Global) -> Indexed<'a, T>
         ensures { result ≡ [] }
     {
@@ -143,7 +143,7 @@ impl<'a, T: Identified> Indexed<'a, T> {
         }
     }
 
-    // Where the items of a name and, where one is meant, a version stand.
+    // The place of the items of a name and, if there is one, a version.
     fn occurrence(&self, name: &'a Name, version: Option<&'a Version>) -> Option<Occurrence>
         ensures { result ≡ spec.occurrence
             (λ x. is_of name.now (option_map (λ v. parts_of v.now) version.entry) (T.identity x))
@@ -173,14 +173,13 @@ impl<'a, T: Identified> Indexed<'a, T> {
         is_only(self.occurrence(name, Some(version)))
     }
 
-    /// The first item that a reference fits.
+    /// The first item that a reference matches.
     pub fn first_fit(&self, reference: &EncodableDependencyRef<'a>) -> Option<&'a T>
         ensures { option_copied result ≡ find (λ x. fits reference.now (T.identity x)) self.now }
     {
         self.first_item(self.occurrence(reference.name, reference.version))
     }
 
-    // The item that stands first.
     fn first_item(&self, found: Option<Occurrence>) -> Option<&'a T>
         ensures { option_copied result ≡ spec.first_item self.now found }
     {

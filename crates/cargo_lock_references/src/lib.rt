@@ -1,7 +1,7 @@
 //! References of a lockfile, its metadata and its formats: how each is read and written, and which
 //! versions, sources and references read back from their texts.
 //!
-//! The crate `cargo_lock` gives what its users need of this under its own paths. Use that one.
+//! The crate `cargo_lock` exports what its users need of this under its own paths. Use that one.
 #![tactic(auto)]
 
 pub mod borrowed;

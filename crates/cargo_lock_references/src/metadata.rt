@@ -1,8 +1,9 @@
 //! The metadata of a lockfile: texts by keys.
 //!
-//! Lockfiles of the first format have the checksums of their packages here.
+//! Lockfiles of V1 have the checksums of their packages here.
 
-ghost use Rattle.std.specs.Prelude.{◌≡◌, ◌↔◌, IfOk, IsOk, IsOkUnless, Some, nat_eq};
+ghost use Rattle.std.specs.Prelude.{◌≡◌, ◌≤◌, ◌↔◌, IfOk, IsOk, IsOkUnless, MatchOption, Some};
+ghost use Rattle.std.specs.Prelude.{true, false, drop, length, nat_eq};
 ghost use Rattle.std.proofs.Common.{rules};
 ghost use Rattle.std.specs.Cmp.{partial_equiv_from_equiv};
 ghost use Rattle.std.specs.Cmp.Lexicographic.{pointwise, slice_cmp, nat_list_eq_equiv};
@@ -31,7 +32,7 @@ use std::fmt;
 use std::hash::{Hash, Hasher};
 use std::marker::Model;
 
-/// Texts by keys, in the order of the keys.
+/// The metadata as a map from keys to values, in the order of the keys.
 pub type Metadata = BTreeMap<MetadataKey, MetadataValue>;
 
 /// A key of the metadata: any text. Keys compare byte by byte.
@@ -47,14 +48,14 @@ impl Model for MetadataKey {
 }
 
 impl MetadataKey {
-    /// The key as text.
+    /// The text of the key, unchanged.
     pub fn as_str(&self) -> &str
         ensures { result.now ≡ self.now }
     {
         self.0.as_str()
     }
 
-    /// Any text is a key.
+    /// The key with this text; every text is a key. The one error is `Memory`.
     pub fn from_str(alloc: Global, text: &str) -> Result<MetadataKey>
         ensures ok { IfOk result (λ key. key ≡ text.now) }
         ensures err { IsOkUnless result Memory }
@@ -62,8 +63,13 @@ impl MetadataKey {
         Ok(MetadataKey(String::from_str(alloc, text)?))
     }
 
-    /// The key of a package's checksum: `checksum ` and the displayed dependency, as
-    /// `checksum foo 1.0.0 (registry+https://github.com/rust-lang/crates.io-index)`.
+    /// The key of a package's checksum: `checksum ` and what `Display` writes of the dependency, as
+    /// `checksum foo 1.0.0 (registry+https://github.com/rust-lang/crates.io-index)`. The one error
+    /// is `Memory`.
+    ///
+    /// ```
+    /// let key = MetadataKey::for_checksum(alloc, dependency)?;
+    /// ```
     #[tactic(auto, unfolding(crate::specs::Metadata::checksum_key))]
     pub fn for_checksum(alloc: Global, dependency: &Dependency) -> Result<MetadataKey>
         ensures ok { IfOk result (λ key. key ≡ checksum_key dependency.now) }
@@ -73,23 +79,37 @@ impl MetadataKey {
         Ok(MetadataKey(text))
     }
 
-    /// Whether the key begins `checksum `.
-    #[tactic(auto, unfolding(crate::specs::Metadata::is_checksum))]
+    /// Whether the key begins with `checksum `.
     pub fn is_checksum(&self) -> bool
         ensures { result ≡ is_checksum self.now }
     {
-        self.as_str().as_bytes().starts_with(b"checksum ")
+        self.reference_text().is_some()
     }
 
-    /// The package whose checksum stands at the key: what follows `checksum `, read as a reference
-    /// with a version. `Parse` and `Version` say what is refused. A URL of 4 GB or more is refused
-    /// too, which is never so where the key is shorter than 2^24 bytes.
-    #[tactic(auto, unfolding(crate::specs::Metadata::key_or_refusal, crate::specs::Metadata::is_checksum))]
+    // The text after `checksum `, if the key begins with that.
+    #[tactic(auto, unfolding(crate::specs::Metadata::is_checksum))]
+    fn reference_text(&self) -> Option<&str>
+        ensures { MatchOption result (is_checksum self.now ≡ false)
+            (λ text. (is_checksum self.now ≡ true) × (text.now ≡ drop 9 self.now)
+            × (length text.now ≤ length self.now)) }
+    {
+        self.as_str().strip_prefix("checksum ")
+    }
+
+    /// The package whose checksum is at the key: the text after `checksum `, read as a reference
+    /// with a version. A version that does not read is `Version`, and any other key without such a
+    /// text is `Parse`. `Parse` also comes for a URL of 4 GB or more, which no key shorter than
+    /// 2^24 bytes has. The other error is `Memory`.
+    ///
+    /// ```
+    /// let named = key.checksum_dependency(alloc)?;
+    /// ```
+    #[tactic(auto, unfolding(crate::specs::Metadata::key_or_refusal))]
     pub fn checksum_dependency(&self, alloc: Global) -> Result<Dependency>
         ensures read { ReadsReference result (key_or_refusal self.now) }
         ensures short { IsShort self.now → ReadsReferenceExactly result (key_or_refusal self.now) }
     {
-        let Some(text) = self.as_str().strip_prefix("checksum ") else {
+        let Some(text) = self.reference_text() else {
             let message = String::from_str(
                 alloc,
                 "can only parse dependencies from `checksum` metadata",
@@ -217,7 +237,7 @@ impl Model for MetadataValue {
 }
 
 impl MetadataValue {
-    /// The value as text.
+    /// The text of the value, unchanged.
     pub fn as_str(&self) -> &str
         ensures { result.now ≡ self.now }
     {
@@ -225,7 +245,7 @@ impl MetadataValue {
         text.as_str()
     }
 
-    /// Any text is a value.
+    /// The value with this text; every text is a value. The one error is `Memory`.
     pub fn from_str(alloc: Global, text: &str) -> Result<MetadataValue>
         ensures ok { IfOk result (λ value. value ≡ text.now) }
         ensures err { IsOkUnless result Memory }
@@ -233,8 +253,8 @@ impl MetadataValue {
         Ok(MetadataValue(String::from_str(alloc, text)?))
     }
 
-    /// The value as a checksum, read as `Checksum::from_str` reads it: 64 hex digits take no
-    /// memory, and `Parse` refuses anything else.
+    /// The value as a checksum, read as `Checksum::from_str` reads it: 64 hex digits allocate
+    /// nothing. Any other text is `Parse`, or `Memory` if memory for its text runs out.
     pub fn checksum(&self, alloc: Global) -> Result<Checksum>
         ensures read { Reads digest_of result (digest_in self.now) }
         ensures accepted { IsOk result ↔ IsDigestText self.now }

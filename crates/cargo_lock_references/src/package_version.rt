@@ -3,7 +3,7 @@
 ghost use Rattle.std.specs.Prelude.{◌≡◌, ◌↔◌, IsTrue};
 ghost use Rattle.semver.specs.Identifiers.{parts_of};
 ghost use Rattle.semver.specs.Parse.{memory_error};
-ghost use Rattle.cargo_lock_parts.specs.Error.{ReadsUrls};
+ghost use Rattle.cargo_lock_parts.specs.Error.{Reads};
 ghost use Rattle.cargo_lock_references.specs.Reference.{version_of};
 ghost use Rattle.cargo_lock_references.specs.ResolutionSearch.{same_parts};
 
@@ -19,10 +19,11 @@ pub fn same_version(a: &Version, b: &Version) -> bool
     a == b
 }
 
-/// The version that a text is. A fault of `semver` is a `Parse` here.
+/// The version that a text reads as. An error of `semver` is `Parse` here. The other error is
+/// `Memory`.
 #[tactic(auto, unfolding(crate::specs::Reference::version_of))]
 pub fn version_of(alloc: Global, text: &str) -> Result<Version>
-    ensures { ReadsUrls parts_of result (version_of text.now) }
+    ensures { Reads parts_of result (version_of text.now) }
 {
     match Version::parse(alloc, text) {
         Ok(version) => Ok(version),
@@ -31,7 +32,7 @@ pub fn version_of(alloc: Global, text: &str) -> Result<Version>
     }
 }
 
-// Whether `semver` found no memory.
+// Whether `semver` ran out of memory.
 fn is_memory(fault: &VersionError) -> bool
     ensures { IsTrue result ↔ (fault.now ≡ memory_error) }
 {

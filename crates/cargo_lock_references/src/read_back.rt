@@ -1,6 +1,6 @@
 //! Which versions, sources and references read back from their texts.
 //!
-//! Each test writes the text and reads it. A URL of 4 GB or more is told as out of memory.
+//! Each test writes the text and reads it. A URL of 4 GB or more is reported as out of memory.
 
 ghost use Rattle.std.specs.Prelude.{◌≡◌, ◌↔◌, [], IfOk, IfSome, IsTrue, Some, map, option_map};
 ghost use Rattle.semver.specs.Identifiers.{parts_of, parts_text};
@@ -25,9 +25,8 @@ use cargo_lock_parts::package::source::SourceIdAsUrl;
 use cargo_lock_parts::package::{Package, SourceId, Version};
 use std::alloc::{AllocError, Global};
 
-// ---- words
+// ---- texts without white space
 
-// Whether the text has no white space.
 fn is_dense(text: &str) -> bool
     ensures { IsTrue result ↔ IsDense text.now }
 {
@@ -39,7 +38,7 @@ fn is_dense(text: &str) -> bool
     true
 }
 
-// Whether the text is a word.
+// Whether the text has no white space and is not empty.
 fn is_word(text: &str) -> bool
     ensures { IsTrue result ↔ IsWord text.now }
 {
@@ -48,7 +47,7 @@ fn is_word(text: &str) -> bool
 
 // ---- versions
 
-/// Whether the version reads back from its text.
+/// Whether the version reads back from its text. Fails when out of memory.
 pub fn version_survives(alloc: Global, version: &Version) -> Result<bool, AllocError>
     ensures { IfOk result (λ b. IsTrue b ↔ VersionSurvives (parts_of version.now)) }
 {
@@ -63,12 +62,11 @@ fn version_reads_as(alloc: Global, text: &str, version: &Version) -> Result<bool
     match version_of(alloc, text) {
         Ok(read) => Ok(same_version(&read, version)),
         Err(Error::Memory) => Err(AllocError),
-        Err(fault) if fault.is_too_long() => Err(AllocError),
         Err(_) => Ok(false),
     }
 }
 
-// Whether the version is written as a word that reads back.
+// Whether the version is written without white space and reads back.
 fn version_word_survives(alloc: Global, version: &Version) -> Result<bool, AllocError>
     ensures { IfOk result (λ b. IsTrue b
         ↔ (IsWord (parts_text (parts_of version.now)) × VersionSurvives (parts_of version.now))) }
@@ -79,7 +77,8 @@ fn version_word_survives(alloc: Global, version: &Version) -> Result<bool, Alloc
 
 // ---- sources
 
-/// Whether a source is absent, or is written and reads back, escaped or plain.
+/// Whether a source is absent, or is written and reads back, escaped or plain. Fails when out of
+/// memory; a URL of 4 GB or more fails in this way too.
 pub fn source_survives(
     alloc: Global,
     escaped: bool,
@@ -93,7 +92,7 @@ pub fn source_survives(
     }
 }
 
-// Whether the text of the source, as it is marked, reads as an equal source.
+// Whether the text of the source, by its mark, reads as an equal source.
 fn text_reads_back(alloc: Global, source: &SourceIdAsUrl<'_>) -> Result<bool, AllocError>
     ensures { IfOk result (λ b. IsTrue b ↔ SourceTextReadsBack source.now) }
 {
@@ -125,7 +124,8 @@ fn source_word_survives(alloc: Global, source: &SourceIdAsUrl<'_>) -> Result<boo
 
 // ---- references
 
-/// Whether a reference reads back, and stands for this dependency among these packages.
+/// Whether a reference reads back, and resolves to this dependency among these packages. Fails when
+/// out of memory; a URL of 4 GB or more fails in this way too.
 pub fn reference_survives<'a>(
     alloc: Global,
     reference: &EncodableDependencyRef<'a>,
@@ -139,7 +139,8 @@ pub fn reference_survives<'a>(
     Ok(words_read_back(alloc, reference)? && resolves_to_equal(reference, list, dependency)?)
 }
 
-/// Whether a reference reads back, and stands for this dependency by itself.
+/// Whether a reference reads back, and resolves to this dependency without any packages. Fails when
+/// out of memory; a URL of 4 GB or more fails in this way too.
 pub fn reference_survives_alone(
     alloc: Global,
     reference: &EncodableDependencyRef<'_>,
@@ -152,7 +153,7 @@ pub fn reference_survives_alone(
     Ok(survives)
 }
 
-// Whether each part of the reference is one word that reads back.
+// Whether each part of the reference is written without white space and reads back.
 fn words_read_back(
     alloc: Global,
     reference: &EncodableDependencyRef<'_>,
@@ -190,7 +191,7 @@ fn written_source_survives(
     }
 }
 
-// Whether the reference stands for a dependency that is equal to this one.
+// Whether the reference resolves to a dependency that is equal to this one.
 fn resolves_to_equal<'a>(
     reference: &EncodableDependencyRef<'a>,
     list: &Indexed<'a, Package>,

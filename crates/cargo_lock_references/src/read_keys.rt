@@ -1,4 +1,4 @@
-//! The checksums that the metadata holds, by name and version, with each key read once.
+//! The checksums in the metadata, by name and version, with each key read once.
 
 ghost use Rattle.std.specs.Prelude.{◌≡◌, if◌then◌else◌, ℕ, List, Some, None, IfOk, OnOk, cond};
 ghost use Rattle.std.specs.Prelude.{option_map};
@@ -15,7 +15,7 @@ ghost use Rattle.cargo_lock_references.specs.ReadKeys.{AreFirstValues, value_at}
 ghost use Rattle.cargo_lock_references.specs.Records.{texts_of};
 
 use crate::EncodableDependency;
-use crate::checksums::{checksum_in, keys_ascend};
+use crate::checksums::keys_ascend;
 use crate::metadata::{Metadata, MetadataKey, MetadataValue};
 use cargo_lock_parts::dependency::Dependency;
 use cargo_lock_parts::error::Error;
@@ -24,10 +24,10 @@ use std::alloc::{AllocError, Global};
 use std::collections::BTreeMap;
 use std::marker::Model;
 
-// The checksums by name and version. A value that is no checksum is none.
+// The checksums by name and version. A value that is not a checksum counts as no checksum.
 type Checksums = BTreeMap<EncodableDependency, Option<Checksum>>;
 
-/// Metadata, each of whose keys was read, with the checksums that it holds by name and version.
+/// Metadata, each of whose keys was read, with its checksums by name and version.
 #[derive(Drop)]
 pub struct ReadMetadata<'a> {
     metadata: &'a Metadata,
@@ -48,7 +48,8 @@ impl<'a> Model for ReadMetadata<'a> {
 }
 
 impl<'a> ReadMetadata<'a> {
-    /// Reads each key of the metadata. Keys that do not read are passed over.
+    /// Reads each key of the metadata. Keys that do not read are ignored. Fails when out of memory;
+    /// a key with a URL of 4 GB or more fails in this way too.
     pub fn of(alloc: Global, metadata: &'a Metadata) -> Result<ReadMetadata<'a>, AllocError>
         ensures { IfOk result (λ read. read ≡ texts_of metadata.now.entries) }
     {
@@ -59,8 +60,8 @@ impl<'a> ReadMetadata<'a> {
         })
     }
 
-    /// The checksum that the metadata holds at the first key, in byte order, that reads as this
-    /// name and version. A value that is no checksum is none.
+    /// The checksum in the metadata at the first key, in byte order, that reads as this name and
+    /// version. A value that is not a checksum counts as no checksum. Fails when out of memory.
     #[tactic(auto, unfolding(crate::specs::Metadata::checksum_in))]
     pub fn checksum(&self, name: &Name, version: &Version) -> Result<Option<Checksum>, AllocError>
         ensures { IfOk result
@@ -87,7 +88,7 @@ fn read_checksums(alloc: Global, metadata: &Metadata) -> Result<Checksums, Alloc
     Ok(checksums)
 }
 
-// Reads a key. Its value counts where no key before it reads as the same name and version.
+// Reads a key. Its value is used if no earlier key reads as the same name and version.
 fn read_pair(
     alloc: Global,
     checksums: &mut Checksums,
@@ -104,8 +105,8 @@ fn read_pair(
     }
 }
 
-// What a key reads as. Running out of memory is not passed over, and neither is a URL of 4 GB or
-// more, which is told as out of memory.
+// What a key reads as. Out of memory is an error, and so is a URL of 4 GB or more, which is
+// reported as out of memory.
 fn read_key(alloc: Global, key: &MetadataKey) -> Result<Option<Dependency>, AllocError>
     ensures { IfOk result (λ d. d ≡ key_identity key.now) }
 {
@@ -135,6 +136,17 @@ fn put_first(
     let checksum = checksum_in(alloc, value)?;
     put(checksums, key, checksum)?;
     Ok(())
+}
+
+// The checksum that a value reads as, if it does.
+fn checksum_in(alloc: Global, value: &MetadataValue) -> Result<Option<Checksum>, AllocError>
+    ensures { IfOk result (λ found. option_map digest_of found ≡ digest_in value.now) }
+{
+    match value.checksum(alloc) {
+        Ok(checksum) => Ok(Some(checksum)),
+        Err(Error::Memory) => Err(AllocError),
+        Err(_) => Ok(None),
+    }
 }
 
 fn put(

@@ -34,17 +34,17 @@ use std::marker::Model;
 use std::ops::Deref;
 use std::str::SplitWhitespace;
 
-/// A reference as a lockfile writes it: the name of a package, and its version and its source
-/// where the name alone does not tell it. Two are equal where the three are.
+/// A reference as a lockfile writes it: the name of a package, and its version and its source if
+/// the name alone does not identify the package. Two are equal if the three parts are.
 #[derive(Debug, Drop)]
 pub struct EncodableDependency {
     /// The name.
     pub name: Name,
 
-    /// The version, where it is written.
+    /// The version, if it is written.
     pub version: Option<Version>,
 
-    /// The source, where it is written.
+    /// The source, if it is written.
     pub source: Option<EncodableSourceId>,
 }
 
@@ -64,13 +64,17 @@ impl EncodableDependency {
     ghost use Rattle.cargo_lock_references.specs.Reference.{reference_of_words};
     ghost use Rattle.cargo_lock_references.specs.Reference.{reference_or_refusal};
 
-    /// Reads one to three words with white space between: a name, a version, a source in round
+    /// Reads one to three parts with white space between: a name, a version, and a source in round
     /// brackets, as `foo 1.0.0 (registry+https://github.com/rust-lang/crates.io-index)`. A source
     /// that was read is marked plain.
     ///
-    /// The first word from the left that is refused decides: `Version` for the second one, else
-    /// `Parse`. A URL of 4 GB or more is refused too, which is never so where the text is shorter
-    /// than 2^24 bytes.
+    /// The first part from the left that is refused decides the error: `Version` for the version,
+    /// otherwise `Parse`. `Parse` also comes for a URL of 4 GB or more, which no text shorter than
+    /// 2^24 bytes has. The other error is `Memory`.
+    ///
+    /// ```
+    /// let reference = EncodableDependency::from_str(alloc, text)?;
+    /// ```
     pub fn from_str(alloc: Global, text: &str) -> Result<EncodableDependency>
         ensures read { ReadsReference result (reference_or_refusal text.now) }
         ensures short { IsShort text.now → ReadsReferenceExactly
@@ -79,7 +83,7 @@ impl EncodableDependency {
         EncodableDependency::read(alloc, text)
     }
 
-    // Reads a reference word by word.
+    // Reads a reference part by part.
     fn read(alloc: Global, text: &str) -> Result<EncodableDependency>
         ensures read { ReadsReference result (reference_of_words (text_words text.now)) }
         ensures short { IsShort text.now
@@ -130,7 +134,7 @@ fn next_word<'a>(rest: &mut SplitWhitespace<'a>) -> Option<&'a str>
 {
     match rest.next() {
         Some(word) => {
-            // No effect at run time. The proof reads the length of the word from this.
+            // No effect at run time. The proof reads the length of the part from this.
             let _text = word.as_bytes();
             Some(word)
         }
@@ -138,7 +142,7 @@ fn next_word<'a>(rest: &mut SplitWhitespace<'a>) -> Option<&'a str>
     }
 }
 
-// The source between round brackets.
+// The source in round brackets.
 #[tactic(auto, unfolding(crate::specs::Reference::bracketed_source))]
 fn bracketed_source(alloc: Global, word: &str) -> Result<SourceId>
     ensures read { ReadsUrls (λ source. source) result (spec.bracketed_source word.now) }
@@ -170,18 +174,24 @@ impl EncodableDependency {
     ghost use Rattle.cargo_lock_references.specs.WrittenReference.{ShortensTo, shorten};
     ghost use Rattle.cargo_lock_references.specs.Finds.{Finds};
 
-    /// The package that the reference stands for among these: without a source, the first one that
-    /// has the name and the written version. Where there is none, and with a source, the reference
-    /// is taken as it stands.
+    /// The package to which the reference resolves among these. Without a source it is the first
+    /// package that has the name and, if one is written, the version. If there is none, or if the
+    /// reference has a source, it is the reference's own name, version and source.
     ///
-    /// `Parse` says that the reference then has no version.
+    /// `Parse` means that no package matches and the reference has no version of its own. The other
+    /// error is `Memory`.
+    ///
+    /// ```
+    /// let values = lockfile.to_encodable(alloc)?;
+    /// let dependency = reference.resolve(alloc, values.package.as_slice())?;
+    /// ```
     pub fn resolve(&self, alloc: Global, list: &[EncodablePackage]) -> Result<Dependency>
         ensures { Finds (ResolvesTo self.now (map encoded_identity list.now)) result }
     {
         self.dependency_in(alloc, list)
     }
 
-    // The same, as it is looked up.
+    // The same, as it is computed.
     fn dependency_in(&self, alloc: Global, list: &[EncodablePackage]) -> Result<Dependency>
         ensures { Reads (λ d. d) result (resolution_of self.now (map encoded_identity list.now)) }
     {
@@ -189,7 +199,7 @@ impl EncodableDependency {
         require(alloc, &self.name, found)
     }
 
-    // The first package that the reference fits.
+    // The first package that the reference matches.
     fn first_fit<'a>(&self, list: &'a [EncodablePackage]) -> Option<&'a EncodablePackage>
         ensures { option_copied result ≡ find (λ e. fits self.now (encoded_identity e)) list.now }
     {
@@ -209,16 +219,20 @@ impl EncodableDependency {
             }
     }
 
-    /// The reference without the words that these packages make needless, as it is written from V2
-    /// on: its name alone, where exactly one of them has it, otherwise name and version, where
-    /// exactly one has both. It takes no memory.
+    /// The reference without the parts that are redundant among these packages, as it is written
+    /// from V2 on: its name alone if exactly one package has it, otherwise name and version if
+    /// exactly one package has both. It allocates nothing.
+    ///
+    /// ```
+    /// let shortened = reference.v2(packages);
+    /// ```
     pub fn v2(self, list: &[Package]) -> EncodableDependency
         ensures { ShortensTo (map identity_of list.now) self result }
     {
         self.by_counts(list)
     }
 
-    // The same, by how many packages have the name, and name and version.
+    // The same, computed from how many packages have the name, and the name and the version.
     #[tactic(auto, unfolding(crate::specs::WrittenReference::shorten))]
     fn by_counts(self, list: &[Package]) -> EncodableDependency
         ensures { result ≡ shorten (map identity_of list.now) self }
@@ -232,8 +246,13 @@ impl EncodableDependency {
         }
     }
 
-    /// The reference to a dependency in full: its name, its version and its source, unless that is
-    /// absent or a path. The source is marked escaped for V4, and plain before.
+    /// The reference to a dependency in full: its name, its version and its source, unless the
+    /// source is absent or a path. The source is marked escaped for V4, and plain before. The one
+    /// error is `Memory`.
+    ///
+    /// ```
+    /// let reference = EncodableDependency::from_dependency(dependency, ResolveVersion::V3)?;
+    /// ```
     pub fn from_dependency(
         dependency: &Dependency,
         format: ResolveVersion,
@@ -251,7 +270,7 @@ impl EncodableDependency {
     ghost use Rattle.cargo_lock_references.specs.Reference.{ReadsReference, ReadsReferenceExactly};
     ghost use Rattle.cargo_lock_references.specs.Metadata.{own_identity};
 
-    // The reference's own words as an identity.
+    // The reference's own parts as an identity.
     pub(crate) fn own_identity(&self, alloc: Global) -> Result<Dependency>
         ensures read { ReadsReference result (own_identity (Ok self.now)) }
         ensures exact { ReadsReferenceExactly result (own_identity (Ok self.now)) }
@@ -429,7 +448,7 @@ impl Ord for EncodableDependency {
     }
 }
 
-// An absent version stands before a present one.
+// An absent version is before a present one.
 fn cmp_versions(a: &Option<Version>, b: &Option<Version>) -> Ordering
     ensures { result
         ≡ option_cmp version_cmp (option_map parts_of a.now) (option_map parts_of b.now) }

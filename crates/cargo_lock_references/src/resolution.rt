@@ -1,4 +1,4 @@
-//! The dependency that a reference stands for among packages.
+//! The dependency to which a reference resolves among packages.
 
 ghost use Rattle.std.specs.Prelude.{◌≡◌, ◌↔◌, ◌⊎◌, ◌++◌, List, None, IfErr, IfOk, IsOk, IsSome};
 ghost use Rattle.std.specs.Prelude.{codes, map, option_copied, option_map};
@@ -17,8 +17,9 @@ use cargo_lock_parts::package::source::SourceIdAsUrl;
 use cargo_lock_parts::package::{Name, SourceId};
 use std::alloc::{AllocError, Global};
 
-/// The dependency that a reference stands for: without a source the first item that it fits, and
-/// with one, or where it fits none, its own words. It is `None` where these have no version.
+/// The dependency to which a reference resolves: without a source the first item that it matches;
+/// with a source, or if it matches no item, its own parts. It is `None` if these have no version.
+/// Fails when out of memory.
 pub fn dependency_among<'a, T: Identified>(
     reference: &EncodableDependencyRef<'a>,
     list: &Indexed<'a, T>,
@@ -28,7 +29,8 @@ pub fn dependency_among<'a, T: Identified>(
     dependency_by_first(reference, list.first_fit(reference))
 }
 
-/// The same, where the first item that the reference fits was looked up.
+/// The same, with `first`, the first item that the reference matches, already found. Fails when out
+/// of memory.
 pub fn dependency_by_first<T: Identified>(
     reference: &EncodableDependencyRef<'_>,
     first: Option<&T>,
@@ -46,7 +48,7 @@ pub fn dependency_by_first<T: Identified>(
     }
 }
 
-/// The reference's own words as a dependency, where a version is written.
+/// The reference's own parts as a dependency, if a version is written. Fails when out of memory.
 pub fn own_dependency(
     reference: &EncodableDependencyRef<'_>,
 ) -> std::result::Result<Option<Dependency>, AllocError>
@@ -62,7 +64,6 @@ pub fn own_dependency(
     }
 }
 
-// The source without its mark.
 fn without_mark<'a>(source: &'a Option<SourceIdAsUrl<'_>>) -> Option<&'a SourceId>
     ensures { option_map (λ s. s.now) result ≡ unmarked_source source.now }
 {
@@ -72,8 +73,8 @@ fn without_mark<'a>(source: &'a Option<SourceIdAsUrl<'_>>) -> Option<&'a SourceI
     }
 }
 
-/// The dependency that a reference of a table stands for among the packages of the table. `Parse`
-/// says that it stands for none.
+/// The dependency to which a reference of a table resolves among the packages of the table. `Parse`
+/// means that it resolves to none. The other error is `Memory`.
 pub fn resolve_among<'a>(
     alloc: Global,
     reference: &'a EncodableDependency,
@@ -85,8 +86,9 @@ pub fn resolve_among<'a>(
     require(alloc, &reference.name, found)
 }
 
-/// The dependency that was found for a reference of this name. `Parse` says that there is none;
-/// what was found is answered without memory.
+/// The dependency that was found for a reference of this name, which allocates nothing. `Parse`
+/// means that none was found, and names the reference; if memory for that text runs out, the error
+/// is `Memory`.
 pub fn require(alloc: Global, name: &Name, found: Option<Dependency>) -> Result<Dependency>
     ensures read { Reads (λ d. d) result found }
     ensures accepted { IsOk result ↔ IsSome found }
@@ -99,7 +101,7 @@ pub fn require(alloc: Global, name: &Name, found: Option<Dependency>) -> Result<
     }
 }
 
-// The refusal of a reference that needs a version.
+// The error for a reference that needs a version.
 fn resolution_refusal(alloc: Global, name: &Name) -> Error
     ensures kind { IsParseOrMemory result }
     ensures text { (result ≡ Memory)

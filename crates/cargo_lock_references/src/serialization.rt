@@ -9,7 +9,7 @@ use std::alloc::Global;
 
 impl Described for EncodableDependency {}
 
-// A reference is written as its text.
+// A reference is serialized as its text.
 impl Serialize for EncodableDependency {
     fn serialize<S: Serializer>(&self, out: &mut S) -> Result<(), S::Error> {
         out.collect_str(self)

@@ -10,8 +10,8 @@ use std::hash::{Hash, Hasher};
 use std::marker::Model;
 use std::ops::Deref;
 
-/// A source that is marked for its text: with the value of a git reference escaped, as V4 has it,
-/// or plain. Equality, order and hash look at the source alone.
+/// A source with a mark for its text: with the value of a git reference escaped, as in V4, or
+/// plain. Equality, order and hash look only at the source.
 #[derive(Debug, Drop)]
 pub struct EncodableSourceId {
     inner: SourceId,
@@ -47,7 +47,7 @@ impl EncodableSourceId {
         }
     }
 
-    /// The source as a text that can be displayed, as it is marked.
+    /// The source as a text that can be displayed, escaped or plain by its mark.
     pub fn as_url(&self) -> SourceIdAsUrl<'_>
         ensures { result ≡ self.now }
     {

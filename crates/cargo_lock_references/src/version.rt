@@ -20,19 +20,19 @@ use serde::{Deserialize, Serialize};
 use std::alloc::Global;
 use std::fmt;
 
-/// A format of lockfiles, by its number.
+/// A format of lockfiles. Its number is in the file from V3 on.
 #[derive(Clone, Copy, Debug, PartialEq, Eq, PartialOrd, Ord, Hash, Serialize, Deserialize)]
 pub enum ResolveVersion {
     /// The first format: references in full, and checksums in the metadata.
     V1,
 
-    /// References without needless words, and checksums in the packages.
+    /// References without redundant parts, and checksums in the packages.
     V2,
 
-    /// As V2, with the number of the format in the file.
+    /// As V2, and the number of the format is in the file.
     V3,
 
-    /// As V3, with the references of git sources escaped.
+    /// As V3, and the references of git sources are escaped.
     V4,
 }
 
@@ -64,8 +64,8 @@ impl From<ResolveVersion> for u32 {
 }
 
 impl ResolveVersion {
-    /// The format with this number. `Parse` refuses a number outside 1 to 4 and quotes it, which is
-    /// the one case that takes memory.
+    /// The format with this number. A number outside 1 to 4 is `Parse`, which quotes it; only this
+    /// text allocates, and if memory for it runs out, the error is `Memory`.
     pub fn from_number(alloc: Global, number: u32) -> Result<ResolveVersion>
         ensures read { Reads (λ version. version) result (format_numbered number) }
         ensures accepted { IsOk result ↔ ((1 ≤ number) × (number ≤ 4)) }
@@ -78,10 +78,14 @@ impl ResolveVersion {
     }
 
     /// The format whose number the text is, as Rust reads a `u32`: `3`, `+3` and `03` are V3. It
-    /// takes no memory.
+    /// allocates nothing.
     ///
-    /// `Parse` refuses any other text. It quotes the number of a text that is one, so `5` for `05`,
-    /// and a text that is no number as it stands.
+    /// Any other text is `Parse`. It quotes the number if the text is one, so `5` for `05`, and
+    /// otherwise the text itself. If memory for that runs out, the error is `Memory`.
+    ///
+    /// ```
+    /// let format = ResolveVersion::from_str(alloc, "4")?;
+    /// ```
     pub fn from_str(alloc: Global, text: &str) -> Result<ResolveVersion>
         ensures read { Finds (IsFormatText text.now) result }
         ensures accepted { IsOk result ↔ HasFormat text.now }
@@ -95,9 +99,9 @@ impl ResolveVersion {
         }
     }
 
-    /// The format of a lockfile whose table has no `version`: V1 where some key of the metadata
-    /// begins `checksum `, else V2. It takes no memory. `Parse` refuses checksums in both places.
-    /// The root's checksum does not count.
+    /// The format of a lockfile whose table has no `version`: V1 if some key of the metadata begins
+    /// with `checksum `, otherwise V2. It allocates nothing. Checksums in both places are `Parse`;
+    /// if memory for its text runs out, the error is `Memory`. The root's checksum is ignored.
     pub fn detect(
         alloc: Global,
         packages: &[EncodablePackage],
@@ -137,8 +141,9 @@ impl ResolveVersion {
     }
 }
 
-/// The format of the values of a table: that of the number, or where there is none, what `detect`
-/// finds. It takes no memory. `Parse` says that there is none.
+/// The format of the values of a table: that of the number, or without a number, what `detect`
+/// finds. It allocates nothing. If there is no format, the error is `Parse`, or `Memory` if memory
+/// for its text runs out.
 pub fn format_of_values(
     alloc: Global,
     version: Option<i64>,
@@ -157,7 +162,7 @@ pub fn format_of_values(
     }
 }
 
-// The format with this number.
+// The format with this number, if there is one.
 fn format_numbered(number: u32) -> Option<ResolveVersion>
     ensures { result ≡ format_numbered number }
 {
@@ -170,7 +175,7 @@ fn format_numbered(number: u32) -> Option<ResolveVersion>
     }
 }
 
-// The refusal of what is no number of a format.
+// The error for what is not the number of a format.
 fn invalid_format<T: fmt::Display + Drop>(alloc: Global, number: T) -> Error
     ensures kind { IsParseOrMemory result }
     ensures text { IfSome (T.output number)
@@ -179,7 +184,6 @@ fn invalid_format<T: fmt::Display + Drop>(alloc: Global, number: T) -> Error
     Error::parse(format!(in alloc; "invalid Cargo.lock format version: `{number}`"))
 }
 
-// Whether some package has a checksum.
 fn has_checksum(packages: &[EncodablePackage]) -> bool
     ensures { result ≡ has_checksum packages.now }
 {

@@ -42,8 +42,8 @@ fn copy_metadata(metadata: &Metadata) -> std::result::Result<Metadata, AllocErro
     metadata.clone()
 }
 
-// Writes what the metadata says of one package: in V1 sets its checksum key, and from V2 on takes
-// that key out.
+// Writes what the metadata says of one package: in V1 sets its checksum key, and from V2 on removes
+// that key.
 fn write_checksum(
     alloc: Global,
     format: ResolveVersion,
@@ -62,7 +62,7 @@ fn write_checksum(
     }
 }
 
-// Sets the checksum key of a package, where the package has a checksum.
+// Sets the checksum key of a package, if the package has a checksum.
 fn put_checksum(alloc: Global, metadata: &mut Metadata, package: &Package) -> Result<()>
     ensures ok { OnOk result (texts_of metadata.new.entries
         ≡ with_checksums (texts_of metadata.old.entries) («package».now ∷ [])) }
@@ -77,7 +77,7 @@ fn put_checksum(alloc: Global, metadata: &mut Metadata, package: &Package) -> Re
     Ok(())
 }
 
-// Takes the checksum key of a package out.
+// Removes the checksum key of a package.
 fn take_checksum(alloc: Global, metadata: &mut Metadata, package: &Package) -> Result<()>
     ensures ok { OnOk result (texts_of metadata.new.entries
         ≡ without_checksums (texts_of metadata.old.entries) («package».now ∷ [])) }
@@ -91,7 +91,6 @@ fn take_checksum(alloc: Global, metadata: &mut Metadata, package: &Package) -> R
     Ok(())
 }
 
-// The checksum key of a package.
 fn key_of(alloc: Global, package: &Package) -> Result<MetadataKey>
     ensures ok { IfOk result (λ key. key ≡ checksum_key (identity_of «package».now)) }
     ensures err { IsOkUnless result Memory }
@@ -119,7 +118,7 @@ fn remove_key(metadata: &mut Metadata, key: &MetadataKey)
     metadata.remove(key);
 }
 
-/// Sets a key to a value.
+/// Sets a key to a value. Fails when out of memory.
 pub fn set(
     metadata: &mut Metadata,
     key: MetadataKey,

@@ -1,4 +1,4 @@
--- What `bom` leaves in the writer that stands for standard output.
+-- What `bom` leaves in the writer for standard output.
 use Rattle.std.specs.Prelude.{◌≡◌, ℕ, Bool, List, Option, None, IsSome, codes}
 use Rattle.clap.specs.Matches.{first_value}
 use Rattle.clap.specs.declared.parser.matches.Found.{Found}
@@ -11,20 +11,22 @@ use Rattle.cargo_lock.specs.Loads.{IsMeant}
 use Rattle.cli_support.specs.Destination.{TakesOutput}
 use Rattle.cli.specs.Json.{IsAsked, IsFlag, IsUnasked}
 
--- there is a time exactly where the words ask for one
+-- there is a time exactly if the arguments ask for one
 pub record IsTimeAsked (found : Found) (time : Option ℕ) : Type 0 where
   pub asked : IsAsked found (codes "timestamp") → IsSome time
   pub unasked : IsUnasked found (codes "timestamp") → time ≡ None
 
--- What the words say of the bill of a lockfile: the root is that of the lockfile, unless they name
--- one of its packages, the author is theirs, and the time is this one, if there is one.
+-- The options that the arguments give for the bill of a lockfile: the root is that of the lockfile,
+-- unless they name one of its packages, the author is theirs, the time is this one, if there is
+-- one, and there is a serial number exactly if they ask for one.
 pub record IsSaid (found : Found) (time : Option ℕ) (l : LockfileData) (o : OptionsData) : Type 0
   where
     pub own : first_value found (codes "root") ≡ None → o.root ≡ own_root l.packages l.root
     pub author : o.author ≡ first_value found (codes "author")
     pub timestamp : o.timestamp ≡ time
+    pub serial : IsFlag found (codes "serial") o.has_serial
 
--- the line is the bill of some packages, compact exactly where the words ask for that
+-- the line is the bill of some packages, compact exactly if the arguments ask for that
 abbrev pub IsAskedLine : Found → List PackageData → OptionsData → List ℕ → Type 0
 IsAskedLine found packages o line = (compact : Bool) × IsFlag found (codes "compact") compact
     × IsPrintedBill packages o compact line
@@ -38,7 +40,7 @@ IsBillOf found time l line = (o : OptionsData) × IsSaid found time l o
 abbrev pub IsAskedBill : Found → Option ℕ → LockfileData → List ℕ → Type 0
 IsAskedBill found time l line = IsBillOf found time (with_cargo_checksums_in l) line
 
--- the line is that of a lockfile that some text means, with a time where the words ask for one
+-- the line is that of a lockfile that some text means, with a time if the arguments ask for one
 abbrev pub PrintsBill : Found → Option (List ℕ) → Option (List ℕ) → Type 0
 PrintsBill found old new = (l : LockfileData) × (time : Option ℕ) × (line : List ℕ) × IsMeant l
     × IsTimeAsked found time × IsAskedBill found time l line

@@ -11,12 +11,13 @@ use Rattle.cargo_lock_json.specs.Findings.{findings_json}
 use Rattle.cargo_lock_json.specs.Text.{IsJsonText}
 use Rattle.cli.specs.Json.{IsAsked, IsUnasked, PrintsLine, file_of}
 
--- the status is a failure exactly where anything is told, and else a success
+-- the status is a failure exactly if there is a finding, and otherwise a success
 pub record IsFindingsStatus (told : List FindingData) (failure success : Type 0) : Type 0 where
   pub found : told ≢ [] → failure
   pub none : told ≡ [] → success
 
--- what is printed of findings: where the words ask for JSON their document, and else their lines
+-- what is printed of findings: their document if the arguments ask for JSON, and otherwise their
+-- lines
 pub record PrintsFound (found : Found) (file : FileData) (told : List FindingData)
     (old new : Option (List ℕ)) : Type 0 where
   pub asked : IsAsked found (codes "json")
@@ -29,13 +30,13 @@ abbrev pub TellsFindings : Found → FileData → FindingsData → Option (List 
 TellsFindings found file f old new failure success = PrintsFound found file (told_of f) old new
     × IsFindingsStatus (told_of f) failure success
 
--- those of a text and a lockfile
+-- the findings of a text and a lockfile are printed, and the status is theirs
 abbrev pub TellsFindingsOf : Found → List ℕ → LockfileData → Option (List ℕ) → Option (List ℕ)
     → Type 0 → Type 0 → Type 0
 TellsFindingsOf found text l old new failure success = (f : FindingsData) × AreFindings text l f
     × TellsFindings found (file_of found (codes "file") l) f old new failure success
 
--- those of some text and the lockfile that it means: no contract says what a file holds
+-- the same for some text and the lockfile that it means: no contract says what a file holds
 abbrev pub TellsCheck : Found → Option (List ℕ) → Option (List ℕ) → Type 0 → Type 0 → Type 0
 TellsCheck found old new failure success = (text : List ℕ) × (l : LockfileData) × TextMeans text l
     × TellsFindingsOf found text l old new failure success

@@ -15,13 +15,14 @@ use Rattle.cli.specs.Json.{IsAsked, IsUnasked, PrintsLine, file_of}
 use Rattle.cargo_lock.specs.CargoChecksums.{with_cargo_checksums_in}
 use Rattle.cargo_lock.specs.Loads.{IsMeant}
 
--- this is told of a difference: with dependencies where the words ask for them
+-- these are the changes that are printed of a difference: with dependencies if the arguments ask
+-- for them
 pub record IsTold (found : Found) (d : DifferenceData) (told : List ChangeData) : Type 0 where
   pub asked : IsAsked found (codes "dependencies") → told ≡ all_changes_of true d
   pub unasked : IsUnasked found (codes "dependencies") → told ≡ all_changes_of false d
 
--- The status is a failure where there is an alarm, and where anything is told, if the words ask for
--- that. Else it is a success.
+-- The status is a failure if there is an alarm, and, if the arguments ask for that, if any change
+-- is printed. Otherwise it is a success.
 pub record IsStatus (found : Found) (d : DifferenceData) (told : List ChangeData)
     (failure success : Type 0) : Type 0 where
   pub alarm : d.alarms ≢ [] → failure
@@ -29,7 +30,7 @@ pub record IsStatus (found : Found) (d : DifferenceData) (told : List ChangeData
   pub unasked : d.alarms ≡ [] → IsUnasked found (codes "exit-code") → success
   pub empty : d.alarms ≡ [] → told ≡ [] → success
 
--- the last line, where anything is told: how many changes of each kind there are
+-- the last line, if any change is printed: how many changes of each kind there are
 abbrev pub last_line : List ChangeData → List ℕ
 last_line [] = []
 last_line (change ∷ changes) =
@@ -39,22 +40,22 @@ last_line (change ∷ changes) =
 abbrev pub told_text : List ChangeData → List ℕ
 told_text told = lines_text told ++ last_line told
 
--- what is printed of the changes that are told: where the words ask for JSON their document, and
--- else their lines
+-- what is printed of changes: their document if the arguments ask for JSON, and otherwise their
+-- lines
 pub record PrintsTold (found : Found) (before after : FileData) (told : List ChangeData)
     (old new : Option (List ℕ)) : Type 0 where
   pub asked : IsAsked found (codes "json")
       → PrintsLine (IsJsonText (difference_json before after told)) old new
   pub unasked : IsUnasked found (codes "json") → Appends old new (told_text told)
 
--- the text is that of what is told of a difference, and the status is that of both
+-- the text is that of the changes of a difference, and the status is that of both
 abbrev pub TellsChanges : Found → FileData → FileData → DifferenceData → Option (List ℕ)
     → Option (List ℕ) → Type 0 → Type 0 → Type 0
 TellsChanges found before after d old new failure success = (told : List ChangeData)
     × IsTold found d told × PrintsTold found before after told old new
     × IsStatus found d told failure success
 
--- those of the difference of the packages of two lockfiles
+-- the same for the difference of the packages of two lockfiles
 abbrev pub TellsDifferenceOf : Found → LockfileData → LockfileData → Option (List ℕ)
     → Option (List ℕ) → Type 0 → Type 0 → Type 0
 TellsDifferenceOf found before after old new failure success = (d : DifferenceData)
@@ -66,7 +67,7 @@ TellsDifferenceOf found before after old new failure success = (d : DifferenceDa
 abbrev pub IsCompared : LockfileData → Type 0
 IsCompared x = (l : LockfileData) × IsMeant l × (x ≡ with_cargo_checksums_in l)
 
--- those of two such lockfiles
+-- the same for two such lockfiles
 abbrev pub TellsDifference : Found → Option (List ℕ) → Option (List ℕ) → Type 0 → Type 0 → Type 0
 TellsDifference found old new failure success = (before after : LockfileData)
     × IsCompared before × IsCompared after

@@ -1,4 +1,4 @@
--- What the words ask for by a flag, and documents of JSON that are printed.
+-- What the arguments ask for by a flag, and documents of JSON that are printed.
 use Rattle.std.specs.Prelude.{◌≡◌, ℕ, Bool, true, false, List, [], ◌∷◌, ◌++◌, ◌⊎◌, Option, Some}
 use Rattle.std.specs.Prelude.{None, codes}
 use Rattle.std.specs.Io.KnownBytes.{Appends}
@@ -9,24 +9,24 @@ use Rattle.cargo_lock_encoding.specs.Lockfiles.{LockfileData}
 use Rattle.cargo_lock_json.specs.File.{FileData}
 use Rattle.cli_support.specs.Input.{given_path_in}
 
--- the words have the flag of this name
+-- the arguments have the flag of this name
 abbrev pub IsAsked : Found → List ℕ → Type 0
 IsAsked found name = one_text found name ≡ Some (codes "true")
 
--- they do not have it
+-- the arguments do not have it
 abbrev pub IsUnasked : Found → List ℕ → Type 0
 IsUnasked found name = (one_text found name ≡ None) ⊎ (one_text found name ≡ Some (codes "false"))
 
--- the words have the flag exactly where it is true
+-- the arguments have the flag exactly if it is true
 pub record IsFlag (found : Found) (name : List ℕ) (flag : Bool) : Type 0 where
   pub asked : IsAsked found name → flag ≡ true
   pub unasked : IsUnasked found name → flag ≡ false
 
--- a lockfile as a document has it: the path that an option or argument has, and its format
+-- a lockfile as a document has it: the path of an option or argument, and its format
 abbrev pub file_of : Found → List ℕ → LockfileData → FileData
 file_of found name l = record { path = given_path_in found name; format = l.version }
 
--- one line more is printed: a text of which this holds, and a newline
+-- one more line is printed: a text for which this holds, and a newline
 abbrev pub PrintsLine : (List ℕ → Type 0) → Option (List ℕ) → Option (List ℕ) → Type 0
 PrintsLine Holds old new = (text : List ℕ) × Holds text
     × Appends old new (text ++ newline ∷ [])

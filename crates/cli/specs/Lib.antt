@@ -2,5 +2,8 @@ pub mod Bom
 pub mod Json
 pub mod Check
 pub mod Translate
+pub mod Tree
 pub mod Diff
+pub mod Commands
+pub mod List
 pub mod Load

@@ -2,6 +2,7 @@
 ghost use Rattle.std.specs.Prelude.{◌≡◌, None, IfOk, OnOk, codes, string_bytes};
 ghost use Rattle.clap.specs.Matches.{first_value, found_of};
 ghost use Rattle.cli.specs.Bom.{IsAskedBill, IsAskedLine, IsBillOf, IsTimeAsked, PrintsBill};
+ghost use Rattle.cli.specs.Json.{IsFlag};
 
 use crate::load::named_lockfile;
 use crate::spec::Spec;
@@ -28,7 +29,7 @@ without a source has no purl: pkg:cargo/NAME@VERSION would be the package of cra
 /// The package that a bill is about, as help shows it.
 const ROOT_HELP: &str = "The package that the bill is about, as for tree; only one may fit";
 
-/// The time that a bill says, as help shows it.
+/// How the time is chosen, as help shows it.
 const TIME_HELP: &str = "Adds the time: of SOURCE_DATE_EPOCH, or else of the clock";
 
 /// The parser of this command: its options.
@@ -55,9 +56,9 @@ fn named<'a>(alloc: Global, name: &'a str, shown: &'a str) -> Arg<'a> {
 }
 
 /// Writes the bill of materials of the lockfile and a newline: into the output file, or to `out`.
-/// Fails where the time is not known, where the lockfile is not read or has no tree, where not one
-/// package is the root that the words name, where one text would refer to two of its packages, and
-/// where the output fails.
+/// Fails if the time is not known, if the lockfile is not read or has no tree, if not exactly one
+/// package matches the root that the arguments name, if the same text would refer to two of its
+/// packages, and if the output fails.
 pub(crate) fn run<R: Files + Env + Clock + AllocGlobal, W: Write>(
     rt: &R,
     options: &ArgMatches<'_>,
@@ -72,7 +73,7 @@ pub(crate) fn run<R: Files + Env + Clock + AllocGlobal, W: Write>(
     put_out(rt, options, text.as_str(), "", out)
 }
 
-/// The time, if the words ask for one.
+/// The time, if the arguments ask for one.
 fn asked_time<R: Env + Clock + AllocGlobal>(
     rt: &R,
     options: &ArgMatches<'_>,
@@ -87,7 +88,7 @@ fn asked_time<R: Env + Clock + AllocGlobal>(
     }
 }
 
-/// The text of the bill of materials of a lockfile that the words ask for, and a newline.
+/// The text of the bill of materials of a lockfile that the arguments ask for, and a newline.
 fn text_about(
     alloc: Global,
     options: &ArgMatches<'_>,
@@ -101,7 +102,7 @@ fn text_about(
     text_of_lockfile(alloc, options, time, lockfile)
 }
 
-/// The same of a lockfile with the checksums that Cargo reads.
+/// The same for a lockfile with the checksums that Cargo reads.
 fn text_of_lockfile(
     alloc: Global,
     options: &ArgMatches<'_>,
@@ -117,8 +118,8 @@ fn text_of_lockfile(
     asked_line(alloc, options, &packages, &said)
 }
 
-/// The root that the words name, or else the own one. Fails where no package fits its specification,
-/// or several do.
+/// The root that the arguments name, or else the lockfile's own one. Fails if no package matches
+/// its specification, or several do.
 fn given_root(
     alloc: Global,
     options: &ArgMatches<'_>,
@@ -137,7 +138,7 @@ fn given_root(
     }
 }
 
-/// The node of the only package that a specification fits.
+/// The node of the only package that matches a specification.
 fn only_fitting(alloc: Global, packages: &[Package], spec: &str) -> Result<NodeIndex, Fault> {
     let fitting = fitting(alloc, packages, spec)?;
     match fitting.as_slice() {
@@ -146,7 +147,7 @@ fn only_fitting(alloc: Global, packages: &[Package], spec: &str) -> Result<NodeI
     }
 }
 
-/// The nodes of the packages that a specification fits.
+/// The nodes of the packages that match a specification.
 fn fitting(alloc: Global, packages: &[Package], spec: &str) -> Result<Vec<NodeIndex>, Fault> {
     let parsed = Spec::parse(alloc, spec)?;
     let mut fitting = Vec::new(alloc);
@@ -158,7 +159,8 @@ fn fitting(alloc: Global, packages: &[Package], spec: &str) -> Result<Vec<NodeIn
     Ok(fitting)
 }
 
-/// What the words say of a bill with this root and this time, if they are given.
+/// The options of a bill that the arguments ask for, with this root and this time, if they are
+/// given.
 fn said_of_bill<'a>(
     options: &ArgMatches<'a>,
     given: Option<NodeIndex>,
@@ -167,6 +169,7 @@ fn said_of_bill<'a>(
     ensures root { «result».root ≡ given }
     ensures timestamp { «result».timestamp ≡ time }
     ensures author { «result».author ≡ first_value (found_of options.now) (codes "author") }
+    ensures serial { IsFlag (found_of options.now) (codes "serial") «result».has_serial }
 {
     Options {
         root: given,
@@ -177,7 +180,7 @@ fn said_of_bill<'a>(
     }
 }
 
-/// The text of the bill of materials of packages, in one line where the words ask for that, and a
+/// The text of the bill of materials of packages, in one line if the arguments ask for that, and a
 /// newline.
 fn asked_line(
     alloc: Global,

@@ -24,10 +24,10 @@ use std::rt::Files;
 /// The lines of `check`, as help shows them.
 const FINDINGS_HELP: &str = "\
 Each finding is a line, in this order:
-  reference: PACKAGE depends on DEPENDENCY, which is no package
-  twice: PACKAGE stands more than once
+  reference: PACKAGE depends on DEPENDENCY, which is missing from the lockfile
+  twice: PACKAGE is listed more than once
   twice: PACKAGE lists DEPENDENCY more than once
-  name: NAME is no name that Cargo takes
+  name: NAME is not a name that Cargo accepts
   alike: PACKAGE and PACKAGE have one name on crates.io
   source: SOURCE is not crates.io                though its URL looks so
   source: SOURCE has user info
@@ -36,26 +36,26 @@ Each finding is a line, in this order:
   checksum: PACKAGE has none, though others of its registry have
   checksum: no package of SOURCE has one
   stale: `KEY` is in the metadata, and is of no package
-  order: PACKAGE stands before PACKAGE
+  order: PACKAGE is listed before PACKAGE
   order: PACKAGE lists DEPENDENCY before DEPENDENCY
   format: V3 loses the tag, branch or revision of `SOURCE`; V4 keeps it
   format: V4 does not keep this lockfile
   text: line NUMBER is not as Cargo writes it: `LINE` for `CARGO'S LINE`
 A package of the workspace is one without a source. The status is 1 where anything is found, and 2 where the lockfile cannot be read.";
 
-/// The parser of this command: its option.
+/// The parser of this command: its options.
 pub(crate) fn command<'a>(alloc: Global) -> Result<Command<'a>, AllocError> {
     Command::new(alloc, "check")
-        .about("Tells what is wrong with a lockfile")
+        .about("Prints what is wrong with a lockfile")
         .after_help(FINDINGS_HELP)
         .arg(words::file(alloc))?
         .arg(words::any_size(alloc))?
         .arg(words::json(alloc))
 }
 
-/// Prints what is wrong with the lockfile, a line for each finding, or where the words ask for it
-/// all as one line of JSON. The status is 1 where there is one, and else 0. Fails where the
-/// lockfile is not read or `out` fails; a beginning of the text was then written in the last case,
+/// Prints what is wrong with the lockfile, a line for each finding, or, if the arguments ask for
+/// it, all as one line of JSON. The status is 1 if there is a finding, and otherwise 0. Fails if
+/// the lockfile is not read or `out` fails; a prefix of the text was then written in the last case,
 /// and nothing in the others.
 pub(crate) fn run<R: Files + AllocGlobal, W: Write>(
     rt: &R,
@@ -72,7 +72,7 @@ pub(crate) fn run<R: Files + AllocGlobal, W: Write>(
     tell(rt.alloc(), options, text, &lockfile, out)
 }
 
-/// Prints what is wrong with a lockfile that was read from a text. Answers the status.
+/// Prints what is wrong with a lockfile that was read from a text. Returns the status.
 fn tell<W: Write>(
     alloc: Global,
     options: &ArgMatches<'_>,
@@ -89,7 +89,7 @@ fn tell<W: Write>(
     tell_findings(alloc, options, &file, &findings, out)
 }
 
-/// Prints the findings. Answers the status.
+/// Prints the findings. Returns the status.
 fn tell_findings<W: Write>(
     alloc: Global,
     options: &ArgMatches<'_>,
@@ -106,7 +106,7 @@ fn tell_findings<W: Write>(
     Ok(status(&all))
 }
 
-/// Prints findings as the words ask for it: in JSON, or as lines.
+/// Prints findings as the arguments ask for it: in JSON, or as lines.
 fn print_found<W: Write>(
     alloc: Global,
     options: &ArgMatches<'_>,
@@ -151,7 +151,6 @@ fn print_findings<W: Write>(out: &mut W, findings: &[Finding<'_>]) -> Result<(),
     Ok(())
 }
 
-/// The status that the findings ask for.
 fn status(findings: &[Finding<'_>]) -> ExitCode
     ensures { IsFindingsStatus (map finding_of findings.now)
         (result ≡ ExitCode.FAILURE) (result ≡ ExitCode.SUCCESS) }

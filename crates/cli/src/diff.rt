@@ -68,11 +68,11 @@ fn path<'a>(alloc: Global, name: &'a str, shown: &'a str) -> Arg<'a> {
         .action(ArgAction::Set)
 }
 
-/// Prints what differs between the packages of two lockfiles, a line for each change, and where the
-/// words ask for it also what differs between their dependencies, or all as one line of JSON. The
-/// status is 1 where a package of one name, version and source has another digest, and where the
-/// words ask for it, also where anything differs. Else it is 0. Fails where a lockfile is not read or
-/// `out` fails; a beginning of the text was then written in the last case, and nothing in the others.
+/// Prints what differs between the packages of two lockfiles, a line for each change, and if the
+/// arguments ask for it also what differs between their dependencies, or all as one line of JSON.
+/// The status is 1 if there is an alarm, or, if the arguments ask for it, if anything differs.
+/// Otherwise it is 0. Fails if a lockfile is not read or `out` fails; a prefix of the text was then
+/// written in the last case, and nothing in the others.
 pub(crate) fn run<R: Files + AllocGlobal, W: Write>(
     rt: &R,
     options: &ArgMatches<'_>,
@@ -103,7 +103,7 @@ fn compared_lockfile<R: Files + AllocGlobal>(
     Ok(compared)
 }
 
-/// Prints what differs between the packages of two lockfiles. Answers the status.
+/// Prints what differs between the packages of two lockfiles. Returns the status.
 fn tell<W: Write>(
     alloc: Global,
     options: &ArgMatches<'_>,
@@ -121,7 +121,7 @@ fn tell<W: Write>(
     tell_changes(alloc, options, &before, &after, &difference, out)
 }
 
-/// Prints the changes that a difference tells. Answers the status.
+/// Prints the changes of a difference. Returns the status.
 fn tell_changes<W: Write>(
     alloc: Global,
     options: &ArgMatches<'_>,
@@ -139,7 +139,7 @@ fn tell_changes<W: Write>(
     Ok(status(options, difference, changes.as_slice()))
 }
 
-/// Prints changes as the words ask for it: in JSON, or as lines.
+/// Prints changes as the arguments ask for it: in JSON, or as lines.
 fn print_told<W: Write>(
     alloc: Global,
     options: &ArgMatches<'_>,
@@ -175,7 +175,7 @@ fn print_document<W: Write>(
     Ok(())
 }
 
-/// The changes that the words ask for: those of packages, and then those of dependencies.
+/// The changes that the arguments ask for: those of packages, and then those of dependencies.
 fn changes<'d>(
     alloc: Global,
     options: &ArgMatches<'_>,
@@ -222,7 +222,7 @@ fn print_changes<W: Write>(out: &mut W, changes: &[Change<'_>]) -> Result<(), Fa
     Ok(())
 }
 
-/// The status that a difference and the changes that are printed ask for.
+/// The status for a difference and the changes that are printed.
 fn status(options: &ArgMatches<'_>, difference: &Difference<'_>, changes: &[Change<'_>]) -> ExitCode
     ensures { IsStatus (found_of options.now) difference.now (map change_of changes.now)
         (result ≡ ExitCode.FAILURE) (result ≡ ExitCode.SUCCESS) }

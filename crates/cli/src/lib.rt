@@ -2,14 +2,17 @@
 //! format, draws its trees, writes its bill of materials, and reports what differs between two and
 //! what is wrong with one.
 //!
-//! A fault is reported in one message on standard error that begins `*** error: `. The status is then
-//! 2 for `bom`, `check` and `diff`, which the original does not have, and else 1. Without a fault it
-//! is 0, all of the output was written and flushed, and what `diff` or `check` found may make it 1.
+//! An error is reported in one message on standard error that begins with `*** error: `. The status
+//! is then 2 for `bom`, `check` and `diff`, which the original does not have, and 1 for the others.
+//! Without an error it is 0, and all of the output was written and flushed; what `diff` or `check`
+//! found may make it 1.
 #![tactic(auto)]
 
-ghost use Rattle.std.specs.Prelude.{◌≡◌, ◌⊎◌, IfErr, IfOk, map};
+ghost use Rattle.std.specs.Prelude.{◌≡◌, ◌⊎◌, IfErr, IfOk, IfSome, map};
 ghost use Rattle.std.specs.Io.KnownBytes.{Keeps};
+ghost use Rattle.clap.specs.Matches.{found_of};
 ghost use Rattle.cli_support.specs.Status.{IsFaultStatus};
+ghost use Rattle.cli.specs.Commands.{Follows, FollowsMatches, name_of};
 
 mod bom;
 mod check;
@@ -33,10 +36,9 @@ use std::process::ExitCode;
 use std::rt::Files;
 use std::time::Clock;
 
-/// Runs the command that `words`, the arguments without the program's own name, ask for. What it
-/// prints goes to `out`, which is then flushed, and a fault goes to `err`, as one message. Where it
-/// returns success, nothing was written to `err`; where something was, the status is that of a
-/// fault.
+/// Runs the command that `words`, the arguments without the program's own name, ask for. Its output
+/// goes to `out`, which is then flushed, and an error goes to `err`, as one message. If it returns
+/// success, nothing was written to `err`; if something was, the status is that of an error.
 pub fn run<R: Files + Env + Clock + AllocGlobal, S: AsStr, W: Write, E: Write>(
     rt: &R,
     words: &[S],
@@ -50,8 +52,8 @@ pub fn run<R: Files + Env + Clock + AllocGlobal, S: AsStr, W: Write, E: Write>(
     ended(err, words, execute(rt, words, out))
 }
 
-/// Returns the status that a command came to. Where it came to a fault, prints the message of that,
-/// and returns the status of a fault of the command.
+/// Returns the status of a finished command. If the command failed, prints the message of the
+/// error, and returns the status of an error of the command.
 fn ended<S: AsStr, E: Write>(err: &mut E, words: &[S], outcome: Result<ExitCode, Fault>) -> ExitCode
     ensures ok { IfOk outcome (λ status.
         (result ≡ status) × Keeps (E.contents err.old) (E.contents err.new)) }
@@ -63,7 +65,7 @@ fn ended<S: AsStr, E: Write>(err: &mut E, words: &[S], outcome: Result<ExitCode,
     }
 }
 
-/// Prints the message of a fault. Returns the status that is given, also where that fails.
+/// Prints the message of an error. Returns the given status, even if printing fails.
 pub fn report<E: Write>(err: &mut E, fault: &Fault, status: ExitCode) -> ExitCode
     ensures { result ≡ status }
 {
@@ -72,7 +74,7 @@ pub fn report<E: Write>(err: &mut E, fault: &Fault, status: ExitCode) -> ExitCod
     status
 }
 
-/// Reads the words, and runs their command or prints the help or the version that they ask for.
+/// Reads the arguments, and runs their command or prints the help or the version that they ask for.
 /// Returns the status.
 fn execute<R: Files + Env + Clock + AllocGlobal, S: AsStr, W: Write>(
     rt: &R,
@@ -94,8 +96,8 @@ fn execute<R: Files + Env + Clock + AllocGlobal, S: AsStr, W: Write>(
     Ok(status)
 }
 
-/// The parser of the words. Of an option that is given again the last value counts, and a flag that
-/// is given again is one flag. Fails when out of memory.
+/// The parser of the arguments. If an option is given more than once, the last value counts, and a
+/// flag may be given more than once. Fails when out of memory.
 fn parser<'a>(alloc: Global) -> Result<Command<'a>, AllocError> {
     Command::new(alloc, "cargo-lock")
         .about("Looks into lockfiles")
@@ -110,20 +112,80 @@ fn parser<'a>(alloc: Global) -> Result<Command<'a>, AllocError> {
         .subcommand(check::command(alloc)?)
 }
 
+/// A command.
+#[derive(Clone, Copy)]
+enum Chosen {
+    Bom,
+    Check,
+    Diff,
+    List,
+    Translate,
+    Tree,
+}
+
+/// The command of a name.
+fn command_named(name: &str) -> Option<Chosen>
+    ensures { IfSome result (λ command. name.now ≡ name_of command) }
+{
+    match name {
+        "bom" => Some(Chosen::Bom),
+        "check" => Some(Chosen::Check),
+        "diff" => Some(Chosen::Diff),
+        "list" => Some(Chosen::List),
+        "translate" => Some(Chosen::Translate),
+        "tree" => Some(Chosen::Tree),
+        _ => None,
+    }
+}
+
 /// Runs the command that the parser found. Returns the status.
 fn dispatch<R: Files + Env + Clock + AllocGlobal, W: Write>(
     rt: &R,
     matches: &ArgMatches<'_>,
     out: &mut W,
-) -> Result<ExitCode, Fault> {
-    match matches.subcommand() {
-        Some(("bom", options)) => bom::run(rt, options, out)?,
-        Some(("check", options)) => return check::run(rt, options, out),
-        Some(("diff", options)) => return diff::run(rt, options, out),
-        Some(("list", options)) => list::run(rt, options, out)?,
-        Some(("translate", options)) => translate::run(rt, options, out)?,
-        Some(("tree", options)) => tree::run(rt, options, out)?,
-        _ => return Err(Fault::NoCommand),
+) -> Result<ExitCode, Fault>
+    ensures { IfOk result (λ status. FollowsMatches matches.now
+        (W.contents out.old) (W.contents out.new)
+        (status ≡ ExitCode.FAILURE) (status ≡ ExitCode.SUCCESS)) }
+{
+    let Some((name, options)) = matches.subcommand() else {
+        return Err(Fault::NoCommand);
+    };
+    match command_named(name) {
+        Some(command) => follow(rt, command, options, out),
+        None => Err(Fault::NoCommand),
     }
-    Ok(ExitCode::SUCCESS)
+}
+
+/// Runs a command with its options. Returns the status.
+fn follow<R: Files + Env + Clock + AllocGlobal, W: Write>(
+    rt: &R,
+    command: Chosen,
+    options: &ArgMatches<'_>,
+    out: &mut W,
+) -> Result<ExitCode, Fault>
+    ensures { IfOk result (λ status. Follows command (found_of options.now)
+        (W.contents out.old) (W.contents out.new)
+        (status ≡ ExitCode.FAILURE) (status ≡ ExitCode.SUCCESS)) }
+{
+    match command {
+        Chosen::Bom => {
+            bom::run(rt, options, out)?;
+            Ok(ExitCode::SUCCESS)
+        }
+        Chosen::Check => check::run(rt, options, out),
+        Chosen::Diff => diff::run(rt, options, out),
+        Chosen::List => {
+            list::run(rt, options, out)?;
+            Ok(ExitCode::SUCCESS)
+        }
+        Chosen::Translate => {
+            translate::run(rt, options, out)?;
+            Ok(ExitCode::SUCCESS)
+        }
+        Chosen::Tree => {
+            tree::run(rt, options, out)?;
+            Ok(ExitCode::SUCCESS)
+        }
+    }
 }

@@ -1,4 +1,4 @@
-//! The lockfiles that the words name.
+//! The lockfiles that the arguments name.
 ghost use Rattle.std.specs.Prelude.{◌≡◌, IfErr, IfOk};
 ghost use Rattle.clap.specs.Matches.{found_of};
 ghost use Rattle.cargo_lock.specs.Loads.{IsMeant};
@@ -14,7 +14,7 @@ use cli_support::{Fault, words};
 use std::alloc::Global;
 use std::rt::Files;
 
-/// The lockfile whose path the option `name` has. Fails where it is not read.
+/// The lockfile at the path of the option `name`. Fails if it is not read.
 pub(crate) fn lockfile<R: Files + AllocGlobal>(
     rt: &R,
     options: &ArgMatches<'_>,
@@ -28,7 +28,6 @@ pub(crate) fn lockfile<R: Files + AllocGlobal>(
     Ok(lockfile)
 }
 
-/// The lockfile of a text.
 fn lockfile_of(alloc: Global, text: &str) -> Result<Lockfile, Fault>
     ensures ok { IfOk result (TextMeans text.now) }
     ensures err { IfErr result IsOfLockfile }
@@ -39,8 +38,8 @@ fn lockfile_of(alloc: Global, text: &str) -> Result<Lockfile, Fault>
     }
 }
 
-/// The lockfile whose path the option or argument `name` has. Fails where it is not read, with the
-/// path in the fault.
+/// The lockfile at the path of the option or argument `name`. Fails if it is not read, with the
+/// path in the error.
 pub(crate) fn named_lockfile<R: Files + AllocGlobal>(
     rt: &R,
     options: &ArgMatches<'_>,
@@ -54,8 +53,8 @@ pub(crate) fn named_lockfile<R: Files + AllocGlobal>(
     }
 }
 
-/// The text of the lockfile whose path the option `name` has. Fails where it is not read, with the
-/// path in the fault.
+/// The text of the lockfile at the path of the option `name`. Fails if it is not read, with the
+/// path in the error.
 pub(crate) fn named_text<R: Files + AllocGlobal>(
     rt: &R,
     options: &ArgMatches<'_>,
@@ -67,8 +66,8 @@ pub(crate) fn named_text<R: Files + AllocGlobal>(
     }
 }
 
-/// The lockfile of the text that the option `name` has led to. Fails where it is none, with the
-/// path in the fault.
+/// The lockfile of the text that was read for the option `name`. Fails if the text is not a
+/// lockfile, with the path in the error.
 pub(crate) fn named_lockfile_of(
     alloc: Global,
     options: &ArgMatches<'_>,
@@ -83,7 +82,7 @@ pub(crate) fn named_lockfile_of(
     }
 }
 
-/// The lockfile whose path the option or argument `name` has, as a document has it.
+/// The lockfile at the path of the option or argument `name`, as a document has it.
 pub(crate) fn file<'a>(options: &ArgMatches<'a>, name: &str, lockfile: &Lockfile) -> File<'a>
     ensures { result ≡ file_of (found_of options.now) name.now lockfile.now }
 {
@@ -93,7 +92,7 @@ pub(crate) fn file<'a>(options: &ArgMatches<'a>, name: &str, lockfile: &Lockfile
     }
 }
 
-/// The fault with the path that the option or argument `name` has, where it is one of a file.
+/// The error with the path of the option or argument `name`, if it is an error of a file.
 fn named(alloc: Global, options: &ArgMatches<'_>, name: &str, fault: Fault) -> Fault {
     match fault {
         Fault::Library(Error::Memory) => fault,

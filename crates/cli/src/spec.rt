@@ -5,13 +5,13 @@ use cli_support::Fault;
 use std::alloc::Global;
 
 /// A specification of a package, cut at its first `@` into a name and a second part. Without an `@`
-/// it stands for both.
+/// the text is used as both.
 #[derive(Drop)]
 pub(crate) struct Spec<'a> {
     name: &'a str,
     part: &'a str,
 
-    /// Whether the name and the second part have to fit, and not one of them.
+    /// Whether the name and the second part both have to match; otherwise one of them is enough.
     both: bool,
 
     /// The version that the second part reads as, if it does.
@@ -34,7 +34,7 @@ impl<'a> Spec<'a> {
         })
     }
 
-    /// Whether a package fits. Fails when out of memory.
+    /// Whether a package matches. Fails when out of memory.
     pub(crate) fn fits(&self, alloc: Global, package: &Package) -> Result<bool, Fault> {
         let named = package.name.as_str() == self.name;
         if self.both {
@@ -43,7 +43,7 @@ impl<'a> Spec<'a> {
         Ok(named || self.part_fits(alloc, package)?)
     }
 
-    /// Whether the second part is the version of a package, or, where it is no version, its
+    /// Whether the second part is the version of a package, or, if it is not a version, its
     /// checksum or the precise text of its source.
     fn part_fits(&self, alloc: Global, package: &Package) -> Result<bool, Fault> {
         if let Some(version) = &self.version {

@@ -1,5 +1,5 @@
 //! The command `translate`: a lockfile in another format.
-ghost use Rattle.std.specs.Prelude.{◌≡◌, ◌⊎◌, IfErr, IfOk, IsOkUnless, OnOk};
+ghost use Rattle.std.specs.Prelude.{◌≡◌, ◌⊎◌, IfErr, IfOk, IsOkUnless, Ok, OnOk};
 ghost use Rattle.std.specs.Prelude.{codes, string_bytes, unwrap_or};
 ghost use Rattle.clap.specs.Matches.{first_value, found_of};
 ghost use Rattle.cargo_lock_parts.specs.declared.error.Error.TheVariants.{Memory};
@@ -9,6 +9,7 @@ ghost use Rattle.cargo_lock_encoding.specs.Survives.{Survives, in_format};
 ghost use Rattle.cargo_lock.specs.Printed.{TextReadsBack};
 ghost use Rattle.cli_support.specs.declared.fault.Fault.TheVariants.{Library, DoesNotSurvive};
 ghost use Rattle.cli_support.specs.declared.fault.Fault.TheVariants.{TextDoesNotSurvive};
+ghost use Rattle.cli.specs.Json.{IsUnasked};
 ghost use Rattle.cli.specs.Translate.{IsCheckAsked, IsTextCheckAsked, PrintsTranslation};
 
 use crate::load::lockfile;
@@ -21,7 +22,7 @@ use std::alloc::{AllocError, Global};
 use std::io::Write;
 use std::rt::Files;
 
-/// The format that is written where the words name none.
+/// The format that is written if the arguments name none.
 const DEFAULT_FORMAT: &str = "3";
 
 /// What `--check` does, as help shows it.
@@ -58,9 +59,9 @@ fn format_text<'a>(options: &ArgMatches<'a>) -> &'a str
 }
 
 /// Writes the lockfile in the format that is asked for: into the output file, or to `out` with one
-/// more newline. The format is read before the file. Fails where either is not read, where the
-/// words ask for a check and the lockfile does not survive the format or its text does not read
-/// back, and where the output fails.
+/// more newline. The format is read before the file. Fails if either is not read, if the arguments
+/// ask for a check and the lockfile does not survive the format or its text does not read back, and
+/// if the output fails.
 pub(crate) fn run<R: Files + AllocGlobal, W: Write>(
     rt: &R,
     options: &ArgMatches<'_>,
@@ -76,8 +77,8 @@ pub(crate) fn run<R: Files + AllocGlobal, W: Write>(
     put_out(rt, options, text.as_str(), "\n", out)
 }
 
-/// Refuses a lockfile that does not survive the format where the words ask for that, and one whose
-/// text in the format does not read back where they ask for that.
+/// Refuses a lockfile that does not survive the format if the arguments ask for that, and one whose
+/// text in the format does not read back if they ask for that.
 fn check_if_asked(
     alloc: Global,
     options: &ArgMatches<'_>,
@@ -88,6 +89,8 @@ fn check_if_asked(
         (IsCheckAsked (found_of options.now) → Survives lockfile.now format) }
     ensures text { OnOk result
         (IsTextCheckAsked (found_of options.now) → TextReadsBack lockfile.now format) }
+    ensures unasked { IsUnasked (found_of options.now) (codes "check")
+        → IsUnasked (found_of options.now) (codes "check-text") → result ≡ Ok tt }
 {
     if options.get_flag("check") {
         check(alloc, lockfile, format)?;

@@ -1,5 +1,13 @@
 //! The command `tree`: the trees of the roots of a lockfile, or of the packages that are asked for.
-ghost use Rattle.std.specs.Prelude.{◌<◌, All, IfOk, length};
+ghost use Rattle.std.specs.Prelude.{◌≡◌, ◌<◌, List, ℕ, All, IfOk, OnOk, length};
+ghost use Rattle.std.specs.Io.KnownBytes.{Appends};
+ghost use Rattle.std.specs.List.{AllZip};
+ghost use Rattle.clap.specs.Matches.{found_of};
+ghost use Rattle.cargo_lock_graph.specs.Edges.{GraphData};
+ghost use Rattle.cargo_lock_graph.specs.Rendering.{Draws};
+ghost use Rattle.cli.specs.Json.{IsFlag};
+ghost use Rattle.cli.specs.Tree.{AreDrawn, AreStarts, IsDrawn, IsGraphOf, PrintsTrees};
+ghost use Rattle.cli.specs.Tree.{PrintsTreesOf, after_empty_lines, direction_of, given_specs};
 
 use crate::load::lockfile;
 use crate::spec::Spec;
@@ -40,59 +48,66 @@ struct Style {
     exact: bool,
 }
 
-impl Style {
-    /// The style that the words ask for.
-    fn of(options: &ArgMatches<'_>) -> Style {
-        Style {
-            direction: direction(options.get_flag("invert")),
-            exact: options.get_flag("exact"),
-        }
-    }
-}
-
 /// Prints the trees of the packages that the specifications name, or without any those of all
-/// roots, with an empty line between two trees. Fails where the lockfile is not read or has no
-/// tree, where a specification fits no package, or where `out` fails; a beginning of the text was
-/// then written in the last case, and nothing in the others.
+/// roots, with an empty line between two trees. Fails if the lockfile is not read or has no tree,
+/// if a specification matches no package, or if `out` fails; a prefix of the text was then written
+/// in the last case, and nothing in the others.
 pub(crate) fn run<R: Files + AllocGlobal, W: Write>(
     rt: &R,
     options: &ArgMatches<'_>,
     out: &mut W,
-) -> Result<(), Fault> {
+) -> Result<(), Fault>
+    ensures { OnOk result
+        (PrintsTrees (found_of options.now) (W.contents out.old) (W.contents out.new)) }
+{
     let lockfile = lockfile(rt, options, "file")?;
     draw(rt.alloc(), out, &lockfile, options)
 }
 
-/// Prints the trees of a lockfile that the words ask for.
+/// Prints the trees of a lockfile that the arguments ask for.
 fn draw<W: Write>(
     alloc: Global,
     out: &mut W,
     lockfile: &Lockfile,
     options: &ArgMatches<'_>,
-) -> Result<(), Fault> {
+) -> Result<(), Fault>
+    ensures { OnOk result ((graph : GraphData) × IsGraphOf lockfile.now graph
+        × PrintsTreesOf (found_of options.now) graph (W.contents out.old) (W.contents out.new)) }
+{
     let tree = tree_of(alloc, lockfile)?;
     let packages = lockfile.packages.as_slice();
     draw_starts(alloc, out, packages, &tree, options)
 }
 
-/// Prints the trees of the nodes that the words name.
+/// Prints the trees of the nodes that the arguments name.
 fn draw_starts<W: Write>(
     alloc: Global,
     out: &mut W,
     packages: &[Package],
     tree: &Tree,
     options: &ArgMatches<'_>,
-) -> Result<(), Fault> {
+) -> Result<(), Fault>
+    ensures { OnOk result (PrintsTreesOf (found_of options.now) tree.now.graph
+        (W.contents out.old) (W.contents out.new)) }
+{
     let starts = starts(alloc, packages, tree, options)?;
-    print_trees(alloc, out, tree, starts.as_slice(), Style::of(options))
+    let style = Style {
+        direction: direction(options.get_flag("invert")),
+        exact: options.get_flag("exact"),
+    };
+    print_trees(alloc, out, tree, starts.as_slice(), style)
 }
 
-/// The tree of the lockfile. Fails where a dependency has no package.
-fn tree_of(alloc: Global, lockfile: &Lockfile) -> Result<Tree, Error> {
+/// The tree of the lockfile. Fails if no package matches a dependency.
+fn tree_of(alloc: Global, lockfile: &Lockfile) -> Result<Tree, Error>
+    ensures { IfOk result (λ tree. IsGraphOf lockfile.now tree.graph) }
+{
     lockfile.dependency_tree(alloc)
 }
 
-fn direction(inverted: bool) -> EdgeDirection {
+fn direction(inverted: bool) -> EdgeDirection
+    ensures { result ≡ direction_of inverted }
+{
     if inverted {
         EdgeDirection::Incoming
     } else {
@@ -107,8 +122,10 @@ fn starts(
     tree: &Tree,
     options: &ArgMatches<'_>,
 ) -> Result<Vec<NodeIndex>, Fault>
-    ensures { IfOk result (λ starts.
+    ensures within { IfOk result (λ starts.
         All (λ start. start < length tree.now.graph.packages) starts.items) }
+    ensures are { IfOk result (λ starts.
+        AreStarts (found_of options.now) tree.now.graph starts.items) }
 {
     match options.get_strs("spec") {
         Some(specs) if !specs.is_empty() => { starts_of(alloc, packages, tree, specs) }
@@ -123,8 +140,9 @@ fn starts_of(
     tree: &Tree,
     specs: &[&str],
 ) -> Result<Vec<NodeIndex>, Fault>
-    ensures { IfOk result (λ starts.
+    ensures within { IfOk result (λ starts.
         All (λ start. start < length tree.now.graph.packages) starts.items) }
+    ensures count { IfOk result (λ starts. length starts.items ≡ length specs.now) }
 {
     let mut starts = Vec::new(alloc);
     for spec in specs {
@@ -133,7 +151,7 @@ fn starts_of(
     Ok(starts)
 }
 
-/// The node of the first package that a specification fits.
+/// The node of the first package that matches a specification.
 fn start_of(
     alloc: Global,
     packages: &[Package],
@@ -182,19 +200,39 @@ fn print_trees<W: Write>(
     style: Style,
 ) -> Result<(), Fault>
     requires { All (λ start. start < length tree.now.graph.packages) starts.now }
+    ensures { OnOk result ((text : List ℕ)
+        × AreDrawn style.exact style.direction tree.now.graph starts.now text
+        × Appends (W.contents out.old) (W.contents out.new) text) }
 {
-    let mut is_first = true;
-    for start in starts {
-        if !is_first {
-            put(out, "\n")?;
+    match starts.split_first() {
+        Some((first, rest)) => {
+            print_tree(alloc, out, tree, *first, style)?;
+            print_more_trees(alloc, out, tree, rest, style)
         }
-        is_first = false;
+        None => Ok(()),
+    }
+}
+
+/// Prints the trees of nodes, each after an empty line.
+fn print_more_trees<W: Write>(
+    alloc: Global,
+    out: &mut W,
+    tree: &Tree,
+    starts: &[NodeIndex],
+    style: Style,
+) -> Result<(), Fault>
+    requires { All (λ start. start < length tree.now.graph.packages) starts.now }
+    ensures { OnOk result ((texts : List (List ℕ))
+        × AllZip (IsDrawn style.exact style.direction tree.now.graph) starts.now texts
+        × Appends (W.contents out.old) (W.contents out.new) (after_empty_lines texts)) }
+{
+    for start in starts {
+        put(out, "\n")?;
         print_tree(alloc, out, tree, *start, style)?;
     }
     Ok(())
 }
 
-/// Prints the tree of a node.
 fn print_tree<W: Write>(
     alloc: Global,
     out: &mut W,
@@ -203,6 +241,8 @@ fn print_tree<W: Write>(
     style: Style,
 ) -> Result<(), Fault>
     requires { start < length tree.now.graph.packages }
+    ensures { OnOk result (Draws style.exact style.direction tree.now.graph start
+        (Appends (W.contents out.old) (W.contents out.new))) }
 {
     tree.render(alloc, out, start, style.direction, style.exact)?;
     Ok(())

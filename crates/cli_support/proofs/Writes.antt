@@ -5,23 +5,8 @@ use Rattle.std.specs.Io.KnownBytes.{Appends, Keeps}
 use Rattle.std.specs.List.{flat_map}
 use Rattle.std.proofs.lemmas.List.{append-nil, map_more}
 use Rattle.std.proofs.lemmas.List.Concat.{flat_map-append}
+use Rattle.cargo_lock_parts.proofs.Appended.{appends_more}
 use Rattle.cli_support.specs.Output.{IsWrittenOut}
-
-pub appends_nothing : (o : Option (List ℕ)) → Appends o o []
-appends_nothing None = tt
-appends_nothing (Some xs) = sym (append-nil xs)
-
-pub appends_more : (a b c : Option (List ℕ)) (x y : List ℕ) → Appends a b x → Appends b c y → Appends a c (x ++ y)
-appends_more None b c x y h k = tt
-appends_more (Some xs) None c x y h k = absurd h
-appends_more (Some xs) (Some ys) None x y h k = absurd k
-appends_more (Some xs) (Some ys) (Some zs) x y h k = k ∙ ap (λ (ws : List ℕ). ws ++ y) h ∙ append_assoc xs x y
-
-pub appends_keeps : (a b c : Option (List ℕ)) (x : List ℕ) → Appends a b x → Keeps b c → Appends a c x
-appends_keeps None b c x h k = tt
-appends_keeps (Some xs) None c x h k = absurd h
-appends_keeps (Some xs) (Some ys) None x h k = absurd k
-appends_keeps (Some xs) (Some ys) (Some zs) x h k = k ∙ h
 
 -- what holds of a text in place of another fact
 pub if_some_weaken : (o : Option (List ℕ)) (P Q : List ℕ → Type 0) → ((bs : List ℕ) → P bs → Q bs) → IfSome o P → IfSome o Q

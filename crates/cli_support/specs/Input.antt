@@ -6,7 +6,7 @@ use Rattle.cargo_lock_parts.specs.declared.error.Error.TheVariants.{Io, Memory}
 use Rattle.cli_support.specs.declared.fault.Fault.{Fault}
 use Rattle.cli_support.specs.declared.fault.Fault.TheVariants.{Library, TooLarge}
 
--- the path that an option or argument has, as it was given
+-- the path of an option or argument, as it was given
 abbrev pub given_path_in : Found → List ℕ → List ℕ
 given_path_in found name = unwrap_or (first_value found name) (codes "Cargo.lock")
 
@@ -15,7 +15,7 @@ pub record IsInputPath (argument path : List ℕ) : Type 0 where
   pub standard : argument ≡ codes "-" → path ≡ codes "/dev/stdin"
   pub other : argument ≢ codes "-" → path ≡ argument
 
--- the fault of a file that is not read: its length, a fault of the system, or running out of memory
+-- the error for a file that is not read: its length, an error of the system, or out of memory
 abbrev pub IsOfReading : Fault → Type 0
 IsOfReading TooLarge = Unit {0}
 IsOfReading (Library Memory) = Unit {0}

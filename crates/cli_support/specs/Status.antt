@@ -1,4 +1,4 @@
--- The status that the program ends with where it reports a fault.
+-- The exit status of the program if it reports an error.
 use Rattle.std.specs.Prelude.{◌≡◌, ℕ, Bool, List, [], ◌∷◌, bytes_eq, codes, false, if◌then◌else◌}
 use Rattle.std.specs.List.{list_any}
 use Rattle.std.specs.Process.{exit_status}
@@ -18,8 +18,8 @@ abbrev pub begin_with_own : List (List ℕ) → Bool
 begin_with_own [] = false
 begin_with_own (word ∷ rest) = list_any (bytes_eq word) own_commands
 
--- The status is 2 where the arguments name a command that the original does not have, as `diff` and
--- `grep` have it, and else 1, as the original has it.
+-- The status is 2 if the arguments name a command that the original does not have, as for `diff`
+-- and `grep`, and otherwise 1, as in the original.
 abbrev pub IsFaultStatus : List (List ℕ) → ExitCode → Type 0
 IsFaultStatus words status =
     exit_status status ≡ (if begin_with_own (without_lock words) then 2 else 1)

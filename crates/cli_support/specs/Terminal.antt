@@ -1,4 +1,7 @@
--- What a terminal is shown of a text: none of the characters that it would obey or would not show.
+-- What is shown to a terminal of a text: none of the characters that it would obey or would not
+-- show.
+-- The control characters are the category Cc of Unicode, and those of direction are in its Standard
+-- Annex 9.
 use Rattle.std.specs.Prelude.{◌≡◌, ℕ, ◌==◌, ◌||◌, Bool, false, if◌then◌else◌, List, All}
 use Rattle.std.specs.Int.{is_in_range}
 use Rattle.std.specs.List.{flat_map}
@@ -21,11 +24,11 @@ is_unseen c = c == 0x61C || is_in_range 0x200B 0x200F c || is_in_range 0x2028 0x
 abbrev pub is_hidden : ℕ → Bool
 is_hidden c = is_control c || is_unseen c
 
--- a character as it is, or by its number where it is hidden
+-- a character unchanged, or by its number if it is hidden
 abbrev pub visible_char : ℕ → List ℕ
 visible_char c = if is_hidden c then shown Plain (encode_utf8 c) else encode_utf8 c
 
--- the characters of a text, each as a terminal is shown it
+-- the characters of a text, each as it is shown to a terminal
 unfoldable pub visible : List ℕ → List ℕ
 visible text = flat_map visible_char (chars text)
 

@@ -1,20 +1,20 @@
-//! Lines for a terminal in colours, each by its first character.
+//! Lines for a terminal in colours, each chosen by its first character.
 
 use crate::output::put_all;
 use std::io::{ErrorKind, Write};
 use std::{io, str};
 
-/// What ends a coloured line.
+/// The escape sequence that ends a coloured line.
 const PLAIN: &str = "\u{1b}[0m";
 
 /// A writer that prints each line of `diff` in the colour of its first character: `!` in bold red,
-/// `-` in red, `+` in green, `~`, `>`, `?` and `@` in yellow, and other lines as they are. What it
-/// takes has no control character but the newline, as `Terminal` sees to.
+/// `-` in red, `+` in green, `~`, `>`, `?` and `@` in yellow, and other lines without a colour. Its
+/// input must have no control character other than the newline, which `Terminal` ensures.
 #[derive(Drop)]
 pub struct Colours<W> {
     out: W,
 
-    /// What ends the line that was begun, if one was.
+    /// The text that ends the current line, if a line was begun.
     end: Option<&'static str>,
 }
 
@@ -44,7 +44,7 @@ impl<W: Write> Colours<W> {
         }
     }
 
-    /// Begins a line. Returns what ends it.
+    /// Begins a line. Returns the text that ends it.
     fn begin(&mut self, line: &str) -> io::Result<&'static str> {
         match colour(line) {
             Some(colour) => {
@@ -73,7 +73,7 @@ impl<W: Write> Write for Colours<W> {
     }
 }
 
-/// What begins the colour of a line, if it has one.
+/// The escape sequence that begins the colour of a line, if it has one.
 fn colour(line: &str) -> Option<&'static str> {
     match line.chars().next()? {
         '!' => Some("\u{1b}[1;31m"),

@@ -1,4 +1,4 @@
-//! Where a command's text goes.
+//! The destination of a command's text.
 ghost use Rattle.std.specs.Prelude.{◌++◌, OnOk, codes};
 ghost use Rattle.std.specs.Io.KnownBytes.{Appends};
 ghost use Rattle.clap.specs.Matches.{first_value, found_of};
@@ -13,7 +13,8 @@ use std::io::Write;
 use std::path::Path;
 use std::rt::Files;
 
-/// Writes the text into the output file, or prints it and then its end.
+/// Writes the text into the output file, or prints it and then its end. Fails if the file is not
+/// saved, or if `out` fails; a prefix of the text was then printed.
 pub fn put_out<R: Files + AllocGlobal, W: Write>(
     rt: &R,
     options: &ArgMatches<'_>,
@@ -30,7 +31,6 @@ pub fn put_out<R: Files + AllocGlobal, W: Write>(
     }
 }
 
-/// Prints the text and its end.
 fn print<W: Write>(out: &mut W, text: &str, end: &str) -> Result<(), Fault>
     ensures { OnOk result
         (Appends (W.contents out.old) (W.contents out.new) (text.now ++ end.now)) }

@@ -1,4 +1,4 @@
-//! Why the program fails.
+//! The errors of the program.
 ghost use Rattle.std.specs.Prelude.{◌≡◌, ◌≢◌, ◌⊎◌, IfOk, String, string_bytes};
 ghost use Rattle.std.specs.Path.{path_bytes};
 ghost use Rattle.std.specs.declared.alloc.Global.{Global};
@@ -16,20 +16,20 @@ use std::io;
 use std::path::Path;
 use thiserror::Error as DeriveError;
 
-/// Why a command failed. Displayed, it is a text of whole lines that begins `error: `.
+/// Why a command failed. `Display` writes it as whole lines that begin with `error: `.
 #[derive(Debug, Drop, DeriveError)]
 pub enum Fault {
-    /// A call of the library failed, or the program itself did in one of the library's ways: a
-    /// stream failed, or memory was refused.
+    /// A call of the library failed, or the program failed in the same way: a stream failed, or
+    /// memory ran out.
     #[error("error: {0}\n")]
     Library(Error),
 
-    /// A call of the library failed for the file of this path.
+    /// A call of the library failed for the file at this path.
     #[error("error: {0}: {1}\n")]
     File(String, Error),
 
-    /// The words are none that the program takes. The parser's text begins so too, and ends its
-    /// last line.
+    /// The parser does not accept the arguments. Its text also begins with `error: ` and ends with
+    /// a newline.
     #[error("{0}")]
     Words(clap::Error),
 
@@ -49,19 +49,19 @@ pub enum Fault {
     #[error("error: standard input cannot be both lockfiles\n")]
     OneInput,
 
-    /// A specification fits no package.
+    /// No package matches a specification.
     #[error("error: invalid dependency name: `{0}`\n")]
     Spec(String),
 
-    /// No package fits the specification of a root.
+    /// No package matches the specification of a root.
     #[error("error: no package is `{0}`\n")]
     NoRoot(String),
 
-    /// So many packages, and not one, fit the specification of a root.
+    /// This many packages, and not one, match the specification of a root.
     #[error("error: {0} packages are `{1}`\n")]
     ManyRoots(usize, String),
 
-    /// The variable `SOURCE_DATE_EPOCH` has this text, as it is shown, and it names no time.
+    /// The variable `SOURCE_DATE_EPOCH` has this text, as it is shown, which is not a time.
     #[error("error: SOURCE_DATE_EPOCH is no time: `{0}`\n")]
     NoTime(String),
 
@@ -69,19 +69,19 @@ pub enum Fault {
     #[error("error: SOURCE_DATE_EPOCH is not UTF-8\n")]
     TimeNotUtf8,
 
-    /// The words name no command.
+    /// The arguments name no command.
     #[error("error: no command\n")]
     NoCommand,
 
-    /// This path has another file than the one that was opened by it. Nothing is replaced.
+    /// Another file than the one that was opened is at this path. Nothing is replaced.
     #[error("error: another file has taken the path `{0}`\n")]
     Replaced(String),
 
-    /// In this folder are files of all of the names that a new one could have.
+    /// This folder has files with all of the names that a new one could have.
     #[error("error: the folder `{0}` has all of `.cargo-lock-0.new` to `.cargo-lock-99.new`\n")]
     NamesTaken(String),
 
-    /// This path is that of a pipe of another user, for whom the program does not wait.
+    /// A pipe of another user is at this path, and the program does not wait for that user.
     #[error("error: `{0}` is a pipe of another user\n")]
     ForeignPipe(String),
 }
@@ -89,9 +89,9 @@ pub enum Fault {
 impl Fault {
     ghost use Rattle.std.specs.declared.io.ErrorKind.TheVariants.{OutOfMemory};
 
-    /// The fault of a call of the system that takes memory, as the one that reads the words.
-    /// Refused memory is told as that.
-    pub fn of_start(error: io::Error) -> Fault
+    /// The error of a system call that allocates, such as the one that reads the arguments. Out of
+    /// memory is `Library(Memory)`.
+    pub fn of_system_call(error: io::Error) -> Fault
         ensures memory { error_kind error ≡ OutOfMemory → result ≡ Library Memory }
         ensures other { error_kind error ≢ OutOfMemory → result ≡ Library (Io (error_kind error)) }
     {
@@ -101,7 +101,7 @@ impl Fault {
         }
     }
 
-    /// The fault of a specification that so many packages fit as the root, or running out of memory.
+    /// The error for a specification of a root that this many packages match, or out of memory.
     pub fn of_root(alloc: Global, count: usize, spec: &str) -> Fault {
         match String::from_str(alloc, spec) {
             Ok(spec) if count == 0 => Fault::NoRoot(spec),
@@ -110,7 +110,7 @@ impl Fault {
         }
     }
 
-    /// The fault of a text of `SOURCE_DATE_EPOCH` that names no time, or running out of memory.
+    /// The error for a text of `SOURCE_DATE_EPOCH` that is not a time, or out of memory.
     pub fn of_time(alloc: Global, text: &str) -> Fault
         ensures { (result ≡ Library Memory) ⊎ ((said : String Global) × (result ≡ NoTime said)
             × (string_bytes said ≡ shown form.Quoted text.now)) }
@@ -121,7 +121,7 @@ impl Fault {
         }
     }
 
-    /// The fault of a specification that fits no package, or running out of memory.
+    /// The error for a specification that no package matches, or out of memory.
     pub fn of_spec(alloc: Global, spec: &str) -> Fault
         ensures { (result ≡ Library Memory)
             ⊎ ((said : String Global) × (result ≡ Spec said) × (string_bytes said ≡ spec.now)) }
@@ -133,7 +133,7 @@ impl Fault {
     }
 }
 
-/// A path as it is shown between backquotes.
+/// A path as it is shown between backquotes. Fails when out of memory.
 pub fn path_shown(alloc: Global, path: Path<'_>) -> Result<String, AllocError>
     ensures { IfOk result (λ text. string_bytes text ≡ shown form.Quoted (path_bytes path.entry)) }
 {

@@ -2,7 +2,7 @@
 
 ghost use Rattle.cli_support.specs.Terminal.{NothingIsHidden};
 
-/// What a terminal is shown of a text has no character that a terminal obeys or does not show.
+/// What is shown to a terminal of a text has no character that a terminal obeys or does not show.
 pub fn nothing_is_hidden()
     ensures { NothingIsHidden }
 {}

@@ -1,7 +1,7 @@
-//! What the commands of the program `cargo-lock` share: the words that it takes and their help, the
-//! faults that it tells, and where its text goes.
+//! What the commands of the program `cargo-lock` share: the arguments that it takes and their help,
+//! the errors that it reports, and the destination of its text.
 //!
-//! Nothing here knows lockfiles, so each promise is of words, files and streams.
+//! Nothing here depends on lockfiles, so each promise is about arguments, files and streams.
 #![tactic(auto)]
 
 pub mod colours;

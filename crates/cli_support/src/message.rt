@@ -1,4 +1,4 @@
-//! Messages for people, in which no character that a stranger wrote can hide or move another.
+//! Messages for people, in which no character of a stranger can hide or move another.
 
 use crate::fault::Fault;
 use crate::output::{put, put_all};
@@ -6,13 +6,13 @@ use shown::Shown;
 use std::io::{ErrorKind, Write};
 use std::{fmt, io};
 
-/// What begins each line of a message but the first.
+/// The beginning of each line of a message except the first.
 const NEXT_LINE: &str = "\n  | ";
 
-/// Prints `*** ` and the fault as it is displayed: U+0020 to U+007E as they are, and each other
-/// character by its number, as `shown` has it. A newline inside the message begins a line with
-/// `  | `, and the newlines at its end are one. The parser of the arguments lays out its own lines,
-/// which have no `  | `. Fails as the writer does.
+/// Prints `*** ` and what `Display` writes of the error: U+0020 to U+007E unchanged, and each other
+/// character by its number, as `shown` does. A newline inside the message begins a line with
+/// `  | `, and the newlines at its end become one. The parser of the arguments formats its own
+/// lines, which have no `  | `. Fails as the writer does.
 pub fn put_message<W: Write>(out: &mut W, fault: &Fault) -> io::Result<()> {
     let separator = match fault {
         Fault::Words(_) => "\n",
@@ -37,7 +37,7 @@ struct Message<'a, W> {
     out: &'a mut W,
     separator: &'static str,
 
-    /// How many newlines came after which there was nothing yet.
+    /// How many newlines were read since the last text.
     newlines: u32,
 }
 
@@ -54,7 +54,7 @@ impl<W: Write> fmt::Write for Message<'_, W> {
 }
 
 impl<W: Write> Message<'_, W> {
-    /// Prints plain characters, of which the last one may be another.
+    /// Prints characters that are not escaped, except perhaps the last one.
     fn put_piece(&mut self, piece: &str) -> io::Result<()> {
         if let Some(plain) = piece.strip_suffix('\n') {
             self.put_text(plain)?;
@@ -77,12 +77,12 @@ impl<W: Write> Message<'_, W> {
     }
 }
 
-/// Whether a character is none of U+0020 to U+007E.
+/// Whether a character is not one of U+0020 to U+007E.
 fn is_no_plain(c: char) -> bool {
     !(' '..='~').contains(&c)
 }
 
-/// Prints a text. `plain` is all of it but its last character where that is not printed as it is.
+/// Prints a text. `plain` is all of it except its last character, if that is escaped.
 fn put_ended<W: Write>(out: &mut W, text: &str, plain: Option<&str>) -> io::Result<()> {
     match (plain, text.chars().next_back()) {
         (Some(plain), Some(last)) => {

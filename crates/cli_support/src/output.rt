@@ -1,4 +1,4 @@
-//! Text onto a writer, where an interrupted write is a fault, and no memory is asked for.
+//! Text to a writer, without allocation. An interrupted write is an error.
 ghost use Rattle.std.specs.Prelude.{◌≡◌, IfSome, OnOk};
 ghost use Rattle.std.specs.Io.KnownBytes.{Appends};
 ghost use Rattle.cli_support.specs.Output.{IsWrittenOut};
@@ -7,7 +7,7 @@ use std::io::{ErrorKind, Write};
 use std::{fmt, io};
 
 /// Writes all of the bytes. Fails at the first write that fails, and with `WriteZero` at the first
-/// that takes none of the bytes; a beginning of them was then written.
+/// that takes no bytes; a prefix of them was then written.
 pub fn put_all<W: Write>(out: &mut W, bytes: &[u8]) -> io::Result<()>
     ensures { IsWrittenOut (W.contents out.old) (W.contents out.new) bytes.now result }
 {
@@ -22,7 +22,7 @@ pub fn put_all<W: Write>(out: &mut W, bytes: &[u8]) -> io::Result<()>
     Ok(())
 }
 
-/// Writes a value as it is displayed. Fails as `put_all` does.
+/// Writes what `Display` writes of a value. Fails as `put_all` does.
 pub fn put<W: Write, D: fmt::Display + Drop>(out: &mut W, value: D) -> io::Result<()>
     ensures { OnOk result (IfSome (D.output value)
         (Appends (W.contents out.old) (W.contents out.new))) }
@@ -38,7 +38,7 @@ pub fn put<W: Write, D: fmt::Display + Drop>(out: &mut W, value: D) -> io::Resul
     }
 }
 
-/// A writer as the target of a format. It keeps the kind of the fault that ended the format.
+/// A writer as the target of a format. It keeps the kind of the error that ended the format.
 #[derive(Drop)]
 struct Text<'a, W> {
     out: &'a mut W,

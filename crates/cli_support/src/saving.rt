@@ -1,4 +1,4 @@
-//! A text into a file, so that a fault leaves what was there.
+//! Saving a text in a file, so that an error leaves the old file unchanged.
 ghost use Rattle.std.specs.Prelude.{◌≡◌, ◌++◌, IfOk, OnOk, codes, decimal};
 ghost use Rattle.std.specs.Io.KnownBytes.{Appends};
 ghost use Rattle.std.specs.Path.{path_buf_bytes, path_bytes, path_with_file_name};
@@ -16,30 +16,31 @@ use std::{fs, io};
 /// How many names are tried for a new file.
 const NAMES: u32 = 100;
 
-/// How many links are followed at the end of a path. The system follows no more.
+/// How many links are followed at the end of a path. The system follows no more than that.
 const LINKS: u32 = 40;
 
-/// The rights of a new file until it has those of the file that it replaces.
+/// The permissions of a new file until it has those of the file that it replaces.
 const OWN_RIGHTS: u32 = 0o600;
 
-/// The rights to read, to write and to run. Without them are the bits by which a program runs with
-/// the rights of its owner or its group, and the sticky bit.
+/// The permissions to read, to write and to execute. This excludes the bits by which a program runs
+/// with the permissions of its owner or its group, and the sticky bit.
 const ALL_RIGHTS: u32 = 0o777;
 
-/// The rights of the group and of others to write.
+/// The permissions of the group and of others to write.
 const WRITING_OF_OTHERS: u32 = 0o022;
 
-/// Of a folder with this bit others cannot rename or remove a file of somebody else.
+/// The sticky bit: in a folder that has it, other users cannot rename or remove a file that is not
+/// theirs.
 const STICKY: u32 = 0o1000;
 
-/// A path with the owner of this process.
+/// A path whose owner is that of this process.
 const OWN_PROCESS: &str = "/proc/self";
 
-/// Writes the text into the file at this path. It goes into a new file beside it, which then takes
-/// the name, so a file that was there is whole until its successor is, and is left as it was where
-/// this fails. What is no regular file, as a terminal or a pipe, is written to. Fails where the
-/// file may not be written, the folder takes no new file, another file takes the path meanwhile,
-/// the path is that of a pipe of another user, or the system fails.
+/// Writes the text into the file at this path. The text goes into a new file beside it, which then
+/// takes the name. So an old file is complete until the new one is, and is unchanged if this fails.
+/// A path that is not a regular file, such as a terminal or a pipe, is written to directly. Fails
+/// if the file may not be written, the folder takes no new file, another file takes the path in the
+/// meantime, the path is that of a pipe of another user, or the system fails.
 pub fn save<R: Files + AllocGlobal>(rt: &R, path: Path<'_>, text: &str) -> Result<(), Fault> {
     let target = follow_links(rt, path)?;
     let is_new = !is_there(rt, path)?;
@@ -53,8 +54,8 @@ pub fn save<R: Files + AllocGlobal>(rt: &R, path: Path<'_>, text: &str) -> Resul
     }
 }
 
-/// Whether something has this path. Fails where it is a pipe of another user: to open it would wait
-/// for that user.
+/// Whether something is at this path. Fails if it is a pipe of another user, since opening it would
+/// wait for that user.
 fn is_there<R: Files + AllocGlobal>(rt: &R, path: Path<'_>) -> Result<bool, Fault> {
     let found = match fs::metadata(rt, path) {
         Ok(found) => found,
@@ -67,13 +68,13 @@ fn is_there<R: Files + AllocGlobal>(rt: &R, path: Path<'_>) -> Result<bool, Faul
     Ok(true)
 }
 
-/// Whether a file is that of who runs this process, as far as the system says.
+/// Whether a file belongs to the user of this process, as far as the system says.
 fn is_own<R: Files>(rt: &R, file: &Metadata) -> bool {
     fs::metadata(rt, Path::new(OWN_PROCESS)).is_ok_and(|process| process.uid() == file.uid())
 }
 
-/// Opens the file at this path to write, or makes an empty one there. The system follows the links,
-/// by its own rules of who may lead whom.
+/// Opens the file at this path to write, or creates an empty one there. The system follows the
+/// links, by its own rules about the links of other users.
 fn open<R: Files>(rt: &R, path: Path<'_>) -> io::Result<R::File> {
     OpenOptions::new()
         .write(true)
@@ -82,8 +83,8 @@ fn open<R: Files>(rt: &R, path: Path<'_>) -> io::Result<R::File> {
         .open(rt, path)
 }
 
-/// Writes the text in place of what an open file holds. `target` is where the links of its path
-/// lead.
+/// Replaces the content of an open file by the text. `target` is the path to which the links of its
+/// path lead.
 fn save_into<R: Files + AllocGlobal>(
     rt: &R,
     target: Path<'_>,
@@ -105,7 +106,7 @@ fn save_into<R: Files + AllocGlobal>(
     Ok(())
 }
 
-/// Removes the empty file that this process has made. A link, and a file with a text, stay.
+/// Removes the empty file that this process created. A link, and a file that is not empty, stay.
 fn remove_empty<R: Files>(rt: &R, target: Path<'_>) {
     match found_at(rt, target) {
         Ok(Some(found)) if found.is_file() && found.len() == 0 => {
@@ -115,32 +116,31 @@ fn remove_empty<R: Files>(rt: &R, target: Path<'_>) {
     }
 }
 
-/// Where the links at the end of a path lead, whether or not a file is there.
+/// The path to which the links at the end of a path lead, whether or not a file is there.
 fn follow_links<R: Files + AllocGlobal>(rt: &R, path: Path<'_>) -> Result<PathBuf, Fault> {
     let mut target = path.to_path_buf(rt.alloc())?;
     for _ in 0..LINKS {
         if !is_link(rt, target.as_path())? {
             break;
         }
-        let next = fs::read_link(rt, target.as_path()).map_err(Fault::of_start)?;
+        let next = fs::read_link(rt, target.as_path()).map_err(Fault::of_system_call)?;
         target.pop();
         target.push(next.as_path())?;
     }
     Ok(target)
 }
 
-/// Whether a link has this path.
 fn is_link<R: Files>(rt: &R, path: Path<'_>) -> io::Result<bool> {
     let found = found_at(rt, path)?;
     Ok(found.is_some_and(|found| found.is_symlink()))
 }
 
-/// Whether both are of one file.
+/// Whether both describe the same file.
 fn is_same(one: &Metadata, other: &Metadata) -> bool {
     one.dev() == other.dev() && one.ino() == other.ino()
 }
 
-/// What has this path, be it a link.
+/// What is at this path, without following a link.
 fn found_at<R: Files>(rt: &R, path: Path<'_>) -> io::Result<Option<Metadata>> {
     match fs::symlink_metadata(rt, path) {
         Ok(found) => Ok(Some(found)),
@@ -149,8 +149,8 @@ fn found_at<R: Files>(rt: &R, path: Path<'_>) -> io::Result<Option<Metadata>> {
     }
 }
 
-/// Puts a new file that holds the text at this path, in place of the old one. Where that fails, or
-/// another file has taken the path meanwhile, the new file is removed.
+/// Puts a new file with the text at this path, in place of the old one. If that fails, or if
+/// another file has taken the path in the meantime, the new file is removed.
 fn replace<R: Files + AllocGlobal>(
     rt: &R,
     target: Path<'_>,
@@ -171,7 +171,7 @@ fn replace<R: Files + AllocGlobal>(
     }
 }
 
-/// Completes a new file and gives it the name of the old one, if that still has it.
+/// Completes a new file and gives it the name of the old one, if the old one still has it.
 fn put_in_place<R: Files>(
     rt: &R,
     path: Path<'_>,
@@ -188,8 +188,8 @@ fn put_in_place<R: Files>(
     Ok(true)
 }
 
-/// Gives a new file the text and the rights of the old one, and waits until the system has stored
-/// them. The rights come last, since a write takes some of them back.
+/// Gives a new file the text and the permissions of the old one, and waits until the system has
+/// stored them. The permissions come last, since a write removes some of them.
 fn complete<R: Files>(
     rt: &R,
     path: Path<'_>,
@@ -208,7 +208,7 @@ fn complete<R: Files>(
     file.sync_all()
 }
 
-/// Whether nobody but this owner and root can put another file at this path.
+/// Whether only this owner and root can put another file at this path.
 fn is_safe_folder<R: Files>(rt: &R, path: Path<'_>, owner: u32) -> bool {
     let Ok(folder) = fs::metadata(rt, folder_of(path)) else {
         return false;
@@ -217,7 +217,6 @@ fn is_safe_folder<R: Files>(rt: &R, path: Path<'_>, owner: u32) -> bool {
     !is_open && (folder.uid() == 0 || folder.uid() == owner)
 }
 
-/// The folder of a path.
 fn folder_of<'a>(path: Path<'a>) -> Path<'a> {
     match path.parent() {
         Some(folder) if !folder.as_str().is_empty() => folder,
@@ -225,15 +224,15 @@ fn folder_of<'a>(path: Path<'a>) -> Path<'a> {
     }
 }
 
-/// Gives a new file the group and the owner of the old one, where the system lets. It lets few give
-/// a file away, and then the new file is that of who runs the program.
+/// Gives a new file the group and the owner of the old one, if the system allows it. It allows few
+/// users to give a file away; otherwise the new file belongs to the user who runs the program.
 fn keep_owner<R: Files>(rt: &R, path: Path<'_>, old: &Metadata) {
     let _ = lchown(rt, path, None, Some(old.gid()));
     let _ = lchown(rt, path, Some(old.uid()), None);
 }
 
-/// The rights of the old file for the new one. Where that is of another group, the group gets none
-/// that others have not.
+/// The permissions of the old file for the new one. If the new file has another group, the group
+/// gets no permission that others do not have.
 fn rights(new: &Metadata, old: &Metadata) -> u32 {
     let rights = old.mode() & ALL_RIGHTS;
     if new.gid() == old.gid() {
@@ -250,8 +249,8 @@ fn fill<W: Write>(file: &mut W, text: &str) -> io::Result<()>
     file.flush()
 }
 
-/// A new file in the folder of this path, and its path. A file that is there is never opened. Fails
-/// where all of the names are taken.
+/// A new file in the folder of this path, and its path. A file that already exists is never opened.
+/// Fails if all of the names are taken.
 fn new_beside<R: Files + AllocGlobal>(
     rt: &R,
     target: Path<'_>,
@@ -277,7 +276,7 @@ fn temporary_path(alloc: Global, target: Path<'_>, number: u32) -> Result<PathBu
     target.with_file_name(alloc, name.as_str())
 }
 
-/// Makes a file where none is, which nobody else may open.
+/// Creates a file that did not exist, which no other user may open.
 fn create_new<R: Files>(rt: &R, path: Path<'_>) -> io::Result<R::File> {
     OpenOptions::new()
         .write(true)

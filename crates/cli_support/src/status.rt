@@ -1,4 +1,4 @@
-//! The status that the program ends with where it reports a fault.
+//! The exit status of the program if it reports an error.
 ghost use Rattle.std.specs.Prelude.{◌≡◌, bytes_eq, map};
 ghost use Rattle.std.specs.List.{list_any};
 ghost use Rattle.cli_support.specs.Status.{IsFaultStatus, own_commands};
@@ -7,9 +7,9 @@ use crate::words::without_lock;
 use std::convert::AsStr;
 use std::process::ExitCode;
 
-/// The status of a fault where the program is called with these arguments. It is 2 where they name a
-/// command that the original does not have, as `diff` and `grep` have it: so 1 is left for what such
-/// a command finds. Else it is 1, as the original has it.
+/// The status of an error if the program is called with these arguments. It is 2 if they name a
+/// command that the original does not have, as for `diff` and `grep`, so that 1 is left for what
+/// such a command finds. Otherwise it is 1, as in the original.
 pub fn of_fault<S: AsStr>(words: &[S]) -> ExitCode
     ensures { IsFaultStatus (map S.text words.now) result }
 {
@@ -19,7 +19,6 @@ pub fn of_fault<S: AsStr>(words: &[S]) -> ExitCode
     }
 }
 
-/// Whether this is the name of a command that the original does not have.
 fn is_own(word: &str) -> bool
     ensures { result ≡ list_any (bytes_eq word.now) own_commands }
 {

@@ -1,4 +1,4 @@
-//! Text for a terminal, which is shown no character that it would obey or would not show.
+//! Text for a terminal, without characters that it would obey or would not show.
 
 ghost use Rattle.std.specs.Prelude.{◌≡◌, OnOk};
 ghost use Rattle.std.specs.Io.KnownBytes.{Appends};
@@ -10,9 +10,9 @@ use shown::Shown;
 use std::io;
 use std::io::{ErrorKind, Write};
 
-/// A writer of text onto a terminal. The characters that a terminal obeys or does not show are
-/// printed by their numbers: control characters but the newline, those that change the direction of
-/// the text, separators of lines and paragraphs, and those without a width.
+/// A writer of text to a terminal. The characters that a terminal obeys or does not show are
+/// printed by their numbers: control characters except the newline, those that change the direction
+/// of the text, separators of lines and paragraphs, and those without a width.
 #[derive(Drop)]
 pub struct Terminal<W> {
     out: W,
@@ -52,7 +52,6 @@ pub fn put_visible<W: Write>(out: &mut W, text: &str) -> io::Result<()>
     Ok(())
 }
 
-/// Prints a character for a terminal.
 fn put_char<W: Write>(out: &mut W, c: char) -> io::Result<()>
     ensures { OnOk result (Appends (W.contents out.old) (W.contents out.new) (visible_char c)) }
 {

@@ -1,4 +1,4 @@
-//! When a text is written.
+//! The time at which a text is written.
 
 ghost use Rattle.std.specs.Prelude.{◌≡◌, ◌⊎◌, MatchResult, String, string_bytes};
 ghost use Rattle.std.specs.Char.{is_ascii_digit};
@@ -18,16 +18,15 @@ use std::env;
 use std::env::{Env, VarError};
 use std::time::{Clock, SystemTime, UNIX_EPOCH};
 
-/// The variable that says the time, as <https://reproducible-builds.org/specs/source-date-epoch/>
-/// has it.
+/// The variable with the time, by <https://reproducible-builds.org/specs/source-date-epoch/>.
 const VARIABLE: &str = "SOURCE_DATE_EPOCH";
 
 /// The last second of the year 9999.
 const LAST_SECOND: u64 = 253_402_300_799;
 
-/// The time in seconds since 1970 began: that of the variable `SOURCE_DATE_EPOCH`, where the
-/// environment has it, and else that of the clock. Fails where the text of the variable names no
-/// time, and where the clock fails.
+/// The time in seconds since the start of 1970: that of the variable `SOURCE_DATE_EPOCH`, if the
+/// environment has it, and otherwise that of the clock. Fails if the text of the variable is not a
+/// time, and if the clock fails.
 pub fn now<R: Env + Clock + AllocGlobal>(rt: &R) -> Result<u64, Fault> {
     match env::var(rt, VARIABLE) {
         Ok(text) => time_of(rt.alloc(), text.as_str()),
@@ -37,7 +36,6 @@ pub fn now<R: Env + Clock + AllocGlobal>(rt: &R) -> Result<u64, Fault> {
     }
 }
 
-/// The time of the clock.
 fn clock_time<R: Clock>(rt: &R) -> Result<u64, Fault> {
     let now = SystemTime::now(rt)?;
     match now.duration_since(UNIX_EPOCH) {
@@ -46,11 +44,8 @@ fn clock_time<R: Clock>(rt: &R) -> Result<u64, Fault> {
     }
 }
 
-/// The time that a text names: digits alone, and at most the last second of the year 9999.
-///
-/// ```
-/// let time = time::time_of(rt.alloc(), "1718818205")?;
-/// ```
+/// The time that a text names, as `1718818205`: only digits, and at most the last second of the
+/// year 9999. Fails with `NoTime` if the text names no time, and when out of memory.
 pub fn time_of(alloc: Global, text: &str) -> Result<u64, Fault>
     ensures { MatchResult result
         (λ seconds. NamesTime text.now × (seconds ≡ digits_value 10 text.now))
@@ -63,7 +58,7 @@ pub fn time_of(alloc: Global, text: &str) -> Result<u64, Fault>
     }
 }
 
-/// The same, if it names one.
+/// The same, or `None` if the text names no time.
 fn seconds_of(text: &str) -> Option<u64>
     ensures { SomeIff result (NamesTime text.now) (digits_value 10 text.now) }
 {

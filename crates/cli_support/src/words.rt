@@ -1,4 +1,4 @@
-//! The words that the program is called with.
+//! The arguments of the program.
 ghost use Rattle.std.specs.Prelude.{◌≡◌, IfErr, IfSome, None, Some, codes, map, option_map};
 ghost use Rattle.std.specs.Path.{path_bytes};
 ghost use Rattle.clap.specs.Matches.{first_value, found_of};
@@ -17,10 +17,10 @@ use std::io::{ErrorKind, Read};
 use std::path::Path;
 use std::rt::Files;
 
-/// The lockfile that is read where the words name none.
+/// The lockfile that is read if the arguments name none.
 const DEFAULT_PATH: &str = "Cargo.lock";
 
-/// The argument for standard input where a lockfile is read, and for standard output where one is
+/// The argument for standard input if a lockfile is read, and for standard output if one is
 /// written.
 const STANDARD: &str = "-";
 
@@ -30,12 +30,12 @@ const OWN_OPTIONS: [&str; 4] = ["-h", "--help", "-V", "--version"];
 /// The path of standard input.
 const STANDARD_INPUT: &str = "/dev/stdin";
 
-/// The length in bytes from which on a lockfile is refused: that of some 900,000 packages.
+/// The length in bytes from which on a lockfile is refused. It is that of some 900,000 packages.
 const LIMIT: u64 = 1 << 28;
 
-/// The words as the parser reads them, the program's name first. A leading `lock` is left out, and
-/// `list` comes before a first option, unless that is one of the program itself. Fails for
-/// running out of memory.
+/// The arguments as the parser reads them, the program's name first. A leading `lock` is left out,
+/// and `list` is added before a leading option, unless that is one of the program itself. Fails
+/// when out of memory.
 pub fn with_command<'a, S: AsStr>(
     alloc: Global,
     words: &'a [S],
@@ -71,14 +71,14 @@ pub(crate) fn without_lock<S: AsStr>(words: &[S]) -> &[S]
     }
 }
 
-/// Whether a first word is an option of a command. Those that ask for help or for the version are
-/// the program's own.
+/// Whether a first argument is an option of a command. The options for help and for the version are
+/// those of the program itself.
 fn is_option(word: &str) -> bool {
     word.starts_with('-') && !OWN_OPTIONS.contains(&word)
 }
 
-/// The text of the lockfile whose path the option or argument `name` has. Fails where the file is
-/// not read, and where it has 256 MiB or more, unless the options lift that.
+/// The text of the lockfile at the path of the option or argument `name`. Fails if the file is not
+/// read, and if it has 256 MiB or more, unless the options allow that.
 pub fn text<R: Files + AllocGlobal>(
     rt: &R,
     options: &ArgMatches<'_>,
@@ -94,11 +94,11 @@ pub fn text<R: Files + AllocGlobal>(
     match bytes(rt, path_of(options, name), limit) {
         Ok(bytes) if (bytes.len() as u64) < limit => of_bytes(bytes),
         Ok(_) => Err(Fault::TooLarge),
-        Err(error) => Err(Fault::of_start(error)),
+        Err(error) => Err(Fault::of_system_call(error)),
     }
 }
 
-/// The first bytes of a file, and no more than `limit` of them.
+/// The first bytes of a file, at most `limit` of them.
 fn bytes<R: Files + AllocGlobal>(rt: &R, path: Path<'_>, limit: u64) -> io::Result<Vec<u8>> {
     let file = OpenOptions::new().read(true).open(rt, path)?;
     let mut bytes = Vec::new(rt.alloc());
@@ -106,7 +106,7 @@ fn bytes<R: Files + AllocGlobal>(rt: &R, path: Path<'_>, limit: u64) -> io::Resu
     Ok(bytes)
 }
 
-/// The text of bytes. Fails where they are no UTF-8.
+/// The text of bytes. Fails if they are not UTF-8.
 fn of_bytes(bytes: Vec<u8>) -> Result<String, Fault>
     ensures { IfErr result IsOfReading }
 {
@@ -116,15 +116,15 @@ fn of_bytes(bytes: Vec<u8>) -> Result<String, Fault>
     }
 }
 
-/// The path that the option or argument `name` has, as it was given: `Cargo.lock` where it has none.
+/// The path of the option or argument `name`, as it was given, or `Cargo.lock` without one.
 pub fn given_path<'a>(options: &ArgMatches<'a>, name: &str) -> &'a str
     ensures { result.now ≡ given_path_in (found_of options.now) name.now }
 {
     options.get_str(name).unwrap_or(DEFAULT_PATH)
 }
 
-/// The path that the option or argument `name` has: `Cargo.lock` where it has none, and that of
-/// standard input where it is `-`.
+/// The path of the option or argument `name`, or `Cargo.lock` without one. For `-` it is that of
+/// standard input.
 pub fn path_of<'a>(options: &ArgMatches<'a>, name: &str) -> Path<'a>
     ensures { IsInputPath (given_path_in (found_of options.now) name.now) (path_bytes result) }
 {
@@ -159,12 +159,12 @@ pub fn file<'a>(alloc: Global) -> Arg<'a> {
         .help("The lockfile, - for standard input")
 }
 
-/// The option by which a command prints JSON.
+/// The option to print JSON.
 pub fn json<'a>(alloc: Global) -> Arg<'a> {
     long_flag(alloc, "json").help("Prints one line of JSON")
 }
 
-/// The option by which a lockfile of any length is read.
+/// The option to read a lockfile of any length.
 pub fn any_size<'a>(alloc: Global) -> Arg<'a> {
     long_flag(alloc, "any-size").help("Reads a lockfile of 256 MiB or more too")
 }
@@ -189,7 +189,7 @@ pub fn flag<'a>(alloc: Global, name: &'a str, short: char) -> Arg<'a> {
     long_flag(alloc, name).short(short)
 }
 
-/// An option that takes no value and has no letter.
+/// An option that takes no value and has no short name.
 pub fn long_flag<'a>(alloc: Global, name: &'a str) -> Arg<'a> {
     Arg::new(alloc, name).long(name).action(ArgAction::SetTrue)
 }

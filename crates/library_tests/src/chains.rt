@@ -10,7 +10,8 @@ use cargo_lock::{Error, Lockfile};
 use std::alloc::Global;
 use std::io::ErrorKind;
 
-// A sink that counts the bytes and the newlines among them, and tells no bytes. It never fails.
+// A sink that counts the bytes and the newlines among them, and does not say which bytes. It never
+// fails.
 #[derive(Drop)]
 struct Counting {
     bytes: u64,
@@ -118,10 +119,10 @@ fn add_link(text: &mut String, i: u32) -> Result<(), Error> {
     Ok(())
 }
 
-// Of n packages the entry at place k stands at depth k. Its line has 13 bytes for the label and the
+// Of n packages the entry at place k has depth k. Its line has 13 bytes for the label and the
 // newline, after the first 10 for the branch, and 4 for each level above, which are k - 1 and of
-// which none goes on. So there are 13 n + 10 (n - 1) + 2 (n - 1) (n - 2) bytes, either way along
-// the chain.
+// which none goes on. So there are 13 n + 10 (n - 1) + 2 (n - 1) (n - 2) bytes, in both directions
+// along the chain.
 #[test]
 fn chain_of_twenty_thousand_packages(rt: HostRuntime) {
     let text = or_fault(rt.alloc(), chain(rt.alloc(), 20_000));

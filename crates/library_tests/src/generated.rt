@@ -1,4 +1,4 @@
-//! Generated lockfiles of all formats: what reading and writing gave for their references agrees
+//! Generated lockfiles of all formats: what reading and writing give for their references agrees
 //! with `resolve` and `v2`, which walk the packages.
 
 use crate::references::{dependencies, reference_in, resolved, shortened, written};
@@ -10,7 +10,7 @@ use std::alloc::Global;
 // How many lockfiles are generated.
 const LOCKFILES: u64 = 400;
 
-// What the generator draws by: the same seed draws the same.
+// The state of the generator: the same seed draws the same numbers.
 #[derive(Drop)]
 struct Chance {
     state: u64,
@@ -68,7 +68,7 @@ impl Chance {
     }
 }
 
-// A reference of one to three words, which may say a package or none.
+// A reference of one to three parts, which resolves to a package or to none.
 fn put_reference(text: &mut String, chance: &mut Chance) -> Result<(), Error> {
     let name = chance.name();
     let version = chance.version();
@@ -110,8 +110,8 @@ fn put_package(text: &mut String, chance: &mut Chance) -> Result<(), Error> {
     put_references(text, chance)
 }
 
-// A lockfile of up to twelve packages. The formats take turns: V1 is told by a checksum in the
-// metadata, V2 by nothing, and the others by their numbers.
+// A lockfile of up to twelve packages. The formats take turns: V1 has a checksum in the metadata,
+// V2 has no mark, and the others have their numbers.
 fn generated(alloc: Global, seed: u64) -> Result<String, Error> {
     let mut chance = Chance::of_seed(seed);
     let mut text = String::new(alloc);
@@ -128,7 +128,6 @@ fn generated(alloc: Global, seed: u64) -> Result<String, Error> {
     Ok(text)
 }
 
-// The text without its references.
 fn without_references(alloc: Global, text: &str) -> Result<String, Error> {
     let mut bare = String::new(alloc);
     for line in text.lines() {
@@ -139,7 +138,7 @@ fn without_references(alloc: Global, text: &str) -> Result<String, Error> {
     Ok(bare)
 }
 
-// What the references of a text say, by a walk over its packages, or over none in V1.
+// What the references of a text resolve to, by a walk over its packages, or over none in V1.
 fn walked(alloc: Global, text: &str) -> Result<String, Error> {
     let bare = without_references(alloc, text)?;
     let lockfile = Lockfile::from_str(alloc, bare.as_str())?;
@@ -155,14 +154,14 @@ fn entries_of(alloc: Global, lockfile: &Lockfile) -> Result<Vec<EncodablePackage
     Ok(encoded.package)
 }
 
-// What they say to the reader of the lockfile.
+// What the references resolve to for the reader of the lockfile.
 fn read(alloc: Global, text: &str) -> Result<String, Error> {
     let lockfile = Lockfile::from_str(alloc, text)?;
     dependencies(alloc, &lockfile)
 }
 
-// How many of the generated lockfiles are read, and how many are read, or refused, as the walk has
-// it.
+// How many of the generated lockfiles are read, and how many are read, or refused, as the walk
+// does.
 fn count_read(alloc: Global) -> (u64, u64) {
     let mut meant = 0u64;
     let mut agreed = 0u64;
@@ -188,8 +187,8 @@ fn references_are_read_as_walks_say(rt: HostRuntime) {
     assert!(rt; meant > 100 && meant < 300, "{meant} are read");
 }
 
-// Whether the references of a text, printed in a format, are those of the walk. True of a text that
-// is refused.
+// Whether the references of a text, printed in a format, are those of the walk. True for a text
+// that is refused.
 fn is_written_as_walked(alloc: Global, text: &str, format: ResolveVersion) -> Result<bool, Error> {
     let mut lockfile = match Lockfile::from_str(alloc, text) {
         Ok(lockfile) => lockfile,
@@ -202,7 +201,7 @@ fn is_written_as_walked(alloc: Global, text: &str, format: ResolveVersion) -> Re
     Ok(found.as_str() == walked.as_str())
 }
 
-// How many of the generated lockfiles are written in a format as the walk has it.
+// How many of the generated lockfiles are written in a format as the walk does.
 fn count_written(alloc: Global, format: ResolveVersion) -> Result<u64, Error> {
     let mut agreed = 0u64;
     for seed in 0u64..LOCKFILES {

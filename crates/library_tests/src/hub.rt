@@ -1,4 +1,4 @@
-//! A package that depends on very many, and what trees are shown as to a programmer.
+//! A package that depends on very many, and what `Debug` shows of trees.
 
 use crate::shared::{or_fault, tree_of};
 use cargo_lock::Error;
@@ -27,7 +27,7 @@ fn put_roots(alloc: Global, text: &mut String, tree: &Tree) -> Result<(), Error>
     Ok(())
 }
 
-// `hub` with so many leaves, in a format in which references are in full.
+// `hub` with this many leaves, in a format in which references are in full.
 fn hub(alloc: Global, leaves: u32) -> Result<String, Error> {
     let mut text = String::from_str(
         alloc,
@@ -88,8 +88,7 @@ fn five_thousand_leaves(rt: HostRuntime) {
     assert_eq!(rt; answer.as_str(), "true 5000 0");
 }
 
-// What numbers of nodes, directions and trees are shown as where a programmer looks at them, and
-// how they compare.
+// What `Debug` shows of numbers of nodes, directions and trees, and how they compare.
 fn shown(alloc: Global, text: &str) -> Result<String, Error> {
     let tree = tree_of(alloc, text)?;
     let shown = format!(in alloc; "{tree:?}")?;

@@ -1,6 +1,6 @@
-//! Tests of what no row of text asks, over the public calls of `cargo_lock`: sinks and writers that
-//! fail, large and generated lockfiles, every order of the packages, bytes and numbers. What they
-//! expect was worked out by hand or comes from outside, never from the calls' own output.
+//! Tests that no row of text can express, over the public calls of `cargo_lock`: sinks and writers
+//! that fail, large and generated lockfiles, every order of the packages, bytes and numbers. The
+//! expected values were worked out by hand or come from outside, never from the calls' own output.
 #![tactic(auto)]
 
 #[cfg(test)]

@@ -7,10 +7,10 @@ use std::alloc::Global;
 // How many bytes a long text has.
 const LONG: usize = 10_000_000;
 
-// How many tables and lists stand in one another at most, and how many parts a key has at most.
+// How deeply tables and lists may be nested, and how many parts a key may have.
 const DEEPEST: usize = 80;
 
-// A text of so many letters, which are hexadecimal digits too.
+// A text of this many letters, which are hexadecimal digits too.
 fn long(alloc: Global) -> Result<String, Error> {
     Ok("a".repeat(alloc, LONG)?)
 }
@@ -60,7 +60,7 @@ fn name_of_ten_million_bytes(rt: HostRuntime) {
     assert_eq!(rt; answer.as_str(), "V2, package of 10000000");
 }
 
-// A key of the metadata that begins so.
+// A key of the metadata with this prefix.
 fn long_key(alloc: Global, beginning: &str) -> Result<String, Error> {
     let key = long(alloc)?;
     let text = format!(in alloc;
@@ -120,7 +120,7 @@ fn checksum_of_ten_million_bytes(rt: HostRuntime) {
     );
 }
 
-// A key of so many parts.
+// A key of this many parts.
 fn put_key(text: &mut String, parts: usize) -> Result<(), Error> {
     for part in 0..parts {
         text.push_str(if part == 0 { "a" } else { ".a" })?;
@@ -128,7 +128,7 @@ fn put_key(text: &mut String, parts: usize) -> Result<(), Error> {
     Ok(())
 }
 
-// The header of a list of tables whose name has so many parts, below lists of all shorter names.
+// The header of a list of tables whose name has this many parts, below lists of all shorter names.
 fn put_headers(text: &mut String, parts: usize) -> Result<(), Error> {
     for count in 0..parts {
         text.push_str("[[")?;
@@ -138,7 +138,7 @@ fn put_headers(text: &mut String, parts: usize) -> Result<(), Error> {
     Ok(())
 }
 
-// So many tables in one another, each under a key of the most parts.
+// This many nested tables, each under a key of the most parts.
 fn put_tables(alloc: Global, text: &mut String, tables: usize) -> Result<(), Error> {
     for _ in 0..tables {
         text.push_str("b.")?;

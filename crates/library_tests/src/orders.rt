@@ -15,7 +15,7 @@ fn package_at(packages: &[Package], digit: u8) -> Result<Package, Error> {
     Err(Error::Memory)
 }
 
-// The packages, each at the place where its digit stands.
+// The packages, each at the place of its digit.
 fn ordered(alloc: Global, packages: &[Package], order: &str) -> Result<Vec<Package>, Error> {
     let mut moved = Vec::new(alloc);
     for digit in order.as_bytes() {
@@ -31,7 +31,7 @@ fn printed_in_order(alloc: Global, order: &str) -> Result<String, Error> {
     text_of(alloc, &lockfile)
 }
 
-// What the references say as they are printed in this order, or else the text.
+// What the references resolve to as they are printed in this order, or else the text.
 fn said_in_order(alloc: Global, order: &str) -> Result<String, Error> {
     let printed = printed_in_order(alloc, order)?;
     if !printed.as_str().contains(PRINTED) {

@@ -1,13 +1,13 @@
 //! The references of a lockfile, a line each: as its text has them, as they are shortened, and what
-//! they say in a list of packages.
+//! they resolve to in a list of packages.
 
 use cargo_lock::dependency::Tree;
 use cargo_lock::lockfile::encoding::{EncodableDependency, EncodablePackage};
 use cargo_lock::{Dependency, Error, Lockfile, Package, ResolveVersion};
 use std::alloc::Global;
 
-// The reference in a line of a text: what stands between a space and a quotation mark, and a
-// quotation mark and a comma.
+// The reference in a line of a text: what is between a space and a quotation mark, and a quotation
+// mark and a comma.
 pub(crate) fn reference_in(line: &str) -> Option<&str> {
     line.strip_prefix(" \"")?.strip_suffix("\",")
 }
@@ -53,7 +53,7 @@ fn reference_to(
     }
 }
 
-// What the references of a text say in a list, as `resolve` has it. Each call walks the list.
+// What the references of a text resolve to in a list, by `resolve`. Each call walks the list.
 pub(crate) fn resolved(
     alloc: Global,
     text: &str,
@@ -83,7 +83,6 @@ fn said(alloc: Global, reference: &str, list: &[EncodablePackage]) -> Result<Dep
     EncodableDependency::from_str(alloc, reference)?.resolve(alloc, list)
 }
 
-// The dependencies of a lockfile.
 pub(crate) fn dependencies(alloc: Global, lockfile: &Lockfile) -> Result<String, Error> {
     let mut lines = String::new(alloc);
     for one in lockfile.packages.as_slice() {

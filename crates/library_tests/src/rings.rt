@@ -40,9 +40,9 @@ fn ring(alloc: Global) -> Result<String, Error> {
     Ok(text)
 }
 
-// Of the lockfile of a text: whether the references that are printed are those of the text, and
-// those of the first packages are `v2`'s; whether what is printed is read back as equal packages;
-// and the sizes of its tree.
+// For the lockfile of a text: whether the references that are printed are those of the text, and
+// those of the first packages are `v2`'s; whether what is printed reads back as equal packages; and
+// the sizes of its tree.
 fn written_and_read(alloc: Global, text: &str, most: usize) -> Result<String, Error> {
     let lockfile = Lockfile::from_str(alloc, text)?;
     let written = text_of(alloc, &lockfile)?;
@@ -107,9 +107,9 @@ fn ring_of_two_thousand_packages(rt: HostRuntime) {
     );
 }
 
-// The checksums of a package of the ring in V1. What counts is the least key that reads as its name
-// and version: alone, without a checksum before a key that has one, with one before a key that has
-// another, and after a key that does not read.
+// The checksums of a package of the ring in V1. The checksum at the least key that reads as its
+// name and version is used: a key alone, one without a checksum before a key that has one, one with
+// a checksum before a key that has another, and one after a key that does not read.
 fn put_checksums(text: &mut String, i: u32) -> Result<(), Error> {
     let name = i / 4;
     let version = i % 4 + 1;

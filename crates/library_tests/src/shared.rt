@@ -19,7 +19,7 @@ pub(crate) fn tree_of(alloc: Global, text: &str) -> Result<Tree, Error> {
     lockfile.dependency_tree(alloc)
 }
 
-/// The text of an answer, or that of the fault in its place.
+/// The text of an answer, or that of the error in its place.
 pub(crate) fn or_fault(alloc: Global, answer: Result<String, Error>) -> String {
     match answer {
         Ok(text) => text,
@@ -34,8 +34,8 @@ fn fault_text(alloc: Global, fault: &Error) -> String {
     }
 }
 
-/// The text of a lockfile, where `toml` reads it as the table of the lockfile, so far as a text has
-/// what a table has. Another table is told as `Parse`. Tests print lockfiles by this alone.
+/// The text of a lockfile, if `toml` reads it as the table of the lockfile, without what a text
+/// does not have. Another table is `Parse`. Tests print lockfiles only with this function.
 pub(crate) fn text_of(alloc: Global, lockfile: &Lockfile) -> Result<String, Error> {
     let text = lockfile.to_string(alloc)?;
     if is_read_as_table(alloc, text.as_str(), lockfile)? {

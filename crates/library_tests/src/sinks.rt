@@ -1,4 +1,4 @@
-//! Drawings into sinks that take few bytes a call or fail, and onto writers that fail.
+//! Drawings into sinks that take few bytes a call or fail, and to writers that fail.
 
 ghost use Rattle.std.specs.Prelude.{◌≡◌, ◌<◌, Some};
 
@@ -50,8 +50,8 @@ impl Sink for Failing {
     }
 }
 
-// The drawing into a sink that takes this many bytes a call, one at least, and fails after so many
-// calls: the answer, the count of faults and the bytes that were taken.
+// The drawing into a sink that takes this many bytes a call, at least one, and fails after this
+// many calls: the answer, the count of errors and the bytes that were taken.
 fn into_failing(alloc: Global, step: usize, calls: usize) -> Result<String, Error> {
     let tree = tree_of(alloc, REGISTRY_AND_GIT)?;
     let mut sink = Failing {
@@ -74,7 +74,7 @@ fn draw(alloc: Global, tree: &Tree, sink: &mut Failing) -> Result<(), Error>
     tree.render_into(alloc, sink, start, EdgeDirection::Outgoing, &symbols, false)
 }
 
-// An answer, a count of faults, and bytes.
+// An answer, a count of errors, and bytes.
 fn told(
     alloc: Global,
     answer: Result<(), Error>,
@@ -104,8 +104,8 @@ fn sink_that_fails(rt: HostRuntime) {
     );
 }
 
-// Whether a sink that takes one byte a call, and fails after so many calls, has taken that many
-// bytes of the drawing, and told its fault.
+// Whether a sink that takes one byte a call, and fails after this many calls, has taken that many
+// bytes of the drawing, and its error was returned.
 fn is_cut_off_after(alloc: Global, tree: &Tree, calls: usize) -> bool {
     let mut sink = Failing {
         taken: Vec::new(alloc),
@@ -144,8 +144,8 @@ fn sink_that_fails_at_each_call(rt: HostRuntime) {
     assert_eq!(rt; answer.as_str(), "each");
 }
 
-// A writer that takes some bytes a call for so many calls. Each later call is counted, and returns
-// this fault, or that it took no bytes.
+// A writer that takes some bytes a call for some calls. Each later call is counted, and returns
+// this error, or that it took no bytes.
 #[derive(Drop)]
 struct Broken {
     taken: Vec<u8>,
@@ -175,7 +175,7 @@ impl Write for Broken {
     }
 }
 
-// The calls that draw onto a writer, the last over a sink that is made of it.
+// The calls that draw to a writer, the last over a sink that is made of it.
 #[derive(Clone, Copy)]
 enum Call {
     Render,
@@ -186,7 +186,7 @@ enum Call {
 const DRAWING_CALLS: [Call; 3] = [Call::Render, Call::RenderWithSymbols, Call::RenderInto];
 
 impl Call {
-    // What the call answers, and the sink's count of faults.
+    // What the call returns, and the sink's count of errors.
     fn draw(self, alloc: Global, tree: &Tree, out: &mut Broken) -> (Result<(), Error>, u64) {
         let answer = match self {
             Call::Render => render(alloc, tree, out),
@@ -226,8 +226,8 @@ fn render_into_writer(alloc: Global, tree: &Tree, out: &mut Broken) -> (Result<(
     (answer, sink.faults())
 }
 
-// Whether a writer that fails in this way after so many calls has taken as many bytes of the drawing
-// as are wanted, is not asked again once it failed, and its failure is returned as one fault.
+// Whether a writer that fails in this way after some calls has taken as many bytes of the drawing
+// as are wanted, is not called again after it failed, and its failure is returned as one error.
 fn is_told(alloc: Global, tree: &Tree, call: Call, writer: Broken, wanted: usize) -> bool {
     let mut writer = writer;
     let kind = writer.answer.unwrap_or(ErrorKind::WriteZero);
@@ -240,8 +240,8 @@ fn is_told(alloc: Global, tree: &Tree, call: Call, writer: Broken, wanted: usize
         && DRAWN.as_bytes().starts_with(taken)
 }
 
-// Whether each call returns this failure of a writer that takes so many bytes a call for so many
-// calls.
+// Whether each call returns this failure of a writer that takes this many bytes a call for this
+// many calls.
 fn each_tells(
     alloc: Global,
     tree: &Tree,
@@ -264,8 +264,8 @@ fn each_tells(
     true
 }
 
-// The first count of calls, below the bytes of the drawing, after which the failure of a writer that
-// takes one byte a call is not returned.
+// The first count of calls, below the bytes of the drawing, after which the failure of a writer
+// that takes one byte a call is not returned.
 fn first_not_told(alloc: Global, tree: &Tree, answer: Option<ErrorKind>) -> Option<usize> {
     (0..DRAWN.len()).find(|calls| !each_tells(alloc, tree, answer, 1, *calls))
 }
@@ -325,7 +325,7 @@ fn writer_that_takes_all(rt: HostRuntime) -> Result<(), Fail> {
     Ok(())
 }
 
-// The drawing into a sink that is made of a writer, and the sink's count of faults.
+// The drawing into a sink that is made of a writer, and the sink's count of errors.
 fn into_writer(alloc: Global) -> Result<String, Error> {
     let tree = tree_of(alloc, REGISTRY_AND_GIT)?;
     let mut out: Vec<u8> = Vec::new(alloc);

@@ -1,4 +1,4 @@
-//! Values that are no texts: faults, bytes, numbers and constants.
+//! Values that are not texts: errors, bytes, numbers and constants.
 
 use crate::shared::or_fault;
 use cargo_lock::package::source::{CRATES_IO_INDEX, CRATES_IO_SPARSE_INDEX};
@@ -7,7 +7,6 @@ use std::alloc::{AllocError, Global};
 use std::fs;
 use std::io::ErrorKind;
 
-// The text of a fault that holds this text.
 fn parse_fault(alloc: Global, text: &str) -> Result<String, Error> {
     Err(Error::Parse(String::from_str(alloc, text)?))
 }
@@ -28,7 +27,6 @@ fn number_fault(alloc: Global, text: &str) -> Result<String, Error> {
     }
 }
 
-// The kind of the fault of a file.
 fn file_fault(rt: &HostRuntime, path: &str) -> Option<ErrorKind> {
     match fs::read_to_string(rt, path) {
         Ok(_) => None,
@@ -67,7 +65,7 @@ fn fault_texts(rt: HostRuntime) {
     assert_eq!(rt; file_fault(&rt, "/no/such/file"), Some(ErrorKind::NotFound));
 }
 
-// Whether a fault that holds this text is that of a URL of 4 GB or more.
+// Whether an error with this text is that of a URL of 4 GB or more.
 fn is_too_long(alloc: Global, text: &str) -> Option<bool> {
     let text = String::from_str(alloc, text).ok()?;
     Some(Error::Parse(text).is_too_long())

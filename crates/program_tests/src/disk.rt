@@ -12,7 +12,7 @@ use std::time::{Clock, Duration};
 /// How many bytes a call of writing takes at most, so that a text takes many.
 const TAKEN: usize = 20;
 
-/// Which calls fail: the one of this number, counted from 0, and where it lasts all later ones.
+/// Which calls fail: the one of this number, counted from 0, and, if it lasts, all later ones.
 #[derive(Drop)]
 pub(crate) struct Turns {
     done: Cell<usize>,

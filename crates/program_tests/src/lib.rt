@@ -1,5 +1,5 @@
-//! Tests of what no row of the program's commands asks: outputs that fail, a file system that fails
-//! at one of its calls, and the time of an environment.
+//! Tests that no row of the program's commands can express: outputs that fail, a file system that
+//! fails at one of its calls, and the time of an environment.
 #![tactic(auto)]
 
 #[cfg(test)]

@@ -1,4 +1,4 @@
-//! The program over writers that fail, and a fault that comes before its words are read.
+//! The program with writers that fail, and an error that comes before its arguments are read.
 
 use cli::{Fault, report, run};
 use std::io::{self, ErrorKind, Write};
@@ -37,10 +37,10 @@ const APP_LISTED: &str = "- app 0.1.0
   - rand 0.8.5 (registry+https://github.com/rust-lang/crates.io-index)
 ";
 
-// What the message of an output that fails begins with.
+// The beginning of the message of an output that fails.
 const MESSAGE: &str = "*** error: I/O operation failed: ";
 
-// How an output fails: with a fault of this kind, or by taking no bytes.
+// How an output fails: with an error of this kind, or by taking no bytes.
 const KINDS: [Option<ErrorKind>; 4] = [
     Some(ErrorKind::Interrupted),
     Some(ErrorKind::BrokenPipe),
@@ -48,22 +48,22 @@ const KINDS: [Option<ErrorKind>; 4] = [
     None,
 ];
 
-// A path for this test alone, where no file is yet.
+// A path for this test alone, at which there is no file yet.
 fn path_of(rt: &HostRuntime, name: &str) -> Result<PathBuf, Fail> {
     let number = process::id(rt.process());
     let name = format!(in rt.alloc(); "cargo_lock_{number}_{name}")?;
     Ok(env::temp_dir(rt)?.join(rt.alloc(), name.as_str())?)
 }
 
-// A file for this test alone that holds these bytes.
+// A file for this test alone with these bytes.
 fn file_of(rt: &HostRuntime, name: &str, bytes: &[u8]) -> Result<PathBuf, Fail> {
     let path = path_of(rt, name)?;
     fs::write(rt, path.as_path(), bytes)?;
     Ok(path)
 }
 
-// A writer that takes one byte a call for so many calls. Each later call, a flush too, fails with
-// the kind, or takes nothing where there is none.
+// A writer that takes one byte a call for some calls. Each later call, also a flush, fails with the
+// kind, or takes nothing if there is none.
 #[derive(Drop)]
 struct Failing {
     taken: Vec<u8>,
@@ -101,8 +101,8 @@ fn failing_after(rt: &HostRuntime, calls: usize, kind: Option<ErrorKind>) -> Fai
     }
 }
 
-// Whether the command prints a beginning of the text onto an output that fails after so many calls,
-// and the message of that fault, or so much of it as standard error takes in so many calls.
+// Whether the command prints a prefix of the text to an output that fails after some calls, and the
+// message of that error, or as much of it as standard error takes.
 fn is_cut_off(rt: &HostRuntime, words: &[&str], text: &str, out: Failing, told: usize) -> bool {
     let mut out = out;
     let calls = out.calls;
@@ -121,8 +121,8 @@ fn is_cut_off(rt: &HostRuntime, words: &[&str], text: &str, out: Failing, told: 
         && text.as_bytes().starts_with(taken)
 }
 
-// Whether the command is cut off after so many calls, whatever the fault is, where standard error
-// takes the whole message, none of it, or a beginning.
+// Whether the command is cut off after some calls, whatever the error is, if standard error takes
+// the whole message, none of it, or a prefix.
 fn is_cut_off_after(rt: &HostRuntime, words: &[&str], text: &str, calls: usize) -> bool {
     KINDS.iter().all(|kind| {
         [usize::MAX, 0, 7].iter().all(|told| is_cut_off(
@@ -135,8 +135,8 @@ fn is_cut_off_after(rt: &HostRuntime, words: &[&str], text: &str, calls: usize) 
     })
 }
 
-// A fault of the test, unless the command is cut off after each count of calls below the bytes of
-// what it prints.
+// Fails the test, unless the command is cut off after each count of calls below the bytes of what
+// it prints.
 fn each_cut_off(rt: &HostRuntime, words: &[&str], text: &str) -> Result<(), Fail> {
     match (0..text.len()).find(|calls| !is_cut_off_after(rt, words, text, *calls)) {
         Some(calls) => Err(Fail::new(format_args!("not cut off after {calls} calls"))),
@@ -217,11 +217,11 @@ fn message_that_fails(rt: HostRuntime) {
     }
 }
 
-// The words of the process are not read where one is no UTF-8. That is a fault like others.
+// The arguments of the process are not read if one is not UTF-8. That is an error like others.
 #[test]
 fn words_that_are_not_read(rt: HostRuntime) -> Result<(), Fail> {
     let mut err: Vec<u8> = Vec::new(rt.alloc());
-    let fault = Fault::of_start(io::Error::from(ErrorKind::InvalidData));
+    let fault = Fault::of_system_call(io::Error::from(ErrorKind::InvalidData));
     assert_eq!(rt;
         report(&mut err, &fault, ExitCode::FAILURE),
         ExitCode::FAILURE

@@ -1,5 +1,5 @@
 //! `translate -o` over a file system that fails at one of its calls, for each of them: the file
-//! that was there stays whole, or its successor is.
+//! that was there stays complete, or the new one is.
 
 use crate::disk::{Disk, Turns};
 use cli::run;
@@ -37,7 +37,7 @@ const NAME: &str = "read.lock";
 
 const NEW_NAME: &str = ".cargo-lock-0.new";
 
-// What is told of the fault.
+// The message of the error.
 const MESSAGE: &str = "*** error: I/O operation failed: no storage space\n";
 
 // Fewer calls of the file system than the command makes, and more.
@@ -45,7 +45,7 @@ const LEAST_CALLS: usize = 15;
 
 const CALLS: usize = 100;
 
-// What `-o` names, where it leads if it is a link, and what the file that is meant holds.
+// What `-o` names, where it leads if it is a link, and what the file at the end holds.
 #[derive(Clone, Copy)]
 struct Output {
     name: &'static str,
@@ -90,7 +90,7 @@ struct Folder<'a> {
 }
 
 impl<'a> Folder<'a> {
-    // A folder in which nothing was run yet.
+    // A folder in which no command was run yet.
     fn new(rt: &'a HostRuntime, name: &str, output: Output) -> Result<Folder<'a>, Fail> {
         let number = process::id(rt.process());
         let name = format!(in rt.alloc(); "cargo_lock_{number}_{name}")?;
@@ -122,8 +122,8 @@ impl<'a> Folder<'a> {
         self.output.link_to.unwrap_or(self.output.name)
     }
 
-    // Runs the command over this file system, and tells whether it succeeded. Else its message is
-    // that of the fault.
+    // Runs the command over this file system, and returns whether it succeeded. If it did not, its
+    // message must be that of the error.
     fn translate<R: Files + Env + Clock + AllocGlobal>(&self, files: &R) -> Result<bool, Fail> {
         let input = self.at(NAME)?;
         let output = self.at(self.output.name)?;
@@ -147,7 +147,7 @@ impl<'a> Folder<'a> {
         Ok(succeeds)
     }
 
-    // What the file of this name holds, if there is one.
+    // The content of the file of this name, if there is one.
     fn text_of(&self, name: &str) -> Result<Option<String>, Fail> {
         match fs::read_to_string(self.rt, self.at(name)?.as_path()) {
             Ok(text) => Ok(Some(text)),
@@ -156,7 +156,7 @@ impl<'a> Folder<'a> {
         }
     }
 
-    // Whether the file that is meant holds this, and whether the link still leads to it.
+    // Whether the file at the end holds this, and whether the link still leads to it.
     fn has(&self, wanted: Option<&str>) -> Result<bool, Fail> {
         let text = self.text_of(self.meant())?;
         let text = text.as_ref().map(|text| text.as_str());
@@ -181,7 +181,7 @@ impl<'a> Folder<'a> {
     }
 }
 
-// A fault of the test, unless this holds.
+// Fails the test, unless this holds.
 fn holds(condition: bool, what: &str, failing: usize) -> Result<(), Fail> {
     if condition {
         return Ok(());
@@ -189,13 +189,13 @@ fn holds(condition: bool, what: &str, failing: usize) -> Result<(), Fail> {
     Err(Fail::new(format_args!("{what}, where call {failing} fails")))
 }
 
-// A fault of the test, unless the output has the text that the command writes.
+// Fails the test, unless the output has the text that the command writes.
 fn has_written(folder: &Folder<'_>, failing: usize) -> Result<(), Fail> {
     let has_text = folder.has(Some(WRITTEN))?;
     holds(has_text, "the text is not written", failing)
 }
 
-// Runs the command with one call that fails. Tells whether the command made so many calls.
+// Runs the command with one call that fails. Returns whether the command made that many calls.
 fn one_fault(rt: &HostRuntime, output: Output, failing: usize) -> Result<bool, Fail> {
     let folder = Folder::new(rt, "one_fault", output)?;
     let before = folder.count()?;
@@ -216,8 +216,8 @@ fn one_fault(rt: &HostRuntime, output: Output, failing: usize) -> Result<bool, F
     Ok(turns.have_failed())
 }
 
-// Runs the command with all calls failing from one on, as where it ends there, and then once more.
-// A file that was not there may be left empty: the command makes one to see whether it may.
+// Runs the command with all calls failing from one on, as if it ended there, and then once more. A
+// file that did not exist may be left empty: the command creates one to see whether it may.
 fn all_fail_from(rt: &HostRuntime, output: Output, failing: usize) -> Result<bool, Fail> {
     let folder = Folder::new(rt, "all_fail_from", output)?;
     let turns = Turns::new(failing, true);
@@ -255,7 +255,7 @@ fn calls_of(rt: &HostRuntime, output: Output, lasts: bool) -> Result<usize, Fail
     Ok(CALLS)
 }
 
-// Runs the command with each output, where calls fail alone or with all later ones.
+// Runs the command with each output, with calls that fail alone or with all later ones.
 fn each_output(rt: &HostRuntime, lasts: bool) -> Result<(), Fail> {
     for output in OUTPUTS {
         let calls = calls_of(rt, output, lasts)?;

@@ -1,4 +1,4 @@
-//! The time that a bill says: that of the variable `SOURCE_DATE_EPOCH`, or else that of the clock.
+//! The time in a bill: that of the variable `SOURCE_DATE_EPOCH`, or else that of the clock.
 
 use cli_support::time;
 use std::alloc::Global;
@@ -7,7 +7,7 @@ use std::io;
 use std::test::Fail;
 use std::time::{Clock, Duration};
 
-/// An environment that has this variable alone, if there is one, and a clock that stands still.
+/// An environment that has only this variable, if there is one, and a clock that does not move.
 #[derive(Drop)]
 struct Moment<'a> {
     host: &'a HostRuntime,
@@ -59,7 +59,7 @@ impl Clock for Moment<'_> {
     }
 }
 
-/// The time, or the message of the fault.
+/// The time, or the message of the error.
 fn told(rt: &HostRuntime, variable: Option<&[u8]>) -> Result<String, Fail> {
     let moment = Moment { host: rt, variable };
     match time::now(&moment) {

@@ -16,8 +16,8 @@ struct Manner {
     exact: bool,
 }
 
-/// The drawing of a lockfile's tree from the node of the first word. The word `inverted` has it
-/// follow the edges backwards, and the word `exact` has exact labels.
+/// The drawing of a lockfile's tree from the node of the first argument. With `inverted` it follows
+/// the edges backwards, and with `exact` it has exact labels.
 pub fn drawn(alloc: Global, lockfile: &Lockfile, how: &[&str]) -> Result<String, Error> {
     let tree = tree_of(alloc, lockfile)?;
     drawn_from(alloc, &tree, &manner_of(how))

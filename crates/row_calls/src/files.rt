@@ -19,7 +19,7 @@ pub fn asked(rt: &HostRuntime, how: &[&str], name: &str) -> Result<String, Error
     }
 }
 
-/// The lockfile in a file. It says nothing of the lockfile, so that it is cheap to call.
+/// The lockfile in a file. It has no contract, so it is cheap to call.
 fn load(rt: &HostRuntime, name: &str) -> Result<Lockfile, Error> {
     Lockfile::load(rt, rt.alloc(), Path::new(name))
 }
@@ -29,7 +29,7 @@ fn meaning(rt: &HostRuntime, name: &str) -> Result<String, Error> {
     described(rt.alloc(), &lockfile)
 }
 
-/// The kind of the fault of reading a file.
+/// The kind of the error of reading a file.
 fn kind_of_fault(rt: &HostRuntime, name: &str) -> Result<String, Error> {
     let fault = match load(rt, name) {
         Ok(_) => return line(rt.alloc(), "no fault"),

@@ -37,7 +37,7 @@ fn of_number(alloc: Global, number: u32) -> Result<String, Error> {
     line(alloc, format_args!("{format:?}"))
 }
 
-/// The format that the packages and the metadata of a text tell, whatever its number.
+/// The format that follows from the packages and the metadata of a text, whatever its number.
 fn detected(alloc: Global, text: &str) -> Result<String, Error> {
     let lockfile = read(alloc, text)?;
     detected_of(alloc, &lockfile)

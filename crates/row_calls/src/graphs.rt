@@ -6,7 +6,7 @@ use cargo_lock::{Dependency, Error, Lockfile};
 use std::alloc::Global;
 use value_calls::no_call;
 
-/// The tree of a lockfile. It says nothing of the tree, so that it is cheap to call.
+/// The tree of a lockfile. It has no contract, so it is cheap to call.
 pub fn tree_of(alloc: Global, lockfile: &Lockfile) -> Result<Tree, Error> {
     lockfile.dependency_tree(alloc)
 }
@@ -24,6 +24,7 @@ fn asked_of(alloc: Global, tree: &Tree, how: &[&str]) -> Result<String, Error> {
         ["node", number] => node_text(alloc, tree.graph(), node(number)),
         ["ends"] => ends(alloc, tree),
         ["identities"] => identities(alloc, tree),
+        ["precise"] => precise_texts(alloc, tree),
         ["copy"] => copy(alloc, tree),
         _ => no_call(alloc),
     }
@@ -34,7 +35,7 @@ pub fn node(number: &str) -> NodeIndex {
     NodeIndex::new(number.parse::<usize>().unwrap_or(usize::MAX))
 }
 
-/// A node with its edges, or a number that is no node.
+/// A node with its edges, or a number that is not a node.
 fn node_text(alloc: Global, graph: &Graph, node: NodeIndex) -> Result<String, Error> {
     let mut text = String::new(alloc);
     put_node(&mut text, graph, node)?;
@@ -132,6 +133,26 @@ fn identities(alloc: Global, tree: &Tree) -> Result<String, Error> {
         put_identity(&mut text, identity, *node)?;
     }
     Ok(text)
+}
+
+/// The precise text of each identity, in their order.
+fn precise_texts(alloc: Global, tree: &Tree) -> Result<String, Error> {
+    let mut text = String::new(alloc);
+    for (identity, _) in tree.nodes() {
+        put_precise(&mut text, identity)?;
+    }
+    Ok(text)
+}
+
+fn put_precise(text: &mut String, identity: &Dependency) -> Result<(), Error> {
+    let name = &identity.name;
+    let version = &identity.version;
+    let precise = match &identity.source {
+        Some(source) => source.precise().unwrap_or("none"),
+        None => "no source",
+    };
+    write!(text, "{name} {version}: {precise}\n")?;
+    Ok(())
 }
 
 fn put_identity(text: &mut String, identity: &Dependency, node: NodeIndex) -> Result<(), Error> {

@@ -1,4 +1,5 @@
-//! What a case of the rows can ask of the library, by words. Each answer is of whole lines.
+//! What a case of the rows can ask of the library, by the arguments of a call. Each answer is of
+//! whole lines.
 #![tactic(auto)]
 
 mod drawings;
@@ -16,25 +17,25 @@ use std::alloc::Global;
 pub use value_calls::or_fault;
 use value_calls::{checksums, sources};
 
-/// The texts that a case is asked of: the one at hand, one beside it, and the subject, which in a
-/// row is the row's left side, else the text at hand.
+/// The texts to which a case refers: the current text, one beside it, and the subject, which in a
+/// row is the row's left side, and otherwise the current text.
 #[derive(Clone, Copy)]
 pub struct Texts<'t> {
-    /// The text at hand.
+    /// The current text.
     pub at_hand: &'t str,
     /// The text beside it.
     pub beside: &'t str,
-    /// What the case is asked of.
+    /// The subject of the case.
     pub subject: &'t str,
     /// Whether the case is a row.
     pub is_row: bool,
 }
 
-/// The answer of the call of these words.
+/// The answer of the call with these arguments.
 ///
 /// # Errors
 ///
-/// The fault of the call, and `Parse` where it reads a text that means nothing.
+/// The error of the call, and `Parse` if it reads a text that means nothing.
 pub fn ask(rt: &HostRuntime, words: &[&str], texts: Texts<'_>) -> Result<String, Error> {
     let alloc = rt.alloc();
     match words {
@@ -51,8 +52,8 @@ pub fn ask(rt: &HostRuntime, words: &[&str], texts: Texts<'_>) -> Result<String,
     }
 }
 
-/// The wanted answer in the form in which the call gives it: a table is told as `toml` prints it,
-/// and any other text as it is.
+/// The wanted answer in the form in which the call gives it: a table as `toml` prints it, and any
+/// other text unchanged.
 pub fn wanted(alloc: Global, call: &str, text: &str) -> Result<String, Error> {
     if call.starts_with("table ") {
         return or_fault(alloc, tables::printed_again(alloc, text));

@@ -43,7 +43,8 @@ fn meaning_asked(alloc: Global, how: &[&str], texts: Texts<'_>) -> Result<String
     }
 }
 
-/// What is asked of a lockfile, which is owned here alone: each function that owns one is dear.
+/// What is asked of a lockfile, which only this function owns: each function that owns one is
+/// expensive to prove.
 fn lockfile_asked(alloc: Global, words: &[&str], text: &str) -> Result<String, Error> {
     let mut lockfile = read(alloc, text)?;
     asked_of_lockfile(alloc, words, &mut lockfile, text)
@@ -73,7 +74,7 @@ fn table_in(alloc: Global, lockfile: &mut Lockfile, number: &str) -> Result<Stri
     tables::of_lockfile(alloc, lockfile)
 }
 
-/// The lockfile that a text means. It says nothing of the lockfile, so that it is cheap to call.
+/// The lockfile that a text means. It has no contract, so it is cheap to call.
 pub fn read(alloc: Global, text: &str) -> Result<Lockfile, Error> {
     Lockfile::from_str(alloc, text)
 }
@@ -106,7 +107,7 @@ fn table_meaning(alloc: Global, table: &Table) -> Result<String, Error> {
     described(alloc, &lockfile)
 }
 
-/// The meaning of a text, or its fault, if that of its table is the same.
+/// The meaning of a text, or its error, if that of its table is the same.
 fn both_meanings(alloc: Global, text: &str) -> Result<String, Error> {
     alike(
         alloc,
@@ -115,8 +116,8 @@ fn both_meanings(alloc: Global, text: &str) -> Result<String, Error> {
     )
 }
 
-/// The text at hand with the row's lines around it, which stand before and behind a bar. Without a
-/// bar they follow.
+/// The current text with the row's lines around it, which are before and after a bar. Without a bar
+/// they are after it.
 pub fn around(alloc: Global, texts: Texts<'_>) -> Result<String, Error> {
     let lines = texts.subject;
     let (front, back) = lines.split_once('|').unwrap_or(("", lines));
@@ -129,7 +130,7 @@ fn meaning_around(alloc: Global, texts: Texts<'_>) -> Result<String, Error> {
     both_meanings(alloc, text.as_str())
 }
 
-/// The meaning where a carriage return stands before each newline.
+/// The meaning with a carriage return before each newline.
 fn with_carriage_returns(alloc: Global, text: &str) -> Result<String, Error> {
     let text = text.replace(alloc, "\n", "\r\n")?;
     both_meanings(alloc, text.as_str())
@@ -174,7 +175,7 @@ fn written_again(alloc: Global, lockfile: &Lockfile) -> Result<Lockfile, Error> 
     read_table(alloc, &table)
 }
 
-/// Whether the lockfile that the table written in a format means stays as it is where it is written
+/// Whether the lockfile that the table written in a format means stays unchanged when it is written
 /// once more.
 fn kept_by_tables(alloc: Global, text: &str, number: &str) -> Result<String, Error> {
     let lockfile = through_table(alloc, text, number)?;
@@ -192,7 +193,7 @@ fn are_equal(alloc: Global, one: &str, other: &str) -> Result<String, Error> {
     is_equal(alloc, &one, other)
 }
 
-/// Whether a text means an equal lockfile where a carriage return stands before each newline.
+/// Whether a text means an equal lockfile with a carriage return before each newline.
 fn equal_with_carriage_returns(alloc: Global, text: &str) -> Result<String, Error> {
     let other = text.replace(alloc, "\n", "\r\n")?;
     are_equal(alloc, text, other.as_str())
@@ -203,8 +204,8 @@ fn is_equal(alloc: Global, one: &Lockfile, other: &str) -> Result<String, Error>
     line(alloc, *one == other)
 }
 
-/// How many beginnings a text has that are shorter, and whether each of them is read or refused
-/// with `Parse`.
+/// How many prefixes a text has that are shorter, and whether each of them is read or refused with
+/// `Parse`.
 fn fronts(alloc: Global, text: &str) -> Result<String, Error> {
     let mut count = 0usize;
     for (end, _) in text.char_indices() {

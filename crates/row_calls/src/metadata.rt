@@ -1,4 +1,4 @@
-//! Checksums among the metadata.
+//! Checksums in the metadata.
 
 use super::Texts;
 use super::lockfiles::{around, read};
@@ -7,7 +7,7 @@ use cargo_lock::{Checksum, Error, Lockfile, Package};
 use std::alloc::Global;
 use value_calls::{line, no_call};
 
-/// What is asked of the text at hand with the row's lines around it.
+/// What is asked of the current text with the row's lines around it.
 pub fn asked(alloc: Global, how: &[&str], texts: Texts<'_>) -> Result<String, Error> {
     let text = around(alloc, texts)?;
     match how {
@@ -26,7 +26,7 @@ fn checksum_read(alloc: Global, text: &str) -> Result<String, Error> {
     }
 }
 
-/// The checksum that the metadata of a lockfile hold for its first package.
+/// The checksum in the metadata of a lockfile for its first package.
 fn checksum_found(alloc: Global, text: &str) -> Result<String, Error> {
     let lockfile = read(alloc, text)?;
     match lockfile.packages.first() {

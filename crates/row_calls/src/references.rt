@@ -7,7 +7,7 @@ use cargo_lock::{Dependency, Error, Lockfile, Package, ResolveVersion};
 use std::alloc::Global;
 use value_calls::{line, no_call};
 
-/// What is asked of a reference, beside the packages of the text at hand.
+/// What is asked of a reference, with the packages of the current text.
 pub fn asked(alloc: Global, how: &[&str], texts: Texts<'_>) -> Result<String, Error> {
     let subject = texts.subject;
     match how {
@@ -45,7 +45,7 @@ fn beside(alloc: Global, reference: &EncodableDependency, copied: &str) -> Resul
     Ok(answer)
 }
 
-/// The dependency that a reference with a version stands for by itself.
+/// The dependency to which a reference with a version resolves without a list.
 fn dependency(alloc: Global, text: &str) -> Result<Dependency, Error> {
     reference(alloc, text)?.resolve(alloc, &[])
 }
@@ -55,7 +55,7 @@ fn alone(alloc: Global, text: &str) -> Result<String, Error> {
     line(alloc, &dependency)
 }
 
-/// What is asked of a reference beside the packages of the text at hand.
+/// What is asked of a reference with the packages of the current text.
 fn among(alloc: Global, how: &str, at_hand: &str, text: &str) -> Result<String, Error> {
     let lockfile = read(alloc, at_hand)?;
     among_packages(alloc, how, &lockfile, text)
@@ -111,8 +111,8 @@ fn full_reference(alloc: Global, dependency: &Dependency, format: &str) -> Resul
     line(alloc, &reference)
 }
 
-/// Whether a dependency has the name and the version of the first package at hand, whether it is
-/// its identity, and the identity.
+/// Whether a dependency has the name and the version of the first package of the current text,
+/// whether it is its identity, and the identity.
 fn matched(alloc: Global, list: &[Package], text: &str) -> Result<String, Error> {
     match list.first() {
         Some(package) => matched_with(alloc, package, text),
@@ -144,7 +144,7 @@ fn without_version(alloc: Global, text: &str) -> Result<String, Error> {
     line(alloc, &reference)
 }
 
-/// What it stands for where there is no package.
+/// What it resolves to without any package.
 fn without_version_alone(alloc: Global, text: &str) -> Result<String, Error> {
     let reference = versionless(alloc, text)?;
     resolution(alloc, &reference, &[])

@@ -1,7 +1,7 @@
-//! Lockfiles as tables, and the values that stand between a lockfile and its table.
+//! Lockfiles as tables, and the values between a lockfile and its table.
 
 use super::lockfiles::{printed, read_in};
-use cargo_lock::lockfile::encoding::EncodableLockfile;
+use cargo_lock::lockfile::encoding::{EncodableLockfile, EncodesLockfile};
 use cargo_lock::{Error, Lockfile};
 use std::alloc::Global;
 use toml::Table;
@@ -40,8 +40,8 @@ pub fn values_asked(alloc: Global, how: &[&str], text: &str) -> Result<String, E
     }
 }
 
-/// The number of the values, whether they are printed as the lockfile is, and whether the way back
-/// is to equal packages, patches and format.
+/// The number of the values, whether they are printed as the lockfile is, and whether they lead
+/// back to equal packages, patches and format.
 fn values_in(alloc: Global, text: &str, format: &str) -> Result<String, Error> {
     let lockfile = read_in(alloc, text, format)?;
     values_of(alloc, &lockfile)
@@ -68,7 +68,7 @@ fn are_printed(alloc: Global, lockfile: &Lockfile) -> Result<bool, Error> {
 }
 
 fn is_text_of(alloc: Global, lockfile: &Lockfile, text: &str) -> Result<bool, Error> {
-    let other = text_of_values(alloc, &lockfile.to_encodable(alloc)?)?;
+    let other = text_of_values(alloc, &EncodableLockfile::of(alloc, lockfile)?)?;
     Ok(other.as_str() == text)
 }
 
@@ -77,7 +77,7 @@ fn text_of_values(alloc: Global, values: &EncodableLockfile) -> Result<String, E
 }
 
 fn go_back(alloc: Global, lockfile: &Lockfile) -> Result<bool, Error> {
-    let back = Lockfile::from_encodable(alloc, lockfile.to_encodable(alloc)?)?;
+    let back = EncodableLockfile::of(alloc, lockfile)?.into_lockfile(alloc)?;
     Ok(
         back.packages == lockfile.packages
             && back.patch == lockfile.patch
@@ -85,7 +85,7 @@ fn go_back(alloc: Global, lockfile: &Lockfile) -> Result<bool, Error> {
     )
 }
 
-/// The values of a text under another number, or under none where the word is no number.
+/// The values of a text under another number, or under none if the argument is not a number.
 fn numbered(alloc: Global, text: &str, number: &str) -> Result<EncodableLockfile, Error> {
     let lockfile = super::lockfiles::read(alloc, text)?;
     let mut values = lockfile.to_encodable(alloc)?;

@@ -8,8 +8,8 @@ use std::collections::BTreeMap;
 use value_calls::typed::{again, written};
 use value_calls::{alike, line};
 
-/// What is written of the value of a type that a text is read as, or the message of the error in
-/// its place.
+/// What is written of the value of a type that a text reads as, or the message of the error in its
+/// place.
 pub fn asked(alloc: Global, how: &[&str], text: &str) -> Result<String, Error> {
     match how {
         ["lockfiles"] => again::<BTreeMap<String, Lockfile>>(alloc, text),
@@ -18,7 +18,7 @@ pub fn asked(alloc: Global, how: &[&str], text: &str) -> Result<String, Error> {
     }
 }
 
-/// The table of the lockfile that a text is read as, where `from_str` reads an equal one.
+/// The table of the lockfile that a text reads as, if `from_str` reads an equal one.
 fn as_read(alloc: Global, text: &str) -> Result<String, Error> {
     match toml::from_str::<Lockfile>(alloc, text) {
         Ok(lockfile) => written_as_read(alloc, &lockfile, text),
@@ -34,7 +34,7 @@ fn written_as_read(alloc: Global, lockfile: &Lockfile, text: &str) -> Result<Str
     written_as_table(alloc, lockfile)
 }
 
-/// What is written of a lockfile, where it is the table of the lockfile.
+/// What is written of a lockfile, if it is the table of the lockfile.
 fn written_as_table(alloc: Global, lockfile: &Lockfile) -> Result<String, Error> {
     let text = written(alloc, lockfile)?;
     alike(

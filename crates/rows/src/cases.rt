@@ -1,10 +1,10 @@
 //! Case files: Markdown, in which each fenced block is a lockfile or asks something.
 //!
-//! A block `toml` is the text at hand for the blocks below it, and a block `toml beside` the text
+//! A block `toml` is the current text for the blocks below it, and a block `toml beside` the text
 //! beside it. A block `toml FILE` or `toml beside FILE` has no lines: its text is that of a file
 //! beside the case files. In a block `each CALL` each line is a case, `INPUT => ANSWER`. Any other
-//! block is one case: its words are the call, which is asked of the text at hand, and its lines are
-//! the wanted answer.
+//! block is one case: its info string is the call, with the current text as its subject, and its
+//! lines are the wanted answer.
 
 use crate::report::{Case, Report};
 use crate::{commands, notation};
@@ -87,7 +87,7 @@ impl<'t> Reader<'t> {
         }
     }
 
-    /// Takes the text at hand, or the text beside it.
+    /// Sets the current text, or the text beside it.
     fn put_text(&mut self, call: &'t str, words: &'t str, body: String) -> Result<(), Error> {
         match words.strip_prefix(" beside") {
             Some(file) => self.beside = self.text_of(call, file, body)?,
@@ -199,7 +199,7 @@ impl<'t> Reader<'t> {
     }
 }
 
-/// The answer of a call, or the text of the fault in its place.
+/// The answer of a call, or the text of the error in its place.
 fn answer(rt: &HostRuntime, call: &str, texts: Texts<'_>) -> Result<String, Error> {
     let words: Vec<&str> = call.split_whitespace().collect(rt.alloc())?;
     let answer = match words.as_slice() {

@@ -1,4 +1,4 @@
-//! Commands of the program, run in this folder, where the text at hand is the file `Cargo.lock`,
+//! Commands of the program, run in this folder, in which the current text is the file `Cargo.lock`,
 //! and the text beside it the file `beside.lock`.
 
 use crate::notation;
@@ -8,8 +8,8 @@ use std::alloc::Global;
 use std::fs;
 use std::process::ExitCode;
 
-/// What a command puts out, and where it fails its message too, after a line with its status. The
-/// words of a row follow those of the call.
+/// What a command prints, and if it fails also its message, after a line with its status. The
+/// arguments of a row follow those of the call.
 pub fn asked(rt: &HostRuntime, how: &[&str], texts: Texts<'_>) -> Result<String, Error> {
     fs::write(rt, "Cargo.lock", texts.at_hand)?;
     fs::write(rt, "beside.lock", texts.beside)?;

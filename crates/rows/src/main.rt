@@ -1,8 +1,8 @@
 //! The program `rows`: asks the library what the case files beside it ask, and prints each case
-//! whose answer is another than the one that is written there.
+//! whose answer differs from the one that is written there.
 //!
-//! A case file is one whose name ends in `.md`. In one whose name begins with `failing` each case
-//! is to fail, so that what is printed of failing cases is tested too.
+//! A case file is one whose name ends in `.md`. In a file whose name begins with `failing` each
+//! case must fail, so what is printed of failing cases is tested too.
 #![tactic(auto)]
 
 mod cases;
@@ -26,7 +26,7 @@ fn main(rt: HostRuntime) -> ExitCode {
     }
 }
 
-/// Whether each case file is as it is to be. Prints so where each is.
+/// Whether each case file is as expected. Prints this for each of them.
 fn run(rt: &HostRuntime) -> Result<bool, Error> {
     let mut holds = true;
     for name in case_files(rt)?.as_slice() {
@@ -60,8 +60,8 @@ fn file_holds(rt: &HostRuntime, name: &str) -> Result<bool, Error> {
     print(rt, name, &report)
 }
 
-/// Prints the cases of a file that fail, and returns whether the file is as it is to be. Where it is
-/// not, prints why to standard error too, of which the gate shows the end.
+/// Prints the cases of a file that fail, and returns whether the file is as expected. If it is not,
+/// also prints why to standard error, of which the gate shows the end.
 fn print(rt: &HostRuntime, name: &str, report: &Report) -> Result<bool, Error> {
     let failures = report.failures();
     print!(rt; "{failures}")?;

@@ -1,16 +1,16 @@
 //! The notation of rows: `\n` is a newline, `\u{3000}` the character of that number, and `''` an
-//! empty word.
+//! empty argument.
 
 use cargo_lock::Error;
 use std::alloc::Global;
 
-/// The text that a side of a row stands for, without the blanks around it.
+/// The text of a side of a row, without the blanks around it.
 pub fn plain(alloc: Global, side: &str) -> Result<String, Error> {
     let lines = side.trim_matches(' ').replace(alloc, "\\n", "\n")?;
     with_characters(alloc, lines.as_str())
 }
 
-/// The word of a command that a word of a row stands for.
+/// The argument of a command that a token of a row means.
 pub fn word(alloc: Global, word: &str) -> Result<String, Error> {
     match word {
         "''" => Ok(String::new(alloc)),
@@ -27,7 +27,7 @@ fn with_characters(alloc: Global, text: &str) -> Result<String, Error> {
     Ok(answer)
 }
 
-/// Puts the character whose number stands before the brace, and the rest. Without one it is the
+/// Adds the character whose number is before the brace, and the rest. Without a brace it is the
 /// text itself.
 fn put_character(answer: &mut String, part: &str) -> Result<(), Error> {
     match numbered(part) {

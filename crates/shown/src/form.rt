@@ -1,12 +1,12 @@
-//! Which characters are kept as they are.
+//! Which characters are not escaped.
 
 ghost use Rattle.std.specs.Prelude.{◌≡◌};
 ghost use Rattle.shown.specs.Shown as spec;
 
-/// Where a text is shown.
+/// The place in which a text is shown.
 #[derive(Clone, Copy)]
 pub enum Form {
-    /// As a word of a line: U+0021 to U+007E are kept, but for the backslash.
+    /// As a part of a line without spaces: U+0021 to U+007E are kept, except the backslash.
     Plain,
 
     /// Between backquotes: the space is kept too, and the backquote is not.
@@ -14,7 +14,7 @@ pub enum Form {
 }
 
 impl Form {
-    /// Whether the character is kept as it is.
+    /// Whether the character is not escaped.
     pub fn keeps(self, c: char) -> bool
         ensures { result ≡ spec.is_kept self c }
     {

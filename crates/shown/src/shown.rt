@@ -1,4 +1,4 @@
-//! A text as it is shown, and a writer that shows each text that it is given.
+//! A text as it is shown, and a writer that shows each text that is written to it.
 
 ghost use Rattle.std.specs.Prelude.{◌≡◌, ℕ, List, Some, option_map};
 ghost use Rattle.std.specs.Fmt.{DisplaysOnOk};
@@ -8,8 +8,8 @@ use crate::form::Form;
 use std::fmt;
 use std::fmt::Formatter;
 
-/// A value as a word of a line: what it displays as, with each character that is no visible one of
-/// ASCII, and each backslash, as `\u{..}`.
+/// Displays a value as a part of a line without spaces: what `Display` writes of it, with each
+/// backslash and each character that is not visible ASCII as `\u{..}`.
 #[derive(Clone, Copy)]
 pub struct Shown<T>(pub T);
 
@@ -25,8 +25,8 @@ impl<T: fmt::Display> fmt::Display for Shown<T> {
     }
 }
 
-/// A value between backquotes, which the line has: as `Shown`, but that a space is kept, and a
-/// backquote is not.
+/// Displays a value as `Shown` does for a place between backquotes, which are not written: a space
+/// is kept, and a backquote is not.
 #[derive(Clone, Copy)]
 pub struct Quoted<T>(pub T);
 
@@ -42,7 +42,7 @@ impl<T: fmt::Display> fmt::Display for Quoted<T> {
     }
 }
 
-// What the value displays as, shown.
+// What `Display` writes of the value, as it is shown.
 fn write_shown<T: fmt::Display, W: fmt::Write>(
     form: Form,
     value: &T,
@@ -59,7 +59,7 @@ fn write_shown<T: fmt::Display, W: fmt::Write>(
     result
 }
 
-// A writer in front of a formatter, which shows each text that is written.
+// A writer that passes texts to a formatter as they are shown.
 #[derive(Drop)]
 struct ShowingWriter<'a, W> {
     form: Form,
@@ -77,7 +77,6 @@ impl<W: fmt::Write> fmt::Write for ShowingWriter<'_, W> {
     }
 }
 
-// The characters of a text, shown.
 #[tactic(auto, unfolding(crate::specs::Shown::shown))]
 fn write_text<W: fmt::Write>(form: Form, text: &str, f: &mut Formatter<W>) -> fmt::Result
     ensures { DisplaysOnOk W.write_str_gives f.old result (Some (shown form text.now)) f.new }
@@ -88,7 +87,6 @@ fn write_text<W: fmt::Write>(form: Form, text: &str, f: &mut Formatter<W>) -> fm
     Ok(())
 }
 
-// A character, shown.
 fn write_char<W: fmt::Write>(form: Form, c: char, f: &mut Formatter<W>) -> fmt::Result
     ensures { DisplaysOnOk W.write_str_gives f.old result (Some (shown_char form c)) f.new }
 {

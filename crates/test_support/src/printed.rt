@@ -1,10 +1,10 @@
-//! Printed lockfiles, against their tables.
+//! Comparison of printed lockfiles with their tables.
 
 use cargo_lock::{Error, Lockfile};
 use std::alloc::Global;
 use toml::Table;
 
-/// Whether `toml` reads a text as the table of a lockfile, so far as a text has what a table has.
+/// Whether `toml` reads a text as the table of a lockfile, without what a text does not have.
 pub fn is_read_as_table(alloc: Global, text: &str, lockfile: &Lockfile) -> Result<bool, Error> {
     let table = printed_table(alloc, lockfile)?;
     Ok(is_read_as(alloc, text, &table))
@@ -17,8 +17,8 @@ fn is_read_as(alloc: Global, text: &str, table: &Table) -> bool {
     }
 }
 
-/// The table of what a text has: without the root, without a list of no packages, and without the
-/// replacement of a package that has dependencies.
+/// The table of what a text has: without the root, without an empty list of packages, and without
+/// the replacement of a package that has dependencies.
 fn printed_table(alloc: Global, lockfile: &Lockfile) -> Result<Table, Error> {
     let plain = without_hidden(lockfile)?;
     let mut table = table_of(alloc, &plain)?;

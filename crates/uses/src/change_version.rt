@@ -3,8 +3,8 @@
 use cargo_lock::{Error, Lockfile, Package, Version};
 use std::alloc::Global;
 
-/// Gives each package of a name another version, and takes its checksum away, which is that of the
-/// old one. Each dependency of that name is changed too.
+/// Gives each package of a name another version, and removes its checksum, which is that of the old
+/// version. Each dependency of that name is changed too.
 pub fn changed(
     alloc: Global,
     lockfile: &Lockfile,

@@ -1,5 +1,5 @@
-//! What a merge check begins with: the text of a lockfile is read, its own format keeps it, and it
-//! is printed as it stands.
+//! The first steps of a merge check: the text of a lockfile is read, its own format keeps it, and
+//! it is printed unchanged.
 
 ghost use Rattle.std.specs.Prelude.{◌≡◌, IfOk, IsTrue};
 ghost use Rattle.cargo_lock.specs.Means.{TextMeans};

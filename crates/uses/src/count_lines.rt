@@ -1,4 +1,4 @@
-//! A sink of one's own: it keeps no text, and counts the lines of a drawing.
+//! A sink of the caller's own: it keeps no text, and counts the lines of a drawing.
 
 ghost use Rattle.std.specs.Prelude.{None};
 

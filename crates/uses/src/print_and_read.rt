@@ -13,7 +13,7 @@ ghost use Rattle.cargo_lock.specs.Text.{join_lines, lines_of};
 use cargo_lock::{Error, Lockfile};
 use std::alloc::Global;
 
-/// The lockfile that the printed text of a lockfile means. Where the printed lockfile survives its
+/// The lockfile that the printed text of a lockfile means. If the printed lockfile survives its
 /// format and no package has both a replacement and dependencies, the one that is read has the same
 /// format, equal packages and patches, the written metadata and no root. The one error is then
 /// `Memory`, or, for a text of 2^24 bytes or more, `Parse` for a URL of 4 GB or more.

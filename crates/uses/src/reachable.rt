@@ -18,7 +18,7 @@ pub fn names(alloc: Global, tree: &Tree) -> Result<String, Error> {
     Ok(names)
 }
 
-/// The nodes that a node reaches, each once.
+/// The nodes that a node reaches, each listed once. The one error is `Memory`.
 pub fn reached(alloc: Global, graph: &Graph, start: NodeIndex) -> Result<Vec<NodeIndex>, Error> {
     let mut met = Vec::new(alloc);
     if start.index() < graph.node_count() {

@@ -72,7 +72,7 @@ fn of_value(alloc: Global, text: &str) -> Result<String, Error> {
     line(alloc, format_args!("{checksum}"))
 }
 
-/// A checksum in lower case, in upper case and as a programmer sees it, a line each.
+/// A checksum in lower case, in upper case and as `Debug` shows it, a line each.
 fn in_letters(alloc: Global, text: &str) -> Result<String, Error> {
     let checksum = checksum(alloc, text)?;
     let mut lines = lower(alloc, &checksum)?;
@@ -91,7 +91,7 @@ fn upper(alloc: Global, checksum: &Checksum) -> Result<String, Error> {
     line(alloc, text.as_str())
 }
 
-/// The text that a value keeps, and as it is displayed.
+/// The text of a value, and as `Display` writes it.
 fn value_text(alloc: Global, text: &str) -> Result<String, Error> {
     let value = MetadataValue::from_str(alloc, text)?;
     let kept = value.as_str();
@@ -113,7 +113,7 @@ fn key(alloc: Global, text: &str) -> Result<MetadataKey, Error> {
     Ok(MetadataKey::from_str(alloc, text)?)
 }
 
-/// The text that a key keeps, and as it is displayed.
+/// The text of a key, and as `Display` writes it.
 fn key_text(alloc: Global, text: &str) -> Result<String, Error> {
     let key = key(alloc, text)?;
     let kept = key.as_str();
@@ -135,7 +135,7 @@ fn checksum_dependency(alloc: Global, key: &MetadataKey) -> Result<Dependency, E
     key.checksum_dependency(alloc)
 }
 
-/// The key of the package that a reference with a version stands for by itself.
+/// The key of the package to which a reference with a version resolves without a list.
 fn key_for(alloc: Global, text: &str) -> Result<String, Error> {
     let dependency = dependency(alloc, text)?;
     let key = MetadataKey::for_checksum(alloc, &dependency)?;

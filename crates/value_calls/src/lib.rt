@@ -1,5 +1,5 @@
-//! What a case of the rows can ask of names, checksums, sources and other values without a lockfile,
-//! by words. Each answer is of whole lines.
+//! What a case of the rows can ask of names, checksums, sources and other values without a
+//! lockfile, by the arguments of a call. Each answer is of whole lines.
 #![tactic(auto)]
 
 pub mod checksums;
@@ -10,17 +10,17 @@ use cargo_lock_parts::error::Error;
 use std::alloc::Global;
 use std::fmt::Display;
 
-/// The answer where the words are no call.
+/// The answer if the arguments are no call.
 pub fn no_call(alloc: Global) -> Result<String, Error> {
     line(alloc, "there is no such call")
 }
 
-/// What is displayed, as a line. It is generic, so that a format is proved here alone.
+/// What `Display` writes, as a line. It is generic, so a format is proved only here.
 pub fn line<D: Display + Drop>(alloc: Global, value: D) -> Result<String, Error> {
     Ok(format!(in alloc; "{value}\n")?)
 }
 
-/// An answer, or the text of the fault in its place.
+/// An answer, or the text of the error in its place.
 pub fn or_fault(alloc: Global, answer: Result<String, Error>) -> Result<String, Error> {
     match answer {
         Ok(text) => Ok(text),

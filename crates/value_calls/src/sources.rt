@@ -26,7 +26,7 @@ pub fn asked(alloc: Global, how: &[&str], text: &str) -> Result<String, Error> {
     }
 }
 
-/// The source of a text. It says nothing of the source, so that it is cheap to call.
+/// The source of a text. It has no contract, so it is cheap to call.
 fn source(alloc: Global, text: &str) -> Result<SourceId, Error> {
     SourceId::from_url(alloc, text)
 }
@@ -132,7 +132,7 @@ fn registry_words(alloc: Global, text: &str) -> Result<String, Error> {
     registry_words_of(alloc, &source)
 }
 
-/// Whether a source is the default registry, its index and its name in words for people.
+/// Whether a source is the default registry, and its index and its name for people.
 fn registry_words_of(alloc: Global, source: &SourceId) -> Result<String, Error> {
     let index = source.display_index(alloc)?;
     let name = source.display_registry_name(alloc)?;
@@ -140,7 +140,7 @@ fn registry_words_of(alloc: Global, source: &SourceId) -> Result<String, Error> 
     line(alloc, format_args!("{is_default}, {index}, {name}"))
 }
 
-/// What is checked out of a repository, in the words of a URL.
+/// The tag, branch or revision of a repository, as a URL has it.
 fn reference(alloc: Global, text: &str, escaped: bool) -> Result<String, Error> {
     let source = source(alloc, text)?;
     match source.git_reference() {

@@ -32,8 +32,8 @@ struct Place {
     source: Option<SourceId>,
 }
 
-/// What is written of the value of a type that a text is read as, or the message of the error in
-/// its place.
+/// What is written of the value of a type that a text reads as, or the message of the error in its
+/// place.
 pub fn asked(alloc: Global, how: &[&str], text: &str) -> Result<String, Error> {
     match how {
         ["texts"] => all_words(alloc, text),
@@ -49,7 +49,7 @@ pub fn asked(alloc: Global, how: &[&str], text: &str) -> Result<String, Error> {
     }
 }
 
-/// What is written of all words of a text, the first three and the other ones.
+/// What is written of all texts of a value, the first three and the others.
 fn all_words(alloc: Global, text: &str) -> Result<String, Error> {
     let mut words = again::<Words>(alloc, text)?;
     put_other_words(alloc, &mut words, text)?;
@@ -62,7 +62,7 @@ fn put_other_words(alloc: Global, words: &mut String, text: &str) -> Result<(), 
     Ok(())
 }
 
-/// What is written of the value that a text is read as, or the message of the error in its place.
+/// What is written of the value that a text reads as, or the message of the error in its place.
 pub fn again<T: Serialize + DeserializeOwned>(alloc: Global, text: &str) -> Result<String, Error> {
     match toml::from_str::<T>(alloc, text) {
         Ok(value) => written(alloc, &value),
@@ -78,7 +78,7 @@ pub fn written<T: Serialize>(alloc: Global, value: &T) -> Result<String, Error> 
     }
 }
 
-/// The same, where what is written is read as an equal value.
+/// The same, if what is written reads as an equal value.
 fn equal_again<T: Serialize + DeserializeOwned + PartialEq>(
     alloc: Global,
     text: &str,

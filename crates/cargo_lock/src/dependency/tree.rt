@@ -1,15 +1,16 @@
 //! Trees of packages: what each package depends on.
 
-ghost use Rattle.std.specs.Prelude.{◌≡◌, ◌-◌, ◌^◌, ◌<◌, All, IfErr, IfOk, IsOkUnless, length};
-ghost use Rattle.std.specs.BTreeMap.{get};
+ghost use Rattle.std.specs.Prelude.{◌≡◌, ◌<◌, All, IfErr, IfOk, IsOkUnless, length};
+ghost use Rattle.std.specs.BTreeMap.{get, keys};
 ghost use Rattle.cargo_lock_parts.specs.declared.error.Error.TheVariants.{Memory};
 ghost use Rattle.cargo_lock_parts.specs.Identity.{Identity};
 ghost use Rattle.cargo_lock_parts.specs.IdentityOrder.{identity_cmp};
 ghost use Rattle.cargo_lock_graph.specs.declared.graph.EdgeDirection.TheVariants.{Incoming};
 ghost use Rattle.cargo_lock_graph.specs.Edges.{externals};
 ghost use Rattle.cargo_lock_graph.specs.Rendering.{Draws};
-ghost use Rattle.cargo_lock_graph.specs.Sinks.{IsRenderedInto, IsRenderedTo};
-ghost use Rattle.cargo_lock_graph.specs.Targets.{AreEdgesOf, IsLastWith, IsUnresolved, links};
+ghost use Rattle.cargo_lock_graph.specs.Sinks.{CanCountFault, IsRenderedInto, IsRenderedTo};
+ghost use Rattle.cargo_lock_graph.specs.Targets.{AreEdgesOf, IsLastWith, IsOfPackage};
+ghost use Rattle.cargo_lock_graph.specs.Targets.{IsUnresolved, links};
 
 use crate::error::Result;
 use crate::lockfile::Lockfile;
@@ -21,8 +22,9 @@ use std::alloc::{AllocError, Global};
 use std::io::Write;
 use std::marker::Model;
 
-/// The tree of a lockfile: its packages as the nodes of a graph, and their dependencies as edges.
-/// The edges of each tree are those of its packages, and its nodes are those of their identities.
+/// The tree of a lockfile: its packages as the nodes of a graph, and their dependencies as edges. A
+/// type invariant says that the edges are those of the packages, and the nodes those of their
+/// identities.
 #[derive(Debug, Drop)]
 pub struct Tree {
     graph: Graph,
@@ -30,18 +32,20 @@ pub struct Tree {
 }
 
 impl Model for Tree {
-    ghost use Rattle.std.specs.BTreeMap.{get};
+    ghost use Rattle.std.specs.BTreeMap.{get, keys};
+    ghost use Rattle.std.specs.List.{All};
     ghost use Rattle.cargo_lock_parts.specs.Identity.{Identity};
     ghost use Rattle.cargo_lock_parts.specs.IdentityOrder.{identity_cmp};
-    ghost use Rattle.cargo_lock_graph.specs.Targets.{AreEdgesOf, IsLastWith};
+    ghost use Rattle.cargo_lock_graph.specs.Targets.{AreEdgesOf, IsLastWith, IsOfPackage};
     ghost use Rattle.cargo_lock.specs.Trees.{TreeData};
 
     ghost Value = { TreeData };
 
-    ghost view = { λ tree. record { graph = tree.graph } };
+    ghost view = { λ tree. record { graph = tree.graph; nodes = tree.nodes.entries } };
 
     ghost invariant = { λ tree. AreEdgesOf tree.graph.packages tree.graph.edges
-        × ((i : Identity) → IsLastWith tree.graph.packages i (get identity_cmp tree.nodes i)) };
+        × ((i : Identity) → IsLastWith tree.graph.packages i (get identity_cmp tree.nodes i))
+        × All (IsOfPackage tree.graph.packages) (keys tree.nodes) };
 }
 
 impl Clone for Tree {
@@ -64,12 +68,17 @@ fn clone_nodes(nodes: &Nodes) -> std::result::Result<Nodes, AllocError>
 }
 
 impl Tree {
-    /// The tree of a lockfile. Node k is that of package k, and each dependency of each package is
-    /// an edge, in order. It leads to the package with its name and version whose source matches
-    /// best, and to the last of those that match equally well. Of packages with one identity the
-    /// last has the edges of all.
+    /// The tree of a lockfile. Node k is the node of package k, and each dependency of each package
+    /// is an edge, in order. An edge leads to the package with the dependency's name and version
+    /// whose source matches best, and among equally good matches to the last one. If packages have
+    /// the same identity, the last one has the edges of all.
     ///
-    /// `Resolution` names the first dependency that no package fits.
+    /// `Resolution` names the first dependency that no package matches. The other error is
+    /// `Memory`.
+    ///
+    /// ```
+    /// let tree = Tree::new(alloc, lockfile)?;
+    /// ```
     pub fn new(alloc: Global, lockfile: &Lockfile) -> Result<Tree>
         ensures packages { IfOk result (λ tree. tree.graph.packages ≡ lockfile.now.packages) }
         ensures edges { IfOk result (λ tree. AreEdgesOf lockfile.now.packages tree.graph.edges) }
@@ -81,6 +90,12 @@ impl Tree {
     }
 
     /// The graph of the packages.
+    ///
+    /// ```
+    /// for node in tree.graph().node_indices() {
+    ///     put_package(&mut lines, tree.graph(), node)?;
+    /// }
+    /// ```
     pub fn graph(&self) -> &Graph
         ensures graph { result.now ≡ self.now.graph }
         ensures edges { AreEdgesOf self.now.graph.packages self.now.graph.edges }
@@ -88,15 +103,31 @@ impl Tree {
         &self.graph
     }
 
-    /// The nodes of the packages by their identities. Of packages with one identity it is the last.
+    /// The nodes of the packages by their identities. If packages have the same identity, it is the
+    /// node of the last one.
+    /// Each key is the identity of a package of the lockfile in every part, its precise text too.
+    ///
+    /// ```
+    /// let dependency = Dependency::of(package)?;
+    /// let node = tree.nodes().get(&dependency).copied();
+    /// ```
     pub fn nodes(&self) -> &Nodes
-        ensures { (i : Identity)
+        ensures last { (i : Identity)
             → IsLastWith self.now.graph.packages i (get identity_cmp result.now i) }
+        ensures keys { All (IsOfPackage self.now.graph.packages) (keys result.now) }
+        ensures entries { result.now.entries ≡ self.now.nodes }
     {
         &self.nodes
     }
 
-    /// The nodes that no edge enters, in ascending order: the packages on which none depends.
+    /// The nodes that no edge enters, in ascending order: the packages on which no package depends.
+    /// The one error is `Memory`.
+    ///
+    /// ```
+    /// for root in tree.roots(alloc)?.iter() {
+    ///     tree.render(alloc, &mut out, *root, EdgeDirection::Outgoing, false)?;
+    /// }
+    /// ```
     pub fn roots(&self, alloc: Global) -> Result<Vec<NodeIndex>>
         ensures ok { IfOk result (λ roots. roots.items ≡ externals Incoming self.now.graph) }
         ensures within { IfOk result (λ roots.
@@ -111,14 +142,29 @@ impl Tree {
     }
 
     /// Draws the tree of a node into a sink, along the edges in a direction. Each line is an entry:
-    /// the node itself, and below each entry of a node that no earlier line has, the far ends of
-    /// the node's edges, newest first. A label is the name and the version, and where it is exact
-    /// also the checksum, or else the source, or else `inexact`.
+    /// the node itself, and, below the first entry of each node, the far ends of the node's edges,
+    /// newest first. A label is the name and the version, and if labels are exact also the
+    /// checksum, or else the source, or else `inexact`.
     ///
-    /// All memory is asked for before the first byte, so `Memory` means that nothing was taken.
-    /// `Io` means that the sink failed once, and that a beginning of the text was taken. No other
-    /// fault comes. The index is below the node count, and the sink's count of faults below 2^64 -
-    /// 1.
+    /// `Memory` means that the sink took nothing, since all memory is allocated before the first
+    /// byte. `Io` means that the sink failed once and took a prefix of the text. There is no other
+    /// error. The index must be below the node count, and the sink's count of errors below
+    /// 2^64 - 1.
+    ///
+    /// ```
+    /// let mut lines = Lines { count: 0 };
+    /// for root in tree.roots(alloc)?.iter().take(1) {
+    ///     let symbols = Symbols::default();
+    ///     tree.render_into(
+    ///         alloc,
+    ///         &mut lines,
+    ///         *root,
+    ///         EdgeDirection::Outgoing,
+    ///         &symbols,
+    ///         false,
+    ///     )?;
+    /// }
+    /// ```
     pub fn render_into<S: Sink>(
         &self,
         alloc: Global,
@@ -128,7 +174,7 @@ impl Tree {
         symbols: &Symbols,
         exact: bool,
     ) -> Result<()>
-        requires sound { S.failures sink.old < 2 ^ 64 - 1 }
+        requires sound { CanCountFault (S.failures sink.old) }
         requires start { index < length self.now.graph.packages }
         ensures { Draws exact direction self.now.graph index (λ text.
             IsRenderedInto (S.taken sink.old) (S.taken sink.new)
@@ -138,8 +184,17 @@ impl Tree {
         render_into(alloc, sink, &self.graph, index, direction, &look)
     }
 
-    /// Draws the tree of a node onto a writer, as `render_into` does. A write that is interrupted
-    /// and a write of no bytes are faults.
+    /// Draws the tree of a node to a writer, as `render_into` does. `Memory` means that nothing was
+    /// written, and `Io` that the writer failed after a prefix of the text. An interrupted write
+    /// and a write of no bytes are errors.
+    ///
+    /// ```
+    /// let tree = lockfile.dependency_tree(alloc)?;
+    /// let mut out: Vec<u8> = Vec::new(alloc);
+    /// for root in tree.roots(alloc)?.iter() {
+    ///     tree.render(alloc, &mut out, *root, EdgeDirection::Outgoing, false)?;
+    /// }
+    /// ```
     pub fn render<W: Write>(
         &self,
         alloc: Global,
@@ -155,8 +210,9 @@ impl Tree {
         self.render_with_symbols(alloc, w, index, direction, &Symbols::default(), exact)
     }
 
-    /// Draws the tree of a node onto a writer, with these symbols, as `render_into` does. A write
-    /// that is interrupted and a write of no bytes are faults.
+    /// Draws the tree of a node to a writer with these symbols, as `render_into` does. `Memory`
+    /// means that nothing was written, and `Io` that the writer failed after a prefix of the text.
+    /// An interrupted write and a write of no bytes are errors.
     pub fn render_with_symbols<W: Write>(
         &self,
         alloc: Global,
@@ -176,7 +232,11 @@ impl Tree {
 }
 
 impl Lockfile {
-    /// The tree of the lockfile: `Tree::new`.
+    /// The tree of the lockfile, as `Tree::new` makes it, with the same errors.
+    ///
+    /// ```
+    /// let tree = lockfile.dependency_tree(alloc)?;
+    /// ```
     pub fn dependency_tree(&self, alloc: Global) -> Result<Tree>
         ensures packages { IfOk result (λ tree. tree.graph.packages ≡ self.now.packages) }
         ensures edges { IfOk result (λ tree. AreEdgesOf self.now.packages tree.graph.edges) }

@@ -22,17 +22,18 @@ impl Lockfile {
     /// on these are those of the packages, and nothing changes.
     ///
     /// In V1 the checksum of a package is the value at the key in the metadata that has its name,
-    /// its version and its source without the commit. For the branch `master` of a repository it
-    /// may also be the key of its default branch, which Cargo writes for both. A package without a
-    /// source has none, and neither has one whose value is no checksum, such as `<none>`. A
-    /// lockfile that is read has instead for each package the value at the first key of its name
-    /// and version, whatever the source (see `EncodableLockfile::find_checksum`), so that a package
-    /// of another registry may have the checksum of its namesake.
+    /// its version and its source without the commit. If the source is the branch `master` of a
+    /// repository and has no such key, it is the value at the key of the repository's default
+    /// branch, which Cargo writes for both. A package without a source has no checksum, nor does
+    /// one whose value is not a checksum, such as `<none>`. In contrast, a lockfile that was read
+    /// has for each package the value at the first key of its name and version, whatever the source
+    /// (see `EncodableLockfile::find_checksum`). So a package of another registry may have the
+    /// checksum of its namesake.
     ///
     /// The one error is `Memory`.
     ///
     /// ```
-    /// let lockfile = Lockfile::from_str(rt.alloc(), text)?.with_cargo_checksums(rt.alloc())?;
+    /// let lockfile = Lockfile::from_str(alloc, text)?.with_cargo_checksums(alloc)?;
     /// ```
     pub fn with_cargo_checksums(mut self, alloc: Global) -> Result<Lockfile>
         ensures ok { IfOk result (λ l. l ≡ with_cargo_checksums_in self) }
@@ -42,12 +43,15 @@ impl Lockfile {
         Ok(self)
     }
 
-    /// The checksums that Cargo reads, package by package: those that `with_cargo_checksums` gives.
-    /// The one error is `Memory`.
+    /// The checksums that Cargo reads, package by package, as `with_cargo_checksums` sets them. The
+    /// one error is `Memory`.
     ///
     /// ```
-    /// for checksum in &lockfile.cargo_checksums(rt.alloc())? {
-    ///     println!(rt; "{}", checksum.is_some())?;
+    /// for checksum in lockfile.cargo_checksums(rt.alloc())?.as_slice() {
+    ///     match checksum {
+    ///         Some(checksum) => println!(rt; "{checksum}")?,
+    ///         None => println!(rt; "no checksum")?,
+    ///     }
     /// }
     /// ```
     pub fn cargo_checksums(&self, alloc: Global) -> Result<Vec<Option<Checksum>>>
@@ -59,7 +63,7 @@ impl Lockfile {
     }
 }
 
-// Gives each package the checksum that Cargo reads.
+// Sets the checksum of each package to the one that Cargo reads.
 fn put_checksums(
     alloc: Global,
     version: ResolveVersion,
@@ -76,7 +80,6 @@ fn put_checksums(
     Ok(())
 }
 
-// The checksums that Cargo reads, package by package.
 fn checksums_of(
     alloc: Global,
     version: ResolveVersion,
@@ -95,7 +98,6 @@ fn checksums_of(
     Ok(all)
 }
 
-// The checksum that Cargo reads for a package.
 fn cargo_checksum(
     alloc: Global,
     version: ResolveVersion,
@@ -131,7 +133,7 @@ fn checksum_by_key(
     }
 }
 
-// The digest that a value is, if it is one.
+// The checksum that a value reads as, if it does.
 fn digest_in(alloc: Global, value: &MetadataValue) -> Result<Option<Checksum>>
     ensures ok { IfOk result (λ found. option_map digest_of found ≡ digest_in value.now) }
     ensures err { IsOkUnless result Memory }
@@ -163,7 +165,7 @@ fn value_from<'a>(
     }
 }
 
-// The default branch of a repository whose branch `master` is the source.
+// The default branch of a repository, if the source is its branch `master`.
 fn default_branch(source: &SourceId) -> Result<Option<SourceId>>
     ensures ok { IfOk result
         (λ other. other ≡ default_branch source.now (git_reference source.now.kind)) }
@@ -178,7 +180,7 @@ fn default_branch(source: &SourceId) -> Result<Option<SourceId>>
     }
 }
 
-// The value at the key of a package from this source.
+// The value at the key of a package from exactly this source.
 fn value_at<'a>(
     alloc: Global,
     metadata: &'a Metadata,
@@ -193,14 +195,13 @@ fn value_at<'a>(
     Ok(value_of(metadata, &key))
 }
 
-// The value at a key.
 fn value_of<'a>(metadata: &'a Metadata, key: &MetadataKey) -> Option<&'a MetadataValue>
     ensures { option_copied result ≡ get (texts_of metadata.now.entries) key.now }
 {
     metadata.get(key)
 }
 
-// The key of the checksum of a package from this source.
+// The key of the checksum of a package from this source, without the commit.
 fn key_from(alloc: Global, package: &Package, source: &SourceId) -> Result<MetadataKey>
     ensures ok { IfOk result (λ key. key ≡ key_from «package».now source.now) }
     ensures err { IsOkUnless result Memory }

@@ -1,4 +1,4 @@
-//! Tables some text of which is long.
+//! Tables with a long text.
 
 ghost use Rattle.std.specs.Prelude.{◌≡◌};
 ghost use Rattle.toml.specs.View.{array_view, table_view, view};
@@ -22,7 +22,7 @@ fn has_long_text(value: &Value) -> bool
     }
 }
 
-// The same of the values of an array.
+// Whether some text in the values of an array has 2^24 bytes or more.
 #[cycle(long_texts)]
 fn items_have_long_text(array: &Array) -> bool
     ensures { result ≡ items_have_long_text (array_view array.now) }
@@ -35,7 +35,7 @@ fn items_have_long_text(array: &Array) -> bool
     false
 }
 
-// The same of the values of a table.
+// Whether some text in the values of a table has 2^24 bytes or more.
 #[cycle(long_texts)]
 pub(super) fn members_have_long_text(table: &Table) -> bool
     ensures { result ≡ members_have_long_text (table_view table.now) }

@@ -20,17 +20,17 @@ use toml::{Table, Value};
 
 impl Lockfile {
     /// The git sources in the text of a lockfile that lose their tag, branch or revision, each
-    /// once, in ascending order. From V1 to V3 Cargo writes its value as it is, and reads `+`, `%`,
-    /// `&` and `#` in it as something else: `git+https://example.org/u?tag=v1+2` is read with the
-    /// tag `v1 2`. A lockfile of such a format does not keep it, whoever writes it. From V4 on
-    /// Cargo escapes the value, so ask this of a text of V1 to V3 alone.
+    /// listed once, in ascending order. From V1 to V3 Cargo writes its value unchanged, and reads
+    /// `+`, `%`, `&` and `#` in it as something else: `git+https://example.org/u?tag=v1+2` is read
+    /// with the tag `v1 2`. A lockfile of such a format loses it, whichever program writes it. From
+    /// V4 on Cargo escapes the value, so call this only for a text of V1 to V3.
     ///
     /// The sources are those of packages, of the root and of unused patches, without their commits,
-    /// and those of references and replacements. A text that is no TOML table has none. The one
-    /// error is `Memory`, and a URL of 4 GB or more is refused with it too.
+    /// and those of references and replacements. A text that is not a TOML table has none. The one
+    /// error is `Memory`, which is also the error for a URL of 4 GB or more.
     ///
     /// ```
-    /// for source in &Lockfile::lossy_sources(rt.alloc(), text)? {
+    /// for source in Lockfile::lossy_sources(rt.alloc(), text)?.as_slice() {
     ///     println!(rt; "{source}")?;
     /// }
     /// ```
@@ -50,7 +50,7 @@ impl Lockfile {
     }
 }
 
-// The texts in ascending order, each once.
+// The texts in ascending order, each listed once.
 fn each_once(mut texts: Vec<String>) -> Vec<String>
     ensures { AreEachOnce (map string_bytes texts.items) (map string_bytes result.items) }
 {
@@ -59,7 +59,7 @@ fn each_once(mut texts: Vec<String>) -> Vec<String>
     texts
 }
 
-// Those in a table, as often as they are written.
+// The lossy sources in a table, as often as they are written.
 fn lossy_sources_of(alloc: Global, table: &Table) -> Result<Vec<String>>
     ensures ok { IfOk result (λ found. map string_bytes found.items
         ≡ filter is_lossy (written_sources (table_view table.now))) }
@@ -70,7 +70,7 @@ fn lossy_sources_of(alloc: Global, table: &Table) -> Result<Vec<String>>
     Ok(lossy)
 }
 
-// Those among these texts.
+// The lossy sources among these texts.
 fn lossy_among(alloc: Global, texts: &[&str]) -> Result<Vec<String>>
     ensures ok { IfOk result (λ found.
         map string_bytes found.items ≡ filter is_lossy (texts_at texts.now)) }
@@ -87,7 +87,6 @@ fn lossy_among(alloc: Global, texts: &[&str]) -> Result<Vec<String>>
 
 // ---- one source
 
-// Whether the source is lossy.
 fn is_lossy(alloc: Global, text: &str) -> Result<bool>
     ensures ok { IfOk result (λ lossy. lossy ≡ is_lossy text.now) }
     ensures err { IsOkUnless result Memory }
@@ -100,7 +99,7 @@ fn is_lossy(alloc: Global, text: &str) -> Result<bool>
     }
 }
 
-// Whether what stands after the first question mark differs from this reference.
+// Whether the text after the first question mark differs from this reference.
 fn differs(alloc: Global, text: &str, reference: Option<&GitReference>) -> Result<bool>
     ensures ok { IfOk result (λ differs. differs
         ≡ spec.differs text.now (option_map (λ r. git_reference_of r.now) reference.entry)) }
@@ -126,7 +125,7 @@ fn pair_text(alloc: Global, reference: &GitReference) -> std::result::Result<Str
     }
 }
 
-// What stands after the first question mark.
+// The text after the first question mark.
 fn after_question_mark(text: &str) -> &str
     ensures { result.now ≡ after_first is_question_mark text.now }
 {
@@ -138,7 +137,7 @@ fn after_question_mark(text: &str) -> &str
 
 // ---- the sources that are written in a table
 
-// The sources that are written in the table of a lockfile, where they have a question mark.
+// The sources that are written in the table of a lockfile and have a question mark.
 fn written_sources<'a>(
     alloc: Global,
     table: &'a Table,
@@ -153,14 +152,13 @@ fn written_sources<'a>(
     Ok(all)
 }
 
-// The value at a key.
 fn value_at<'a>(table: &'a Table, key: &str) -> Option<&'a Value>
     ensures { option_map (λ v. view v.now) result ≡ get_member key.now (table_view table.now) }
 {
     table.get(key)
 }
 
-// Adds those of the packages.
+// Adds the sources of the packages.
 fn put_listed<'a>(all: &mut Vec<&'a str>, table: &'a Table) -> std::result::Result<(), AllocError>
     ensures { OnOk result (texts_at all.new.items
         ≡ texts_at all.old.items ++ listed_sources (table_view table.now)) }
@@ -171,7 +169,7 @@ fn put_listed<'a>(all: &mut Vec<&'a str>, table: &'a Table) -> std::result::Resu
     Ok(())
 }
 
-// Adds those of the root.
+// Adds the sources of the root.
 fn put_root<'a>(all: &mut Vec<&'a str>, table: &'a Table) -> std::result::Result<(), AllocError>
     ensures { OnOk result (texts_at all.new.items
         ≡ texts_at all.old.items ++ root_sources (table_view table.now)) }
@@ -182,7 +180,7 @@ fn put_root<'a>(all: &mut Vec<&'a str>, table: &'a Table) -> std::result::Result
     Ok(())
 }
 
-// Adds those of the unused patches.
+// Adds the sources of the unused patches.
 fn put_unused<'a>(all: &mut Vec<&'a str>, table: &'a Table) -> std::result::Result<(), AllocError>
     ensures { OnOk result (texts_at all.new.items
         ≡ texts_at all.old.items ++ unused_sources (table_view table.now)) }
@@ -193,7 +191,7 @@ fn put_unused<'a>(all: &mut Vec<&'a str>, table: &'a Table) -> std::result::Resu
     Ok(())
 }
 
-// Adds those of the packages of a list.
+// Adds the sources of the packages of a list.
 fn put_packages<'a>(all: &mut Vec<&'a str>, list: &'a Value) -> std::result::Result<(), AllocError>
     ensures { OnOk result (texts_at all.new.items
         ≡ texts_at all.old.items ++ sources_of_list package_sources (view list.now)) }
@@ -207,7 +205,7 @@ fn put_packages<'a>(all: &mut Vec<&'a str>, list: &'a Value) -> std::result::Res
     Ok(())
 }
 
-// Adds those of a package.
+// Adds the sources of a package.
 fn put_package<'a>(all: &mut Vec<&'a str>, value: &'a Value) -> std::result::Result<(), AllocError>
     ensures { OnOk result
         (texts_at all.new.items ≡ texts_at all.old.items ++ package_sources (view value.now)) }
@@ -222,7 +220,7 @@ fn put_package<'a>(all: &mut Vec<&'a str>, value: &'a Value) -> std::result::Res
     Ok(())
 }
 
-// Adds those of the references of a list.
+// Adds the sources of the references of a list.
 fn put_references<'a>(
     all: &mut Vec<&'a str>,
     list: &'a Value,
@@ -239,7 +237,7 @@ fn put_references<'a>(
     Ok(())
 }
 
-// Adds that of a reference.
+// Adds the source of a reference.
 fn put_reference<'a>(
     all: &mut Vec<&'a str>,
     value: &'a Value,
@@ -253,7 +251,7 @@ fn put_reference<'a>(
     Ok(())
 }
 
-// Adds those of unused patches.
+// Adds the sources of unused patches.
 fn put_patches<'a>(all: &mut Vec<&'a str>, patch: &'a Value) -> std::result::Result<(), AllocError>
     ensures { OnOk result (texts_at all.new.items ≡ texts_at all.old.items
         ++ patch_sources (view patch.now)) }
@@ -264,7 +262,7 @@ fn put_patches<'a>(all: &mut Vec<&'a str>, patch: &'a Value) -> std::result::Res
     Ok(())
 }
 
-// Adds those of the unused patches of a list.
+// Adds the sources of the unused patches of a list.
 fn put_patch_list<'a>(
     all: &mut Vec<&'a str>,
     list: &'a Value,
@@ -298,7 +296,7 @@ fn put_own_source<'a>(
     Ok(())
 }
 
-// Adds a source, where it has a question mark.
+// Adds a source, if it has a question mark.
 fn put_asked<'a>(all: &mut Vec<&'a str>, text: &'a str) -> std::result::Result<(), AllocError>
     ensures { OnOk result (texts_at all.new.items ≡ texts_at all.old.items ++ asked text.now) }
 {
@@ -315,14 +313,14 @@ fn without_commit(text: &str) -> &str
     before_last(text, '#')
 }
 
-// The source of a reference, which stands between round brackets.
+// The source of a reference, which is in round brackets.
 fn bracketed(text: &str) -> &str
     ensures { result.now ≡ bracketed text.now }
 {
     before_last(after_left_bracket(text), ')')
 }
 
-// What stands before the last of these characters, or else all.
+// The text before the last of these characters, or else all of it.
 fn before_last(text: &str, mark: char) -> &str
     requires { mark < 128 }
     ensures { result.now ≡ before_last mark text.now }
@@ -333,7 +331,7 @@ fn before_last(text: &str, mark: char) -> &str
     }
 }
 
-// What stands after the first round bracket.
+// The text after the first round bracket.
 fn after_left_bracket(text: &str) -> &str
     ensures { result.now ≡ after_first (λ b. b == left_bracket) text.now }
 {

@@ -27,42 +27,64 @@ use toml::Table;
 use toml::de::Error as TomlError;
 
 impl Lockfile {
-    /// Reads a file, whose text is read as `from_str` reads it. A file that is missing, is no file
-    /// or is not UTF-8 is refused with `Io`.
+    /// Reads a file, whose text is read as `from_str` reads it, with the same errors. A file that
+    /// is missing, is not a file or is not UTF-8 is `Io`.
+    ///
+    /// ```
+    /// let lockfile = Lockfile::load(rt, rt.alloc(), Path::new("Cargo.lock"))?;
+    /// for package in &lockfile.packages {
+    ///     let name = &package.name;
+    ///     println!(rt; "{name}")?;
+    /// }
+    /// ```
     pub fn load<R: Files>(files: &R, alloc: Global, path: Path<'_>) -> Result<Lockfile>
         ensures ok { IfOk result IsMeant }
         ensures err { IfErr result IsOfFile }
     {
         let text = match fs::read_to_string(&(files, alloc), path) {
             Ok(text) => text,
-            Err(fault) => return Err(of_file(fault.kind())),
+            Err(fault) => return Err(file_error(fault.kind())),
         };
         Lockfile::from_str(alloc, text.as_str())
     }
 
     /// Reads the text of a lockfile in any format: a TOML document, whose table is read as
-    /// `from_table` reads it. `Parse` says what is refused. A URL of 4 GB or more is refused too,
-    /// which is never so where the text is shorter than 2^24 bytes.
+    /// `from_table` reads it. A text that means no lockfile is `Parse`, which says what is refused.
+    /// So is a text with a URL of 4 GB or more, which no text shorter than 2^24 bytes has. The
+    /// other error is `Memory`.
+    ///
+    /// ```
+    /// let lockfile = Lockfile::from_str(alloc, text)?;
+    /// if !is_kept_by_its_format(alloc, &lockfile)? {
+    ///     return Ok(false);
+    /// }
+    /// ```
     pub fn from_str(alloc: Global, text: &str) -> Result<Lockfile>
         ensures read { FindsUrls (TextMeans text.now) result }
         ensures short { IsShort text.now → Finds (TextMeans text.now) result }
     {
         match read_text(alloc, text) {
             Ok(lockfile) => Ok(lockfile),
-            Err(fault) => Err(of_texts(fault, text.len() >= SHORT_LENGTH)),
+            Err(fault) => Err(reading_error(fault, text.len() >= SHORT_LENGTH)),
         }
     }
 
-    /// Reads the table of a lockfile in any format. `Parse` says what is refused, the first of
-    /// these: a value that is missing, of another type or no text of its kind, then the format,
-    /// then a reference that stands for nothing. A URL of 4 GB or more is refused too, which is
-    /// never so where each text of the table is shorter than 2^24 bytes.
+    /// Reads the table of a lockfile in any format. A table that means no lockfile is `Parse`,
+    /// which says what is refused first: a value that is absent, of another type, or a text that
+    /// does not read; then the format; then a reference that does not resolve. `Parse` also comes
+    /// for a URL of 4 GB or more, which no text shorter than 2^24 bytes has. The other error is
+    /// `Memory`.
     ///
-    /// Values are read in this order, however the keys stand in the table: `version`, each package,
-    /// `root`, `metadata` by its keys, `patch` with each patch; of a package or a patch `name`,
-    /// `version`, `source`, and of a package then `checksum`, each of `dependencies`, `replace`.
-    /// References are looked up package by package, the root last, each time the dependencies and
-    /// then the replacement.
+    /// Values are read in this order, whatever the order of the keys in the table: `version`, each
+    /// package, `root`, `metadata` by its keys, `patch` with each patch; of a package or a patch
+    /// `name`, `version`, `source`, and of a package then `checksum`, each of `dependencies`,
+    /// `replace`. References are resolved package by package, the root last, for each package the
+    /// dependencies and then the replacement.
+    ///
+    /// ```
+    /// let table = lockfile.to_table(alloc)?;
+    /// let read = Lockfile::from_table(alloc, &table)?;
+    /// ```
     pub fn from_table(alloc: Global, table: &Table) -> Result<Lockfile>
         ensures read { FindsUrls (Means (table_view table.now)) result }
         ensures short { HasShortTexts (table_view table.now)
@@ -70,23 +92,22 @@ impl Lockfile {
     {
         match read(alloc, table) {
             Ok(lockfile) => Ok(lockfile),
-            Err(fault) => Err(of_texts(fault, members_have_long_text(table))),
+            Err(fault) => Err(reading_error(fault, members_have_long_text(table))),
         }
     }
 }
 
-// Reads a text.
 fn read_text(alloc: Global, text: &str) -> Result<Lockfile>
     ensures { FindsUrls (TextMeans text.now) result }
 {
     match toml::table_from_str(alloc, text) {
         Ok(table) => read_once(alloc, table),
-        Err(fault) => Err(of_text(alloc, &fault)),
+        Err(fault) => Err(toml_error(alloc, &fault)),
     }
 }
 
-// Reads a table that is not asked for again. It is dropped before the references are looked up, so
-// that it does not take memory beside the lockfile.
+// Reads a table that is not used again. The table is dropped before the references are resolved, so
+// that the two do not take memory at the same time.
 fn read_once(alloc: Global, table: Table) -> Result<Lockfile>
     ensures { ReadsUrls (λ l. l) result (meaning (table_view table)) }
 {
@@ -95,8 +116,8 @@ fn read_once(alloc: Global, table: Table) -> Result<Lockfile>
     lockfile_of(alloc, values)
 }
 
-// The fault of reading texts. Where none of them is long, no URL in them has 4 GB.
-fn of_texts(fault: Error, has_long: bool) -> Error
+// The error of reading texts. If none of them is long, no URL in them has 4 GB.
+fn reading_error(fault: Error, has_long: bool) -> Error
     ensures { (result ≡ Memory) ⊎ ((result ≡ fault) × (has_long ≡ false → ¬ IsTooLong fault)) }
 {
     if !has_long && fault.is_too_long() {
@@ -106,7 +127,6 @@ fn of_texts(fault: Error, has_long: bool) -> Error
     }
 }
 
-// Reads the table.
 pub(super) fn read(alloc: Global, table: &Table) -> Result<Lockfile>
     ensures { ReadsUrls (λ l. l) result (meaning (table_view table.now)) }
 {
@@ -114,8 +134,9 @@ pub(super) fn read(alloc: Global, table: &Table) -> Result<Lockfile>
     lockfile_of(alloc, values)
 }
 
-// The fault of a file. Running out of memory is told as that.
-fn of_file(kind: ErrorKind) -> Error
+// The error for a file. Out of memory is `Memory`.
+fn file_error(kind: ErrorKind) -> Error
+    ensures kind { IsOfFile result }
     ensures memory { kind ≡ OutOfMemory → result ≡ Memory }
     ensures other { kind ≢ OutOfMemory → result ≡ Io kind }
 {
@@ -125,8 +146,8 @@ fn of_file(kind: ErrorKind) -> Error
     }
 }
 
-// The fault of a text that is no TOML.
-fn of_text(alloc: Global, fault: &TomlError) -> Error
+// The error for a text that is not TOML.
+fn toml_error(alloc: Global, fault: &TomlError) -> Error
     ensures { Refuses result (¬ (IsMemory fault.now)) }
 {
     if fault.is_memory() {

@@ -10,7 +10,7 @@ use toml::Table;
 
 impl Described for Lockfile {}
 
-// A lockfile is written as its table.
+// A lockfile is serialized as its table.
 impl Serialize for Lockfile {
     fn serialize<S: Serializer>(&self, out: &mut S) -> Result<(), S::Error> {
         match self.to_table(*self.packages.allocator()) {

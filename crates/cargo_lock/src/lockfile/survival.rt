@@ -13,14 +13,21 @@ use cargo_lock_parts::package::Package;
 use std::alloc::Global;
 
 impl Lockfile {
-    /// Whether the lockfile survives a format: whether its table, written in this format, is read
-    /// back as a lockfile of this format with equal packages, root and patches. It is told from
-    /// the parts, without writing the table: every version and source reads back from its text,
-    /// each reference, as it is written, resolves to the dependency that it stands for,
-    /// checksums are found again, and V1 and V2 can be told apart.
+    /// Whether the lockfile survives a format: whether its table, written in this format, reads
+    /// back as a lockfile of this format with equal packages, root and patches. This is decided
+    /// part by part, without writing the table: every version and source reads back from its text,
+    /// each reference, as it is written, resolves to its dependency, checksums are found again, and
+    /// the table reads back as V1 or as V2 by its metadata.
     ///
     /// A path source is not written, so a package with one survives no format. The one error is
-    /// `Memory`, and a source of 4 GB or more is refused with it too.
+    /// `Memory`, which is also the error for a source of 4 GB or more.
+    ///
+    /// ```
+    /// if !lockfile.survives(alloc, ResolveVersion::V4)? {
+    ///     return Ok(None);
+    /// }
+    /// let translated = lockfile.translate_through(alloc, &[ResolveVersion::V4])?;
+    /// ```
     pub fn survives(&self, alloc: Global, format: ResolveVersion) -> Result<bool>
         ensures decided { IfOk result (λ b. IsTrue b ↔ Survives self.now format) }
         ensures exact { Survives self.now format ↔ ReadsBack self.now format }
@@ -30,18 +37,19 @@ impl Lockfile {
     }
 
     /// Whether the lockfile survives a format as text: whether the text of the lockfile, set to
-    /// this format, is read back as a lockfile of this format with equal packages, root and
-    /// patches. That is so exactly where the lockfile survives the format, has no root, and no
-    /// package has both a replacement and dependencies (`laws::text_is_exact`).
+    /// this format, reads back as a lockfile of this format with equal packages, root and patches.
+    /// This holds exactly if the lockfile survives the format, has no root, and no package has both
+    /// a replacement and dependencies (`laws::text_is_exact`).
     ///
     /// ```
-    /// if lockfile.survives_as_text(rt.alloc(), ResolveVersion::V4)? {
-    ///     lockfile.version = ResolveVersion::V4;
-    ///     println!(rt; "{}", lockfile.to_string(rt.alloc())?)?;
+    /// if !lockfile.survives_as_text(alloc, ResolveVersion::V4)? {
+    ///     return Ok(None);
     /// }
+    /// lockfile.version = ResolveVersion::V4;
+    /// let text = lockfile.to_string(alloc)?;
     /// ```
     ///
-    /// The one error is `Memory`, and a source of 4 GB or more is refused with it too.
+    /// The one error is `Memory`, which is also the error for a source of 4 GB or more.
     pub fn survives_as_text(&self, alloc: Global, format: ResolveVersion) -> Result<bool>
         ensures decided { IfOk result (λ b. IsTrue b ↔ TextReadsBack self.now format) }
         ensures err { IsOkUnless result Memory }
@@ -65,14 +73,14 @@ impl Lockfile {
     }
 }
 
-// Whether each package is printed whole.
 fn are_printed_whole(packages: &[Package]) -> bool
     ensures { IsTrue result ↔ AllByRecursion HasAllPrinted packages.now }
 {
     packages.iter().all(is_printed_whole)
 }
 
-// Whether the text has all of a package: it has the replacement only without dependencies.
+// Whether the text has all of a package. It has the replacement only of a package without
+// dependencies.
 fn is_printed_whole(package: &Package) -> bool
     ensures { IsTrue result ↔ HasAllPrinted «package».now }
 {

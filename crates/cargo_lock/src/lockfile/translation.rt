@@ -19,11 +19,17 @@ use toml::Table;
 
 impl Lockfile {
     /// The lockfile, translated to each of these formats in order: it is set to the format, written
-    /// as a table and read. Without a format it is a copy.
+    /// as a table and read. Without formats it is a copy.
     ///
-    /// Where the lockfile before each step survives the format of the step (see `survives`), the
-    /// packages, the root and the patches stay equal. Otherwise they may change, or be refused:
-    /// `Parse` says what a table could not be read for. A URL of 4 GB or more is `Memory` here.
+    /// If the lockfile before each step survives the format of the step (see `survives`), the
+    /// packages, the root and the patches stay equal, and the one error is `Memory`. Otherwise they
+    /// may change, or the table of a step may mean no lockfile, which is `Parse`. A URL of 4 GB or
+    /// more is `Memory` here.
+    ///
+    /// ```
+    /// let translated = lockfile.translate_through(alloc, &[ResolveVersion::V4])?;
+    /// let text = translated.to_string(alloc)?;
+    /// ```
     pub fn translate_through(&self, alloc: Global, formats: &[ResolveVersion]) -> Result<Lockfile>
         ensures chain { IfOk result (LeadsTo formats.now self.now) }
         ensures stuck { IfErr result (λ e. Refuses e (IsStuck formats.now self.now)) }

@@ -16,9 +16,14 @@ impl Lockfile {
     /// The table of the lockfile, in the lockfile's format, as Cargo writes it. The one error is
     /// `Memory`.
     ///
-    /// Where the lockfile survives its format, which is V2 or later, and no two packages are equal
-    /// in identity, a dependency that is among the packages stands in the shortest form that names
-    /// it in every order of the packages.
+    /// If the lockfile survives its format, which is V2 or later, and no two packages are equal in
+    /// identity, a dependency that is among the packages has the shortest form that names it in
+    /// every order of the packages.
+    ///
+    /// ```
+    /// let table = lockfile.to_table(alloc)?;
+    /// let read = Lockfile::from_table(alloc, &table)?;
+    /// ```
     pub fn to_table(&self, alloc: Global) -> Result<Table>
         ensures ok { IfOk result (λ t. table_view t ≡ table_of self.now) }
         ensures shortest { IfOk result (λ t. HasShortestReferences self.now (table_view t)) }
@@ -29,6 +34,11 @@ impl Lockfile {
 
     /// The text of the lockfile, in the lockfile's format, as Cargo writes it. The root is left
     /// out, and so is the replacement of a package with dependencies. The one error is `Memory`.
+    ///
+    /// ```
+    /// lockfile.version = ResolveVersion::V4;
+    /// let text = lockfile.to_string(alloc)?;
+    /// ```
     pub fn to_string(&self, alloc: Global) -> Result<String>
         ensures ok { IfOk result (λ text. string_bytes text ≡ join_lines (lines_of self.now)) }
         ensures err { IsOkUnless result Memory }

@@ -1,4 +1,4 @@
-//! Packages whose names crates.io takes for one.
+//! Packages whose names are the same name to crates.io.
 
 ghost use Rattle.std.specs.Prelude.{◌≡◌, IfOk};
 ghost use Rattle.std.specs.Bool.{Decides};
@@ -10,14 +10,13 @@ use cargo_lock_parts::package::Package;
 use std::alloc::{AllocError, Global};
 use std::collections::BTreeMap;
 
-/// The pairs of places of packages from crates.io that differ in name, though crates.io takes their
-/// names for one: it compares names in lower case, and takes `-` for `_`. Each place of a package
-/// with an earlier one alike is the second of one pair, and the first of that pair is the place of
-/// the first one alike. The pairs are in the order of their second places. Fails when out of
-/// memory.
+/// The pairs of places of packages from crates.io with different names that are the same name to
+/// crates.io, which compares names in lower case and takes `-` for `_`. If an earlier package is
+/// alike, the place of the package is the second of one pair, whose first is the place of the first
+/// package alike. The pairs are in the order of their second places. Fails when out of memory.
 ///
 /// ```
-/// for (earlier, place) in &packages_alike(rt.alloc(), &lockfile.packages)? {
+/// for (earlier, place) in packages_alike(rt.alloc(), &lockfile.packages)?.as_slice() {
 ///     println!(rt; "package {place} is alike with package {earlier}")?;
 /// }
 /// ```
@@ -39,7 +38,6 @@ pub fn packages_alike(
     Ok(pairs)
 }
 
-// Whether the package is from crates.io.
 fn is_from_crates_io(package: &Package) -> bool
     ensures { Decides result (IsFromCratesIo «package».now) }
 {
@@ -49,8 +47,8 @@ fn is_from_crates_io(package: &Package) -> bool
     }
 }
 
-// The first package of some that crates.io takes for one, and the first of these whose name is
-// another.
+// The first package with a name as crates.io compares it, and the first of the others whose own
+// name differs from that one's.
 #[derive(Clone, Copy)]
 struct Namesakes<'a> {
     name: &'a str,
@@ -58,7 +56,7 @@ struct Namesakes<'a> {
     other: Option<usize>,
 }
 
-// Keeps the name of the package at a place, and gives the first place before of one alike.
+// Records the name of the package at a place, and returns the first earlier place of one alike.
 fn see<'a>(
     alloc: Global,
     seen: &mut BTreeMap<Vec<u8>, Namesakes<'a>>,
@@ -81,7 +79,7 @@ fn folded(alloc: Global, name: &str) -> Result<Vec<u8>, AllocError>
     bytes.iter().map(|byte| folded_byte(*byte)).collect(alloc)
 }
 
-// A byte of it.
+// A byte of a name as crates.io compares it.
 fn folded_byte(byte: u8) -> u8
     ensures { result ≡ folded_byte byte }
 {
@@ -92,7 +90,7 @@ fn folded_byte(byte: u8) -> u8
     }
 }
 
-// The first place of a package of another name.
+// The first place of a package with another name.
 fn earlier_alike(before: Option<Namesakes<'_>>, name: &str) -> Option<usize>
     ensures { result ≡ spec.earlier_alike before.entry name.now }
 {
@@ -108,7 +106,7 @@ fn earlier_alike(before: Option<Namesakes<'_>>, name: &str) -> Option<usize>
     }
 }
 
-// What is kept of one more package.
+// The namesakes with one more package.
 fn with_place<'a>(before: Option<Namesakes<'a>>, place: usize, name: &'a str) -> Namesakes<'a>
     ensures { result ≡ spec.with_place before.entry place name.entry }
 {
@@ -128,7 +126,7 @@ fn with_place<'a>(before: Option<Namesakes<'a>>, place: usize, name: &'a str) ->
     }
 }
 
-// The first place of a package of another name, with one more package.
+// The first place of a package with another name, after one more package.
 fn next_other(other: Option<usize>, place: usize, is_same: bool) -> Option<usize>
     ensures { result ≡ spec.next_other other place is_same }
 {

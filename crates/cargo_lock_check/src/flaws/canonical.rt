@@ -1,4 +1,4 @@
-//! The URL of a source, as Cargo compares packages by it.
+//! The URL of a source in the form in which Cargo compares packages.
 
 ghost use Rattle.std.specs.Prelude.{◌≡◌, IfOk, codes, if◌then◌else◌, map};
 ghost use Rattle.std.specs.Char.{to_ascii_lowercase};
@@ -7,8 +7,8 @@ ghost use Rattle.cargo_lock_check.specs.Canonical.{canonical, canonical_path, is
 use std::alloc::{AllocError, Global};
 use url::{Position, Url};
 
-/// The text of a URL as Cargo compares packages by it: the path has no `/` and then no `.git` at its
-/// end, and at GitHub the scheme is `https` and the path in lower case.
+/// The text of a URL as Cargo compares packages by it: a `/` at the end of the path is removed, and
+/// then a `.git`; for GitHub the scheme is `https` and the path is in lower case.
 pub(crate) fn canonical(alloc: Global, url: &Url) -> Result<Vec<u8>, AllocError>
     ensures { IfOk result (λ text. text.items ≡ canonical url.now) }
 {
@@ -38,7 +38,6 @@ fn scheme(url: &Url) -> &str
     }
 }
 
-// Whether the URL is at GitHub.
 fn is_at_github(url: &Url) -> bool
     ensures { result ≡ is_at_github url.now }
 {
@@ -73,7 +72,7 @@ fn without_slash(path: &[u8]) -> &[u8]
     }
 }
 
-// The text without this end.
+// The text without this end, if it has it.
 fn without_end<'a>(text: &'a [u8], end: &[u8]) -> &'a [u8]
     ensures { result.now ≡ without_end end.now text.now }
 {

@@ -13,12 +13,12 @@ use std::cmp::Ordering;
 use std::collections::BTreeMap;
 
 /// The dependencies that a package lists before the next one, though they come after that one in
-/// Cargo's order (see `dependency_order`). Each is given as the place of its package and its own
-/// place among the package's dependencies. Fails when out of memory.
+/// Cargo's order (see `dependency_order`). Each is the place of its package and its own place among
+/// the package's dependencies. Fails when out of memory.
 ///
 /// ```
-/// for (place, at) in &misplaced_dependencies(rt.alloc(), &lockfile.packages)? {
-///     println!(rt; "{}", lockfile.packages[*place].dependencies[*at].name)?;
+/// for (place, at) in misplaced_dependencies(rt.alloc(), &lockfile.packages)?.as_slice() {
+///     println!(rt; "dependency {at} of package {place} is out of order")?;
 /// }
 /// ```
 pub fn misplaced_dependencies(
@@ -70,13 +70,13 @@ fn is_misplaced(alloc: Global, dependencies: &[Dependency], at: usize) -> Result
     }
 }
 
-/// The dependencies that the same package lists at an earlier place too, with one name, one version
-/// and one source: of each such dependency all but the first. Each is given as the place of its
-/// package and its own place among the package's dependencies. Fails when out of memory.
+/// The dependencies for which the same package lists one with the same name, version and source at
+/// an earlier place. Each is the place of its package and its own place among the package's
+/// dependencies. Fails when out of memory.
 ///
 /// ```
 /// if !repeated_dependencies(rt.alloc(), &lockfile.packages)?.is_empty() {
-///     println!(rt; "both sides of a merge were kept")?;
+///     println!(rt; "both lists of dependencies were kept")?;
 /// }
 /// ```
 pub fn repeated_dependencies(
@@ -92,7 +92,7 @@ pub fn repeated_dependencies(
     Ok(places)
 }
 
-// Adds the dependencies that the package at a place lists once more.
+// Adds the repeated dependencies of the package at a place.
 fn put_repeated(
     alloc: Global,
     places: &mut Vec<(usize, usize)>,

@@ -1,5 +1,5 @@
-//! The packages of a list in groups, so that those that match a dependency are found without a look
-//! at all others of its name and version.
+//! The packages of a list in groups. The groups find the packages that match a dependency without a
+//! look at every package with its name and version.
 
 ghost use Rattle.std.specs.Prelude.{◌≡◌, ◌≤◌, ℕ, cond, IfOk, MatchOption, OnOk, Some, length};
 ghost use Rattle.std.specs.Prelude.{option_copied, unwrap_or};
@@ -26,20 +26,9 @@ use std::cmp::Ordering;
 use std::collections::BTreeMap;
 use std::marker::Model;
 
-/// The packages of a list in groups: for each rank of a match those that can match a dependency
-/// with it. So the packages that match are found without a look at all others of their name and
-/// version.
-///
-/// ```
-/// let groups = Groups::of(rt.alloc(), &lockfile.packages)?;
-/// if let Some(best) = groups.best(&dependency) {
-///     for place in groups.places(best.number) {
-///         if groups.is_match(best.rank, &dependency, *place) {
-///             println!(rt; "package {place} matches best")?;
-///         }
-///     }
-/// }
-/// ```
+/// The packages of a list in groups: for each rank of a match, those that can match a dependency
+/// with it. So the packages that match are found without a look at every package with the
+/// dependency's name and version.
 #[derive(Drop)]
 pub(crate) struct Groups<'a> {
     packages: &'a [Package],
@@ -60,23 +49,23 @@ impl<'a> Model for Groups<'a> {
     ghost invariant = { λ g. AreGroups g.packages.now (length g.packages.now) g.numbered };
 }
 
-/// The group of the packages that match a dependency best, and the rank of these.
+/// The group of the packages that match a dependency best, and the rank of the match.
 #[derive(Clone, Copy)]
 pub(crate) struct BestGroup {
     pub(crate) rank: u8,
     pub(crate) number: usize,
 }
 
-// The number of each group, and by its number the places of its packages.
+// The number of each group, and by that number the places of its packages.
 #[derive(Drop)]
 struct Numbered<'a> {
     numbers: BTreeMap<Group<'a>, usize>,
     places: Vec<Vec<usize>>,
 }
 
-// What the packages of a group have in common: the name and the version, and the whole source for
-// rank 1, or else the URL and what the rank asks for beside it. The packages of an open group have
-// no precise text.
+// What the packages of a group have in common: the name and the version, and for rank 1 the whole
+// source, or for another rank the URL and what the rank compares beside it. The packages of an open
+// group have no precise text.
 #[derive(Drop)]
 struct Group<'a> {
     identity: PartialIdentity<'a>,
@@ -182,7 +171,7 @@ impl<'a> Groups<'a> {
         self.numbered.places.len()
     }
 
-    /// The group of the packages that match a dependency best. `None` where no package matches.
+    /// The group of the packages that match a dependency best. `None` if no package matches.
     pub(crate) fn best(&self, dependency: &'a Dependency) -> Option<BestGroup>
         ensures { MatchOption result
             (IsLost self.now.packages dependency.now)
@@ -196,7 +185,7 @@ impl<'a> Groups<'a> {
         None
     }
 
-    // The group of the packages that match a dependency with a rank. `None` where no package does.
+    // The group of the packages that match a dependency with a rank. `None` if no package does.
     fn group_with_match(&self, rank: u8, dependency: &'a Dependency) -> Option<usize>
         ensures { MatchOption result
             ((k : ℕ) → ¬ MatchesAt self.now.packages dependency.now k rank)
@@ -212,7 +201,7 @@ impl<'a> Groups<'a> {
         None
     }
 
-    // The group of the packages that can match a dependency with a rank. `None` where it is empty.
+    // The group of the packages that can match a dependency with a rank. `None` if it is empty.
     fn group(&self, rank: u8, dependency: &'a Dependency) -> Option<usize>
         ensures { MatchOption result
             ((k : ℕ) → ¬ MatchesAt self.now.packages dependency.now k rank)
@@ -225,7 +214,7 @@ impl<'a> Groups<'a> {
         }
     }
 
-    /// The places of the packages of a group. There are none where no group has the number.
+    /// The places of the packages of a group. There are none if no group has the number.
     pub(crate) fn places(&self, number: usize) -> &[usize]
         ensures { result.now ≡ group_places self.now number }
     {
@@ -322,7 +311,7 @@ fn add(
     Ok(())
 }
 
-// The number of a group. It is the next one where the group has none yet.
+// The number of a group. It is `next` if the group has none yet.
 fn number_of<'a>(
     numbers: &mut BTreeMap<Group<'a>, usize>,
     group: Group<'a>,
@@ -336,7 +325,6 @@ fn number_of<'a>(
     Ok(*numbers.entry(group)?.or_insert(next))
 }
 
-// Whether a package matches a dependency with a rank.
 fn is_match(rank: u8, dependency: &Dependency, package: &Package) -> bool
     ensures { Decides result (Matches dependency.now rank «package».now) }
 {
@@ -345,7 +333,7 @@ fn is_match(rank: u8, dependency: &Dependency, package: &Package) -> bool
         && rank_between(&dependency.source, &package.source) == Some(rank)
 }
 
-// How well sources match that may be absent.
+// The rank of two sources that may be absent.
 fn rank_between(a: &Option<SourceId>, b: &Option<SourceId>) -> Option<u8>
     ensures { result ≡ target.rank_between a.now b.now }
 {
@@ -370,7 +358,6 @@ fn asks_open(rank: u8, dependency: &Dependency) -> bool
     rank > 2 && has_precise(&dependency.source)
 }
 
-// Whether a source has a precise text.
 fn has_precise(source: &Option<SourceId>) -> bool
     ensures { result ≡ spec.has_precise source.now }
 {
@@ -410,7 +397,7 @@ fn group_of<'a>(rank: u8, is_open: bool, identity: PartialIdentity<'a>) -> Optio
     })
 }
 
-// The sort of the reference, where the rank asks for the reference.
+// The sort of the reference, if the rank compares the reference.
 fn kind_at(rank: u8, source: &SourceId) -> u8
     ensures { result ≡ spec.kind_at rank source.now }
 {
@@ -421,7 +408,7 @@ fn kind_at(rank: u8, source: &SourceId) -> u8
     }
 }
 
-// Where a kind comes in the order of sources.
+// The place of a kind in the order of sources.
 fn kind_number(kind: &SourceKind) -> u8
     ensures { result ≡ kind_number (kind_of kind.now) }
 {
@@ -438,7 +425,7 @@ fn kind_number(kind: &SourceKind) -> u8
     }
 }
 
-// What a rank asks of a repository beside its URL: the commit, the reference, or nothing.
+// What a rank compares of a repository beside its URL: the commit, the reference, or nothing.
 fn text_at(rank: u8, source: &SourceId) -> Option<&str>
     ensures { option_copied result ≡ spec.text_at rank source.now }
 {
@@ -472,7 +459,7 @@ fn revision(kind: &SourceKind) -> Option<&str>
     }
 }
 
-// The text of the reference, empty where there is none.
+// The text of the reference, empty if there is none.
 fn reference_text(kind: &SourceKind) -> &str
     ensures { result.now ≡ git_reference_text (kind_of kind.now) }
 {

@@ -11,13 +11,13 @@ use cargo_lock_parts::dependency::Dependency;
 use cargo_lock_parts::package::Package;
 use std::alloc::{AllocError, Global};
 
-/// The dependencies that no package has the name and the version of, with a source that matches.
-/// Each is given as the place of its package and its own place among the package's dependencies.
+/// The dependencies that no package matches: none has the name and the version, and a source that
+/// matches. Each is the place of its package and its own place among the package's dependencies.
 /// Fails when out of memory.
 ///
 /// ```
-/// for (place, at) in &lost_dependencies(rt.alloc(), &lockfile.packages)? {
-///     println!(rt; "{}", lockfile.packages[*place].dependencies[*at].name)?;
+/// for (place, at) in lost_dependencies(rt.alloc(), &lockfile.packages)?.as_slice() {
+///     println!(rt; "dependency {at} of package {place} is no package")?;
 /// }
 /// ```
 pub fn lost_dependencies(
@@ -31,7 +31,7 @@ pub fn lost_dependencies(
     Ok(lost)
 }
 
-// The dependencies of packages that none of them matches.
+// The dependencies of packages that none of the packages matches.
 fn lost_among<'a>(
     alloc: Global,
     packages: &'a [Package],
@@ -67,7 +67,6 @@ fn put_lost<'a>(
     Ok(())
 }
 
-// Whether no package matches the dependency.
 fn is_lost<'a>(groups: &Groups<'a>, dependency: &'a Dependency) -> bool
     ensures { Decides result (IsLost groups.now.packages dependency.now) }
 {

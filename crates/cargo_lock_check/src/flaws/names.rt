@@ -1,4 +1,4 @@
-//! Names of packages that Cargo does not take.
+//! Names of packages that Cargo does not accept.
 
 ghost use Rattle.std.specs.Prelude.{◌≡◌, false, IfOk, length, slice_index};
 ghost use Rattle.std.specs.Bool.{Decides};
@@ -10,12 +10,12 @@ ghost use Rattle.cargo_lock_check.specs.Places.{IsPlaces};
 use cargo_lock_parts::package::Package;
 use std::alloc::{AllocError, Global};
 
-/// The places of packages whose name Cargo does not take: it is empty, begins with a digit, or has
-/// a character other than an ASCII letter, a digit, `-` and `_`. Fails when out of memory.
+/// The places of packages whose name Cargo does not accept: it is empty, begins with a digit, or
+/// has a character other than an ASCII letter, a digit, `-` and `_`. Fails when out of memory.
 ///
 /// ```
-/// for place in &badly_named_packages(rt.alloc(), &lockfile.packages)? {
-///     println!(rt; "package {place}")?;
+/// for place in badly_named_packages(rt.alloc(), &lockfile.packages)?.as_slice() {
+///     println!(rt; "package {place} is badly named")?;
 /// }
 /// ```
 pub fn badly_named_packages(alloc: Global, packages: &[Package]) -> Result<Vec<usize>, AllocError>
@@ -31,14 +31,14 @@ pub fn badly_named_packages(alloc: Global, packages: &[Package]) -> Result<Vec<u
     Ok(places)
 }
 
-// Whether Cargo does not take the package's name.
+// Whether Cargo does not accept the package's name.
 fn is_badly_named(package: &Package) -> bool
     ensures { Decides result (is_cargo_name «package».now.name ≡ false) }
 {
     !is_cargo_name(package.name.as_str())
 }
 
-// Whether Cargo takes the name.
+// Whether Cargo accepts the name.
 fn is_cargo_name(name: &str) -> bool
     ensures { result ≡ is_cargo_name name.now }
 {
@@ -46,7 +46,6 @@ fn is_cargo_name(name: &str) -> bool
     !bytes.is_empty() && !begins_with_digit(bytes) && has_name_bytes(bytes)
 }
 
-// Whether the first byte is a digit.
 fn begins_with_digit(bytes: &[u8]) -> bool
     ensures { result ≡ is_ascii_digit (slice_index bytes.now 0) }
 {
@@ -63,7 +62,6 @@ fn has_name_bytes(bytes: &[u8]) -> bool
     bytes.iter().all(|byte| is_name_byte(*byte))
 }
 
-// Whether the byte may be in a name.
 fn is_name_byte(byte: u8) -> bool
     ensures { result ≡ is_name_byte byte }
 {

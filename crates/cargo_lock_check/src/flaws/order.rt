@@ -20,15 +20,18 @@ use std::cmp::Ordering;
 use url::Url;
 
 /// Compares packages as Cargo does before it writes them: by name, by version, and by source, where
-/// a package without one comes first. Sources compare by kind, then by tag, branch or revision, and
-/// then by URL. This order differs from that of `Package`: a repository comes after a registry, and
-/// its default branch after its tags, branches and revisions.
+/// a package without one is first. Sources compare by kind, then by tag, branch or revision, and
+/// then by URL. This order differs from that of `Package`: a repository is after a registry, and
+/// its default branch is after its tags, branches and revisions.
 ///
 /// URLs compare without a `/` and without `.git` at the end of the path, and those of GitHub with
 /// the scheme `https` and the path in lower case, as Cargo compares them. Fails when out of memory.
 ///
 /// ```
-/// let next = package_order(rt.alloc(), &packages[0], &packages[1])?;
+/// if let [one, other, ..] = packages {
+///     let order = package_order(rt.alloc(), one, other)?;
+///     println!(rt; "{order:?}")?;
+/// }
 /// ```
 pub fn package_order(alloc: Global, one: &Package, other: &Package) -> Result<Ordering, AllocError>
     ensures { IfOk result (λ order. order ≡ package_order one.now other.now) }
@@ -44,7 +47,7 @@ pub fn package_order(alloc: Global, one: &Package, other: &Package) -> Result<Or
     Ok(order)
 }
 
-// An absent source is less than a present one.
+// An absent source is before a present one.
 fn cmp_package_sources(
     alloc: Global,
     one: &Option<SourceId>,
@@ -88,12 +91,15 @@ fn cmp_canonical(alloc: Global, one: &Url, other: &Url) -> Result<Ordering, Allo
 }
 
 /// Compares dependencies of a package as Cargo does before it writes them: by name, by version, and
-/// by source, where one without a source comes first. Versions compare as texts, so `10.0.0` comes
-/// before `9.0.0`. Sources compare by kind, then by tag, branch or revision, and then by URL, as it
-/// is. Fails when out of memory.
+/// by source, where one without a source is first. Versions compare as texts, so `10.0.0` is before
+/// `9.0.0`. Sources compare by kind, then by tag, branch or revision, and then by URL, unchanged.
+/// Fails when out of memory.
 ///
 /// ```
-/// let next = dependency_order(rt.alloc(), &one.dependencies[0], &one.dependencies[1])?;
+/// if let [one, other, ..] = package.dependencies.as_slice() {
+///     let order = dependency_order(rt.alloc(), one, other)?;
+///     println!(rt; "{order:?}")?;
+/// }
 /// ```
 pub fn dependency_order(
     alloc: Global,
@@ -110,7 +116,6 @@ pub fn dependency_order(
     Ok(order.then(cmp_dependency_sources(&one.source, &other.source)))
 }
 
-// The order of versions as texts.
 fn cmp_version_texts(alloc: Global, one: &Version, other: &Version) -> Result<Ordering, AllocError>
     ensures { IfOk result
         (λ order. order ≡ text_cmp (parts_text (parts_of one.now))
@@ -121,7 +126,7 @@ fn cmp_version_texts(alloc: Global, one: &Version, other: &Version) -> Result<Or
     Ok(one.as_str().cmp(other.as_str()))
 }
 
-// An absent source is less than a present one.
+// An absent source is before a present one.
 fn cmp_dependency_sources(one: &Option<SourceId>, other: &Option<SourceId>) -> Ordering
     ensures { result ≡ option_cmp (by_kind_and_url serialize) one.now other.now }
 {
@@ -150,7 +155,7 @@ fn kind_order(one: &SourceKind, other: &SourceKind) -> Ordering
         .then(text.cmp(git_reference_text(other)))
 }
 
-// Where Cargo puts a kind.
+// The place of a kind in Cargo's order.
 fn kind_place(kind: &SourceKind) -> u8
     ensures { result ≡ spec.kind_place (kind_of kind.now) }
 {
@@ -167,7 +172,7 @@ fn kind_place(kind: &SourceKind) -> u8
     }
 }
 
-// The text of the tag, branch or revision, empty where there is none.
+// The text of the tag, branch or revision, empty if there is none.
 fn git_reference_text(kind: &SourceKind) -> &str
     ensures { result.now ≡ key.git_reference_text (kind_of kind.now) }
 {

@@ -1,4 +1,4 @@
-//! Places of packages that are wrong by themselves.
+//! Places of packages that are wrong.
 
 ghost use Rattle.std.specs.Prelude.{◌≡◌, ◌↔◌, ◌<◌, if◌then◌else◌, true, IfOk, IsTrue, OnOk, length, option_copied};
 ghost use Rattle.cargo_lock_parts.specs.Identity.{identity_of};
@@ -15,8 +15,8 @@ use std::alloc::{AllocError, Global};
 use std::cmp::Ordering;
 use std::collections::{BTreeMap, BTreeSet};
 
-/// The places of packages whose name, version and source an earlier package has too, so of each
-/// such package all but the first. Fails when out of memory.
+/// The places of packages for which an earlier one has the same name, version and source. So for
+/// equal packages the first place is not in the list, and all others are. Fails when out of memory.
 ///
 /// ```
 /// if !packages_twice(rt.alloc(), &lockfile.packages)?.is_empty() {
@@ -50,10 +50,12 @@ fn identity<'a>(package: &'a Package) -> PartialIdentity<'a>
 }
 
 /// The places of packages from a registry on the network that have no checksum and no replacement,
-/// though some package from there has a checksum. Fails when out of memory.
+/// though some package of that registry has a checksum. Fails when out of memory.
 ///
 /// ```
-/// let places = packages_without_checksum(rt.alloc(), &lockfile.packages)?;
+/// for place in packages_without_checksum(rt.alloc(), &lockfile.packages)?.as_slice() {
+///     println!(rt; "package {place} has no checksum")?;
+/// }
 /// ```
 pub fn packages_without_checksum(
     alloc: Global,
@@ -90,7 +92,6 @@ fn checked_sources<'a>(
     Ok(sources)
 }
 
-// Adds a source.
 fn add<'a>(sources: &mut BTreeSet<&'a SourceId>, source: &'a SourceId) -> Result<(), AllocError>
     ensures { OnOk result ((s : Source) → has_source sources.new s
         ≡ (if is_same_source source.now s then true else has_source sources.old s)) }
@@ -99,7 +100,7 @@ fn add<'a>(sources: &mut BTreeSet<&'a SourceId>, source: &'a SourceId) -> Result
     Ok(())
 }
 
-// Whether a package has none, though its source is among these.
+// Whether a package has no checksum, though its source is among these.
 fn lacks_checksum<'a>(sources: &BTreeSet<&'a SourceId>, package: &'a Package) -> bool
     ensures { IsTrue result ↔ LacksChecksumAmong sources.now «package».now }
 {
@@ -112,9 +113,8 @@ fn lacks_checksum<'a>(sources: &BTreeSet<&'a SourceId>, package: &'a Package) ->
     }
 }
 
-/// The places of packages that are the first from their registry, where it is a registry on the
-/// network and no package from there has a checksum: one place for each such registry. A package
-/// that is replaced does not count. Fails when out of memory.
+/// For each registry on the network of which no package has a checksum, the place of its first
+/// package. Packages that are replaced do not count. Fails when out of memory.
 ///
 /// ```
 /// let has_lost_all = !unchecked_registries(rt.alloc(), &lockfile.packages)?.is_empty();
@@ -136,7 +136,7 @@ pub fn unchecked_registries(alloc: Global, packages: &[Package]) -> Result<Vec<u
     Ok(places)
 }
 
-// The source of a package that is not replaced.
+// The source of a package, unless the package is replaced.
 fn own_source<'a>(package: &'a Package) -> Option<&'a SourceId>
     ensures { option_copied result ≡ own_source «package».now }
 {
@@ -163,8 +163,8 @@ fn see<'a>(
     Ok(found)
 }
 
-/// The places of packages that come after the next one in Cargo's order (see `package_order`), so
-/// none exactly where the list ascends. Fails when out of memory.
+/// The places of packages that come after the next one in Cargo's order (see `package_order`).
+/// There are none exactly if the list ascends. Fails when out of memory.
 ///
 /// ```
 /// let is_in_order = misplaced_packages(rt.alloc(), &lockfile.packages)?.is_empty();

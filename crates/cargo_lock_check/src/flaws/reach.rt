@@ -1,4 +1,4 @@
-//! The packages that those of the workspace do not lead to.
+//! The packages that no package of the workspace leads to.
 
 ghost use Rattle.std.specs.Prelude.{◌≡◌, ◌<◌, ◌↔◌, ◌⊎◌, ℕ, false, true, IfOk, OnOk, Some, length};
 ghost use Rattle.std.specs.Prelude.{slice_get};
@@ -16,7 +16,7 @@ use cargo_lock_parts::dependency::Dependency;
 use cargo_lock_parts::package::Package;
 use std::alloc::{AllocError, Global};
 
-// Which packages are reached so far, and the places of those whose dependencies are still to be
+// The packages that are reached so far, and the places of those whose dependencies are still to be
 // followed.
 #[derive(Drop)]
 struct Search {
@@ -25,13 +25,13 @@ struct Search {
 }
 
 /// The places of the packages that neither a package without a source nor the root leads to, by
-/// dependencies and replacements. Those without a source are the packages of the workspace, and a
-/// root apart from the packages, which a lockfile of V1 may have, is one of them too. A dependency
-/// without a package leads nowhere. Fails when out of memory.
+/// dependencies and replacements. The packages without a source are those of the workspace, and a
+/// separate root, which a lockfile of V1 may have, is one of them too. A dependency without a
+/// package leads nowhere. Fails when out of memory.
 ///
 /// ```
-/// for place in &orphans(rt.alloc(), &lockfile.packages, &lockfile.root)? {
-///     println!(rt; "{} is not needed", lockfile.packages[*place].name)?;
+/// for place in orphans(rt.alloc(), &lockfile.packages, &lockfile.root)?.as_slice() {
+///     println!(rt; "package {place} is not needed")?;
 /// }
 /// ```
 pub fn orphans(
@@ -61,21 +61,20 @@ fn unmarked(alloc: Global, marks: &[bool]) -> Result<Vec<usize>, AllocError>
     Ok(places)
 }
 
-// For each group whether its packages were all reached.
+// For each group, whether all its packages were reached.
 #[derive(Drop)]
 struct Asked {
     groups: Vec<bool>,
 }
 
 impl Asked {
-    // Whether the packages of a group were all reached.
     fn has(&self, number: usize) -> bool
         ensures { result ≡ true → IsMarked self.now.groups.items number }
     {
         self.groups.get(number) == Some(&true)
     }
 
-    // Records that the packages of a group were all reached.
+    // Records that all packages of a group were reached.
     fn put(&mut self, number: usize)
         ensures { (n : ℕ) → IsMarked self.new.groups.items n
             → IsMarked self.old.groups.items n ⊎ (n ≡ number) }
@@ -86,7 +85,7 @@ impl Asked {
     }
 }
 
-// For each package whether it is reached.
+// For each package, whether it is reached.
 fn reached(
     alloc: Global,
     packages: &[Package],
@@ -106,7 +105,7 @@ fn reached(
 }
 
 impl Search {
-    // The search at its end, which has reached all that the workspace leads to.
+    // The finished search, which has reached all that the workspace leads to.
     fn of<'a>(
         alloc: Global,
         groups: &Groups<'a>,
@@ -224,8 +223,8 @@ impl Search {
         Ok(())
     }
 
-    // Reaches the packages of a group that match a dependency best, unless all of the group were
-    // reached before.
+    // Reaches the packages of a group that match a dependency best, unless all packages of the
+    // group were reached before.
     fn ask_group(
         &mut self,
         groups: &Groups<'_>,
@@ -251,7 +250,7 @@ impl Search {
     }
 
     // Reaches the packages of a group that match a dependency best. Returns whether these are all
-    // of the group.
+    // packages of the group.
     fn reach_matches(
         &mut self,
         groups: &Groups<'_>,
@@ -276,7 +275,7 @@ impl Search {
         Ok(is_whole)
     }
 
-    // Reaches a place. It waits where it was not reached before.
+    // Reaches a place, whose dependencies are still to be followed if it was not reached before.
     fn reach(&mut self, place: usize) -> Result<(), AllocError>
         requires { place < length self.old.reached.items }
         ensures { OnOk result (HasReached (λ k. k ≡ place) self.old self.new) }

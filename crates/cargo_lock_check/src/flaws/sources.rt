@@ -13,10 +13,9 @@ use percent_encoding::percent_decode_str;
 use std::alloc::{AllocError, Global};
 use url::Url;
 
-/// The places of packages from a source that looks like crates.io and is another one: its URL has
-/// `crates.io-index` or `index.crates.io` in it, in whatever case and perhaps with escapes such as
-/// `%2D`, and the source is neither of the two that `SourceId::is_default_registry` knows. Fails
-/// when out of memory.
+/// The places of packages from a source that looks like crates.io but is another one: its URL has
+/// `crates.io-index` or `index.crates.io` in it, in any case and with or without escapes such as
+/// `%2D`, and `SourceId::is_default_registry` is false for the source. Fails when out of memory.
 ///
 /// ```
 /// let is_misled = !look_alike_sources(rt.alloc(), &lockfile.packages)?.is_empty();
@@ -47,7 +46,7 @@ fn is_from_look_alike(alloc: Global, package: &Package) -> Result<bool, AllocErr
     }
 }
 
-// Whether the source looks like crates.io, and is another one.
+// Whether the source looks like crates.io but is another one.
 fn is_look_alike(alloc: Global, source: &SourceId) -> Result<bool, AllocError>
     ensures { IfOk result (λ found. Decides found (IsLookAlike source.now)) }
 {
@@ -60,7 +59,7 @@ fn is_look_alike(alloc: Global, source: &SourceId) -> Result<bool, AllocError>
     Ok(is_named || is_named_by_escapes)
 }
 
-// The text with its escapes read.
+// The text with its escapes decoded.
 fn decoded(alloc: Global, text: &str) -> Result<Vec<u8>, AllocError>
     ensures { IfOk result (λ bytes. bytes.items ≡ percent_decode text.now) }
 {
@@ -69,7 +68,7 @@ fn decoded(alloc: Global, text: &str) -> Result<Vec<u8>, AllocError>
     Ok(bytes)
 }
 
-// Whether the text names an index of crates.io, in whatever case.
+// Whether the text has the name of an index of crates.io in it, in any case.
 fn names_index(alloc: Global, text: &[u8]) -> Result<bool, AllocError>
     ensures { IfOk result (λ found. Decides found (NamesIndex text.now)) }
 {
@@ -79,7 +78,6 @@ fn names_index(alloc: Global, text: &[u8]) -> Result<bool, AllocError>
     Ok(is_git_index || is_sparse_index)
 }
 
-// Whether the part is in the text.
 fn has_part(text: &[u8], part: &[u8]) -> bool
     ensures { Decides result (HasSubslice text.now part.now) }
 {

@@ -13,9 +13,8 @@ use cargo_lock_references::written_metadata::metadata_of;
 use cargo_lock_references::{Metadata, MetadataKey, MetadataValue, ResolveVersion};
 use std::alloc::{AllocError, Global};
 
-/// The keys of checksums, in order, that are of none of these packages. In the first format Cargo
-/// writes `<none>` for a package without a checksum; such keys are left out. The one error is
-/// `Memory`.
+/// The keys of checksums, in order, that are of none of these packages. In V1 Cargo writes `<none>`
+/// for a package without a checksum; such keys are left out. The one error is `Memory`.
 ///
 /// ```
 /// let keys = stale_keys(rt.alloc(), &lockfile.metadata, &lockfile.packages)?;
@@ -35,7 +34,6 @@ pub fn stale_keys(
     Ok(keys)
 }
 
-// The keys of checksums.
 fn checksum_keys(
     alloc: Global,
     metadata: &Metadata,
@@ -52,7 +50,6 @@ fn checksum_keys(
     Ok(keys)
 }
 
-// Whether a key and its value are of a checksum.
 fn is_of_checksum(key: &MetadataKey, value: &MetadataValue) -> bool
     ensures { result ≡ is_of_checksum (key.now, value.now) }
 {

@@ -1,11 +1,11 @@
 //! Entries of a drawing.
 
-/// A line of a drawing: a node, and how deep it stands.
+/// A line of a drawing: a node and its depth.
 #[derive(Clone, Copy)]
 pub struct Entry {
     /// The number of the node.
     pub node: usize,
 
-    /// How deep the line stands. The start stands at depth 0.
+    /// The depth of the line. The start has depth 0.
     pub depth: usize,
 }

@@ -1,26 +1,22 @@
-//! Labels of entries: a package's name and version, and what tells it exactly. They are put in
-//! pieces, which takes no memory.
+//! Labels of entries: a package's name and version, and in an exact label what distinguishes the
+//! package. Labels are written in pieces, which allocates nothing.
 
-ghost use Rattle.std.specs.Prelude.{◌-◌, ◌^◌, ◌<◌, ◌≡◌, ◌++◌, ◌∷◌, codes, option_copied, false};
+ghost use Rattle.std.specs.Prelude.{◌≡◌, ◌++◌, codes, option_copied, false};
 ghost use Rattle.semver.specs.Identifiers.{parts_of, parts_text};
-ghost use Rattle.std.specs.Prelude.{decimal};
-ghost use Rattle.cargo_lock_parts.specs.Ascii.{dot};
 ghost use Rattle.cargo_lock_parts.specs.Checksum.{digest_of, digest_text};
 ghost use Rattle.cargo_lock_parts.specs.Source.{git_reference_of};
 ghost use Rattle.cargo_lock_parts.specs.SourceText.{fragment_text, query_text, text_of};
 ghost use Rattle.cargo_lock_graph.specs.Labels.{exact_text, label_of, tags_text};
-ghost use Rattle.cargo_lock_graph.specs.Sinks.{IsWritten};
+ghost use Rattle.cargo_lock_graph.specs.Sinks.{CanCountFault, IsWritten};
 
 use crate::drawing::put::{Put, Target, put_all, put_both, put_dotted, put_marked, put_number};
-use cargo_lock_parts::package::{
-    Checksum, GitReference, Name, Package, SourceId, SourceKind, Version,
-};
+use cargo_lock_parts::package::{Checksum, GitReference, Package, SourceId, SourceKind, Version};
 
 // ---- versions
 
-// The pre-release and the build metadata, each after its mark.
+// The pre-release and the build metadata, each after its mark, `-` or `+`.
 fn put_tags<T: Target>(out: &mut T, version: &Version) -> Put
-    requires { (T.state out.old).failures < 2 ^ 64 - 1 }
+    requires { CanCountFault (T.state out.old).failures }
     ensures { IsWritten (T.state out.old) (T.state out.new)
         (tags_text (parts_of version.now)) result }
 {
@@ -28,39 +24,19 @@ fn put_tags<T: Target>(out: &mut T, version: &Version) -> Put
     put_marked(out, b'+', version.build.as_str())
 }
 
-// The patch number and what follows it.
-fn put_patch<T: Target>(out: &mut T, version: &Version) -> Put
-    requires { (T.state out.old).failures < 2 ^ 64 - 1 }
-    ensures { IsWritten (T.state out.old) (T.state out.new)
-        (dot ∷ (decimal version.now.patch ++ tags_text (parts_of version.now))) result }
-{
-    put_dotted(out, version.patch)?;
-    put_tags(out, version)
-}
-
-// The minor number and what follows it.
-fn put_minor<T: Target>(out: &mut T, version: &Version) -> Put
-    requires { (T.state out.old).failures < 2 ^ 64 - 1 }
-    ensures { IsWritten (T.state out.old) (T.state out.new)
-        (dot ∷ (decimal version.now.minor
-        ++ (dot ∷ (decimal version.now.patch ++ tags_text (parts_of version.now))))) result }
-{
-    put_dotted(out, version.minor)?;
-    put_patch(out, version)
-}
-
 fn put_version<T: Target>(out: &mut T, version: &Version) -> Put
-    requires { (T.state out.old).failures < 2 ^ 64 - 1 }
+    requires { CanCountFault (T.state out.old).failures }
     ensures { IsWritten (T.state out.old) (T.state out.new)
         (parts_text (parts_of version.now)) result }
 {
     put_number(out, version.major)?;
-    put_minor(out, version)
+    put_dotted(out, version.minor)?;
+    put_dotted(out, version.patch)?;
+    put_tags(out, version)
 }
 
-// ---- what tells a package exactly
+// ---- the exact part of a label
 
-// The bytes of a checksum.
 fn digest(checksum: &Checksum) -> [u8; 32]
     ensures { result ≡ digest_of checksum.now }
 {
@@ -69,7 +45,7 @@ fn digest(checksum: &Checksum) -> [u8; 32]
 }
 
 fn put_checksum<T: Target>(out: &mut T, checksum: &Checksum) -> Put
-    requires { (T.state out.old).failures < 2 ^ 64 - 1 }
+    requires { CanCountFault (T.state out.old).failures }
     ensures { IsWritten (T.state out.old) (T.state out.new)
         (codes "checksum:" ++ digest_text (digest_of checksum.now)) result }
 {
@@ -81,9 +57,9 @@ fn put_checksum<T: Target>(out: &mut T, checksum: &Checksum) -> Put
     }
 }
 
-// What is checked out of a repository, plain, as the query of its URL.
+// The branch, tag or commit of a repository, not escaped, as the query of its URL.
 fn put_query<T: Target>(out: &mut T, reference: &GitReference) -> Put
-    requires { (T.state out.old).failures < 2 ^ 64 - 1 }
+    requires { CanCountFault (T.state out.old).failures }
     ensures { IsWritten (T.state out.old) (T.state out.new)
         (query_text false (git_reference_of reference.now)) result }
 {
@@ -97,7 +73,7 @@ fn put_query<T: Target>(out: &mut T, reference: &GitReference) -> Put
 
 // The commit of a repository, as the fragment of its URL.
 fn put_fragment<T: Target>(out: &mut T, precise: Option<&str>) -> Put
-    requires { (T.state out.old).failures < 2 ^ 64 - 1 }
+    requires { CanCountFault (T.state out.old).failures }
     ensures { IsWritten (T.state out.old) (T.state out.new)
         (fragment_text (option_copied precise.entry)) result }
 {
@@ -107,39 +83,26 @@ fn put_fragment<T: Target>(out: &mut T, precise: Option<&str>) -> Put
     }
 }
 
-// The query and the fragment of a git source.
-fn put_place<T: Target>(out: &mut T, reference: &GitReference, precise: Option<&str>) -> Put
-    requires { (T.state out.old).failures < 2 ^ 64 - 1 }
-    ensures { IsWritten (T.state out.old) (T.state out.new)
-        (query_text false (git_reference_of reference.now)
-        ++ fragment_text (option_copied precise.entry)) result }
-{
-    put_query(out, reference)?;
-    put_fragment(out, precise)
-}
-
-// A git source.
 fn put_git<T: Target>(
     out: &mut T,
     url: &str,
     reference: &GitReference,
     precise: Option<&str>,
 ) -> Put
-    requires { (T.state out.old).failures < 2 ^ 64 - 1 }
+    requires { CanCountFault (T.state out.old).failures }
     ensures { IsWritten (T.state out.old) (T.state out.new)
-        (codes "git+"
-        ++ (url.now ++
-        (query_text false (git_reference_of reference.now)
+        (codes "git+" ++ (url.now ++ (query_text false (git_reference_of reference.now)
         ++ fragment_text (option_copied precise.entry)))) result }
 {
     put_both(out, b"git+", url.as_bytes())?;
-    put_place(out, reference, precise)
+    put_query(out, reference)?;
+    put_fragment(out, precise)
 }
 
 // The plain text of a source.
 #[tactic(auto, unfolding(cargo_lock_parts::specs::SourceText::text_of))]
 fn put_source<T: Target>(out: &mut T, source: &SourceId) -> Put
-    requires { (T.state out.old).failures < 2 ^ 64 - 1 }
+    requires { CanCountFault (T.state out.old).failures }
     ensures { IsWritten (T.state out.old) (T.state out.new) (text_of false source.now) result }
 {
     let url = source.url().as_str();
@@ -154,7 +117,7 @@ fn put_source<T: Target>(out: &mut T, source: &SourceId) -> Put
 }
 
 fn put_exact_text<T: Target>(out: &mut T, package: &Package) -> Put
-    requires { (T.state out.old).failures < 2 ^ 64 - 1 }
+    requires { CanCountFault (T.state out.old).failures }
     ensures { IsWritten (T.state out.old) (T.state out.new)
         (exact_text «package».now.checksum «package».now.source) result }
 {
@@ -167,43 +130,24 @@ fn put_exact_text<T: Target>(out: &mut T, package: &Package) -> Put
 
 // ---- the label
 
-// A space, and what tells the package exactly.
-fn put_exactly<T: Target>(out: &mut T, package: &Package) -> Put
-    requires { (T.state out.old).failures < 2 ^ 64 - 1 }
-    ensures { IsWritten (T.state out.old) (T.state out.new)
-        (codes " " ++ exact_text «package».now.checksum «package».now.source) result }
-{
-    put_all(out, b" ")?;
-    put_exact_text(out, package)
-}
-
-// A name, a space and a version.
-fn put_name<T: Target>(out: &mut T, name: &Name, version: &Version) -> Put
-    requires { (T.state out.old).failures < 2 ^ 64 - 1 }
-    ensures { IsWritten (T.state out.old) (T.state out.new)
-        (name.now ++ (codes " " ++ parts_text (parts_of version.now))) result }
-{
-    put_both(out, name.as_str().as_bytes(), b" ")?;
-    put_version(out, version)
-}
-
 // The name and the version of a package.
 fn put_identity<T: Target>(out: &mut T, package: &Package) -> Put
-    requires { (T.state out.old).failures < 2 ^ 64 - 1 }
+    requires { CanCountFault (T.state out.old).failures }
     ensures { IsWritten (T.state out.old) (T.state out.new)
         («package».now.name ++ (codes " " ++ parts_text «package».now.version)) result }
 {
-    put_name(out, &package.name, &package.version)
+    put_both(out, package.name.as_str().as_bytes(), b" ")?;
+    put_version(out, &package.version)
 }
 
-// The label of a package.
 pub(crate) fn put_label<T: Target>(out: &mut T, package: &Package, exact: bool) -> Put
-    requires { (T.state out.old).failures < 2 ^ 64 - 1 }
+    requires { CanCountFault (T.state out.old).failures }
     ensures { IsWritten (T.state out.old) (T.state out.new) (label_of exact «package».now) result }
 {
     put_identity(out, package)?;
     if exact {
-        return put_exactly(out, package);
+        put_all(out, b" ")?;
+        return put_exact_text(out, package);
     }
     Ok(())
 }

@@ -8,7 +8,7 @@ ghost use Rattle.cargo_lock_graph.specs.DrawingLaws.{OccursWhereReachable, Reach
 ghost use Rattle.cargo_lock_graph.specs.DrawingLaws.{TextByLater, TextIsEndedLines};
 ghost use Rattle.cargo_lock_graph.specs.DrawingLaws.{TextIsOfOneDrawing, TextTellsDrawing};
 
-/// What a drawing is in words, place by place, is what it is by recursion on its entries.
+/// The definition of a drawing by place is the same as the definition by recursion on its entries.
 pub fn drawings_are_one_form()
     ensures { DrawingsAreOneForm }
 {}
@@ -18,54 +18,54 @@ pub fn drawing_exists()
     ensures { DrawingExists }
 {}
 
-/// There is no second drawing.
+/// There are no two drawings from one node.
 pub fn drawing_is_unique()
     ensures { DrawingIsUnique }
 {}
 
-/// From each start there is exactly one drawing of a graph in each direction, with cycles, edges
-/// from a node to itself and several edges between two nodes too.
+/// From each start there is exactly one drawing of a graph in each direction. This includes graphs
+/// with cycles, edges from a node to itself, and several edges between two nodes.
 pub fn graph_has_one_drawing()
     ensures { GraphHasOneDrawing }
 {}
 
-/// A drawing has one plus as many entries as edges that leave a node that occurs.
+/// A drawing has one entry more than there are edges that leave a node that occurs in it.
 pub fn entries_are_counted()
     ensures { EntriesAreCounted }
 {}
 
-/// A node occurs in a drawing exactly where it is reachable from the start.
+/// A node occurs in a drawing exactly if it is reachable from the start.
 pub fn node_occurs_where_reachable()
     ensures { OccursWhereReachable }
 {}
 
-/// A reachable node has one expanded entry, its first: its children are the far ends of the node's
-/// edges, newest first.
+/// A reachable node has one expanded entry, its first. The children of that entry are the far ends
+/// of the node's edges, newest first.
 pub fn reachable_node_is_expanded()
     ensures some { ReachableIsExpanded }
     ensures one { FirstIsUnique }
 {}
 
 /// The edges of reachable nodes and the entries after the first match one to one: the edge at a
-/// place of a node's list goes to the child at that place of the node's expanded entry.
+/// place of a node's list leads to the child at that place of the node's expanded entry.
 pub fn edges_match_entries()
     ensures { EdgesMatch }
 {}
 
-/// The text of a drawing is told by the later entries alone.
+/// The text of a drawing can be computed from the later entries alone.
 pub fn text_is_told_by_later_entries()
     ensures { TextByLater }
 {}
 
-/// The text tells the drawing. Where no label holds a newline, the text is one line an entry, the
-/// first is the first entry's label, and each later one tells its entry's depth and label.
+/// The text determines the drawing. If no label has a newline, the text has one line for each
+/// entry: the first is the label of the first entry, and each later one reads as its entry's depth
+/// and label.
 pub fn text_tells_the_drawing()
     ensures { TextTellsDrawing }
 {}
 
-/// The text tells one drawing alone. Where no label holds a newline and different nodes have
-/// different labels, drawings with the same text are the same, so the text tells each reachable
-/// edge.
+/// No two drawings have the same text. If no label has a newline and different nodes have different
+/// labels, drawings with the same text are the same, so the text determines each reachable edge.
 pub fn text_is_of_one_drawing()
     ensures { TextIsOfOneDrawing }
 {}
@@ -75,7 +75,7 @@ pub fn text_is_ended_lines()
     ensures { TextIsEndedLines }
 {}
 
-/// An entry is one line where its package's name, version and exact text hold no newline.
+/// An entry is one line if its package's name, version and exact text have no newline.
 pub fn entries_are_lines()
     ensures { EntriesAreLines }
 {}

@@ -1,11 +1,11 @@
-//! How a drawing looks.
+//! The options of a drawing.
 
 use crate::drawing::symbols::Symbols;
 
-/// How a drawing looks.
+/// The options of a drawing.
 #[derive(Clone, Copy)]
 pub struct Look<'a> {
-    /// The symbols that its lines are made of.
+    /// The symbols from which its lines are made.
     pub symbols: &'a Symbols,
 
     /// Whether its labels are exact: with the checksum, or else the source, or else `inexact`.

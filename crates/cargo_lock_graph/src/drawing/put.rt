@@ -1,27 +1,27 @@
-//! Texts in pieces onto a sink or a writer, which takes no memory.
+//! Writing texts to a sink or a writer in pieces, which allocates nothing.
 
-ghost use Rattle.std.specs.Prelude.{◌-◌, ◌^◌, ◌<◌, ◌++◌, ◌∷◌, decimal, length};
+ghost use Rattle.std.specs.Prelude.{◌<◌, ◌++◌, ◌∷◌, decimal, length};
 ghost use Rattle.semver.specs.Identifiers.{marked};
 ghost use Rattle.cargo_lock_parts.specs.Ascii.{dot};
-ghost use Rattle.cargo_lock_graph.specs.Sinks.{IsTaken, IsWritten, Taken};
+ghost use Rattle.cargo_lock_graph.specs.Sinks.{CanCountFault, IsTaken, IsWritten, Taken};
 
 use crate::drawing::sink::{Sink, write_some};
 use itoa::Buffer;
 use std::io::{ErrorKind, Write};
 
-// Where the pieces of a text go: a sink or a writer that is borrowed for the time. It is seen as
-// what it took, how often it failed, and which borrow it is.
+// The destination of the pieces of a text: a borrowed sink or writer. Its state is what it took,
+// how often it failed, and which borrow it is.
 pub(crate) trait Target {
     ghost state: { Self → Taken };
 
     // As `Sink::put`.
     fn put(&mut self, bytes: &[u8]) -> Result<usize, ErrorKind>
         requires some { 0 < length bytes.now }
-        requires countable { (state self.old).failures < 2 ^ 64 - 1 }
+        requires countable { CanCountFault (state self.old).failures }
         ensures { IsTaken (state self.old) (state self.new) bytes.now result };
 }
 
-// A sink that is borrowed.
+// A borrowed sink.
 #[derive(Drop)]
 pub(crate) struct OfSink<'a, S> {
     pub(crate) sink: &'a mut S,
@@ -41,7 +41,7 @@ impl<S: Sink> Target for OfSink<'_, S> {
     }
 }
 
-// A writer that is borrowed, with a count of its faults. It is written to as `WriterSink` does.
+// A borrowed writer, with a count of its errors. It is written to as `WriterSink` does.
 #[derive(Drop)]
 pub(crate) struct OfWriter<'a, W> {
     pub(crate) writer: &'a mut W,
@@ -62,12 +62,12 @@ impl<W: Write> Target for OfWriter<'_, W> {
     }
 }
 
-// What putting a text answers: the kind of the first fault.
+// The result of writing a text: an error is the kind of the first one.
 pub(crate) type Put = std::result::Result<(), ErrorKind>;
 
-// All the bytes, until a fault.
+// Writes all the bytes, or stops at an error.
 pub(crate) fn put_all<T: Target>(out: &mut T, bytes: &[u8]) -> Put
-    requires { (T.state out.old).failures < 2 ^ 64 - 1 }
+    requires { CanCountFault (T.state out.old).failures }
     ensures { IsWritten (T.state out.old) (T.state out.new) bytes.now result }
 {
     let mut at = 0;
@@ -78,36 +78,36 @@ pub(crate) fn put_all<T: Target>(out: &mut T, bytes: &[u8]) -> Put
     Ok(())
 }
 
-// Two texts, one after the other.
+// Writes two texts, one after the other.
 pub(crate) fn put_both<T: Target>(out: &mut T, first: &[u8], second: &[u8]) -> Put
-    requires { (T.state out.old).failures < 2 ^ 64 - 1 }
+    requires { CanCountFault (T.state out.old).failures }
     ensures { IsWritten (T.state out.old) (T.state out.new) (first.now ++ second.now) result }
 {
     put_all(out, first)?;
     put_all(out, second)
 }
 
-// A number in decimal digits.
+// Writes a number in decimal digits.
 pub(crate) fn put_number<T: Target>(out: &mut T, number: u64) -> Put
-    requires { (T.state out.old).failures < 2 ^ 64 - 1 }
+    requires { CanCountFault (T.state out.old).failures }
     ensures { IsWritten (T.state out.old) (T.state out.new) (decimal number) result }
 {
     let mut digits = Buffer::new();
     put_all(out, digits.format(number).as_bytes())
 }
 
-// A dot and a number.
+// Writes a dot and a number.
 pub(crate) fn put_dotted<T: Target>(out: &mut T, number: u64) -> Put
-    requires { (T.state out.old).failures < 2 ^ 64 - 1 }
+    requires { CanCountFault (T.state out.old).failures }
     ensures { IsWritten (T.state out.old) (T.state out.new) (dot ∷ decimal number) result }
 {
     let mut digits = Buffer::new();
     put_both(out, b".", digits.format(number).as_bytes())
 }
 
-// A byte and a text, or nothing where the text is empty.
+// Writes a byte and a text, or nothing if the text is empty.
 pub(crate) fn put_marked<T: Target>(out: &mut T, mark: u8, text: &str) -> Put
-    requires { (T.state out.old).failures < 2 ^ 64 - 1 }
+    requires { CanCountFault (T.state out.old).failures }
     ensures { IsWritten (T.state out.old) (T.state out.new) (marked mark text.now) result }
 {
     if text.is_empty() {

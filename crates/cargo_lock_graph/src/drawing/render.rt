@@ -1,21 +1,16 @@
-//! The text of a drawing, put onto a target line by line. `put_node` puts the label of an entry, by
-//! `put_label` of `label.rt`.
+//! The text of a drawing, written to a target line by line. `put_node` writes the label of an entry
+//! with `put_label` of `label.rt`.
 
-ghost use Rattle.std.specs.Prelude.{◌-◌, ◌^◌, ◌<◌, ◌≤◌, ◌++◌, ◌∷◌, [], IfOk, List, ℕ, ◌≡◌, OnOk};
-ghost use Rattle.std.specs.Prelude.{length, max, vec_len};
+ghost use Rattle.std.specs.Prelude.{◌<◌, ◌≤◌, ◌++◌, ◌∷◌, [], length, vec_len};
 ghost use Rattle.cargo_lock_parts.specs.Ascii.{newline};
-ghost use Rattle.cargo_lock_graph.specs.declared.drawing.entry.Entry.{Entry};
-ghost use Rattle.cargo_lock_graph.specs.Drawing.{IsDrawing};
 ghost use Rattle.cargo_lock_graph.specs.DrawingByLater.{drawn_by_later, line_by_later};
 ghost use Rattle.cargo_lock_graph.specs.DrawingByLater.{prefix_by_later};
-ghost use Rattle.cargo_lock_graph.specs.DrawingLevels.{most_levels};
-ghost use Rattle.cargo_lock_graph.specs.DrawingMade.{AreMarked};
-ghost use Rattle.cargo_lock_graph.specs.DrawingText.{branch_text, drawing_text, level_text};
+ghost use Rattle.cargo_lock_graph.specs.DrawingText.{branch_text, level_text};
 ghost use Rattle.cargo_lock_graph.specs.DrawingText.{standard_symbols};
-ghost use Rattle.cargo_lock_graph.specs.Edges.{far_ends};
 ghost use Rattle.cargo_lock_graph.specs.Labels.{label_at};
 ghost use Rattle.cargo_lock_graph.specs.Rendering.{Draws};
-ghost use Rattle.cargo_lock_graph.specs.Sinks.{IsRendered, IsRenderedInto, IsRenderedTo, IsWritten};
+ghost use Rattle.cargo_lock_graph.specs.Sinks.{CanCountFault, IsRendered, IsRenderedInto};
+ghost use Rattle.cargo_lock_graph.specs.Sinks.{IsRenderedTo, IsWritten};
 ghost use Rattle.cargo_lock_graph.specs.WalkState.{IsOn, to_come};
 
 use crate::drawing::entry::Entry;
@@ -30,9 +25,9 @@ use cargo_lock_parts::error::{Error, Result};
 use std::alloc::Global;
 use std::io::Write;
 
-// What stands for a level above an entry.
+// The part of a prefix for a level above an entry.
 fn put_level<T: Target>(out: &mut T, symbols: &Symbols, more: bool) -> Put
-    requires { (T.state out.old).failures < 2 ^ 64 - 1 }
+    requires { CanCountFault (T.state out.old).failures }
     ensures { IsWritten (T.state out.old) (T.state out.new)
         (level_text standard_symbols more) result }
 {
@@ -40,9 +35,9 @@ fn put_level<T: Target>(out: &mut T, symbols: &Symbols, more: bool) -> Put
     put_both(out, first, b"   ")
 }
 
-// What stands before a label.
+// The part of a prefix directly before a label.
 fn put_branch<T: Target>(out: &mut T, symbols: &Symbols, more: bool) -> Put
-    requires { (T.state out.old).failures < 2 ^ 64 - 1 }
+    requires { CanCountFault (T.state out.old).failures }
     ensures { IsWritten (T.state out.old) (T.state out.new)
         (branch_text standard_symbols more) result }
 {
@@ -51,8 +46,8 @@ fn put_branch<T: Target>(out: &mut T, symbols: &Symbols, more: bool) -> Put
     put_both(out, symbols.right.as_bytes(), b" ")
 }
 
-// The prefix of an entry of this depth, which was the last that the walk gave: nothing at depth 0,
-// and otherwise the levels above the entry, from the first on, and what stands before its label.
+// The prefix of an entry of this depth, which was the last that the walk returned: nothing at depth
+// 0, and otherwise the levels above the entry, from the first on, and the branch to its label.
 fn put_prefix<T: Target>(
     out: &mut T,
     symbols: &Symbols,
@@ -60,7 +55,7 @@ fn put_prefix<T: Target>(
     walk: &Walk,
     depth: usize,
 ) -> Put
-    requires sound { (T.state out.old).failures < 2 ^ 64 - 1 }
+    requires sound { CanCountFault (T.state out.old).failures }
     requires on { IsOn graph.now walk.now }
     requires depth { depth ≤ vec_len walk.now.stack }
     ensures { IsWritten (T.state out.old) (T.state out.new)
@@ -77,7 +72,7 @@ fn put_prefix<T: Target>(
 
 // The label of a node, and a newline.
 fn put_node<T: Target>(out: &mut T, graph: &Graph, node: NodeIndex, exact: bool) -> Put
-    requires sound { (T.state out.old).failures < 2 ^ 64 - 1 }
+    requires sound { CanCountFault (T.state out.old).failures }
     requires node { node < length graph.now.packages }
     ensures { IsWritten (T.state out.old) (T.state out.new)
         (label_at exact graph.now.packages node ++ (newline ∷ [])) result }
@@ -86,7 +81,7 @@ fn put_node<T: Target>(out: &mut T, graph: &Graph, node: NodeIndex, exact: bool)
     put_all(out, b"\n")
 }
 
-// The line of an entry, which was the last that the walk gave.
+// The line of an entry, which was the last that the walk returned.
 fn put_line<T: Target>(
     out: &mut T,
     entry: Entry,
@@ -94,7 +89,7 @@ fn put_line<T: Target>(
     graph: &Graph,
     walk: &Walk,
 ) -> Put
-    requires sound { (T.state out.old).failures < 2 ^ 64 - 1 }
+    requires sound { CanCountFault (T.state out.old).failures }
     requires on { IsOn graph.now walk.now }
     requires depth { entry.depth ≤ vec_len walk.now.stack }
     requires node { entry.node < length graph.now.packages }
@@ -106,14 +101,11 @@ fn put_line<T: Target>(
     put_node(out, graph, NodeIndex::new(entry.node), look.exact)
 }
 
-// The lines of all entries that the walk still gives.
+// The lines of all entries that the walk still returns.
 fn put_entries<T: Target>(out: &mut T, look: &Look<'_>, graph: &Graph, walk: &mut Walk) -> Put
-    requires sound { (T.state out.old).failures < 2 ^ 64 - 1 }
+    requires sound { CanCountFault (T.state out.old).failures }
     requires on { IsOn graph.now walk.old }
-    ensures on { IsOn graph.now walk.new }
-    ensures levels { OnOk result ((earlier : List ℕ) → AreMarked walk.old.visited.items earlier
-        → walk.new.most ≡ max walk.old.most (most_levels earlier (to_come graph.now walk.old))) }
-    ensures written { IsWritten (T.state out.old) (T.state out.new)
+    ensures { IsWritten (T.state out.old) (T.state out.new)
         (drawn_by_later standard_symbols (label_at look.now.exact graph.now.packages)
         (to_come graph.now walk.old)) result }
 {
@@ -123,7 +115,7 @@ fn put_entries<T: Target>(out: &mut T, look: &Look<'_>, graph: &Graph, walk: &mu
     Ok(())
 }
 
-// The line of the start, and those of all entries that the walk from it gives.
+// The line of the start, and those of all entries that the walk from it returns.
 fn put_drawing<T: Target>(
     out: &mut T,
     look: &Look<'_>,
@@ -131,13 +123,10 @@ fn put_drawing<T: Target>(
     walk: &mut Walk,
     start: NodeIndex,
 ) -> Put
-    requires sound { (T.state out.old).failures < 2 ^ 64 - 1 }
+    requires sound { CanCountFault (T.state out.old).failures }
     requires on { IsOn graph.now walk.old }
     requires start { start < length graph.now.packages }
-    ensures on { IsOn graph.now walk.new }
-    ensures levels { OnOk result ((earlier : List ℕ) → AreMarked walk.old.visited.items earlier
-        → walk.new.most ≡ max walk.old.most (most_levels earlier (to_come graph.now walk.old))) }
-    ensures written { IsWritten (T.state out.old) (T.state out.new)
+    ensures { IsWritten (T.state out.old) (T.state out.new)
         (drawn_by_later standard_symbols (label_at look.now.exact graph.now.packages)
         (record { node = start; depth = 0 } ∷ to_come graph.now walk.old)) result }
 {
@@ -149,8 +138,7 @@ fn put_drawing<T: Target>(
     put_entries(out, look, graph, walk)
 }
 
-// Draws what is reachable from a start, and answers the greatest number of frames that the walk's
-// stack held: one for each level that was open. All memory is asked for before the first byte.
+// Draws what is reachable from a start. All memory is allocated before the first byte.
 fn draw<T: Target>(
     alloc: Global,
     out: &mut T,
@@ -158,33 +146,28 @@ fn draw<T: Target>(
     start: NodeIndex,
     direction: EdgeDirection,
     look: &Look<'_>,
-) -> Result<usize>
-    requires sound { (T.state out.old).failures < 2 ^ 64 - 1 }
+) -> Result<()>
+    requires sound { CanCountFault (T.state out.old).failures }
     requires start { start < length graph.now.packages }
-    ensures drawn { (entries : List Entry)
-        × IsDrawing (far_ends direction graph.now.edges) start entries
-        × IsRendered (T.state out.old) (T.state out.new)
-        (drawing_text standard_symbols (label_at look.now.exact graph.now.packages) entries) result
-        × IfOk result
-        (λ most. most ≡ most_levels [] entries) }
-    ensures frames { IfOk result (λ most. most ≤ length graph.now.packages) }
+    ensures { Draws look.now.exact direction graph.now start
+        (λ text. IsRendered (T.state out.old) (T.state out.new) text result) }
 {
     graph.has_both_ends();
     let mut walk = Walk::new(alloc, graph, start, direction)?;
     match put_drawing(out, look, graph, &mut walk, start) {
-        Ok(()) => Ok(walk.most_frames(graph)),
+        Ok(()) => Ok(()),
         Err(kind) => Err(Error::Io(kind)),
     }
 }
 
 /// Draws what is reachable from a node into a sink, along the edges in a direction. Each line is an
-/// entry: the node itself, and below each entry of a node that no earlier line has, the far ends of
-/// the node's edges, newest first. A label is the name and the version, and where labels are exact
-/// also the checksum, or else the source, or else `inexact`.
+/// entry: the node itself, and, below the first entry of each node, the far ends of the node's
+/// edges, newest first. A label is the name and the version, and if labels are exact also the
+/// checksum, or else the source, or else `inexact`.
 ///
-/// All memory is asked for before the first byte, so `Memory` means that nothing was taken. `Io`
-/// means that the sink failed once, and that a beginning of the text was taken. No other fault
-/// comes. The start is a node, and the sink's count of faults is below 2^64 - 1.
+/// `Memory` means that the sink took nothing, since all memory is allocated before the first byte.
+/// `Io` means that the sink failed once and took a prefix of the text. There is no other error. The
+/// start must be a node, and the sink's count of errors must be below 2^64 - 1.
 pub fn render_into<S: Sink>(
     alloc: Global,
     sink: &mut S,
@@ -193,7 +176,7 @@ pub fn render_into<S: Sink>(
     direction: EdgeDirection,
     look: &Look<'_>,
 ) -> Result<()>
-    requires sound { S.failures sink.old < 2 ^ 64 - 1 }
+    requires sound { CanCountFault (S.failures sink.old) }
     requires start { start < length graph.now.packages }
     ensures { Draws look.now.exact direction graph.now start (λ text.
         IsRenderedInto (S.taken sink.old) (S.taken sink.new)
@@ -204,14 +187,12 @@ pub fn render_into<S: Sink>(
     let OfSink { sink } = out;
     // No effect at run time. The proof reads what the sink has taken from this use of it.
     let _ = &*sink;
-    match drawn {
-        Ok(_) => Ok(()),
-        Err(fault) => Err(fault),
-    }
+    drawn
 }
 
-/// Draws what is reachable from a node onto a writer, as `render_into` does. A write that is
-/// interrupted and a write of no bytes are faults.
+/// Draws what is reachable from a node to a writer, as `render_into` does. `Memory` means that
+/// nothing was written, and `Io` that the writer failed after a prefix of the text. An interrupted
+/// write and a write of no bytes are errors.
 pub fn render_onto<W: Write>(
     alloc: Global,
     writer: &mut W,
@@ -229,8 +210,5 @@ pub fn render_onto<W: Write>(
     let OfWriter { writer, .. } = out;
     // No effect at run time. The proof reads what the writer holds from this use of it.
     let _ = &*writer;
-    match drawn {
-        Ok(_) => Ok(()),
-        Err(fault) => Err(fault),
-    }
+    drawn
 }

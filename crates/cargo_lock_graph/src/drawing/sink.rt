@@ -1,26 +1,26 @@
-//! Where the text of a drawing goes.
+//! The destination of the text of a drawing.
 
-ghost use Rattle.std.specs.Prelude.{◌≡◌, ℕ, ◌-◌, ◌^◌, ◌<◌, List, length, Option};
-ghost use Rattle.cargo_lock_graph.specs.Sinks.{IsPut};
+ghost use Rattle.std.specs.Prelude.{◌≡◌, ℕ, ◌<◌, List, length, Option};
+ghost use Rattle.cargo_lock_graph.specs.Sinks.{CanCountFault, IsPut};
 
 use std::io::{ErrorKind, Write};
 use std::marker::Model;
 
 /// Takes the bytes of a text, some at a time, and counts how often it failed.
 pub trait Sink {
-    /// The bytes that it took, where it tells them.
+    /// The bytes that it took, if they are known.
     ghost taken: { Self → Option (List ℕ) };
 
     /// How often it has failed.
     ghost failures: { Self → ℕ };
 
-    /// Takes some of the bytes from their front, one at least, and answers how many. Where it takes
-    /// none it answers a fault, and counts it.
+    /// Takes some of the bytes from their front, at least one, and returns how many. If it takes
+    /// none, it returns an error and counts it.
     ///
-    /// The bytes are not empty, and the count of faults is below 2^64 - 1.
+    /// The bytes must not be empty, and the count of errors must be below 2^64 - 1.
     fn put(&mut self, bytes: &[u8]) -> Result<usize, ErrorKind>
         requires some { 0 < length bytes.now }
-        requires countable { failures self.old < 2 ^ 64 - 1 }
+        requires countable { CanCountFault (failures self.old) }
         ensures { IsPut (taken self.old) (taken self.new) (failures self.old)
             (failures self.new) bytes.now result };
 
@@ -29,15 +29,15 @@ pub trait Sink {
         ensures { result ≡ failures self.now };
 }
 
-// Writes some of the bytes from their front, one at least, and answers how many. An interrupted
-// write is a fault, and so is a write of no bytes. A fault is counted.
+// Writes some of the bytes from their front, at least one, and returns how many. An interrupted
+// write is an error, and so is a write of no bytes. Errors are counted.
 pub(crate) fn write_some<W: Write>(
     writer: &mut W,
     faults: &mut u64,
     bytes: &[u8],
 ) -> Result<usize, ErrorKind>
     requires some { 0 < length bytes.now }
-    requires countable { faults.old < 2 ^ 64 - 1 }
+    requires countable { CanCountFault faults.old }
     ensures { IsPut (W.contents writer.old) (W.contents writer.new)
         faults.old faults.new bytes.now result }
 {
@@ -54,7 +54,7 @@ pub(crate) fn write_some<W: Write>(
     }
 }
 
-/// A writer as a sink. An interrupted write is a fault, and a write of no bytes is the fault
+/// A writer as a sink. An interrupted write is an error, and a write of no bytes is the error
 /// `WriteZero`.
 #[derive(Drop)]
 pub struct WriterSink<W: Write> {
@@ -71,7 +71,7 @@ impl<W: Write> Model for WriterSink<W> {
 }
 
 impl<W: Write> WriterSink<W> {
-    /// The writer as a sink that has not failed yet.
+    /// The sink for this writer, with no errors so far.
     pub fn new(writer: W) -> Self
         ensures { result ≡ record { bytes = W.contents writer; faults = 0 } }
     {

@@ -3,7 +3,7 @@
 ghost use Rattle.std.specs.Prelude.{◌≡◌};
 ghost use Rattle.cargo_lock_graph.specs.DrawingText.{standard_symbols};
 
-/// The symbols that a drawing's lines are made of: `│`, `├`, `└` and `─`. They come by `Default`.
+/// The symbols from which a drawing's lines are made: `│`, `├`, `└` and `─`. `Default` makes them.
 #[derive(Debug, Drop)]
 pub struct Symbols {
     pub(crate) down: &'static str,

@@ -3,9 +3,9 @@
 ghost use Rattle.std.specs.Prelude.{◌≡◌, ℕ, ◌<◌, ◌≤◌, [], ◌∷◌, ◌++◌, Some, length, vec_len};
 ghost use Rattle.std.specs.Prelude.{vec_capacity, MatchOption, IfOk, IfSome};
 ghost use Rattle.cargo_lock_graph.specs.DrawingByLater.{goes_on};
-ghost use Rattle.cargo_lock_graph.specs.DrawingMade.{AreMarked, drawing, rest_of};
+ghost use Rattle.cargo_lock_graph.specs.DrawingMade.{drawing, rest_of};
 ghost use Rattle.cargo_lock_graph.specs.Edges.{far_ends};
-ghost use Rattle.cargo_lock_graph.specs.WalkState.{HasDrawn, IsHeld, IsOn, entries_to_come};
+ghost use Rattle.cargo_lock_graph.specs.WalkState.{IsHeld, IsOn, entries_to_come};
 ghost use Rattle.cargo_lock_graph.specs.WalkState.{to_come, entries_waiting};
 
 use crate::drawing::entry::Entry;
@@ -13,14 +13,13 @@ use crate::graph::{EdgeDirection, Graph, NodeIndex};
 use std::alloc::{AllocError, Global};
 
 // A walk from a start. For each level above the next entry the stack has a frame: the place of the
-// next edge that leads to an entry of the level below, or none where no edge is left. The nodes
-// that were drawn are marked.
+// next edge that leads to an entry of the level below, or none if no edge is left. Nodes that were
+// drawn are marked.
 #[derive(Drop)]
 pub(crate) struct Walk {
     direction: EdgeDirection,
     visited: Vec<bool>,
     stack: Vec<Option<usize>>,
-    most: usize,
 }
 
 // A frame onto a stack with room for it, which takes no memory.
@@ -33,8 +32,8 @@ fn put_frame(stack: &mut Vec<Option<usize>>, frame: Option<usize>)
 }
 
 impl Walk {
-    // A walk before its first entry, which is of the start at depth 0. All its memory is asked for
-    // here: room for as many frames as there are nodes.
+    // A walk before its first entry, which is that of the start at depth 0. It allocates all its
+    // memory here: capacity for as many frames as there are nodes.
     pub(crate) fn new(
         alloc: Global,
         graph: &Graph,
@@ -44,8 +43,6 @@ impl Walk {
         requires { start < length graph.now.packages }
         ensures on { IfOk result (λ walk. IsOn graph.now walk) }
         ensures direction { IfOk result (λ walk. walk.direction ≡ direction) }
-        ensures first { IfOk result (λ walk.
-            AreMarked walk.visited.items (start ∷ []) × (walk.most ≡ 1)) }
         ensures all { IfOk result
             (λ walk. record { node = start; depth = 0 } ∷ to_come graph.now walk
             ≡ drawing (far_ends direction graph.now.edges) (length graph.now.packages) start) }
@@ -57,21 +54,18 @@ impl Walk {
             direction,
             visited,
             stack,
-            most: 0,
         };
         walk.enter(graph, start);
         Ok(walk)
     }
 
-    // Where the node was not drawn before, marks it and puts a frame for its edges.
+    // If the node was not drawn before, marks it and pushes a frame for its edges.
     fn enter(&mut self, graph: &Graph, node: NodeIndex)
         requires held { IsOn graph.now self.old }
         requires node { node < length graph.now.packages }
         ensures on { IsOn graph.now self.new }
         ensures direction { self.new.direction ≡ self.old.direction }
         ensures longer { vec_len self.old.stack ≤ vec_len self.new.stack }
-        ensures drawn { (depth : ℕ) → depth ≡ vec_len self.old.stack
-            → HasDrawn self.old self.new (record { node = node; depth = depth }) }
         ensures entry { (depth : ℕ) → depth ≡ vec_len self.old.stack
             → rest_of (far_ends self.old.direction graph.now.edges) self.old.visited.items
             (record { node = node; depth = depth }
@@ -82,18 +76,16 @@ impl Walk {
             self.visited[node.index()] = true;
             let newest_edge = graph.newest_edge(node, self.direction);
             put_frame(&mut self.stack, newest_edge);
-            self.most = self.most.max(self.stack.len());
         }
     }
 
-    // Draws the edge at a place, that of a frame which was taken off the stack.
+    // Draws the edge at a place, which is that of a frame that was popped from the stack.
     fn follow(&mut self, graph: &Graph, edge: usize) -> Entry
         requires { IsHeld (length graph.now.packages)
             (length graph.now.edges) self.old.visited.items (self.old.stack.items ++ Some edge ∷ [])
-            (vec_capacity self.old.stack) self.old.most }
+            (vec_capacity self.old.stack) }
         ensures on { IsOn graph.now self.new }
         ensures direction { self.new.direction ≡ self.old.direction }
-        ensures drawn { HasDrawn self.old self.new result }
         ensures fits { (0 < result.depth) × (result.depth ≤ vec_len self.new.stack)
             × (result.node < length graph.now.packages) }
         ensures entry { entries_to_come self.old.direction graph.now.edges self.old.visited.items
@@ -110,14 +102,11 @@ impl Walk {
         }
     }
 
-    // The next entry. It takes no memory.
+    // The next entry. It allocates nothing.
     pub(crate) fn next(&mut self, graph: &Graph) -> Option<Entry>
         requires { IsOn graph.now self.old }
         ensures on { IsOn graph.now self.new }
         ensures direction { self.new.direction ≡ self.old.direction }
-        ensures drawn { MatchOption result
-            (self.new.most ≡ self.old.most)
-            (λ e. HasDrawn self.old self.new e) }
         ensures fits { IfSome result
             (λ e. (0 < e.depth) × (e.depth ≤ vec_len self.new.stack)
             × (e.node < length graph.now.packages)) }
@@ -132,7 +121,7 @@ impl Walk {
         None
     }
 
-    // Whether an entry one deeper than this depth follows, before one that is no deeper.
+    // Whether an entry at one level below this depth follows before one that is no deeper.
     pub(crate) fn goes_on(&self, graph: &Graph, depth: usize) -> bool
         requires on { IsOn graph.now self.now }
         requires depth { depth < vec_len self.now.stack }
@@ -141,16 +130,5 @@ impl Walk {
         // No effect at run time. The proof reads what holds of the graph from this use of it.
         let _ = graph;
         self.stack[depth].is_some()
-    }
-
-    // The greatest number of frames that the stack has held.
-    pub(crate) fn most_frames(&self, graph: &Graph) -> usize
-        requires { IsOn graph.now self.now }
-        ensures most { result ≡ self.now.most }
-        ensures bound { result ≤ length graph.now.packages }
-    {
-        // No effect at run time. The proof reads what holds of the graph from this use of it.
-        let _ = graph;
-        self.most
     }
 }

@@ -33,14 +33,18 @@ impl Model for Name {
 }
 
 impl Name {
-    /// The name as text.
+    /// The text of the name, unchanged.
     pub fn as_str(&self) -> &str
         ensures { result.now ≡ self.now }
     {
         self.0.as_str()
     }
 
-    /// Any text is a name.
+    /// The name with this text; every text is a name. The one error is `Memory`.
+    ///
+    /// ```
+    /// let name = Name::from_str(alloc, "tower-buffer")?;
+    /// ```
     pub fn from_str(alloc: Global, text: &str) -> Result<Name>
         ensures ok { IfOk result (λ name. name ≡ text.now) }
         ensures err { IsOkUnless result Memory }

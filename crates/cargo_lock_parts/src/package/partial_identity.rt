@@ -1,4 +1,4 @@
-//! What packages are looked up by.
+//! The keys by which packages are looked up.
 
 ghost use Rattle.std.specs.Prelude.{◌≡◌, option_map};
 ghost use Rattle.std.specs.Option.{option_cmp};
@@ -10,18 +10,18 @@ use crate::package::{Name, SourceId, Version};
 use std::cmp::Ordering;
 use std::marker::Model;
 
-/// A name and, where they are meant, a version and a source: a key of maps over packages. It
-/// borrows its parts, so that a look-up copies none. Two compare part by part, and an absent part
-/// stands before a present one.
+/// A name and, optionally, a version and a source: a key of maps over packages. It borrows its
+/// parts, so a look-up copies none. Keys compare by name, version and source, and an absent part is
+/// before a present one.
 #[derive(Drop)]
 pub struct PartialIdentity<'a> {
     /// The name.
     pub name: &'a Name,
 
-    /// The version, where one is meant.
+    /// The version, if the key has one.
     pub version: Option<&'a Version>,
 
-    /// The source, where one is meant.
+    /// The source, if the key has one.
     pub source: Option<&'a SourceId>,
 }
 
@@ -42,7 +42,7 @@ impl<'a> Model for PartialIdentity<'a> {
 impl<'a> PartialIdentity<'a> {
     ghost use Rattle.cargo_lock_parts.specs.PartialIdentity.{name_alone, name_and_version};
 
-    /// A name alone.
+    /// The key for all packages of this name.
     pub fn name_alone(name: &'a Name) -> PartialIdentity<'a>
         ensures { result ≡ name_alone name.now }
     {
@@ -53,7 +53,7 @@ impl<'a> PartialIdentity<'a> {
         }
     }
 
-    /// A name and a version.
+    /// The key for all packages of this name and version.
     pub fn name_and_version(name: &'a Name, version: &'a Version) -> PartialIdentity<'a>
         ensures { result ≡ name_and_version name.now (parts_of version.now) }
     {
@@ -126,7 +126,7 @@ impl<'a> Ord for PartialIdentity<'a> {
     }
 }
 
-// An absent version stands before a present one.
+// An absent version is before a present one.
 fn cmp_versions(a: Option<&Version>, b: Option<&Version>) -> Ordering
     ensures { result ≡ option_cmp version_cmp
         (option_map (λ v. parts_of v.now) a.entry) (option_map (λ v. parts_of v.now) b.entry) }
@@ -139,7 +139,7 @@ fn cmp_versions(a: Option<&Version>, b: Option<&Version>) -> Ordering
     }
 }
 
-// An absent source stands before a present one.
+// An absent source is before a present one.
 fn cmp_sources(a: Option<&SourceId>, b: Option<&SourceId>) -> Ordering
     ensures { result ≡ option_cmp source_cmp
         (option_map (λ s. s.now) a.entry) (option_map (λ s. s.now) b.entry) }

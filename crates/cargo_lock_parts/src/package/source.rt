@@ -30,7 +30,7 @@ use url::Url;
 /// The index of crates.io, as a git repository.
 pub const CRATES_IO_INDEX: &str = "https://github.com/rust-lang/crates.io-index";
 
-/// The index of crates.io that is asked file by file, as the text of a source.
+/// The sparse index of crates.io, as the text of a source.
 pub const CRATES_IO_SPARSE_INDEX: &str = "sparse+https://index.crates.io/";
 
 /// The kind of a source.
@@ -45,7 +45,7 @@ pub enum SourceKind {
     /// A remote registry, whose index is a git repository.
     Registry,
 
-    /// A remote registry, whose index is asked file by file.
+    /// A remote registry with a sparse index, which is fetched file by file over HTTP.
     SparseRegistry,
 
     /// A registry on this machine.
@@ -55,14 +55,14 @@ pub enum SourceKind {
     Directory,
 }
 
-/// Where a package comes from: a URL, a kind, and perhaps a precise text. A source that was read
-/// from its text has one where it is a registry, the word `locked`, or a git source with a
-/// fragment, which is mostly a commit. `with_precise` sets any text.
+/// Where a package comes from: a URL, a kind, and optionally a precise text. A source that was read
+/// from its text has a precise text if it is a registry, which is then `locked`, or a git source
+/// with a fragment, which is mostly a commit. `with_precise` sets any text.
 ///
-/// Two sources are equal where their URLs, kinds and, for git, their precise texts are. So a
-/// registry that was read from a lockfile equals one that was made by a call.
+/// Two sources are equal if their URLs, names and kinds are and, for git, their precise texts. So a
+/// registry that was read from a lockfile equals one that a call made.
 ///
-/// A clone shares the parts with its original, so it takes no more memory than a count.
+/// A clone shares the parts with its original, so it only increments a count.
 #[derive(Drop)]
 pub struct SourceId {
     parts: Arc<SourceParts>,
@@ -104,7 +104,7 @@ impl SourceId {
     ghost use Rattle.cargo_lock_parts.specs.Source.{Source, Git, Registry, git_reference};
     ghost use Rattle.cargo_lock_parts.specs.SourceReading.{plain_source};
 
-    /// The URL. That of a git source has no query and no fragment.
+    /// The URL. That of a git source that was read has no query and no fragment.
     pub fn url(&self) -> &Url
         ensures { result.now ≡ self.now.url }
     {
@@ -118,8 +118,8 @@ impl SourceId {
         &self.parts.kind
     }
 
-    /// The precise text, if there is one: of a source that was read, the fragment of a git source,
-    /// which is mostly a commit, or `locked` of a registry.
+    /// The precise text, if there is one. If the source was read from its text: the fragment of a
+    /// git source, which is mostly a commit, or `locked` for a registry.
     pub fn precise(&self) -> Option<&str>
         ensures { option_copied result ≡ self.now.precise }
     {
@@ -129,7 +129,7 @@ impl SourceId {
         }
     }
 
-    /// What is checked out of the repository, if the source is one.
+    /// The branch, tag or commit that is checked out, if the source is a git repository.
     pub fn git_reference(&self) -> Option<&GitReference>
         ensures { option_map (λ reference. git_reference_of reference.now) result
             ≡ git_reference self.now.kind }
@@ -140,7 +140,12 @@ impl SourceId {
         }
     }
 
-    /// A repository at this URL, with no precise text.
+    /// A git repository at this URL, with no precise text. The one error is `Memory`.
+    ///
+    /// ```
+    /// let tag = GitReference::Tag(String::from_str(alloc, "v1.0")?);
+    /// let tagged = SourceId::for_git(source.url(), tag)?;
+    /// ```
     pub fn for_git(url: &Url, reference: GitReference) -> Result<SourceId>
         ensures ok { IfOk result
             (λ source. source ≡ plain_source (Git (git_reference_of reference)) None url.now) }
@@ -149,7 +154,8 @@ impl SourceId {
         SourceId::of(url, SourceKind::Git(reference))
     }
 
-    /// A remote registry whose index is the repository at this URL, with no precise text.
+    /// A remote registry whose index is the git repository at this URL, with no precise text. The
+    /// one error is `Memory`.
     pub fn for_registry(url: &Url) -> Result<SourceId>
         ensures ok { IfOk result (λ source. source ≡ plain_source Registry None url.now) }
         ensures err { IsOkUnless result Memory }
@@ -157,7 +163,8 @@ impl SourceId {
         SourceId::of(url, SourceKind::Registry)
     }
 
-    /// This source with another precise text, or with none.
+    /// This source with this precise text, or with none, in place of its own. The one error is
+    /// `Memory`.
     pub fn with_precise(&self, precise: Option<String>) -> Result<SourceId>
         ensures ok { IfOk result
             (λ source. source ≡ record self.now { precise = option_map string_bytes precise }) }
@@ -175,7 +182,7 @@ impl SourceId {
         })
     }
 
-    // A source of these parts, with no name.
+    // A source of these parts, with no registry name.
     fn from_parts(
         alloc: Global,
         url: Url,
@@ -232,7 +239,7 @@ impl SourceId {
 impl SourceKind {
     ghost use Rattle.cargo_lock_parts.specs.SourceKey.{kind_number, git_reference_text};
 
-    // Where the kind stands in the order.
+    // The place of the kind in the order of sources.
     fn kind_number(&self) -> u8
         ensures { result ≡ kind_number (kind_of self.now) }
     {
@@ -290,7 +297,7 @@ fn clone_text(text: &Option<String>) -> std::result::Result<Option<String>, Allo
     }
 }
 
-// The allocator that the text of a URL stands in.
+// The allocator that holds the text of a URL.
 fn allocator_of(url: &Url) -> std::result::Result<Global, AllocError> {
     let text = String::from(url.clone()?);
     Ok(*text.allocator())
@@ -403,7 +410,7 @@ impl SourceId {
     }
 }
 
-// An absent text stands before a present one.
+// An absent text is before a present one.
 fn cmp_texts(a: Option<&str>, b: Option<&str>) -> Ordering
     ensures { result
         ≡ option_cmp (slice_cmp nat_cmp) (option_copied a.entry) (option_copied b.entry) }

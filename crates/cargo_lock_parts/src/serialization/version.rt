@@ -4,12 +4,12 @@ use semver::{Error as VersionError, Version};
 use serde::{Deserializer, Format, Serializer};
 use std::alloc::{AllocError, Global};
 
-/// Writes the version's text.
+/// Writes the version's text. The errors are those of the serializer.
 pub fn serialize<S: Serializer>(version: &Version, out: &mut S) -> Result<(), S::Error> {
     out.collect_str(version)
 }
 
-/// Reads a version's text. The message of the error for any other text is the refusal.
+/// Reads a version's text. For any other text the message of the error is that of `semver`.
 pub fn deserialize<F: Format>(
     alloc: Global,
     from: &mut Deserializer<'_, '_, F>,

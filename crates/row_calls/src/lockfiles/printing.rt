@@ -23,8 +23,8 @@ pub fn asked(
     }
 }
 
-/// The text of a lockfile, where `toml` reads it as the table of the lockfile, so far as a text has
-/// what a table has. Lockfiles are printed by this alone.
+/// The text of a lockfile, if `toml` reads it as the table of the lockfile, without what a text
+/// does not have. Lockfiles are printed only with this function.
 pub fn printed(alloc: Global, lockfile: &Lockfile) -> Result<String, Error> {
     let text = lockfile.to_string(alloc)?;
     if is_read_as_table(alloc, text.as_str(), lockfile)? {
@@ -33,11 +33,11 @@ pub fn printed(alloc: Global, lockfile: &Lockfile) -> Result<String, Error> {
     line(alloc, format_args!("{text}is read as another table"))
 }
 
-/// Whether a text is printed as it stands, else what is printed.
+/// Whether a text is printed unchanged, or else what is printed.
 fn printed_again(alloc: Global, lockfile: &Lockfile, text: &str) -> Result<String, Error> {
     let answer = printed(alloc, lockfile)?;
     if answer.as_str() == text {
-        return line(alloc, "as it stands");
+        return line(alloc, "unchanged");
     }
     Ok(answer)
 }
@@ -47,7 +47,7 @@ fn printed_in(alloc: Global, lockfile: &mut Lockfile, number: &str) -> Result<St
     printed(alloc, lockfile)
 }
 
-/// Whether the text of the table that is written in a format is printed as it stands.
+/// Whether the text of the table that is written in a format is printed unchanged.
 fn again_in(alloc: Global, lockfile: &mut Lockfile, number: &str) -> Result<String, Error> {
     let text = after_table_in(alloc, lockfile, number)?;
     printed_of(alloc, text.as_str())

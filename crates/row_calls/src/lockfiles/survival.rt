@@ -6,8 +6,8 @@ use cargo_lock::{Dependency, Error, Lockfile, Package, ResolveVersion, SourceId}
 use std::alloc::Global;
 use value_calls::{line, no_call};
 
-/// Whether a lockfile survives V1, V2, V3 and V4: as it is, as text, where its first package also
-/// depends on itself, or where that package is from the default registry as it is made.
+/// Whether a lockfile survives V1, V2, V3 and V4: unchanged, as text, if its first package also
+/// depends on itself, or if that package is from the default registry as a call makes it.
 pub fn asked(alloc: Global, how: &[&str], lockfile: &mut Lockfile) -> Result<String, Error> {
     match how {
         [] => {}

@@ -63,7 +63,7 @@ fn url_of(alloc: Global, text: &str) -> Result<Url, Error> {
     }
 }
 
-/// The text of a registry, whether it has a precise text, and its words.
+/// The text of a registry, whether it has a precise text, and its texts for people.
 fn registry_text(alloc: Global, registry: &SourceId) -> Result<String, Error> {
     let words = registry_words_of(alloc, registry)?;
     let is_precise = registry.precise().is_some();
@@ -71,7 +71,7 @@ fn registry_text(alloc: Global, registry: &SourceId) -> Result<String, Error> {
     Ok(format!(in alloc; "{registry}, {is_precise}, {words}")?)
 }
 
-/// A branch of the repository at a URL, which stand on the sides of a bar.
+/// A branch of the repository at a URL; the two are the sides of a bar.
 fn branch(alloc: Global, sides: &str) -> Result<SourceId, Error> {
     let (url, branch) = pair(sides);
     let url = url_of(alloc, url)?;

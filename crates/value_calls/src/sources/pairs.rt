@@ -1,4 +1,4 @@
-//! Two sources beside one another.
+//! Two sources side by side.
 
 use super::super::{line, no_call, pair};
 use super::source;
@@ -21,7 +21,7 @@ pub fn asked(alloc: Global, how: &str, sides: &str) -> Result<String, Error> {
     }
 }
 
-/// The rank of two sources from both sides, with 0 for none, and whether they are equal.
+/// The rank of two sources in both directions, with 0 for none, and whether they are equal.
 fn ranks(alloc: Global, one: &SourceId, other: &SourceId) -> Result<String, Error> {
     let rank = one.match_rank(other).unwrap_or(0);
     let back = other.match_rank(one).unwrap_or(0);
@@ -29,7 +29,7 @@ fn ranks(alloc: Global, one: &SourceId, other: &SourceId) -> Result<String, Erro
     line(alloc, format_args!("{rank} {back} {equal}"))
 }
 
-/// How two sources compare, from both sides.
+/// How two sources compare, in both directions.
 fn order(alloc: Global, one: &SourceId, other: &SourceId) -> Result<String, Error> {
     let order = one.cmp(other);
     let back = other.cmp(one);

@@ -16,7 +16,9 @@ returns c = record {
   drawn_alone = c.drawing_is_unique.ensures;
   reached = c.node_occurs_where_reachable.ensures;
   expanded = c.reachable_node_is_expanded.ensures.some;
+  expanded_once = c.reachable_node_is_expanded.ensures.one;
   matched = c.edges_match_entries.ensures;
   counted = c.entries_are_counted.ensures;
   told = c.text_tells_the_drawing.ensures;
+  told_alone = c.text_is_of_one_drawing.ensures;
 }

@@ -41,9 +41,9 @@ impl SourceId {
 
     /// The folder at this path, as a path dependency has it, with no precise text.
     ///
-    /// The path is from the root, and becomes a `file` URL: `/a b/./c/` is `file:///a%20b/c`.
-    /// `Parse` says that the path does not begin with `/`. A URL of 4 GB or more is
-    /// refused too, which is never so where the path is shorter than 2^24 bytes.
+    /// The path is absolute, and becomes a `file` URL: `/a b/./c/` is `file:///a%20b/c`. A path
+    /// that does not begin with `/` is `Parse`. So is a URL of 4 GB or more, which no path shorter
+    /// than 2^24 bytes has. The other error is `Memory`.
     pub fn for_path(alloc: Global, path: Path<'_>) -> Result<SourceId>
         ensures { ReadsFolder result seen.Path (path_bytes path.entry) }
     {
@@ -72,7 +72,6 @@ impl SourceId {
     }
 }
 
-// The source of this kind at a path.
 #[tactic(auto, unfolding(crate::specs::FileUrl::source_at))]
 fn at_path(alloc: Global, path: Path<'_>, kind: SourceKind) -> Result<SourceId>
     ensures { ReadsFolder result (kind_of kind) (path_bytes path.entry) }
@@ -86,14 +85,13 @@ fn at_path(alloc: Global, path: Path<'_>, kind: SourceKind) -> Result<SourceId>
     Ok(SourceId::from_parts(alloc, url, kind, None)?)
 }
 
-// Whether the path is one from the root.
 fn is_rooted(path: &str) -> bool
     ensures { result ≡ begins_with_slash path.now }
 {
     path.starts_with('/')
 }
 
-// The text of the URL of a path from the root.
+// The `file` URL of an absolute path.
 fn file_url_text(alloc: Global, path: &str) -> Result<String>
     ensures ok { IfOk result (λ text. string_bytes text ≡ file_url_of (path_parts path.now)) }
     ensures err { IsOkUnless result Memory }
@@ -120,7 +118,7 @@ fn push_parts(path: &str, text: &mut String) -> std::result::Result<(), AllocErr
     Ok(())
 }
 
-// Adds a part after a `/`, if it is kept.
+// Adds a part after a `/`, if it is neither empty nor `.`.
 fn push_part(part: &str, text: &mut String) -> std::result::Result<(), AllocError>
     ensures { OnOk result (string_bytes text.new ≡ string_bytes text.old ++ kept_text part.now) }
 {

@@ -1,4 +1,4 @@
-//! The source that a text reads as.
+//! Reading the text of a source.
 
 ghost use Rattle.std.specs.Prelude.{◌≡◌, ◌<◌, ◌⊎◌, [], Some, None, IfOk, IsOkUnless, codes};
 ghost use Rattle.std.specs.Prelude.{unwrap_or, if◌then◌else◌};
@@ -20,11 +20,20 @@ impl SourceId {
     /// Reads the text of a source as a lockfile has it, plain or escaped: `git`, `registry`,
     /// `sparse` or `path`, then `+` and a URL.
     ///
-    /// A registry has the precise text `locked`. Of a git source the fragment is the precise text,
-    /// and the last pair of the query whose key is `branch`, `ref`, `rev` or `tag` the reference.
+    /// A registry gets the precise text `locked`. For a git source, the precise text is the
+    /// fragment, and the reference is the last pair of the query whose key is `branch`, `ref`,
+    /// `rev` or `tag`.
     ///
-    /// `Parse` says which part is refused. A URL of 4 GB or more is refused too, which is never
-    /// so where the text is shorter than 2^24 bytes.
+    /// Any other text is `Parse`, which says which part is refused. So is a text with a URL of 4 GB
+    /// or more, which no text shorter than 2^24 bytes has. The other error is `Memory`.
+    ///
+    /// ```
+    /// let url = "git+https://example.org/lib?branch=main#92dd31f";
+    /// let source = SourceId::from_url(alloc, url)?;
+    /// if let Some(commit) = source.precise() {
+    ///     write!(lines, "{commit}\n")?;
+    /// }
+    /// ```
     #[tactic(auto, unfolding(crate::specs::SourceReading::source_of))]
     pub fn from_url(alloc: Global, text: &str) -> Result<SourceId>
         ensures read { ReadsUrls (λ source. source) result (source_of text.now) }
@@ -42,7 +51,7 @@ impl SourceId {
         Ok(source)
     }
 
-    /// Reads a text as `from_url` does.
+    /// Reads a text as `from_url` does, with the same errors.
     pub fn from_str(alloc: Global, text: &str) -> Result<SourceId>
         ensures read { ReadsUrls (λ source. source) result (source_of text.now) }
         ensures short { IsShort text.now → Reads (λ source. source) result (source_of text.now) }
@@ -51,7 +60,7 @@ impl SourceId {
     }
 }
 
-// How a source is fetched, as the word before the first `+` says it.
+// How a source is fetched, which the prefix before the first `+` names.
 #[derive(Clone, Copy)]
 enum Protocol {
     Git,
@@ -60,7 +69,7 @@ enum Protocol {
     Path,
 }
 
-// The protocol that a word names.
+// The protocol that this prefix names.
 fn protocol_of(word: &str) -> Option<Protocol>
     ensures { result ≡ spec.protocol_of word.now }
 {
@@ -86,7 +95,8 @@ pub(super) fn parse_url(alloc: Global, url: &str, size: usize) -> Result<Url>
     }
 }
 
-// The refusal of a URL of 4 GB or more, in a text of `size` bytes. Short texts have no such URL.
+// The error for a URL of 4 GB or more, in a text of `size` bytes. Short texts have no such URL, so
+// for them it is `Memory`.
 fn too_long(alloc: Global, size: usize) -> Error
     ensures kind { (result ≡ Memory) ⊎ IsTooLong result }
     ensures short { size < 16777216 → result ≡ Memory }
@@ -97,7 +107,6 @@ fn too_long(alloc: Global, size: usize) -> Error
     Error::parse(String::from_str(alloc, TOO_LONG))
 }
 
-// The source of a protocol and a URL.
 fn source_by(alloc: Global, protocol: Protocol, url: Url) -> Result<SourceId>
     ensures ok { IfOk result (λ source. source ≡ spec.source_by protocol url) }
     ensures err { IsOkUnless result Memory }
@@ -110,7 +119,7 @@ fn source_by(alloc: Global, protocol: Protocol, url: Url) -> Result<SourceId>
     }
 }
 
-// A registry that stood in a lockfile.
+// A registry as a lockfile has it.
 fn locked_source(alloc: Global, url: Url, kind: SourceKind) -> Result<SourceId>
     ensures ok { IfOk result
         (λ source. source ≡ spec.plain_source (kind_of kind) (Some (codes "locked")) url) }
@@ -120,7 +129,6 @@ fn locked_source(alloc: Global, url: Url, kind: SourceKind) -> Result<SourceId>
     Ok(SourceId::from_parts(alloc, url, kind, precise)?)
 }
 
-// A git source.
 fn git_source(alloc: Global, url: Url) -> Result<SourceId>
     ensures ok { IfOk result (λ source. source ≡ spec.git_source url) }
     ensures err { IsOkUnless result Memory }
@@ -134,7 +142,7 @@ fn git_source(alloc: Global, url: Url) -> Result<SourceId>
     Ok(SourceId::from_parts(alloc, url, SourceKind::Git(reference), precise)?)
 }
 
-// The reference of the last pair of the query that names one.
+// The reference that the last pair of the query that names one gives, or the default branch.
 fn git_reference_in(alloc: Global, url: &Url) -> Result<GitReference>
     ensures ok { IfOk result (λ reference. git_reference_of reference
         ≡ spec.git_reference_in (spec.form_pairs (unwrap_or url.now.query []))) }
@@ -148,7 +156,7 @@ fn git_reference_in(alloc: Global, url: &Url) -> Result<GitReference>
     Ok(reference)
 }
 
-// The reference that a pair names, or the other one if its key is none of a reference.
+// The reference that a pair names, or `other` if its key names none.
 fn git_reference_by(
     alloc: Global,
     key: &str,

@@ -12,11 +12,11 @@ impl SourceId {
     ghost use Rattle.cargo_lock_parts.specs.Rank.{is_open_git, same_url_and_name, both_git};
     ghost use Rattle.cargo_lock_parts.specs.Rank.{commit_of};
 
-    /// How well the sources match, from 1 for equal sources to 4. None where they do not match.
+    /// How well the sources match, from 1 for equal sources to 4. `None` if they do not match.
     ///
     /// Rank 2 is the same commit of one repository, whatever its reference is. Rank 3 is the same
-    /// reference of one repository, where a commit is still missing. Rank 4 is one repository with
-    /// no two different commits, or a registry or folder of the same kind at the same URL.
+    /// reference of one repository, if at least one source has no commit. Rank 4 is one repository
+    /// with no two different commits, or a registry or folder of the same kind at the same URL.
     ///
     /// `git+https://example.org/u?rev=aaaa#aaaa` and `git+https://example.org/u?rev=aaaa` have
     /// rank 2.
@@ -70,14 +70,12 @@ impl SourceId {
         self.both_git(other) && !are_different_texts(self.precise(), other.precise())
     }
 
-    // The same URL and name.
     fn same_url_and_name(&self, other: &SourceId) -> bool
         ensures { result ≡ same_url_and_name self.now other.now }
     {
         self.url().as_str() == other.url().as_str() && same_texts(self.name(), other.name())
     }
 
-    // Both are repositories.
     fn both_git(&self, other: &SourceId) -> bool
         ensures { result ≡ both_git self.now other.now }
     {
@@ -134,7 +132,6 @@ fn same_texts(a: Option<&str>, b: Option<&str>) -> bool
     }
 }
 
-// Two texts that are equal.
 fn are_equal_texts(a: Option<&str>, b: Option<&str>) -> bool
     ensures { result ≡ spec.are_equal_texts (option_copied a.entry) (option_copied b.entry) }
 {
@@ -144,7 +141,6 @@ fn are_equal_texts(a: Option<&str>, b: Option<&str>) -> bool
     }
 }
 
-// Two texts that differ.
 fn are_different_texts(a: Option<&str>, b: Option<&str>) -> bool
     ensures { result ≡ spec.are_different_texts (option_copied a.entry) (option_copied b.entry) }
 {

@@ -1,4 +1,4 @@
-//! What is checked out of a repository.
+//! The branch, tag or commit of a git repository.
 
 ghost use Rattle.std.specs.Prelude.{◌≡◌, ◌≢◌, Some, MatchOption};
 ghost use Rattle.std.specs.Fmt.{DisplaysOnOk};
@@ -9,19 +9,20 @@ use std::alloc::AllocError;
 use std::fmt;
 use std::marker::Model;
 
-/// A point in a repository. A dependency on a repository names at most one of these.
+/// What is checked out of a git repository. A dependency on a repository names at most one of
+/// these.
 #[derive(Debug, PartialEq, Eq, PartialOrd, Ord, Hash, Drop)]
 pub enum GitReference {
     /// The repository's default branch.
     DefaultBranch,
 
-    /// The tag of this name.
+    /// A tag, by its name.
     Tag(String),
 
-    /// The head of the branch of this name.
+    /// The head of a branch, by its name.
     Branch(String),
 
-    /// The commit that git finds for this text.
+    /// The commit that git finds for this text, mostly its hash.
     Rev(String),
 }
 
@@ -44,8 +45,8 @@ impl Clone for GitReference {
 impl GitReference {
     ghost use Rattle.cargo_lock_parts.specs.Source.{GitReference, DefaultBranch, git_reference_of};
 
-    /// The reference as the query of a URL has it, such as `tag=v1.0`: with its value as it is, or
-    /// escaped as in a form. None for the default branch, which has no such text.
+    /// The reference as it is in the query of a URL, such as `tag=v1.0`, with its value escaped as
+    /// in a form or unchanged. `None` for the default branch, which has no such text.
     pub fn pretty_ref(&self, escaped: bool) -> Option<PrettyRef<'_>>
         ensures { MatchOption result (git_reference_of self.now ≡ DefaultBranch)
             (λ shown. (git_reference_of self.now ≢ DefaultBranch)
@@ -104,7 +105,6 @@ impl fmt::Display for PrettyRef<'_> {
     }
 }
 
-// A reference's value, escaped or not.
 fn write_value<W: fmt::Write>(text: &str, escaped: bool, f: &mut fmt::Formatter<W>) -> fmt::Result
     ensures { DisplaysOnOk W.write_str_gives f.old result
         (Some (value_text escaped text.now)) f.new }
@@ -116,7 +116,7 @@ fn write_value<W: fmt::Write>(text: &str, escaped: bool, f: &mut fmt::Formatter<
     }
 }
 
-// A text escaped as in a form.
+// The text escaped as in a form.
 fn write_serialized<W: fmt::Write>(text: &str, f: &mut fmt::Formatter<W>) -> fmt::Result
     ensures { DisplaysOnOk W.write_str_gives f.old result (Some (byte_serialize text.now)) f.new }
 {

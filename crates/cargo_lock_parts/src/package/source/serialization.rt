@@ -12,11 +12,11 @@ impl Described for SourceId {
     ghost use Rattle.serde.specs.Event.{Logs, nothing};
     ghost use Rattle.cargo_lock_parts.specs.Source.{is_path};
 
-    // What `serde` writes of a displayed value is in no clause of its own.
+    // The contract of `serde` has no clause for what it writes of a displayed value.
     ghost writes = { λ source old new. is_path source.kind ≡ true → Logs old new nothing };
 }
 
-// A source is written as its plain text, and a path as nothing, like `None`.
+// A source is serialized as its plain text, and a path source as nothing, like `None`.
 impl Serialize for SourceId {
     fn serialize<S: Serializer>(&self, out: &mut S) -> Result<(), S::Error> {
         if self.is_path() {

@@ -1,4 +1,4 @@
-//! What kind of source it is, and how a registry is shown to people.
+//! The kind of a source, and how a registry is shown to people.
 
 ghost use Rattle.std.specs.Prelude.{◌≡◌, Some, IfOk, IsOkUnless, true, string_bytes};
 ghost use Rattle.cargo_lock_parts.specs.Source.{kind_of};
@@ -9,7 +9,7 @@ use crate::package::source::{CRATES_IO_INDEX, SourceId, SourceKind};
 use std::alloc::Global;
 use url::Url;
 
-// The URL of the index of crates.io that is asked file by file.
+// The URL of the sparse index of crates.io.
 const CRATES_IO_SPARSE_URL: &str = "https://index.crates.io/";
 
 impl SourceKind {
@@ -52,7 +52,7 @@ impl SourceId {
         )
     }
 
-    /// Whether the source is a registry that is asked over the network.
+    /// Whether the source is a registry that is fetched over the network.
     pub fn is_remote_registry(&self) -> bool
         ensures { result ≡ is_remote_registry self.now.kind }
     {
@@ -62,8 +62,8 @@ impl SourceId {
         )
     }
 
-    /// Whether the source is the registry of crates.io, by either of its two indexes. The URL
-    /// counts as it is written, and the precise text does not count.
+    /// Whether the source is the registry of crates.io, by either of its two indexes. The URL is
+    /// compared as text, and the precise text does not matter.
     pub fn is_default_registry(&self) -> bool
         ensures { result ≡ is_default_registry self.now }
     {
@@ -82,6 +82,10 @@ impl SourceId {
     /// The registry of crates.io at `CRATES_IO_INDEX`, with no precise text.
     ///
     /// The one error is `Memory`.
+    ///
+    /// ```
+    /// library.source = Some(SourceId::default_registry(alloc)?);
+    /// ```
     pub fn default_registry(alloc: Global) -> Result<SourceId>
         ensures source { IfOk result (λ source. default_registry ≡ Some source) }
         ensures default { IfOk result (λ source. is_default_registry source ≡ true) }
@@ -93,7 +97,7 @@ impl SourceId {
         }
     }
 
-    /// The index of the source, in words: `crates.io index`, or for another source its URL in
+    /// The index of the source for people: `crates.io index`, or for another source its URL in
     /// backquotes and ` index`.
     ///
     /// The one error is `Memory`.
@@ -113,6 +117,11 @@ impl SourceId {
     /// its URL.
     ///
     /// The one error is `Memory`.
+    ///
+    /// ```
+    /// let registry = SourceId::default_registry(alloc)?;
+    /// let name = registry.display_registry_name(alloc)?;
+    /// ```
     pub fn display_registry_name(&self, alloc: Global) -> Result<String>
         ensures ok { IfOk result (λ text. string_bytes text ≡ registry_name_text self.now) }
         ensures err { IsOkUnless result Memory }

@@ -46,17 +46,21 @@ impl<'a> SourceIdAsUrl<'a> {
 }
 
 impl SourceId {
-    /// The source as a text that can be displayed: its word, `+` and its URL, as
+    /// The source as a text that can be displayed: its prefix, `+` and its URL, as
     /// `registry+https://github.com/rust-lang/crates.io-index`, and for git the reference and the
     /// commit, as `git+https://example.org/u?tag=v1#0123abc`. Lockfiles have the reference's value
-    /// escaped as in a form from V4 on, and as it is before.
+    /// escaped as in a form from V4 on, and unchanged before.
     pub fn as_url(&self, escaped: bool) -> SourceIdAsUrl<'_>
         ensures { result ≡ record { source = self.now; escaped = escaped } }
     {
         SourceIdAsUrl { id: self, escaped }
     }
 
-    /// The plain text.
+    /// The text that `Display` writes, which is not escaped. The one error is `Memory`.
+    ///
+    /// ```
+    /// let text = tagged.to_text(alloc)?;
+    /// ```
     pub fn to_text(&self, alloc: Global) -> Result<String>
         ensures ok { IfOk result (λ text. string_bytes text ≡ text_of false self.now) }
         ensures err { IsOkUnless result Memory }
@@ -101,7 +105,6 @@ impl fmt::Display for SourceIdAsUrl<'_> {
     }
 }
 
-// The query of a git source.
 fn write_query<W: fmt::Write>(
     reference: &GitReference,
     escaped: bool,
@@ -116,7 +119,6 @@ fn write_query<W: fmt::Write>(
     }
 }
 
-// The fragment of a git source.
 fn write_fragment<W: fmt::Write>(precise: Option<&str>, f: &mut fmt::Formatter<W>) -> fmt::Result
     ensures { DisplaysOnOk W.write_str_gives f.old result
         (Some (fragment_text (option_copied precise.entry))) f.new }

@@ -2,7 +2,8 @@ use Rattle.std.proofs.Common.{ℕ, List, take, drop, sym, subst, arith}
 use Rattle.std.proofs.Math.Seq.{take-add}
 use Rattle.std.proofs.lemmas.List.{length-drop, take_rest, take-append-drop}
 use Rattle.std.specs.Io.KnownBytes.{Appends}
-use Rattle.cli_support.proofs.Writes.{appends_keeps, appends_more, appends_none, fault_after}
+use Rattle.cargo_lock_parts.proofs.Appended.{appends_keeps, appends_more}
+use Rattle.cli_support.proofs.Writes.{appends_none, fault_after}
 use Rattle.cli_support.proofs.output.put_all.Goals as goal
 
 pub loop-at-preserved : goal.loop-at-preserved

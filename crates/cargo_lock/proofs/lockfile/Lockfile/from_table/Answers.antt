@@ -10,9 +10,9 @@ returns-in-Ok-clause-short c = λ short. Means-from _ _ c.in-Ok.ensures
 
 pub returns-in-Err-clause-read : goal.returns-in-Err-clause-read
 returns-in-Err-clause-read c =
-    FindsUrls-kept _ c.in-Err.fault _ _ (FindsUrls-means _ (Err c.in-Err.fault) c.in-Err.ensures) c.of_texts.ensures
+    FindsUrls-kept _ c.in-Err.fault _ _ (FindsUrls-means _ (Err c.in-Err.fault) c.in-Err.ensures) c.reading_error.ensures
 
 pub returns-in-Err-clause-short : goal.returns-in-Err-clause-short
 returns-in-Err-clause-short c = λ short.
-    Finds-kept _ c.in-Err.fault _ _ (FindsUrls-means _ (Err c.in-Err.fault) c.in-Err.ensures) c.of_texts.ensures
+    Finds-kept _ c.in-Err.fault _ _ (FindsUrls-means _ (Err c.in-Err.fault) c.in-Err.ensures) c.reading_error.ensures
     (c.members_have_long_text.ensures ∙ short)

@@ -6,4 +6,4 @@ returns-in-Ok c =
     FindsUrls-text c.args.text.now _ c.read_once.result c.in-Ok.ensures.ok (FindsUrls-means _ c.read_once.result c.read_once.ensures)
 
 pub returns-in-Err : goal.returns-in-Err
-returns-in-Err c = FindsUrls-refused c.args.text.now c.of_text.result _ c.of_text.ensures c.in-Err.ensures.refused
+returns-in-Err c = FindsUrls-refused c.args.text.now c.toml_error.result _ c.toml_error.ensures c.in-Err.ensures.refused

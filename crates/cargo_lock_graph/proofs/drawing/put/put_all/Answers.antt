@@ -2,7 +2,8 @@ use Rattle.std.proofs.Common.{ℕ, ◌+◌, List, take, drop, sym, ap, subst, �
 use Rattle.std.proofs.Math.Seq.{take-add}
 use Rattle.std.proofs.lemmas.List.{length-drop, take_rest, take-append-drop}
 use Rattle.std.specs.Io.KnownBytes.{Appends}
-use Rattle.cargo_lock_graph.proofs.SinkWrites.{appends_more, appends_nothing, appends_keeps, fault_result, sound_more}
+use Rattle.cargo_lock_parts.proofs.Appended.{appends_keeps, appends_more, appends_nothing}
+use Rattle.cargo_lock_graph.proofs.SinkWrites.{fault_result, sound_more}
 use Rattle.cargo_lock_graph.proofs.drawing.put.put_all.Goals as goal
 
 pub loop-at-preserved : goal.loop-at-preserved

@@ -7,8 +7,8 @@ use Rattle.cargo_lock_graph.specs.WalkState.{to_come}
 use Rattle.cargo_lock_graph.proofs.SinkWrites.{fault_of, written_of}
 use Rattle.cargo_lock_graph.proofs.drawing.render.put_drawing.Goals as goal
 
-pub returns-in_err-put_line-clause-written : goal.returns-in_err-put_line-clause-written
-returns-in_err-put_line-clause-written g c =
+pub returns-in_err-put_line : goal.returns-in_err-put_line
+returns-in_err-put_line g c =
     let graph = c.args.graph.now in
     let label : ℕ → List ℕ = label_at c.args.look.now.exact graph.packages in
     let later : List Entry = to_come graph c.args.walk.now in
@@ -17,12 +17,12 @@ returns-in_err-put_line-clause-written g c =
     fault_of c.from_residual.result _ _ (line c.args.start ++ rest) (line c.index.result) rest c.from_residual.ensures.0
     (ap (λ (n : ℕ). line n ++ rest) (sym c.index.ensures)) c.in_err-put_line.ensures
 
-pub returns-clause-written : goal.returns-clause-written
-returns-clause-written g c =
+pub returns : goal.returns
+returns g c =
     let graph = c.args.graph.now in
     let label : ℕ → List ℕ = label_at c.args.look.now.exact graph.packages in
     let later : List Entry = to_come graph c.args.walk.now in
     let line : ℕ → List ℕ = λ n. line_by_later standard_symbols label (record { node = n; depth = 0 }) later in
     let rest : List ℕ = drawn_by_later standard_symbols label later in
     written_of c.put_entries.result _ _ _ (line c.args.start ++ rest) (line c.index.result) rest
-    (ap (λ (n : ℕ). line n ++ rest) (sym c.index.ensures)) c.in_ok-put_line.ensures.0 c.in_ok-put_line.ensures.1 c.put_entries.ensures.written
+    (ap (λ (n : ℕ). line n ++ rest) (sym c.index.ensures)) c.in_ok-put_line.ensures.0 c.in_ok-put_line.ensures.1 c.put_entries.ensures

@@ -1,8 +1,6 @@
-use Rattle.std.proofs.Common.{◌≡◌, ℕ, List, ◌++◌, length, max}
+use Rattle.std.proofs.Common.{◌≡◌, ℕ, List, ◌++◌, length}
 use Rattle.std.specs.Io.KnownBytes.{Appends}
 use Rattle.cargo_lock_graph.specs.DrawingByLater.{drawn_by_later}
-use Rattle.cargo_lock_graph.specs.DrawingLevels.{most_levels}
-use Rattle.cargo_lock_graph.specs.DrawingMade.{AreMarked}
 use Rattle.cargo_lock_graph.specs.DrawingText.{standard_symbols}
 use Rattle.cargo_lock_graph.specs.Labels.{label_at}
 use Rattle.cargo_lock_graph.specs.Sinks.{IsSound}
@@ -13,9 +11,6 @@ abbrev pub invariant-loop-entry : goal.invariant-loop-entry
 invariant-loop-entry g l = record {
   on : IsOn l.graph l.walk;
   sound : IsSound (g.T.Target.state l.fn.out) (g.T.Target.state l.out);
-  levels : (earlier : List ℕ) → AreMarked l.fn.walk.visited.items earlier
-      → (nodes : List ℕ) × AreMarked l.walk.visited.items nodes
-      × (max l.walk.most (most_levels nodes (to_come l.graph l.walk)) ≡ max l.fn.walk.most (most_levels earlier (to_come l.graph l.fn.walk)));
   told : (front : List ℕ) × Appends (g.T.Target.state l.fn.out).bytes (g.T.Target.state l.out).bytes front
       × (front ++ drawn_by_later standard_symbols (label_at l.look.exact l.graph.packages) (to_come l.graph l.walk) ≡ drawn_by_later standard_symbols (label_at l.look.exact l.graph.packages) (to_come l.graph l.fn.walk));
 }

@@ -1,7 +1,7 @@
 use Rattle.std.proofs.Common.{inl, rules}
-use Rattle.cargo_lock_references.specs.Metadata.{is_checksum, key_or_refusal}
+use Rattle.cargo_lock_references.specs.Metadata.{key_or_refusal}
 use Rattle.cargo_lock_references.proofs.metadata.MetadataKey.checksum_dependency.Goals as goal
 
 pub returns-in_default-clause-read : goal.returns-in_default-clause-read
-unfolding key_or_refusal is_checksum
+unfolding key_or_refusal
 returns-in_default-clause-read c = inl (search rules)

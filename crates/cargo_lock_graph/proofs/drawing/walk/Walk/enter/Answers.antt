@@ -1,5 +1,4 @@
 use Rattle.std.proofs.Common.{◌≡◌, ℕ, Bool, true, false, List, ◌∷◌, length, get_or, set, map, Option, sym, ap, subst, ◌∙◌, vec_capacity, arith}
-use Rattle.std.proofs.lemmas.List.{length_push}
 use Rattle.cargo_lock_graph.specs.declared.drawing.entry.Entry.{Entry}
 use Rattle.cargo_lock_graph.specs.Edges.{far_end}
 use Rattle.cargo_lock_graph.specs.WalkState.{IsHeld, entries_to_come}
@@ -13,7 +12,7 @@ put_frame-requires c =
     let held = c.requires.held in
     let mark : get_or marks c.args.node true ≡ false = subst (λ (k : ℕ). get_or marks k true ≡ false) c.index.ensures
     (read_mark marks c.index.result c.index-2.result.now false (omega (arith, held.long, c.index.ensures, c.requires.node)) c.index-2.ensures c.if-not-index.true) in
-    omega (arith, room_new _ _ marks walk.stack.items c.args.node _ _ held mark, held.reserved, walk.stack.ok.0)
+    omega (arith, room_new _ _ marks walk.stack.items c.args.node _ held mark, held.reserved, walk.stack.ok.0)
 
 pub returns-then-not-index-clause-on : goal.returns-then-not-index-clause-on
 returns-then-not-index-clause-on c =
@@ -24,12 +23,8 @@ returns-then-not-index-clause-on c =
     let mark : get_or marks c.args.node true ≡ false = subst (λ (k : ℕ). get_or marks k true ≡ false) c.index.ensures
     (read_mark marks c.index.result c.index-2.result.now false (omega (arith, held.long, c.index.ensures, c.requires.node)) c.index-2.ensures c.if-not-index.true) in
     let new = c.put_frame.new.stack in
-    let room = room_new _ _ marks walk.stack.items c.args.node _ _ held mark in
-    let longer = ap length c.put_frame.ensures.items in
-    let more = length_push walk.stack.items c.newest_edge-newest_edge.result in
-    subst (λ (k : ℕ). IsHeld (length graph.packages) (length graph.edges) (set marks k true) new.items (vec_capacity new) c.max-self.result) (sym c.index-then-not-index.ensures)
-    (held_new _ _ marks walk.stack.items new.items c.newest_edge-newest_edge.result c.args.node (vec_capacity walk.stack) (vec_capacity new) walk.most c.max-self.result c.put_frame.ensures.items c.put_frame.ensures.capacity held mark c.newest_edge-newest_edge.ensures.within
-    (omega (arith, c.max-self.ensures, c.len.ensures, new.ok.0)) (omega (arith, c.max-self.ensures, c.len.ensures, new.ok.0, room, longer, more, held.bound)))
+    subst (λ (k : ℕ). IsHeld (length graph.packages) (length graph.edges) (set marks k true) new.items (vec_capacity new)) (sym c.index-then-not-index.ensures)
+    (held_new _ _ marks walk.stack.items new.items c.newest_edge-newest_edge.result c.args.node (vec_capacity walk.stack) (vec_capacity new) c.put_frame.ensures.items c.put_frame.ensures.capacity held mark c.newest_edge-newest_edge.ensures.within)
 
 pub returns-then-not-index-clause-entry : goal.returns-then-not-index-clause-entry
 returns-then-not-index-clause-entry c depth deep =

@@ -5,9 +5,6 @@ use Rattle.cargo_lock_graph.specs.WalkState.{to_come}
 use Rattle.cargo_lock_graph.proofs.WalkSteps.{ends_step, followed}
 use Rattle.cargo_lock_graph.proofs.drawing.walk.Walk.follow.Goals as goal
 
-pub returns-clause-drawn : goal.returns-clause-drawn
-returns-clause-drawn c earlier marked = rw c.index.ensures (c.enter.ensures.drawn c.len-depth.result c.len-depth.ensures earlier marked)
-
 pub returns-clause-entry : goal.returns-clause-entry
 returns-clause-entry c =
     let walk = c.args.self.now in

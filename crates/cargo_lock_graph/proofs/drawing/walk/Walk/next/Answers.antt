@@ -12,12 +12,10 @@ loop-frame-preserved c =
     let fs : List (Option ℕ) = c.pop.new.self.items in
     let f : Option ℕ = c.in-Some.frame in
     let split : walk.stack.items ≡ fs ++ f ∷ [] = c.in-Some.ensures.items in
-    let popped = (held_pop _ _ marks walk.stack.items fs f (vec_capacity walk.stack) walk.most split c.loop-frame.invariant.on).0 in
+    let popped = (held_pop _ _ marks walk.stack.items fs f (vec_capacity walk.stack) split c.loop-frame.invariant.on).0 in
     record {
-      on = subst (λ (n : ℕ). IsHeld (length graph.packages) (length graph.edges) marks fs n walk.most) (sym c.in-Some.ensures.capacity) popped;
+      on = subst (λ (n : ℕ). IsHeld (length graph.packages) (length graph.edges) marks fs n) (sym c.in-Some.ensures.capacity) popped;
       direction = c.loop-frame.invariant.direction;
-      marks = c.loop-frame.invariant.marks;
-      most = c.loop-frame.invariant.most;
       same = sym (coming_done walk.direction graph.edges marks walk.stack.items fs f split c.in_default-frame.is) ∙ c.loop-frame.invariant.same;
     }
 

@@ -6,8 +6,6 @@ abbrev pub invariant-loop-frame : goal.invariant-loop-frame
 invariant-loop-frame l = record {
   on : IsOn l.graph l.self;
   direction : l.self.direction ≡ l.fn.self.direction;
-  marks : l.self.visited.items ≡ l.fn.self.visited.items;
-  most : l.self.most ≡ l.fn.self.most;
   same : to_come l.graph l.self ≡ to_come l.graph l.fn.self;
 }
 
