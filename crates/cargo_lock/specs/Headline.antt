@@ -32,9 +32,9 @@ pub record Headline : Type 0 where
   -- lockfiles with only registry packages, each name and version once, survive V2 to V4, and V1 if
   -- some package has a checksum: `Lockfile::survives`
   pub plain : PlainSurvives
-  -- in these lockfiles, from V2 on with distinct identities, a listed dependency is in the shortest
-  -- form that names it in every order of the packages, except for one case without a source:
-  -- `Lockfile::to_table`
+  -- if a lockfile survives its format, from V2 on with distinct identities, a listed dependency is
+  -- in the shortest form that names it in every order of the packages, except for one case without
+  -- a source: `Lockfile::to_table`
   pub shortest : ShortestReferences
   -- and the table of a package depends on the packages with the names of its dependencies
   pub bearers : WrittenByBearers

@@ -1,6 +1,6 @@
-//! Laws of this crate, each the contract of a function without a body. They use the definitions of
-//! the contracts of `Lockfile` and of the types of `lockfile::encoding`. `headline` has the
-//! promises of this library in one.
+//! Laws of this crate: each is the contract of a function that does nothing, or only compares two
+//! values. They use the definitions of the contracts of `Lockfile` and of the types of
+//! `lockfile::encoding`. `headline` has the promises of this library in one.
 
 ghost use Rattle.cargo_lock.specs.Headline.{Headline};
 ghost use Rattle.cargo_lock_encoding.specs.Means.{MeansOne};

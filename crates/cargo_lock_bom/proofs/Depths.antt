@@ -16,7 +16,7 @@ use Rattle.cargo_lock_graph.specs.Edges.{GraphData}
 use Rattle.cargo_lock_bom.specs.declared.root.Root.{Root}
 use Rattle.cargo_lock_bom.specs.declared.root.Root.TheVariants.{Package, Workspace, Nothing}
 use Rattle.cargo_lock_bom.specs.Component.{AreComponents, base_members, component_at, component_if, component_of, hashes_of, put_some, repositories_by, repositories_if, repositories_of, root_component}
-use Rattle.cargo_lock_bom.specs.Dependencies.{AreEntries, AreOwnEntries, IsEntry, entry_with, reference_at}
+use Rattle.cargo_lock_bom.specs.Dependencies.{AreEntries, AreOwnEntries, IsEntry, entry_with, node_reference}
 use Rattle.cargo_lock_bom.specs.Document.{IsAbout, IsBill, document_of}
 use Rattle.cargo_lock_bom.specs.Iri.{iri_text}
 use Rattle.cargo_lock_bom.specs.Metadata.{IsMetadata, authors_of, metadata_of, own_members}
@@ -129,12 +129,12 @@ components_low graph root components are =
 with_low : (packages : List PackageData) (own : List ℕ) (targets : List ℕ) → depth (entry_with packages own targets) ≤ 2
 unfolding entry_with
 with_low packages own targets =
-    let low : items_depth (items_of (map (λ k. string (reference_at packages k)) targets)) ≤ 0 =
-    items_depth-map (λ k. string (reference_at packages k)) 0 (λ k. string_low (reference_at packages k) 0) targets in
+    let low : items_depth (items_of (map (λ k. string (node_reference packages k)) targets)) ≤ 0 =
+    items_depth-map (λ k. string (node_reference packages k)) 0 (λ k. string_low (node_reference packages k) 0) targets in
     suc_low _ 1 (max-le (suc_low _ 0 low) (max-le (string_low own 1) (none_low 1)))
 
 entry_low : (graph : GraphData) (node : ℕ) (d : Data) → IsEntry graph node d → depth d ≤ 2
-entry_low graph node d entry = rw entry.is (with_low graph.packages (reference_at graph.packages node) entry.targets)
+entry_low graph node d entry = rw entry.is (with_low graph.packages (node_reference graph.packages node) entry.targets)
 
 own_low : (packages : List PackageData) (root : Root) (own : List Data) → AreOwnEntries packages root own → items_depth (items_of own) ≤ 2
 own_low packages (Package node) own are = rw are (omega arith)

@@ -14,7 +14,7 @@ use Rattle.cargo_lock_graph.specs.Edges.{GraphData}
 use Rattle.cargo_lock_bom.specs.declared.root.Root.{Root}
 use Rattle.cargo_lock_bom.specs.declared.root.Root.TheVariants.{Package, Workspace, Nothing}
 use Rattle.cargo_lock_bom.specs.Component.{AreComponents, base_members, component_at, component_if, component_of, hashes_of, put_some, repositories_by, repositories_if, repositories_of, root_component}
-use Rattle.cargo_lock_bom.specs.Dependencies.{AreEntries, AreOwnEntries, IsEntry, entry_with, reference_at}
+use Rattle.cargo_lock_bom.specs.Dependencies.{AreEntries, AreOwnEntries, IsEntry, entry_with, node_reference}
 use Rattle.cargo_lock_bom.specs.Document.{IsAbout, document_of}
 use Rattle.cargo_lock_bom.specs.Iri.{iri_text}
 use Rattle.cargo_lock_bom.specs.Metadata.{IsMetadata, authors_of, metadata_of, own_members}
@@ -122,11 +122,11 @@ components_whole graph root components are = rw are.are (items-map (component_at
 with_whole : (packages : List PackageData) (own : List ℕ) (targets : List ℕ) → has_float (entry_with packages own targets) ≡ false
 unfolding entry_with
 with_whole packages own targets =
-    both (items_have_float (items_of (map (λ k. string (reference_at packages k)) targets))) false
-    (items-map (λ k. string (reference_at packages k)) (λ k. refl) targets) refl
+    both (items_have_float (items_of (map (λ k. string (node_reference packages k)) targets))) false
+    (items-map (λ k. string (node_reference packages k)) (λ k. refl) targets) refl
 
 entry_whole : (graph : GraphData) (node : ℕ) (d : Data) → IsEntry graph node d → has_float d ≡ false
-entry_whole graph node d entry = rw entry.is (with_whole graph.packages (reference_at graph.packages node) entry.targets)
+entry_whole graph node d entry = rw entry.is (with_whole graph.packages (node_reference graph.packages node) entry.targets)
 
 own_whole : (packages : List PackageData) (root : Root) (own : List Data) → AreOwnEntries packages root own → items_have_float (items_of own) ≡ false
 own_whole packages (Package node) own are = rw are refl

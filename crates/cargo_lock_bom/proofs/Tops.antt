@@ -4,7 +4,7 @@ use Rattle.std.proofs.lemmas.Bool.{and_parts, cases_eq, not-true}
 use Rattle.cargo_lock_graph.specs.declared.graph.EdgeDirection.TheVariants.{Outgoing}
 use Rattle.cargo_lock_graph.specs.Edges.{GraphData, far_ends}
 use Rattle.cargo_lock_bom.specs.declared.root.Root.TheVariants.{Package, Workspace, Nothing}
-use Rattle.cargo_lock_bom.specs.Root.{IsTop, LeadsTo, LeadsToAllButOrphans, LeadsToMembers, TopIsOne, is_application, is_member, is_needed}
+use Rattle.cargo_lock_bom.specs.Root.{IsTop, EdgesLeadTo, LeadsToAllButOrphans, LeadsToMembers, TopIsOne, is_application, is_member, is_needed}
 use Rattle.cargo_lock_bom.proofs.Ways.{needed-on, reachable-join}
 
 pub top-member : (graph : GraphData) (k : ℕ) → is_application graph k ≡ true → is_member graph.packages k ≡ true
@@ -14,7 +14,7 @@ top-unneeded : (graph : GraphData) (k : ℕ) → is_application graph k ≡ true
 top-unneeded graph k app = not-true (is_needed graph.edges k) (and_parts (is_member graph.packages k) (not (is_needed graph.edges k)) app).1
 
 -- what leads to a package that no other needs is that package
-apart : (graph : GraphData) (a k : ℕ) → is_application graph k ≡ true → LeadsTo graph a k → a ≡ k
+apart : (graph : GraphData) (a k : ℕ) → is_application graph k ≡ true → EdgesLeadTo graph a k → a ≡ k
 apart graph a k app way = elim (cases_eq a k) [
   | inl same ↦ same
   | inr other ↦ let e : true ≡ false = sym (needed-on graph.edges way.0 a k other way.1) ∙ top-unneeded graph k app in absurd (cc e)

@@ -27,19 +27,19 @@ reference_if None = []
 reference_if (Some p) = package_reference p
 
 -- the text that refers to the package of a node
-abbrev pub reference_at : List PackageData → ℕ → List ℕ
-reference_at packages node = reference_if (slice_get packages node)
+abbrev pub node_reference : List PackageData → ℕ → List ℕ
+node_reference packages node = reference_if (slice_get packages node)
 
 -- the entry of a text: that text, and those of the packages of some nodes
 unfoldable pub entry_with : List PackageData → List ℕ → List ℕ → Data
 entry_with packages own targets = object
     (member (codes "dependsOn")
-    (array (items_of (map (λ k. string (reference_at packages k)) targets)))
+    (array (items_of (map (λ k. string (node_reference packages k)) targets)))
     (member (codes "ref") (string own) no_members))
 
 -- the entry of a node: the text of its package, and those of the packages of other nodes
 abbrev pub entry_of : List PackageData → ℕ → List ℕ → Data
-entry_of packages node targets = entry_with packages (reference_at packages node) targets
+entry_of packages node targets = entry_with packages (node_reference packages node) targets
 
 -- the entry of a node of the graph
 pub record IsEntry (graph : GraphData) (node : ℕ) (d : Data) : Type 0 where

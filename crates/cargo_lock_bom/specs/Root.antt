@@ -27,12 +27,12 @@ abbrev pub is_application : GraphData → ℕ → Bool
 is_application graph node = is_member graph.packages node && not (is_needed graph.edges node)
 
 -- edges lead from one node to the other, over any number of nodes between them
-abbrev pub LeadsTo : GraphData → ℕ → ℕ → Type 0
-LeadsTo graph a b = IsReachable (far_ends Outgoing graph.edges) a b
+abbrev pub EdgesLeadTo : GraphData → ℕ → ℕ → Type 0
+EdgesLeadTo graph a b = IsReachable (far_ends Outgoing graph.edges) a b
 
 -- edges lead from the node to each package of the workspace
 abbrev pub LeadsToMembers : GraphData → ℕ → Type 0
-LeadsToMembers graph node = (k : ℕ) → is_member graph.packages k ≡ true → LeadsTo graph node k
+LeadsToMembers graph node = (k : ℕ) → is_member graph.packages k ≡ true → EdgesLeadTo graph node k
 
 -- the package of the workspace that no other package needs, and that leads to each package of the
 -- workspace
@@ -53,12 +53,12 @@ IsRootOf graph None Nothing = (k : ℕ) → is_member graph.packages k ≡ false
 
 -- some package of the workspace leads to the node, so the package of the node is not an orphan
 abbrev pub IsReached : GraphData → ℕ → Type 0
-IsReached graph node = (m : ℕ) × (is_member graph.packages m ≡ true) × LeadsTo graph m node
+IsReached graph node = (m : ℕ) × (is_member graph.packages m ≡ true) × EdgesLeadTo graph m node
 
 -- the root leads to the node; a root that is the workspace has edges to each package of the
 -- workspace
 abbrev pub IsBelow : GraphData → Root → ℕ → Type 0
-IsBelow graph (Package root) node = LeadsTo graph root node
+IsBelow graph (Package root) node = EdgesLeadTo graph root node
 IsBelow graph Workspace node = IsReached graph node
 IsBelow graph Nothing node = ⊥
 

@@ -92,7 +92,7 @@ fn entry_of(alloc: Global, own: String, on: Vec<Value>) -> Result<Value, AllocEr
 fn references(alloc: Global, graph: &Graph, nodes: &[usize]) -> Result<Vec<Value>, AllocError>
     requires { All (λ k. k < length graph.now.packages) nodes.now }
     ensures { IfOk result (λ made. map view made.items
-        ≡ map (λ k. string (spec.reference_at graph.now.packages k)) nodes.now) }
+        ≡ map (λ k. string (spec.node_reference graph.now.packages k)) nodes.now) }
 {
     let mut made = Vec::with_capacity(alloc, nodes.len())?;
     for node in nodes {

@@ -1,6 +1,6 @@
 -- What differs between two lockfiles, as callers get it: a line each.
 use Rattle.std.specs.Prelude.{◌≡◌, ◌≤◌, ℕ, Bool, List, IsUtf8}
-use Rattle.cargo_lock_diff.specs.Change.{lines_text, all_changes_of}
+use Rattle.cargo_lock_diff.specs.Change.{changes_text, all_changes_of}
 use Rattle.cargo_lock_diff.specs.Difference.{DifferenceData, IsDifference}
 use Rattle.cargo_lock_encoding.specs.Lockfiles.{LockfileData}
 use Rattle.cargo_lock_encoding.specs.Means.{TextMeans}
@@ -11,7 +11,7 @@ use Rattle.cargo_lock_c.specs.Texts.{MeansNothing}
 -- the lines of what differs between two lists of packages, with dependencies or without
 abbrev pub AreLinesBetweenPackages : List PackageData → List PackageData → Bool → List ℕ → Type 0
 AreLinesBetweenPackages before after dependencies bytes = (d : DifferenceData)
-    × IsDifference before after d × (bytes ≡ lines_text (all_changes_of dependencies d))
+    × IsDifference before after d × (bytes ≡ changes_text (all_changes_of dependencies d))
 
 -- the lines of what differs between the packages of two lockfiles, with the checksums that Cargo
 -- reads

@@ -1,7 +1,7 @@
 //! What differs between the packages of two lockfiles, line by line.
 
 ghost use Rattle.std.specs.Prelude.{◌≡◌, ◌≤◌, ◌⊎◌, IfErr, IfOk, map, string_bytes};
-ghost use Rattle.cargo_lock_diff.specs.Change.{change_of, lines_text};
+ghost use Rattle.cargo_lock_diff.specs.Change.{change_of, changes_text};
 ghost use Rattle.cargo_lock_encoding.specs.Means.{TextMeans};
 ghost use Rattle.cargo_lock.specs.CargoChecksums.{with_cargo_checksums_in};
 ghost use Rattle.cargo_lock_c.specs.declared.refusal.Refusal.TheVariants.{NoMemory};
@@ -125,7 +125,7 @@ fn lines_of_packages(
 
 fn lines_of(alloc: Global, changes: &[Change<'_>]) -> Result<String, Refusal>
     ensures ok { IfOk result (λ lines. string_bytes lines
-        ≡ lines_text (map change_of changes.now)) }
+        ≡ changes_text (map change_of changes.now)) }
     ensures err { IfErr result (λ refusal. refusal ≡ NoMemory) }
 {
     let mut lines = String::new(alloc);

@@ -5,7 +5,7 @@ use Rattle.std.specs.Borrow.{Bor}
 use Rattle.std.proofs.lemmas.List.{length-map}
 use Rattle.std.proofs.lemmas.List.{drop_more, get_or-map}
 use Rattle.std.proofs.lemmas.List.Sums.{take_while-cons}
-use Rattle.cargo_lock_check.specs.TextReferences.{texts_at}
+use Rattle.cargo_lock.specs.Texts.{texts_at}
 
 -- the next one passes
 take_while-more : {X : Type 0} (p : X → Bool) (xs : List X) (i : ℕ) (x : X) → i < length xs → x ≡ get_or xs i x → p x ≡ true

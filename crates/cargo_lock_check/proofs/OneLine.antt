@@ -7,7 +7,7 @@ use Rattle.cargo_lock_parts.specs.Identity.{Identity, PackageData, identity_of}
 use Rattle.cargo_lock_parts.specs.Source.{Source}
 use Rattle.cargo_lock_references.specs.Format.{number_of}
 use Rattle.cargo_lock_check.specs.Finding.{Alike, BadName, EachIsOneLine, FindingData, LookAlike, LossySource, LostDependency, Misplaced, MisplacedDependency, NoChecksum, NoChecksums, NoRoot, NotKept, Orphan, OtherLine, RepeatedDependency, StaleChecksum, Twice, UserInfo}
-use Rattle.cargo_lock_check.specs.Finding.{bracketed, identity_shown, line_of, package_text}
+use Rattle.cargo_lock_check.specs.Finding.{bracketed, identity_shown, finding_line, package_shown}
 
 brackets-print : (s : Option Source) → Prints (bracketed s)
 brackets-print None = empty
@@ -16,10 +16,10 @@ brackets-print (Some s) = words (codes " (") refl (join (shown-prints Plain _) (
 identity-prints : (i : Identity) → Prints (identity_shown i)
 identity-prints i = join (shown-prints Plain i.name) (words (codes " ") refl (join (shown-prints Plain _) (brackets-print i.source)))
 
-package-prints : (p : PackageData) → Prints (package_text p)
+package-prints : (p : PackageData) → Prints (package_shown p)
 package-prints p = identity-prints (identity_of p)
 
-line-prints : (f : FindingData) → Prints (line_of f)
+line-prints : (f : FindingData) → Prints (finding_line f)
 line-prints (LostDependency p d) =
     words (codes "reference: ") refl (join (package-prints p)
     (words (codes " depends on ") refl (join (identity-prints d) (literal (codes ", which is missing from the lockfile") refl))))
@@ -52,4 +52,4 @@ line-prints (OtherLine other) =
     (words (codes "` for `") refl (join (shown-prints Quoted other.wanted) (literal (codes "`") refl))))))
 
 pub each-finding-is-one-line : EachIsOneLine
-each-finding-is-one-line = each-is-line line_of line-prints
+each-finding-is-one-line = each-is-line finding_line line-prints

@@ -14,7 +14,7 @@ use Rattle.cargo_lock_check.specs.declared.flaws.groups.BestGroup.{BestGroup}
 use Rattle.cargo_lock_check.specs.declared.flaws.reach.Search.{Search}
 use Rattle.cargo_lock_check.specs.Groups.{Grouping, IsBestGroup}
 use Rattle.cargo_lock_check.specs.Places.{IsPlaces}
-use Rattle.cargo_lock_check.specs.Reach.{AsksFor, IsChain, IsOneOfBest, IsOrphan, IsReached, IsRoot, IsStart, LeadsTo}
+use Rattle.cargo_lock_check.specs.Reach.{AsksFor, IsChain, IsOneOfBest, IsOrphan, IsReached, IsWorkspacePackage, IsStart, PackageLeadsTo}
 use Rattle.cargo_lock_check.specs.Search.{HasBegun, HasReached, IsMarked, IsSearch}
 
 -- ---- marks
@@ -114,7 +114,7 @@ TargetsOf packages ds i k = (d : Identity) × Contains (take i ds) d × IsOneOfB
 
 -- the packages of the workspace so far
 abbrev pub RootsBelow : List PackageData → ℕ → ℕ → Type 0
-RootsBelow packages place k = (k < place) × IsRoot packages k
+RootsBelow packages place k = (k < place) × IsWorkspacePackage packages k
 
 -- nothing was asked for
 pub reached-none : (P : ℕ → Type 0) (s : Search) → ((k : ℕ) → ¬ P k) → HasReached P s s
@@ -318,14 +318,14 @@ roots-none packages s = reached-none (RootsBelow packages 0) s (λ k h. let low 
 pub roots-next : (packages : List PackageData) (place : ℕ) (p : PackageData) (a b c : Search) → place < length packages → p ≡ get_or packages place p → is_none p.source ≡ true
     → HasReached (RootsBelow packages place) a b → HasReached (λ k. k ≡ place) b c → HasReached (RootsBelow packages (place + 1)) a c
 roots-next packages place p a b c low is bare f g =
-    let root : IsRoot packages place = (p, slice_get_read packages (length packages) place p refl low is, none-of p.source bare) in
+    let root : IsWorkspacePackage packages place = (p, slice_get_read packages (length packages) place p refl low is, none-of p.source bare) in
     reached-both (RootsBelow packages place) (λ k. k ≡ place) (RootsBelow packages (place + 1)) a b c
     (λ k h. elim (cases_eq k place) [
       | inl here ↦ inr here
       | inr other ↦ inl (let below = h.0 in omega (arith, below, other), h.1)
     ])
     (λ k h. (let below = h.0 in omega (arith, below), h.1))
-    (λ k same. (omega (arith, same), subst (λ n. IsRoot packages n) (sym same) root))
+    (λ k same. (omega (arith, same), subst (λ n. IsWorkspacePackage packages n) (sym same) root))
     f g
 
 pub roots-pass : (packages : List PackageData) (place : ℕ) (p : PackageData) (a b : Search) → place < length packages → p ≡ get_or packages place p → is_none p.source ≡ false
@@ -343,9 +343,9 @@ roots-pass packages place p a b low is sourced f =
     ])
     f
 
-pub roots-all : (packages : List PackageData) (place : ℕ) (a b : Search) → length packages ≤ place → HasReached (RootsBelow packages place) a b → HasReached (IsRoot packages) a b
+pub roots-all : (packages : List PackageData) (place : ℕ) (a b : Search) → length packages ≤ place → HasReached (RootsBelow packages place) a b → HasReached (IsWorkspacePackage packages) a b
 roots-all packages place a b end f =
-    reached-alike (RootsBelow packages place) (IsRoot packages) a b
+    reached-alike (RootsBelow packages place) (IsWorkspacePackage packages) a b
     (λ k h. h.1)
     (λ k h. (let low = slice_get_within packages k h.0 h.1 in omega (arith, low, end), h))
     f
@@ -408,9 +408,9 @@ search-start packages root s h = record {
 }
 
 -- there is no root apart from the packages
-pub start-rootless : (packages : List PackageData) (root : Option PackageData) (s : Search) → root ≡ None → HasBegun packages (IsRoot packages) s → IsSearch packages root s
+pub start-rootless : (packages : List PackageData) (root : Option PackageData) (s : Search) → root ≡ None → HasBegun packages (IsWorkspacePackage packages) s → IsSearch packages root s
 start-rootless packages root s none h =
-    let from : (k : ℕ) → IsStart packages root k → IsRoot packages k = λ k start. elim start [
+    let from : (k : ℕ) → IsStart packages root k → IsWorkspacePackage packages k = λ k start. elim start [
       | inl bare ↦ bare
       | inr led ↦ let e : None ≡ Some led.0 = sym none ∙ led.1 in absurd (cc e)
     ] in
@@ -422,9 +422,9 @@ start-rootless packages root s none h =
 
 -- what the root apart from the packages asks for is reached too
 pub start-rooted : (packages : List PackageData) (root : Option PackageData) (p : PackageData) (a b : Search) → root ≡ Some p
-    → HasBegun packages (IsRoot packages) a → HasReached (AsksFor packages p) a b → IsSearch packages root b
+    → HasBegun packages (IsWorkspacePackage packages) a → HasReached (AsksFor packages p) a b → IsSearch packages root b
 start-rooted packages root p a b some h f =
-    search-start packages root b (begun-both packages (IsRoot packages) (AsksFor packages p) (IsStart packages root) a b
+    search-start packages root b (begun-both packages (IsWorkspacePackage packages) (AsksFor packages p) (IsStart packages root) a b
     (λ k start. elim start [
       | inl bare ↦ inl bare
       | inr led ↦ inr (subst (λ (q : PackageData). AsksFor packages q k) (same_Some led.0 p (sym led.1 ∙ some)) led.2)
@@ -433,17 +433,17 @@ start-rooted packages root p a b some h f =
     (λ k asked. inr (p, some, asked))
     h f)
 
-chain-more : (packages : List PackageData) (a : ℕ) (chain : List ℕ) (b c : ℕ) → IsChain packages a chain b → LeadsTo packages b c → IsChain packages a (chain ++ c ∷ []) c
-chain-more packages a [] b c same leads = (subst (λ n. LeadsTo packages n c) (sym same) leads, refl)
+chain-more : (packages : List PackageData) (a : ℕ) (chain : List ℕ) (b c : ℕ) → IsChain packages a chain b → PackageLeadsTo packages b c → IsChain packages a (chain ++ c ∷ []) c
+chain-more packages a [] b c same leads = (subst (λ n. PackageLeadsTo packages n c) (sym same) leads, refl)
 chain-more packages a (n ∷ ns) b c chain leads = (chain.0, chain-more packages n ns b c chain.1 leads)
 
-pub reached-next : (packages : List PackageData) (root : Option PackageData) (a b : ℕ) → IsReached packages root a → LeadsTo packages a b → IsReached packages root b
+pub reached-next : (packages : List PackageData) (root : Option PackageData) (a b : ℕ) → IsReached packages root a → PackageLeadsTo packages a b → IsReached packages root b
 reached-next packages root a b h leads = (h.0, h.1 ++ b ∷ [], h.2, chain-more packages h.0 h.1 a b h.3 leads)
 
 -- what the package at the last place that waited leads to is reached
 pub search-next : (packages : List PackageData) (root : Option PackageData) (before popped after : Search) (place : ℕ)
     → IsSearch packages root before → popped.reached.items ≡ before.reached.items → before.waiting.items ≡ popped.waiting.items ++ place ∷ []
-    → HasReached (LeadsTo packages place) popped after → IsSearch packages root after
+    → HasReached (PackageLeadsTo packages place) popped after → IsSearch packages root after
 search-next packages root before popped after place h same ends f =
     let old : (k : ℕ) → IsMarked before.reached.items k → IsMarked popped.reached.items k = λ k m. subst (λ (ms : List Bool). IsMarked ms k) (sym same) m in
     let back : (k : ℕ) → IsMarked popped.reached.items k → IsMarked before.reached.items k = λ k m. subst (λ (ms : List Bool). IsMarked ms k) same m in
@@ -464,7 +464,7 @@ search-next packages root before popped after place h same ends f =
         | inl before ↦ elim (h.closed a b (back a before) leads) [
           | inl waited ↦ elim (Contains-push_cases popped.waiting.items place a (subst (λ (ws : List ℕ). Contains ws a) ends waited)) [
             | inl still ↦ inl (f.waits a still)
-            | inr here ↦ inr (f.all b (subst (λ n. LeadsTo packages n b) (sym here) leads))
+            | inr here ↦ inr (f.all b (subst (λ n. PackageLeadsTo packages n b) (sym here) leads))
           ]
           | inr marked ↦ inr (f.kept b (old b marked))
         ]
@@ -474,9 +474,9 @@ search-next packages root before popped after place h same ends f =
 
 -- what a package asks for is what its place leads to
 pub leads-of : (packages : List PackageData) (place : ℕ) (p : PackageData) (a b : Search) → slice_get packages place ≡ Some p
-    → HasReached (AsksFor packages p) a b → HasReached (LeadsTo packages place) a b
+    → HasReached (AsksFor packages p) a b → HasReached (PackageLeadsTo packages place) a b
 leads-of packages place p a b at f =
-    reached-alike (AsksFor packages p) (LeadsTo packages place) a b
+    reached-alike (AsksFor packages p) (PackageLeadsTo packages place) a b
     (λ k h. (p, at, h))
     (λ k h. subst (λ (q : PackageData). AsksFor packages q k) (same_Some h.0 p (sym h.1 ∙ at)) h.2)
     f

@@ -15,7 +15,7 @@ use Rattle.cargo_lock.specs.CargoChecksums.{cargo_checksum, with_checksum}
 use Rattle.std.proofs.lemmas.List.{length-map}
 use Rattle.cargo_lock_check.specs.Dependencies.{AreDependencies, HoldsAt, HoldsOfDependency, IsMisplacedAt, IsRepeatedAt, IsSameDependency}
 use Rattle.cargo_lock_check.specs.Finding.{Alike, BadName, FindingData, LookAlike, LossySource, LostDependency, Misplaced, MisplacedDependency, NoChecksum, NoChecksums, NoRoot, Orphan, OtherLine, RepeatedDependency, StaleChecksum, Twice, UserInfo}
-use Rattle.cargo_lock_check.specs.Findings.{AreFindings, AreLossy, FindingsData, IsEmpty, IsLostIn, IsOther, IsOtherLine, IsWrittenByCargo, alike_at, checked_packages, dependency_at, misplaced_at, misplaced_dependency_at, package_at, source_at, told_of, told_of_checksums, told_of_format, told_of_formats, told_of_misleading, told_of_order, told_of_orphans, told_of_twice, with_next}
+use Rattle.cargo_lock_check.specs.Findings.{AreFindings, AreLossy, FindingsData, HasNoFindings, IsLostIn, IsOther, IsOtherLine, IsWrittenByCargo, alike_at, checked_packages, dependency_at, misplaced_at, misplaced_dependency_at, flawed_at, source_at, told_of, told_of_checksums, told_of_format, told_of_formats, told_of_misleading, told_of_order, told_of_orphans, told_of_twice, with_next}
 use Rattle.cargo_lock_check.specs.Alike.{AreAlikeAt, ArePairsAlike, IsFirstAlike}
 use Rattle.cargo_lock_check.specs.Lost.{IsLostAt}
 use Rattle.cargo_lock_check.specs.Names.{IsBadlyNamed}
@@ -157,7 +157,7 @@ filter_map-none {X} {Y} h (x ∷ xs) there e = go (h x) refl e
     go None none e = absurd (there x (cons-here x xs) none)
     go (Some y) some e = cc e
 
-some-package : (finding : PackageData → FindingData) (packages : List PackageData) (k : ℕ) → k < length packages → ¬ (package_at finding packages k ≡ None)
+some-package : (finding : PackageData → FindingData) (packages : List PackageData) (k : ℕ) → k < length packages → ¬ (flawed_at finding packages k ≡ None)
 some-package finding (p ∷ ps) k lt none = go (slice_get (p ∷ ps) k) (slice_get-get_or (p ∷ ps) k p lt) none
   where
     go : (o : Option PackageData) → {q : PackageData} → o ≡ Some q → option_map finding o ≡ None → ⊥
@@ -237,9 +237,9 @@ sources-none P finding packages places is e =
 
 -- places of packages at each of which one is told
 told-none : (P : ℕ → Type 0) (finding : PackageData → FindingData) (packages : List PackageData) (places : List ℕ) → IsPlaces P (length packages) places
-    → filter_map (package_at finding packages) places ≡ [] → places ≡ []
+    → filter_map (flawed_at finding packages) places ≡ [] → places ≡ []
 told-none P finding packages places is e =
-    filter_map-none (package_at finding packages) places (λ k c. some-package finding packages k ((is.told k).0 c).0) e
+    filter_map-none (flawed_at finding packages) places (λ k c. some-package finding packages k ((is.told k).0 c).0) e
 
 orphans-none : (root : Option PackageData) (has_workspace : Bool) (packages : List PackageData) (orphans : List ℕ) → IsPlaces (IsOrphan packages root) (length packages) orphans
     → told_of_orphans has_workspace packages orphans ≡ [] → orphans ≡ []
@@ -261,19 +261,19 @@ line-none : (o : Option OtherLineData) → option_to_list (option_map OtherLine 
 line-none None e = refl
 line-none (Some o) e = cc e
 
-told-nothing : (text : List ℕ) (l : LockfileData) (f : FindingsData) → AreFindings text l f → told_of f ≡ [] → IsEmpty f
+told-nothing : (text : List ℕ) (l : LockfileData) (f : FindingsData) → AreFindings text l f → told_of f ≡ [] → HasNoFindings f
 told-nothing text l f is e =
     let here : f.packages ≡ l.packages = is.packages in
     let e1 = append-none (filter_map (dependency_at LostDependency f.packages) f.lost_dependencies) _ e in
     let e2 = append-none (told_of_twice f) _ e1.1 in
-    let t = append-none (filter_map (package_at Twice f.packages) f.twice) _ e2.0 in
+    let t = append-none (filter_map (flawed_at Twice f.packages) f.twice) _ e2.0 in
     let m = append-none (told_of_misleading f) _ e2.1 in
-    let m1 = append-none (filter_map (package_at BadName f.packages) f.badly_named) _ m.0 in
+    let m1 = append-none (filter_map (flawed_at BadName f.packages) f.badly_named) _ m.0 in
     let m2 = append-none (filter_map (alike_at f.packages) f.alike) _ m1.1 in
     let m3 = append-none (filter_map (source_at LookAlike f.packages) f.look_alikes) _ m2.1 in
     let e3 = append-none (told_of_orphans f.has_workspace f.packages f.orphans) _ m.1 in
     let e4 = append-none (told_of_checksums f) _ e3.1 in
-    let u = append-none (filter_map (package_at NoChecksum f.packages) f.without_checksum) _ e4.0 in
+    let u = append-none (filter_map (flawed_at NoChecksum f.packages) f.without_checksum) _ e4.0 in
     let e5 = append-none (map StaleChecksum f.stale) _ e4.1 in
     let e6 = append-none (told_of_order f) _ e5.1 in
     let o = append-none (filter_map (misplaced_at f.packages) f.misplaced) _ e6.0 in
@@ -285,11 +285,11 @@ told-nothing text l f is e =
       lost_dependencies = filter_map-none (dependency_at LostDependency l.packages) f.lost_dependencies
           (λ k c. dependency-there LostDependency (λ d ds at. IsLost l.packages d) l.packages k (((is.lost_dependencies.asked none).told k.0 k.1).0 c))
           (subst (λ ps. filter_map (dependency_at LostDependency ps) f.lost_dependencies ≡ []) here e1.0);
-      twice = told-none (IsTwice l.packages) Twice l.packages f.twice is.twice (subst (λ ps. filter_map (package_at Twice ps) f.twice ≡ []) here t.0);
+      twice = told-none (IsTwice l.packages) Twice l.packages f.twice is.twice (subst (λ ps. filter_map (flawed_at Twice ps) f.twice ≡ []) here t.0);
       repeated = filter_map-none (dependency_at RepeatedDependency l.packages) f.repeated
           (λ k c. dependency-there RepeatedDependency (λ d ds at. (j : ℕ) × (j < at) × HoldsOfDependency (IsSameDependency d) ds j) l.packages k ((is.repeated.told k.0 k.1).0 c))
           (subst (λ ps. filter_map (dependency_at RepeatedDependency ps) f.repeated ≡ []) here t.1);
-      badly_named = told-none (IsBadlyNamed l.packages) BadName l.packages f.badly_named is.badly_named (subst (λ ps. filter_map (package_at BadName ps) f.badly_named ≡ []) here m1.0);
+      badly_named = told-none (IsBadlyNamed l.packages) BadName l.packages f.badly_named is.badly_named (subst (λ ps. filter_map (flawed_at BadName ps) f.badly_named ≡ []) here m1.0);
       alike = filter_map-none (alike_at l.packages) f.alike (λ k c. let first = (is.alike.told k.0 k.1).0 c in alike-there l.packages k first.1)
           (subst (λ ps. filter_map (alike_at ps) f.alike ≡ []) here m2.0);
       look_alikes = sources-none IsLookAlike LookAlike l.packages f.look_alikes is.look_alikes (subst (λ ps. filter_map (source_at LookAlike ps) f.look_alikes ≡ []) here m3.0);
@@ -298,7 +298,7 @@ told-nothing text l f is e =
       orphans = orphans-none l.root f.has_workspace l.packages f.orphans (is.orphans.asked none)
           (subst (λ ps. told_of_orphans f.has_workspace ps f.orphans ≡ []) here e3.0);
       without_checksum = told-none (IsWithoutChecksum (checked_packages l)) NoChecksum l.packages f.without_checksum is.without_checksum
-          (subst (λ ps. filter_map (package_at NoChecksum ps) f.without_checksum ≡ []) here u.0);
+          (subst (λ ps. filter_map (flawed_at NoChecksum ps) f.without_checksum ≡ []) here u.0);
       unchecked = filter_map-none (source_at NoChecksums l.packages) f.unchecked
           (λ k c. unchecked-there l k ((is.unchecked.told k).0 c).1) (subst (λ ps. filter_map (source_at NoChecksums ps) f.unchecked ≡ []) here u.1);
       stale = map-none StaleChecksum f.stale e5.0;
@@ -311,17 +311,17 @@ told-nothing text l f is e =
       other_line = line-none f.other_line e7.1;
     }
 
-nothing-told : (f : FindingsData) → IsEmpty f → told_of f ≡ []
+nothing-told : (f : FindingsData) → HasNoFindings f → told_of f ≡ []
 nothing-told f e =
     (λ i. filter_map (dependency_at LostDependency f.packages) (e.lost_dependencies i)
-    ++ ((filter_map (package_at Twice f.packages) (e.twice i)
+    ++ ((filter_map (flawed_at Twice f.packages) (e.twice i)
     ++ filter_map (dependency_at RepeatedDependency f.packages) (e.repeated i))
-    ++ ((filter_map (package_at BadName f.packages) (e.badly_named i)
+    ++ ((filter_map (flawed_at BadName f.packages) (e.badly_named i)
     ++ (filter_map (alike_at f.packages) (e.alike i)
     ++ (filter_map (source_at LookAlike f.packages) (e.look_alikes i)
     ++ filter_map (source_at UserInfo f.packages) (e.with_user_info i))))
     ++ (told_of_orphans f.has_workspace f.packages (e.orphans i)
-    ++ ((filter_map (package_at NoChecksum f.packages) (e.without_checksum i)
+    ++ ((filter_map (flawed_at NoChecksum f.packages) (e.without_checksum i)
     ++ filter_map (source_at NoChecksums f.packages) (e.unchecked i))
     ++ (map StaleChecksum (e.stale i)
     ++ ((filter_map (misplaced_at f.packages) (e.misplaced i)

@@ -72,52 +72,52 @@ identity_shown i = shown Plain i.name
     ++ (codes " " ++ (shown Plain (parts_text i.version) ++ bracketed i.source))
 
 -- the name, the version and the source of a package, as they are displayed
-abbrev pub package_text : PackageData → List ℕ
-package_text p = identity_shown (identity_of p)
+abbrev pub package_shown : PackageData → List ℕ
+package_shown p = identity_shown (identity_of p)
 
 -- the line of a finding
-abbrev pub line_of : FindingData → List ℕ
-line_of (LostDependency p d) = codes "reference: " ++ (package_text p
+abbrev pub finding_line : FindingData → List ℕ
+finding_line (LostDependency p d) = codes "reference: " ++ (package_shown p
     ++ (codes " depends on " ++ (identity_shown d ++ codes ", which is missing from the lockfile")))
-line_of (Twice p) = codes "twice: " ++ (package_text p ++ codes " is listed more than once")
-line_of (RepeatedDependency p d) = codes "twice: " ++ (package_text p
+finding_line (Twice p) = codes "twice: " ++ (package_shown p ++ codes " is listed more than once")
+finding_line (RepeatedDependency p d) = codes "twice: " ++ (package_shown p
     ++ (codes " lists " ++ (identity_shown d ++ codes " more than once")))
-line_of (BadName p) =
+finding_line (BadName p) =
     codes "name: " ++ (shown Plain p.name ++ codes " is not a name that Cargo accepts")
-line_of (Alike p q) = codes "alike: " ++ (package_text p
-    ++ (codes " and " ++ (package_text q ++ codes " have one name on crates.io")))
-line_of (LookAlike source) =
+finding_line (Alike p q) = codes "alike: " ++ (package_shown p
+    ++ (codes " and " ++ (package_shown q ++ codes " have one name on crates.io")))
+finding_line (LookAlike source) =
     codes "source: " ++ (source_shown source ++ codes " is not crates.io")
-line_of (UserInfo source) = codes "source: " ++ (source_shown source ++ codes " has user info")
-line_of NoRoot = codes "root: no package is of the workspace"
-line_of (Orphan p) =
-    codes "orphan: " ++ (package_text p ++ codes ": no package of the workspace leads to it")
-line_of (NoChecksum p) =
-    codes "checksum: " ++ (package_text p ++ codes " has none, though others of its registry have")
-line_of (NoChecksums source) =
+finding_line (UserInfo source) = codes "source: " ++ (source_shown source ++ codes " has user info")
+finding_line NoRoot = codes "root: no package is of the workspace"
+finding_line (Orphan p) =
+    codes "orphan: " ++ (package_shown p ++ codes ": no package of the workspace leads to it")
+finding_line (NoChecksum p) =
+    codes "checksum: " ++ (package_shown p ++ codes " has none, though others of its registry have")
+finding_line (NoChecksums source) =
     codes "checksum: no package of " ++ (source_shown source ++ codes " has one")
-line_of (StaleChecksum key) =
+finding_line (StaleChecksum key) =
     codes "stale: `" ++ (shown Quoted key ++ codes "` is in the metadata, and is of no package")
-line_of (Misplaced p next) = codes "order: " ++ (package_text p
-    ++ (codes " is listed before " ++ package_text next))
-line_of (MisplacedDependency p d next) = codes "order: " ++ (package_text p
+finding_line (Misplaced p next) = codes "order: " ++ (package_shown p
+    ++ (codes " is listed before " ++ package_shown next))
+finding_line (MisplacedDependency p d next) = codes "order: " ++ (package_shown p
     ++ (codes " lists " ++ (identity_shown d ++ (codes " before " ++ identity_shown next))))
-line_of (LossySource version text) = codes "format: V" ++ (decimal (number_of version)
+finding_line (LossySource version text) = codes "format: V" ++ (decimal (number_of version)
     ++ (codes " loses the tag, branch or revision of `"
     ++ (shown Quoted text ++ codes "`; V4 keeps it")))
-line_of (NotKept version) =
+finding_line (NotKept version) =
     codes "format: V" ++ (decimal (number_of version) ++ codes " does not keep this lockfile")
-line_of (OtherLine line) = codes "text: line " ++ (decimal line.number
+finding_line (OtherLine line) = codes "text: line " ++ (decimal line.number
     ++ (codes " is not as Cargo writes it: `" ++ (shown Quoted line.written
     ++ (codes "` for `" ++ (shown Quoted line.wanted ++ codes "`")))))
 
 -- the line of each finding, with its newline
-abbrev pub lines_text : List FindingData → List ℕ
-lines_text = flat_map (λ finding. line_of finding ++ newline ∷ [])
+abbrev pub findings_text : List FindingData → List ℕ
+findings_text = flat_map (λ finding. finding_line finding ++ newline ∷ [])
 
 -- ---- law
 
 -- each finding is exactly one line, whatever its names, sources, keys and quoted lines hold
 abbrev pub EachIsOneLine : Type 0
 EachIsOneLine = (findings : List FindingData)
-    → lines (lines_text findings) ≡ map line_of findings
+    → lines (findings_text findings) ≡ map finding_line findings

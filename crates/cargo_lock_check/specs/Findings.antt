@@ -165,7 +165,7 @@ pub record AreFindings (text : List ℕ) (l : LockfileData) (f : FindingsData) :
   pub other_line : IsAskedUnless f.lossy (IsOtherLine text l f.other_line) (f.other_line ≡ None)
 
 -- nothing is found
-pub record IsEmpty (f : FindingsData) : Type 0 where
+pub record HasNoFindings (f : FindingsData) : Type 0 where
   pub lossy : f.lossy ≡ []
   pub lost_dependencies : f.lost_dependencies ≡ []
   pub twice : f.twice ≡ []
@@ -213,8 +213,8 @@ finding_by flaw.Orphan = Orphan
 finding_by flaw.NoChecksum = NoChecksum
 
 -- the package at a place
-abbrev pub package_at : (PackageData → FindingData) → List PackageData → ℕ → Option FindingData
-package_at finding packages k = option_map finding (slice_get packages k)
+abbrev pub flawed_at : (PackageData → FindingData) → List PackageData → ℕ → Option FindingData
+flawed_at finding packages k = option_map finding (slice_get packages k)
 
 -- the packages at two places
 abbrev pub alike_at : List PackageData → ℕ × ℕ → Option FindingData
@@ -244,7 +244,7 @@ no_root orphans = if length orphans == 0 then [] else NoRoot ∷ []
 -- each orphan, or, if no package is of the workspace, that alone
 abbrev pub told_of_orphans : Bool → List PackageData → List ℕ → List FindingData
 told_of_orphans has_workspace packages orphans = if has_workspace
-    then filter_map (package_at Orphan packages) orphans else no_root orphans
+    then filter_map (flawed_at Orphan packages) orphans else no_root orphans
 
 -- a format that does not keep its lockfile
 abbrev pub told_of_format : Bool → ResolveVersion → List FindingData
@@ -252,19 +252,19 @@ told_of_format is_kept version = if is_kept then [] else NotKept version ∷ []
 
 -- each name and each source that may mislead a reader
 abbrev pub told_of_misleading : FindingsData → List FindingData
-told_of_misleading f = filter_map (package_at BadName f.packages) f.badly_named
+told_of_misleading f = filter_map (flawed_at BadName f.packages) f.badly_named
     ++ (filter_map (alike_at f.packages) f.alike
     ++ (filter_map (source_at LookAlike f.packages) f.look_alikes
     ++ filter_map (source_at UserInfo f.packages) f.with_user_info))
 
 -- each package and each dependency that is listed more than once
 abbrev pub told_of_twice : FindingsData → List FindingData
-told_of_twice f = filter_map (package_at Twice f.packages) f.twice
+told_of_twice f = filter_map (flawed_at Twice f.packages) f.twice
     ++ filter_map (dependency_at RepeatedDependency f.packages) f.repeated
 
 -- each package without a checksum, and each registry without any
 abbrev pub told_of_checksums : FindingsData → List FindingData
-told_of_checksums f = filter_map (package_at NoChecksum f.packages) f.without_checksum
+told_of_checksums f = filter_map (flawed_at NoChecksum f.packages) f.without_checksum
     ++ filter_map (source_at NoChecksums f.packages) f.unchecked
 
 -- each package and each dependency that is out of order

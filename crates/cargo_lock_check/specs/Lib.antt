@@ -15,7 +15,6 @@ pub mod Group
 pub mod Groups
 pub mod Search
 pub mod Text
-pub mod TextReferences
 pub mod Finding
 pub mod Findings
 pub mod Sound

@@ -29,17 +29,17 @@ AsksFor packages p place = (d : Identity) × IsAskedBy p d × IsOneOfBest packag
 
 -- the package at b is one of those that match best a dependency or the replacement of the package
 -- at a
-abbrev pub LeadsTo : List PackageData → ℕ → ℕ → Type 0
-LeadsTo packages a b = HoldsOf (λ p. AsksFor packages p b) packages a
+abbrev pub PackageLeadsTo : List PackageData → ℕ → ℕ → Type 0
+PackageLeadsTo packages a b = HoldsOf (λ p. AsksFor packages p b) packages a
 
 -- a chain from a place over these places to the last of them, where each leads to the next
 abbrev pub IsChain : List PackageData → ℕ → List ℕ → ℕ → Type 0
 IsChain packages a [] end = a ≡ end
-IsChain packages a (b ∷ bs) end = LeadsTo packages a b × IsChain packages b bs end
+IsChain packages a (b ∷ bs) end = PackageLeadsTo packages a b × IsChain packages b bs end
 
 -- the package at the place is one of the workspace: it has no source
-abbrev pub IsRoot : List PackageData → ℕ → Type 0
-IsRoot packages place = HoldsOf (λ p. p.source ≡ None) packages place
+abbrev pub IsWorkspacePackage : List PackageData → ℕ → Type 0
+IsWorkspacePackage packages place = HoldsOf (λ p. p.source ≡ None) packages place
 
 -- the package at the place is one of those that match best a dependency or the replacement of the
 -- separate root
@@ -49,7 +49,7 @@ RootLeadsTo packages root place = (p : PackageData) × (root ≡ Some p) × Asks
 -- a chain begins at the place: at a package of the workspace, or at one to which the separate root
 -- leads
 abbrev pub IsStart : List PackageData → Option PackageData → ℕ → Type 0
-IsStart packages root place = IsRoot packages place ⊎ RootLeadsTo packages root place
+IsStart packages root place = IsWorkspacePackage packages place ⊎ RootLeadsTo packages root place
 
 -- a chain leads to the place
 abbrev pub IsReached : List PackageData → Option PackageData → ℕ → Type 0

@@ -5,7 +5,7 @@ use Rattle.cargo_lock_parts.specs.Identity.{PackageData}
 use Rattle.cargo_lock_graph.specs.DrawingMade.{unmarked_count}
 use Rattle.cargo_lock_check.specs.declared.flaws.reach.Search.{Search}
 use Rattle.cargo_lock_check.specs.Groups.{Grouping, group_places}
-use Rattle.cargo_lock_check.specs.Reach.{IsReached, IsStart, LeadsTo}
+use Rattle.cargo_lock_check.specs.Reach.{IsReached, IsStart, PackageLeadsTo}
 
 -- the place has a mark
 abbrev pub IsMarked : List Bool → ℕ → Type 0
@@ -48,5 +48,5 @@ pub record IsSearch (packages : List PackageData) (root : Option PackageData) (s
   pub sound : (k : ℕ) → IsMarked search.reached.items k → IsReached packages root k
   pub waits : (k : ℕ) → Contains search.waiting.items k → IsMarked search.reached.items k
   pub starts : (k : ℕ) → IsStart packages root k → IsMarked search.reached.items k
-  pub closed : (a b : ℕ) → IsMarked search.reached.items a → LeadsTo packages a b
+  pub closed : (a b : ℕ) → IsMarked search.reached.items a → PackageLeadsTo packages a b
       → Contains search.waiting.items a ⊎ IsMarked search.reached.items b

@@ -4,7 +4,7 @@ use Rattle.cargo_lock_encoding.specs.Lockfiles.{LockfileData}
 use Rattle.cargo_lock_encoding.specs.Survives.{Survives}
 use Rattle.cargo_lock_check.specs.Alike.{AreAlikeAt}
 use Rattle.cargo_lock_check.specs.Dependencies.{IsMisplacedAt, IsRepeatedAt}
-use Rattle.cargo_lock_check.specs.Findings.{AreFindings, FindingsData, IsEmpty, IsLostIn, IsWrittenByCargo, checked_packages, told_of}
+use Rattle.cargo_lock_check.specs.Findings.{AreFindings, FindingsData, HasNoFindings, IsLostIn, IsWrittenByCargo, checked_packages, told_of}
 use Rattle.cargo_lock_check.specs.Lost.{IsLostAt}
 use Rattle.cargo_lock_check.specs.Names.{IsBadlyNamed}
 use Rattle.cargo_lock_check.specs.Packages.{IsMisplaced, IsTwice, IsUnchecked, IsWithoutChecksum}
@@ -21,7 +21,7 @@ use Rattle.cargo_lock_check.specs.Stale.{IsStale}
 -- The lockfile survives its format. The packages of the workspace lead to each package, and a
 -- separate root is one of them. If there is no separate root, each line of the text is as Cargo
 -- writes it.
-pub record IsSound (text : List ℕ) (l : LockfileData) : Type 0 where
+pub record IsSoundLockfile (text : List ℕ) (l : LockfileData) : Type 0 where
   pub plain : (source : List ℕ) → ¬ IsLostIn l.version text source
   pub dependencies : (place at : ℕ) → ¬ IsLostAt l.packages place at
   pub once : (k : ℕ) → ¬ IsTwice l.packages k
@@ -44,9 +44,9 @@ pub record IsSound (text : List ℕ) (l : LockfileData) : Type 0 where
 -- nothing is found exactly if nothing is wrong
 abbrev pub EmptyIfSound : Type 0
 EmptyIfSound = (text : List ℕ) (l : LockfileData) (f : FindingsData) → AreFindings text l f
-    → IsEmpty f ↔ IsSound text l
+    → HasNoFindings f ↔ IsSoundLockfile text l
 
 -- no finding is reported exactly if nothing is found
 abbrev pub NoneToldIfEmpty : Type 0
 NoneToldIfEmpty = (text : List ℕ) (l : LockfileData) (f : FindingsData) → AreFindings text l f
-    → (told_of f ≡ []) ↔ IsEmpty f
+    → (told_of f ≡ []) ↔ HasNoFindings f

@@ -5,8 +5,8 @@ use Rattle.std.specs.Prelude.{◌≡◌, ◌≢◌, ◌<◌, ◌&&◌, ◌++◌,
 use Rattle.std.specs.List.{dedup, starts_with, take_while}
 
 -- the line at a place, or an empty one after the last
-abbrev pub line_at : List (List ℕ) → ℕ → List ℕ
-line_at lines k = slice_index_or lines k []
+abbrev pub line_or_empty : List (List ℕ) → ℕ → List ℕ
+line_or_empty lines k = slice_index_or lines k []
 
 -- a text without its first bytes, as many as the number says, and with `^` for each `%5E` in the
 -- rest
@@ -24,7 +24,7 @@ with_carets text = with_carets_after 0 text
 -- The line at a place, in the form that is compared. In the path of a URL Cargo writes `^`
 -- unchanged, where this library writes `%5E`.
 abbrev pub compared_at : List (List ℕ) → ℕ → List ℕ
-compared_at lines k = with_carets (line_at lines k)
+compared_at lines k = with_carets (line_or_empty lines k)
 
 -- the line is empty
 abbrev pub is_empty : List ℕ → Bool
@@ -44,12 +44,12 @@ kept_comments written = take_while is_comment (drop 2 written)
 
 -- the format has no number in the file: this library then prints an empty line after the comments
 abbrev pub is_unnumbered : List (List ℕ) → Bool
-is_unnumbered printed = is_empty (line_at printed 2)
+is_unnumbered printed = is_empty (line_or_empty printed 2)
 
 -- the two comments, which may be missing if there is no number, as Cargo did not always write them
 abbrev pub header : List (List ℕ) → List (List ℕ) → List (List ℕ)
 header written printed =
-    if is_unnumbered printed && not (is_comment (line_at written 0)) then [] else take 2 printed
+    if is_unnumbered printed && not (is_comment (line_or_empty written 0)) then [] else take 2 printed
 
 -- the place at which the lines after the two comments begin: Cargo prints no empty line there
 abbrev pub body_place : List (List ℕ) → ℕ
@@ -76,7 +76,7 @@ pub record OtherLineData : Type 0 where
 pub record IsFirstOther (written wanted : List (List ℕ)) (other : OtherLineData) : Type 0 where
   pub place : ℕ
   pub number : other.number ≡ suc place
-  pub here : other.written ≡ line_at written place
-  pub there : other.wanted ≡ line_at wanted place
+  pub here : other.written ≡ line_or_empty written place
+  pub there : other.wanted ≡ line_or_empty wanted place
   pub differ : compared_at written place ≢ compared_at wanted place
   pub before : (k : ℕ) → k < place → compared_at written k ≡ compared_at wanted k

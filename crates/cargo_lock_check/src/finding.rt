@@ -3,7 +3,7 @@
 ghost use Rattle.std.specs.Prelude.{Some};
 ghost use Rattle.std.specs.Fmt.{DisplaysOnOk};
 ghost use Rattle.cargo_lock_check.specs.Finding as told;
-ghost use Rattle.cargo_lock_check.specs.Finding.{line_of};
+ghost use Rattle.cargo_lock_check.specs.Finding.{finding_line};
 
 use crate::text::OtherLine;
 use cargo_lock_parts::dependency::Dependency;
@@ -94,9 +94,9 @@ pub enum Finding<'a> {
 
 impl fmt::Display for Finding<'_> {
     ghost use Rattle.std.specs.Prelude.{Some};
-    ghost use Rattle.cargo_lock_check.specs.Finding.{finding_of, line_of};
+    ghost use Rattle.cargo_lock_check.specs.Finding.{finding_of, finding_line};
 
-    ghost output = { λ finding. Some (line_of (finding_of finding)) };
+    ghost output = { λ finding. Some (finding_line (finding_of finding)) };
 
     fn fmt<W: fmt::Write>(&self, f: &mut fmt::Formatter<W>) -> fmt::Result {
         match self {
@@ -153,7 +153,7 @@ fn write_lost_dependency<W: fmt::Write>(
     f: &mut fmt::Formatter<W>,
 ) -> fmt::Result
     ensures { DisplaysOnOk W.write_str_gives f.old result
-        (Some (line_of (told.LostDependency one.now dependency.now))) f.new }
+        (Some (finding_line (told.LostDependency one.now dependency.now))) f.new }
 {
     let one = PackageText(one);
     let dependency = DependencyText(dependency);
@@ -169,7 +169,7 @@ fn write_repeated<W: fmt::Write>(
     f: &mut fmt::Formatter<W>,
 ) -> fmt::Result
     ensures { DisplaysOnOk W.write_str_gives f.old result
-        (Some (line_of (told.RepeatedDependency one.now dependency.now))) f.new }
+        (Some (finding_line (told.RepeatedDependency one.now dependency.now))) f.new }
 {
     let one = PackageText(one);
     let dependency = DependencyText(dependency);
@@ -182,7 +182,7 @@ fn write_alike<W: fmt::Write>(
     f: &mut fmt::Formatter<W>,
 ) -> fmt::Result
     ensures { DisplaysOnOk W.write_str_gives f.old result
-        (Some (line_of (told.Alike one.now other.now))) f.new }
+        (Some (finding_line (told.Alike one.now other.now))) f.new }
 {
     let one = PackageText(one);
     let other = PackageText(other);
@@ -191,7 +191,7 @@ fn write_alike<W: fmt::Write>(
 
 fn write_no_checksum<W: fmt::Write>(one: &Package, f: &mut fmt::Formatter<W>) -> fmt::Result
     ensures { DisplaysOnOk W.write_str_gives f.old result
-        (Some (line_of (told.NoChecksum one.now))) f.new }
+        (Some (finding_line (told.NoChecksum one.now))) f.new }
 {
     let one = PackageText(one);
     write!(
@@ -206,7 +206,7 @@ fn write_misplaced<W: fmt::Write>(
     f: &mut fmt::Formatter<W>,
 ) -> fmt::Result
     ensures { DisplaysOnOk W.write_str_gives f.old result
-        (Some (line_of (told.Misplaced one.now next.now))) f.new }
+        (Some (finding_line (told.Misplaced one.now next.now))) f.new }
 {
     let one = PackageText(one);
     let next = PackageText(next);
@@ -220,7 +220,7 @@ fn write_misplaced_dependency<W: fmt::Write>(
     f: &mut fmt::Formatter<W>,
 ) -> fmt::Result
     ensures { DisplaysOnOk W.write_str_gives f.old result
-        (Some (line_of (told.MisplacedDependency one.now dependency.now next.now))) f.new }
+        (Some (finding_line (told.MisplacedDependency one.now dependency.now next.now))) f.new }
 {
     let one = PackageText(one);
     let dependency = DependencyText(dependency);
@@ -234,7 +234,7 @@ fn write_lossy<W: fmt::Write>(
     f: &mut fmt::Formatter<W>,
 ) -> fmt::Result
     ensures { DisplaysOnOk W.write_str_gives f.old result
-        (Some (line_of (told.LossySource version text.now))) f.new }
+        (Some (finding_line (told.LossySource version text.now))) f.new }
 {
     let number = u32::from(version);
     let text = Quoted(text);
@@ -246,9 +246,9 @@ fn write_lossy<W: fmt::Write>(
 
 impl fmt::Display for OtherLine {
     ghost use Rattle.std.specs.Prelude.{Some};
-    ghost use Rattle.cargo_lock_check.specs.Finding.{OtherLine, line_of};
+    ghost use Rattle.cargo_lock_check.specs.Finding.{OtherLine, finding_line};
 
-    ghost output = { λ line. Some (line_of (OtherLine line)) };
+    ghost output = { λ line. Some (finding_line (OtherLine line)) };
 
     fn fmt<W: fmt::Write>(&self, f: &mut fmt::Formatter<W>) -> fmt::Result {
         let number = self.number;
@@ -267,9 +267,9 @@ struct PackageText<'a>(&'a Package);
 
 impl fmt::Display for PackageText<'_> {
     ghost use Rattle.std.specs.Prelude.{Some};
-    ghost use Rattle.cargo_lock_check.specs.Finding.{package_text};
+    ghost use Rattle.cargo_lock_check.specs.Finding.{package_shown};
 
-    ghost output = { λ shown. Some (package_text shown.0.now) };
+    ghost output = { λ shown. Some (package_shown shown.0.now) };
 
     fn fmt<W: fmt::Write>(&self, f: &mut fmt::Formatter<W>) -> fmt::Result {
         let PackageText(one) = *self;

@@ -6,7 +6,7 @@ ghost use Rattle.std.specs.Option.{option_to_list};
 ghost use Rattle.cargo_lock_parts.specs.declared.error.Error.TheVariants.{Memory};
 ghost use Rattle.cargo_lock_check.specs.Finding.{finding_of};
 ghost use Rattle.cargo_lock_check.specs.Finding as told;
-ghost use Rattle.cargo_lock_check.specs.Findings.{AreFindings, alike_at, dependency_at, dependency_finding_by, finding_by, has_workspace, is_bare_root, misplaced_at, misplaced_dependency_at, no_root, package_at, source_at, source_finding_by, told_of_format, told_of_orphans};
+ghost use Rattle.cargo_lock_check.specs.Findings.{AreFindings, alike_at, dependency_at, dependency_finding_by, finding_by, has_workspace, is_bare_root, misplaced_at, misplaced_dependency_at, no_root, flawed_at, source_at, source_finding_by, told_of_format, told_of_orphans};
 ghost use Rattle.cargo_lock_check.specs.Alike.{ArePairsAlike};
 ghost use Rattle.cargo_lock_check.specs.Dependencies.{AreDependencies, IsMisplacedAt, IsRepeatedAt};
 ghost use Rattle.cargo_lock_check.specs.Names.{IsBadlyNamed};
@@ -161,7 +161,7 @@ struct ListPlaces {
 }
 
 impl<'a> Findings<'a> {
-    ghost use Rattle.cargo_lock_check.specs.Findings.{IsEmpty, told_of, told_of_checksums, told_of_formats, told_of_misleading, told_of_order, told_of_twice};
+    ghost use Rattle.cargo_lock_check.specs.Findings.{HasNoFindings, told_of, told_of_checksums, told_of_formats, told_of_misleading, told_of_order, told_of_twice};
 
     /// What is wrong with a lockfile that was read from this text. The one error is `Memory`.
     pub fn of(alloc: Global, text: &str, lockfile: &'a Lockfile) -> Result<Findings<'a>>
@@ -200,7 +200,7 @@ impl<'a> Findings<'a> {
 
     /// Whether nothing is wrong.
     pub fn is_empty(&self) -> bool
-        ensures { IsTrue result ↔ IsEmpty self.now }
+        ensures { IsTrue result ↔ HasNoFindings self.now }
     {
         self.lossy.is_empty()
             && self.lost_dependencies.is_empty()
@@ -441,7 +441,7 @@ fn add_flawed<'a>(
 ) -> std::result::Result<(), AllocError>
     ensures { OnOk result (map finding_of all.new.items
         ≡ map finding_of all.old.items ++ filter_map
-        (package_at (finding_by flaw) packages.now) places.now) }
+        (flawed_at (finding_by flaw) packages.now) places.now) }
 {
     for place in places {
         add_some(all, flawed_package(packages, *place, flaw))?;
@@ -450,7 +450,7 @@ fn add_flawed<'a>(
 }
 
 fn flawed_package<'a>(packages: &'a [Package], place: usize, flaw: Flaw) -> Option<Finding<'a>>
-    ensures { option_map finding_of result ≡ package_at (finding_by flaw) packages.now place }
+    ensures { option_map finding_of result ≡ flawed_at (finding_by flaw) packages.now place }
 {
     let package = packages.get(place)?;
     Some(match flaw {

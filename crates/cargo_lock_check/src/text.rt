@@ -4,8 +4,8 @@ ghost use Rattle.std.specs.Prelude.{◌≡◌, ◌≢◌, ◌<◌, ◌+◌, ◌+
 ghost use Rattle.std.specs.Bool.{Decides};
 ghost use Rattle.std.specs.List.{dedup, starts_with, take_while};
 ghost use Rattle.std.specs.Str.Lines.{lines};
-ghost use Rattle.cargo_lock_check.specs.Text.{AreSameLines, IsFirstOther, are_empty, body_place, cargo_lines, compared_at, header, is_comment, is_unnumbered, line_at, with_carets, with_carets_after};
-ghost use Rattle.cargo_lock_check.specs.TextReferences.{texts_at};
+ghost use Rattle.cargo_lock_check.specs.Text.{AreSameLines, IsFirstOther, are_empty, body_place, cargo_lines, compared_at, header, is_comment, is_unnumbered, line_or_empty, with_carets, with_carets_after};
+ghost use Rattle.cargo_lock.specs.Texts.{texts_at};
 
 use std::alloc::{AllocError, Global};
 use std::marker::Model;
@@ -82,7 +82,7 @@ fn cargo_lines<'a>(
 fn header<'a, 'b>(written: &[&'a str], printed: &'b [&'a str]) -> &'b [&'a str]
     ensures { texts_at result.now ≡ header (texts_at written.now) (texts_at printed.now) }
 {
-    if is_unnumbered(printed) && !is_comment(line_at(written, 0)) {
+    if is_unnumbered(printed) && !is_comment(line_or_empty(written, 0)) {
         &[]
     } else {
         &printed[..printed.len().min(2)]
@@ -93,7 +93,7 @@ fn header<'a, 'b>(written: &[&'a str], printed: &'b [&'a str]) -> &'b [&'a str]
 fn is_unnumbered(printed: &[&str]) -> bool
     ensures { result ≡ is_unnumbered (texts_at printed.now) }
 {
-    line_at(printed, 2).is_empty()
+    line_or_empty(printed, 2).is_empty()
 }
 
 // The place after the two comments at which the lines begin that Cargo writes too.
@@ -149,8 +149,8 @@ fn first_other(
     match other_place(alloc, written, wanted)? {
         Some(place) => Ok(Some(OtherLine {
             number: place + 1,
-            written: String::from_str(alloc, line_at(written, place))?,
-            wanted: String::from_str(alloc, line_at(wanted, place))?,
+            written: String::from_str(alloc, line_or_empty(written, place))?,
+            wanted: String::from_str(alloc, line_or_empty(wanted, place))?,
         })),
         None => Ok(None),
     }
@@ -170,7 +170,7 @@ fn other_place(
         → compared_at (texts_at written.now) k ≡ compared_at (texts_at wanted.now) k))) }
 {
     for place in 0..written.len().max(wanted.len()) {
-        if !are_same(alloc, line_at(written, place), line_at(wanted, place))? {
+        if !are_same(alloc, line_or_empty(written, place), line_or_empty(wanted, place))? {
             return Ok(Some(place));
         }
     }
@@ -230,8 +230,8 @@ fn has_escape(text: &[u8], at: usize) -> bool
 }
 
 // The line at a place, or an empty one after the last.
-fn line_at<'a>(lines: &[&'a str], place: usize) -> &'a str
-    ensures { result.now ≡ line_at (texts_at lines.now) place }
+fn line_or_empty<'a>(lines: &[&'a str], place: usize) -> &'a str
+    ensures { result.now ≡ line_or_empty (texts_at lines.now) place }
 {
     match lines.get(place) {
         Some(line) => *line,

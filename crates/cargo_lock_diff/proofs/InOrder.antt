@@ -17,7 +17,7 @@ use Rattle.std.proofs.lemmas.Map.Keys.{IsDistinct-IsPermutation, IsDistinct-tail
 use Rattle.cargo_lock_parts.specs.Identity.{PackageData}
 use Rattle.cargo_lock_diff.specs.declared.likeness.Likeness.TheVariants.{Whole}
 use Rattle.cargo_lock_diff.specs.declared.matching.Placed.{Placed}
-use Rattle.cargo_lock_diff.specs.Difference.{pairs_at}
+use Rattle.cargo_lock_diff.specs.Difference.{referred_pairs}
 use Rattle.cargo_lock_diff.specs.Likeness.{likeness_cmp}
 use Rattle.cargo_lock_diff.specs.Matching.{AreInOrder, IsSublist, firsts}
 use Rattle.cargo_lock_diff.specs.Placing.{AreAt, pair_of}
@@ -297,7 +297,7 @@ numbered-at xs ps is numbered = subst (λ (zs : List (Bor PackageData)). AreAt z
 -- references to pairs that are sorted by the old packages lead to pairs that are
 pub sorted-at : (pairs : List (Bor PackageData × Bor PackageData))
     → IsSorted (on (λ p. p.0.now) (likeness_cmp Whole)) pairs
-    → IsSorted (on (λ p. p.0) (likeness_cmp Whole)) (pairs_at pairs)
+    → IsSorted (on (λ p. p.0) (likeness_cmp Whole)) (referred_pairs pairs)
 sorted-at [] up = λ k d low lt. absurd (omega (arith, lt))
 sorted-at (p ∷ ps) up = λ k d low lt.
     let at : Bor PackageData × Bor PackageData → PackageData × PackageData

@@ -18,7 +18,7 @@ use Rattle.cargo_lock_diff.specs.Keys.{PlaceKey, WholeKey, place_key, place_of, 
 use Rattle.cargo_lock_diff.specs.Likeness.{is_alike, likeness_cmp}
 use Rattle.cargo_lock_diff.specs.Place.{other_source, place_cmp, placed_identity_cmp}
 use Rattle.cargo_lock_diff.specs.Matching.{firsts, seconds}
-use Rattle.cargo_lock_diff.specs.Difference.{DifferenceData, EmptyIfPermuted, IsDifference, IsEmpty, ToldByCount, ToldOnce, count_of, new_told, old_told}
+use Rattle.cargo_lock_diff.specs.Difference.{DifferenceData, EmptyIfPermuted, IsDifference, HasNoChanges, ToldByCount, ToldOnce, count_of, new_told, old_told}
 use Rattle.cargo_lock_diff.proofs.Orders.{likeness_total}
 use Rattle.cargo_lock_diff.proofs.Counts.{count-cons, count-permutation, left-counts}
 use Rattle.cargo_lock_diff.proofs.Pairs.{AreAlike, news-told, olds-told, told-apart}
@@ -100,13 +100,13 @@ pair-keys (p ∷ ps) all =
     let rest = pair-keys ps (All-tail (λ (q : PackageData × PackageData). is_alike Whole q.0 q.1 ≡ true) p ps all) in
     λ i. one i ∷ rest i
 
-old-none : (d : DifferenceData) → IsEmpty d → old_told d ≡ []
+old-none : (d : DifferenceData) → HasNoChanges d → old_told d ≡ []
 old-none d e = λ i. firsts (e.pairs i) ++ e.removed i
 
-new-none : (d : DifferenceData) → IsEmpty d → new_told d ≡ []
+new-none : (d : DifferenceData) → HasNoChanges d → new_told d ≡ []
 new-none d e = λ i. seconds (e.pairs i) ++ e.added i
 
-permuted : (olds news : List PackageData) (d : DifferenceData) → IsDifference olds news d → IsEmpty d → IsPermutation (map whole_key olds) (map whole_key news)
+permuted : (olds news : List PackageData) (d : DifferenceData) → IsDifference olds news d → HasNoChanges d → IsPermutation (map whole_key olds) (map whole_key news)
 permuted olds news d h e =
     let p : IsPermutation olds (firsts d.kept) = subst (λ zs. IsPermutation olds zs) (ap (λ zs. firsts d.kept ++ zs) (old-none d e) ∙ append-nil (firsts d.kept)) (olds-told h.paired) in
     let q : IsPermutation news (seconds d.kept) = subst (λ zs. IsPermutation news zs) (ap (λ zs. seconds d.kept ++ zs) (new-none d e) ∙ append-nil (seconds d.kept)) (news-told h.paired) in
@@ -133,7 +133,7 @@ map-none f (x ∷ xs) e = cc e
 pub same-counts : (xs ys : List PackageData) → IsPermutation (map whole_key xs) (map whole_key ys) → (p : PackageData) → count_of p xs ≡ count_of p ys
 same-counts xs ys perm p = count-keys p xs ∙ sym (count-permutation (has_key p) (map whole_key xs) (map whole_key ys) perm) ∙ sym (count-keys p ys)
 
-emptied : (olds news : List PackageData) (d : DifferenceData) → IsDifference olds news d → IsPermutation (map whole_key olds) (map whole_key news) → IsEmpty d
+emptied : (olds news : List PackageData) (d : DifferenceData) → IsDifference olds news d → IsPermutation (map whole_key olds) (map whole_key news) → HasNoChanges d
 emptied olds news d h perm =
     let same : (p : PackageData) → count_of p news ≡ count_of p olds = λ p. count-keys p news ∙ count-permutation (has_key p) (map whole_key olds) (map whole_key news) perm ∙ sym (count-keys p olds) in
     let o : old_told d ≡ [] = none-there (old_told d) (λ p. (told_by_count olds news d h p).0 ∙ level _ _ (sym (same p))) in

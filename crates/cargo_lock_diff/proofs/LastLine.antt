@@ -8,7 +8,7 @@ use Rattle.shown.proofs.LinesOf.{each-is-line}
 use Rattle.shown.proofs.Printable.{Prints, decimal-prints, either_text, empty, join, literal, words}
 use Rattle.cargo_lock_parts.specs.Ascii.{newline}
 use Rattle.cargo_lock_diff.specs.declared.summary.Summary.{Summary}
-use Rattle.cargo_lock_diff.specs.Change.{ChangeData, line_of, lines_text}
+use Rattle.cargo_lock_diff.specs.Change.{ChangeData, change_line, changes_text}
 use Rattle.cargo_lock_diff.specs.Summary.{SummaryIsOneLine, counted, is_behind, summary_text}
 use Rattle.cargo_lock_diff.proofs.OneLine.{line-prints}
 
@@ -42,7 +42,7 @@ data Line : Type 0 where
   Last : Summary → Line
 
 abbrev text : Line → List ℕ
-text (Of change) = line_of change
+text (Of change) = change_line change
 text (Last s) = summary_text s
 
 text-prints : (l : Line) → Prints (text l)
@@ -50,14 +50,14 @@ text-prints (Of change) = line-prints change
 text-prints (Last s) = summary-prints s
 
 all-text : (changes : List ChangeData) (s : Summary) → flat_map (λ l. text l ++ newline ∷ []) (map Of changes ++ Last s ∷ [])
-    ≡ lines_text changes ++ (summary_text s ++ newline ∷ [])
+    ≡ changes_text changes ++ (summary_text s ++ newline ∷ [])
 all-text [] s = append-nil (summary_text s ++ newline ∷ [])
-all-text (c ∷ cs) s = ap (λ zs. (line_of c ++ newline ∷ []) ++ zs) (all-text cs s)
-    ∙ sym (append_assoc (line_of c ++ newline ∷ []) (lines_text cs) (summary_text s ++ newline ∷ []))
+all-text (c ∷ cs) s = ap (λ zs. (change_line c ++ newline ∷ []) ++ zs) (all-text cs s)
+    ∙ sym (append_assoc (change_line c ++ newline ∷ []) (changes_text cs) (summary_text s ++ newline ∷ []))
 
-all-lines : (changes : List ChangeData) (s : Summary) → map text (map Of changes ++ Last s ∷ []) ≡ map line_of changes ++ summary_text s ∷ []
+all-lines : (changes : List ChangeData) (s : Summary) → map text (map Of changes ++ Last s ∷ []) ≡ map change_line changes ++ summary_text s ∷ []
 all-lines [] s = refl
-all-lines (c ∷ cs) s = ap (λ zs. line_of c ∷ zs) (all-lines cs s)
+all-lines (c ∷ cs) s = ap (λ zs. change_line c ∷ zs) (all-lines cs s)
 
 pub summary-is-one-line : SummaryIsOneLine
 summary-is-one-line changes s =

@@ -18,7 +18,7 @@ use Rattle.std.proofs.lemmas.Map.Keys.{Less-from_sorted}
 use Rattle.cargo_lock_parts.specs.Identity.{Identity, PackageData, identity_of}
 use Rattle.cargo_lock_diff.specs.Change.{OtherDependencies, dependency_change_of, other_dependencies}
 use Rattle.cargo_lock_diff.specs.Dependencies.{are_targets, have_other_dependencies, is_carried, is_carried_either, is_met, is_target, only_in}
-use Rattle.cargo_lock_diff.specs.Difference.{dependencies_at, pairs_at}
+use Rattle.cargo_lock_diff.specs.Difference.{dependencies_at, referred_pairs}
 use Rattle.cargo_lock_diff.specs.Pairing.{exchanged}
 use Rattle.cargo_lock_diff.specs.Place.{target_cmp}
 use Rattle.cargo_lock_diff.specs.Targets.{dependencies_cmp, pairs_cmp, targets_of}
@@ -76,10 +76,10 @@ abbrev leads-to : Identity → List Identity → Bor PackageData × Bor PackageD
 leads-to d es p = is_target p.0.now d && list_any (is_target p.1.now) es
 
 leads-each : (d : Identity) (es : List Identity) (xs : List (Bor PackageData × Bor PackageData))
-    → list_any (is_carried (pairs_at xs) d) es ≡ list_any (leads-to d es) xs
+    → list_any (is_carried (referred_pairs xs) d) es ≡ list_any (leads-to d es) xs
 leads-each d es [] = never es
 leads-each d es (x ∷ xs) =
-    any-or (λ e. is_target x.0.now d && is_target x.1.now e) (is_carried (pairs_at xs) d) es
+    any-or (λ e. is_target x.0.now d && is_target x.1.now e) (is_carried (referred_pairs xs) d) es
     ∙ (λ i. any-and (is_target x.0.now d) (is_target x.1.now) es i || leads-each d es xs i)
 
 -- the order of pairs by their old packages alone
@@ -165,7 +165,7 @@ any-led {X} c q (y ∷ ys) up none =
 pub leads-from : (d : Identity) (es : List Identity) (xs : List (Bor PackageData × Bor PackageData)) (i : ℕ) → IsStrictlySortedBy pairs_cmp xs → i ≤ length xs
     → IsPartitionPoint (λ (p : Bor PackageData × Bor PackageData). is_lt (target_cmp (first_of p) d) ≡ true)
     (λ (p : Bor PackageData × Bor PackageData). is_lt (target_cmp (first_of p) d) ≡ false) xs i
-    → list_any (λ p. list_any (is_target p.1.now) es) (take_while (λ p. is_target p.0.now d) (drop i xs)) ≡ list_any (is_carried (pairs_at xs) d) es
+    → list_any (λ p. list_any (is_target p.1.now) es) (take_while (λ p. is_target p.0.now d) (drop i xs)) ≡ list_any (is_carried (referred_pairs xs) d) es
 leads-from d es xs i up within parts =
     let c : Bor PackageData × Bor PackageData → Ordering = λ p. target_cmp (first_of p) d in
     any-led c (λ p. list_any (is_target p.1.now) es) (drop i xs) (IsNonDecreasingBy-drop (λ p. ordering_index (c p)) i xs (first-rises d xs up))
@@ -215,7 +215,7 @@ among-none p xs i up parted =
 abbrev ties : Identity → Identity → Bor PackageData × Bor PackageData → Bool
 ties d e p = are_targets (p.0.now, p.1.now) d e
 
-carried-at : (d e : Identity) (xs : List (Bor PackageData × Bor PackageData)) → is_carried (pairs_at xs) d e ≡ list_any (ties d e) xs
+carried-at : (d e : Identity) (xs : List (Bor PackageData × Bor PackageData)) → is_carried (referred_pairs xs) d e ≡ list_any (ties d e) xs
 carried-at d e [] = refl
 carried-at d e (x ∷ xs) = ap (λ b. ties d e x || b) (carried-at d e xs)
 
@@ -250,9 +250,9 @@ ties-alike d e x y h =
     ∙ eq-then (target_cmp (identity_of y.0.now) d) (target_cmp (identity_of y.1.now) e)
 
 pub in_order-carries : (xs ys zs : List (Bor PackageData × Bor PackageData)) → IsPermutation xs ys → zs ≡ dedup (λ x y. is_eq (pairs_cmp x y)) ys
-    → (d e : Identity) → is_carried (pairs_at zs) d e ≡ is_carried (pairs_at xs) d e
+    → (d e : Identity) → is_carried (referred_pairs zs) d e ≡ is_carried (referred_pairs xs) d e
 in_order-carries xs ys zs perm made d e =
-    ap (λ l. is_carried (pairs_at l) d e) made
+    ap (λ l. is_carried (referred_pairs l) d e) made
     ∙ carried-at d e (dedup (λ x y. is_eq (pairs_cmp x y)) ys)
     ∙ any-dedup (λ x y. is_eq (pairs_cmp x y)) (ties d e) (ties-alike d e) ys
     ∙ sym (list_any-IsPermutation (ties d e) xs ys perm)
@@ -327,12 +327,12 @@ some-others targets old new gone came g a h =
 -- one more pair
 pub one-more-pair : (targets : List (PackageData × PackageData)) (items : List (Bor PackageData × Bor PackageData)) (i : ℕ) (x : Bor PackageData × Bor PackageData)
     → i < length items → x ≡ get_or items i x
-    → other_dependencies targets (pairs_at (take (i + 1) items))
-    ≡ other_dependencies targets (pairs_at (take i items)) ++ other_dependencies targets ((x.0.now, x.1.now) ∷ [])
+    → other_dependencies targets (referred_pairs (take (i + 1) items))
+    ≡ other_dependencies targets (referred_pairs (take i items)) ++ other_dependencies targets ((x.0.now, x.1.now) ∷ [])
 one-more-pair targets items i x lt at =
-    let before : List (PackageData × PackageData) = pairs_at (take i items) in
+    let before : List (PackageData × PackageData) = referred_pairs (take i items) in
     let one : List (PackageData × PackageData) = (x.0.now, x.1.now) ∷ [] in
     let has : PackageData × PackageData → Bool = λ q. have_other_dependencies targets q.0 q.1 in
-    ap (other_dependencies targets) (ap pairs_at (one-more items i x lt at) ∙ map-append (λ (p : Bor PackageData × Bor PackageData). (p.0.now, p.1.now)) (take i items) (x ∷ []))
+    ap (other_dependencies targets) (ap referred_pairs (one-more items i x lt at) ∙ map-append (λ (p : Bor PackageData × Bor PackageData). (p.0.now, p.1.now)) (take i items) (x ∷ []))
     ∙ ap (map (dependency_change_of targets)) (filter-append has before one)
     ∙ map-append (dependency_change_of targets) (filter has before) (filter has one)

@@ -10,7 +10,7 @@ use Rattle.cargo_lock_parts.specs.Source.{Source}
 use Rattle.cargo_lock_parts.specs.SourceShown.{is_default_registry}
 use Rattle.cargo_lock_diff.specs.Same.{have_one_place}
 use Rattle.cargo_lock_diff.specs.Change.{Added, Alarm, ChangeData, Checksum, EachIsOneLine, Moved, OtherDependencies, Removed, Replaced, Updated}
-use Rattle.cargo_lock_diff.specs.Change.{checksum_mark, checksum_text, checksums_text, dependency_shown, downgrade_mark, is_downgrade, is_of_registry, line_of, named_text, signed_text, signed_texts}
+use Rattle.cargo_lock_diff.specs.Change.{checksum_mark, checksum_text, checksums_text, dependency_shown, downgrade_mark, is_downgrade, is_of_registry, change_line, named_text, signed_text, signed_texts}
 use Rattle.cargo_lock_diff.specs.Change.{package_text, replacement_text, source_alone, source_behind, sources_text, updated_sources, version_shown}
 
 version-prints : (v : Parts) → Prints (version_shown v)
@@ -65,7 +65,7 @@ signed-prints is_old d =
 all-signed-print : (is_old : Bool) (ds : List Identity) → Prints (signed_texts is_old ds)
 all-signed-print is_old = join_each (signed_text is_old) (signed-prints is_old)
 
-pub line-prints : (c : ChangeData) → Prints (line_of c)
+pub line-prints : (c : ChangeData) → Prints (change_line c)
 line-prints (Alarm old new) = words (codes "! ") refl (join (package-prints new) (checksums-print old new))
 line-prints (Moved old new) = words (codes "> ") refl (join (named-prints new) (sources-print old new))
 line-prints (Checksum old new) = words (codes "? ") refl (join (package-prints new) (checksums-print old new))
@@ -79,4 +79,4 @@ line-prints (OtherDependencies old new gone came) = words (codes "= ") refl (joi
     (words (codes ":") refl (join (all-signed-print true gone) (all-signed-print false came))))
 
 pub each-change-is-one-line : EachIsOneLine
-each-change-is-one-line = each-is-line line_of line-prints
+each-change-is-one-line = each-is-line change_line line-prints

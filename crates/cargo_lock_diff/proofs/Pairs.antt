@@ -12,7 +12,7 @@ use Rattle.cargo_lock_diff.specs.declared.likeness.Likeness.TheVariants.{Whole}
 use Rattle.cargo_lock_diff.specs.Likeness.{is_alike}
 use Rattle.cargo_lock_diff.specs.Matching.{AreMatched, PassesWithNone, is_alike_at, firsts, seconds}
 use Rattle.cargo_lock_diff.specs.Pairing.{ArePairedInTurn}
-use Rattle.cargo_lock_diff.specs.Difference.{IsPairing, packages_at, pairs_at, turns}
+use Rattle.cargo_lock_diff.specs.Difference.{IsPairing, packages_at, referred_pairs, turns}
 use Rattle.cargo_lock_diff.proofs.Matched.{matched-map}
 use Rattle.cargo_lock_diff.proofs.Once.{map-there}
 use Rattle.cargo_lock_diff.proofs.InTurn.{all_pairs, in-turn-news, in-turn-olds, paired-map}
@@ -74,7 +74,7 @@ told-apart {pairs = pairs} {removed = removed} {added = added} h =
 in-turn-at : (ls : List Likeness) (olds news : List (Bor PackageData)) (passes : List (List (Bor PackageData × Bor PackageData))) (old new : List (Bor PackageData))
     → ((likeness : Likeness) → IsEquivalence (is_alike likeness))
     → ArePairedInTurn (map is_alike_at ls) olds news passes old new
-    → ArePairedInTurn (map is_alike ls) (packages_at olds) (packages_at news) (map pairs_at passes) (packages_at old) (packages_at new)
+    → ArePairedInTurn (map is_alike ls) (packages_at olds) (packages_at news) (map referred_pairs passes) (packages_at old) (packages_at new)
 in-turn-at [] olds news [] old new laws h = (ap packages_at h.0, ap packages_at h.1)
 in-turn-at [] olds news (p ∷ ps) old new laws h = absurd h
 in-turn-at (l ∷ ls) olds news [] old new laws h = absurd h
@@ -86,23 +86,23 @@ in-turn-at (l ∷ ls) olds news (p ∷ ps) old new laws h = (
 )
 
 flat-at : (passes : List (List (Bor PackageData × Bor PackageData)))
-    → pairs_at (flat_map (λ pass. pass) passes) ≡ flat_map (λ pass. pass) (map pairs_at passes)
+    → referred_pairs (flat_map (λ pass. pass) passes) ≡ flat_map (λ pass. pass) (map referred_pairs passes)
 flat-at [] = refl
-flat-at (p ∷ ps) = map-append (λ (q : Bor PackageData × Bor PackageData). (q.0.now, q.1.now)) p (flat_map (λ pass. pass) ps) ∙ ap (λ zs. pairs_at p ++ zs) (flat-at ps)
+flat-at (p ∷ ps) = map-append (λ (q : Bor PackageData × Bor PackageData). (q.0.now, q.1.now)) p (flat_map (λ pass. pass) ps) ∙ ap (λ zs. referred_pairs p ++ zs) (flat-at ps)
 
 pub paired-at : (olds news : List (Bor PackageData)) (kept : List (Bor PackageData × Bor PackageData)) (o n : List (Bor PackageData))
     (passes : List (List (Bor PackageData × Bor PackageData))) (pairs : List (Bor PackageData × Bor PackageData)) (removed added : List (Bor PackageData))
     → ((likeness : Likeness) → IsEquivalence (is_alike likeness))
     → AreMatched (is_alike_at Whole) olds news kept o n → ArePairedInTurn (map is_alike_at turns) o n passes removed added
     → IsPermutation (flat_map (λ pass. pass) passes) pairs
-    → IsPairing (packages_at olds) (packages_at news) (pairs_at kept) (pairs_at pairs) (packages_at removed) (packages_at added)
+    → IsPairing (packages_at olds) (packages_at news) (referred_pairs kept) (referred_pairs pairs) (packages_at removed) (packages_at added)
 paired-at olds news kept o n passes pairs removed added laws m t p = record {
   old = packages_at o;
   new = packages_at n;
   wholly = matched-map (λ (b : Bor PackageData). b.now) (is_alike Whole) olds news kept o n m;
-  passes = map pairs_at passes;
+  passes = map referred_pairs passes;
   in_turn = in-turn-at turns o n passes removed added laws t;
-  in_all = subst (λ zs. IsPermutation zs (pairs_at pairs)) (flat-at passes)
+  in_all = subst (λ zs. IsPermutation zs (referred_pairs pairs)) (flat-at passes)
       (IsPermutation-map (λ (q : Bor PackageData × Bor PackageData). (q.0.now, q.1.now)) (flat_map (λ pass. pass) passes) pairs p);
 }
 

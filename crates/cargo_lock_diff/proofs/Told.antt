@@ -16,7 +16,7 @@ use Rattle.cargo_lock_diff.specs.declared.change.Aspect.TheVariants as aspect
 use Rattle.cargo_lock_diff.specs.declared.likeness.Likeness.TheVariants.{Name, Origin, Version, Line, Place, Whole}
 use Rattle.cargo_lock_diff.specs.Alarm.{is_alarm, is_altered, is_suspect}
 use Rattle.cargo_lock_diff.specs.Change.{Added, Alarm, ChangeData, NoneIfPermuted, Removed, change_in, changes_in, changes_of, differs_in}
-use Rattle.cargo_lock_diff.specs.Difference.{DifferenceData, IsDifference, IsEmpty, IsPairing, NoneIsLeftAlone, PairingMirrored, turns}
+use Rattle.cargo_lock_diff.specs.Difference.{DifferenceData, IsDifference, HasNoChanges, IsPairing, NoneIsLeftAlone, PairingMirrored, turns}
 use Rattle.cargo_lock_diff.specs.Likeness.{is_alike}
 use Rattle.cargo_lock_diff.specs.Matching.{AreMatched, PassesWithNone, firsts, seconds}
 use Rattle.cargo_lock_diff.specs.Pairing.{exchanged}
@@ -157,7 +157,7 @@ no-pairs olds (p ∷ ps) removed added names apart calm same =
     absurd (changed olds p (All-head (λ (q : PackageData × PackageData). is_alike Name q.0 q.1 ≡ true) p ps names)
     (pair-apart p ps removed added apart) (filter-head (is_alarm olds) p ps calm) (λ one. no-change one p ps (same one)))
 
-no_change-empty : (olds news : List PackageData) (d : DifferenceData) → IsDifference olds news d → changes_of d ≡ [] → IsEmpty d
+no_change-empty : (olds news : List PackageData) (d : DifferenceData) → IsDifference olds news d → changes_of d ≡ [] → HasNoChanges d
 no_change-empty olds news d h e =
     let alarms : List ChangeData = map (λ a. Alarm a.0 a.1) d.alarms in
     let came : List ChangeData = map Removed d.removed ++ map Added d.added in
@@ -188,7 +188,7 @@ no_change-empty olds news d h e =
     by_aspect s c r v aspect.Replacement = r
     by_aspect s c r v aspect.Version = v
 
-empty-no_change : (olds news : List PackageData) (d : DifferenceData) → IsDifference olds news d → IsEmpty d → changes_of d ≡ []
+empty-no_change : (olds news : List PackageData) (d : DifferenceData) → IsDifference olds news d → HasNoChanges d → changes_of d ≡ []
 empty-no_change olds news d h e =
     let told : seconds d.alarms ≡ [] = h.alarmed.told ∙ (λ i. seconds (filter (is_alarm olds) (e.pairs i)) ++ filter (is_suspect olds) (e.added i)) in
     let none : d.alarms ≡ [] = map-none (λ (a : PackageData × PackageData). a.1) d.alarms told in

@@ -20,7 +20,7 @@ use Rattle.cargo_lock_parts.specs.SourceKey.{text_cmp}
 use Rattle.cargo_lock_diff.specs.declared.likeness.Likeness.{Likeness}
 use Rattle.cargo_lock_diff.specs.declared.likeness.Likeness.TheVariants.{Name, Version, Place, Archive}
 use Rattle.cargo_lock_diff.specs.Alarm.{AreAlarms, IsFounded, has_checksum, is_alarm, is_altered, is_suspect, is_vouched}
-use Rattle.cargo_lock_diff.specs.Difference.{packages_at, pairs_at}
+use Rattle.cargo_lock_diff.specs.Difference.{packages_at, referred_pairs}
 use Rattle.cargo_lock_diff.specs.Likeness.{is_alike, likeness_cmp}
 use Rattle.cargo_lock_diff.specs.Matching.{seconds}
 use Rattle.cargo_lock_diff.specs.Same.{have_one_version}
@@ -261,18 +261,18 @@ filter-miss : {X : Type 0} (q : X → Bool) (xs : List X) (x : X) → q x ≡ fa
 filter-miss {X} q xs x miss = filter-append q xs (x ∷ []) ∙ ap (λ (b : Bool). filter q xs ++ cond b (x ∷ []) []) miss ∙ append-nil (filter q xs)
 
 pub record AlarmsSo (known told : List PackageData) (all : List (Bor PackageData × Bor PackageData)) : Type 0 where
-  pub founded : All (λ a. IsFounded a.0 a.1) (pairs_at all)
-  pub among : All (λ a. Contains known a.0) (pairs_at all)
-  pub told_all : seconds (pairs_at all) ≡ told
+  pub founded : All (λ a. IsFounded a.0 a.1) (referred_pairs all)
+  pub among : All (λ a. Contains known a.0) (referred_pairs all)
+  pub told_all : seconds (referred_pairs all) ≡ told
 
 so-hit : (known told : List PackageData) (all all' : List (Bor PackageData × Bor PackageData)) (o n : Bor PackageData)
     → AlarmsSo known told all → all' ≡ all ++ (o, n) ∷ [] → IsFounded o.now n.now → Contains known o.now → AlarmsSo known (told ++ n.now ∷ []) all'
 so-hit known told all all' o n so is h there = rw is record {
   founded = subst (λ zs. All (λ (a : PackageData × PackageData). IsFounded a.0 a.1) zs) (sym (map-append at all ((o, n) ∷ [])))
-      (All-push (λ (a : PackageData × PackageData). IsFounded a.0 a.1) (pairs_at all) (o.now, n.now) so.founded h);
+      (All-push (λ (a : PackageData × PackageData). IsFounded a.0 a.1) (referred_pairs all) (o.now, n.now) so.founded h);
   among = subst (λ zs. All (λ (a : PackageData × PackageData). Contains known a.0) zs) (sym (map-append at all ((o, n) ∷ [])))
-      (All-push (λ (a : PackageData × PackageData). Contains known a.0) (pairs_at all) (o.now, n.now) so.among there);
-  told_all = ap (λ zs. seconds zs) (map-append at all ((o, n) ∷ [])) ∙ map-append (λ (a : PackageData × PackageData). a.1) (pairs_at all) ((o.now, n.now) ∷ [])
+      (All-push (λ (a : PackageData × PackageData). Contains known a.0) (referred_pairs all) (o.now, n.now) so.among there);
+  told_all = ap (λ zs. seconds zs) (map-append at all ((o, n) ∷ [])) ∙ map-append (λ (a : PackageData × PackageData). a.1) (referred_pairs all) ((o.now, n.now) ∷ [])
       ∙ ap (λ zs. zs ++ n.now ∷ []) so.told_all;
 }
   where
@@ -301,64 +301,64 @@ added-miss known items i x all lt at so miss =
 
 pub pairs-hit : (known : List PackageData) (items : List (Bor PackageData × Bor PackageData)) (i : ℕ) (x : Bor PackageData × Bor PackageData) (o : Bor PackageData)
     (all all' : List (Bor PackageData × Bor PackageData))
-    → i < length items → x ≡ get_or items i x → AlarmsSo known (seconds (filter (is_alarm known) (pairs_at (take i items)))) all
+    → i < length items → x ≡ get_or items i x → AlarmsSo known (seconds (filter (is_alarm known) (referred_pairs (take i items)))) all
     → all' ≡ all ++ (o, x.1) ∷ [] → is_alarm known (x.0.now, x.1.now) ≡ true → IsFounded o.now x.1.now → Contains known o.now
-    → AlarmsSo known (seconds (filter (is_alarm known) (pairs_at (take (i + 1) items)))) all'
+    → AlarmsSo known (seconds (filter (is_alarm known) (referred_pairs (take (i + 1) items)))) all'
 pairs-hit known items i x o all all' lt at so is hit h there =
     let p : PackageData × PackageData = (x.0.now, x.1.now) in
-    let before : List (PackageData × PackageData) = pairs_at (take i items) in
+    let before : List (PackageData × PackageData) = referred_pairs (take i items) in
     subst (λ zs. AlarmsSo known zs all')
-    (sym (ap (λ zs. seconds (filter (is_alarm known) (pairs_at zs))) (one-more items i x lt at)
+    (sym (ap (λ zs. seconds (filter (is_alarm known) (referred_pairs zs))) (one-more items i x lt at)
     ∙ ap (λ zs. seconds (filter (is_alarm known) zs)) (map-append (λ (q : Bor PackageData × Bor PackageData). (q.0.now, q.1.now)) (take i items) (x ∷ []))
     ∙ ap (λ zs. seconds zs) (filter-hit (is_alarm known) before p hit) ∙ map-append (λ (q : PackageData × PackageData). q.1) (filter (is_alarm known) before) (p ∷ [])))
     (so-hit known _ all all' o x.1 so is h there)
 
 pub pairs-miss : (known : List PackageData) (items : List (Bor PackageData × Bor PackageData)) (i : ℕ) (x : Bor PackageData × Bor PackageData)
     (all : List (Bor PackageData × Bor PackageData))
-    → i < length items → x ≡ get_or items i x → AlarmsSo known (seconds (filter (is_alarm known) (pairs_at (take i items)))) all
+    → i < length items → x ≡ get_or items i x → AlarmsSo known (seconds (filter (is_alarm known) (referred_pairs (take i items)))) all
     → is_alarm known (x.0.now, x.1.now) ≡ false
-    → AlarmsSo known (seconds (filter (is_alarm known) (pairs_at (take (i + 1) items)))) all
+    → AlarmsSo known (seconds (filter (is_alarm known) (referred_pairs (take (i + 1) items)))) all
 pairs-miss known items i x all lt at so miss =
     let p : PackageData × PackageData = (x.0.now, x.1.now) in
-    let before : List (PackageData × PackageData) = pairs_at (take i items) in
+    let before : List (PackageData × PackageData) = referred_pairs (take i items) in
     subst (λ zs. AlarmsSo known zs all)
-    (sym (ap (λ zs. seconds (filter (is_alarm known) (pairs_at zs))) (one-more items i x lt at)
+    (sym (ap (λ zs. seconds (filter (is_alarm known) (referred_pairs zs))) (one-more items i x lt at)
     ∙ ap (λ zs. seconds (filter (is_alarm known) zs)) (map-append (λ (q : Bor PackageData × Bor PackageData). (q.0.now, q.1.now)) (take i items) (x ∷ []))
     ∙ ap (λ zs. seconds zs) (filter-miss (is_alarm known) before p miss)))
     so
 
 -- each pair that is altered is there itself
 abbrev pub AreOwn : List (PackageData × PackageData) → List (Bor PackageData × Bor PackageData) → Type 0
-AreOwn pairs all = All (λ p. is_altered p.0 p.1 ≡ true → Contains (pairs_at all) p) pairs
+AreOwn pairs all = All (λ p. is_altered p.0 p.1 ≡ true → Contains (referred_pairs all) p) pairs
 
 own-more : (items : List (Bor PackageData × Bor PackageData)) (i : ℕ) (x : Bor PackageData × Bor PackageData) (all : List (Bor PackageData × Bor PackageData))
-    → i < length items → x ≡ get_or items i x → AreOwn (pairs_at (take i items)) all
-    → (is_altered x.0.now x.1.now ≡ true → Contains (pairs_at all) (x.0.now, x.1.now))
-    → AreOwn (pairs_at (take (i + 1) items)) all
+    → i < length items → x ≡ get_or items i x → AreOwn (referred_pairs (take i items)) all
+    → (is_altered x.0.now x.1.now ≡ true → Contains (referred_pairs all) (x.0.now, x.1.now))
+    → AreOwn (referred_pairs (take (i + 1) items)) all
 own-more items i x all lt at own here =
     subst (λ zs. AreOwn zs all)
-    (sym (ap pairs_at (one-more items i x lt at) ∙ map-append (λ (q : Bor PackageData × Bor PackageData). (q.0.now, q.1.now)) (take i items) (x ∷ [])))
-    (All-push (λ (p : PackageData × PackageData). is_altered p.0 p.1 ≡ true → Contains (pairs_at all) p) (pairs_at (take i items)) (x.0.now, x.1.now) own here)
+    (sym (ap referred_pairs (one-more items i x lt at) ∙ map-append (λ (q : Bor PackageData × Bor PackageData). (q.0.now, q.1.now)) (take i items) (x ∷ [])))
+    (All-push (λ (p : PackageData × PackageData). is_altered p.0 p.1 ≡ true → Contains (referred_pairs all) p) (referred_pairs (take i items)) (x.0.now, x.1.now) own here)
 
 -- an alarm whose old package is that of the pair where the pair is altered
 pub own-hit : (items : List (Bor PackageData × Bor PackageData)) (i : ℕ) (x : Bor PackageData × Bor PackageData) (o : Bor PackageData)
     (all all' : List (Bor PackageData × Bor PackageData))
-    → i < length items → x ≡ get_or items i x → AreOwn (pairs_at (take i items)) all → all' ≡ all ++ (o, x.1) ∷ []
+    → i < length items → x ≡ get_or items i x → AreOwn (referred_pairs (take i items)) all → all' ≡ all ++ (o, x.1) ∷ []
     → (is_altered x.0.now x.1.now ≡ true → o.now ≡ x.0.now)
-    → AreOwn (pairs_at (take (i + 1) items)) all'
+    → AreOwn (referred_pairs (take (i + 1) items)) all'
 own-hit items i x o all all' lt at own is mine =
-    let split : pairs_at all' ≡ pairs_at all ++ (o.now, x.1.now) ∷ [] = ap pairs_at is ∙ map-append (λ (q : Bor PackageData × Bor PackageData). (q.0.now, q.1.now)) all ((o, x.1) ∷ []) in
+    let split : referred_pairs all' ≡ referred_pairs all ++ (o.now, x.1.now) ∷ [] = ap referred_pairs is ∙ map-append (λ (q : Bor PackageData × Bor PackageData). (q.0.now, q.1.now)) all ((o, x.1) ∷ []) in
     own-more items i x all' lt at
-    (All-weaker (λ (p : PackageData × PackageData). is_altered p.0 p.1 ≡ true → Contains (pairs_at all) p) (λ (p : PackageData × PackageData). is_altered p.0 p.1 ≡ true → Contains (pairs_at all') p)
-    (λ p there altered. subst (λ zs. Contains zs p) (sym split) (Contains-append_left (pairs_at all) ((o.now, x.1.now) ∷ []) p (there altered))) (pairs_at (take i items)) own)
+    (All-weaker (λ (p : PackageData × PackageData). is_altered p.0 p.1 ≡ true → Contains (referred_pairs all) p) (λ (p : PackageData × PackageData). is_altered p.0 p.1 ≡ true → Contains (referred_pairs all') p)
+    (λ p there altered. subst (λ zs. Contains zs p) (sym split) (Contains-append_left (referred_pairs all) ((o.now, x.1.now) ∷ []) p (there altered))) (referred_pairs (take i items)) own)
     (λ altered. subst (λ zs. Contains zs (x.0.now, x.1.now)) (sym split)
-    (subst (λ (q : PackageData). Contains (pairs_at all ++ (q, x.1.now) ∷ []) (x.0.now, x.1.now)) (sym (mine altered)) (Contains-push (pairs_at all) (x.0.now, x.1.now))))
+    (subst (λ (q : PackageData). Contains (referred_pairs all ++ (q, x.1.now) ∷ []) (x.0.now, x.1.now)) (sym (mine altered)) (Contains-push (referred_pairs all) (x.0.now, x.1.now))))
 
 -- no alarm
 pub own-miss : (known : List PackageData) (items : List (Bor PackageData × Bor PackageData)) (i : ℕ) (x : Bor PackageData × Bor PackageData)
     (all : List (Bor PackageData × Bor PackageData))
-    → i < length items → x ≡ get_or items i x → AreOwn (pairs_at (take i items)) all → is_alarm known (x.0.now, x.1.now) ≡ false
-    → AreOwn (pairs_at (take (i + 1) items)) all
+    → i < length items → x ≡ get_or items i x → AreOwn (referred_pairs (take i items)) all → is_alarm known (x.0.now, x.1.now) ≡ false
+    → AreOwn (referred_pairs (take (i + 1) items)) all
 own-miss known items i x all lt at own miss =
     own-more items i x all lt at own (λ altered. absurd (true≢false (sym (or-true (is_altered x.0.now x.1.now) (is_suspect known x.1.now) altered) ∙ miss)))
   where
@@ -369,15 +369,15 @@ own-miss known items i x all lt at own miss =
 -- one list behind another
 pub alarms-joined : (known : List PackageData) (pairs : List (PackageData × PackageData)) (added : List PackageData) (one other all : List (Bor PackageData × Bor PackageData))
     → AlarmsSo known (seconds (filter (is_alarm known) pairs)) one → AreOwn pairs one → AlarmsSo known (filter (is_suspect known) added) other → all ≡ one ++ other
-    → AreAlarms known pairs added (pairs_at all)
+    → AreAlarms known pairs added (referred_pairs all)
 alarms-joined known pairs added one other all a own b is =
-    let split : pairs_at all ≡ pairs_at one ++ pairs_at other = ap pairs_at is ∙ map-append (λ (q : Bor PackageData × Bor PackageData). (q.0.now, q.1.now)) one other in
+    let split : referred_pairs all ≡ referred_pairs one ++ referred_pairs other = ap referred_pairs is ∙ map-append (λ (q : Bor PackageData × Bor PackageData). (q.0.now, q.1.now)) one other in
     rw split record {
-      founded = All-append (λ (p : PackageData × PackageData). IsFounded p.0 p.1) (pairs_at one) (pairs_at other) a.founded b.founded;
-      among = All-append (λ (p : PackageData × PackageData). Contains known p.0) (pairs_at one) (pairs_at other) a.among b.among;
-      own = All-weaker (λ (p : PackageData × PackageData). is_altered p.0 p.1 ≡ true → Contains (pairs_at one) p) (λ (p : PackageData × PackageData). is_altered p.0 p.1 ≡ true → Contains (pairs_at one ++ pairs_at other) p)
-          (λ p there altered. Contains-append_left (pairs_at one) (pairs_at other) p (there altered)) pairs own;
-      told = map-append (λ (p : PackageData × PackageData). p.1) (pairs_at one) (pairs_at other) ∙ (λ i. a.told_all i ++ b.told_all i);
+      founded = All-append (λ (p : PackageData × PackageData). IsFounded p.0 p.1) (referred_pairs one) (referred_pairs other) a.founded b.founded;
+      among = All-append (λ (p : PackageData × PackageData). Contains known p.0) (referred_pairs one) (referred_pairs other) a.among b.among;
+      own = All-weaker (λ (p : PackageData × PackageData). is_altered p.0 p.1 ≡ true → Contains (referred_pairs one) p) (λ (p : PackageData × PackageData). is_altered p.0 p.1 ≡ true → Contains (referred_pairs one ++ referred_pairs other) p)
+          (λ p there altered. Contains-append_left (referred_pairs one) (referred_pairs other) p (there altered)) pairs own;
+      told = map-append (λ (p : PackageData × PackageData). p.1) (referred_pairs one) (referred_pairs other) ∙ (λ i. a.told_all i ++ b.told_all i);
     }
 
 -- what a function makes of a value that may be absent is there where the value is

@@ -196,28 +196,28 @@ abbrev pub signed_texts : Bool → List Identity → List ℕ
 signed_texts is_old = flat_map (signed_text is_old)
 
 -- the line of a change
-abbrev pub line_of : ChangeData → List ℕ
-line_of (Alarm old new) = codes "! " ++ (package_text new ++ checksums_text old new)
-line_of (Moved old new) = codes "> " ++ (named_text new ++ sources_text old new)
-line_of (Checksum old new) = codes "? " ++ (package_text new ++ checksums_text old new)
-line_of (Replaced old new) = codes "@ " ++ (package_text new ++ (codes ": replacement "
+abbrev pub change_line : ChangeData → List ℕ
+change_line (Alarm old new) = codes "! " ++ (package_text new ++ checksums_text old new)
+change_line (Moved old new) = codes "> " ++ (named_text new ++ sources_text old new)
+change_line (Checksum old new) = codes "? " ++ (package_text new ++ checksums_text old new)
+change_line (Replaced old new) = codes "@ " ++ (package_text new ++ (codes ": replacement "
     ++ (replacement_text old.replace ++ (codes " -> " ++ replacement_text new.replace))))
-line_of (Updated old new) = codes "~ " ++ (named_text old ++ (codes " -> "
+change_line (Updated old new) = codes "~ " ++ (named_text old ++ (codes " -> "
     ++ (version_shown new.version ++ (updated_sources old new ++ downgrade_mark old new))))
-line_of (Removed old) = codes "- " ++ package_text old
-line_of (Added new) = codes "+ " ++ (package_text new ++ checksum_mark new)
-line_of (OtherDependencies old new gone came) = codes "= " ++ (package_text new ++ (codes ":"
+change_line (Removed old) = codes "- " ++ package_text old
+change_line (Added new) = codes "+ " ++ (package_text new ++ checksum_mark new)
+change_line (OtherDependencies old new gone came) = codes "= " ++ (package_text new ++ (codes ":"
     ++ (signed_texts true gone ++ signed_texts false came)))
 
 -- the line of each change, with its newline
-abbrev pub lines_text : List ChangeData → List ℕ
-lines_text = flat_map (λ change. line_of change ++ newline ∷ [])
+abbrev pub changes_text : List ChangeData → List ℕ
+changes_text = flat_map (λ change. change_line change ++ newline ∷ [])
 
 -- ---- laws
 
 -- each change is exactly one line, whatever its names, versions, sources and checksums hold
 abbrev pub EachIsOneLine : Type 0
-EachIsOneLine = (changes : List ChangeData) → lines (lines_text changes) ≡ map line_of changes
+EachIsOneLine = (changes : List ChangeData) → lines (changes_text changes) ≡ map change_line changes
 
 -- no change is reported exactly if the lists have the same whole keys, each as often
 abbrev pub NoneIfPermuted : Type 0

@@ -19,8 +19,8 @@ abbrev pub packages_at : List (Bor PackageData) → List PackageData
 packages_at = map (λ b. b.now)
 
 -- the pairs of packages to which the pairs of references refer
-abbrev pub pairs_at : List (Bor PackageData × Bor PackageData) → List (PackageData × PackageData)
-pairs_at = map (λ p. (p.0.now, p.1.now))
+abbrev pub referred_pairs : List (Bor PackageData × Bor PackageData) → List (PackageData × PackageData)
+referred_pairs = map (λ p. (p.0.now, p.1.now))
 
 -- the dependencies to which the references refer
 abbrev pub dependencies_at : List (Bor Identity) → List Identity
@@ -61,7 +61,7 @@ pub record IsDifference (olds news : List PackageData) (d : DifferenceData) : Ty
   pub alarmed : AreAlarms olds d.pairs d.added d.alarms
 
 -- nothing is reported
-pub record IsEmpty (d : DifferenceData) : Type 0 where
+pub record HasNoChanges (d : DifferenceData) : Type 0 where
   pub pairs : d.pairs ≡ []
   pub removed : d.removed ≡ []
   pub added : d.added ≡ []
@@ -97,7 +97,7 @@ ToldByCount = (olds news : List PackageData) (d : DifferenceData) → IsDifferen
 -- nothing is reported exactly if the lists have the same whole keys, each as often
 abbrev pub EmptyIfPermuted : Type 0
 EmptyIfPermuted = (olds news : List PackageData) (d : DifferenceData) → IsDifference olds news d
-    → IsEmpty d ↔ IsPermutation (map whole_key olds) (map whole_key news)
+    → HasNoChanges d ↔ IsPermutation (map whole_key olds) (map whole_key news)
 
 -- how many pairs are wholly like two packages
 abbrev pub count_of_pair : PackageData → PackageData → List (PackageData × PackageData) → ℕ

@@ -8,7 +8,7 @@ use Rattle.cargo_lock_diff.specs.declared.summary.Kind.{Kind}
 use Rattle.cargo_lock_diff.specs.declared.summary.Kind.TheVariants as kind
 use Rattle.cargo_lock_diff.specs.declared.summary.Summary.{Summary}
 use Rattle.cargo_lock_diff.specs.Change.{ChangeData, Alarm, Moved, Checksum, Replaced, Updated}
-use Rattle.cargo_lock_diff.specs.Change.{Removed, Added, OtherDependencies, is_downgrade, line_of, lines_text}
+use Rattle.cargo_lock_diff.specs.Change.{Removed, Added, OtherDependencies, is_downgrade, change_line, changes_text}
 
 -- the change is another version: one that is less than the old one, or one that is not
 abbrev pub is_update : Bool → ChangeData → Bool
@@ -86,5 +86,5 @@ summary_text s =
 -- the lines of changes and the summary are exactly as many lines as changes, and one more
 abbrev pub SummaryIsOneLine : Type 0
 SummaryIsOneLine = (changes : List ChangeData) (s : Summary)
-    → lines (lines_text changes ++ (summary_text s ++ newline ∷ []))
-    ≡ map line_of changes ++ summary_text s ∷ []
+    → lines (changes_text changes ++ (summary_text s ++ newline ∷ []))
+    ≡ map change_line changes ++ summary_text s ∷ []

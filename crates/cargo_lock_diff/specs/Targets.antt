@@ -7,7 +7,7 @@ use Rattle.std.specs.List.Sorted.{IsStrictlySortedBy}
 use Rattle.std.specs.Ordering.{on, then_cmp}
 use Rattle.cargo_lock_parts.specs.Identity.{Identity, PackageData, identity_of}
 use Rattle.cargo_lock_diff.specs.Dependencies.{is_carried}
-use Rattle.cargo_lock_diff.specs.Difference.{pairs_at}
+use Rattle.cargo_lock_diff.specs.Difference.{referred_pairs}
 use Rattle.cargo_lock_diff.specs.Place.{target_cmp}
 
 -- the order of an old and a new dependency
@@ -34,6 +34,6 @@ pub record AreIndices (pairs by_old by_new : List (Bor PackageData × Bor Packag
     pub old_sorted : IsStrictlySortedBy pairs_cmp by_old
     pub new_sorted : IsStrictlySortedBy pairs_cmp by_new
     pub old_carries : (d e : Identity)
-        → is_carried (pairs_at by_old) d e ≡ is_carried (pairs_at pairs) d e
+        → is_carried (referred_pairs by_old) d e ≡ is_carried (referred_pairs pairs) d e
     pub new_carries : (d e : Identity)
-        → is_carried (pairs_at by_new) e d ≡ is_carried (pairs_at pairs) d e
+        → is_carried (referred_pairs by_new) e d ≡ is_carried (referred_pairs pairs) d e

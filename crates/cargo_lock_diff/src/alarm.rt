@@ -6,7 +6,7 @@ ghost use Rattle.std.specs.List.{Contains, list_any};
 ghost use Rattle.cargo_lock_diff.specs.Alarm.{AreAlarms, IsFounded, has_checksum, is_alarm};
 ghost use Rattle.cargo_lock_diff.specs.Alarm.{is_altered, is_suspect};
 ghost use Rattle.cargo_lock_diff.specs.Alarm as spec;
-ghost use Rattle.cargo_lock_diff.specs.Difference.{packages_at, pairs_at};
+ghost use Rattle.cargo_lock_diff.specs.Difference.{packages_at, referred_pairs};
 ghost use Rattle.cargo_lock_diff.specs.Likeness.{is_alike, likeness_cmp};
 ghost use Rattle.cargo_lock_diff.specs.Matching.{seconds};
 ghost use Rattle.cargo_lock_diff.specs.Vouchers.{cmp_at};
@@ -157,11 +157,11 @@ pub(crate) fn alarms<'a>(
     pairs: &Vec<(&'a Package, &'a Package)>,
     added: &Vec<&'a Package>,
 ) -> Result<Vec<(&'a Package, &'a Package)>, AllocError>
-    requires named { All (λ p. is_alike Likeness.Name p.0 p.1 ≡ true) (pairs_at pairs.now.items) }
+    requires named { All (λ p. is_alike Likeness.Name p.0 p.1 ≡ true) (referred_pairs pairs.now.items) }
     requires vouched { All (λ p. has_checksum p.0 ≡ true → Contains vouchers.now p.0)
-        (pairs_at pairs.now.items) }
+        (referred_pairs pairs.now.items) }
     ensures { IfOk result (λ all. AreAlarms vouchers.now
-        (pairs_at pairs.now.items) (packages_at added.now.items) (pairs_at all.items)) }
+        (referred_pairs pairs.now.items) (packages_at added.now.items) (referred_pairs all.items)) }
 {
     let mut all = alarms_of_pairs(alloc, vouchers, pairs)?;
     let others = alarms_of_added(alloc, vouchers, added)?;
@@ -174,17 +174,17 @@ fn alarms_of_pairs<'a>(
     vouchers: &Vouchers<'a>,
     pairs: &Vec<(&'a Package, &'a Package)>,
 ) -> Result<Vec<(&'a Package, &'a Package)>, AllocError>
-    requires named { All (λ p. is_alike Likeness.Name p.0 p.1 ≡ true) (pairs_at pairs.now.items) }
+    requires named { All (λ p. is_alike Likeness.Name p.0 p.1 ≡ true) (referred_pairs pairs.now.items) }
     requires vouched { All (λ p. has_checksum p.0 ≡ true → Contains vouchers.now p.0)
-        (pairs_at pairs.now.items) }
-    ensures founded { IfOk result (λ all. All (λ a. IsFounded a.0 a.1) (pairs_at all.items)) }
+        (referred_pairs pairs.now.items) }
+    ensures founded { IfOk result (λ all. All (λ a. IsFounded a.0 a.1) (referred_pairs all.items)) }
     ensures among { IfOk result
-        (λ all. All (λ a. Contains vouchers.now a.0) (pairs_at all.items)) }
+        (λ all. All (λ a. Contains vouchers.now a.0) (referred_pairs all.items)) }
     ensures own { IfOk result (λ all. All
-        (λ p. is_altered p.0 p.1 ≡ true → Contains (pairs_at all.items) p)
-        (pairs_at pairs.now.items)) }
-    ensures told { IfOk result (λ all. seconds (pairs_at all.items)
-        ≡ seconds (filter (is_alarm vouchers.now) (pairs_at pairs.now.items))) }
+        (λ p. is_altered p.0 p.1 ≡ true → Contains (referred_pairs all.items) p)
+        (referred_pairs pairs.now.items)) }
+    ensures told { IfOk result (λ all. seconds (referred_pairs all.items)
+        ≡ seconds (filter (is_alarm vouchers.now) (referred_pairs pairs.now.items))) }
 {
     let mut all = Vec::new(alloc);
     for pair in pairs {
@@ -200,10 +200,10 @@ fn alarms_of_added<'a>(
     vouchers: &Vouchers<'a>,
     added: &Vec<&'a Package>,
 ) -> Result<Vec<(&'a Package, &'a Package)>, AllocError>
-    ensures founded { IfOk result (λ all. All (λ a. IsFounded a.0 a.1) (pairs_at all.items)) }
+    ensures founded { IfOk result (λ all. All (λ a. IsFounded a.0 a.1) (referred_pairs all.items)) }
     ensures among { IfOk result
-        (λ all. All (λ a. Contains vouchers.now a.0) (pairs_at all.items)) }
-    ensures told { IfOk result (λ all. seconds (pairs_at all.items)
+        (λ all. All (λ a. Contains vouchers.now a.0) (referred_pairs all.items)) }
+    ensures told { IfOk result (λ all. seconds (referred_pairs all.items)
         ≡ filter (is_suspect vouchers.now) (packages_at added.now.items)) }
 {
     let mut all = Vec::new(alloc);

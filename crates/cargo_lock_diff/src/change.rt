@@ -4,7 +4,7 @@ ghost use Rattle.std.specs.Prelude.{◌≡◌, [], ◌∷◌, ◌++◌, IfOk, On
 ghost use Rattle.cargo_lock_diff.specs.Change.{Added, Alarm, Removed, change_in, change_of};
 ghost use Rattle.cargo_lock_diff.specs.Change.{changes_in, differs_in};
 ghost use Rattle.cargo_lock_diff.specs.Change as spec;
-ghost use Rattle.cargo_lock_diff.specs.Difference.{packages_at, pairs_at};
+ghost use Rattle.cargo_lock_diff.specs.Difference.{packages_at, referred_pairs};
 
 use crate::dependencies::Targets;
 use crate::parts::{
@@ -63,9 +63,9 @@ pub enum Change<'a> {
 
 impl fmt::Display for Change<'_> {
     ghost use Rattle.std.specs.Prelude.{Some};
-    ghost use Rattle.cargo_lock_diff.specs.Change.{change_of, line_of};
+    ghost use Rattle.cargo_lock_diff.specs.Change.{change_of, change_line};
 
-    ghost output = { λ change. Some (line_of (change_of change)) };
+    ghost output = { λ change. Some (change_line (change_of change)) };
 
     fn fmt<W: fmt::Write>(&self, f: &mut fmt::Formatter<W>) -> fmt::Result {
         match self {
@@ -158,7 +158,7 @@ pub(crate) fn add_alarms<'a>(
     alarms: &Vec<(&'a Package, &'a Package)>,
 ) -> Result<(), AllocError>
     ensures { OnOk result (map change_of all.new.items
-        ≡ map change_of all.old.items ++ map (λ a. Alarm a.0 a.1) (pairs_at alarms.now.items)) }
+        ≡ map change_of all.old.items ++ map (λ a. Alarm a.0 a.1) (referred_pairs alarms.now.items)) }
 {
     for alarm in alarms {
         all.push(Change::Alarm(alarm.0, alarm.1))?;
@@ -173,7 +173,7 @@ pub(crate) fn add_pairs<'a>(
     pairs: &Vec<(&'a Package, &'a Package)>,
 ) -> Result<(), AllocError>
     ensures { OnOk result (map change_of all.new.items
-        ≡ map change_of all.old.items ++ changes_in aspect (pairs_at pairs.now.items)) }
+        ≡ map change_of all.old.items ++ changes_in aspect (referred_pairs pairs.now.items)) }
 {
     for pair in pairs {
         if aspect.differs(pair.0, pair.1) {
@@ -218,7 +218,7 @@ pub(crate) fn other_dependencies<'a>(
     pairs: &Vec<(&'a Package, &'a Package)>,
 ) -> Result<Vec<Change<'a>>, AllocError>
     ensures { IfOk result (λ all. map change_of all.items
-        ≡ spec.other_dependencies targets.now (pairs_at pairs.now.items)) }
+        ≡ spec.other_dependencies targets.now (referred_pairs pairs.now.items)) }
 {
     let mut all = Vec::new(alloc);
     for pair in pairs {

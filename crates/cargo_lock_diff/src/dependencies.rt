@@ -5,7 +5,7 @@ ghost use Rattle.std.specs.List.{list_any, take_while};
 ghost use Rattle.std.specs.List.Sorted.{IsStrictlySortedBy};
 ghost use Rattle.cargo_lock_parts.specs.Identity.{identity_of};
 ghost use Rattle.cargo_lock_diff.specs.Dependencies.{is_carried, is_met, is_target, only_in};
-ghost use Rattle.cargo_lock_diff.specs.Difference.{dependencies_at, pairs_at};
+ghost use Rattle.cargo_lock_diff.specs.Difference.{dependencies_at, referred_pairs};
 ghost use Rattle.cargo_lock_diff.specs.Pairing.{exchanged};
 ghost use Rattle.cargo_lock_diff.specs.Place.{target_cmp};
 ghost use Rattle.cargo_lock_diff.specs.Targets.{dependencies_cmp, pairs_cmp};
@@ -34,12 +34,12 @@ pub(crate) struct Targets<'a> {
 impl<'a> Model for Targets<'a> {
     ghost use Rattle.std.specs.Prelude.{List};
     ghost use Rattle.cargo_lock_parts.specs.Identity.{PackageData};
-    ghost use Rattle.cargo_lock_diff.specs.Difference.{pairs_at};
+    ghost use Rattle.cargo_lock_diff.specs.Difference.{referred_pairs};
     ghost use Rattle.cargo_lock_diff.specs.Targets.{AreIndices};
 
     ghost Value = { List (PackageData × PackageData) };
 
-    ghost view = { λ t. pairs_at t.pairs.items };
+    ghost view = { λ t. referred_pairs t.pairs.items };
 
     ghost invariant = { λ t. AreIndices t.pairs.items t.by_old.items t.by_new.items };
 }
@@ -51,7 +51,7 @@ impl<'a> Targets<'a> {
         kept: &Vec<(&'a Package, &'a Package)>,
         others: &Vec<(&'a Package, &'a Package)>,
     ) -> Result<Targets<'a>, AllocError>
-        ensures { IfOk result (λ t. t ≡ pairs_at kept.now.items ++ pairs_at others.now.items) }
+        ensures { IfOk result (λ t. t ≡ referred_pairs kept.now.items ++ referred_pairs others.now.items) }
     {
         let pairs = joined(alloc, kept, others)?;
         let by_old = in_order(joined(alloc, kept, others)?)?;
@@ -118,7 +118,7 @@ impl<'a> Targets<'a> {
 fn leads(pairs: &Vec<(&Package, &Package)>, one: &Dependency, others: &Vec<&Dependency>) -> bool
     requires pairs { IsStrictlySortedBy pairs_cmp pairs.now.items }
     requires others { IsSorted dependencies_cmp others.now.items }
-    ensures { result ≡ list_any (is_carried (pairs_at pairs.now.items) one.now)
+    ensures { result ≡ list_any (is_carried (referred_pairs pairs.now.items) one.now)
         (dependencies_at others.now.items) }
 {
     let from = pairs.partition_point(|pair| cmp_target(pair.0, one).is_lt());
@@ -213,7 +213,7 @@ fn exchanged_pairs<'a>(
     alloc: Global,
     pairs: &Vec<(&'a Package, &'a Package)>,
 ) -> Result<Vec<(&'a Package, &'a Package)>, AllocError>
-    ensures { IfOk result (λ all. pairs_at all.items ≡ map exchanged (pairs_at pairs.now.items)) }
+    ensures { IfOk result (λ all. referred_pairs all.items ≡ map exchanged (referred_pairs pairs.now.items)) }
 {
     let mut all = Vec::with_capacity(alloc, pairs.len())?;
     for pair in pairs {
@@ -228,7 +228,7 @@ fn in_order<'a>(
 ) -> Result<Vec<(&'a Package, &'a Package)>, AllocError>
     ensures sorted { IfOk result (λ all. IsStrictlySortedBy pairs_cmp all.items) }
     ensures carries { IfOk result (λ all. (d e : _)
-        → is_carried (pairs_at all.items) d e ≡ is_carried (pairs_at pairs.entry.items) d e) }
+        → is_carried (referred_pairs all.items) d e ≡ is_carried (referred_pairs pairs.entry.items) d e) }
 {
     let mut all = pairs;
     all.sort_by(|one, other| cmp_pairs(one, other))?;

@@ -51,16 +51,16 @@ pub struct Difference<'a> {
 }
 
 impl<'a> Model for Difference<'a> {
-    ghost use Rattle.cargo_lock_diff.specs.Difference.{DifferenceData, packages_at, pairs_at};
+    ghost use Rattle.cargo_lock_diff.specs.Difference.{DifferenceData, packages_at, referred_pairs};
 
     ghost Value = { DifferenceData };
 
     ghost view = { λ d. record {
-      kept = pairs_at d.kept.items;
-      pairs = pairs_at d.pairs.items;
+      kept = referred_pairs d.kept.items;
+      pairs = referred_pairs d.pairs.items;
       removed = packages_at d.removed.items;
       added = packages_at d.added.items;
-      alarms = pairs_at d.alarms.items;
+      alarms = referred_pairs d.alarms.items;
     } };
 }
 
@@ -68,7 +68,7 @@ impl<'a> Difference<'a> {
     ghost use Rattle.std.specs.Prelude.{◌↔◌, ◌≢◌, [], IsTrue, false};
     ghost use Rattle.cargo_lock_diff.specs.Change.{change_of, changes_of, dependency_changes_of};
     ghost use Rattle.cargo_lock_diff.specs.Change.{all_changes_of};
-    ghost use Rattle.cargo_lock_diff.specs.Difference.{IsEmpty};
+    ghost use Rattle.cargo_lock_diff.specs.Difference.{HasNoChanges};
 
     /// What differs between an old and a new list of packages. Fails when out of memory.
     pub fn of(
@@ -94,7 +94,7 @@ impl<'a> Difference<'a> {
 
     /// Whether nothing is reported: both lists have the same packages, each as often.
     pub fn is_empty(&self) -> bool
-        ensures { IsTrue result ↔ IsEmpty self.now }
+        ensures { IsTrue result ↔ HasNoChanges self.now }
     {
         self.pairs.is_empty() && self.removed.is_empty() && self.added.is_empty()
     }

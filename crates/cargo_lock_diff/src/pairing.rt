@@ -3,7 +3,7 @@
 ghost use Rattle.std.specs.Prelude.{◌≡◌, IfOk, IsPermutation, IsSorted};
 ghost use Rattle.std.specs.List.{flat_map};
 ghost use Rattle.std.specs.Ordering.{on};
-ghost use Rattle.cargo_lock_diff.specs.Difference.{IsPairing, packages_at, pairs_at, turns};
+ghost use Rattle.cargo_lock_diff.specs.Difference.{IsPairing, packages_at, referred_pairs, turns};
 ghost use Rattle.cargo_lock_diff.specs.Likeness.{likeness_cmp};
 ghost use Rattle.cargo_lock_diff.specs.Matching.{AreInOrder};
 
@@ -30,13 +30,13 @@ pub(crate) fn pair<'a>(
 ) -> Result<Pairing<'a>, AllocError>
     ensures paired { IfOk result (λ p. IsPairing
         (packages_at old.now.items) (packages_at new.now.items)
-        (pairs_at p.kept.items) (pairs_at p.pairs.items)
+        (referred_pairs p.kept.items) (referred_pairs p.pairs.items)
         (packages_at p.removed.items) (packages_at p.added.items)) }
     ensures in_order { IfOk result (λ p. AreInOrder
         (packages_at old.now.items) (packages_at new.now.items)
-        (pairs_at p.kept.items) (packages_at p.removed.items) (packages_at p.added.items)) }
+        (referred_pairs p.kept.items) (packages_at p.removed.items) (packages_at p.added.items)) }
     ensures sorted { IfOk result (λ p. IsSorted (on (λ p. p.0) (likeness_cmp Likeness.Whole))
-        (pairs_at p.pairs.items)) }
+        (referred_pairs p.pairs.items)) }
 {
     let wholly = pair_off(alloc, Likeness::Whole, old, new)?;
     let turns = turns();

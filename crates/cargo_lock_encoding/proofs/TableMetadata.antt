@@ -12,7 +12,7 @@ use Rattle.cargo_lock_references.specs.Optional.{◌>>=◌}
 use Rattle.cargo_lock_encoding.specs.Lockfiles.{EncodedData}
 use Rattle.cargo_lock_references.specs.Records.{Texts}
 use Rattle.cargo_lock_encoding.specs.TableMetadata.{HasTextsAlone, IsLastText, IsMetadata, IsTableOfTexts, MeansKeyByKey, ReadsKeyByKey, TextsAtKeys, pairs_of}
-use Rattle.cargo_lock_encoding.specs.TableReading.{EncodedPackages, all_encoded_packages_at, encoded_at, metadata_in, number_in, optional_by, pairs_at, patch_in, put_all, text_in, texts_at}
+use Rattle.cargo_lock_encoding.specs.TableReading.{EncodedPackages, all_encoded_packages_at, encoded_at, metadata_in, number_in, optional_by, pairs_in, patch_in, put_all, text_in, texts_in}
 use Rattle.cargo_lock_references.proofs.LeastKeys.{order, Pairs, own_words-equal, same-key}
 use Rattle.cargo_lock_references.proofs.Texts.{same_texts}
 use Rattle.cargo_lock_encoding.proofs.PutAll.{or_else}
@@ -48,11 +48,11 @@ read-pair k (datetime t) o es e = cc e
 read-pair k (array ds) o es e = cc e
 read-pair k (table ms) o es e = cc e
 
-pairs-read : (ms : Members) (es : Pairs) → pairs_at ms ≡ Some es → pairs_of ms ≡ map as_data es
+pairs-read : (ms : Members) (es : Pairs) → pairs_in ms ≡ Some es → pairs_of ms ≡ map as_data es
 unfolding as_data
 pairs-read no_members es e = ap (map as_data) (same_Some [] es e)
 pairs-read (member k d ms) es e =
-    let found = read-pair k d (pairs_at ms) es e in
+    let found = read-pair k d (pairs_in ms) es e in
     let tail = pairs-read ms found.1 found.3 in
     (λ i. (k, found.2 i) ∷ tail i) ∙ ap (map as_data) found.4
 
@@ -69,13 +69,13 @@ texts-alone [] j key value s = absurd (none-some _ s)
 texts-alone (e ∷ es) zero key value s = (e.1, sym (ap (λ p. p.1) (same_Some _ _ s)))
 texts-alone (e ∷ es) (suc j) key value s = texts-alone es j key value s
 
-pairs-there : (ms : Members) → HasTextsAlone (pairs_of ms) → (es : Pairs) × (pairs_at ms ≡ Some es)
+pairs-there : (ms : Members) → HasTextsAlone (pairs_of ms) → (es : Pairs) × (pairs_in ms ≡ Some es)
 pairs-there no_members h = ([], refl)
 pairs-there (member k d ms) h =
     let found = h 0 k d refl in
     let rest = pairs-there ms (λ j key value s. h (suc j) key value s) in (
       (k, found.0) ∷ rest.0,
-      ap (λ v. text_in v >>= λ t. option_map (λ es. (k, t) ∷ es) (pairs_at ms)) found.1
+      ap (λ v. text_in v >>= λ t. option_map (λ es. (k, t) ∷ es) (pairs_in ms)) found.1
           ∙ ap (option_map (λ es. (k, found.0) ∷ es)) rest.1,
     )
 
@@ -204,15 +204,15 @@ one-map pairs m n f g =
     same_texts m n (λ key. same_optional (get m key) (get n key)
     (λ text e. (g key text).1 ((f key text).0 e)) (λ text e. (f key text).1 ((g key text).0 e)))
 
-table-read : (ms : Members) (m : Texts) → texts_at ms ≡ Some m → IsTableOfTexts (table ms) m
+table-read : (ms : Members) (m : Texts) → texts_in ms ≡ Some m → IsTableOfTexts (table ms) m
 table-read ms m e =
-    let found = mapped (put_all empty) (pairs_at ms) m e in
+    let found = mapped (put_all empty) (pairs_in ms) m e in
     let pairs = sym (pairs-read ms found.0 found.1) in (
       subst HasTextsAlone pairs (texts-alone found.0),
       subst (λ n. TextsAtKeys (pairs_of ms) n) found.2 (subst (λ it. TextsAtKeys it (put_all empty found.0)) pairs (pairs-at-keys found.0)),
     )
 
-table-there : (ms : Members) (m : Texts) → IsTableOfTexts (table ms) m → texts_at ms ≡ Some m
+table-there : (ms : Members) (m : Texts) → IsTableOfTexts (table ms) m → texts_in ms ≡ Some m
 table-there ms m h =
     let found = pairs-there ms h.0 in
     let made = subst (λ it. TextsAtKeys it (put_all empty found.0)) (sym (pairs-read ms found.0 found.1)) (pairs-at-keys found.0) in

@@ -133,18 +133,18 @@ put_all m [] = m
 put_all m (e ∷ es) = put_all (insert m e.0 e.1) es
 
 -- the members of a table of texts
-abbrev pub pairs_at : Members → Option (List (List ℕ × List ℕ))
-pairs_at no_members = Some []
-pairs_at (member k d ms) = text_in d >>= λ v. option_map (λ es. (k, v) ∷ es) (pairs_at ms)
+abbrev pub pairs_in : Members → Option (List (List ℕ × List ℕ))
+pairs_in no_members = Some []
+pairs_in (member k d ms) = text_in d >>= λ v. option_map (λ es. (k, v) ∷ es) (pairs_in ms)
 
 -- the texts of a table
-abbrev pub texts_at : Members → Option Texts
-texts_at ms = option_map (put_all empty) (pairs_at ms)
+abbrev pub texts_in : Members → Option Texts
+texts_in ms = option_map (put_all empty) (pairs_in ms)
 
 -- the metadata that a value is, or empty metadata if there is no value
 abbrev pub metadata_in : Option Data → Option Texts
 metadata_in None = Some empty
-metadata_in (Some d) = members_in d >>= texts_at
+metadata_in (Some d) = members_in d >>= texts_in
 
 -- ---- patches that no package uses
 

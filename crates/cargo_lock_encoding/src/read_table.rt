@@ -20,7 +20,7 @@ ghost use Rattle.cargo_lock_encoding.specs.TableReading.{number_in, optional_by,
 ghost use Rattle.cargo_lock_encoding.specs.TableReading.{patch_at, identity_at};
 ghost use Rattle.cargo_lock_encoding.specs.TableReading.{unused_patch_in, patch_in, read_all};
 ghost use Rattle.cargo_lock_encoding.specs.TableReading.{required_list, required_text, source_in};
-ghost use Rattle.cargo_lock_encoding.specs.TableReading.{text_in, texts_at};
+ghost use Rattle.cargo_lock_encoding.specs.TableReading.{text_in, texts_in};
 
 use crate::read_sources::ReadSources;
 use crate::values::EncodableLockfile;
@@ -398,8 +398,8 @@ fn put_text(alloc: Global, metadata: &mut Metadata, key: &str, value: &str) -> R
 }
 
 // The texts of a table, in the order of its keys.
-fn texts_at(alloc: Global, table: &Table) -> Result<Metadata>
-    ensures { ReadsUrls (λ m. texts_of m.entries) result (texts_at (table_view table.now)) }
+fn texts_in(alloc: Global, table: &Table) -> Result<Metadata>
+    ensures { ReadsUrls (λ m. texts_of m.entries) result (texts_in (table_view table.now)) }
 {
     let mut metadata = Metadata::new(alloc);
     for (key, value) in table {
@@ -418,7 +418,7 @@ fn metadata_at(alloc: Global, table: &Table, key: &str) -> Result<Metadata>
         return Ok(Metadata::new(alloc));
     };
     match value.as_table() {
-        Some(table) => texts_at(alloc, table),
+        Some(table) => texts_in(alloc, table),
         None => Err(wrong_type(alloc, key)),
     }
 }

@@ -25,8 +25,9 @@ entries_to_come direction edges marks frames = rest_of (far_ends direction edges
 abbrev pub to_come : GraphData → Walk → List Entry
 to_come graph walk = entries_to_come walk.direction graph.edges walk.visited.items walk.stack.items
 
--- Marks of `nodes` nodes, frames that refer to edges, and capacity for a frame of each node that
--- has no mark. So there are at most as many frames as nodes.
+-- There are marks for `nodes` nodes, and each frame refers to one of `edges` edges. Frames and
+-- nodes without a mark are together at most `nodes`, and so many frames fit into the capacity: the
+-- walk takes no memory for a frame.
 pub record IsHeld (nodes edges : ℕ) (marks : List Bool) (frames : List (Option ℕ))
     (capacity : ℕ) : Type 0 where
   pub long : length marks ≡ nodes

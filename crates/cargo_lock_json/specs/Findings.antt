@@ -7,7 +7,7 @@ use Rattle.cargo_lock_check.specs.Finding.{FindingData, LostDependency, Twice, R
 use Rattle.cargo_lock_check.specs.Finding.{BadName, Alike, LookAlike, UserInfo, NoRoot, Orphan}
 use Rattle.cargo_lock_check.specs.Finding.{NoChecksum, NoChecksums, StaleChecksum, Misplaced}
 use Rattle.cargo_lock_check.specs.Finding.{MisplacedDependency, LossySource, NotKept, OtherLine}
-use Rattle.cargo_lock_check.specs.Finding.{line_of}
+use Rattle.cargo_lock_check.specs.Finding.{finding_line}
 use Rattle.cargo_lock_json.specs.File.{FileData}
 use Rattle.cargo_lock_json.specs.Package.{dependency_json, package_json, package_or_null}
 use Rattle.cargo_lock_json.specs.Text.{items_of}
@@ -63,7 +63,7 @@ other_json other = null
 unfoldable pub finding_json : FindingData → Json
 finding_json f = object
     (member (codes "kind") (string (kind_text f))
-    (member (codes "message") (string (line_of f))
+    (member (codes "message") (string (finding_line f))
     (member (codes "line") (line_json f)
     (member (codes "package") (package_or_null (package_of f))
     (member (codes "other") (other_json f) no_members)))))

@@ -6,7 +6,7 @@ use Rattle.std.proofs.lemmas.List.Sums.{sum_by-cons}
 use Rattle.std.proofs.lemmas.Option.{same_Some, none-some}
 use Rattle.semver.specs.Parse.{Parts}
 use Rattle.cargo_lock_parts.specs.Identity.{Identity}
-use Rattle.cargo_lock_references.specs.WrittenReference.{HasNameAndVersion, HasName, IsUnique, ShortenedByPlaces, ShortenedTwice, has_name_and_version, has_name, in_full, is_version_unique, exactly_one, shorten}
+use Rattle.cargo_lock_references.specs.WrittenReference.{IsOfNameAndVersion, HasName, IsUnique, ShortenedByPlaces, ShortenedTwice, has_name_and_version, has_name, in_full, is_version_unique, exactly_one, shorten}
 use Rattle.cargo_lock_references.specs.Reference.{one_word, two_words}
 use Rattle.cargo_lock_references.proofs.ResolvesToLemmas.{same_parts-refl, same_parts-yes, same_text-refl, same_text-yes}
 
@@ -98,26 +98,26 @@ name-sound name i h = same_text-yes i.name name h
 name-full : (name : List ℕ) (i : Identity) → HasName name i → has_name name i ≡ true
 name-full name i h = rw h (same_text-refl name)
 
-both-sound : (name : List ℕ) (v : Parts) (i : Identity) → has_name_and_version name v i ≡ true → HasNameAndVersion name v i
+both-sound : (name : List ℕ) (v : Parts) (i : Identity) → has_name_and_version name v i ≡ true → IsOfNameAndVersion name v i
 both-sound name v i h = let (a, b) = and_parts _ _ h in (same_text-yes i.name name a, same_parts-yes i.version v b)
 
-both-full : (name : List ℕ) (v : Parts) (i : Identity) → HasNameAndVersion name v i → has_name_and_version name v i ≡ true
+both-full : (name : List ℕ) (v : Parts) (i : Identity) → IsOfNameAndVersion name v i → has_name_and_version name v i ≡ true
 both-full name v i h = rw (h.0, h.1, same_text-refl name) (same_parts-refl v)
 
 -- ---- versions
 
 version-yes : (list : List Identity) (name : List ℕ) (o : Option Parts) → is_version_unique list name o ≡ true
-    → (v : Parts) × (o ≡ Some v) × IsUnique (HasNameAndVersion name v) list
+    → (v : Parts) × (o ≡ Some v) × IsUnique (IsOfNameAndVersion name v) list
 version-yes list name None h = absurd (false≢true h)
 version-yes list name (Some v) h =
-    (v, refl, unique-yes (HasNameAndVersion name v) (has_name_and_version name v) (both-sound name v) (both-full name v) list h)
+    (v, refl, unique-yes (IsOfNameAndVersion name v) (has_name_and_version name v) (both-sound name v) (both-full name v) list h)
 
 version-no : (list : List Identity) (name : List ℕ) (o : Option Parts) → is_version_unique list name o ≡ false
-    → (v : Parts) → o ≡ Some v → ¬ IsUnique (HasNameAndVersion name v) list
+    → (v : Parts) → o ≡ Some v → ¬ IsUnique (IsOfNameAndVersion name v) list
 version-no list name None h v e u = none-some v e
 version-no list name (Some w) h v e u =
     let s : w ≡ v = same_Some w v e in
-    unique-no (HasNameAndVersion name v) (has_name_and_version name v) (both-sound name v) (both-full name v) list (rw s at h) u
+    unique-no (IsOfNameAndVersion name v) (has_name_and_version name v) (both-sound name v) (both-full name v) list (rw s at h) u
 
 -- ---- the laws
 

@@ -24,8 +24,8 @@ abbrev pub HasName : List ℕ → Identity → Type 0
 HasName name i = i.name ≡ name
 
 -- the identity has the name and the version
-abbrev pub HasNameAndVersion : List ℕ → Parts → Identity → Type 0
-HasNameAndVersion name version i = (i.name ≡ name) × (i.version ≡ version)
+abbrev pub IsOfNameAndVersion : List ℕ → Parts → Identity → Type 0
+IsOfNameAndVersion name version i = (i.name ≡ name) × (i.version ≡ version)
 
 -- the source, unless it is a path, which is not written
 abbrev pub unless_path : Bool → Source → Option Source
@@ -60,7 +60,7 @@ HasUniqueName list f = IsUnique (HasName f.name) list
 -- the reference has a version, and one place has its name and its version
 abbrev pub HasUniqueVersion : List Identity → Reference → Type 0
 HasUniqueVersion list f = (v : Parts) × (f.version ≡ Some v)
-    × IsUnique (HasNameAndVersion f.name v) list
+    × IsUnique (IsOfNameAndVersion f.name v) list
 
 -- The reference, shortened: its name alone if exactly one place has it; otherwise its name and
 -- version if exactly one place has both; otherwise the reference unchanged.

@@ -2,7 +2,7 @@
 use Rattle.std.specs.Prelude.{◌≡◌, ◌≢◌, ℕ, List, [], Option, codes}
 use Rattle.std.specs.Io.KnownBytes.{Appends}
 use Rattle.clap.specs.declared.parser.matches.Found.{Found}
-use Rattle.cargo_lock_check.specs.Finding.{FindingData, lines_text}
+use Rattle.cargo_lock_check.specs.Finding.{FindingData, findings_text}
 use Rattle.cargo_lock_check.specs.Findings.{AreFindings, FindingsData, told_of}
 use Rattle.cargo_lock_encoding.specs.Lockfiles.{LockfileData}
 use Rattle.cargo_lock_encoding.specs.Means.{TextMeans}
@@ -22,7 +22,7 @@ pub record PrintsFound (found : Found) (file : FileData) (told : List FindingDat
     (old new : Option (List ℕ)) : Type 0 where
   pub asked : IsAsked found (codes "json")
       → PrintsLine (IsJsonText (findings_json file told)) old new
-  pub unasked : IsUnasked found (codes "json") → Appends old new (lines_text told)
+  pub unasked : IsUnasked found (codes "json") → Appends old new (findings_text told)
 
 -- the findings are printed, and the status is theirs
 abbrev pub TellsFindings : Found → FileData → FindingsData → Option (List ℕ) → Option (List ℕ)

@@ -4,7 +4,7 @@ use Rattle.std.specs.Prelude.{codes}
 use Rattle.std.specs.Io.KnownBytes.{Appends}
 use Rattle.clap.specs.declared.parser.matches.Found.{Found}
 use Rattle.cargo_lock_parts.specs.Ascii.{newline}
-use Rattle.cargo_lock_diff.specs.Change.{ChangeData, lines_text, all_changes_of}
+use Rattle.cargo_lock_diff.specs.Change.{ChangeData, changes_text, all_changes_of}
 use Rattle.cargo_lock_diff.specs.Difference.{DifferenceData, IsDifference}
 use Rattle.cargo_lock_diff.specs.Summary.{summary_of, summary_text}
 use Rattle.cargo_lock_encoding.specs.Lockfiles.{LockfileData}
@@ -38,7 +38,7 @@ last_line (change ∷ changes) =
 
 -- the line of each change, and the last line
 abbrev pub told_text : List ChangeData → List ℕ
-told_text told = lines_text told ++ last_line told
+told_text told = changes_text told ++ last_line told
 
 -- what is printed of changes: their document if the arguments ask for JSON, and otherwise their
 -- lines

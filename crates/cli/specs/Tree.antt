@@ -52,7 +52,7 @@ pub record IsGraphOf (l : LockfileData) (graph : GraphData) : Type 0 where
   pub packages : graph.packages ≡ l.packages
   pub edges : AreEdgesOf l.packages graph.edges
 
--- these are the trees of a graph that the words ask for
+-- what is printed is the trees of a graph that the arguments ask for
 pub record PrintsTreesOf (found : Found) (graph : GraphData) (old new : Option (List ℕ)) : Type 0
   where
     pub is_inverted : Bool

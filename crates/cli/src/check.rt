@@ -2,7 +2,7 @@
 ghost use Rattle.std.specs.Prelude.{◌≡◌, IfOk, OnOk, map};
 ghost use Rattle.std.specs.Io.KnownBytes.{Appends};
 ghost use Rattle.clap.specs.Matches.{found_of};
-ghost use Rattle.cargo_lock_check.specs.Finding.{finding_of, lines_text};
+ghost use Rattle.cargo_lock_check.specs.Finding.{finding_of, findings_text};
 ghost use Rattle.cargo_lock_json.specs.Findings.{findings_json};
 ghost use Rattle.cargo_lock_json.specs.Text.{IsJsonText};
 ghost use Rattle.cli.specs.Check.{IsFindingsStatus, PrintsFound, TellsCheck, TellsFindings};
@@ -143,7 +143,7 @@ fn print_document<W: Write>(
 /// Prints the findings in their order.
 fn print_findings<W: Write>(out: &mut W, findings: &[Finding<'_>]) -> Result<(), Fault>
     ensures { OnOk result (Appends (W.contents out.old) (W.contents out.new)
-        (lines_text (map finding_of findings.now))) }
+        (findings_text (map finding_of findings.now))) }
 {
     for finding in findings {
         put(out, format_args!("{finding}\n"))?;

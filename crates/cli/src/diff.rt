@@ -2,7 +2,7 @@
 ghost use Rattle.std.specs.Prelude.{◌≡◌, IfOk, OnOk, map};
 ghost use Rattle.std.specs.Io.KnownBytes.{Appends};
 ghost use Rattle.clap.specs.Matches.{found_of};
-ghost use Rattle.cargo_lock_diff.specs.Change.{change_of, lines_text};
+ghost use Rattle.cargo_lock_diff.specs.Change.{change_of, changes_text};
 ghost use Rattle.cargo_lock_json.specs.Difference.{difference_json};
 ghost use Rattle.cargo_lock_json.specs.Text.{IsJsonText};
 ghost use Rattle.cli.specs.Diff.{IsCompared, IsStatus, IsTold, PrintsTold, TellsChanges};
@@ -214,7 +214,7 @@ fn print_last_line<W: Write>(out: &mut W, changes: &[Change<'_>]) -> Result<(), 
 /// Prints the changes in their order.
 fn print_changes<W: Write>(out: &mut W, changes: &[Change<'_>]) -> Result<(), Fault>
     ensures { OnOk result (Appends (W.contents out.old) (W.contents out.new)
-        (lines_text (map change_of changes.now))) }
+        (changes_text (map change_of changes.now))) }
 {
     for change in changes {
         put(out, format_args!("{change}\n"))?;

@@ -48,10 +48,10 @@ struct Style {
     exact: bool,
 }
 
-/// Prints the trees of the packages that the specifications name, or without any those of all
-/// roots, with an empty line between two trees. Fails if the lockfile is not read or has no tree,
-/// if a specification matches no package, or if `out` fails; a prefix of the text was then written
-/// in the last case, and nothing in the others.
+/// Prints the trees of the packages that the specifications name, with an empty line between two
+/// trees. If there are no specifications, it prints the trees of all roots. Fails if the lockfile
+/// is not read or has no tree, if a specification matches no package, or if `out` fails. Only in
+/// the last case a part of the text has been written.
 pub(crate) fn run<R: Files + AllocGlobal, W: Write>(
     rt: &R,
     options: &ArgMatches<'_>,

@@ -104,8 +104,8 @@ impl Tree {
     }
 
     /// The nodes of the packages by their identities. If packages have the same identity, it is the
-    /// node of the last one.
-    /// Each key is the identity of a package of the lockfile in every part, its precise text too.
+    /// node of the last one. Each key is the identity of a package of the lockfile in every part,
+    /// its precise text too.
     ///
     /// ```
     /// let dependency = Dependency::of(package)?;

@@ -77,7 +77,7 @@ pub trait EncodesLockfile: Sized {
         ensures err { IsOkUnless result Memory };
 
     /// The lockfile of the values: `Lockfile::from_encodable`. `Parse` says that they have no
-    /// format, or that a reference leads to no package.
+    /// format, or that a reference does not resolve. The other error is `Memory`.
     fn into_lockfile(self, alloc: Global) -> Result<Lockfile>
         ensures { Finds (IsLocked (values self)) result };
 }

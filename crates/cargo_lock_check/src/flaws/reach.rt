@@ -7,7 +7,7 @@ ghost use Rattle.cargo_lock_parts.specs.Identity.{Identity};
 ghost use Rattle.cargo_lock_graph.specs.Targets.{MatchesAt};
 ghost use Rattle.cargo_lock_check.specs.Groups.{HasMatches, group_places};
 ghost use Rattle.cargo_lock_check.specs.Places.{IsPlaces};
-ghost use Rattle.cargo_lock_check.specs.Reach.{AsksFor, IsOneOfBest, IsOrphan, IsReached, IsRoot};
+ghost use Rattle.cargo_lock_check.specs.Reach.{AsksFor, IsOneOfBest, IsOrphan, IsReached, IsWorkspacePackage};
 ghost use Rattle.cargo_lock_check.specs.Search.{AreAsked, AreReached, HasBegun, HasReached};
 ghost use Rattle.cargo_lock_check.specs.Search.{IsMarked, IsSearch};
 
@@ -149,7 +149,7 @@ impl Search {
 
     // A search that has reached the packages without a source.
     fn from_workspace(alloc: Global, packages: &[Package]) -> Result<Search, AllocError>
-        ensures { IfOk result (HasBegun packages.now (IsRoot packages.now)) }
+        ensures { IfOk result (HasBegun packages.now (IsWorkspacePackage packages.now)) }
     {
         let mut search = Search {
             reached: vec![in alloc; false; packages.len()]?,

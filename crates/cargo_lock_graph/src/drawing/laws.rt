@@ -64,8 +64,8 @@ pub fn text_tells_the_drawing()
     ensures { TextTellsDrawing }
 {}
 
-/// No two drawings have the same text. If no label has a newline and different nodes have different
-/// labels, drawings with the same text are the same, so the text determines each reachable edge.
+/// If no label has a newline and different nodes have different labels, drawings with the same text
+/// are the same, so the text determines each reachable edge.
 pub fn text_is_of_one_drawing()
     ensures { TextIsOfOneDrawing }
 {}

@@ -1,7 +1,7 @@
 use Rattle.std.proofs.Common.{◌≡◌, ◌<◌, ◌∙◌, All, List, ℕ, ap, codes, length, map, subst, sym, true}
 use Rattle.serde_json.specs.Data.{array, member, no_members, object, string}
 use Rattle.serde_json.specs.View.{items_of}
-use Rattle.cargo_lock_bom.specs.Dependencies.{entry_with, reference_at}
+use Rattle.cargo_lock_bom.specs.Dependencies.{entry_with, node_reference}
 use Rattle.cargo_lock_bom.specs.Root.{is_member}
 use Rattle.cargo_lock_bom.proofs.Chosen.{places-within}
 use Rattle.cargo_lock_bom.proofs.dependencies.workspace_entry.Goals as goal
@@ -15,7 +15,7 @@ references-requires c =
 pub returns : goal.returns
 unfolding entry_with
 returns c =
-    let texts = ap (map (λ k. string (reference_at c.args.graph.now.packages k))) c.deref.ensures.value in
+    let texts = ap (map (λ k. string (node_reference c.args.graph.now.packages k))) c.deref.ensures.value in
     let on = c.in_ok-on.ensures ∙ texts in
     record {
       members = c.in_ok-members.members.items;

@@ -1,7 +1,7 @@
 use Rattle.std.proofs.Common.{◌∙◌, ◌++◌, ap, sym, append_assoc}
 use Rattle.std.proofs.lemmas.List.{append-nil, map-append}
 use Rattle.cargo_lock_check.specs.Text.{is_comment}
-use Rattle.cargo_lock_check.specs.TextReferences.{texts_at}
+use Rattle.cargo_lock.specs.Texts.{texts_at}
 use Rattle.cargo_lock_check.proofs.Lines.{texts-more, texts-stop}
 use Rattle.cargo_lock_check.proofs.text.add_comments.Goals as goal
 

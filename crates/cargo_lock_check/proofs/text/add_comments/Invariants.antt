@@ -1,7 +1,7 @@
 use Rattle.std.proofs.Common.{◌≡◌, ◌++◌, drop}
 use Rattle.std.specs.List.{take_while}
 use Rattle.cargo_lock_check.specs.Text.{is_comment}
-use Rattle.cargo_lock_check.specs.TextReferences.{texts_at}
+use Rattle.cargo_lock.specs.Texts.{texts_at}
 use Rattle.cargo_lock_check.proofs.text.add_comments.Given as goal
 
 abbrev pub invariant-loop-line : goal.invariant-loop-line

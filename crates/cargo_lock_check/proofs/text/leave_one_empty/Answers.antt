@@ -1,7 +1,7 @@
 use Rattle.std.proofs.Common.{◌∙◌, ap, rules}
 use Rattle.std.proofs.lemmas.Fn.{dedup_same}
 use Rattle.cargo_lock_check.specs.Text.{are_empty}
-use Rattle.cargo_lock_check.specs.TextReferences.{texts_at}
+use Rattle.cargo_lock.specs.Texts.{texts_at}
 use Rattle.cargo_lock_check.proofs.Lines.{dedup-map}
 use Rattle.cargo_lock_check.proofs.text.leave_one_empty.Goals as goal
 

@@ -1,7 +1,7 @@
 use Rattle.std.proofs.Common.{◌≡◌, ◌∙◌, List, Bool, false, replicate, ap, length, is_some, not, sym, subst}
 use Rattle.std.proofs.lemmas.List.{length-replicate}
 use Rattle.cargo_lock_parts.specs.Identity.{PackageData}
-use Rattle.cargo_lock_check.specs.Reach.{IsRoot}
+use Rattle.cargo_lock_check.specs.Reach.{IsWorkspacePackage}
 use Rattle.cargo_lock_check.specs.Search.{IsMarked}
 use Rattle.cargo_lock_check.proofs.Searching.{none-marked, roots-next, roots-pass, roots-all, search-begun}
 use Rattle.cargo_lock_check.proofs.flaws.reach.Search.from_workspace.Goals as goal
@@ -31,7 +31,7 @@ returns c =
     let marks : List Bool = c.in_ok-vec.field-0.items in
     let none : marks ≡ replicate (length packages) false = c.in_ok-vec.ensures.items_if_clones_equal
     (λ y e. e) in
-    search-begun packages (IsRoot packages) _ c.loop-place.search
+    search-begun packages (IsWorkspacePackage packages) _ c.loop-place.search
     (ap length none ∙ length-replicate (length packages) false)
     (λ k h. none-marked (length packages) k (subst (λ (ms : List Bool). IsMarked ms k) none h))
     c.new.ensures.items
