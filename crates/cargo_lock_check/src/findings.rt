@@ -33,10 +33,10 @@ use std::marker::Model;
 /// ```
 /// let lockfile = Lockfile::from_str(rt.alloc(), text)?;
 /// let findings = Findings::of(rt.alloc(), text, &lockfile)?;
-/// for finding in findings.all(rt.alloc())?.as_slice() {
-///     println!(rt; "{finding}")?;
-/// }
+/// print_lines(rt, &findings)?;
 /// ```
+///
+/// `print_lines` is in the first comment of this crate.
 #[derive(Drop)]
 pub struct Findings<'a> {
     /// The packages of the lockfile, to which the places refer.

@@ -10,8 +10,17 @@
 //! ```
 //! let lockfile = Lockfile::from_str(rt.alloc(), text)?;
 //! let findings = Findings::of(rt.alloc(), text, &lockfile)?;
-//! for finding in findings.all(rt.alloc())?.as_slice() {
-//!     println!(rt; "{finding}")?;
+//! print_lines(rt, &findings)?;
+//! ```
+//!
+//! Here `print_lines` prints a line for each finding:
+//!
+//! ```
+//! fn print_lines(rt: &HostRuntime, findings: &Findings<'_>) -> Result<(), Error> {
+//!     for finding in findings.all(rt.alloc())?.as_slice() {
+//!         println!(rt; "{finding}")?;
+//!     }
+//!     Ok(())
 //! }
 //! ```
 //!

@@ -170,7 +170,11 @@ fn other_place(
         → compared_at (texts_at written.now) k ≡ compared_at (texts_at wanted.now) k))) }
 {
     for place in 0..written.len().max(wanted.len()) {
-        if !are_same(alloc, line_or_empty(written, place), line_or_empty(wanted, place))? {
+        if !are_same(
+            alloc,
+            line_or_empty(written, place),
+            line_or_empty(wanted, place),
+        )? {
             return Ok(Some(place));
         }
     }

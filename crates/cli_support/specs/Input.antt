@@ -1,5 +1,6 @@
 -- The lockfile that a command reads.
 use Rattle.std.specs.Prelude.{◌≡◌, ◌≢◌, ℕ, List, codes, unwrap_or}
+use Rattle.std.specs.declared.io.ErrorKind.TheVariants.{OutOfMemory}
 use Rattle.clap.specs.Matches.{first_value}
 use Rattle.clap.specs.declared.parser.matches.Found.{Found}
 use Rattle.cargo_lock_parts.specs.declared.error.Error.TheVariants.{Io, Memory}
@@ -15,9 +16,9 @@ pub record IsInputPath (argument path : List ℕ) : Type 0 where
   pub standard : argument ≡ codes "-" → path ≡ codes "/dev/stdin"
   pub other : argument ≢ codes "-" → path ≡ argument
 
--- the error for a file that is not read: its length, an error of the system, or out of memory
+-- the error for a file that is not read: its length, memory, or another error of the system
 abbrev pub IsOfReading : Fault → Type 0
 IsOfReading TooLarge = Unit {0}
 IsOfReading (Library Memory) = Unit {0}
-IsOfReading (Library (Io kind)) = Unit {0}
+IsOfReading (Library (Io kind)) = kind ≢ OutOfMemory
 IsOfReading other = ⊥

@@ -1,7 +1,7 @@
 //! What is wrong with a lockfile.
 
 use cargo_lock::{Error, Lockfile, Package};
-use cargo_lock_check::{Finding, Findings};
+use cargo_lock_check::Findings;
 use cargo_lock_json::{File, findings_json};
 use shown::Shown;
 
@@ -9,12 +9,12 @@ use shown::Shown;
 pub fn print_findings(rt: &HostRuntime, text: &str) -> Result<(), Error> {
     let lockfile = Lockfile::from_str(rt.alloc(), text)?;
     let findings = Findings::of(rt.alloc(), text, &lockfile)?;
-    print_lines(rt, findings.all(rt.alloc())?.as_slice())?;
+    print_lines(rt, &findings)?;
     print_document(rt, &lockfile, &findings)
 }
 
-fn print_lines(rt: &HostRuntime, findings: &[Finding<'_>]) -> Result<(), Error> {
-    for finding in findings {
+fn print_lines(rt: &HostRuntime, findings: &Findings<'_>) -> Result<(), Error> {
+    for finding in findings.all(rt.alloc())?.as_slice() {
         println!(rt; "{finding}")?;
     }
     Ok(())
