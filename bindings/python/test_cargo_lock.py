@@ -19,6 +19,8 @@ with open(os.path.join(os.path.dirname(__file__), "..", "three_packages.lock")) 
     LOCKFILE = file.read()
 with open(os.path.join(os.path.dirname(__file__), "..", "..", "VERSION")) as file:
     VERSION = file.read().strip()
+# The size of a stack that the deepest text needs, in KiB: what the header promises.
+STACK = int(os.environ.get("CARGO_LOCK_TEST_STACK", "2048"))
 DEEPEST = """
 import cargo_lock, sys, threading
 keys = ".".join("b" * 80)
@@ -356,8 +358,8 @@ class Threads(unittest.TestCase):
             thread.join()
         self.assertEqual(answers, [True] * 800)
 
-    def test_the_deepest_text_on_a_stack_of_two_mebibytes(self):
-        self.assertEqual(ended(2048), (0, b"None\n"))
+    def test_the_deepest_text_on_the_promised_stack(self):
+        self.assertEqual(ended(STACK), (0, b"None\n"))
 
     def test_the_deepest_text_on_a_small_stack(self):
         status, text = ended(64)
