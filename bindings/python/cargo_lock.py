@@ -11,7 +11,7 @@ threads may call at once. A thread needs a stack of 2 MiB, which Python's thread
 Linux. A call that fails raises a subclass of `Error`, or `MemoryError`, and a text of another type
 is a `TypeError`.
 
-The library is `libcargo_lock.so`. It is looked for at the path that the variable
+The library is `libcargo_lock.so.1`. It is looked for at the path that the variable
 `CARGO_LOCK_LIBRARY` of the environment names, which must be absolute, or else beside this file, or
 else where the system looks for libraries. The first call loads it, and raises `ImportError` where
 the path is not absolute or the library has another interface. `bindings/build` of the repository
@@ -206,6 +206,7 @@ def bill(text: Text, compact: bool = False) -> str:
 # ---- how they are made
 
 _INTERFACE = 1
+_FILE = f"libcargo_lock.so.{_INTERFACE}"
 _DONE, _NO_LOCKFILE, _NO_TEXT, _NO_MEMORY, _NO_FORMAT = range(5)
 _NO_ROOM, _LOST, _UNRESOLVED, _NO_PACKAGE, _NO_LINE = range(5, 10)
 _REPEATED = 12
@@ -285,8 +286,8 @@ def _path() -> str:
     path = os.environ.get("CARGO_LOCK_LIBRARY")
     if path and not os.path.isabs(path):
         raise ImportError(f"CARGO_LOCK_LIBRARY is no absolute path: {path!r}")
-    beside = os.path.join(os.path.dirname(os.path.abspath(__file__)), "libcargo_lock.so")
-    return path or (beside if os.path.exists(beside) else "libcargo_lock.so")
+    beside = os.path.join(os.path.dirname(os.path.abspath(__file__)), _FILE)
+    return path or (beside if os.path.exists(beside) else _FILE)
 
 
 def _bytes(text: Text) -> bytes:
@@ -304,8 +305,9 @@ def _format(number: int) -> int:
 
 
 def _answer(given: bytes, call: Callable[..., int], *words: Any) -> bytes:
-    """The bytes that a call answers, in room that is made as long as it has to be."""
-    length = ctypes.c_size_t(4096)
+    """The bytes that a call answers. The first room is enough for most texts of this length, so
+    that they are read once; if it is not, it is made as long as it has to be."""
+    length = ctypes.c_size_t(2 * len(given) + 4096)
     status = _NO_ROOM
     while status == _NO_ROOM:
         room = ctypes.create_string_buffer(length.value)

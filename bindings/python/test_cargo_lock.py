@@ -128,7 +128,7 @@ class Loading(unittest.TestCase):
                     self.opened = [it.args for it in opened.call_args_list]
 
     def test_a_path_that_is_not_absolute_is_refused(self):
-        for path in ("libcargo_lock.so", "./libcargo_lock.so", "../x/libcargo_lock.so", "~/x.so"):
+        for path in ("libcargo_lock.so.1", "./libcargo_lock.so.1", "../x/libcargo_lock.so.1", "~/x.so"):
             with self.assertRaisesRegex(ImportError, "is no absolute path"):
                 self.load(path, Library(1))
             self.assertEqual(self.opened, [])
@@ -141,14 +141,14 @@ class Loading(unittest.TestCase):
         for number in (0, 2, 2**32 - 1):
             library = Library(number)
             with self.assertRaisesRegex(ImportError, "does not have interface 1"):
-                self.load("/nowhere/libcargo_lock.so", library)
+                self.load("/nowhere/libcargo_lock.so.1", library)
             self.assertEqual(library.asked, ["cargo_lock_interface"])
-            self.assertEqual(self.opened, [("/nowhere/libcargo_lock.so",)])
+            self.assertEqual(self.opened, [("/nowhere/libcargo_lock.so.1",)])
 
     def test_a_library_without_a_number(self):
         library = Library(None)
         with self.assertRaisesRegex(ImportError, "is no library cargo_lock"):
-            self.load("/nowhere/libcargo_lock.so", library)
+            self.load("/nowhere/libcargo_lock.so.1", library)
         self.assertEqual(library.asked, ["cargo_lock_interface"])
 
 

@@ -2,6 +2,8 @@
 
 use crate::{DiffError, Edge, Error};
 
+use std::mem::size_of;
+
 mod library {
     use crate::Edge;
 
@@ -118,7 +120,7 @@ pub(crate) fn tree(
 
 pub(crate) fn diff(old: &[u8], new: &[u8], dependencies: bool) -> Result<String, DiffError> {
     // SAFETY: as above.
-    let answer = room_for(|out, length| unsafe {
+    let answer = room_for(old.len() + new.len(), |out, length| unsafe {
         let (at, room) = (out.as_mut_ptr(), out.len());
         let (before, before_len) = (old.as_ptr(), old.len());
         let (after, after_len) = (new.as_ptr(), new.len());
@@ -145,14 +147,17 @@ fn items<T: Clone + Default>(
     text: &[u8],
     call: impl FnMut(&mut [T], &mut usize) -> u32,
 ) -> Result<Vec<T>, Error> {
-    room_for(call).map_err(|status| fault_of(text, status))
+    room_for(text.len(), call).map_err(|status| fault_of(text, status))
 }
 
-/// The items that a call answers, in room that is made as long as it has to be, or its status.
+/// The items that a call answers, or its status. The first room is enough for most texts of this
+/// length, so that they are read once; if it is not, it is made as long as it has to be.
 fn room_for<T: Clone + Default>(
+    length_of_text: usize,
     mut call: impl FnMut(&mut [T], &mut usize) -> u32,
 ) -> Result<Vec<T>, u32> {
-    let mut out = Vec::new();
+    let room = 2 * length_of_text + 4096;
+    let mut out = vec![T::default(); room / size_of::<T>()];
     let mut length = 0;
     let mut status = call(&mut out, &mut length);
     while status == NO_ROOM {

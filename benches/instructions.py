@@ -1,0 +1,97 @@
+"""Counts instructions with callgrind, which are the same on every run and on every load."""
+import os
+import re
+import subprocess
+import sys
+
+import shapes
+
+COMMANDS = {
+    "list": ["list", "-f"],
+    "translate -v 4": ["translate", "-v", "4", "-f"],
+    "translate -v 3 --check": ["translate", "-v", "3", "--check", "-f"],
+    "tree": ["tree", "-f"],
+    "tree -i": ["tree", "-i", "-f"],
+    "diff": ["diff"],
+    "check": ["check", "-f"],
+    "bom": ["bom", "-f"],
+}
+
+
+def count(words):
+    """The instructions of a run, in millions."""
+    call = ["valgrind", "--tool=callgrind", "--callgrind-out-file=/dev/null", *words]
+    ran = subprocess.run(call, stdout=subprocess.DEVNULL, stderr=subprocess.PIPE, text=True)
+    found = re.search(r"Collected : (\d+)", ran.stderr)
+    if not found:
+        sys.exit(f"valgrind counts nothing: {ran.stderr}")
+    return int(found[1]) / 1e6
+
+
+def other_path(path):
+    """The path of a lockfile in which every tenth checksum is another."""
+    other, seen = path.replace(".lock", "-other.lock"), 0
+    with open(path, encoding="utf-8") as file, open(other, "w", encoding="utf-8") as out:
+        for line in file:
+            if "checksum" in line:
+                seen += 1
+                if seen % 10 == 0:
+                    line = re.sub(r'[0-9a-f]{64}"', lambda it: f'{it[0][-2::-1]}"', line)
+            out.write(line)
+    return other
+
+
+def counts(asked, alone, path):
+    """The instructions of reading the TOML alone, and of each command."""
+    found = [count([alone, path])]
+    for name, words in COMMANDS.items():
+        paths = [other_path(path), path] if name == "diff" else [path]
+        found.append(count([asked.program, *words, *paths]))
+    return found
+
+
+def measure_all(asked, alone, bench):
+    """Prints a row for each lockfile, and returns the counts of each kind and size."""
+    found = {}
+    bench.head(["Lockfile", "Packages", "TOML alone", *COMMANDS])
+    for names in asked.names:
+        for form in asked.formats:
+            for size in asked.sizes:
+                path = bench.generated(asked, names, form, size)
+                base, *took = found[names, form, size] = counts(asked, alone, path)
+                cells = [f"{it / base:.2f}" for it in took]
+                title = f"V{form}, {bench.NAMES[names][0]}"
+                bench.row([title, f"{size:,}", f"{base:,.0f}", *cells])
+    return found
+
+
+def print_growth(asked, found, bench):
+    """Prints the growth from the least size to the greatest."""
+    first, last = asked.sizes[0], asked.sizes[-1]
+    print(f"\nGrowth of instructions from {first:,} to {last:,} packages:\n")
+    bench.head(["Lockfile", "TOML alone", *COMMANDS])
+    for names in asked.names:
+        for form in asked.formats:
+            pairs = zip(found[names, form, first], found[names, form, last])
+            cells = [f"{last / first:.1f}" for first, last in pairs]
+            bench.row([f"V{form}, {bench.NAMES[names][0]}", *cells])
+
+
+def of_shape(asked, words, make, size):
+    """The instructions of a command over a lockfile of a shape."""
+    texts, specs = make(size)
+    paths = [f"{asked.work}/shape-{number}.lock" for number in range(len(texts))]
+    for path, text in zip(paths, texts):
+        with open(path, "w", encoding="utf-8") as out:
+            out.write(text)
+    return count([asked.program, *words, *paths, *specs])
+
+
+def print_shapes(asked, bench):
+    """Prints by how much the instructions grow if a shape has twice the size."""
+    print("\nShapes, in millions of instructions:\n")
+    bench.head(["Shape", "Command", "Packages", "Instructions", "Twice the size", "Growth"])
+    for name, (words, make, size) in shapes.SHAPES.items():
+        one, two = (of_shape(asked, words, make, it) for it in (size, 2 * size))
+        cells = [f"{one:,.0f}", f"{two:,.0f}", f"{two / one:.2f}"]
+        bench.row([name, f"`{' '.join(words)}`", f"{size:,}", *cells])
