@@ -51,9 +51,9 @@ def specified(count):
 
 # The command, what is asked, and the packages of the smaller lockfile.
 SHAPES = {
-    "one package many times": (["check", "-f"], repeated, 500),
-    "git packages of one name, `tree`": (["tree", "-f"], of_git, 1000),
-    "git packages of one name, `bom`": (["bom", "-f"], of_git, 1000),
-    "other dependencies of one package": (["diff", "-d"], changed, 1000),
-    "a package in ten is named": (["tree", "-f"], specified, 1000),
+    "one package many times": (["check", "-f"], repeated, 200),
+    "git packages of one name, `tree`": (["tree", "-f"], of_git, 200),
+    "git packages of one name, `bom`": (["bom", "-f"], of_git, 200),
+    "other dependencies of one package": (["diff", "-d"], changed, 200),
+    "a package in ten is named": (["tree", "-f"], specified, 200),
 }
