@@ -1,0 +1,15 @@
+pub mod Members
+pub mod Needing
+pub mod Counting
+pub mod Walking
+pub mod Placing
+pub mod Starting
+pub mod Grouping
+pub mod Reaching
+pub mod Pairs
+pub mod Arrowing
+pub mod Writing
+pub mod Rowing
+pub mod Escaping
+pub mod Quoting
+pub mod DiagramLines

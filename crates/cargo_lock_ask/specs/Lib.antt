@@ -1,0 +1,17 @@
+pub mod Places
+pub mod Chains
+pub mod Starts
+pub mod Steps
+pub mod Needers
+pub mod Reach
+pub mod Marks
+pub mod Scene
+pub mod Arrows
+pub mod Lines
+pub mod Listing
+pub mod Labels
+pub mod Labelling
+pub mod Diagram
+pub mod DiagramLaws
+pub mod Duplicates
+pub mod Groups

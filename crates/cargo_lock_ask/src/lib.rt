@@ -1,0 +1,32 @@
+//! What people ask of a graph of packages: why a package is there, which names several packages
+//! have and what needs each of these, and what a picture of the graph shows.
+//!
+//! ```
+//! if let Some(chain) = why(rt.alloc(), tree.graph(), node)? {
+//!     println!(rt; "a chain of {} packages", chain.len())?;
+//! }
+//! ```
+#![tactic(auto)]
+
+pub mod chain;
+pub mod diagram;
+pub mod label;
+pub mod laws;
+pub mod lines;
+pub mod listing;
+pub mod need;
+mod reach;
+pub mod reason;
+pub mod repeated;
+pub mod scene;
+mod steps;
+
+pub use crate::chain::{chains_of_each, shortest_chain};
+pub use crate::diagram::Diagram;
+pub use crate::label::{Label, Target};
+pub use crate::lines::{Answer, needers_of_chain};
+pub use crate::listing::{Row, Rows};
+pub use crate::need::needers;
+pub use crate::reason::{why, why_each};
+pub use crate::repeated::{Duplicate, duplicates};
+pub use crate::scene::{Arrow, Picture, picture_from};

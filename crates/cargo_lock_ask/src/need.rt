@@ -1,0 +1,64 @@
+//! The packages that need a package directly.
+
+ghost use Rattle.std.specs.Prelude.{◌≡◌, ◌<◌, All, IfOk, length};
+ghost use Rattle.std.specs.List.{Contains};
+ghost use Rattle.cargo_lock_graph.specs.Edges.{far_ends};
+ghost use Rattle.cargo_lock_ask.specs.Needers.{AreNeeders};
+ghost use Rattle.cargo_lock_ask.specs.Places.{IsPlaces};
+
+use cargo_lock_graph::graph::{EdgeDirection, Graph, NodeIndex};
+use std::alloc::{AllocError, Global};
+
+/// The nodes of the packages that depend on the package of a node, each once and ascending. Fails
+/// when out of memory.
+///
+/// ```
+/// for needer in &needers(rt.alloc(), graph, node)? {
+///     let name = &graph[*needer].name;
+///     println!(rt; "needed by {name}")?;
+/// }
+/// ```
+pub fn needers(alloc: Global, graph: &Graph, node: NodeIndex) -> Result<Vec<NodeIndex>, AllocError>
+    ensures { IfOk result (λ needers. AreNeeders graph.now node needers.items) }
+{
+    ends_once(alloc, graph, node, EdgeDirection::Incoming)
+}
+
+// The nodes to which the edges of a node lead in a direction, each once and ascending.
+pub(crate) fn ends_once(
+    alloc: Global,
+    graph: &Graph,
+    node: NodeIndex,
+    direction: EdgeDirection,
+) -> Result<Vec<NodeIndex>, AllocError>
+    ensures { IfOk result (λ ends. IsPlaces
+        (Contains (far_ends direction graph.now.edges node)) (length graph.now.packages)
+        ends.items) }
+{
+    let mut ends = ends(alloc, graph, node, direction)?;
+    ends.sort_unstable();
+    ends.dedup();
+    Ok(ends)
+}
+
+// The nodes to which the edges of a node lead in a direction, newest edge first.
+pub(crate) fn ends(
+    alloc: Global,
+    graph: &Graph,
+    node: NodeIndex,
+    direction: EdgeDirection,
+) -> Result<Vec<NodeIndex>, AllocError>
+    ensures are { IfOk result (λ ends. ends.items ≡ far_ends direction graph.now.edges node) }
+    ensures within { IfOk result (λ ends. All (λ k. k < length graph.now.packages) ends.items) }
+{
+    match direction {
+        EdgeDirection::Outgoing => graph
+            .edges_directed(node, EdgeDirection::Outgoing)
+            .map(|edge| edge.target())
+            .collect(alloc),
+        EdgeDirection::Incoming => graph
+            .edges_directed(node, EdgeDirection::Incoming)
+            .map(|edge| edge.source())
+            .collect(alloc),
+    }
+}

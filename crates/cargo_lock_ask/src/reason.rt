@@ -1,0 +1,107 @@
+//! Why a package is in a graph.
+
+ghost use Rattle.std.specs.Prelude.{◌≡◌, ◌<◌, ◌↔◌, ℕ, List, IfOk, IsTrue, MatchOption, length, map};
+ghost use Rattle.cargo_lock_ask.specs.Chains.{AreChainsOfEach, IsShortestChain, IsUnreached};
+ghost use Rattle.cargo_lock_ask.specs.Places.{IsPlaces};
+ghost use Rattle.cargo_lock_ask.specs.Starts.{AreStarts, IsMember};
+ghost use Rattle.cargo_lock_ask.specs.Starts as spec;
+ghost use Rattle.cargo_lock_ask.specs.Steps.{AreSteps};
+
+use crate::chain::{chain_by_steps, chains_by_steps, is_one_counted};
+use crate::steps::steps_to;
+use cargo_lock_graph::graph::{EdgeDirection, Graph, NodeIndex};
+use std::alloc::{AllocError, Global};
+
+/// Why the package of a node is there: a shortest chain of dependencies to it from a root, which is
+/// a package on which none depends. If no root leads to it, as on a cycle, the chain is from a
+/// package without a source. Of several shortest chains it is the one whose nodes come first by
+/// place, compared from its first node on. None if no chain leads to the node. Fails when out of
+/// memory.
+///
+/// It takes time in proportion to the nodes and the edges.
+///
+/// ```
+/// if let Some(chain) = why(rt.alloc(), tree.graph(), node)? {
+///     println!(rt; "a chain of {} packages", chain.len())?;
+/// }
+/// ```
+pub fn why(
+    alloc: Global,
+    graph: &Graph,
+    to: NodeIndex,
+) -> Result<Option<Vec<NodeIndex>>, AllocError>
+    requires { to < length graph.now.packages }
+    ensures { IfOk result (λ answer. (starts : List ℕ) × AreStarts graph.now to starts
+        × MatchOption answer
+        (IsUnreached graph.now starts to)
+        (λ chain. IsShortestChain graph.now starts to chain.items)) }
+{
+    let steps = steps_to(alloc, graph, to)?;
+    let starts = starts(alloc, graph, &steps)?;
+    chain_by_steps(alloc, graph, &steps, &starts, to)
+}
+
+/// A shortest chain to a node from each root that leads to it, in the roots' order. If no root
+/// leads to it, a shortest chain from each package without a source that does. Each is the chain
+/// that `why` finds if no other begins elsewhere. Fails when out of memory.
+///
+/// The graph is searched once.
+///
+/// ```
+/// for chain in &why_each(rt.alloc(), tree.graph(), node)? {
+///     println!(rt; "a chain of {} packages", chain.len())?;
+/// }
+/// ```
+pub fn why_each(
+    alloc: Global,
+    graph: &Graph,
+    to: NodeIndex,
+) -> Result<Vec<Vec<NodeIndex>>, AllocError>
+    requires { to < length graph.now.packages }
+    ensures { IfOk result (λ chains. (starts : List ℕ) × AreStarts graph.now to starts
+        × AreChainsOfEach graph.now to starts (map (λ chain. chain.items) chains.items)) }
+{
+    let steps = steps_to(alloc, graph, to)?;
+    let starts = starts(alloc, graph, &steps)?;
+    chains_by_steps(alloc, graph, &steps, &starts, to)
+}
+
+// The nodes at which the chains to a node begin, by how many steps it is from each node to that
+// one.
+fn starts(
+    alloc: Global,
+    graph: &Graph,
+    steps: &[Option<usize>],
+) -> Result<Vec<NodeIndex>, AllocError>
+    ensures { IfOk result (λ starts.
+        (to : ℕ) → AreSteps graph.now to steps.now → AreStarts graph.now to starts.items) }
+{
+    let roots = roots(alloc, graph)?;
+    if is_one_counted(steps, &roots) {
+        Ok(roots)
+    } else {
+        members(alloc, graph)
+    }
+}
+
+// The nodes of the packages on which none depends, in order.
+fn roots(alloc: Global, graph: &Graph) -> Result<Vec<NodeIndex>, AllocError>
+    ensures { IfOk result (λ roots. roots.items ≡ spec.roots graph.now) }
+{
+    graph.externals(EdgeDirection::Incoming).collect(alloc)
+}
+
+// The nodes of the packages without a source, in order.
+fn members(alloc: Global, graph: &Graph) -> Result<Vec<NodeIndex>, AllocError>
+    ensures { IfOk result
+        (λ members. IsPlaces (IsMember graph.now) (length graph.now.packages) members.items) }
+{
+    let mut members = Vec::new(alloc);
+    for place in 0..graph.node_count() {
+        let node = NodeIndex::new(place);
+        if graph[node].source.is_none() {
+            members.push(node)?;
+        }
+    }
+    Ok(members)
+}

@@ -1,0 +1,19 @@
+//! A merge of lockfiles by packages: three finite maps from places to packages.
+#![tactic(auto)]
+
+pub mod choices;
+pub mod commits;
+pub mod conflicts;
+pub mod entry;
+pub mod laws;
+pub mod merged;
+pub mod numbers;
+pub mod place;
+pub mod placed;
+pub mod plan;
+pub mod reach;
+pub mod references;
+pub mod rows;
+pub mod rule3;
+pub mod sets;
+pub mod values;
