@@ -25,10 +25,6 @@ struct Found {
 /// node. Fails when out of memory.
 ///
 /// It takes time in proportion to the nodes, the edges and the roots.
-///
-/// ```
-/// let chain = shortest_chain(rt.alloc(), tree.graph(), &roots, node)?;
-/// ```
 pub fn shortest_chain(
     alloc: Global,
     graph: &Graph,
@@ -71,12 +67,6 @@ pub(crate) fn chain_by_steps(
 /// when out of memory.
 ///
 /// The graph is searched once.
-///
-/// ```
-/// for chain in &chains_of_each(rt.alloc(), tree.graph(), &roots, node)? {
-///     println!(rt; "{}", chain.len())?;
-/// }
-/// ```
 pub fn chains_of_each(
     alloc: Global,
     graph: &Graph,

@@ -1,11 +1,5 @@
 //! What people ask of a graph of packages: why a package is there, which names several packages
 //! have and what needs each of these, and what a picture of the graph shows.
-//!
-//! ```
-//! if let Some(chain) = why(rt.alloc(), tree.graph(), node)? {
-//!     println!(rt; "a chain of {} packages", chain.len())?;
-//! }
-//! ```
 #![tactic(auto)]
 
 pub mod chain;

@@ -34,13 +34,6 @@ pub struct Row<'a> {
 /// `(path)`, and one of crates.io nothing. Versions and sources are one column, and what depends on
 /// each package another. A package on which none depends has only the first. Texts that come from a
 /// lockfile are shown as `Shown` shows them.
-///
-/// ```
-/// for group in &duplicates(rt.alloc(), graph)? {
-///     let rows = Rows::of(rt.alloc(), graph, group)?;
-///     println!(rt; "{rows}")?;
-/// }
-/// ```
 #[derive(Drop)]
 pub struct Rows<'a> {
     /// The packages.

@@ -11,13 +11,6 @@ use std::alloc::{AllocError, Global};
 
 /// The nodes of the packages that depend on the package of a node, each once and ascending. Fails
 /// when out of memory.
-///
-/// ```
-/// for needer in &needers(rt.alloc(), graph, node)? {
-///     let name = &graph[*needer].name;
-///     println!(rt; "needed by {name}")?;
-/// }
-/// ```
 pub fn needers(alloc: Global, graph: &Graph, node: NodeIndex) -> Result<Vec<NodeIndex>, AllocError>
     ensures { IfOk result (λ needers. AreNeeders graph.now node needers.items) }
 {

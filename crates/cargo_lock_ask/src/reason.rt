@@ -19,12 +19,6 @@ use std::alloc::{AllocError, Global};
 /// memory.
 ///
 /// It takes time in proportion to the nodes and the edges.
-///
-/// ```
-/// if let Some(chain) = why(rt.alloc(), tree.graph(), node)? {
-///     println!(rt; "a chain of {} packages", chain.len())?;
-/// }
-/// ```
 pub fn why(
     alloc: Global,
     graph: &Graph,
@@ -46,12 +40,6 @@ pub fn why(
 /// that `why` finds if no other begins elsewhere. Fails when out of memory.
 ///
 /// The graph is searched once.
-///
-/// ```
-/// for chain in &why_each(rt.alloc(), tree.graph(), node)? {
-///     println!(rt; "a chain of {} packages", chain.len())?;
-/// }
-/// ```
 pub fn why_each(
     alloc: Global,
     graph: &Graph,
