@@ -1,6 +1,12 @@
 //! The merged packages.
 
-ghost use Rattle.std.specs.Prelude.{◌≡◌, ℕ, IfOk, List, MatchOption, map, option_map};
+ghost use Rattle.std.specs.Prelude.{◌≡◌, ℕ, IfOk, IfSome, IsOkUnless, List, MatchOption, map};
+ghost use Rattle.std.specs.Prelude.{option_map};
+ghost use Rattle.cargo_lock_parts.specs.declared.error.Error.TheVariants.{Memory};
+ghost use Rattle.cargo_lock_merge.specs.Numbered.{all_data};
+ghost use Rattle.cargo_lock_merge.specs.Places.{Place};
+ghost use Rattle.cargo_lock_merge.specs.Plans.{IsClosed, IsNumbered, triple_of};
+ghost use Rattle.cargo_lock_merge.specs.Renaming.{IsOneToOne, rename_all, rename_triple};
 ghost use Rattle.std.specs.Bool.{Decides};
 ghost use Rattle.cargo_lock_parts.specs.Checksum.{digest_of};
 ghost use Rattle.cargo_lock_merge.specs.Commits.{Lockfiles};
@@ -12,6 +18,7 @@ ghost use Rattle.cargo_lock_merge.specs.Placed.{PlacedData};
 ghost use Rattle.cargo_lock_merge.specs.Reach.{IsMarked};
 
 use crate::entry::{Entry, package_of};
+use crate::placed::Placed;
 use crate::plan::Plan;
 use cargo_lock_parts::package::{Checksum, Package};
 use std::alloc::{AllocError, Global};
@@ -41,6 +48,33 @@ struct Values<'a> {
     package: &'a Package,
     checksum: Option<Checksum>,
     replacement: Option<u64>,
+}
+
+/// The merge of the packages of three lockfiles, which are in the order of their places. In those of
+/// the sides, each dependency and each replacement has its package. `None` if the sides are in
+/// conflict about something that is reached. The one error is `Memory`.
+pub fn merge_numbered<'a>(
+    alloc: Global,
+    base: &'a [Placed<'a>],
+    ours: &'a [Placed<'a>],
+    theirs: &'a [Placed<'a>],
+) -> cargo_lock_parts::error::Result<Option<Vec<Merged<'a>>>>
+    requires base { IsNumbered (all_data base.now) }
+    requires ours { IsNumbered (all_data ours.now) }
+    requires theirs { IsNumbered (all_data theirs.now) }
+    requires ours_closed { IsClosed (all_data ours.now) }
+    requires theirs_closed { IsClosed (all_data theirs.now) }
+    ensures ok { IfOk result (λ merged. MatchOption merged
+        ((m : List (PlacedData ℕ)) → ¬ IsMerge (triple_of base.now ours.now theirs.now) m)
+        (λ all. IsMerge (triple_of base.now ours.now theirs.now) (map merged_data all.items))) }
+    ensures places { IfOk result (λ merged. (f : ℕ → Place)
+        → IsOneToOne (triple_of base.now ours.now theirs.now) f → IfSome merged
+        (λ all. IsMerge (rename_triple f (triple_of base.now ours.now theirs.now))
+        (rename_all f (map merged_data all.items)))) }
+    ensures err { IsOkUnless result Memory }
+{
+    let plan = Plan::of(alloc, base, ours, theirs)?;
+    Ok(merged_packages(alloc, &plan)?)
 }
 
 /// The merged packages, in the order of their places. `None` if the sides are in conflict about
