@@ -29,7 +29,7 @@
 #include <stdint.h>
 
 /* The bytes of stack that are enough for each call. The text that nests deepest, 20 kB long, needs
- * 1,544 KiB. For cargo_lock_bill this is not measured yet. */
+ * 1,544 KiB; cargo_lock_bill was seen to read it on 2 MiB. */
 #define CARGO_LOCK_STACK 2097152
 
 #ifdef __cplusplus
