@@ -1,0 +1,34 @@
+-- The commits of git sources, as the program looks them up.
+use Rattle.std.specs.Prelude.{◌≡◌, ◌≢◌, ◌⊎◌, ℕ, IsTrue, List, Option, Some, None, option_map}
+use Rattle.std.specs.Borrow.{Bor}
+use Rattle.std.specs.BTreeMap.{BTreeMap, get}
+use Rattle.cargo_lock_parts.specs.Identity.{PackageData}
+use Rattle.cargo_lock_parts.specs.Source.{Source, is_git}
+use Rattle.cargo_lock_parts.specs.SourceKey.{Key, key_of, source_cmp}
+use Rattle.cargo_lock_merging.specs.Commits.{IsCommitIn, git_in, commit_in}
+
+-- a git source without its commit
+pub record IsBare (s : Source) : Type 0 where
+  pub git : IsTrue (is_git s.kind)
+  pub bare : s.precise ≡ None
+
+-- the text that pins a source, if there is one
+abbrev pub commit_if : Option (Bor Source) → Option (Option (List ℕ))
+commit_if = option_map (λ s. s.now.precise)
+
+-- the map has each git source of the list, without its commit, at its commit
+abbrev pub AreCommitsOf : List PackageData → BTreeMap Source (Bor Source) → Type 0
+AreCommitsOf xs map = (s : Source) → IsBare s
+    → IsCommitIn xs (key_of s) (commit_if (get source_cmp map s))
+
+-- the package is of the git source, and the answer is its commit; or it is not, and the answer is
+-- the old one
+abbrev pub IsPut : PackageData → Key → Option (Option (List ℕ)) → Option (Option (List ℕ)) → Type 0
+IsPut p g old new = ((git_in p.source ≡ Some g) × (new ≡ Some (commit_in p.source)))
+    ⊎ ((git_in p.source ≢ Some g) × (new ≡ old))
+
+-- the map has the commit of the package too
+abbrev pub HasPut : BTreeMap Source (Bor Source) → BTreeMap Source (Bor Source) → PackageData
+    → Type 0
+HasPut old new p = (s : Source) → IsBare s
+    → IsPut p (key_of s) (commit_if (get source_cmp old s)) (commit_if (get source_cmp new s))

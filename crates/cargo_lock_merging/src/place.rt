@@ -1,0 +1,151 @@
+//! The places of packages in lockfiles.
+
+ghost use Rattle.std.specs.Prelude.{◌≡◌, IfOk, IsOkUnless, None, Some, count_by, false};
+ghost use Rattle.std.specs.Prelude.{nat_lt, option_map};
+ghost use Rattle.semver.specs.Identifiers.{parts_of};
+ghost use Rattle.cargo_lock_parts.specs.declared.error.Error.TheVariants.{Memory};
+ghost use Rattle.cargo_lock_parts.specs.PartialIdentity.{partial_key};
+ghost use Rattle.cargo_lock_parts.specs.SourceKey.{key_of};
+ghost use Rattle.cargo_lock_merging.specs.Commits.{key_without_commit};
+ghost use Rattle.cargo_lock_merging.specs.Located.{IsLocated, lists_of};
+ghost use Rattle.cargo_lock_merging.specs.Places.{has_several, is_member_named, line_of};
+ghost use Rattle.cargo_lock_merging.specs.Places.{version_in};
+
+use cargo_lock_parts::error::Result;
+use cargo_lock_parts::package::{Name, Package, PartialIdentity, SourceId, Version};
+
+/// Three lists of packages: the base, ours and theirs.
+#[derive(Clone, Copy)]
+pub struct Lists<'a> {
+    /// The base.
+    pub base: &'a [Package],
+
+    /// Ours.
+    pub ours: &'a [Package],
+
+    /// Theirs.
+    pub theirs: &'a [Package],
+}
+
+/// What of the version and of the source of a package its place has.
+#[derive(Drop)]
+pub struct Located {
+    version: Option<Version>,
+    source: Option<SourceId>,
+}
+
+/// The version and the source of the package's place. It has the version of a package without a
+/// source only if one of the lists has several packages of the name. The one error is `Memory`.
+pub fn locate(package: &Package, several: bool) -> Result<Located>
+    ensures ok { IfOk result (IsLocated «package».now several) }
+    ensures err { IsOkUnless result Memory }
+{
+    match &package.source {
+        Some(source) => locate_sourced(source, &package.version),
+        None => locate_member(&package.version, several),
+    }
+}
+
+// The same of a package with a source.
+fn locate_sourced(source: &SourceId, version: &Version) -> Result<Located>
+    ensures ok { IfOk result (λ l.
+        (option_map parts_of l.version ≡ version_in false (parts_of version.now) (Some source.now))
+        × (option_map key_of l.source ≡ Some (key_without_commit source.now))) }
+    ensures err { IsOkUnless result Memory }
+{
+    let bare = without_commit(source)?;
+    let version = if source.is_git() {
+        None
+    } else {
+        Some(line_of(version))
+    };
+    Ok(Located {
+        version,
+        source: Some(bare),
+    })
+}
+
+// The same of a package without a source.
+fn locate_member(version: &Version, several: bool) -> Result<Located>
+    ensures ok { IfOk result (λ l.
+        (option_map parts_of l.version ≡ version_in several (parts_of version.now) None)
+        × (option_map key_of l.source ≡ None)) }
+    ensures err { IsOkUnless result Memory }
+{
+    let version = if several {
+        Some(version.clone()?)
+    } else {
+        None
+    };
+    Ok(Located {
+        version,
+        source: None,
+    })
+}
+
+// The source without its commit.
+fn without_commit(source: &SourceId) -> Result<SourceId>
+    ensures ok { IfOk result (λ bare. key_of bare ≡ key_without_commit source.now) }
+    ensures err { IsOkUnless result Memory }
+{
+    if source.is_git() {
+        source.with_precise(None)
+    } else {
+        Ok(source.clone()?)
+    }
+}
+
+/// The line of a version, as the least version in it: the numbers up to the first that is not zero.
+pub fn line_of(version: &Version) -> Version
+    ensures { parts_of result ≡ line_of (parts_of version.now) }
+{
+    if version.major != 0 {
+        Version::new(version.major, 0, 0)
+    } else if version.minor != 0 {
+        Version::new(0, version.minor, 0)
+    } else {
+        Version::new(0, 0, version.patch)
+    }
+}
+
+impl Located {
+    /// The place of a package of this name.
+    pub fn place<'a>(&'a self, name: &'a Name) -> PartialIdentity<'a>
+        ensures { partial_key result ≡ record {
+          name = name.now;
+          version = option_map parts_of self.now.version;
+          source = option_map key_of self.now.source;
+        } }
+    {
+        PartialIdentity {
+            name,
+            version: self.version.as_ref(),
+            source: self.source.as_ref(),
+        }
+    }
+}
+
+/// Whether one of the lists has several packages of this name without a source.
+pub fn has_several(lists: &Lists, name: &Name) -> bool
+    ensures { result ≡ has_several (lists_of lists.now) name.now }
+{
+    is_doubled(lists.base, name) || is_doubled(lists.ours, name) || is_doubled(lists.theirs, name)
+}
+
+// Whether the list has several packages of this name without a source.
+fn is_doubled(packages: &[Package], name: &Name) -> bool
+    ensures { result ≡ nat_lt 1 (count_by (is_member_named name.now) packages.now) }
+{
+    packages
+        .iter()
+        .filter(|package| is_member_named(package, name))
+        .count()
+        > 1
+}
+
+// Whether the package has this name and no source.
+fn is_member_named(package: &Package, name: &Name) -> bool
+    ensures { result ≡ is_member_named name.now «package».now }
+{
+    package.source.is_none() && name.as_str() == package.name.as_str()
+}
