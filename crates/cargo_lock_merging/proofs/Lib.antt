@@ -1,3 +1,8 @@
+pub mod Members
+pub mod Linking
+pub mod Slotting
+pub mod Counting
+pub mod Assembling
 pub mod Ascending
 pub mod Kept
 pub mod Searching

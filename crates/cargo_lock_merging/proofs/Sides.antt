@@ -196,7 +196,7 @@ module _ {P : Type 0} where
         | inr t ↦ inr (depends-at s.theirs x.place f.2 d f.4.at.theirs t)
       ]
 
-  chain-more : (leads : P → P → Type 0) (a : P) (chain : List P) (b c : P) → IsChain leads a chain b → leads b c → IsChain leads a (chain ++ c ∷ []) c
+  pub chain-more : (leads : P → P → Type 0) (a : P) (chain : List P) (b c : P) → IsChain leads a chain b → leads b c → IsChain leads a (chain ++ c ∷ []) c
   chain-more leads a [] b c h l = (subst (λ (z : P). leads z c) (sym h) l, refl)
   chain-more leads a (r ∷ rs) b c h l = (h.0, chain-more leads r rs b c h.1 l)
 

@@ -17,5 +17,9 @@ pub mod Renaming
 pub mod Places
 pub mod Laws
 pub mod Located
+pub mod Linked
+pub mod Lists
+pub mod Assembled
+pub mod Refusals
 pub mod Numbers
 pub mod Conflicts

@@ -1,13 +1,13 @@
 -- The places of packages in lockfiles: what Cargo has at most one package for.
-use Rattle.std.specs.Prelude.{◌≡◌, ◌==◌, ◌&&◌, ◌∷◌, ℕ, Bool, List, [], Option, Some, None}
+use Rattle.std.specs.Prelude.{◌≡◌, ◌≢◌, ◌==◌, ◌&&◌, ◌∷◌, ℕ, Bool, List, [], Option, Some, None}
 use Rattle.std.specs.Prelude.{bytes_eq, count_by, if◌then◌else◌, is_none, length, nat_lt}
 use Rattle.std.specs.Prelude.{option_map, slice_get}
-use Rattle.std.specs.List.{Contains, list_any}
+use Rattle.std.specs.List.{AllPairs, Contains, list_any}
 use Rattle.semver.specs.Parse.{Parts}
 use Rattle.cargo_lock_parts.specs.Identity.{Identity, PackageData}
 use Rattle.cargo_lock_parts.specs.PartialIdentity.{PartialKey}
 use Rattle.cargo_lock_parts.specs.Source.{Source, is_git}
-use Rattle.cargo_lock_graph.specs.Targets.{IsTarget}
+use Rattle.cargo_lock_graph.specs.Targets.{HasIdentity, IsTarget}
 use Rattle.cargo_lock_merging.specs.Commits.{Lockfiles, key_without_commit}
 use Rattle.cargo_lock_merging.specs.Merge.{IsMerge, Triple}
 use Rattle.cargo_lock_merging.specs.Placed.{HasOneAtEach, PlacedData}
@@ -57,11 +57,12 @@ abbrev pub IsPlaceIn : Lockfiles → List PackageData → Identity → Place →
 IsPlaceIn all packages i p = (k : ℕ) × (q : PackageData) × IsTarget packages i k
     × (slice_get packages k ≡ Some q) × (p ≡ place_of all q)
 
--- the same of an identity that may be absent
-abbrev pub IsPlaceInIf : Lockfiles → List PackageData → Option Identity → Option Place → Type 0
-IsPlaceInIf all packages None p = p ≡ None
-IsPlaceInIf all packages (Some i) None = ⊥
-IsPlaceInIf all packages (Some i) (Some p) = IsPlaceIn all packages i p
+-- the place of the package that has the identity of a replacement
+abbrev pub IsReplacementIn : Lockfiles → List PackageData → Option Identity → Option Place → Type 0
+IsReplacementIn all packages None p = p ≡ None
+IsReplacementIn all packages (Some i) None = ⊥
+IsReplacementIn all packages (Some i) (Some p) = (q : PackageData) × Contains packages q
+    × HasIdentity i q × (p ≡ place_of all q)
 
 -- x is the package at its place, with the places of its dependencies and of its replacement, each
 -- of which has its package
@@ -73,13 +74,13 @@ pub record IsPlaced (all : Lockfiles) (packages : List PackageData) (p : Package
       → (d : Place) × IsPlaceIn all packages i d × Contains x.dependencies d
   pub dependencies : (d : Place) → Contains x.dependencies d
       → (i : Identity) × Contains p.dependencies i × IsPlaceIn all packages i d
-  pub replacement : IsPlaceInIf all packages p.replace x.replacement
+  pub replacement : IsReplacementIn all packages p.replace x.replacement
 
--- These are the packages of a list at their places, in any order. At each place is at most one, and
--- each package of the list is there.
+-- These are the packages of a list at their places, in any order. No two are at one place, and each
+-- package of the list is there.
 pub record ArePlaced (all : Lockfiles) (packages : List PackageData)
     (xs : List (PlacedData Place)) : Type 0 where
-  pub count : length xs ≡ length packages
+  pub distinct : AllPairs (λ p q. place_of all p ≢ place_of all q) packages
   pub one : HasOneAtEach xs
   pub each : (x : PlacedData Place) → Contains xs x
       → (p : PackageData) × Contains packages p × IsPlaced all packages p x

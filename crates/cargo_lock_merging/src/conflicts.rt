@@ -26,7 +26,7 @@ pub enum Kind {
 
 /// The places that are reached and at which the sides are in conflict about this, in ascending
 /// order. Fails when out of memory.
-pub fn conflicts(alloc: Global, plan: &Plan, kind: Kind) -> Result<Vec<u64>, AllocError>
+pub fn conflicts(alloc: Global, plan: &Plan, kind: Kind) -> Result<Vec<usize>, AllocError>
     ensures { IfOk result (λ places. (s : Triple ℕ) → HasPlan s plan.now
         → AreConflicts s kind places.items) }
 {

@@ -43,10 +43,10 @@ pub struct Entry<'a> {
     pub chosen: Option<Chosen<'a>>,
 
     /// The places that are depended on, in ascending order.
-    pub dependencies: Vec<u64>,
+    pub dependencies: Vec<usize>,
 
     /// The same, and the place of the replacement.
-    pub targets: Vec<u64>,
+    pub targets: Vec<usize>,
 }
 
 /// What a merge has at the place of the row. The one error is `Memory`.
@@ -119,7 +119,7 @@ fn dependencies_if<'a>(
     alloc: Global,
     row: &Row<'a>,
     chosen: Option<Chosen<'a>>,
-) -> std::result::Result<Vec<u64>, AllocError>
+) -> std::result::Result<Vec<usize>, AllocError>
     requires row { IsRowInOrder row.now }
     requires chosen { MatchOption chosen (Unit {0}) (λ c.
         IsOfSide (data_if row.now.ours) (data_if row.now.theirs) (data_of c.package)) }
@@ -140,7 +140,7 @@ fn dependencies_if<'a>(
 }
 
 // The place of the replacement of what is chosen.
-fn replacement_if<'a>(row: &Row<'a>, chosen: Option<Chosen<'a>>) -> Option<u64>
+fn replacement_if<'a>(row: &Row<'a>, chosen: Option<Chosen<'a>>) -> Option<usize>
     requires { MatchOption chosen (Unit {0}) (λ c. HasValues row.now c) }
     ensures { (d : ℕ) → (result ≡ Some d) ↔ IsReplacementIf row.now chosen.entry d }
 {
@@ -153,9 +153,9 @@ fn replacement_if<'a>(row: &Row<'a>, chosen: Option<Chosen<'a>>) -> Option<u64>
 // The places of dependencies and of a replacement.
 fn targets(
     alloc: Global,
-    dependencies: &[u64],
-    replacement: Option<u64>,
-) -> std::result::Result<Vec<u64>, AllocError>
+    dependencies: &[usize],
+    replacement: Option<usize>,
+) -> std::result::Result<Vec<usize>, AllocError>
     ensures { IfOk result (λ all. (d : ℕ) → Contains all.items d
         ↔ (Contains dependencies.now d ⊎ (replacement ≡ Some d))) }
 {

@@ -1,5 +1,6 @@
 //! Laws of the merge, each the contract of a function without a body.
 
+ghost use Rattle.cargo_lock_merging.specs.Assembled.{AssembledAreMerge};
 ghost use Rattle.cargo_lock_merging.specs.Laws.{DependenciesAreOfSides, MergeIsClosed};
 ghost use Rattle.cargo_lock_merging.specs.Laws.{MergeIsSymmetric, NumbersOfPlaces};
 ghost use Rattle.cargo_lock_merging.specs.Laws.{BothStay, MergeHasNoConflict, PackagesAreOfSides};
@@ -54,4 +55,9 @@ pub fn conflicts_are_symmetric()
 /// The sides of a moved reference may be exchanged.
 pub fn moved_references_are_symmetric()
     ensures { MovedReferencesAreSymmetric }
+{}
+
+/// The packages that are assembled of a merge by numbers of places are the merge of the lockfiles.
+pub fn assembled_are_merge()
+    ensures { AssembledAreMerge }
 {}

@@ -27,7 +27,7 @@ use std::alloc::{AllocError, Global};
 #[derive(Drop)]
 pub struct Merged<'a> {
     /// The place.
-    pub place: u64,
+    pub place: usize,
 
     /// The package of a side whose identity it has.
     pub package: &'a Package,
@@ -36,10 +36,10 @@ pub struct Merged<'a> {
     pub checksum: Option<Checksum>,
 
     /// The places of the dependencies, in ascending order.
-    pub dependencies: Vec<u64>,
+    pub dependencies: Vec<usize>,
 
     /// The place of the replacement.
-    pub replacement: Option<u64>,
+    pub replacement: Option<usize>,
 }
 
 // What a merged package has beside its dependencies.
@@ -47,7 +47,7 @@ pub struct Merged<'a> {
 struct Values<'a> {
     package: &'a Package,
     checksum: Option<Checksum>,
-    replacement: Option<u64>,
+    replacement: Option<usize>,
 }
 
 /// The merge of the packages of three lockfiles, which are in the order of their places. In those of

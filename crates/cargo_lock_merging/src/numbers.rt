@@ -103,6 +103,13 @@ impl<'a> Numbers<'a> {
         Ok(Numbers { spots, last })
     }
 
+    /// How many packages there are.
+    pub fn len(&self) -> usize
+        ensures { result ≡ length self.now }
+    {
+        self.spots.len()
+    }
+
     /// The number of the place of the package at an index: the index of the last package there.
     pub fn number(&self, at: usize) -> usize
         requires { at < length self.now }

@@ -14,16 +14,16 @@ use std::cmp::Ordering;
 #[derive(Clone, Copy)]
 pub struct Placed<'a> {
     /// The place.
-    pub place: u64,
+    pub place: usize,
 
     /// The package.
     pub package: &'a Package,
 
     /// The places of the dependencies, in ascending order.
-    pub dependencies: &'a [u64],
+    pub dependencies: &'a [usize],
 
     /// The place of the replacement.
-    pub replacement: Option<u64>,
+    pub replacement: Option<usize>,
 }
 
 /// The order of the identities of two packages: by name, version and source.

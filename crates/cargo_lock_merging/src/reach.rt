@@ -14,9 +14,9 @@ use std::alloc::{AllocError, Global};
 /// A place, whether it is a root, and the places that it leads to.
 #[derive(Clone, Copy)]
 pub struct Node<'a> {
-    pub place: u64,
+    pub place: usize,
     pub is_root: bool,
-    pub targets: &'a [u64],
+    pub targets: &'a [usize],
 }
 
 // Which places are reached so far, and those whose targets are still to be followed.
@@ -48,7 +48,7 @@ pub fn reached(alloc: Global, nodes: &[Node]) -> Result<Vec<bool>, AllocError>
 }
 
 // The places of the nodes.
-fn places_of_nodes(alloc: Global, nodes: &[Node]) -> Result<Vec<u64>, AllocError>
+fn places_of_nodes(alloc: Global, nodes: &[Node]) -> Result<Vec<usize>, AllocError>
     ensures { IfOk result (λ places. places.items ≡ places_in nodes.now) }
 {
     let mut places = Vec::with_capacity(alloc, nodes.len())?;
@@ -59,7 +59,7 @@ fn places_of_nodes(alloc: Global, nodes: &[Node]) -> Result<Vec<u64>, AllocError
 }
 
 // The index of the place among places.
-fn index_of(places: &[u64], place: u64) -> Option<usize>
+fn index_of(places: &[usize], place: usize) -> Option<usize>
     requires { IsStrictlyIncreasing places.now }
     ensures { MatchOption result (¬ Contains places.now place)
         (λ k. slice_get places.now k ≡ Some place) }
@@ -86,7 +86,7 @@ impl Search {
     }
 
     // Reaches the targets that are among the places.
-    fn follow(&mut self, places: &[u64], targets: &[u64]) -> Result<(), AllocError>
+    fn follow(&mut self, places: &[usize], targets: &[usize]) -> Result<(), AllocError>
         requires ascending { IsStrictlyIncreasing places.now }
         requires count { length self.old.reached.items ≡ length places.now }
         ensures { OnOk result (HasReached

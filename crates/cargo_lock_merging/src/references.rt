@@ -20,7 +20,7 @@ pub fn dependencies_of_chosen<'a>(
     ours: Option<Placed<'a>>,
     theirs: Option<Placed<'a>>,
     chosen: Placed<'a>,
-) -> Result<Vec<u64>, AllocError>
+) -> Result<Vec<usize>, AllocError>
     requires base { HasAscending (data_if base) }
     requires ours { HasAscending (data_if ours) }
     requires theirs { HasAscending (data_if theirs) }
@@ -45,7 +45,7 @@ fn dependencies_of_both<'a>(
     ours: Placed<'a>,
     theirs: Placed<'a>,
     chosen: Placed<'a>,
-) -> Result<Vec<u64>, AllocError>
+) -> Result<Vec<usize>, AllocError>
     requires base { HasAscending (data_if base) }
     requires ours { IsStrictlyIncreasing ours.dependencies.now }
     requires theirs { IsStrictlyIncreasing theirs.dependencies.now }
@@ -83,7 +83,7 @@ pub fn dependencies_of_either<'a>(
     alloc: Global,
     ours: Option<Placed<'a>>,
     theirs: Option<Placed<'a>>,
-) -> Result<Vec<u64>, AllocError>
+) -> Result<Vec<usize>, AllocError>
     requires ours { HasAscending (data_if ours) }
     requires theirs { HasAscending (data_if theirs) }
     ensures ascending { IfOk result (λ all. IsStrictlyIncreasing all.items) }
@@ -94,7 +94,7 @@ pub fn dependencies_of_either<'a>(
 }
 
 // The places that the package depends on, if there is one.
-fn dependencies_of<'a>(package: Option<Placed<'a>>) -> &'a [u64]
+fn dependencies_of<'a>(package: Option<Placed<'a>>) -> &'a [usize]
     requires { HasAscending (data_if «package») }
     ensures ascending { IsStrictlyIncreasing result.now }
     ensures holds { (d : ℕ) → Contains result.now d ↔ DependsOn (data_if «package».entry) d }

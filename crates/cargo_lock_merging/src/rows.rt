@@ -15,7 +15,7 @@ use std::alloc::{AllocError, Global};
 /// What the base and the two sides have at a place.
 #[derive(Clone, Copy)]
 pub struct Row<'a> {
-    pub place: u64,
+    pub place: usize,
     pub base: Option<Placed<'a>>,
     pub ours: Option<Placed<'a>>,
     pub theirs: Option<Placed<'a>>,
@@ -62,7 +62,7 @@ pub fn rows<'a>(
 }
 
 // The places of packages.
-fn places(alloc: Global, list: &[Placed]) -> Result<Vec<u64>, AllocError>
+fn places(alloc: Global, list: &[Placed]) -> Result<Vec<usize>, AllocError>
     ensures { IfOk result (λ places. places.items ≡ places_of (all_data list.now)) }
 {
     let mut places = Vec::with_capacity(alloc, list.len())?;
@@ -73,7 +73,7 @@ fn places(alloc: Global, list: &[Placed]) -> Result<Vec<u64>, AllocError>
 }
 
 // The package at the place, if there is one. The search goes on from where it stopped before.
-fn package_of<'a>(list: &[Placed<'a>], at: &mut usize, place: u64) -> Option<Placed<'a>>
+fn package_of<'a>(list: &[Placed<'a>], at: &mut usize, place: usize) -> Option<Placed<'a>>
     requires ascending { IsInOrder (all_data list.now) }
     requires below { AreBelow (places_of (all_data list.now)) at.old place }
     ensures found { IsAt (all_data list.now) place (data_if result) }

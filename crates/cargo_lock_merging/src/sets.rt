@@ -14,10 +14,10 @@ use std::alloc::{AllocError, Global};
 /// memory.
 pub fn merge_places(
     alloc: Global,
-    base: &[u64],
-    ours: &[u64],
-    theirs: &[u64],
-) -> Result<Vec<u64>, AllocError>
+    base: &[usize],
+    ours: &[usize],
+    theirs: &[usize],
+) -> Result<Vec<usize>, AllocError>
     requires base { IsStrictlyIncreasing base.now }
     requires ours { IsStrictlyIncreasing ours.now }
     requires theirs { IsStrictlyIncreasing theirs.now }
@@ -42,7 +42,7 @@ pub fn merge_places(
 }
 
 /// The places of both sets, each once. Fails when out of memory.
-pub fn all_places(alloc: Global, ours: &[u64], theirs: &[u64]) -> Result<Vec<u64>, AllocError>
+pub fn all_places(alloc: Global, ours: &[usize], theirs: &[usize]) -> Result<Vec<usize>, AllocError>
     requires ours { IsStrictlyIncreasing ours.now }
     requires theirs { IsStrictlyIncreasing theirs.now }
     ensures ascending { IfOk result (λ all. IsStrictlyIncreasing all.items) }
@@ -72,7 +72,7 @@ pub fn all_places(alloc: Global, ours: &[u64], theirs: &[u64]) -> Result<Vec<u64
 }
 
 // Whether the place is in the set. The search goes on from where it stopped before.
-fn has_place(list: &[u64], at: &mut usize, place: u64) -> bool
+fn has_place(list: &[usize], at: &mut usize, place: usize) -> bool
     requires ascending { IsStrictlyIncreasing list.now }
     requires below { AreBelow list.now at.old place }
     ensures found { IsTrue result ↔ Contains list.now place }

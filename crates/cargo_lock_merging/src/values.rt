@@ -117,7 +117,7 @@ fn equal_replacements<'a>(base: Option<Placed<'a>>, ours: Placed<'a>, theirs: Pl
 }
 
 // The place of the replacement of the package, if there is one.
-fn replacement_of(package: Option<Placed>) -> Option<u64>
+fn replacement_of(package: Option<Placed>) -> Option<usize>
     ensures { result ≡ replacement_if (data_if «package».entry) }
 {
     match package {

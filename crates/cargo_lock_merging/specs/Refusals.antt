@@ -1,0 +1,78 @@
+-- Why a lockfile cannot be merged.
+use Rattle.std.specs.Prelude.{◌≡◌, ◌≢◌, ◌<◌, ℕ, List, Some, None, slice_get}
+use Rattle.std.specs.List.{Contains}
+use Rattle.cargo_lock_parts.specs.Identity.{Identity, PackageData}
+use Rattle.cargo_lock_parts.specs.SourceKey.{Key}
+use Rattle.cargo_lock_parts.specs.declared.error.Error.{Error}
+use Rattle.cargo_lock_parts.specs.declared.error.Error.TheVariants.{Resolution}
+use Rattle.cargo_lock_graph.specs.Targets.{IsLastWith, IsUnresolved, links}
+use Rattle.cargo_lock_merging.specs.declared.refusal.Refusal.{Refusal}
+use Rattle.cargo_lock_merging.specs.declared.refusal.Refusal.TheVariants.{Lost, OnePlace, TwoCommits}
+use Rattle.cargo_lock_merging.specs.declared.refusal.Refusal.TheVariants.{Unreplaced}
+use Rattle.cargo_lock_merging.specs.declared.refusal.Fault.{Fault}
+use Rattle.cargo_lock_merging.specs.declared.refusal.Fault.TheVariants.{Memory, Refused}
+use Rattle.cargo_lock_merging.specs.Commits.{Lockfiles, commit_in, git_in}
+use Rattle.cargo_lock_merging.specs.Lists.{BeginsAt}
+use Rattle.cargo_lock_merging.specs.Places.{Place, place_of}
+
+-- the list has p and later q, which are at one place
+pub record AreAtOnePlace (all : Lockfiles) (packages : List PackageData) (p q : PackageData) : Type 0
+  where
+    pub one : ℕ
+    pub other : ℕ
+    pub later : one < other
+    pub one_at : slice_get packages one ≡ Some p
+    pub other_at : slice_get packages other ≡ Some q
+    pub same : place_of all p ≡ place_of all q
+
+-- two packages of the list are of a git source, at different commits
+pub record AreAtTwoCommits (packages : List PackageData) (p q : PackageData) : Type 0 where
+  pub one : Contains packages p
+  pub other : Contains packages q
+  pub source : Key
+  pub one_of : git_in p.source ≡ Some source
+  pub other_of : git_in q.source ≡ Some source
+  pub apart : commit_in p.source ≢ commit_in q.source
+
+-- a package of the list is replaced, and no package has the identity of its replacement
+pub record IsUnreplaced (packages : List PackageData) (p : PackageData) : Type 0 where
+  pub among : Contains packages p
+  pub identity : Identity
+  pub replaced : p.replace ≡ Some identity
+  pub none : IsLastWith packages identity None
+
+-- such a package is this one, and the fault says so
+abbrev pub IsOneOfUnreplaced : List PackageData → PackageData → Fault → Type 0
+IsOneOfUnreplaced packages p Memory = ⊥
+IsOneOfUnreplaced packages p (Refused (Unreplaced q)) = (q.now ≡ p)
+    × ((Contains packages p) → IsUnreplaced packages p)
+IsOneOfUnreplaced packages p (Refused other) = ⊥
+
+-- the list is refused for this
+abbrev pub IsRefusal : Lockfiles → List PackageData → Refusal → Type 0
+IsRefusal all packages (OnePlace p q) = AreAtOnePlace all packages p.now q.now
+IsRefusal all packages (TwoCommits p q) = AreAtTwoCommits packages p.now q.now
+IsRefusal all packages (Unreplaced p) = IsUnreplaced packages p.now
+IsRefusal all packages (Lost text) = IsUnresolved packages (links packages) (Resolution text)
+
+-- the fault is `Memory`, or the list is refused
+abbrev pub IsFault : Lockfiles → List PackageData → Fault → Type 0
+IsFault all packages Memory = Unit {0}
+IsFault all packages (Refused refusal) = IsRefusal all packages refusal
+
+-- the same where the places of the packages begin at an index
+abbrev pub IsFaultFrom : List Place → ℕ → List PackageData → Fault → Type 0
+IsFaultFrom places offset packages fault = (all : Lockfiles)
+    → BeginsAt all places packages offset → IsFault all packages fault
+
+-- the fault is `Memory`, or a dependency resolves to no package
+abbrev pub IsLostOrMemory : List PackageData → Fault → Type 0
+IsLostOrMemory packages Memory = Unit {0}
+IsLostOrMemory packages (Refused (Lost text)) = IsUnresolved packages (links packages)
+    (Resolution text)
+IsLostOrMemory packages (Refused other) = ⊥
+
+-- the fault of an error: a dependency without a package is refused
+abbrev pub IsOfError : Error → Fault → Type 0
+IsOfError (Resolution text) fault = fault ≡ Refused (Lost text)
+IsOfError other fault = fault ≡ Memory

@@ -1,0 +1,167 @@
+//! The packages of a list at places that are numbers.
+
+ghost use Rattle.std.specs.Prelude.{◌≡◌, ◌+◌, ◌<◌, ◌≤◌, ◌↔◌, ℕ, All, IfErr, IfOk, MatchResult, Some};
+ghost use Rattle.std.specs.Prelude.{length, slice_get};
+ghost use Rattle.std.specs.List.{Contains};
+ghost use Rattle.std.specs.List.Sorted.{IsStrictlyIncreasing};
+ghost use Rattle.cargo_lock_parts.specs.Identity.{PackageData};
+ghost use Rattle.cargo_lock_merging.specs.Lists.{AreNumberedFrom, AreSlots};
+ghost use Rattle.cargo_lock_merging.specs.Lists.{HasReplacement, IsNumberAt, IsNumberedAt};
+ghost use Rattle.cargo_lock_merging.specs.Lists.{all_numbered, numbered_data};
+ghost use Rattle.cargo_lock_merging.specs.Refusals.{IsFaultFrom, IsOneOfUnreplaced};
+
+use crate::linked::Linked;
+use crate::numbers::Numbers;
+use crate::refusal::{Fault, Refusal, Result};
+use cargo_lock_parts::package::Package;
+use std::alloc::{AllocError, Global};
+
+/// A package at its place, which is a number, with the places of its dependencies and of its
+/// replacement.
+#[derive(Drop)]
+pub struct Numbered<'a> {
+    /// The place.
+    pub place: usize,
+
+    /// The package.
+    pub package: &'a Package,
+
+    /// The places of the dependencies, in ascending order.
+    pub dependencies: Vec<usize>,
+
+    /// The place of the replacement.
+    pub replacement: Option<usize>,
+}
+
+/// The packages of a list in the order of their places, whose numbers begin at an index. Refuses two
+/// packages at one place, a dependency that resolves to no package, and a replacement with the
+/// identity of no package.
+pub(crate) fn numbered_list<'a>(
+    alloc: Global,
+    numbers: &Numbers<'_>,
+    offset: usize,
+    packages: &'a Vec<Package>,
+) -> Result<'a, Vec<Numbered<'a>>>
+    requires { offset + length packages.now.items ≤ length numbers.now }
+    ensures ok { IfOk result (λ all.
+        AreNumberedFrom numbers.now offset packages.now.items (all_numbered all.items)) }
+    ensures err { IfErr result (IsFaultFrom numbers.now offset packages.now.items) }
+{
+    let slots = slots(alloc, numbers, offset, packages)?;
+    let linked = Linked::of(alloc, packages)?;
+    numbered_slots(alloc, numbers, offset, &linked, &slots)
+}
+
+// For each number of a place the index of the package there. Refuses two packages at one place.
+fn slots<'a>(
+    alloc: Global,
+    numbers: &Numbers<'_>,
+    offset: usize,
+    packages: &'a [Package],
+) -> Result<'a, Vec<Option<usize>>>
+    requires { offset + length packages.now ≤ length numbers.now }
+    ensures ok { IfOk result
+        (λ slots. AreSlots numbers.now offset (length packages.now) slots.items) }
+    ensures err { IfErr result (IsFaultFrom numbers.now offset packages.now) }
+{
+    let mut slots = vec![in alloc; None; numbers.len()]?;
+    for (at, package) in packages.iter().enumerate() {
+        let number = numbers.number(offset + at);
+        if let Some(other) = slots[number] {
+            return Err(Fault::Refused(Refusal::OnePlace(&packages[other], package)));
+        }
+        slots[number] = Some(at);
+    }
+    Ok(slots)
+}
+
+// The packages in the order of their places.
+fn numbered_slots<'a>(
+    alloc: Global,
+    numbers: &Numbers<'_>,
+    offset: usize,
+    linked: &Linked<'a>,
+    slots: &[Option<usize>],
+) -> Result<'a, Vec<Numbered<'a>>>
+    requires fits { offset + length linked.now ≤ length numbers.now }
+    requires slots { AreSlots numbers.now offset (length linked.now) slots.now }
+    ensures ok { IfOk result (λ all.
+        AreNumberedFrom numbers.now offset linked.now (all_numbered all.items)) }
+    ensures err { IfErr result (IsFaultFrom numbers.now offset linked.now) }
+{
+    let mut all = Vec::with_capacity(alloc, linked.packages.len())?;
+    for slot in slots {
+        if let Some(at) = slot {
+            let numbered = numbered_at(alloc, numbers, offset, linked, *at)?;
+            all.push(numbered)?;
+        }
+    }
+    Ok(all)
+}
+
+// The package at an index.
+fn numbered_at<'a>(
+    alloc: Global,
+    numbers: &Numbers<'_>,
+    offset: usize,
+    linked: &Linked<'a>,
+    at: usize,
+) -> Result<'a, Numbered<'a>>
+    requires fits { offset + length linked.now ≤ length numbers.now }
+    requires at { at < length linked.now }
+    ensures ok { IfOk result (λ one. IsNumberedAt numbers.now offset linked.now at (numbered_data one)) }
+    ensures err { IfErr result (IsFaultFrom numbers.now offset linked.now) }
+{
+    let package = &linked.packages[at];
+    let replacement = replacement(numbers, offset, linked, package)?;
+    let targets = linked.targets(alloc, at)?;
+    let dependencies = places(alloc, numbers, offset, &targets)?;
+    Ok(Numbered {
+        place: numbers.number(offset + at),
+        package,
+        dependencies,
+        replacement,
+    })
+}
+
+// The place of the replacement of a package. Refuses one with the identity of no package.
+fn replacement<'a>(
+    numbers: &Numbers<'_>,
+    offset: usize,
+    linked: &Linked<'a>,
+    package: &'a Package,
+) -> Result<'a, Option<usize>>
+    requires { offset + length linked.now ≤ length numbers.now }
+    ensures ok { IfOk result
+        (λ place. HasReplacement numbers.now offset linked.now «package».now.replace place) }
+    ensures err { IfErr result (IsOneOfUnreplaced linked.now «package».now) }
+{
+    match &package.replace {
+        None => Ok(None),
+        Some(identity) => match linked.last_with(identity) {
+            Some(at) => Ok(Some(numbers.number(offset + at))),
+            None => Err(Fault::Refused(Refusal::Unreplaced(package))),
+        },
+    }
+}
+
+// The numbers of the places of packages, in ascending order.
+fn places(
+    alloc: Global,
+    numbers: &Numbers<'_>,
+    offset: usize,
+    packages: &[usize],
+) -> std::result::Result<Vec<usize>, AllocError>
+    requires { All (λ k. offset + k < length numbers.now) packages.now }
+    ensures ascending { IfOk result (λ places. IsStrictlyIncreasing places.items) }
+    ensures are { IfOk result (λ places. (n : ℕ) → Contains places.items n
+        ↔ ((k : ℕ) × Contains packages.now k × IsNumberAt numbers.now (offset + k) n)) }
+{
+    let mut places = Vec::with_capacity(alloc, packages.len())?;
+    for at in packages {
+        places.push(numbers.number(offset + *at))?;
+    }
+    places.sort_unstable();
+    places.dedup();
+    Ok(places)
+}
