@@ -1,24 +1,26 @@
 -- The packages of a list at numbered places.
-use Rattle.std.proofs.Common.{◌≡◌, ◌≢◌, ◌<◌, ◌≤◌, ◌+◌, ◌↔◌, ◌⊎◌, ◌++◌, inl, inr, ℕ, Bool, nat_lt, if◌then◌else◌, List, [], ◌∷◌, length, get_or, map, slice_get, unwrap_or, Option, Some, None, option_map, refl, sym, ap, subst, ◌∙◌, arith}
+use Rattle.std.proofs.Common.{◌≡◌, ◌≢◌, ◌<◌, ◌≤◌, ◌+◌, ◌↔◌, ◌⊎◌, ◌++◌, inl, inr, ℕ, Bool, nat_lt, if◌then◌else◌, List, [], ◌∷◌, length, get_or, map, replicate, set, slice_get, unwrap_or, Option, Some, None, option_map, refl, sym, ap, subst, ◌∙◌, arith}
 use Rattle.std.specs.List.{All, AllPairs, Contains}
 use Rattle.std.specs.List.Sorted.{IsStrictlyIncreasing}
-use Rattle.std.proofs.lemmas.Bool.{cases_Bool, ltb-true, ltb-false}
-use Rattle.std.proofs.lemmas.List.{get_or-map, length-map}
+use Rattle.std.proofs.lemmas.Bool.{cases_Bool, cases_eq, ltb-true, ltb-false}
+use Rattle.std.proofs.lemmas.List.{get_or-map, get_or-replicate, get_or-set_other, get_or-set_same, length-map, length-replicate}
+use Rattle.std.proofs.Math.ListN.{length-set}
 use Rattle.std.proofs.lemmas.List.Elements.{Contains-append_cases, Contains-append_left, Contains-append_right, Contains-get_or}
 use Rattle.semver.specs.Parse.{Parts}
 use Rattle.std.proofs.lemmas.List.Kept.{AllPairs-from_increasing}
-use Rattle.std.proofs.lemmas.Option.{get_or_from_slice_get, same_Some, slice_get-get_or, slice_get_within}
+use Rattle.std.proofs.lemmas.Option.{get_or_from_slice_get, same_Some, slice_get-get_or, slice_get_past, slice_get_within}
 use Rattle.cargo_lock_parts.specs.Identity.{Identity, IdentityKey, PackageData, identity_key, identity_of}
 use Rattle.cargo_lock_parts.specs.Source.{Source, is_git}
 use Rattle.cargo_lock_parts.specs.SourceKey.{Key, key_of}
 use Rattle.cargo_lock_graph.specs.Targets.{IsLastBelow, IsTarget}
 use Rattle.cargo_lock_merging.specs.Commits.{Lockfiles, key_without_commit}
 use Rattle.cargo_lock_merging.specs.Linked.{IsAlone, IsTargetOf}
-use Rattle.cargo_lock_merging.specs.Lists.{AreNumbered, AreNumberedFrom, AreSlots, BeginsAt, HasReplacement, IsLastAt, IsNumber, IsNumberAt, IsNumberedAt, place_at}
+use Rattle.cargo_lock_merging.specs.Lists.{AreNumbered, AreNumberedFrom, AreSlots, BeginsAt, HasReplacement, IsLastAt, IsNumber, IsNumberAt, IsNumberedAt, no_place, place_at}
 use Rattle.cargo_lock_merging.specs.Numbered.{places_of}
 use Rattle.cargo_lock_merging.specs.Numbered as numbered
 use Rattle.cargo_lock_merging.specs.Placed.{HasOneAtEach, PlacedData}
 use Rattle.cargo_lock_merging.specs.Places.{ArePlaced, IsPlaced, IsPlaceIn, IsReplacementIn, Place, has_several, line_of, place_of, version_in}
+use Rattle.cargo_lock_merging.specs.Refusals.{AreAtOnePlace}
 use Rattle.cargo_lock_merging.specs.Renaming.{Has, rename, rename_all}
 use Rattle.cargo_lock_merging.proofs.Ascending.{far-below, up-push}
 use Rattle.cargo_lock_merging.proofs.Members.{contains-cases, first-in, got-in, in-got, in-map, map-in, none-in}
@@ -35,6 +37,12 @@ one-order a b p q = elim (cases_Bool (nat_lt a b)) [
 
 pub last-one : (P : ℕ → Type 0) (bound j k : ℕ) → IsLastBelow P bound (Some j) → IsLastBelow P bound (Some k) → j ≡ k
 last-one P bound j k a b = one-order j k (λ less. a.2 k less b.0 b.1) (λ more. b.2 j more a.0 a.1)
+
+at-most : (n i : ℕ) → n < i + 1 → (n < i) ⊎ (n ≡ i)
+at-most n i low = elim (cases_Bool (nat_lt n i)) [
+  | inl less ↦ inl (ltb-true n i less)
+  | inr more ↦ let h = ltb-false n i more in inr (omega (arith, h, low))
+]
 
 -- ---- numbers of places
 
@@ -140,12 +148,6 @@ module _ (places : List Place) (offset : ℕ) (packages : List PackageData) (slo
     each = λ x h. absurd (none-in x h);
     all_there = λ n k low at. absurd (omega (arith, low));
   }
-
-  at-most : (n i : ℕ) → n < i + 1 → (n < i) ⊎ (n ≡ i)
-  at-most n i low = elim (cases_Bool (nat_lt n i)) [
-    | inl less ↦ inl (ltb-true n i less)
-    | inr more ↦ let h = ltb-false n i more in inr (omega (arith, h, low))
-  ]
 
   pub first-pass : (i : ℕ) (xs : List (PlacedData ℕ)) → AreFirst places offset packages slots i xs → slice_get slots i ≡ Some None → AreFirst places offset packages slots (i + 1) xs
   first-pass i xs h none = record {
@@ -308,3 +310,99 @@ module _ (places : List Place) (offset : ℕ) (packages : List PackageData) (slo
             (rename (place_at places) x, in-map (rename (place_at places)) xs x there, subst (λ (q : PackageData). IsPlaced all packages q (rename (place_at places) x)) content (is-placed m x one));
       };
     }
+
+-- ---- slots that are filled
+
+pub number-made : (places : List Place) (k n : ℕ) → k < length places → ((p : Place) → slice_get places k ≡ Some p → IsLastAt places p n) → IsNumberAt places k n
+number-made places k n low h =
+    let at = slice_get-get_or places k no_place low in
+    record { place = get_or places k no_place; here = at; last = h (get_or places k no_place) at }
+
+module _ (places : List Place) (offset : ℕ) where
+  pub slots-start : (slots : List (Option ℕ)) → slots ≡ replicate (length places) None → AreSlots places offset 0 slots
+  slots-start slots is = record {
+    long = ap length is ∙ length-replicate (length places) None;
+    each = λ n i. (
+      λ at. absurd (
+        let filled : List (Option ℕ) = replicate (length places) None in
+        let there : slice_get filled n ≡ Some (Some i) = ap (λ (xs : List (Option ℕ)). slice_get xs n) (sym is) ∙ at in
+        let low = slice_get_within filled n (Some i) there in
+        let long : length filled ≡ length places = length-replicate (length places) None in
+        let e : None ≡ Some i = sym (get_or-replicate (length places) n None (Some i) (omega (arith, low, long))) ∙ get_or_from_slice_get filled n (Some i) (Some i) there in
+        cc
+      ),
+      λ h. absurd (omega (arith, h.0)),
+    );
+    all_there = λ i low. absurd (omega (arith, low));
+  }
+
+  set-here : (slots : List (Option ℕ)) (n : ℕ) (o : Option ℕ) → n < length slots → slice_get (set slots n o) n ≡ Some o
+  set-here slots n o low =
+      let long = length-set slots n o in
+      slice_get-get_or (set slots n o) n None (omega (arith, low, long)) ∙ ap Some (get_or-set_same slots n o None low)
+
+  set-away : (slots : List (Option ℕ)) (n k : ℕ) (o : Option ℕ) → ¬ (k ≡ n) → slice_get (set slots n o) k ≡ slice_get slots k
+  set-away slots n k o other = elim (cases_Bool (nat_lt k (length slots))) [
+    | inl less ↦
+        let low = ltb-true k (length slots) less in
+        let long = length-set slots n o in
+        slice_get-get_or (set slots n o) k None (omega (arith, low, long)) ∙ ap Some (get_or-set_other slots n k o None other) ∙ sym (slice_get-get_or slots k None low)
+    | inr more ↦
+        let past = ltb-false k (length slots) more in
+        let long = length-set slots n o in
+        slice_get_past (set slots n o) k (omega (arith, past, long)) ∙ sym (slice_get_past slots k (omega (arith, past)))
+  ]
+
+  pub slots-more : (slots : List (Option ℕ)) (i n : ℕ) → AreSlots places offset i slots → IsNumberAt places (offset + i) n → slice_get slots n ≡ Some None
+      → AreSlots places offset (i + 1) (set slots n (Some i))
+  slots-more slots i n h number none = record {
+    long = length-set slots n (Some i) ∙ h.long;
+    each = λ m j. (
+      λ at. elim (cases_eq m n) [
+        | inl same ↦
+            let is : i ≡ j = same_Some i j (same_Some (Some i) (Some j) (sym (set-here slots n (Some i) low) ∙ ap (slice_get (set slots n (Some i))) (sym same) ∙ at)) in
+            (omega (arith, is), subst (λ k. IsNumberAt places (offset + k) m) is (subst (IsNumberAt places (offset + i)) (sym same) number))
+        | inr other ↦
+            let r = (h.each m j).0 (sym (set-away slots n m (Some i) other) ∙ at) in
+            (let less = r.0 in omega (arith, less), r.1)
+      ],
+      λ r. elim (at-most j i r.0) [
+        | inl before ↦
+            let old = (h.each m j).1 (before, r.1) in
+            elim (cases_eq m n) [
+              | inl same ↦ absurd (let e = same_Some None (Some j) (sym none ∙ ap (slice_get slots) (sym same) ∙ old) in cc)
+              | inr other ↦ set-away slots n m (Some i) other ∙ old
+            ]
+        | inr last ↦
+            let same : m ≡ n = number-one places (offset + i) m n (subst (λ k. IsNumberAt places (offset + k) m) last r.1) number in
+            ap (slice_get (set slots n (Some i))) same ∙ set-here slots n (Some i) low ∙ ap (λ k. Some (Some k)) (sym last)
+      ],
+    );
+    all_there = λ j less. elim (at-most j i less) [
+      | inl before ↦ h.all_there j before
+      | inr last ↦ (n, subst (λ k. IsNumberAt places (offset + k) n) (sym last) number)
+    ];
+  }
+    where
+      low : n < length slots
+      low = slice_get_within slots n None none
+
+  -- the slot is that of another package at the place
+  pub slot-other : (slots : List (Option ℕ)) (i n other : ℕ) → AreSlots places offset i slots → slice_get slots n ≡ Some (Some other) → other < i
+  slot-other slots i n other h at = ((h.each n other).0 at).0
+
+  pub slot-fault : (packages : List PackageData) (slots : List (Option ℕ)) (i n other : ℕ) (p q : PackageData) → AreSlots places offset i slots → slice_get slots n ≡ Some (Some other)
+      → IsNumberAt places (offset + i) n → slice_get packages other ≡ Some p → slice_get packages i ≡ Some q
+      → (all : Lockfiles) → BeginsAt all places packages offset → AreAtOnePlace all packages p q
+  slot-fault packages slots i n other p q h at number at-p at-q all begins =
+      let r = (h.each n other).0 at in
+      record {
+        one = other;
+        other = i;
+        later = r.0;
+        one_at = at-p;
+        other_at = at-q;
+        same = sym (same_Some r.1.place (place_of all p) (sym r.1.here ∙ begins.here other p at-p))
+            ∙ place-one places (offset + other) (offset + i) n r.1 number
+            ∙ same_Some number.place (place_of all q) (sym number.here ∙ begins.here i q at-q);
+      }

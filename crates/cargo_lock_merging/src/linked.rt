@@ -1,6 +1,7 @@
 //! Where the dependencies and the replacements of packages lead.
 
-ghost use Rattle.std.specs.Prelude.{◌≡◌, ◌<◌, ◌↔◌, ℕ, All, IfErr, IfOk, length};
+ghost use Rattle.std.specs.Prelude.{◌≡◌, ◌<◌, ◌↔◌, ℕ, All, IfErr, IfOk, Some, length};
+ghost use Rattle.std.specs.Prelude.{slice_get};
 ghost use Rattle.cargo_lock_parts.specs.Identity.{PackageData};
 ghost use Rattle.cargo_lock_graph.specs.Edges.{far_ends};
 ghost use Rattle.cargo_lock_graph.specs.Targets.{IsLastWith};
@@ -49,6 +50,15 @@ impl<'a> Linked<'a> {
             graph,
             nodes,
         })
+    }
+
+    // The package at an index.
+    pub(crate) fn package(&self, at: usize) -> &'a Package
+        requires { at < length self.now }
+        ensures { slice_get self.now at ≡ Some result.now }
+    {
+        let packages = self.packages;
+        &packages[at]
     }
 
     // The indices of the packages to which the dependencies of the package at an index resolve, if

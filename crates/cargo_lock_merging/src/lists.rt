@@ -1,6 +1,6 @@
 //! The packages of a list at places that are numbers.
 
-ghost use Rattle.std.specs.Prelude.{◌≡◌, ◌+◌, ◌<◌, ◌≤◌, ◌↔◌, ℕ, All, IfErr, IfOk, MatchResult, Some};
+ghost use Rattle.std.specs.Prelude.{◌≡◌, ◌+◌, ◌<◌, ◌≤◌, ◌^◌, ◌↔◌, ℕ, All, IfErr, IfOk, MatchResult, Some};
 ghost use Rattle.std.specs.Prelude.{length, slice_get};
 ghost use Rattle.std.specs.List.{Contains};
 ghost use Rattle.std.specs.List.Sorted.{IsStrictlyIncreasing};
@@ -42,7 +42,8 @@ pub(crate) fn numbered_list<'a>(
     offset: usize,
     packages: &'a Vec<Package>,
 ) -> Result<'a, Vec<Numbered<'a>>>
-    requires { offset + length packages.now.items ≤ length numbers.now }
+    requires fits { offset + length packages.now.items ≤ length numbers.now }
+    requires small { length numbers.now < 2 ^ 64 }
     ensures ok { IfOk result (λ all.
         AreNumberedFrom numbers.now offset packages.now.items (all_numbered all.items)) }
     ensures err { IfErr result (IsFaultFrom numbers.now offset packages.now.items) }
@@ -59,7 +60,8 @@ fn slots<'a>(
     offset: usize,
     packages: &'a [Package],
 ) -> Result<'a, Vec<Option<usize>>>
-    requires { offset + length packages.now ≤ length numbers.now }
+    requires fits { offset + length packages.now ≤ length numbers.now }
+    requires small { length numbers.now < 2 ^ 64 }
     ensures ok { IfOk result
         (λ slots. AreSlots numbers.now offset (length packages.now) slots.items) }
     ensures err { IfErr result (IsFaultFrom numbers.now offset packages.now) }
@@ -84,6 +86,7 @@ fn numbered_slots<'a>(
     slots: &[Option<usize>],
 ) -> Result<'a, Vec<Numbered<'a>>>
     requires fits { offset + length linked.now ≤ length numbers.now }
+    requires small { length numbers.now < 2 ^ 64 }
     requires slots { AreSlots numbers.now offset (length linked.now) slots.now }
     ensures ok { IfOk result (λ all.
         AreNumberedFrom numbers.now offset linked.now (all_numbered all.items)) }
@@ -108,11 +111,13 @@ fn numbered_at<'a>(
     at: usize,
 ) -> Result<'a, Numbered<'a>>
     requires fits { offset + length linked.now ≤ length numbers.now }
+    requires small { length numbers.now < 2 ^ 64 }
     requires at { at < length linked.now }
-    ensures ok { IfOk result (λ one. IsNumberedAt numbers.now offset linked.now at (numbered_data one)) }
+    ensures ok { IfOk result
+        (λ one. IsNumberedAt numbers.now offset linked.now at (numbered_data one)) }
     ensures err { IfErr result (IsFaultFrom numbers.now offset linked.now) }
 {
-    let package = &linked.packages[at];
+    let package = linked.package(at);
     let replacement = replacement(numbers, offset, linked, package)?;
     let targets = linked.targets(alloc, at)?;
     let dependencies = places(alloc, numbers, offset, &targets)?;
@@ -131,7 +136,8 @@ fn replacement<'a>(
     linked: &Linked<'a>,
     package: &'a Package,
 ) -> Result<'a, Option<usize>>
-    requires { offset + length linked.now ≤ length numbers.now }
+    requires fits { offset + length linked.now ≤ length numbers.now }
+    requires small { length numbers.now < 2 ^ 64 }
     ensures ok { IfOk result
         (λ place. HasReplacement numbers.now offset linked.now «package».now.replace place) }
     ensures err { IfErr result (IsOneOfUnreplaced linked.now «package».now) }
@@ -152,7 +158,8 @@ fn places(
     offset: usize,
     packages: &[usize],
 ) -> std::result::Result<Vec<usize>, AllocError>
-    requires { All (λ k. offset + k < length numbers.now) packages.now }
+    requires fits { All (λ k. offset + k < length numbers.now) packages.now }
+    requires small { length numbers.now < 2 ^ 64 }
     ensures ascending { IfOk result (λ places. IsStrictlyIncreasing places.items) }
     ensures are { IfOk result (λ places. (n : ℕ) → Contains places.items n
         ↔ ((k : ℕ) × Contains packages.now k × IsNumberAt numbers.now (offset + k) n)) }
