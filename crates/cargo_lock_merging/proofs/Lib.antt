@@ -2,6 +2,8 @@ pub mod Members
 pub mod Linking
 pub mod Slotting
 pub mod Counting
+pub mod OneCommit
+pub mod Faults
 pub mod Assembling
 pub mod Ascending
 pub mod Kept

@@ -1,5 +1,5 @@
 -- The commits of git sources, as the program looks them up.
-use Rattle.std.specs.Prelude.{◌≡◌, ◌≢◌, ◌⊎◌, ℕ, IsTrue, List, Option, Some, None, option_map}
+use Rattle.std.specs.Prelude.{◌≡◌, ◌≢◌, ◌⊎◌, ℕ, IfSome, IsTrue, List, Option, Some, None, option_map}
 use Rattle.std.specs.Borrow.{Bor}
 use Rattle.std.specs.BTreeMap.{BTreeMap, get}
 use Rattle.cargo_lock_parts.specs.Identity.{PackageData}
@@ -32,3 +32,8 @@ abbrev pub HasPut : BTreeMap Source (Bor Source) → BTreeMap Source (Bor Source
     → Type 0
 HasPut old new p = (s : Source) → IsBare s
     → IsPut p (key_of s) (commit_if (get source_cmp old s)) (commit_if (get source_cmp new s))
+
+-- the map has no other commit of the git source of the package
+abbrev pub IsOnce : BTreeMap Source (Bor Source) → PackageData → Type 0
+IsOnce map p = (t : Source) → p.source ≡ Some t → IsTrue (is_git t.kind)
+    → IfSome (commit_if (get source_cmp map (record t { precise = None }))) (λ c. c ≡ t.precise)

@@ -1,8 +1,11 @@
 -- Why a lockfile cannot be merged.
-use Rattle.std.specs.Prelude.{◌≡◌, ◌≢◌, ◌<◌, ℕ, List, Some, None, slice_get}
+use Rattle.std.specs.Prelude.{◌≡◌, ◌≢◌, ◌<◌, ℕ, List, Some, None, slice_get, true}
+use Rattle.std.specs.Borrow.{Bor}
+use Rattle.std.specs.BTreeMap.{BTreeMap, get}
 use Rattle.std.specs.List.{Contains}
 use Rattle.cargo_lock_parts.specs.Identity.{Identity, PackageData}
-use Rattle.cargo_lock_parts.specs.SourceKey.{Key}
+use Rattle.cargo_lock_parts.specs.Source.{Source, is_git}
+use Rattle.cargo_lock_parts.specs.SourceKey.{source_cmp}
 use Rattle.cargo_lock_parts.specs.declared.error.Error.{Error}
 use Rattle.cargo_lock_parts.specs.declared.error.Error.TheVariants.{Resolution}
 use Rattle.cargo_lock_graph.specs.Targets.{IsLastWith, IsUnresolved, links}
@@ -11,7 +14,7 @@ use Rattle.cargo_lock_merging.specs.declared.refusal.Refusal.TheVariants.{Lost, 
 use Rattle.cargo_lock_merging.specs.declared.refusal.Refusal.TheVariants.{Unreplaced}
 use Rattle.cargo_lock_merging.specs.declared.refusal.Fault.{Fault}
 use Rattle.cargo_lock_merging.specs.declared.refusal.Fault.TheVariants.{Memory, Refused}
-use Rattle.cargo_lock_merging.specs.Commits.{Lockfiles, commit_in, git_in}
+use Rattle.cargo_lock_merging.specs.Commits.{HasCommit, Lockfiles, git_in, key_without_commit}
 use Rattle.cargo_lock_merging.specs.Lists.{BeginsAt}
 use Rattle.cargo_lock_merging.specs.Places.{Place, place_of}
 
@@ -25,14 +28,11 @@ pub record AreAtOnePlace (all : Lockfiles) (packages : List PackageData) (p q : 
     pub other_at : slice_get packages other ≡ Some q
     pub same : place_of all p ≡ place_of all q
 
--- two packages of the list are of a git source, at different commits
-pub record AreAtTwoCommits (packages : List PackageData) (p q : PackageData) : Type 0 where
-  pub one : Contains packages p
-  pub other : Contains packages q
-  pub source : Key
-  pub one_of : git_in p.source ≡ Some source
-  pub other_of : git_in q.source ≡ Some source
-  pub apart : commit_in p.source ≢ commit_in q.source
+-- packages of the list are of the git source b, at the commits of a and of b
+pub record AreAtTwoCommits (packages : List PackageData) (a b : Source) : Type 0 where
+  pub one : HasCommit packages (key_without_commit b) a.precise
+  pub other : HasCommit packages (key_without_commit b) b.precise
+  pub apart : a.precise ≢ b.precise
 
 -- a package of the list is replaced, and no package has the identity of its replacement
 pub record IsUnreplaced (packages : List PackageData) (p : PackageData) : Type 0 where
@@ -51,7 +51,7 @@ IsOneOfUnreplaced packages p (Refused other) = ⊥
 -- the list is refused for this
 abbrev pub IsRefusal : Lockfiles → List PackageData → Refusal → Type 0
 IsRefusal all packages (OnePlace p q) = AreAtOnePlace all packages p.now q.now
-IsRefusal all packages (TwoCommits p q) = AreAtTwoCommits packages p.now q.now
+IsRefusal all packages (TwoCommits a b) = AreAtTwoCommits packages a.now b.now
 IsRefusal all packages (Unreplaced p) = IsUnreplaced packages p.now
 IsRefusal all packages (Lost text) = IsUnresolved packages (links packages) (Resolution text)
 
@@ -71,6 +71,20 @@ IsLostOrMemory packages Memory = Unit {0}
 IsLostOrMemory packages (Refused (Lost text)) = IsUnresolved packages (links packages)
     (Resolution text)
 IsLostOrMemory packages (Refused other) = ⊥
+
+-- the fault is `Memory`, or two packages are at different commits
+abbrev pub IsTwoOrMemory : List PackageData → Fault → Type 0
+IsTwoOrMemory packages Memory = Unit {0}
+IsTwoOrMemory packages (Refused (TwoCommits a b)) = AreAtTwoCommits packages a.now b.now
+IsTwoOrMemory packages (Refused other) = ⊥
+
+-- the fault is `Memory`, or the map has another commit of the git source of the package
+abbrev pub IsApartOrMemory : BTreeMap Source (Bor Source) → PackageData → Fault → Type 0
+IsApartOrMemory map p Memory = Unit {0}
+IsApartOrMemory map p (Refused (TwoCommits a b)) = (p.source ≡ Some b.now)
+    × (is_git b.now.kind ≡ true) × (get source_cmp map (record b.now { precise = None }) ≡ Some a)
+    × (a.now.precise ≢ b.now.precise)
+IsApartOrMemory map p (Refused other) = ⊥
 
 -- the fault of an error: a dependency without a package is refused
 abbrev pub IsOfError : Error → Fault → Type 0

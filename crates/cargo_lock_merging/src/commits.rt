@@ -225,7 +225,7 @@ fn is_commit_of<'a>(base: Option<&'a SourceId>, source: &'a SourceId) -> bool
 }
 
 // Whether two sources are at one commit.
-fn is_commit(one: &SourceId, other: &SourceId) -> bool
+pub(crate) fn is_commit(one: &SourceId, other: &SourceId) -> bool
     ensures { Decides result (one.now.precise ≡ other.now.precise) }
 {
     one.precise() == other.precise()

@@ -16,6 +16,7 @@ pub mod plan;
 pub mod reach;
 pub mod references;
 pub mod refusal;
+mod repositories;
 pub mod rows;
 pub mod rule3;
 pub mod sets;

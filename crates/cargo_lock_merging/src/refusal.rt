@@ -1,7 +1,7 @@
 //! Why a lockfile cannot be merged.
 
 use cargo_lock_parts::error::Error;
-use cargo_lock_parts::package::Package;
+use cargo_lock_parts::package::{Package, SourceId};
 use std::alloc::{AllocError, AllocFailed};
 
 /// Why a lockfile cannot be merged.
@@ -10,8 +10,8 @@ pub enum Refusal<'a> {
     /// Two packages are at one place.
     OnePlace(&'a Package, &'a Package),
 
-    /// Two packages of one git source are at different commits.
-    TwoCommits(&'a Package, &'a Package),
+    /// Packages of the second source, which is a git source, are at the commits of both.
+    TwoCommits(&'a SourceId, &'a SourceId),
 
     /// No package has the identity of the replacement of this package.
     Unreplaced(&'a Package),

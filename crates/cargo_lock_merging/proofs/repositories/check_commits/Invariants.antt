@@ -1,0 +1,11 @@
+use Rattle.std.proofs.Common.{take}
+use Rattle.cargo_lock_merging.specs.CommitMaps.{AreCommitsOf}
+use Rattle.cargo_lock_merging.specs.Commits.{HasOneCommitEach}
+use Rattle.cargo_lock_merging.proofs.repositories.check_commits.Given as goal
+
+-- the commits of the packages so far
+abbrev pub invariant-loop-package : goal.invariant-loop-package
+invariant-loop-package l = record {
+  commits : AreCommitsOf (take l.package-index l.packages) l.commits;
+  once : HasOneCommitEach (take l.package-index l.packages);
+}
