@@ -4,6 +4,7 @@ pub mod Slotting
 pub mod Counting
 pub mod OneCommit
 pub mod Faults
+pub mod Triples
 pub mod Assembling
 pub mod Ascending
 pub mod Kept

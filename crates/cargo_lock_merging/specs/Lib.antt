@@ -21,5 +21,6 @@ pub mod Linked
 pub mod Lists
 pub mod Assembled
 pub mod Refusals
+pub mod Triples
 pub mod Numbers
 pub mod Conflicts
