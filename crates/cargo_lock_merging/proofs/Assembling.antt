@@ -275,13 +275,13 @@ module _ (all : Lockfiles) (places : List Place) (s : Triple ℕ) (sides : AreSi
             let i = identity_of y.content in
             let (k, q, here, place, same) = target-of n i (y, at, refl) in
             (i, (built.dependencies i).1 (n, depends, (y, at, refl)), (k, q, exact-target ps i k (last-with k q i here same), here, sym is ∙ place));
-        replacement = by x.replacement p.replace built.replacement;
+        replacement = by x.replacement p.replace refl built.replacement;
       }
         where
-          by : (r : Option ℕ) (i : Option Identity) → IsIdentityAtIf m r i → IsReplacementIn all ps i (option_map (place_at places) r)
-          by None i e = subst (λ (j : Option Identity). IsReplacementIn all ps j None) (sym e) refl
-          by (Some n) None e = absurd e
-          by (Some n) (Some i) e =
+          by : (r : Option ℕ) (i : Option Identity) → x.replacement ≡ r → IsIdentityAtIf m r i → IsReplacementIn all ps i (option_map (place_at places) r)
+          by None i is e = subst (λ (j : Option Identity). IsReplacementIn all ps j None) (sym e) refl
+          by (Some n) None is e = absurd (let y = replaced-merged x n among is in e y.0 y.1)
+          by (Some n) (Some i) is e =
               let (k, q, here, is, same) = target-of n i e in
               (q, got-in ps k q here, ap identity_key same, is)
 

@@ -23,10 +23,10 @@ pub record AreSides (all : Lockfiles) (places : List Place) (s : Triple ℕ) : T
 abbrev pub IsIdentityAt : List (PlacedData ℕ) → ℕ → Identity → Type 0
 IsIdentityAt m n i = (y : PlacedData ℕ) × HasAt m n y × (i ≡ identity_of y.content)
 
--- the same of a place that may be absent
+-- the same of a place that may be absent, and where no package may be
 abbrev pub IsIdentityAtIf : List (PlacedData ℕ) → Option ℕ → Option Identity → Type 0
 IsIdentityAtIf m None i = i ≡ None
-IsIdentityAtIf m (Some n) None = ⊥
+IsIdentityAtIf m (Some n) None = (y : PlacedData ℕ) → ¬ HasAt m n y
 IsIdentityAtIf m (Some n) (Some i) = IsIdentityAt m n i
 
 -- the package with the identities of what it refers to in place of their numbers

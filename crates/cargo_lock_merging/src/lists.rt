@@ -8,10 +8,12 @@ ghost use Rattle.cargo_lock_parts.specs.Identity.{PackageData};
 ghost use Rattle.cargo_lock_merging.specs.Lists.{AreNumberedFrom, AreSlots};
 ghost use Rattle.cargo_lock_merging.specs.Lists.{HasReplacement, IsNumberAt, IsNumberedAt};
 ghost use Rattle.cargo_lock_merging.specs.Lists.{all_numbered, numbered_data};
+ghost use Rattle.cargo_lock_merging.specs.Numbered.{all_data};
 ghost use Rattle.cargo_lock_merging.specs.Refusals.{IsFaultFrom, IsOneOfUnreplaced};
 
 use crate::linked::Linked;
 use crate::numbers::Numbers;
+use crate::placed::Placed;
 use crate::refusal::{Fault, Refusal, Result};
 use cargo_lock_parts::package::Package;
 use std::alloc::{AllocError, Global};
@@ -171,4 +173,23 @@ fn places(
     places.sort_unstable();
     places.dedup();
     Ok(places)
+}
+
+/// The packages at their places, borrowed. Fails when out of memory.
+pub fn placed<'a>(
+    alloc: Global,
+    list: &'a [Numbered<'_>],
+) -> std::result::Result<Vec<Placed<'a>>, AllocError>
+    ensures { IfOk result (λ all. all_data all.items ≡ all_numbered list.now) }
+{
+    let mut all = Vec::with_capacity(alloc, list.len())?;
+    for one in list {
+        all.push(Placed {
+            place: one.place,
+            package: one.package,
+            dependencies: &one.dependencies,
+            replacement: one.replacement,
+        })?;
+    }
+    Ok(all)
 }

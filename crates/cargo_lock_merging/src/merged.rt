@@ -2,6 +2,7 @@
 
 ghost use Rattle.std.specs.Prelude.{◌≡◌, ℕ, IfOk, IfSome, IsOkUnless, List, MatchOption, map};
 ghost use Rattle.std.specs.Prelude.{option_map};
+ghost use Rattle.std.specs.List.Sorted.{IsStrictlyIncreasing};
 ghost use Rattle.cargo_lock_parts.specs.declared.error.Error.TheVariants.{Memory};
 ghost use Rattle.cargo_lock_merging.specs.Numbered.{all_data};
 ghost use Rattle.cargo_lock_merging.specs.Places.{Place};
@@ -83,9 +84,11 @@ pub fn merged_packages<'a>(
     alloc: Global,
     plan: &Plan<'a>,
 ) -> Result<Option<Vec<Merged<'a>>>, AllocError>
-    ensures { IfOk result (λ merged. (s : Triple ℕ) → HasPlan s plan.now → MatchOption merged
+    ensures merge { IfOk result (λ merged. (s : Triple ℕ) → HasPlan s plan.now → MatchOption merged
         ((m : List (PlacedData ℕ)) → ¬ IsMerge s m)
         (λ all. IsMerge s (map merged_data all.items))) }
+    ensures ascending { IfOk result (λ merged. (s : Triple ℕ) → HasPlan s plan.now
+        → IfSome merged (λ all. IsStrictlyIncreasing (map (λ m. m.place) all.items))) }
 {
     let mut all = Vec::new(alloc);
     for (at, entry) in plan.entries.iter().enumerate() {

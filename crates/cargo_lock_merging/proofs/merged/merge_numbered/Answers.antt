@@ -26,4 +26,4 @@ returns-clause-places c =
       theirs_closed = c.requires.theirs_closed;
       plan = c.in_ok-plan.ensures.ok;
     } in
-    by-places (λ v. v.items) s c.in_ok-merged_packages.field-0 (c.in_ok-merged_packages.ensures s plan)
+    by-places (λ v. v.items) s c.in_ok-merged_packages.field-0 (c.in_ok-merged_packages.ensures.merge s plan)

@@ -47,8 +47,8 @@ loop-at-preserved c = λ s h.
           to ms c.if-is_marked.all.items (ap (λ v. v.items) w.all-is) (so-far-pass s plan h i ms so-far at.0 unmarked)
     ]
 
-pub returns-in-None : goal.returns-in-None
-returns-in-None c = λ s h m.
+pub returns-in-None-clause-merge : goal.returns-in-None-clause-merge
+returns-in-None-clause-merge c = λ s h m.
     let plan : Plan = c.args.plan.now in
     let i = c.loop-at.at in
     let e : Entry = c.entry-item.result in
@@ -57,8 +57,11 @@ returns-in-None c = λ s h m.
     let marked = subst (λ (bs : List Bool). IsMarked bs i) c.deref.ensures.value (c.is_marked.ensures.0 c.if-is_marked.true) in
     no-merge s plan h i e m at.0 at.1 marked none
 
-pub returns : goal.returns
-returns c = λ s h.
+pub returns-clause-merge : goal.returns-clause-merge
+returns-clause-merge c = λ s h.
     let plan : Plan = c.args.plan.now in
     let end = c.loop-at-test.false in
     so-far-end s plan h c.loop-at.at c.loop-at.all.items (c.loop-at.invariant s h) (let is = ap (λ (es : List Entry). length es) c.deref-entry-items.ensures.value in omega (arith, end, is))
+
+pub returns-clause-ascending : goal.returns-clause-ascending
+returns-clause-ascending c = λ s h. (c.loop-at.invariant s h).ascending

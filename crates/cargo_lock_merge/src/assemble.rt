@@ -1,0 +1,167 @@
+//! The packages of a merge, as a lockfile has them.
+
+ghost use Rattle.std.specs.Prelude.{◌≡◌, ◌↔◌, ℕ, IfOk, IsOkUnless, MatchOption, map};
+ghost use Rattle.std.specs.List.{AllZip, Contains};
+ghost use Rattle.std.specs.List.Sorted.{IsPermutation, IsStrictlyIncreasing};
+ghost use Rattle.cargo_lock_parts.specs.declared.error.Error.TheVariants.{Memory};
+ghost use Rattle.cargo_lock_parts.specs.Identity.{Identity, identity_of};
+ghost use Rattle.cargo_lock_merging.specs.Assembled.{AreAssembled, IsAssembled, IsIdentityAt};
+ghost use Rattle.cargo_lock_merging.specs.Assembled.{IsIdentityAtIf};
+ghost use Rattle.cargo_lock_merging.specs.Merged.{merged_data};
+ghost use Rattle.cargo_lock_merging.specs.Placed.{HasAt, PlacedData};
+ghost use Rattle.cargo_lock_merge.specs.Assembling.{data_behind, merged_places};
+
+use crate::order::{order_dependencies, order_packages};
+use cargo_lock_merging::merged::Merged;
+use cargo_lock_parts::dependency::Dependency;
+use cargo_lock_parts::error::Result;
+use cargo_lock_parts::package::Package;
+use std::alloc::{AllocError, Global};
+
+/// The packages of a merge in the order in which Cargo writes them, each with its dependencies in
+/// that order. The merged packages are in the order of their places. The one error is `Memory`.
+pub(crate) fn assemble(alloc: Global, merged: &[Merged<'_>]) -> Result<Vec<Package>>
+    requires { IsStrictlyIncreasing (merged_places merged.now) }
+    ensures ok { IfOk result
+        (λ packages. AreAssembled (map merged_data merged.now) packages.items) }
+    ensures err { IsOkUnless result Memory }
+{
+    let places = places(alloc, merged)?;
+    let mut ordered = references(alloc, merged)?;
+    order_packages(alloc, &mut ordered)?;
+    packages(alloc, merged, &places, &ordered)
+}
+
+// The places of the packages.
+fn places(
+    alloc: Global,
+    merged: &[Merged<'_>],
+) -> std::result::Result<Vec<usize>, AllocError>
+    ensures { IfOk result (λ places. places.items ≡ merged_places merged.now) }
+{
+    let mut places = Vec::with_capacity(alloc, merged.len())?;
+    for one in merged {
+        places.push(one.place)?;
+    }
+    Ok(places)
+}
+
+// The packages, borrowed.
+fn references<'a, 'b>(
+    alloc: Global,
+    merged: &'b [Merged<'a>],
+) -> std::result::Result<Vec<&'b Merged<'a>>, AllocError>
+    ensures { IfOk result (λ all. map (λ m. m.now) all.items ≡ merged.now) }
+{
+    let mut all = Vec::with_capacity(alloc, merged.len())?;
+    for one in merged {
+        all.push(one)?;
+    }
+    Ok(all)
+}
+
+// The packages in this order.
+fn packages(
+    alloc: Global,
+    merged: &[Merged<'_>],
+    places: &[usize],
+    ordered: &[&Merged<'_>],
+) -> Result<Vec<Package>>
+    requires places { places.now ≡ merged_places merged.now }
+    requires ascending { IsStrictlyIncreasing (merged_places merged.now) }
+    ensures ok { IfOk result (λ packages. AllZip (IsAssembled (map merged_data merged.now))
+        (map data_behind ordered.now) packages.items) }
+    ensures err { IsOkUnless result Memory }
+{
+    let mut packages = Vec::with_capacity(alloc, ordered.len())?;
+    for one in ordered {
+        let package = package(alloc, merged, places, one)?;
+        packages.push(package)?;
+    }
+    Ok(packages)
+}
+
+// The package, with what it refers to.
+fn package(
+    alloc: Global,
+    merged: &[Merged<'_>],
+    places: &[usize],
+    one: &Merged<'_>,
+) -> Result<Package>
+    requires places { places.now ≡ merged_places merged.now }
+    requires ascending { IsStrictlyIncreasing (merged_places merged.now) }
+    ensures ok { IfOk result (IsAssembled (map merged_data merged.now) (merged_data one.now)) }
+    ensures err { IsOkUnless result Memory }
+{
+    let dependencies = dependencies(alloc, merged, places, &one.dependencies)?;
+    let replace = replacement(merged, places, one.replacement)?;
+    let Dependency {
+        name,
+        version,
+        source,
+    } = Dependency::of(one.package)?;
+    Ok(Package {
+        name,
+        version,
+        source,
+        checksum: one.checksum,
+        dependencies,
+        replace,
+    })
+}
+
+// The dependencies on the packages at these places, in the order in which Cargo writes them.
+fn dependencies(
+    alloc: Global,
+    merged: &[Merged<'_>],
+    places: &[usize],
+    at: &[usize],
+) -> Result<Vec<Dependency>>
+    requires places { places.now ≡ merged_places merged.now }
+    requires ascending { IsStrictlyIncreasing (merged_places merged.now) }
+    ensures ok { IfOk result (λ all. (i : Identity) → Contains all.items i
+        ↔ ((n : ℕ) × Contains at.now n × IsIdentityAt (map merged_data merged.now) n i)) }
+    ensures err { IsOkUnless result Memory }
+{
+    let mut all = Vec::with_capacity(alloc, at.len())?;
+    for place in at {
+        if let Some(target) = package_at(merged, places, *place) {
+            all.push(Dependency::of(target)?)?;
+        }
+    }
+    order_dependencies(alloc, &mut all)?;
+    Ok(all)
+}
+
+// The dependency on the package at a place, if there is a place.
+fn replacement(
+    merged: &[Merged<'_>],
+    places: &[usize],
+    at: Option<usize>,
+) -> Result<Option<Dependency>>
+    requires places { places.now ≡ merged_places merged.now }
+    requires ascending { IsStrictlyIncreasing (merged_places merged.now) }
+    ensures ok { IfOk result (IsIdentityAtIf (map merged_data merged.now) at) }
+    ensures err { IsOkUnless result Memory }
+{
+    let place = match at {
+        Some(place) => place,
+        None => return Ok(None),
+    };
+    match package_at(merged, places, place) {
+        Some(target) => Ok(Some(Dependency::of(target)?)),
+        None => Ok(None),
+    }
+}
+
+// The package of a side with the identity of the merged one at a place.
+fn package_at<'a>(merged: &[Merged<'a>], places: &[usize], place: usize) -> Option<&'a Package>
+    requires places { places.now ≡ merged_places merged.now }
+    requires ascending { IsStrictlyIncreasing (merged_places merged.now) }
+    ensures { MatchOption result
+        ((y : PlacedData ℕ) → ¬ HasAt (map merged_data merged.now) place y)
+        (λ p. IsIdentityAt (map merged_data merged.now) place (identity_of p.now)) }
+{
+    let at = places.binary_search(&place).ok()?;
+    Some(merged.get(at)?.package)
+}

@@ -1,0 +1,5 @@
+//! A merge of lockfiles by packages.
+#![tactic(auto)]
+
+mod assemble;
+mod order;
