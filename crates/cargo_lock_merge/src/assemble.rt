@@ -9,10 +9,11 @@ ghost use Rattle.cargo_lock_merging.specs.Assembled.{AreAssembled, IsAssembled, 
 ghost use Rattle.cargo_lock_merging.specs.Assembled.{IsIdentityAtIf};
 ghost use Rattle.cargo_lock_merging.specs.Merged.{merged_data};
 ghost use Rattle.cargo_lock_merging.specs.Placed.{HasAt, PlacedData};
-ghost use Rattle.cargo_lock_merge.specs.Assembling.{data_behind, merged_places};
+ghost use Rattle.cargo_lock_merge.specs.Assembling.{merged_places};
 
 use crate::order::{order_dependencies, order_packages};
 use cargo_lock_merging::merged::Merged;
+use cargo_lock_merging::reach::index_of;
 use cargo_lock_parts::dependency::Dependency;
 use cargo_lock_parts::error::Result;
 use cargo_lock_parts::package::Package;
@@ -27,9 +28,9 @@ pub(crate) fn assemble(alloc: Global, merged: &[Merged<'_>]) -> Result<Vec<Packa
     ensures err { IsOkUnless result Memory }
 {
     let places = places(alloc, merged)?;
-    let mut ordered = references(alloc, merged)?;
-    order_packages(alloc, &mut ordered)?;
-    packages(alloc, merged, &places, &ordered)
+    let mut packages = packages(alloc, merged, &places)?;
+    order_packages(alloc, &mut packages)?;
+    Ok(packages)
 }
 
 // The places of the packages.
@@ -46,35 +47,16 @@ fn places(
     Ok(places)
 }
 
-// The packages, borrowed.
-fn references<'a, 'b>(
-    alloc: Global,
-    merged: &'b [Merged<'a>],
-) -> std::result::Result<Vec<&'b Merged<'a>>, AllocError>
-    ensures { IfOk result (λ all. map (λ m. m.now) all.items ≡ merged.now) }
-{
-    let mut all = Vec::with_capacity(alloc, merged.len())?;
-    for one in merged {
-        all.push(one)?;
-    }
-    Ok(all)
-}
-
-// The packages in this order.
-fn packages(
-    alloc: Global,
-    merged: &[Merged<'_>],
-    places: &[usize],
-    ordered: &[&Merged<'_>],
-) -> Result<Vec<Package>>
+// The packages, in the order of their places.
+fn packages(alloc: Global, merged: &[Merged<'_>], places: &[usize]) -> Result<Vec<Package>>
     requires places { places.now ≡ merged_places merged.now }
     requires ascending { IsStrictlyIncreasing (merged_places merged.now) }
     ensures ok { IfOk result (λ packages. AllZip (IsAssembled (map merged_data merged.now))
-        (map data_behind ordered.now) packages.items) }
+        (map merged_data merged.now) packages.items) }
     ensures err { IsOkUnless result Memory }
 {
-    let mut packages = Vec::with_capacity(alloc, ordered.len())?;
-    for one in ordered {
+    let mut packages = Vec::with_capacity(alloc, merged.len())?;
+    for one in merged {
         let package = package(alloc, merged, places, one)?;
         packages.push(package)?;
     }
@@ -162,6 +144,8 @@ fn package_at<'a>(merged: &[Merged<'a>], places: &[usize], place: usize) -> Opti
         ((y : PlacedData ℕ) → ¬ HasAt (map merged_data merged.now) place y)
         (λ p. IsIdentityAt (map merged_data merged.now) place (identity_of p.now)) }
 {
-    let at = places.binary_search(&place).ok()?;
-    Some(merged.get(at)?.package)
+    match index_of(places, place) {
+        Some(at) => Some(merged[at].package),
+        None => None,
+    }
 }

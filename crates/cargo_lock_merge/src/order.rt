@@ -5,20 +5,17 @@ ghost use Rattle.std.specs.List.Sorted.{IsPermutation};
 ghost use Rattle.cargo_lock_parts.specs.declared.error.Error.TheVariants.{Memory};
 
 use cargo_lock_check::{dependency_order, package_order};
-use cargo_lock_merging::merged::Merged;
 use cargo_lock_merging::placed::cmp_identities;
 use cargo_lock_parts::dependency::Dependency;
+use cargo_lock_parts::package::Package;
 use std::alloc::{AllocError, Global};
 use std::cmp::Ordering;
 
 /// Puts packages in the order in which Cargo writes them. Fails when out of memory.
-pub(crate) fn order_packages(
-    alloc: Global,
-    list: &mut Vec<&Merged<'_>>,
-) -> Result<(), AllocError>
+pub(crate) fn order_packages(alloc: Global, list: &mut Vec<Package>) -> Result<(), AllocError>
     ensures { OnOk result (IsPermutation list.old.items list.new.items) }
 {
-    list.sort_by(|one, other| cmp_identities(one.package, other.package))?;
+    list.sort_by(|one, other| cmp_identities(one, other))?;
     for at in 1..list.len() {
         sink_package(alloc, list, at)?;
     }
@@ -26,17 +23,13 @@ pub(crate) fn order_packages(
 }
 
 // Moves a package towards the front, past those after which it comes.
-fn sink_package(
-    alloc: Global,
-    list: &mut Vec<&Merged<'_>>,
-    from: usize,
-) -> Result<(), AllocError>
+fn sink_package(alloc: Global, list: &mut Vec<Package>, from: usize) -> Result<(), AllocError>
     requires { from < length list.old.items }
     ensures { OnOk result (IsPermutation list.old.items list.new.items) }
 {
     let mut at = from;
     while at > 0 {
-        let order = package_order(alloc, list[at - 1].package, list[at].package)?;
+        let order = package_order(alloc, &list[at - 1], &list[at])?;
         if order != Ordering::Greater {
             return Ok(());
         }

@@ -58,8 +58,8 @@ fn places_of_nodes(alloc: Global, nodes: &[Node]) -> Result<Vec<usize>, AllocErr
     Ok(places)
 }
 
-// The index of the place among places.
-fn index_of(places: &[usize], place: usize) -> Option<usize>
+/// The index of a place among places in ascending order. `None` if it is none of them.
+pub fn index_of(places: &[usize], place: usize) -> Option<usize>
     requires { IsStrictlyIncreasing places.now }
     ensures { MatchOption result (¬ Contains places.now place)
         (λ k. slice_get places.now k ≡ Some place) }

@@ -1,0 +1,40 @@
+use Rattle.std.proofs.Common.{◌≡◌, ◌∙◌, ◌+◌, ◌↔◌, ℕ, List, MatchOption, Option, Some, None, ap, arith, get_or, length, map, refl, subst, sym, take}
+use Rattle.std.specs.List.{Contains}
+use Rattle.std.specs.List.Sorted.{IsPermutation}
+use Rattle.std.proofs.lemmas.List.{get_or_default, take_all}
+use Rattle.std.proofs.lemmas.List.Sorted.{Contains-permutation, IsPermutation-sym}
+use Rattle.cargo_lock_parts.specs.Identity.{Identity, identity_of}
+use Rattle.cargo_lock_merging.specs.Assembled.{IsIdentityAt}
+use Rattle.cargo_lock_merging.specs.Merged.{merged_data}
+use Rattle.cargo_lock_merging.specs.Placed.{HasAt, PlacedData}
+use Rattle.cargo_lock_merge.proofs.Assembling.{looked-up, passed-by}
+use Rattle.cargo_lock_merge.proofs.assemble.dependencies.Goals as goal
+use Rattle.cargo_lock_merge.proofs.assemble.dependencies.Goals.{in-Some+in_ok-of+in_ok-push, in_default}
+
+pub loop-place-preserved : goal.loop-place-preserved
+loop-place-preserved c =
+    let m : List (PlacedData ℕ) = map merged_data c.args.merged.now in
+    let ns : List ℕ = c.args.at.now in
+    let k = c.loop-place.place-index in
+    let n : ℕ = get_or ns k 0 in
+    let low = c.loop-place-test.true in
+    let old : List Identity = c.loop-place.all.items in
+    elim c.match-package_at.branch [
+      | in-Some+in_ok-of+in_ok-push w ↦
+          let d : Identity = w.in_ok-of.field-0 in
+          let at = w.in-Some.ensures in
+          looked-up m ns k n old c.match-package_at.all.items d low (get_or_default ns k 0 n low) c.loop-place.invariant ? ? (ap (λ v. v.items) w.all-is ∙ w.in_ok-push.ensures.items)
+      | in_default w ↦
+          subst (λ (is : List Identity). (i : Identity) → Contains is i ↔ ((j : ℕ) × Contains (take (k + 1) ns) j × IsIdentityAt m j i)) (sym (ap (λ v. v.items) w.all-is))
+          (passed-by m ns k n old low (get_or_default ns k 0 n low) c.loop-place.invariant w.in_default.ensures)
+    ]
+
+pub returns-clause-ok : goal.returns-clause-ok
+returns-clause-ok c = λ i.
+    let m : List (PlacedData ℕ) = map merged_data c.args.merged.now in
+    let ns : List ℕ = c.args.at.now in
+    let end = c.loop-place-test.false in
+    let all : (j : Identity) → Contains c.loop-place.all.items j ↔ ((n : ℕ) × Contains ns n × IsIdentityAt m n j) =
+    subst (λ (xs : List ℕ). (j : Identity) → Contains c.loop-place.all.items j ↔ ((n : ℕ) × Contains xs n × IsIdentityAt m n j)) (take_all c.loop-place.place-index ns (omega (arith, end))) c.loop-place.invariant in
+    let moved = c.in_ok-order_dependencies.ensures in
+    (λ h. (all i).0 (Contains-permutation _ _ i (IsPermutation-sym _ _ moved) h), λ h. Contains-permutation _ _ i moved ((all i).1 h))

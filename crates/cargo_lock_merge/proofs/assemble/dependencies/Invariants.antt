@@ -1,0 +1,9 @@
+use Rattle.std.proofs.Common.{◌↔◌, ℕ, map, take}
+use Rattle.std.specs.List.{Contains}
+use Rattle.cargo_lock_parts.specs.Identity.{Identity}
+use Rattle.cargo_lock_merging.specs.Assembled.{IsIdentityAt}
+use Rattle.cargo_lock_merging.specs.Merged.{merged_data}
+use Rattle.cargo_lock_merge.proofs.assemble.dependencies.Given as goal
+
+abbrev pub invariant-loop-place : goal.invariant-loop-place
+invariant-loop-place l = (i : Identity) → Contains l.all.items i ↔ ((n : ℕ) × Contains (take l.place-index l.at) n × IsIdentityAt (map merged_data l.merged) n i)
