@@ -24,24 +24,33 @@ module _ (s : Triple Place) (ms : List (PlacedData Place)) (each : (x : PlacedDa
   pub refers-leads : (p d : Place) → RefersTo ms p d → LeadsTo s p d
   refers-leads p d (x, (among, here), refers) =
       let (a, b, t, c, from) = each x among in
-      let leads : LeadsTo s x.place d = (a, b, t, from.at, elim refers [
-        | inl depends ↦ inl (inl (c, from.chosen, (from.dependencies d).0 depends))
-        | inr is ↦ inr (c, from.chosen, subst (λ (r : _). IsReplacement a b t c r) is from.replacement)
-      ]) in
+      let leads : LeadsTo s x.place d = (
+        a,
+        b,
+        t,
+        from.at,
+        elim refers [
+          | inl depends ↦ inl (inl (c, from.chosen, (from.dependencies d).0 depends))
+          | inr is ↦ inr (c, from.chosen, subst (λ (r : _). IsReplacement a b t c r) is from.replacement)
+        ],
+      ) in
       subst (λ (q : Place). LeadsTo s q d) here leads
 
   -- and nothing else
   pub leads-refers : HaveOneAtEach s → (p d : Place) → IsThere ms p → LeadsTo s p d → RefersTo ms p d
   leads-refers one p d (x, (among, here)) (a, b, t, at, leads) =
-      let (c, from) = from-at s one.base one.ours one.theirs p x a b t here at (each x among) in
-      (x, (among, here), elim leads [
-        | inl more ↦ elim more [
-          | inl k ↦ inl ((from.dependencies d).1 (depends-alike k.0 c (chosen-once (lockfiles_of s) a b t k.0 c k.1 from.chosen) a b t d k.2))
-          | inr clash ↦ absurd (clash.0.none c from.chosen)
-        ]
-        | inr k ↦ inr (value-once _ _ _ x.replacement (Some d) from.replacement
-            (replacement-alike k.0 c (chosen-once (lockfiles_of s) a b t k.0 c k.1 from.chosen) a b t (Some d) k.2))
-      ])
+      let (c, from) = from-at s one.base one.ours one.theirs p x a b t here at (each x among) in (
+        x,
+        (among, here),
+        elim leads [
+          | inl more ↦ elim more [
+            | inl k ↦ inl ((from.dependencies d).1 (depends-alike k.0 c (chosen-once (lockfiles_of s) a b t k.0 c k.1 from.chosen) a b t d k.2))
+            | inr clash ↦ absurd (clash.0.none c from.chosen)
+          ]
+          | inr k ↦ inr (value-once _ _ _ x.replacement (Some d) from.replacement
+              (replacement-alike k.0 c (chosen-once (lockfiles_of s) a b t k.0 c k.1 from.chosen) a b t (Some d) k.2))
+        ],
+      )
 
 -- ---- a merge
 

@@ -69,7 +69,7 @@ module _ (s : Triple Place) (are : AreLockfiles s) (m : List (PlacedData Place))
       let (x, there, ex) = image-in content m p in' in
       let (y, there', ey) = image-in content m q among' in
       let git : (z : PlacedData Place) (r : PackageData) → z.content ≡ r → git_in r.source ≡ Some g → git_in z.content.source ≡ Some g =
-          λ z r e k. ap (λ (w : PackageData). git_in w.source) e ∙ k in
+      λ z r e k. ap (λ (w : PackageData). git_in w.source) e ∙ k in
       sym at ∙ ap (λ (w : PackageData). commit_in w.source) (sym ex)
       ∙ commit-once (lockfiles_of s) (each-commit s are) g _ _ (merged-commit x g there (git x p ex is)) (merged-commit y g there' (git y q ey is'))
       ∙ ap (λ (w : PackageData). commit_in w.source) ey ∙ at'
@@ -77,11 +77,14 @@ module _ (s : Triple Place) (are : AreLockfiles s) (m : List (PlacedData Place))
   -- a member is kept at a root
   pub root-member : (p : Place) → IsRoot s p → HasMember m p
   root-member p r =
-      let (z, at) = (h.holds p).1 (p, [], r, refl) in
-      (z, at, elim (kept-of r) [
-        | inl k ↦ member-at z.content k.0.content (bare-at m s.ours merged-sources are.ours.sources p z k.0 at k.1) k.2
-        | inr k ↦ member-at z.content k.0.content (bare-at m s.theirs merged-sources are.theirs.sources p z k.0 at k.1) k.2
-      ])
+      let (z, at) = (h.holds p).1 (p, [], r, refl) in (
+        z,
+        at,
+        elim (kept-of r) [
+          | inl k ↦ member-at z.content k.0.content (bare-at m s.ours merged-sources are.ours.sources p z k.0 at k.1) k.2
+          | inr k ↦ member-at z.content k.0.content (bare-at m s.theirs merged-sources are.theirs.sources p z k.0 at k.1) k.2
+        ],
+      )
 
   merged-needed : HasNoOrphan m
   merged-needed x among = let r = merge-needed s m h (each-one s are) x among in (r.0, r.1, root-member r.0 r.2, r.3)

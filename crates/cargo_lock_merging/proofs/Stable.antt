@@ -180,22 +180,25 @@ module _ (s : Triple Place) (are : AreLockfiles s) (m : List (PlacedData Place))
     others-again g is v others w (inr e) (g', is', v') =
         let at : HasAt s.theirs z.place w = subst (IsAt s.theirs z.place) e from.at.theirs in
         let git : git_in w.content.source ≡ git_in z.content.source = git-same w.content z.content
-            (bare-at s.theirs m are.theirs.sources (merged-sources s are m h) z.place w z at (among, refl)) in
+        (bare-at s.theirs m are.theirs.sources (merged-sources s are m h) z.place w z at (among, refl)) in
         let same : g' ≡ g = same_Some g' g (sym is' ∙ git ∙ is) in
         let at-commit : commit_in w.content.source ≡ commit_in z.content.source =
-            commit-once (lockfiles_of (triple s.base m s.theirs)) (each-commit (triple s.base m s.theirs) again) g _ _
-            (subst (λ (q : Key). IsMergedCommit (lockfiles_of (triple s.base m s.theirs)) q (commit_in w.content.source)) same v') (commit-again g is v) in
+        commit-once (lockfiles_of (triple s.base m s.theirs)) (each-commit (triple s.base m s.theirs) again) g _ _
+        (subst (λ (q : Key). IsMergedCommit (lockfiles_of (triple s.base m s.theirs)) q (commit_in w.content.source)) same v') (commit-again g is v) in
         others w (inr e) (g, git ∙ is, subst (IsMergedCommit (lockfiles_of s) g) (sym at-commit) v) ∙ sym same-key
 
     chosen-again : IsChosen (lockfiles_of (triple s.base m s.theirs)) b (Some z) t z
-    chosen-again = (inl refl, elim from.chosen.1 [
-      | inl k ↦
-          let (g, is, v) = k.1.this in
-          let here : git_in z.content.source ≡ Some g = ap git_in same-source ∙ is in
-          let there = subst (λ (x : Option Source). IsMergedCommit (lockfiles_of s) g (commit_in x)) (sym same-source) v in
-          inl ((z, inl refl, (g, here)), record { this = (g, here, commit-again g here there); others = others-again g here there k.1.others })
-      | inr k ↦ inr (git-again k.0, rule-again b o t c z same-key from.chosen.0 k.1)
-    ])
+    chosen-again = (
+      inl refl,
+      elim from.chosen.1 [
+        | inl k ↦
+            let (g, is, v) = k.1.this in
+            let here : git_in z.content.source ≡ Some g = ap git_in same-source ∙ is in
+            let there = subst (λ (x : Option Source). IsMergedCommit (lockfiles_of s) g (commit_in x)) (sym same-source) v in
+            inl ((z, inl refl, (g, here)), record { this = (g, here, commit-again g here there); others = others-again g here there k.1.others })
+        | inr k ↦ inr (git-again k.0, rule-again b o t c z same-key from.chosen.0 k.1)
+      ],
+    )
 
     from-again : IsMergedFrom (triple s.base m s.theirs) b (Some z) t z z
     from-again = record {

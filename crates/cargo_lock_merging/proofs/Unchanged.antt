@@ -88,21 +88,19 @@ rule-base : (b : Option (PlacedData Place)) (x : PlacedData Place) → IsByRule 
 rule-base None x = tt
 rule-base (Some y) x = inl (inr (inr (refl, refl)))
 
-git-cases : (o : Option Key) → (o ≡ None) ⊎ ((g : Key) × (o ≡ Some g))
-git-cases None = inl refl
-git-cases (Some g) = inr (g, refl)
-
-source-cases : {X : Type 0} (o : Option X) → (o ≡ None) ⊎ (¬ (o ≡ None))
-source-cases None = inl refl
-source-cases (Some x) = inr (λ e. absurd (cc e))
+option-cases : {X : Type 0} (o : Option X) → (o ≡ None) ⊎ ((x : X) × (o ≡ Some x))
+option-cases None = inl refl
+option-cases (Some x) = inr (x, refl)
 
 -- a member is at the place, or none is
 member-cases : (xs : List (PlacedData Place)) → HasOneAtEach xs → (p : Place) → HasMember xs p ⊎ (¬ HasMember xs p)
 member-cases xs one p = elim (at-cases xs p) [
   | inr none ↦ inr (λ h. none h.0 h.1)
-  | inl some ↦ elim (source-cases some.0.content.source) [
+  | inl some ↦ elim (option-cases some.0.content.source) [
     | inl e ↦ inl (some.0, some.1, e)
-    | inr other ↦ inr (λ h. other (subst (λ (z : PlacedData Place). z.content.source ≡ None) (one-at xs one h.0 some.0 h.1.0 some.1.0 (h.1.1 ∙ sym some.1.1)) h.2))
+    | inr other ↦ inr (λ h.
+        let none : some.0.content.source ≡ None = subst (λ (z : PlacedData Place). z.content.source ≡ None) (one-at xs one h.0 some.0 h.1.0 some.1.0 (h.1.1 ∙ sym some.1.1)) h.2 in
+        absurd (let k = sym none ∙ other.1 in cc k))
   ]
 ]
 
@@ -135,23 +133,35 @@ module _ (b x : List (PlacedData Place)) (base : IsLockfile b) (side : IsSound x
         (commit-once (lockfiles_of (triple b x b)) (each-commit (triple b x b) with-base) g _ _ v' (this-commit g is))
 
     chosen-base : IsChosen (lockfiles_of (triple b x b)) o (Some y) o y
-    chosen-base = (inl refl, elim (git-cases (git_in y.content.source)) [
-      | inl none ↦ inr (λ (w, from, (g, is)). elim from [
-        | inl e ↦ absurd (let k = sym none ∙ ap (λ (z : PlacedData Place). git_in z.content.source) (same_Some y w e) ∙ is in cc k)
-        | inr e ↦ absurd (let k = sym none ∙ sym (same-git w e) ∙ is in cc k)
-      ], rule-base o y)
-      | inr some ↦ inl ((y, inl refl, some), record { this = (some.0, some.1, this-commit some.0 some.1); others = others-base some.0 some.1 })
-    ])
+    chosen-base = (
+      inl refl,
+      elim (option-cases (git_in y.content.source)) [
+        | inl none ↦ inr (
+          λ (w, from, (g, is)). elim from [
+            | inl e ↦ absurd (let k = sym none ∙ ap (λ (z : PlacedData Place). git_in z.content.source) (same_Some y w e) ∙ is in cc k)
+            | inr e ↦ absurd (let k = sym none ∙ sym (same-git w e) ∙ is in cc k)
+          ],
+          rule-base o y,
+        )
+        | inr some ↦ inl ((y, inl refl, some), record { this = (some.0, some.1, this-commit some.0 some.1); others = others-base some.0 some.1 })
+      ],
+    )
 
     merged-base : IsMergedPackage (triple b x b) y
-    merged-base = (o, Some y, o, y, record {
-      at = record { base = at; ours = (among, refl); theirs = at };
-      chosen = chosen-base;
-      identity = refl;
-      checksum = value-base (λ z. z.content.checksum) (checksum_if (if_same y o)) y (if_same y o) (λ w e. ap checksum_if e);
-      dependencies = λ d. depends-base o y d;
-      replacement = value-base (λ z. z.replacement) (replacement_if (if_same y o)) y (if_same y o) (λ w e. ap replacement_if e);
-    })
+    merged-base = (
+      o,
+      Some y,
+      o,
+      y,
+      record {
+        at = record { base = at; ours = (among, refl); theirs = at };
+        chosen = chosen-base;
+        identity = refl;
+        checksum = value-base (λ z. z.content.checksum) (checksum_if (if_same y o)) y (if_same y o) (λ w e. ap checksum_if e);
+        dependencies = λ d. depends-base o y d;
+        replacement = value-base (λ z. z.replacement) (replacement_if (if_same y o)) y (if_same y o) (λ w e. ap replacement_if e);
+      },
+    )
 
   whole-base : AgreeAtCommits b x → IsWhole (triple b x b) x
   whole-base agree = record {
@@ -188,23 +198,35 @@ module _ (b x : List (PlacedData Place)) (base : IsLockfile b) (side : IsSound x
         (v.0, Some (commit_in y.content.source), Some (commit_in y.content.source), record { base = v.1; ours = here; theirs = here }, inl (refl, refl))
 
     chosen-both : IsChosen (lockfiles_of (triple b x x)) o (Some y) (Some y) y
-    chosen-both = (inl refl, elim (git-cases (git_in y.content.source)) [
-      | inl none ↦ inr (λ (w, from, (g, is)). absurd (let k = sym none ∙ ap (λ (z : PlacedData Place). git_in z.content.source) (same-side w from) ∙ is in cc k), inl (inl (refl, refl)))
-      | inr some ↦ inl ((y, inl refl, some), record {
-        this = (some.0, some.1, both-commit some.0 some.1);
-        others = λ w from k. ap (λ (z : PlacedData Place). key z) (sym (same-side w from));
-      })
-    ])
+    chosen-both = (
+      inl refl,
+      elim (option-cases (git_in y.content.source)) [
+        | inl none ↦ inr (λ (w, from, (g, is)). absurd (let k = sym none ∙ ap (λ (z : PlacedData Place). git_in z.content.source) (same-side w from) ∙ is in cc k), inl (inl (refl, refl)))
+        | inr some ↦ inl (
+          (y, inl refl, some),
+          record {
+            this = (some.0, some.1, both-commit some.0 some.1);
+            others = λ w from k. ap (λ (z : PlacedData Place). key z) (sym (same-side w from));
+          },
+        )
+      ],
+    )
 
     merged-both : IsMergedPackage (triple b x x) y
-    merged-both = (o, Some y, Some y, y, record {
-      at = record { base = at; ours = (among, refl); theirs = (among, refl) };
-      chosen = chosen-both;
-      identity = refl;
-      checksum = value-both (λ z. z.content.checksum) (checksum_if (if_same y o)) y;
-      dependencies = λ d. depends-both o y d;
-      replacement = value-both (λ z. z.replacement) (replacement_if (if_same y o)) y;
-    })
+    merged-both = (
+      o,
+      Some y,
+      Some y,
+      y,
+      record {
+        at = record { base = at; ours = (among, refl); theirs = (among, refl) };
+        chosen = chosen-both;
+        identity = refl;
+        checksum = value-both (λ z. z.content.checksum) (checksum_if (if_same y o)) y;
+        dependencies = λ d. depends-both o y d;
+        replacement = value-both (λ z. z.replacement) (replacement_if (if_same y o)) y;
+      },
+    )
 
   whole-both : IsWhole (triple b x x) x
   whole-both = record {
@@ -229,7 +251,7 @@ base-agrees b x base side h p w y aw ay (g, is) e =
     let has-w : HasCommit (contents_of b) g (commit_in w.content.source) = (w.content, map-in (λ (z : PlacedData Place). z.content) b w aw.0, (is, refl)) in
     let has-y : HasCommit (contents_of x) g (commit_in y.content.source) = (y.content, map-in (λ (z : PlacedData Place). z.content) x y ay.0, (is', refl)) in
     let at-w : IsMergedCommit all g (commit_in w.content.source) =
-        (Some (commit_in w.content.source), Some (commit_in y.content.source), Some (commit_in w.content.source), record { base = has-w; ours = has-y; theirs = has-w }, inr (inl (ap Some (sym e), refl))) in
+    (Some (commit_in w.content.source), Some (commit_in y.content.source), Some (commit_in w.content.source), record { base = has-w; ours = has-y; theirs = has-w }, inr (inl (ap Some (sym e), refl))) in
     elim from.chosen.1 [
       | inl k ↦ k.1.others w (inr refl) (g, is, at-w) ∙ sym (k.1.others y (inl refl) (g, is', subst (IsMergedCommit all g) e at-w))
       | inr k ↦ absurd (k.0 (w, inr refl, (g, is)))

@@ -3,7 +3,7 @@ use Rattle.std.proofs.Common.{◌≡◌, ◌≢◌, ◌⊎◌, inl, inr, List, N
 use Rattle.std.specs.List.{Contains}
 use Rattle.cargo_lock_parts.specs.Identity.{identity_key}
 use Rattle.cargo_lock_merging.specs.Laws.{HaveOneAtEach}
-use Rattle.cargo_lock_merging.specs.LawsOfMerges.{HasBoth}
+use Rattle.cargo_lock_merging.specs.LawsOfMerges.{HasSameReference}
 use Rattle.cargo_lock_merging.specs.Merge.{HasReference, IsMerge, IsMovedReference, IsReached, Triple}
 use Rattle.cargo_lock_merging.specs.Placed.{HasAt, HasOneAtEach, PlacedData, key}
 use Rattle.cargo_lock_merging.specs.Places.{Place}
@@ -24,7 +24,7 @@ module _ (side : List (PlacedData Place)) (one : HasOneAtEach side) (x y : Place
   same-at : (p : Place) (f g : PlacedData Place) → HasAt side p f → HasAt side p g → f ≡ g
   same-at p f g h k = one-at side one f g h.0 k.0 (h.1 ∙ sym k.1)
 
-  both-of : (f t : PlacedData Place) → HasAt side x.place f → HasAt side y.place t → x.content.source ≢ None → HasBoth side x y ⊎ (¬ HasReference side x y)
+  both-of : (f t : PlacedData Place) → HasAt side x.place f → HasAt side y.place t → x.content.source ≢ None → HasSameReference side x y ⊎ (¬ HasReference side x y)
   both-of f t hf ht sourced = elim (key-cases f x) [
     | inr other ↦ inr (λ r. elim r.same [
       | inl none ↦ sourced none
@@ -39,7 +39,7 @@ module _ (side : List (PlacedData Place)) (one : HasOneAtEach side) (x y : Place
     ]
   ]
 
-  both-cases : x.content.source ≢ None → HasBoth side x y ⊎ (¬ HasReference side x y)
+  both-cases : x.content.source ≢ None → HasSameReference side x y ⊎ (¬ HasReference side x y)
   both-cases sourced = elim (at-cases side x.place) [
     | inr none ↦ inr (λ r. none r.from r.from_at)
     | inl f ↦ elim (at-cases side y.place) [
@@ -49,7 +49,7 @@ module _ (side : List (PlacedData Place)) (one : HasOneAtEach side) (x y : Place
   ]
 
 pub unmoved-side : (s : Triple Place) (m : List (PlacedData Place)) (x y : PlacedData Place) → HaveOneAtEach s → ¬ IsMovedReference s m x y → Contains m x → Contains m y
-    → Contains x.dependencies y.place → x.content.source ≢ None → y.content.source ≢ None → HasBoth s.ours x y ⊎ HasBoth s.theirs x y
+    → Contains x.dependencies y.place → x.content.source ≢ None → y.content.source ≢ None → HasSameReference s.ours x y ⊎ HasSameReference s.theirs x y
 unmoved-side s m x y one stays hx hy depends sx sy = elim (both-cases s.ours one.ours x y sx) [
   | inl ours ↦ inl ours
   | inr none ↦ elim (both-cases s.theirs one.theirs x y sx) [

@@ -97,7 +97,7 @@ IdentityOfBothStays = (s : Triple Place) (m : List (PlacedData Place)) (p : Plac
 
 -- the side has packages with the identities of x and of y at their places, and the dependency of
 -- the one on the other
-pub record HasBoth (side : List (PlacedData Place)) (x y : PlacedData Place) : Type 0 where
+pub record HasSameReference (side : List (PlacedData Place)) (x y : PlacedData Place) : Type 0 where
   pub from : PlacedData Place
   pub from_at : HasAt side x.place from
   pub same_from : key from ≡ key x
@@ -112,7 +112,7 @@ abbrev pub UnmovedAreOfSides : Type 0
 UnmovedAreOfSides = (s : Triple Place) (m : List (PlacedData Place)) (x y : PlacedData Place)
     → HaveOneAtEach s → ¬ IsMovedReference s m x y → Contains m x → Contains m y
     → Contains x.dependencies y.place → x.content.source ≢ None → y.content.source ≢ None
-    → HasBoth s.ours x y ⊎ HasBoth s.theirs x y
+    → HasSameReference s.ours x y ⊎ HasSameReference s.theirs x y
 
 -- ---- the only merge
 

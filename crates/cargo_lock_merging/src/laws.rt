@@ -5,11 +5,11 @@ ghost use Rattle.cargo_lock_merging.specs.Laws.{MergeIsSymmetric, NumbersOfPlace
 ghost use Rattle.cargo_lock_merging.specs.Laws.{BothStay, MergeHasNoConflict, PackagesAreOfSides};
 ghost use Rattle.cargo_lock_merging.specs.Laws.{ConflictsAreSymmetric, MovedReferencesAreSymmetric};
 ghost use Rattle.cargo_lock_merging.specs.Laws.{TakenAwayIsGone};
-ghost use Rattle.cargo_lock_merging.specs.LawsOfMerges.{IdentityOfBothStays, MergeExcludesConflicts};
-ghost use Rattle.cargo_lock_merging.specs.LawsOfMerges.{MergeIsSound, MergeIsStable, MergeIsUnique};
-ghost use Rattle.cargo_lock_merging.specs.LawsOfMerges.{MergeWithBase, MergeWithBaseAgrees};
-ghost use Rattle.cargo_lock_merging.specs.LawsOfMerges.{MergeWithItself, PlacedAreLockfile};
-ghost use Rattle.cargo_lock_merging.specs.LawsOfMerges.{UnmovedAreOfSides};
+ghost use Rattle.cargo_lock_merging.specs.LawsOfMerges.{IdentityOfBothStays, MergeIsSound};
+ghost use Rattle.cargo_lock_merging.specs.LawsOfMerges.{MergeExcludesConflicts, MergeIsStable};
+ghost use Rattle.cargo_lock_merging.specs.LawsOfMerges.{MergeIsUnique, MergeWithBase};
+ghost use Rattle.cargo_lock_merging.specs.LawsOfMerges.{MergeWithBaseAgrees, MergeWithItself};
+ghost use Rattle.cargo_lock_merging.specs.LawsOfMerges.{PlacedAreLockfile, UnmovedAreOfSides};
 
 /// A merge by numbers of places is a merge by the places, where no two places have one number.
 pub fn numbers_are_of_places()
