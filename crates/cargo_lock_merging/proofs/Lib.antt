@@ -31,3 +31,4 @@ pub mod Soundness
 pub mod Unmoved
 pub mod Unchanged
 pub mod Stable
+pub mod Relisted

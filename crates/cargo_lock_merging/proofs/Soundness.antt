@@ -7,15 +7,16 @@ use Rattle.cargo_lock_parts.specs.Source.{Source}
 use Rattle.cargo_lock_parts.specs.SourceKey.{Key}
 use Rattle.cargo_lock_merging.specs.Commits.{HasOneCommitEach, IsMergedCommit, Lockfiles, commit_in, git_in, key_without_commit}
 use Rattle.cargo_lock_merging.specs.Laws.{HaveOneAtEach}
-use Rattle.cargo_lock_merging.specs.LawsOfMerges.{AreLockfiles, HasNoOrphan, IsLockfile, IsSound}
+use Rattle.cargo_lock_merging.specs.LawsOfMerges.{AreLockfiles, HasNoOrphan, HaveOneCommitEach, IsLockfile, IsSound}
 use Rattle.cargo_lock_merging.specs.Merge.{ConflictData, OfChecksum, OfPackage, OfReplacement, OfSource, IsConflict, IsMerge, IsRoot, Triple, lockfiles_of}
 use Rattle.cargo_lock_merging.specs.Placed.{HasMember, PlacedData, contents_of}
-use Rattle.cargo_lock_merging.specs.Places.{ArePlaced, Place}
+use Rattle.cargo_lock_merging.specs.Places.{ArePlaced, IsMergeOf, Place}
 use Rattle.cargo_lock_merging.specs.Rule3.{IsMergedValue}
 use Rattle.cargo_lock_merging.proofs.Leading.{merge-needed, merge-refers}
 use Rattle.cargo_lock_merging.proofs.Planning.{image-in}
+use Rattle.cargo_lock_merging.proofs.Renamed.{map-in}
 use Rattle.cargo_lock_merging.proofs.Sides.{kept-of, side-at}
-use Rattle.cargo_lock_merging.proofs.Sourced.{HasSources, HaveOneCommitEach, bare-at, bare_source, commit-once, commits-same, git-same, member-at}
+use Rattle.cargo_lock_merging.proofs.Sourced.{HasSources, bare-at, bare_source, commit-once, commits-same, git-same, member-at}
 use Rattle.cargo_lock_merging.proofs.Staying.{no-checksum, no-package, no-replacement, value-apart}
 
 -- the packages of a list at their places
@@ -115,3 +116,22 @@ module _ (s : Triple Place) (are : AreLockfiles s) (m : List (PlacedData Place))
   no-conflict (OfChecksum p) = no-checksum s are.base.one are.ours.one are.theirs.one m p h
   no-conflict (OfReplacement p) = no-replacement s are.base.one are.ours.one are.theirs.one m p h
   no-conflict (OfSource g) = no-source g
+
+-- ---- lists of packages
+
+pub lists-lockfiles : (all : Lockfiles) (m : List PackageData) (h : IsMergeOf all m) → HaveOneCommitEach all → AreLockfiles h.placed
+lists-lockfiles all m h one = record {
+  base = placed-lockfile all all.base h.placed.base one.base h.base;
+  ours = placed-lockfile all all.ours h.placed.ours one.ours h.ours;
+  theirs = placed-lockfile all all.theirs h.placed.theirs one.theirs h.theirs;
+}
+
+pub lists-sound : (all : Lockfiles) (m : List PackageData) (h : IsMergeOf all m) → HaveOneCommitEach all → HasOneCommitEach m × IsSound h.merged
+lists-sound all m h one =
+    let sound = merge-sound h.placed (lists-lockfiles all m h one) h.merged h.merge in
+    (λ g c d (p, among, at) (q, among', at'). sound.lockfile.commits g c d (p, listed p among, at) (q, listed q among', at'), sound)
+  where
+    listed : (p : PackageData) → Contains m p → Contains (contents_of h.merged) p
+    listed p among =
+        let (x, there, is) = h.packages.all_there p among in
+        subst (Contains (contents_of h.merged)) is.content (map-in (λ (z : PlacedData Place). z.content) h.merged x there)

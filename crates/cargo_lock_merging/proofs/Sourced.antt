@@ -6,6 +6,7 @@ use Rattle.cargo_lock_parts.specs.Identity.{PackageData}
 use Rattle.cargo_lock_parts.specs.Source.{Source, is_git}
 use Rattle.cargo_lock_parts.specs.SourceKey.{Key}
 use Rattle.cargo_lock_merging.specs.Commits.{AreCommits, HasOneCommitEach, IsCommitIn, IsMergedCommit, Lockfiles, git_in, key_without_commit}
+use Rattle.cargo_lock_merging.specs.LawsOfMerges.{HaveOneCommitEach}
 use Rattle.cargo_lock_merging.specs.Placed.{HasAt, PlacedData}
 use Rattle.cargo_lock_merging.specs.Places.{Place}
 use Rattle.cargo_lock_merging.specs.Rule3.{IsMergedValue}
@@ -53,12 +54,6 @@ commit-there xs g None None one h k = refl
 commit-there xs g None (Some d) one h k = absurd (h d k)
 commit-there xs g (Some c) None one h k = absurd (k c h)
 commit-there xs g (Some c) (Some d) one h k = ap Some (one g c d h k)
-
--- each git source of the three is at one commit
-pub record HaveOneCommitEach (all : Lockfiles) : Type 0 where
-  pub base : HasOneCommitEach all.base
-  pub ours : HasOneCommitEach all.ours
-  pub theirs : HasOneCommitEach all.theirs
 
 -- what follows from one set of commits follows from the other
 pub commits-same : (all : Lockfiles) → HaveOneCommitEach all → (g : Key) (x y z a b c : Option (Option (List ℕ))) → AreCommits all g x y z → AreCommits all g a b c

@@ -1,6 +1,6 @@
 -- Further laws of the merge: it is unique, sound and stable, and a side without changes leaves the
 -- other.
-use Rattle.std.specs.Prelude.{◌≡◌, ◌≢◌, ◌⊎◌, ◌↔◌, List, Some, None, option_map}
+use Rattle.std.specs.Prelude.{◌≡◌, ◌≢◌, ◌⊎◌, ◌↔◌, ℕ, false, List, Some, None, option_map}
 use Rattle.std.specs.List.{Contains}
 use Rattle.cargo_lock_parts.specs.Identity.{PackageData}
 use Rattle.cargo_lock_merging.specs.Choices.{IsOfGit}
@@ -11,7 +11,7 @@ use Rattle.cargo_lock_merging.specs.Merge.{ConflictData, IsConflict, IsMerge, Is
 use Rattle.cargo_lock_merging.specs.Merge.{IsReached, IsReachedFrom, Triple}
 use Rattle.cargo_lock_merging.specs.Placed.{HasAt, HasMember, HasOneAtEach, PlacedData, contents_of}
 use Rattle.cargo_lock_merging.specs.Placed.{key}
-use Rattle.cargo_lock_merging.specs.Places.{ArePlaced, Place}
+use Rattle.cargo_lock_merging.specs.Places.{ArePlaced, IsMergeOf, Place, has_several}
 use Rattle.cargo_lock_merging.specs.Plans.{IsClosed}
 
 -- ---- a merge is unique
@@ -79,6 +79,17 @@ pub record AreLockfiles (s : Triple Place) : Type 0 where
 abbrev pub MergeIsSound : Type 0
 MergeIsSound = (s : Triple Place) (m : List (PlacedData Place)) → AreLockfiles s → IsMerge s m
     → IsSound m
+
+-- in each of the three lists each git source is at one commit
+pub record HaveOneCommitEach (all : Lockfiles) : Type 0 where
+  pub base : HasOneCommitEach all.base
+  pub ours : HasOneCommitEach all.ours
+  pub theirs : HasOneCommitEach all.theirs
+
+-- a merged list of packages has each git source at one commit, and is sound at its places
+abbrev pub MergeOfListsIsSound : Type 0
+MergeOfListsIsSound = (all : Lockfiles) (m : List PackageData) (h : IsMergeOf all m)
+    → HaveOneCommitEach all → HasOneCommitEach m × IsSound h.merged
 
 -- where there is a merge, the sides are in conflict about nothing, commits of git sources included
 abbrev pub MergeExcludesConflicts : Type 0
@@ -156,3 +167,14 @@ MergeWithItself = (b x : List (PlacedData Place)) → IsLockfile b → IsSound x
 abbrev pub MergeIsStable : Type 0
 MergeIsStable = (s : Triple Place) (m : List (PlacedData Place)) → AreLockfiles s → IsMerge s m
     → IsTheMerge (triple s.base m s.theirs) m × IsTheMerge (triple s.base s.ours m) m
+
+-- no list has two packages of one name without source
+abbrev pub HaveNoneTwice : Lockfiles → Type 0
+HaveNoneTwice all = (name : List ℕ) → has_several all name ≡ false
+
+-- The same of lists of packages, where none has two packages of one name without source: else a
+-- place may have another version when one of them is gone.
+abbrev pub MergeOfListsIsStable : Type 0
+MergeOfListsIsStable = (all : Lockfiles) (m : List PackageData) → IsMergeOf all m
+    → HaveOneCommitEach all → HaveNoneTwice all
+    → IsMergeOf (record all { ours = m }) m × IsMergeOf (record all { theirs = m }) m

@@ -7,7 +7,8 @@ ghost use Rattle.cargo_lock_merging.specs.Laws.{ConflictsAreSymmetric, MovedRefe
 ghost use Rattle.cargo_lock_merging.specs.Laws.{TakenAwayIsGone};
 ghost use Rattle.cargo_lock_merging.specs.LawsOfMerges.{IdentityOfBothStays, MergeIsSound};
 ghost use Rattle.cargo_lock_merging.specs.LawsOfMerges.{MergeExcludesConflicts, MergeIsStable};
-ghost use Rattle.cargo_lock_merging.specs.LawsOfMerges.{MergeIsUnique, MergeWithBase};
+ghost use Rattle.cargo_lock_merging.specs.LawsOfMerges.{MergeIsUnique, MergeOfListsIsSound};
+ghost use Rattle.cargo_lock_merging.specs.LawsOfMerges.{MergeOfListsIsStable, MergeWithBase};
 ghost use Rattle.cargo_lock_merging.specs.LawsOfMerges.{MergeWithBaseAgrees, MergeWithItself};
 ghost use Rattle.cargo_lock_merging.specs.LawsOfMerges.{PlacedAreLockfile, UnmovedAreOfSides};
 
@@ -76,6 +77,11 @@ pub fn merge_is_sound()
     ensures { MergeIsSound }
 {}
 
+/// The merge of three lists of packages is sound.
+pub fn merge_of_lists_is_sound()
+    ensures { MergeOfListsIsSound }
+{}
+
 /// Where there is a merge, the sides are in conflict about nothing.
 pub fn merge_excludes_conflicts()
     ensures { MergeExcludesConflicts }
@@ -109,4 +115,9 @@ pub fn merge_with_itself()
 /// Merged again with either side, a merge stays as it is.
 pub fn merge_is_stable()
     ensures { MergeIsStable }
+{}
+
+/// The same of lists of packages, where none has two packages of one name without source.
+pub fn merge_of_lists_is_stable()
+    ensures { MergeOfListsIsStable }
 {}
