@@ -150,8 +150,8 @@ abbrev pub MergeWithBase : Type 0
 MergeWithBase = (b x : List (PlacedData Place)) → IsLockfile b → IsSound x → AgreeAtCommits b x
     → IsTheMerge (triple b x b) x × IsTheMerge (triple b b x) x
 
--- That is so only there: where the base has a package at one commit in another version, the sides
--- are in conflict, as both are at the merged commit.
+-- It is so only then: where the base has a package at the same commit in another version, both are
+-- at the merged commit, and the sides are in conflict.
 abbrev pub MergeWithBaseAgrees : Type 0
 MergeWithBaseAgrees = (b x : List (PlacedData Place)) → IsLockfile b → IsLockfile x
     → IsMerge (triple b x b) x → AgreeAtCommits b x
@@ -172,8 +172,8 @@ MergeIsStable = (s : Triple Place) (m : List (PlacedData Place)) → AreLockfile
 abbrev pub HaveNoneTwice : Lockfiles → Type 0
 HaveNoneTwice all = (name : List ℕ) → has_several all name ≡ false
 
--- The same of lists of packages, where none has two packages of one name without source: else a
--- place may have another version when one of them is gone.
+-- The same of lists of packages, where none has two packages of one name without source: then the
+-- second merge has the places of the first.
 abbrev pub MergeOfListsIsStable : Type 0
 MergeOfListsIsStable = (all : Lockfiles) (m : List PackageData) → IsMergeOf all m
     → HaveOneCommitEach all → HaveNoneTwice all
