@@ -31,3 +31,12 @@ pub mod Sides
 pub mod Numbering
 pub mod Staying
 pub mod Conflicting
+pub mod Deciding
+pub mod Alike
+pub mod Leading
+pub mod Sourced
+pub mod Soundness
+pub mod Unmoved
+pub mod Unchanged
+pub mod Stable
+pub mod Relisted

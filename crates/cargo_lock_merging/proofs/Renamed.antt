@@ -16,7 +16,7 @@ use Rattle.cargo_lock_merging.proofs.Once.{kept-iff}
 use Rattle.cargo_lock_merging.proofs.Planning.{image-in}
 use Rattle.cargo_lock_merging.proofs.Renaming.{chosen-of, chosen-to, clash-same, key-same}
 
-map-in : {X Y : Type 0} (g : X → Y) (xs : List X) (x : X) → Contains xs x → Contains (map g xs) (g x)
+pub map-in : {X Y : Type 0} (g : X → Y) (xs : List X) (x : X) → Contains xs x → Contains (map g xs) (g x)
 map-in g xs x (k, low, is) = (k, omega (arith, low, length-map xs g), get_or-map g xs k x (g x) low ∙ ap g is)
 
 contents-same : {P Q : Type 0} (f : P → Q) (xs : List (PlacedData P)) → contents_of (rename_all f xs) ≡ contents_of xs

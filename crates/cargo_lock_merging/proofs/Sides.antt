@@ -34,7 +34,7 @@ or-flip : {A B : Type 0} → A ⊎ B → B ⊎ A
 or-flip (inl a) = inr a
 or-flip (inr b) = inl b
 
-kept-of : {b o t : Type 0} → IsKept b o t → o ⊎ t
+pub kept-of : {b o t : Type 0} → IsKept b o t → o ⊎ t
 kept-of (inl both) = inl both.0
 kept-of (inr one) = one.0
 
@@ -122,7 +122,7 @@ module _ {P : Type 0} where
   unfolding flipped
   at-flip s p x y z h = record { base = h.base; ours = h.theirs; theirs = h.ours }
 
-  chain-flip : (a b : P → P → Type 0) → ((p d : P) → a p d → b p d) → (p : P) (chain : List P) (q : P) → IsChain a p chain q → IsChain b p chain q
+  pub chain-flip : (a b : P → P → Type 0) → ((p d : P) → a p d → b p d) → (p : P) (chain : List P) (q : P) → IsChain a p chain q → IsChain b p chain q
   chain-flip a b to p [] q h = h
   chain-flip a b to p (r ∷ rs) q h = (to p r h.0, chain-flip a b to r rs q h.1)
 
@@ -163,7 +163,7 @@ module _ {P : Type 0} where
 
   -- ---- what is merged comes from a side
 
-  side-at : (s : Triple P) (p : P) (x y z : Option (PlacedData P)) (c : PlacedData P) → HaveAt s p x y z → IsOfSide y z c → HasAt s.ours p c ⊎ HasAt s.theirs p c
+  pub side-at : (s : Triple P) (p : P) (x y z : Option (PlacedData P)) (c : PlacedData P) → HaveAt s p x y z → IsOfSide y z c → HasAt s.ours p c ⊎ HasAt s.theirs p c
   side-at s p x y z c at (inl e) = inl (subst (IsAt s.ours p) e at.ours)
   side-at s p x y z c at (inr e) = inr (subst (IsAt s.theirs p) e at.theirs)
 

@@ -11,7 +11,7 @@ use Rattle.cargo_lock_merging.specs.Rule3.{IsDisputed, IsKept, IsMergedValue}
 use Rattle.cargo_lock_merging.proofs.Agreeing.{agreed-apart}
 use Rattle.cargo_lock_merging.proofs.Once.{checksum-alike, chosen-once, replacement-alike}
 
-value-apart : {X : Type 0} (b : X) (o t : Option X) (v : X) → IsMergedValue b o t v → ¬ IsDisputed b o t
+pub value-apart : {X : Type 0} (b : X) (o t : Option X) (v : X) → IsMergedValue b o t v → ¬ IsDisputed b o t
 value-apart b None None v k d = d
 value-apart b (Some o) None v k d = d
 value-apart b None (Some t) v k d = d
@@ -23,7 +23,7 @@ gone b (inr none) (inl both) = none both.1
 gone b none (inr one) = one.1 b
 
 module _ {P : Type 0} where
-  one-at : (xs : List (PlacedData P)) → HasOneAtEach xs → (x y : PlacedData P) → Contains xs x → Contains xs y → x.place ≡ y.place → x ≡ y
+  pub one-at : (xs : List (PlacedData P)) → HasOneAtEach xs → (x y : PlacedData P) → Contains xs x → Contains xs y → x.place ≡ y.place → x ≡ y
   one-at xs one x y (k, low, is) (l, low', is') e = elim (cases_order k l) [
     | inl same ↦ sym is ∙ ap (λ n. get_or xs n x) same ∙ get_or_default xs l x y low' ∙ is'
     | inr other ↦ elim other [
@@ -32,7 +32,7 @@ module _ {P : Type 0} where
     ]
   ]
 
-  at-same : (xs : List (PlacedData P)) → HasOneAtEach xs → (p : P) (a b : Option (PlacedData P)) → IsAt xs p a → IsAt xs p b → a ≡ b
+  pub at-same : (xs : List (PlacedData P)) → HasOneAtEach xs → (p : P) (a b : Option (PlacedData P)) → IsAt xs p a → IsAt xs p b → a ≡ b
   at-same xs one p None None h k = refl
   at-same xs one p None (Some y) h k = absurd (h y k)
   at-same xs one p (Some x) None h k = absurd (k x h)
@@ -40,7 +40,7 @@ module _ {P : Type 0} where
 
   module _ (s : Triple P) (base : HasOneAtEach s.base) (ours : HasOneAtEach s.ours) (theirs : HasOneAtEach s.theirs) where
     -- what is merged at a place is of what the three have there
-    from-at : (p : P) (m : PlacedData P) (x y z : Option (PlacedData P)) → m.place ≡ p → HaveAt s p x y z → IsMergedPackage s m → (c : PlacedData P) × IsMergedFrom s x y z c m
+    pub from-at : (p : P) (m : PlacedData P) (x y z : Option (PlacedData P)) → m.place ≡ p → HaveAt s p x y z → IsMergedPackage s m → (c : PlacedData P) × IsMergedFrom s x y z c m
     from-at p m x y z here at (x', y', z', c, from) =
         let there = subst (λ q. HaveAt s q x' y' z') here from.at in
         let ex = at-same s.base base p x' x there.base at.base in
@@ -82,7 +82,7 @@ module _ {P : Type 0} where
     side-key y z c e (inr h) = let k = ap (λ (w : PlacedData P). key w) (same_Some z c h) in (e ∙ k, k)
 
     -- what is merged of two packages of one identity
-    both-from : (x y z : PlacedData P) → IsMergedPackage s x → HasAt s.ours x.place y → HasAt s.theirs x.place z → key y ≡ key z
+    pub both-from : (x y z : PlacedData P) → IsMergedPackage s x → HasAt s.ours x.place y → HasAt s.theirs x.place z → key y ≡ key z
         → (b : Option (PlacedData P)) × (c : PlacedData P) × IsAt s.base x.place b × IsMergedFrom s b (Some y) (Some z) c x × (key y ≡ key c) × (key z ≡ key c)
     both-from x y z (b, o, t, c, from) ay az e =
         let eo = at-same s.ours ours x.place o (Some y) from.at.ours ay in

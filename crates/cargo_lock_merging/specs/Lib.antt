@@ -16,6 +16,7 @@ pub mod Kept
 pub mod Renaming
 pub mod Places
 pub mod Laws
+pub mod LawsOfMerges
 pub mod Located
 pub mod Linked
 pub mod Lists

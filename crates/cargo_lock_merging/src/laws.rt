@@ -6,6 +6,12 @@ ghost use Rattle.cargo_lock_merging.specs.Laws.{MergeIsSymmetric, NumbersOfPlace
 ghost use Rattle.cargo_lock_merging.specs.Laws.{BothStay, MergeHasNoConflict, PackagesAreOfSides};
 ghost use Rattle.cargo_lock_merging.specs.Laws.{ConflictsAreSymmetric, MovedReferencesAreSymmetric};
 ghost use Rattle.cargo_lock_merging.specs.Laws.{TakenAwayIsGone};
+ghost use Rattle.cargo_lock_merging.specs.LawsOfMerges.{IdentityOfBothStays, MergeIsSound};
+ghost use Rattle.cargo_lock_merging.specs.LawsOfMerges.{MergeExcludesConflicts, MergeIsStable};
+ghost use Rattle.cargo_lock_merging.specs.LawsOfMerges.{MergeIsUnique, MergeOfListsIsSound};
+ghost use Rattle.cargo_lock_merging.specs.LawsOfMerges.{MergeOfListsIsStable, MergeWithBase};
+ghost use Rattle.cargo_lock_merging.specs.LawsOfMerges.{MergeWithBaseAgrees, MergeWithItself};
+ghost use Rattle.cargo_lock_merging.specs.LawsOfMerges.{PlacedAreLockfile, UnmovedAreOfSides};
 
 /// A merge by numbers of places is a merge by the places, where no two places have one number.
 pub fn numbers_are_of_places()
@@ -60,4 +66,64 @@ pub fn moved_references_are_symmetric()
 /// The packages that are assembled of a merge by numbers of places are the merge of the lockfiles.
 pub fn assembled_are_merge()
     ensures { AssembledAreMerge }
+{}
+
+/// Two merges of the same lists have the same packages.
+pub fn merge_is_unique()
+    ensures { MergeIsUnique }
+{}
+
+/// The packages of a list at their places are a lockfile, where each git source is at one commit.
+pub fn placed_are_lockfile()
+    ensures { PlacedAreLockfile }
+{}
+
+/// A merge of lockfiles is a sound lockfile.
+pub fn merge_is_sound()
+    ensures { MergeIsSound }
+{}
+
+/// The merge of three lists of packages is sound.
+pub fn merge_of_lists_is_sound()
+    ensures { MergeOfListsIsSound }
+{}
+
+/// Where there is a merge, the sides are in conflict about nothing.
+pub fn merge_excludes_conflicts()
+    ensures { MergeExcludesConflicts }
+{}
+
+/// The identity that both sides have at a place is that of the merged package there.
+pub fn identity_of_both_stays()
+    ensures { IdentityOfBothStays }
+{}
+
+/// A dependency that is no moved reference is, identity to identity, one of a side.
+pub fn unmoved_are_of_sides()
+    ensures { UnmovedAreOfSides }
+{}
+
+/// Where one side is the base, the merge is the other side.
+pub fn merge_with_base()
+    ensures { MergeWithBase }
+{}
+
+/// That is so only where no commit has two versions of a package.
+pub fn merge_with_base_agrees()
+    ensures { MergeWithBaseAgrees }
+{}
+
+/// Where the sides are equal, the merge is each of them.
+pub fn merge_with_itself()
+    ensures { MergeWithItself }
+{}
+
+/// Merged again with either side, a merge stays as it is.
+pub fn merge_is_stable()
+    ensures { MergeIsStable }
+{}
+
+/// The same of lists of packages, where none has two packages of one name without source.
+pub fn merge_of_lists_is_stable()
+    ensures { MergeOfListsIsStable }
 {}
