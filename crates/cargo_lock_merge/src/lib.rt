@@ -1,5 +1,8 @@
-//! A merge of lockfiles by packages.
+//! A merge of lists of packages, as lockfiles have them.
 #![tactic(auto)]
 
 mod assemble;
 mod order;
+mod outcome;
+
+pub use crate::outcome::merge;

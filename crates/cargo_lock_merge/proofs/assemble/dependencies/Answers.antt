@@ -7,7 +7,7 @@ use Rattle.cargo_lock_parts.specs.Identity.{Identity, identity_of}
 use Rattle.cargo_lock_merging.specs.Assembled.{IsIdentityAt}
 use Rattle.cargo_lock_merging.specs.Merged.{merged_data}
 use Rattle.cargo_lock_merging.specs.Placed.{HasAt, PlacedData}
-use Rattle.cargo_lock_merge.proofs.Assembling.{looked-up, passed-by}
+use Rattle.cargo_lock_merge.proofs.Assembling.{looked-up, only-at, passed-by}
 use Rattle.cargo_lock_merge.proofs.assemble.dependencies.Goals as goal
 use Rattle.cargo_lock_merge.proofs.assemble.dependencies.Goals.{in-Some+in_ok-of+in_ok-push, in_default}
 
@@ -22,8 +22,8 @@ loop-place-preserved c =
     elim c.match-package_at.branch [
       | in-Some+in_ok-of+in_ok-push w ↦
           let d : Identity = w.in_ok-of.field-0 in
-          let at = w.in-Some.ensures in
-          looked-up m ns k n old c.match-package_at.all.items d low (get_or_default ns k 0 n low) c.loop-place.invariant ? ? (ap (λ v. v.items) w.all-is ∙ w.in_ok-push.ensures.items)
+          let found : IsIdentityAt m n d = (w.in-Some.ensures.0, w.in-Some.ensures.1, w.in_ok-of.ensures.ok ∙ w.in-Some.ensures.2) in
+          looked-up m ns k n old c.match-package_at.all.items d low (get_or_default ns k 0 n low) c.loop-place.invariant (λ i other. only-at c.args.merged.now n i d c.requires.ascending other found) found (ap (λ v. v.items) w.all-is ∙ w.in_ok-push.ensures.items)
       | in_default w ↦
           subst (λ (is : List Identity). (i : Identity) → Contains is i ↔ ((j : ℕ) × Contains (take (k + 1) ns) j × IsIdentityAt m j i)) (sym (ap (λ v. v.items) w.all-is))
           (passed-by m ns k n old low (get_or_default ns k 0 n low) c.loop-place.invariant w.in_default.ensures)

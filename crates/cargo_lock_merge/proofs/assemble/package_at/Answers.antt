@@ -6,7 +6,7 @@ use Rattle.cargo_lock_merge.proofs.assemble.package_at.Goals as goal
 
 pub returns-in-Some : goal.returns-in-Some
 returns-in-Some c =
-    some-at c.args.merged.now c.args.place c.in-Some.at _ (ap (λ (ns : List ℕ). slice_get ns c.in-Some.at) (sym c.requires.places) ∙ c.in-Some.ensures) c.index-merged-at.is
+    some-at c.args.merged.now c.args.place c.in-Some.at _ (ap (λ (ns : List ℕ). slice_get ns c.in-Some.at) (sym c.requires.places) ∙ c.in-Some.ensures)
 
 pub returns-in-None : goal.returns-in-None
 returns-in-None c = none-at c.args.merged.now c.args.place (λ h. c.in-None.ensures (subst (λ (ns : List ℕ). Contains ns c.args.place) (sym c.requires.places) h))
