@@ -1,5 +1,5 @@
 -- The packages of a merge, as a lockfile has them.
-use Rattle.std.proofs.Common.{◌≡◌, ◌<◌, ◌+◌, ◌↔◌, ◌⊎◌, ◌++◌, inl, inr, ℕ, zero, suc, List, [], ◌∷◌, Option, Some, None, get_or, length, map, set, slice_get, take, refl, sym, ap, subst, ◌∙◌, arith}
+use Rattle.std.proofs.Common.{◌≡◌, ◌<◌, ◌+◌, ◌↔◌, ◌⊎◌, ◌++◌, inl, inr, ℕ, zero, suc, List, [], ◌∷◌, Some, get_or, length, map, set, slice_get, take, refl, sym, ap, subst, ◌∙◌, arith}
 use Rattle.std.specs.List.{AllZip, Contains, swap}
 use Rattle.std.specs.List.Sorted.{IsPermutation, IsStrictlyIncreasing}
 use Rattle.std.proofs.lemmas.List.{get_or-map, length-map, take_more}
@@ -9,11 +9,11 @@ use Rattle.std.proofs.lemmas.Slice.Zip.{AllZip-long}
 use Rattle.std.proofs.lemmas.Option.{get_or_from_slice_get, slice_get_within}
 use Rattle.cargo_lock_parts.specs.Identity.{Identity, PackageData, identity_of}
 use Rattle.cargo_lock_merging.specs.declared.merged.Merged.{Merged}
-use Rattle.cargo_lock_merging.specs.Assembled.{AreAssembled, IsAssembled, IsIdentityAt}
+use Rattle.cargo_lock_merging.specs.Assembled.{IsIdentityAt}
 use Rattle.cargo_lock_merging.specs.Merged.{merged_data}
 use Rattle.cargo_lock_merging.specs.Numbered.{places_of}
 use Rattle.cargo_lock_merging.specs.Placed.{HasAt, PlacedData}
-use Rattle.cargo_lock_merging.proofs.Members.{got-in, in-map, map-in}
+use Rattle.cargo_lock_merging.proofs.Members.{in-map, map-in}
 use Rattle.cargo_lock_merging.proofs.Once.{one-at}
 use Rattle.cargo_lock_merging.proofs.Planning.{map-push}
 use Rattle.cargo_lock_merging.proofs.Zipping.{zip-push}
@@ -127,8 +127,9 @@ pub zip-permuted : {X Y : Type 0} (R : X → Y → Type 0) (xs : List X) (ys zs 
 zip-permuted {X = X} {Y = Y} R xs ys zs zip moved =
     IsPermutation-keeps ys (λ (l : List Y). (ws : List X) × IsPermutation xs ws × AllZip R ws l) (xs, IsPermutation-refl xs, zip)
     (λ l i j low high h.
-        let long : length l ≡ length h.0 = AllZip-long R h.0 l h.2 in
-        (swap h.0 i j,
-        IsPermutation-trans xs h.0 (swap h.0 i j) h.1 (IsPermutation-swap h.0 (swap h.0 i j) i j (omega (arith, low, long)) (omega (arith, high, long)) refl),
-        zip-swap R h.0 l i j h.2 low high))
+    let long : length l ≡ length h.0 = AllZip-long R h.0 l h.2 in (
+      swap h.0 i j,
+      IsPermutation-trans xs h.0 (swap h.0 i j) h.1 (IsPermutation-swap h.0 (swap h.0 i j) i j (omega (arith, low, long)) (omega (arith, high, long)) refl),
+      zip-swap R h.0 l i j h.2 low high,
+    ))
     zs moved

@@ -1,5 +1,5 @@
 -- The merge of three lists by the numbers of their places.
-use Rattle.std.proofs.Common.{◌≡◌, ◌∙◌, ℕ, List, Option, Some, None, refl, subst, sym}
+use Rattle.std.proofs.Common.{ℕ, List, Option, Some, None}
 use Rattle.cargo_lock_parts.specs.Identity.{PackageData}
 use Rattle.cargo_lock_merging.specs.declared.plan.Plan.{Plan}
 use Rattle.cargo_lock_merging.specs.Commits.{Lockfiles}

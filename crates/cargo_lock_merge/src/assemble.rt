@@ -34,10 +34,7 @@ pub(crate) fn assemble(alloc: Global, merged: &[Merged<'_>]) -> Result<Vec<Packa
 }
 
 // The places of the packages.
-fn places(
-    alloc: Global,
-    merged: &[Merged<'_>],
-) -> std::result::Result<Vec<usize>, AllocError>
+fn places(alloc: Global, merged: &[Merged<'_>]) -> std::result::Result<Vec<usize>, AllocError>
     ensures { IfOk result (λ places. places.items ≡ merged_places merged.now) }
 {
     let mut places = Vec::with_capacity(alloc, merged.len())?;

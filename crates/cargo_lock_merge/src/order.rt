@@ -54,11 +54,7 @@ pub(crate) fn order_dependencies(
 }
 
 // Moves a dependency towards the front, past those after which it comes.
-fn sink_dependency(
-    alloc: Global,
-    list: &mut Vec<Dependency>,
-    from: usize,
-) -> Result<(), AllocError>
+fn sink_dependency(alloc: Global, list: &mut Vec<Dependency>, from: usize) -> Result<(), AllocError>
     requires { from < length list.old.items }
     ensures { OnOk result (IsPermutation list.old.items list.new.items) }
 {

@@ -1,23 +1,23 @@
 -- The packages that are assembled of a merge by numbers are the merge of the lockfiles.
-use Rattle.std.proofs.Common.{◌≡◌, ◌≢◌, ◌<◌, ◌↔◌, ◌⊎◌, ◌++◌, inl, inr, ℕ, zero, suc, List, [], ◌∷◌, length, get_or, map, slice_get, Option, Some, None, option_map, refl, sym, ap, subst, ◌∙◌, arith}
-use Rattle.std.specs.List.{All, AllPairs, AllZip, Contains}
+use Rattle.std.proofs.Common.{◌≡◌, ◌≢◌, ◌<◌, ◌++◌, inl, inr, ℕ, zero, suc, List, [], ◌∷◌, length, get_or, map, slice_get, Option, Some, None, option_map, refl, sym, ap, subst, ◌∙◌, arith}
+use Rattle.std.specs.List.{AllPairs, AllZip, Contains}
 use Rattle.std.specs.List.Sorted.{IsPermutation}
 use Rattle.std.proofs.lemmas.List.Elements.{Contains-get_or}
 use Rattle.std.proofs.lemmas.List.Sorted.{Contains-permutation, IsPermutation-sym}
 use Rattle.std.proofs.lemmas.List.{get_or-map, length-map}
-use Rattle.std.proofs.lemmas.Option.{get_or_from_slice_get, same_Some, slice_get_within}
+use Rattle.std.proofs.lemmas.Option.{get_or_from_slice_get, slice_get_within}
 use Rattle.cargo_lock_parts.specs.Identity.{Identity, PackageData, identity_key, identity_of}
-use Rattle.cargo_lock_graph.specs.Targets.{HasIdentity, IsLastWith, IsTarget}
+use Rattle.cargo_lock_graph.specs.Targets.{IsLastWith}
 use Rattle.cargo_lock_graph.proofs.BestCandidates.{exact-target}
-use Rattle.cargo_lock_merging.specs.Assembled.{AreAssembled, AreSides, AssembledAreMerge, IsAssembled, IsIdentityAt, IsIdentityAtIf}
+use Rattle.cargo_lock_merging.specs.Assembled.{AreSides, AssembledAreMerge, IsAssembled, IsIdentityAt, IsIdentityAtIf}
 use Rattle.cargo_lock_merging.specs.Choices.{IsChecksum, IsOfSide, IsReplacement}
 use Rattle.cargo_lock_merging.specs.Commits.{HasCommit, HasOneCommitEach, Lockfiles}
 use Rattle.cargo_lock_merging.specs.Lists.{AreNumbered, IsNumber, place_at}
-use Rattle.cargo_lock_merging.specs.Merge.{IsMerge, IsMergedPackage, IsReached, LeadsTo, Triple, lockfiles_of}
+use Rattle.cargo_lock_merging.specs.Merge.{IsMerge, IsMergedPackage, LeadsTo, Triple}
 use Rattle.cargo_lock_merging.specs.Placed.{HasAt, HasOneAtEach, IsAt, PlacedData, contents_of}
-use Rattle.cargo_lock_merging.specs.Places.{ArePlaced, IsMergeOf, IsPlaced, IsPlaceIn, IsReplacementIn, Place, place_of}
+use Rattle.cargo_lock_merging.specs.Places.{ArePlaced, IsMergeOf, IsPlaced, IsReplacementIn, Place, place_of}
 use Rattle.cargo_lock_merging.specs.Plans.{IsClosed, IsNumbered}
-use Rattle.cargo_lock_merging.specs.Renaming.{Has, IsOneToOne, IsUsed, rename, rename_all, rename_triple}
+use Rattle.cargo_lock_merging.specs.Renaming.{IsOneToOne, IsUsed, rename, rename_all, rename_triple}
 use Rattle.cargo_lock_merging.proofs.Counting.{one-permuted}
 use Rattle.cargo_lock_merging.proofs.Members.{contains-cases, first-in, got-in, in-got, in-map, later-in, map-in, none-in}
 use Rattle.cargo_lock_merging.proofs.Renamed.{merge-renamed}
@@ -139,8 +139,12 @@ module _ (all : Lockfiles) (places : List Place) (s : Triple ℕ) (sides : AreSi
       made-from [] qs zip x k = absurd (none-in x k)
       made-from (y ∷ ys) [] zip x k = absurd zip
       made-from (y ∷ ys) (q ∷ qs) zip x k = elim (contains-cases y ys x k) [
-        | inl is ↦ (q, first-in q qs, subst (λ (w : PlacedData ℕ). IsAssembled m w q) is zip.0,
-            subst (λ (w : PlacedData ℕ). Contains (put y q ∷ made ys qs) (put w q)) is (first-in (put y q) (made ys qs)))
+        | inl is ↦ (
+          q,
+          first-in q qs,
+          subst (λ (w : PlacedData ℕ). IsAssembled m w q) is zip.0,
+          subst (λ (w : PlacedData ℕ). Contains (put y q ∷ made ys qs) (put w q)) is (first-in (put y q) (made ys qs)),
+        )
         | inr there ↦ let r = made-from ys qs zip.1 x there in (r.0, later-in q qs r.0 r.1, r.2, later-in (put y q) (made ys qs) (put x r.0) r.3)
       ]
 
@@ -151,8 +155,12 @@ module _ (all : Lockfiles) (places : List Place) (s : Triple ℕ) (sides : AreSi
       made-back [] (q ∷ qs) zip p k = absurd zip
       made-back (y ∷ ys) [] zip p k = absurd zip
       made-back (y ∷ ys) (q ∷ qs) zip p k = elim (contains-cases q qs p k) [
-        | inl is ↦ (y, first-in y ys, subst (IsAssembled m y) is zip.0,
-            subst (λ (w : PackageData). Contains (put y q ∷ made ys qs) (put y w)) is (first-in (put y q) (made ys qs)))
+        | inl is ↦ (
+          y,
+          first-in y ys,
+          subst (IsAssembled m y) is zip.0,
+          subst (λ (w : PackageData). Contains (put y q ∷ made ys qs) (put y w)) is (first-in (put y q) (made ys qs)),
+        )
         | inr there ↦ let r = made-back ys qs zip.1 p there in (r.0, later-in y ys r.0 r.1, r.2, later-in (put y q) (made ys qs) (put r.0 p) r.3)
       ]
 
@@ -304,15 +312,20 @@ module _ (all : Lockfiles) (places : List Place) (s : Triple ℕ) (sides : AreSi
       unfolding put
       built-merged x p among built =
           let f : PlacedData ℕ → PlacedData Place = rename (place_at places) in
-          let (b, o, t, c, from) = renamed.each (f x) (in-map f m x among) in
-          (b, o, t, c, record {
-            at = from.at;
-            chosen = from.chosen;
-            identity = built.identity ∙ from.identity;
-            checksum = subst (IsChecksum b o t c) (sym built.checksum) from.checksum;
-            dependencies = from.dependencies;
-            replacement = from.replacement;
-          })
+          let (b, o, t, c, from) = renamed.each (f x) (in-map f m x among) in (
+            b,
+            o,
+            t,
+            c,
+            record {
+              at = from.at;
+              chosen = from.chosen;
+              identity = built.identity ∙ from.identity;
+              checksum = subst (IsChecksum b o t c) (sym built.checksum) from.checksum;
+              dependencies = from.dependencies;
+              replacement = from.replacement;
+            },
+          )
 
       is-merge : IsMerge (rename_triple (place_at places) s) (made xs ps)
       unfolding put

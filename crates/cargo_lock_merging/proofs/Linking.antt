@@ -1,5 +1,5 @@
 -- The edges of packages of which no two have one identity.
-use Rattle.std.proofs.Common.{◌≡◌, ◌<◌, ◌≤◌, ◌↔◌, ℕ, List, map, reverse, slice_get, Some, refl, sym, ap, subst, ◌∙◌, arith}
+use Rattle.std.proofs.Common.{◌≡◌, ℕ, List, slice_get, sym, ap, subst, ◌∙◌, arith}
 use Rattle.std.specs.BTreeMap.{BTreeMap}
 use Rattle.std.specs.List.{Contains, filter}
 use Rattle.std.proofs.lemmas.Bool.{eq-eqb, eqb-true}
@@ -41,9 +41,9 @@ module _ (packages : List PackageData) (graph : GraphData) (nodes : BTreeMap Ide
 
   pub targets-are : (at : ℕ) (targets : List ℕ) → targets ≡ far_ends Outgoing graph.edges at → AreTargetsAt packages at targets
   targets-are at targets is p here = record {
-      found = λ i depends. let k = stored-edge p i (got-in packages at p here) depends in (k.0.to, k.2.to);
-      are = λ alone k. (λ h. to alone k (subst (λ ts. Contains ts k) is h), λ h. subst (λ ts. Contains ts k) (sym is) (from alone k h));
-    }
+    found = λ i depends. let k = stored-edge p i (got-in packages at p here) depends in (k.0.to, k.2.to);
+    are = λ alone k. (λ h. to alone k (subst (λ ts. Contains ts k) is h), λ h. subst (λ ts. Contains ts k) (sym is) (from alone k h));
+  }
     where
       to : IsAlone packages at p → (k : ℕ) → Contains (far_ends Outgoing graph.edges at) k → IsTargetOf packages p k
       to alone k h =

@@ -1,5 +1,5 @@
 -- Whether each git source of a list is at one commit.
-use Rattle.std.proofs.Common.{◌≡◌, ◌≢◌, ◌⊎◌, ◌++◌, ◌+◌, ◌<◌, inl, inr, ℕ, true, false, IfSome, IsTrue, List, [], ◌∷◌, Option, Some, None, drop, get_or, length, refl, sym, ap, subst, take, ◌∙◌, arith}
+use Rattle.std.proofs.Common.{◌≡◌, ◌⊎◌, ◌++◌, ◌<◌, inl, inr, ℕ, true, IfSome, List, [], ◌∷◌, Option, Some, None, drop, get_or, length, refl, sym, ap, subst, take, ◌∙◌, arith}
 use Rattle.std.specs.Borrow.{Bor}
 use Rattle.std.specs.BTreeMap.{BTreeMap, get}
 use Rattle.std.specs.List.{Contains}

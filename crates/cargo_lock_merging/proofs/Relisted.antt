@@ -1,10 +1,9 @@
 -- Lists of packages that are merged again: the places stay, where no list has two packages of one
 -- name without source.
-use Rattle.std.proofs.Common.{◌≡◌, ◌≢◌, ◌+◌, ◌≤◌, ◌⊎◌, inl, inr, ℕ, suc, Bool, true, false, cond, List, [], ◌∷◌, ◌<◌, get_or, length, Option, Some, None, option_map, refl, sym, ap, subst, ◌∙◌, arith}
+use Rattle.std.proofs.Common.{◌≡◌, ◌≢◌, ◌≤◌, inl, inr, ℕ, suc, Bool, true, false, cond, List, [], ◌∷◌, ◌<◌, get_or, length, Option, Some, None, option_map, refl, sym, ap, ◌∙◌, arith}
 use Rattle.std.specs.Prelude.{bytes_eq, count_by, is_none, nat_lt}
-use Rattle.std.specs.List.{AllPairs, Contains, filter}
+use Rattle.std.specs.List.{AllPairs, filter}
 use Rattle.std.proofs.lemmas.Bool.{and_parts, cases_Bool, le-ltb, or_from, or_parts}
-use Rattle.std.proofs.lemmas.List.Elements.{Contains-append_right}
 use Rattle.std.proofs.lemmas.List.Sums.{length-filter}
 use Rattle.std.proofs.lemmas.Slice.Eq.{bytes_eq-Decides}
 use Rattle.cargo_lock_parts.specs.Identity.{Identity, PackageData}
@@ -15,7 +14,6 @@ use Rattle.cargo_lock_merging.specs.Placed.{PlacedData}
 use Rattle.cargo_lock_merging.specs.Places.{ArePlaced, IsMergeOf, IsPlaceIn, IsPlaced, IsReplacementIn, Place, has_several, is_member_named, place_of, version_in}
 use Rattle.cargo_lock_merging.proofs.Soundness.{lists-lockfiles}
 use Rattle.cargo_lock_merging.proofs.Stable.{merge-again, merge-again-theirs}
-use Rattle.cargo_lock_merging.proofs.Zipping.{at-head, head-or, nothing-in}
 
 -- ---- packages of one name without source
 

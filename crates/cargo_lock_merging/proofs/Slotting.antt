@@ -1,25 +1,24 @@
 -- The packages of a list at numbered places.
-use Rattle.std.proofs.Common.{◌≡◌, ◌≢◌, ◌<◌, ◌≤◌, ◌+◌, ◌↔◌, ◌⊎◌, ◌++◌, inl, inr, ℕ, Bool, nat_lt, if◌then◌else◌, List, [], ◌∷◌, length, get_or, map, replicate, set, slice_get, unwrap_or, Option, Some, None, option_map, refl, sym, ap, subst, ◌∙◌, arith}
-use Rattle.std.specs.List.{All, AllPairs, Contains}
+use Rattle.std.proofs.Common.{◌≡◌, ◌≢◌, ◌<◌, ◌+◌, ◌⊎◌, ◌++◌, inl, inr, ℕ, Bool, nat_lt, if◌then◌else◌, List, [], ◌∷◌, length, get_or, map, replicate, set, slice_get, Option, Some, None, option_map, refl, sym, ap, subst, ◌∙◌, arith}
+use Rattle.std.specs.List.{AllPairs, Contains}
 use Rattle.std.specs.List.Sorted.{IsStrictlyIncreasing}
 use Rattle.std.proofs.lemmas.Bool.{cases_Bool, cases_eq, ltb-true, ltb-false}
 use Rattle.std.proofs.lemmas.List.{get_or-map, get_or-replicate, get_or-set_other, get_or-set_same, length-map, length-replicate}
 use Rattle.std.proofs.Math.ListN.{length-set}
 use Rattle.std.proofs.lemmas.List.Elements.{Contains-append_cases, Contains-append_left, Contains-append_right, Contains-get_or}
 use Rattle.semver.specs.Parse.{Parts}
-use Rattle.std.proofs.lemmas.List.Kept.{AllPairs-from_increasing}
 use Rattle.std.proofs.lemmas.Option.{get_or_from_slice_get, same_Some, slice_get-get_or, slice_get_past, slice_get_within}
 use Rattle.cargo_lock_parts.specs.Identity.{Identity, IdentityKey, PackageData, identity_key, identity_of}
 use Rattle.cargo_lock_parts.specs.Source.{Source, is_git}
 use Rattle.cargo_lock_parts.specs.SourceKey.{Key, key_of}
-use Rattle.cargo_lock_graph.specs.Targets.{IsLastBelow, IsTarget}
+use Rattle.cargo_lock_graph.specs.Targets.{IsLastBelow}
 use Rattle.cargo_lock_merging.specs.Commits.{Lockfiles, key_without_commit}
-use Rattle.cargo_lock_merging.specs.Linked.{IsAlone, IsTargetOf}
-use Rattle.cargo_lock_merging.specs.Lists.{AreNumbered, AreNumberedFrom, AreSlots, BeginsAt, HasReplacement, IsLastAt, IsNumber, IsNumberAt, IsNumberedAt, no_place, place_at}
+use Rattle.cargo_lock_merging.specs.Linked.{IsAlone}
+use Rattle.cargo_lock_merging.specs.Lists.{AreNumbered, AreSlots, BeginsAt, HasReplacement, IsLastAt, IsNumber, IsNumberAt, IsNumberedAt, no_place, place_at}
 use Rattle.cargo_lock_merging.specs.Numbered.{places_of}
 use Rattle.cargo_lock_merging.specs.Numbered as numbered
 use Rattle.cargo_lock_merging.specs.Placed.{HasOneAtEach, PlacedData}
-use Rattle.cargo_lock_merging.specs.Places.{ArePlaced, IsPlaced, IsPlaceIn, IsReplacementIn, Place, has_several, line_of, place_of, version_in}
+use Rattle.cargo_lock_merging.specs.Places.{IsPlaced, IsReplacementIn, Place, has_several, line_of, place_of, version_in}
 use Rattle.cargo_lock_merging.specs.Refusals.{AreAtOnePlace}
 use Rattle.cargo_lock_merging.specs.Renaming.{Has, rename, rename_all}
 use Rattle.cargo_lock_merging.proofs.Ascending.{far-below, up-push}
@@ -233,8 +232,7 @@ module _ (places : List Place) (offset : ℕ) (packages : List PackageData) (slo
           let (t, target) = one.found i depends in
           let q = target.fits.0 in
           let at = target.fits.1 in
-          let (n, number) = are.all_there t (slice_get_within packages t q at) in
-          (
+          let (n, number) = are.all_there t (slice_get_within packages t q at) in (
             place_at places n,
             (t, q, target, at, to-place t n q at number),
             in-map (place_at places) x.dependencies n ((one.dependencies (alone k x one) n).1 (t, (i, depends, target), number)),
@@ -324,13 +322,13 @@ module _ (places : List Place) (offset : ℕ) where
     long = ap length is ∙ length-replicate (length places) None;
     each = λ n i. (
       λ at. absurd (
-        let filled : List (Option ℕ) = replicate (length places) None in
-        let there : slice_get filled n ≡ Some (Some i) = ap (λ (xs : List (Option ℕ)). slice_get xs n) (sym is) ∙ at in
-        let low = slice_get_within filled n (Some i) there in
-        let long : length filled ≡ length places = length-replicate (length places) None in
-        let e : None ≡ Some i = sym (get_or-replicate (length places) n None (Some i) (omega (arith, low, long))) ∙ get_or_from_slice_get filled n (Some i) (Some i) there in
-        cc
-      ),
+          let filled : List (Option ℕ) = replicate (length places) None in
+          let there : slice_get filled n ≡ Some (Some i) = ap (λ (xs : List (Option ℕ)). slice_get xs n) (sym is) ∙ at in
+          let low = slice_get_within filled n (Some i) there in
+          let long : length filled ≡ length places = length-replicate (length places) None in
+          let e : None ≡ Some i = sym (get_or-replicate (length places) n None (Some i) (omega (arith, low, long))) ∙ get_or_from_slice_get filled n (Some i) (Some i) there in
+          cc
+          ),
       λ h. absurd (omega (arith, h.0)),
     );
     all_there = λ i low. absurd (omega (arith, low));

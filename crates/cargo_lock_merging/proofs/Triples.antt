@@ -1,5 +1,5 @@
 -- The three lists of a merge, one after the other.
-use Rattle.std.proofs.Common.{◌≡◌, ◌<◌, ◌≤◌, ◌+◌, ◌++◌, ℕ, List, Some, length, get_or, map, slice_get, refl, sym, ap, subst, ◌∙◌, arith}
+use Rattle.std.proofs.Common.{◌≡◌, ◌+◌, ◌++◌, ℕ, List, Some, length, get_or, map, slice_get, refl, sym, ap, subst, ◌∙◌, arith}
 use Rattle.std.proofs.lemmas.List.{get_or_append_left, get_or-append-add, length-append, length-map}
 use Rattle.std.proofs.lemmas.Option.{get_or_from_slice_get, slice_get-get_or, slice_get-map, slice_get_within}
 use Rattle.cargo_lock_parts.specs.Identity.{PackageData}
@@ -55,7 +55,7 @@ begin-at all places is =
     let one = length-append all.base all.ours in
     let two = length-append (all.base ++ all.ours) all.theirs in
     let to : (n : ℕ) (p : PackageData) → slice_get (all_of all) n ≡ Some p → slice_get places n ≡ Some (place_of all p) = λ n p at.
-        ap (λ (ps : List Place). slice_get ps n) is ∙ placed all (all_of all) n p at in
+    ap (λ (ps : List Place). slice_get ps n) is ∙ placed all (all_of all) n p at in
     record {
       base = record { fits = omega (arith, long, one, two); here = λ k p at. ap (slice_get places) (omega arith) ∙ to k p (first all.base all.ours all.theirs k p at) };
       ours = record { fits = omega (arith, long, one, two); here = λ k p at. to (length all.base + k) p (between all.base all.ours all.theirs k p at) };

@@ -1,6 +1,6 @@
 -- The places of packages in lockfiles: what Cargo has at most one package for.
 use Rattle.std.specs.Prelude.{◌≡◌, ◌≢◌, ◌==◌, ◌&&◌, ◌∷◌, ℕ, Bool, List, [], Option, Some, None}
-use Rattle.std.specs.Prelude.{bytes_eq, count_by, if◌then◌else◌, is_none, length, nat_lt}
+use Rattle.std.specs.Prelude.{bytes_eq, count_by, if◌then◌else◌, is_none, nat_lt}
 use Rattle.std.specs.Prelude.{option_map, slice_get}
 use Rattle.std.specs.List.{AllPairs, Contains, list_any}
 use Rattle.semver.specs.Parse.{Parts}

@@ -14,7 +14,7 @@ use Rattle.cargo_lock_merging.specs.declared.refusal.Refusal.TheVariants.{Lost, 
 use Rattle.cargo_lock_merging.specs.declared.refusal.Refusal.TheVariants.{Unreplaced}
 use Rattle.cargo_lock_merging.specs.declared.refusal.Fault.{Fault}
 use Rattle.cargo_lock_merging.specs.declared.refusal.Fault.TheVariants.{Memory, Refused}
-use Rattle.cargo_lock_merging.specs.Commits.{HasCommit, Lockfiles, git_in, key_without_commit}
+use Rattle.cargo_lock_merging.specs.Commits.{HasCommit, Lockfiles, key_without_commit}
 use Rattle.cargo_lock_merging.specs.Lists.{BeginsAt}
 use Rattle.cargo_lock_merging.specs.Places.{Place, place_of}
 

@@ -19,6 +19,6 @@ pub mod refusal;
 mod repositories;
 pub mod rows;
 pub mod rule3;
-pub mod triple;
 pub mod sets;
+pub mod triple;
 pub mod values;

@@ -85,10 +85,16 @@ impl<'a> Sides<'a> {
         ours: &'a Vec<Package>,
         theirs: &'a Vec<Package>,
     ) -> Result<Sides<'a>, Stop<'a>>
-        ensures ok { IfOk result (λ sides. AreSidesOf (record { base = base.now.items;
-            ours = ours.now.items; theirs = theirs.now.items }) (triple_in sides)) }
-        ensures err { IfErr result (IsStop (record { base = base.now.items;
-            ours = ours.now.items; theirs = theirs.now.items })) }
+        ensures ok { IfOk result (λ sides. AreSidesOf (record {
+          base = base.now.items;
+          ours = ours.now.items;
+          theirs = theirs.now.items;
+        }) (triple_in sides)) }
+        ensures err { IfErr result (IsStop (record {
+          base = base.now.items;
+          ours = ours.now.items;
+          theirs = theirs.now.items;
+        })) }
     {
         let lists = Lists { base, ours, theirs };
         let spots = spots(alloc, &lists)?;
@@ -105,13 +111,22 @@ fn numbered_sides<'a>(
     ours: &'a Vec<Package>,
     theirs: &'a Vec<Package>,
 ) -> Result<Sides<'a>, Stop<'a>>
-    requires begin { BeginAt (record { base = base.now.items; ours = ours.now.items;
-        theirs = theirs.now.items }) numbers.now }
+    requires begin { BeginAt (record {
+      base = base.now.items;
+      ours = ours.now.items;
+      theirs = theirs.now.items;
+    }) numbers.now }
     requires small { length numbers.now < 2 ^ 64 }
-    ensures ok { IfOk result (λ sides. AreSides (record { base = base.now.items;
-        ours = ours.now.items; theirs = theirs.now.items }) numbers.now (triple_in sides)) }
-    ensures err { IfErr result (IsStop (record { base = base.now.items; ours = ours.now.items;
-        theirs = theirs.now.items })) }
+    ensures ok { IfOk result (λ sides. AreSides (record {
+      base = base.now.items;
+      ours = ours.now.items;
+      theirs = theirs.now.items;
+    }) numbers.now (triple_in sides)) }
+    ensures err { IfErr result (IsStop (record {
+      base = base.now.items;
+      ours = ours.now.items;
+      theirs = theirs.now.items;
+    })) }
 {
     let first = base.len();
     let second = first + ours.len();

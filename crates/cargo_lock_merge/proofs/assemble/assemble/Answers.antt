@@ -1,4 +1,4 @@
-use Rattle.std.proofs.Common.{◌≡◌, ◌∙◌, ℕ, List, map, subst, sym}
+use Rattle.std.proofs.Common.{ℕ, List, map}
 use Rattle.cargo_lock_merging.specs.Assembled.{IsAssembled}
 use Rattle.cargo_lock_merging.specs.Merged.{merged_data}
 use Rattle.cargo_lock_merging.specs.Placed.{PlacedData}

@@ -1,6 +1,5 @@
-use Rattle.std.proofs.Common.{◌≡◌, ◌∙◌, ◌↔◌, ℕ, List, ap, map, refl, subst, sym}
+use Rattle.std.proofs.Common.{◌∙◌, ◌↔◌, ℕ, List, map, refl, subst}
 use Rattle.std.specs.List.{Contains}
-use Rattle.cargo_lock_parts.specs.Identity.{Identity, identity_of}
 use Rattle.cargo_lock_merging.specs.Assembled.{IsIdentityAt}
 use Rattle.cargo_lock_merging.specs.Merged.{merged_data}
 use Rattle.cargo_lock_merging.specs.Placed.{PlacedData}

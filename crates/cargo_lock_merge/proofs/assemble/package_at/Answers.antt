@@ -1,6 +1,5 @@
-use Rattle.std.proofs.Common.{◌≡◌, ◌∙◌, ℕ, List, ap, refl, slice_get, subst, sym}
+use Rattle.std.proofs.Common.{◌∙◌, ℕ, List, ap, slice_get, subst, sym}
 use Rattle.std.specs.List.{Contains}
-use Rattle.cargo_lock_merging.specs.declared.merged.Merged.{Merged}
 use Rattle.cargo_lock_merge.proofs.Assembling.{none-at, some-at}
 use Rattle.cargo_lock_merge.proofs.assemble.package_at.Goals as goal
 

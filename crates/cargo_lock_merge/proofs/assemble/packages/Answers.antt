@@ -1,4 +1,4 @@
-use Rattle.std.proofs.Common.{◌≡◌, ℕ, List, arith, length, map, subst}
+use Rattle.std.proofs.Common.{ℕ, List, arith, map, subst}
 use Rattle.std.specs.List.{AllZip}
 use Rattle.std.proofs.lemmas.List.{take_all}
 use Rattle.cargo_lock_merging.specs.Assembled.{IsAssembled}

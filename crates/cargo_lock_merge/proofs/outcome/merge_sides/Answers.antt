@@ -1,18 +1,14 @@
-use Rattle.std.proofs.Common.{◌≡◌, ◌∙◌, ℕ, List, Option, ap, option_map, subst, sym}
+use Rattle.std.proofs.Common.{◌≡◌, ◌∙◌, ℕ, List, ap, option_map, subst, sym}
 use Rattle.std.proofs.lemmas.Result.{IfOk-weaker}
-use Rattle.cargo_lock_parts.specs.Identity.{PackageData}
 use Rattle.cargo_lock_merging.specs.declared.lists.Numbered.{Numbered}
 use Rattle.cargo_lock_merging.specs.declared.placed.Placed.{Placed}
-use Rattle.cargo_lock_merging.specs.Commits.{Lockfiles}
 use Rattle.cargo_lock_merging.specs.Lists.{all_numbered}
 use Rattle.cargo_lock_merging.specs.Merge.{Triple}
-use Rattle.cargo_lock_merging.specs.Merged.{HasPlan}
 use Rattle.cargo_lock_merging.specs.Numbered.{all_data}
 use Rattle.cargo_lock_merging.specs.Placed.{PlacedData}
 use Rattle.cargo_lock_merging.specs.Plans.{IsNumbered, IsPlan, triple_of}
-use Rattle.cargo_lock_merging.specs.Triples.{AreSidesOf, triple_in}
+use Rattle.cargo_lock_merging.specs.Triples.{triple_in}
 use Rattle.cargo_lock_merging.proofs.Assembling.{list-numbered}
-use Rattle.cargo_lock_merge.specs.Outcome.{Finds, IsAssembledOf}
 use Rattle.cargo_lock_merge.proofs.Outcomes.{finds, has-plan}
 use Rattle.cargo_lock_merge.proofs.outcome.merge_sides.Goals as goal
 

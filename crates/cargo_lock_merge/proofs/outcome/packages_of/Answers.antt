@@ -1,8 +1,8 @@
-use Rattle.std.proofs.Common.{◌≡◌, ◌∙◌, ℕ, IfSome, List, MatchOption, Option, Some, None, map, subst, sym}
+use Rattle.std.proofs.Common.{◌≡◌, ℕ, IfSome, List, MatchOption, Option, Some, None, map, subst, sym}
 use Rattle.std.specs.List.Sorted.{IsStrictlyIncreasing}
 use Rattle.cargo_lock_merging.specs.declared.merged.Merged.{Merged}
 use Rattle.cargo_lock_merging.specs.Assembled.{AreAssembled}
-use Rattle.cargo_lock_merging.specs.Merge.{IsMerge, Triple}
+use Rattle.cargo_lock_merging.specs.Merge.{IsMerge}
 use Rattle.cargo_lock_merging.specs.Merged.{merged_data}
 use Rattle.cargo_lock_merging.specs.Placed.{PlacedData}
 use Rattle.cargo_lock_merge.specs.Assembling.{merged_places}
@@ -24,8 +24,7 @@ assemble-requires c =
 
 pub returns-in_ok-assemble-in-Some-clause-ok : goal.returns-in_ok-assemble-in-Some-clause-ok
 returns-in_ok-assemble-in-Some-clause-ok c = λ s h.
-    let ms : List Merged = c.in-Some.merged.items in
-    (
+    let ms : List Merged = c.in-Some.merged.items in (
       map merged_data ms,
       matched ((m : List (PlacedData ℕ)) → ¬ IsMerge s m) (λ v. IsMerge s (map merged_data v.items)) c.in_ok-merged.field-0 c.in-Some.merged c.in-Some.is (c.in_ok-merged.ensures.merge s h),
       subst (λ (zs : List Merged). AreAssembled (map merged_data zs) c.in_ok-assemble-in-Some.field-0.items) c.deref.ensures.value c.in_ok-assemble-in-Some.ensures.ok,

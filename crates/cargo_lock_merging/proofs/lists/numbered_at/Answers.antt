@@ -1,9 +1,6 @@
-use Rattle.std.proofs.Common.{◌≡◌, ◌∙◌, ◌+◌, ◌<◌, ℕ, List, Some, ap, arith, length, refl, rules, slice_get, subst, sym}
+use Rattle.std.proofs.Common.{◌+◌, ℕ, List, arith, subst, sym}
 use Rattle.std.specs.List.{Contains}
-use Rattle.std.proofs.lemmas.Option.{slice_get_read}
 use Rattle.cargo_lock_parts.specs.Identity.{PackageData}
-use Rattle.cargo_lock_merging.specs.Linked.{AreTargetsAt}
-use Rattle.cargo_lock_merging.specs.Lists.{HasReplacement, IsNumberAt}
 use Rattle.cargo_lock_merging.specs.Places.{Place}
 use Rattle.cargo_lock_merging.proofs.Slotting.{number-made}
 use Rattle.cargo_lock_merging.proofs.lists.numbered_at.Goals as goal

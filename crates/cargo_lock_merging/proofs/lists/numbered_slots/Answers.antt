@@ -1,12 +1,12 @@
-use Rattle.std.proofs.Common.{◌≡◌, ◌∙◌, ◌+◌, ◌<◌, ◌++◌, ◌∷◌, [], ℕ, List, Option, Some, None, ap, arith, length, map, refl, slice_get, subst, sym}
-use Rattle.std.proofs.lemmas.Option.{slice_get-get_or, slice_get_read}
+use Rattle.std.proofs.Common.{◌≡◌, ◌∙◌, ◌+◌, ℕ, List, Option, Some, ap, arith, length, subst, sym}
+use Rattle.std.proofs.lemmas.Option.{slice_get-get_or}
 use Rattle.cargo_lock_parts.specs.Identity.{PackageData}
 use Rattle.cargo_lock_merging.specs.declared.lists.Numbered.{Numbered}
 use Rattle.cargo_lock_merging.specs.Lists.{all_numbered, numbered_data}
 use Rattle.cargo_lock_merging.specs.Placed.{PlacedData}
 use Rattle.cargo_lock_merging.specs.Places.{Place}
 use Rattle.cargo_lock_merging.proofs.Planning.{map-push}
-use Rattle.cargo_lock_merging.proofs.Slotting.{AreFirst, are-numbered, first-pass, first-push, first-start}
+use Rattle.cargo_lock_merging.proofs.Slotting.{AreFirst, are-numbered, first-pass, first-push}
 use Rattle.cargo_lock_merging.proofs.lists.numbered_slots.Goals as goal
 use Rattle.cargo_lock_merging.proofs.lists.numbered_slots.Goals.{in-Some+in_ok-numbered+in_ok-push, in_default}
 

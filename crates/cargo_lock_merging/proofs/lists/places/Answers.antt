@@ -1,7 +1,6 @@
-use Rattle.std.proofs.Common.{◌≡◌, ◌∙◌, ◌+◌, ◌<◌, ◌≤◌, ℕ, List, Some, ap, arith, get_or, length, slice_get, subst, sym, take}
-use Rattle.std.specs.List.{All, AllZip, Contains}
+use Rattle.std.proofs.Common.{◌+◌, ℕ, List, arith, get_or, subst, sym, take}
+use Rattle.std.specs.List.{AllZip, Contains}
 use Rattle.std.proofs.lemmas.List.{get_or_default, take_all}
-use Rattle.std.proofs.lemmas.List.Elements.{All-contains}
 use Rattle.std.proofs.lemmas.List.Filters.{dedup_is}
 use Rattle.std.proofs.lemmas.List.Kept.{Contains-dedup_nat, Contains-from_dedup}
 use Rattle.std.proofs.lemmas.List.Sorted.{Contains-permutation, IsPermutation-sym}
@@ -37,8 +36,7 @@ returns-clause-are c n =
     let is = dedup_is _ _ _ c.dedup.ensures.filtered in
     let moved = c.sort_unstable.ensures.permutation in
     let end = c.loop-at-test.false in
-    let zip : AllZip R ks ns = subst (λ (js : List ℕ). AllZip R js ns) (take_all c.loop-at.at-index ks (omega (arith, end))) c.loop-at.invariant in
-    (
+    let zip : AllZip R ks ns = subst (λ (js : List ℕ). AllZip R js ns) (take_all c.loop-at.at-index ks (omega (arith, end))) c.loop-at.invariant in (
       λ h.
           let old = Contains-permutation _ _ n (IsPermutation-sym _ _ moved) (Contains-from_dedup _ _ n (rw is at h)) in
           let r = zip-right R ks ns n zip old in

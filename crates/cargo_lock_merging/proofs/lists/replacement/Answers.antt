@@ -1,4 +1,4 @@
-use Rattle.std.proofs.Common.{◌≡◌, ◌∙◌, ◌+◌, ◌<◌, ℕ, List, Option, Some, ap, arith, length, slice_get, subst, sym}
+use Rattle.std.proofs.Common.{◌∙◌, ◌+◌, ℕ, List, Option, Some, ap, arith, subst, sym}
 use Rattle.cargo_lock_parts.specs.Identity.{Identity, PackageData}
 use Rattle.cargo_lock_graph.specs.Targets.{IsLastWith}
 use Rattle.cargo_lock_merging.specs.Lists.{HasReplacement}

@@ -1,5 +1,5 @@
-use Rattle.std.proofs.Common.{◌≡◌, ◌∙◌, ◌+◌, ◌<◌, ◌≤◌, ℕ, List, Option, Some, None, ap, arith, get_or, length, refl, rules, slice_get, subst, sym}
-use Rattle.std.proofs.lemmas.Option.{slice_get-get_or, slice_get_read}
+use Rattle.std.proofs.Common.{◌≡◌, ◌∙◌, ◌+◌, ◌<◌, ◌≤◌, ℕ, List, Option, Some, None, ap, arith, get_or, length, refl, rules, slice_get, subst}
+use Rattle.std.proofs.lemmas.Option.{slice_get_read}
 use Rattle.cargo_lock_parts.specs.Identity.{PackageData}
 use Rattle.cargo_lock_merging.specs.Lists.{AreSlots, IsLastAt, IsNumberAt}
 use Rattle.cargo_lock_merging.specs.Places.{Place}

@@ -1,10 +1,6 @@
-use Rattle.std.proofs.Common.{◌≡◌, ◌∙◌, ℕ, IfSome, List, Option, Some, None, ap, refl, subst, sym}
-use Rattle.std.specs.Borrow.{Bor}
+use Rattle.std.proofs.Common.{refl}
 use Rattle.std.specs.BTreeMap.{get}
-use Rattle.std.proofs.lemmas.Option.{same_Some}
-use Rattle.cargo_lock_parts.specs.Source.{Source}
-use Rattle.cargo_lock_parts.specs.SourceKey.{key_of, source_cmp}
-use Rattle.cargo_lock_merging.specs.CommitMaps.{commit_if}
+use Rattle.cargo_lock_parts.specs.SourceKey.{source_cmp}
 use Rattle.cargo_lock_merging.proofs.Faults.{anyhow}
 use Rattle.cargo_lock_merging.proofs.Putting.{put-git}
 use Rattle.cargo_lock_merging.proofs.repositories.put_once.Goals as goal
@@ -13,8 +9,8 @@ pub returns-in-Some-2-clause-put : goal.returns-in-Some-2-clause-put
 returns-in-Some-2-clause-put c =
     let p = c.args.«package».now in
     anyhow c.same_commit.result (λ s bare.
-        put-git p c.in-Some.source.now c.in_ok-bare.bare s (get source_cmp c.args.commits.now s) (get source_cmp c.insert.new.self s) c.in-Some.source
-        c.in-Some.ensures.0 refl c.in-Some.ensures.1 c.in_ok-bare.ensures.ok (c.in_ok-other.ensures.updates.0 s))
+    put-git p c.in-Some.source.now c.in_ok-bare.bare s (get source_cmp c.args.commits.now s) (get source_cmp c.insert.new.self s) c.in-Some.source
+    c.in-Some.ensures.0 refl c.in-Some.ensures.1 c.in_ok-bare.ensures.ok (c.in_ok-other.ensures.updates.0 s))
 
 pub returns-in-None-2-clause-put : goal.returns-in-None-2-clause-put
 returns-in-None-2-clause-put c = λ s bare.

@@ -3,10 +3,8 @@ use Rattle.cargo_lock_parts.specs.Identity.{PackageData}
 use Rattle.cargo_lock_merging.specs.Commits.{Lockfiles}
 use Rattle.cargo_lock_merging.specs.Lists.{BeginsAt}
 use Rattle.cargo_lock_merging.specs.Places.{Place}
-use Rattle.cargo_lock_merging.specs.Triples.{IsSideStop, IsStop, list_of}
-use Rattle.cargo_lock_merging.specs.declared.triple.Role.{Role}
+use Rattle.cargo_lock_merging.specs.Triples.{IsStop}
 use Rattle.cargo_lock_merging.specs.declared.triple.Role.TheVariants.{Base, Ours, Theirs}
-use Rattle.cargo_lock_merging.specs.declared.triple.Stop.{Stop}
 use Rattle.cargo_lock_merging.proofs.Faults.{passed}
 use Rattle.cargo_lock_merging.proofs.Triples.{stop-of}
 use Rattle.cargo_lock_merging.proofs.triple.numbered_sides.Goals as goal

@@ -1,7 +1,7 @@
-use Rattle.std.proofs.Common.{◌≡◌, ◌∙◌, List, ap, map, subst, sym}
+use Rattle.std.proofs.Common.{◌≡◌, ◌∙◌, ap, map}
 use Rattle.cargo_lock_merging.specs.Commits.{Lockfiles}
 use Rattle.cargo_lock_merging.specs.Numbers.{all_of, spot_places}
-use Rattle.cargo_lock_merging.specs.Places.{Place, place_of}
+use Rattle.cargo_lock_merging.specs.Places.{place_of}
 use Rattle.cargo_lock_merging.proofs.Triples.{begin-at}
 use Rattle.cargo_lock_merging.proofs.triple.Sides.of.Goals as goal
 
