@@ -11,7 +11,8 @@ use Rattle.cargo_lock_graph.specs.Targets.{IsLastWith}
 use Rattle.cargo_lock_graph.proofs.BestCandidates.{exact-target}
 use Rattle.cargo_lock_merging.specs.Assembled.{AreSides, AssembledAreMerge, IsAssembled, IsIdentityAt, IsIdentityAtIf}
 use Rattle.cargo_lock_merging.specs.Choices.{IsChecksum, IsOfSide, IsReplacement}
-use Rattle.cargo_lock_merging.specs.Commits.{HasCommit, HasOneCommitEach, Lockfiles}
+use Rattle.cargo_lock_merging.specs.Commits.{HasCommit, HasOneCommitEach, Lockfiles, key_without_commit}
+use Rattle.cargo_lock_merging.specs.Linked.{IsStatedAt}
 use Rattle.cargo_lock_merging.specs.Lists.{AreNumbered, IsNumber, place_at}
 use Rattle.cargo_lock_merging.specs.Merge.{IsMerge, IsMergedPackage, LeadsTo, Triple}
 use Rattle.cargo_lock_merging.specs.Placed.{HasAt, HasOneAtEach, IsAt, PlacedData, contents_of}
@@ -45,7 +46,7 @@ module _ (all : Lockfiles) (places : List Place) (packages : List PackageData) (
   pub list-closed : IsClosed xs
   list-closed x d among (inl depends) =
       let (there, placed) = content-in x among in
-      let (i, listed, (k, q, target, at, is)) = placed.dependencies (place_at places d) (in-map (place_at places) x.dependencies d depends) in
+      let (i, listed, (k, q, refers, at, is)) = placed.dependencies (place_at places d) (in-map (place_at places) x.dependencies d depends) in
       number-of q d (got-in packages k q at) (are.numbers d (x, among, inr (inl depends))) is
   list-closed x d among (inr replaced) =
       let (there, placed) = content-in x among in
@@ -53,7 +54,7 @@ module _ (all : Lockfiles) (places : List Place) (packages : List PackageData) (
     where
       by : (r : Option Identity) → IsReplacementIn all packages r (Some (place_at places d)) → (y : PlacedData ℕ) × HasAt xs d y
       by None e = absurd cc
-      by (Some i) (q, there, has, is) = number-of q d there (are.numbers d (x, among, inr (inr replaced))) is
+      by (Some i) (k, q, stated, at, is) = number-of q d (got-in packages k q at) (are.numbers d (x, among, inr (inr replaced))) is
 
   commit-in-list : (g : _) (c : _) → HasCommit (contents_of xs) g c → HasCommit packages g c
   commit-in-list g c (p, among, at) =
@@ -256,17 +257,13 @@ module _ (all : Lockfiles) (places : List Place) (s : Triple ℕ) (sides : AreSi
           let (k, here) = in-got ps q listed in
           (k, q, here, ap (place_at places) (sym at.1) ∙ merged-place y q at.0 built.identity, built.identity ∙ sym is)
 
-      no-other : (j k : ℕ) (p q : PackageData) → slice_get ps j ≡ Some p → slice_get ps k ≡ Some q → place_of all p ≡ place_of all q → ¬ (j < k)
-      no-other j k p q at-j at-k same less =
-          let low = slice_get_within ps k q at-k in
-          one-each j k p less low (ap (place_of all) (get_or_from_slice_get ps j p p at-j) ∙ same ∙ sym (ap (place_of all) (get_or_from_slice_get ps k q p at-k)))
-
-      last-with : (k : ℕ) (q : PackageData) (i : Identity) → slice_get ps k ≡ Some q → identity_of q ≡ i → IsLastWith ps i (Some k)
-      last-with k q i here is = (
-        slice_get_within ps k q here,
-        (q, here, ap identity_key is),
-        λ j more low held. no-other k j q held.0 here held.1 (place-of-key all q held.0 (ap identity_key is ∙ sym held.2)) more,
-      )
+      stated-by : (k : ℕ) (q : PackageData) (i : Identity) → slice_get ps k ≡ Some q → identity_of q ≡ i → IsStatedAt ps i k
+      stated-by k q i here is = record {
+        one = q;
+        here = here;
+        named = record { name = ap (λ (j : Identity). j.name) (sym is); version = ap (λ (j : Identity). j.version) (sym is) };
+        source = ap (λ (j : Identity). option_map key_without_commit j.source) is;
+      }
 
       built-placed : (x : PlacedData ℕ) (p : PackageData) → Contains m x → IsAssembled m x p → IsPlaced all ps p (put x p)
       unfolding put
@@ -276,13 +273,13 @@ module _ (all : Lockfiles) (places : List Place) (s : Triple ℕ) (sides : AreSi
         found = λ i listed.
             let (n, depends, named) = (built.dependencies i).0 listed in
             let (k, q, here, is, same) = target-of n i named in
-            (place_at places n, (k, q, exact-target ps i k (last-with k q i here same), here, is), in-map (place_at places) x.dependencies n depends);
+            (place_at places n, (k, q, inl (stated-by k q i here same), here, is), in-map (place_at places) x.dependencies n depends);
         dependencies = λ d listed.
             let (n, depends, is) = map-in (place_at places) x.dependencies d listed in
             let (y, at) = depends-merged x n among depends in
             let i = identity_of y.content in
             let (k, q, here, place, same) = target-of n i (y, at, refl) in
-            (i, (built.dependencies i).1 (n, depends, (y, at, refl)), (k, q, exact-target ps i k (last-with k q i here same), here, sym is ∙ place));
+            (i, (built.dependencies i).1 (n, depends, (y, at, refl)), (k, q, inl (stated-by k q i here same), here, sym is ∙ place));
         replacement = by x.replacement p.replace refl built.replacement;
       }
         where
@@ -291,7 +288,7 @@ module _ (all : Lockfiles) (places : List Place) (s : Triple ℕ) (sides : AreSi
           by (Some n) None is e = absurd (let y = replaced-merged x n among is in e y.0 y.1)
           by (Some n) (Some i) is e =
               let (k, q, here, is, same) = target-of n i e in
-              (q, got-in ps k q here, ap identity_key same, is)
+              (k, q, stated-by k q i here same, here, is)
 
       are-placed : ArePlaced all ps (made xs ps)
       unfolding put

@@ -79,7 +79,7 @@ module _ (all all' : Lockfiles) (same : (p : PackageData) → place_of all p ≡
   replaced : (packages : List PackageData) (i : Option Identity) (p : Option Place) → IsReplacementIn all packages i p → IsReplacementIn all' packages i p
   replaced packages None p h = h
   replaced packages (Some i) None h = h
-  replaced packages (Some i) (Some p) (q, among, has, is) = (q, among, has, is ∙ same q)
+  replaced packages (Some i) (Some p) (k, q, stated, at, is) = (k, q, stated, at, is ∙ same q)
 
   is-placed : (packages : List PackageData) (p : PackageData) (x : PlacedData Place) → IsPlaced all packages p x → IsPlaced all' packages p x
   is-placed packages p x h = record {

@@ -13,15 +13,18 @@ use Rattle.cargo_lock_parts.specs.Source.{Source, is_git}
 use Rattle.cargo_lock_parts.specs.SourceKey.{Key, key_of}
 use Rattle.cargo_lock_graph.specs.Targets.{IsLastBelow}
 use Rattle.cargo_lock_merging.specs.Commits.{Lockfiles, key_without_commit}
-use Rattle.cargo_lock_merging.specs.Linked.{IsAlone}
-use Rattle.cargo_lock_merging.specs.Lists.{AreNumbered, AreSlots, BeginsAt, HasReplacement, IsLastAt, IsNumber, IsNumberAt, IsNumberedAt, no_place, place_at}
+use Rattle.cargo_lock_merging.specs.Linked.{AreStatedOnce, IsAlone}
+use Rattle.cargo_lock_merging.specs.Lists.{IsReplaced, place_in, AreNumbered, AreSlots, BeginsAt, HasReplacement, IsLastAt, IsNumber, IsNumberAt, IsNumberedAt, no_place, place_at}
 use Rattle.cargo_lock_merging.specs.Numbered.{places_of}
 use Rattle.cargo_lock_merging.specs.Numbered as numbered
 use Rattle.cargo_lock_merging.specs.Placed.{HasOneAtEach, PlacedData}
 use Rattle.cargo_lock_merging.specs.Places.{IsPlaced, IsReplacementIn, Place, has_several, line_of, place_of, version_in}
-use Rattle.cargo_lock_merging.specs.Refusals.{AreAtOnePlace}
+use Rattle.cargo_lock_merging.specs.Refusals.{AreAtOnePlace, IsUnreplaced}
+use Rattle.cargo_lock_merging.specs.declared.lists.Replaced.{Replaced}
+use Rattle.cargo_lock_merging.specs.declared.lists.Replaced.TheVariants.{At, Lost, Not}
 use Rattle.cargo_lock_merging.specs.Renaming.{Has, rename, rename_all}
 use Rattle.cargo_lock_merging.proofs.Ascending.{far-below, up-push}
+use Rattle.cargo_lock_merging.proofs.Linking.{refers-within}
 use Rattle.cargo_lock_merging.proofs.Members.{contains-cases, first-in, got-in, in-got, in-map, map-in, none-in}
 use Rattle.cargo_lock_merging.proofs.Planning.{map-push}
 
@@ -130,6 +133,21 @@ place-is all p = λ i. record {
 pub place-of-key : (all : Lockfiles) (p q : PackageData) → identity_key (identity_of p) ≡ identity_key (identity_of q) → place_of all p ≡ place_of all q
 place-of-key all p q same = place-is all p ∙ ap (place-by all) same ∙ sym (place-is all q)
 
+-- packages of one name, version and source but for the commit are at one place
+version-bare : (several : Bool) (version : Parts) (s : Option Source) → version_in several version s ≡ version-by several version (option_map key_without_commit s)
+unfolding version-by
+version-bare several version None = refl
+version-bare several version (Some s) = refl
+
+pub place-stated : (all : Lockfiles) (p q : PackageData) → p.name ≡ q.name → p.version ≡ q.version → option_map key_without_commit p.source ≡ option_map key_without_commit q.source → place_of all p ≡ place_of all q
+place-stated all p q name version source = λ i. record {
+  name = name i;
+  version = (version-bare (has_several all p.name) p.version p.source
+      ∙ (λ j. version-by (has_several all (name j)) (version j) (source j))
+      ∙ sym (version-bare (has_several all q.name) q.version q.source)) i;
+  source = source i;
+}
+
 -- ---- the packages of the first numbers
 
 -- the packages at the numbers below i
@@ -193,6 +211,11 @@ module _ (places : List Place) (offset : ℕ) (packages : List PackageData) (slo
   -- ---- all packages
 
   module _ (xs : List (PlacedData ℕ)) (are : AreSlots places offset (length packages) slots) (h : AreFirst places offset packages slots (length places) xs) (all : Lockfiles) (begins : BeginsAt all places packages offset) where
+    -- packages of one name, version and source but for the commit are at one place
+    stated-once : AreStatedOnce packages
+    stated-once i j k a b = one-there places offset packages slots are all begins j k a.one b.one a.here b.here
+        (place-stated all a.one b.one (sym a.named.name ∙ b.named.name) (sym a.named.version ∙ b.named.version) (a.source ∙ sym b.source))
+
     alone : (k : ℕ) (x : PlacedData ℕ) → IsNumberedAt places offset packages k x → IsAlone packages k x.content
     alone k x one = alone-there places offset packages slots are all begins k x.content one.content (λ q keys. place-of-key all q x.content keys)
 
@@ -203,7 +226,7 @@ module _ (places : List Place) (offset : ℕ) (packages : List PackageData) (slo
     depends-number : (x : PlacedData ℕ) (n : ℕ) → Contains xs x → Contains x.dependencies n → IsNumber places n
     depends-number x n among depends =
         let (k, at, one) = h.each x among in
-        let (t, target, number) = (one.dependencies (alone k x one) n).0 depends in
+        let (t, target, number) = (one.dependencies (alone k x one) stated-once n).0 depends in
         number-is places (offset + t) n number
 
     replaced-number : (x : PlacedData ℕ) (n : ℕ) → Contains xs x → x.replacement ≡ Some n → IsNumber places n
@@ -229,19 +252,17 @@ module _ (places : List Place) (offset : ℕ) (packages : List PackageData) (slo
       place = to-place k x.place x.content one.content one.place;
       content = refl;
       found = λ i depends.
-          let (t, target) = one.found i depends in
-          let q = target.fits.0 in
-          let at = target.fits.1 in
+          let (t, target) = one.found (alone k x one) i depends in
+          let (q, at) = refers-within packages i t target in
           let (n, number) = are.all_there t (slice_get_within packages t q at) in (
             place_at places n,
             (t, q, target, at, to-place t n q at number),
-            in-map (place_at places) x.dependencies n ((one.dependencies (alone k x one) n).1 (t, (i, depends, target), number)),
+            in-map (place_at places) x.dependencies n ((one.dependencies (alone k x one) stated-once n).1 (t, (i, depends, target), number)),
           );
       dependencies = λ d among.
           let (n, depends, is) = map-in (place_at places) x.dependencies d among in
-          let (t, (i, listed, target), number) = (one.dependencies (alone k x one) n).0 depends in
-          let q = target.fits.0 in
-          let at = target.fits.1 in
+          let (t, (i, listed, target), number) = (one.dependencies (alone k x one) stated-once n).0 depends in
+          let (q, at) = refers-within packages i t target in
           (i, listed, (t, q, target, at, sym is ∙ to-place t n q at number));
       replacement = replaced x.content.replace x.replacement one.replacement;
     }
@@ -249,10 +270,7 @@ module _ (places : List Place) (offset : ℕ) (packages : List PackageData) (slo
         replaced : (r : Option Identity) (n : Option ℕ) → HasReplacement places offset packages r n → IsReplacementIn all packages r (option_map (place_at places) n)
         replaced None n e = ap (option_map (place_at places)) e
         replaced (Some i) None e = absurd e
-        replaced (Some i) (Some n) (t, last, number) =
-            let q = last.1.0 in
-            let at = last.1.1 in
-            (q, got-in packages t q at, last.1.2, to-place t n q at number)
+        replaced (Some i) (Some n) (t, stated, number) = (t, stated.one, stated, stated.here, to-place t n stated.one stated.here number)
 
     are-distinct : AllPairs (λ p q. place_of all p ≢ place_of all q) packages
     are-distinct i j d less low same =
@@ -404,3 +422,17 @@ module _ (places : List Place) (offset : ℕ) where
             ∙ place-one places (offset + other) (offset + i) n r.1 number
             ∙ same_Some number.place (place_of all q) (sym number.here ∙ begins.here i q at-q);
       }
+
+-- ---- what replaces a package
+
+pub replaced-has : (places : List Place) (offset : ℕ) (packages : List PackageData) (replace : Option Identity) (r : Replaced) → IsReplaced places offset packages replace r → r ≢ Lost
+    → HasReplacement places offset packages replace (place_in r)
+replaced-has places offset packages replace Not h other = subst (λ (o : Option Identity). HasReplacement places offset packages o None) (sym h) refl
+replaced-has places offset packages replace (At n) h other = h
+replaced-has places offset packages replace Lost h other = absurd (other refl)
+
+pub replaced-lost : (places : List Place) (offset : ℕ) (packages : List PackageData) (k : ℕ) (p : PackageData) (r : Replaced) → slice_get packages k ≡ Some p → IsReplaced places offset packages p.replace r → r ≡ Lost
+    → IsUnreplaced packages p
+replaced-lost places offset packages k p r at h is =
+    let l = subst (IsReplaced places offset packages p.replace) is h in
+    record { among = got-in packages k p at; identity = l.0; replaced = l.1; none = l.2 }

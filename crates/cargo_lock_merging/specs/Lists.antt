@@ -4,10 +4,12 @@ use Rattle.std.specs.Prelude.{map, slice_get, unwrap_or}
 use Rattle.std.specs.List.{All, Contains}
 use Rattle.std.specs.List.Sorted.{IsStrictlyIncreasing}
 use Rattle.cargo_lock_parts.specs.Identity.{Identity, PackageData}
-use Rattle.cargo_lock_graph.specs.Targets.{IsLastBelow, IsLastWith, IsTarget}
+use Rattle.cargo_lock_graph.specs.Targets.{IsLastBelow}
 use Rattle.cargo_lock_merging.specs.declared.lists.Numbered.{Numbered}
+use Rattle.cargo_lock_merging.specs.declared.lists.Replaced.{Replaced}
+use Rattle.cargo_lock_merging.specs.declared.lists.Replaced.TheVariants.{At, Lost, Not}
 use Rattle.cargo_lock_merging.specs.Commits.{Lockfiles}
-use Rattle.cargo_lock_merging.specs.Linked.{IsAlone, IsTargetOf}
+use Rattle.cargo_lock_merging.specs.Linked.{AreStatedOnce, IsAlone, IsStatedAt, IsTargetOf, RefersTo}
 use Rattle.cargo_lock_merging.specs.Numbered.{IsInOrder}
 use Rattle.cargo_lock_merging.specs.Placed.{PlacedData}
 use Rattle.cargo_lock_merging.specs.Places.{ArePlaced, Place, place_of}
@@ -63,12 +65,26 @@ numbered_data x = record {
 abbrev pub all_numbered : List Numbered → List (PlacedData ℕ)
 all_numbered = map numbered_data
 
--- the place of the replacement, which has the identity of a package
+-- the place of the replacement, which a package states
 abbrev pub HasReplacement : List Place → ℕ → List PackageData → Option Identity → Option ℕ → Type 0
 HasReplacement places offset packages None place = place ≡ None
 HasReplacement places offset packages (Some i) None = ⊥
-HasReplacement places offset packages (Some i) (Some n) = (k : ℕ) × IsLastWith packages i (Some k)
+HasReplacement places offset packages (Some i) (Some n) = (k : ℕ) × IsStatedAt packages i k
     × IsNumberAt places (offset + k) n
+
+-- what replaces a package, which states this, if anything
+abbrev pub IsReplaced : List Place → ℕ → List PackageData → Option Identity → Replaced → Type 0
+IsReplaced places offset packages replace Not = replace ≡ None
+IsReplaced places offset packages replace (At n) = HasReplacement places offset packages replace
+    (Some n)
+IsReplaced places offset packages replace Lost = (i : Identity) × (replace ≡ Some i)
+    × ((k : ℕ) → ¬ IsStatedAt packages i k)
+
+-- the place of what replaces a package
+abbrev pub place_in : Replaced → Option ℕ
+place_in Not = None
+place_in (At n) = Some n
+place_in Lost = None
 
 -- x is the package at an index, with the numbers of its place and of those that it refers to
 pub record IsNumberedAt (places : List Place) (offset : ℕ) (packages : List PackageData) (at : ℕ)
@@ -76,9 +92,9 @@ pub record IsNumberedAt (places : List Place) (offset : ℕ) (packages : List Pa
   pub place : IsNumberAt places (offset + at) x.place
   pub content : slice_get packages at ≡ Some x.content
   pub ascending : IsStrictlyIncreasing x.dependencies
-  pub found : (i : Identity) → Contains x.content.dependencies i
-      → (k : ℕ) × IsTarget packages i k
-  pub dependencies : IsAlone packages at x.content → (n : ℕ) → Contains x.dependencies n
+  pub found : IsAlone packages at x.content
+      → (i : Identity) → Contains x.content.dependencies i → (k : ℕ) × RefersTo packages i k
+  pub dependencies : IsAlone packages at x.content → AreStatedOnce packages → (n : ℕ) → Contains x.dependencies n
       ↔ ((k : ℕ) × IsTargetOf packages x.content k × IsNumberAt places (offset + k) n)
   pub replacement : HasReplacement places offset packages x.content.replace x.replacement
 

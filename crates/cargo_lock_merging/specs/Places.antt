@@ -7,8 +7,8 @@ use Rattle.semver.specs.Parse.{Parts}
 use Rattle.cargo_lock_parts.specs.Identity.{Identity, PackageData}
 use Rattle.cargo_lock_parts.specs.PartialIdentity.{PartialKey}
 use Rattle.cargo_lock_parts.specs.Source.{Source, is_git}
-use Rattle.cargo_lock_graph.specs.Targets.{HasIdentity, IsTarget}
 use Rattle.cargo_lock_merging.specs.Commits.{Lockfiles, key_without_commit}
+use Rattle.cargo_lock_merging.specs.Linked.{IsStatedAt, RefersTo}
 use Rattle.cargo_lock_merging.specs.Merge.{IsMerge, Triple}
 use Rattle.cargo_lock_merging.specs.Placed.{HasOneAtEach, PlacedData}
 
@@ -52,17 +52,17 @@ place_of all p = record {
   source = option_map key_without_commit p.source;
 }
 
--- the place of the package to which the identity resolves in the list
+-- the place of the package of the list to which the identity refers
 abbrev pub IsPlaceIn : Lockfiles → List PackageData → Identity → Place → Type 0
-IsPlaceIn all packages i p = (k : ℕ) × (q : PackageData) × IsTarget packages i k
+IsPlaceIn all packages i p = (k : ℕ) × (q : PackageData) × RefersTo packages i k
     × (slice_get packages k ≡ Some q) × (p ≡ place_of all q)
 
--- the place of the package that has the identity of a replacement
+-- the place of the package that a replacement states
 abbrev pub IsReplacementIn : Lockfiles → List PackageData → Option Identity → Option Place → Type 0
 IsReplacementIn all packages None p = p ≡ None
 IsReplacementIn all packages (Some i) None = ⊥
-IsReplacementIn all packages (Some i) (Some p) = (q : PackageData) × Contains packages q
-    × HasIdentity i q × (p ≡ place_of all q)
+IsReplacementIn all packages (Some i) (Some p) = (k : ℕ) × (q : PackageData)
+    × IsStatedAt packages i k × (slice_get packages k ≡ Some q) × (p ≡ place_of all q)
 
 -- x is the package at its place, with the places of its dependencies and of its replacement, each
 -- of which has its package

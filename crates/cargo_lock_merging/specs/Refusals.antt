@@ -8,13 +8,14 @@ use Rattle.cargo_lock_parts.specs.Source.{Source, is_git}
 use Rattle.cargo_lock_parts.specs.SourceKey.{source_cmp}
 use Rattle.cargo_lock_parts.specs.declared.error.Error.{Error}
 use Rattle.cargo_lock_parts.specs.declared.error.Error.TheVariants.{Resolution}
-use Rattle.cargo_lock_graph.specs.Targets.{IsLastWith, IsUnresolved, links}
+use Rattle.cargo_lock_graph.specs.Targets.{IsUnresolved, links}
 use Rattle.cargo_lock_merging.specs.declared.refusal.Refusal.{Refusal}
 use Rattle.cargo_lock_merging.specs.declared.refusal.Refusal.TheVariants.{Lost, OnePlace, TwoCommits}
 use Rattle.cargo_lock_merging.specs.declared.refusal.Refusal.TheVariants.{Unreplaced}
 use Rattle.cargo_lock_merging.specs.declared.refusal.Fault.{Fault}
 use Rattle.cargo_lock_merging.specs.declared.refusal.Fault.TheVariants.{Memory, Refused}
 use Rattle.cargo_lock_merging.specs.Commits.{HasCommit, Lockfiles, key_without_commit}
+use Rattle.cargo_lock_merging.specs.Linked.{IsStatedAt}
 use Rattle.cargo_lock_merging.specs.Lists.{BeginsAt}
 use Rattle.cargo_lock_merging.specs.Places.{Place, place_of}
 
@@ -34,19 +35,12 @@ pub record AreAtTwoCommits (packages : List PackageData) (a b : Source) : Type 0
   pub other : HasCommit packages (key_without_commit b) b.precise
   pub apart : a.precise ≢ b.precise
 
--- a package of the list is replaced, and no package has the identity of its replacement
+-- a package of the list is replaced, and no package is stated by its replacement
 pub record IsUnreplaced (packages : List PackageData) (p : PackageData) : Type 0 where
   pub among : Contains packages p
   pub identity : Identity
   pub replaced : p.replace ≡ Some identity
-  pub none : IsLastWith packages identity None
-
--- such a package is this one, and the fault says so
-abbrev pub IsOneOfUnreplaced : List PackageData → PackageData → Fault → Type 0
-IsOneOfUnreplaced packages p Memory = ⊥
-IsOneOfUnreplaced packages p (Refused (Unreplaced q)) = (q.now ≡ p)
-    × ((Contains packages p) → IsUnreplaced packages p)
-IsOneOfUnreplaced packages p (Refused other) = ⊥
+  pub none : (k : ℕ) → ¬ IsStatedAt packages identity k
 
 -- the list is refused for this
 abbrev pub IsRefusal : Lockfiles → List PackageData → Refusal → Type 0

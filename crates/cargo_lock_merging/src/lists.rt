@@ -1,20 +1,27 @@
 //! The packages of a list at places that are numbers.
 
-ghost use Rattle.std.specs.Prelude.{◌≡◌, ◌+◌, ◌<◌, ◌≤◌, ◌^◌, ◌↔◌, ℕ, All, IfErr, IfOk, MatchResult, Some};
+ghost use Rattle.std.specs.Prelude.{◌≡◌, ◌≢◌, ◌+◌, ◌<◌, ◌≤◌, ◌^◌, ◌↔◌, ℕ, All, IfErr, IfOk};
+ghost use Rattle.std.specs.Prelude.{IsOkUnless};
 ghost use Rattle.std.specs.Prelude.{length, slice_get};
 ghost use Rattle.std.specs.List.{Contains};
 ghost use Rattle.std.specs.List.Sorted.{IsStrictlyIncreasing};
 ghost use Rattle.cargo_lock_parts.specs.Identity.{PackageData};
+ghost use Rattle.cargo_lock_parts.specs.declared.error.Error.TheVariants.{Memory};
 ghost use Rattle.cargo_lock_merging.specs.Lists.{AreNumberedFrom, AreSlots};
-ghost use Rattle.cargo_lock_merging.specs.Lists.{HasReplacement, IsNumberAt, IsNumberedAt};
+ghost use Rattle.cargo_lock_merging.specs.Lists.{IsNumberAt, IsNumberedAt, IsReplaced, place_in};
 ghost use Rattle.cargo_lock_merging.specs.Lists.{all_numbered, numbered_data};
 ghost use Rattle.cargo_lock_merging.specs.Numbered.{all_data};
-ghost use Rattle.cargo_lock_merging.specs.Refusals.{IsFaultFrom, IsOneOfUnreplaced};
+ghost use Rattle.cargo_lock_merging.specs.Refusals.{IsFaultFrom};
+ghost use Rattle.cargo_lock_merging.specs.declared.lists.Replaced.TheVariants.{Lost};
+ghost use Rattle.cargo_lock_merging.specs.declared.refusal.Fault.TheVariants.{Refused};
+ghost use Rattle.cargo_lock_merging.specs.declared.refusal.Refusal.TheVariants.{Unreplaced};
 
 use crate::linked::Linked;
 use crate::numbers::Numbers;
 use crate::placed::Placed;
 use crate::refusal::{Fault, Refusal, Result};
+use cargo_lock_graph::building::graph_of;
+use cargo_lock_parts::error;
 use cargo_lock_parts::package::Package;
 use std::alloc::{AllocError, Global};
 
@@ -36,8 +43,8 @@ pub struct Numbered<'a> {
 }
 
 /// The packages of a list in the order of their places, whose numbers begin at an index. Refuses two
-/// packages at one place, a dependency that resolves to no package, and a replacement with the
-/// identity of no package.
+/// packages at one place, a dependency that resolves to no package, and a replacement that
+/// states none.
 pub(crate) fn numbered_list<'a>(
     alloc: Global,
     numbers: &Numbers<'_>,
@@ -51,8 +58,9 @@ pub(crate) fn numbered_list<'a>(
     ensures err { IfErr result (IsFaultFrom numbers.now offset packages.now.items) }
 {
     let slots = slots(alloc, numbers, offset, packages)?;
-    let linked = Linked::of(alloc, packages)?;
-    numbered_slots(alloc, numbers, offset, &linked, &slots)
+    let graph = graph_of(alloc, packages)?.0;
+    let linked = Linked::of(alloc, packages, &graph)?;
+    numbered_slots(alloc, numbers, offset, packages, &linked, &slots)
 }
 
 // For each number of a place the index of the package there. Refuses two packages at one place.
@@ -84,20 +92,22 @@ fn numbered_slots<'a>(
     alloc: Global,
     numbers: &Numbers<'_>,
     offset: usize,
-    linked: &Linked<'a>,
+    packages: &'a [Package],
+    linked: &Linked<'_>,
     slots: &[Option<usize>],
 ) -> Result<'a, Vec<Numbered<'a>>>
     requires fits { offset + length linked.now ≤ length numbers.now }
     requires small { length numbers.now < 2 ^ 64 }
+    requires same { linked.now ≡ packages.now }
     requires slots { AreSlots numbers.now offset (length linked.now) slots.now }
     ensures ok { IfOk result (λ all.
         AreNumberedFrom numbers.now offset linked.now (all_numbered all.items)) }
     ensures err { IfErr result (IsFaultFrom numbers.now offset linked.now) }
 {
-    let mut all = Vec::with_capacity(alloc, linked.packages.len())?;
+    let mut all = Vec::with_capacity(alloc, packages.len())?;
     for slot in slots {
         if let Some(at) = slot {
-            let numbered = numbered_at(alloc, numbers, offset, linked, *at)?;
+            let numbered = numbered_at(alloc, numbers, offset, packages, linked, *at)?;
             all.push(numbered)?;
         }
     }
@@ -109,18 +119,21 @@ fn numbered_at<'a>(
     alloc: Global,
     numbers: &Numbers<'_>,
     offset: usize,
-    linked: &Linked<'a>,
+    packages: &'a [Package],
+    linked: &Linked<'_>,
     at: usize,
 ) -> Result<'a, Numbered<'a>>
     requires fits { offset + length linked.now ≤ length numbers.now }
     requires small { length numbers.now < 2 ^ 64 }
-    requires at { at < length linked.now }
+    requires same { linked.now ≡ packages.now }
+    requires at { at < length packages.now }
     ensures ok { IfOk result
         (λ one. IsNumberedAt numbers.now offset linked.now at (numbered_data one)) }
     ensures err { IfErr result (IsFaultFrom numbers.now offset linked.now) }
 {
-    let package = linked.package(at);
-    let replacement = replacement(numbers, offset, linked, package)?;
+    let package = &packages[at];
+    let replaced = replaced_of(numbers, offset, linked, linked.package(at))?;
+    let replacement = place_of_replaced(replaced, package)?;
     let targets = linked.targets(alloc, at)?;
     let dependencies = places(alloc, numbers, offset, &targets)?;
     Ok(Numbered {
@@ -131,25 +144,51 @@ fn numbered_at<'a>(
     })
 }
 
-// The place of the replacement of a package. Refuses one with the identity of no package.
-fn replacement<'a>(
+// What replaces a package.
+#[derive(Clone, Copy)]
+enum Replaced {
+    // Nothing.
+    Not,
+
+    // The package at this place.
+    At(usize),
+
+    // A package that is not in the list.
+    Lost,
+}
+
+// What replaces the package at an index.
+fn replaced_of<'a>(
     numbers: &Numbers<'_>,
     offset: usize,
     linked: &Linked<'a>,
     package: &'a Package,
-) -> Result<'a, Option<usize>>
+) -> error::Result<Replaced>
     requires fits { offset + length linked.now ≤ length numbers.now }
     requires small { length numbers.now < 2 ^ 64 }
-    ensures ok { IfOk result
-        (λ place. HasReplacement numbers.now offset linked.now «package».now.replace place) }
-    ensures err { IfErr result (IsOneOfUnreplaced linked.now «package».now) }
+    ensures ok { IfOk result (IsReplaced numbers.now offset linked.now «package».now.replace) }
+    ensures err { IsOkUnless result Memory }
 {
-    match &package.replace {
-        None => Ok(None),
-        Some(identity) => match linked.last_with(identity) {
-            Some(at) => Ok(Some(numbers.number(offset + at))),
-            None => Err(Fault::Refused(Refusal::Unreplaced(package))),
-        },
+    let identity = match &package.replace {
+        Some(identity) => identity,
+        None => return Ok(Replaced::Not),
+    };
+    match linked.stated(identity)? {
+        Some(at) => Ok(Replaced::At(numbers.number(offset + at))),
+        None => Ok(Replaced::Lost),
+    }
+}
+
+// The place of what replaces the package. Refuses one that is not in the list.
+fn place_of_replaced<'a>(replaced: Replaced, package: &'a Package) -> Result<'a, Option<usize>>
+    ensures ok { IfOk result (λ place. (place ≡ place_in replaced) × (replaced ≢ Lost)) }
+    ensures err { IfErr result (λ fault. (replaced ≡ Lost)
+        × (fault ≡ Refused (Unreplaced «package».entry))) }
+{
+    match replaced {
+        Replaced::Not => Ok(None),
+        Replaced::At(place) => Ok(Some(place)),
+        Replaced::Lost => Err(Fault::Refused(Refusal::Unreplaced(package))),
     }
 }
 

@@ -84,7 +84,7 @@ fn locate_member(version: &Version, several: bool) -> Result<Located>
 }
 
 // The source without its commit.
-fn without_commit(source: &SourceId) -> Result<SourceId>
+pub(crate) fn without_commit(source: &SourceId) -> Result<SourceId>
     ensures ok { IfOk result (λ bare. key_of bare ≡ key_without_commit source.now) }
     ensures err { IsOkUnless result Memory }
 {

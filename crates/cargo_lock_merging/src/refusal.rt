@@ -13,7 +13,8 @@ pub enum Refusal<'a> {
     /// Packages of the second source, which is a git source, are at the commits of both.
     TwoCommits(&'a SourceId, &'a SourceId),
 
-    /// No package has the identity of the replacement of this package.
+    /// No package has the name, the version and the source, but for a commit, of the replacement of
+    /// this package.
     Unreplaced(&'a Package),
 
     /// A dependency resolves to no package. The text is `failed to find dependency: ` and the

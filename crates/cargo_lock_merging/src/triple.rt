@@ -77,8 +77,7 @@ pub struct Sides<'a> {
 
 impl<'a> Sides<'a> {
     /// These three lists. Refuses a list that has two packages at one place, a dependency that
-    /// resolves to no package, a replacement with the identity of no package, or a git source at two
-    /// commits.
+    /// resolves to no package, a replacement that states no package, or a git source at two commits.
     pub fn of(
         alloc: Global,
         base: &'a Vec<Package>,

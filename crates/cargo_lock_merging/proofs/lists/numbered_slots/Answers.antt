@@ -1,4 +1,4 @@
-use Rattle.std.proofs.Common.{◌≡◌, ◌∙◌, ◌+◌, ℕ, List, Option, Some, ap, arith, length, subst, sym}
+use Rattle.std.proofs.Common.{◌≡◌, ◌∙◌, ◌+◌, ◌<◌, ℕ, List, Option, Some, ap, arith, length, subst, sym}
 use Rattle.std.proofs.lemmas.Option.{slice_get-get_or}
 use Rattle.cargo_lock_parts.specs.Identity.{PackageData}
 use Rattle.cargo_lock_merging.specs.declared.lists.Numbered.{Numbered}
@@ -14,7 +14,7 @@ pub numbered_at-requires-clause-at : goal.numbered_at-requires-clause-at
 numbered_at-requires-clause-at c =
     let slots : List (Option ℕ) = c.args.slots.now in
     let i = c.loop-slot.slot-index in
-    ((c.requires.slots.each i c.in-Some.at).0 (slice_get-get_or slots i _ c.loop-slot-test.true ∙ ap Some c.in-Some.is)).0
+    subst (λ (ps : List PackageData). c.in-Some.at < length ps) c.requires.same ((c.requires.slots.each i c.in-Some.at).0 (slice_get-get_or slots i _ c.loop-slot-test.true ∙ ap Some c.in-Some.is)).0
 
 pub loop-slot-preserved : goal.loop-slot-preserved
 loop-slot-preserved c =
