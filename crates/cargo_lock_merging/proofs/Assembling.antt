@@ -5,10 +5,7 @@ use Rattle.std.specs.List.Sorted.{IsPermutation}
 use Rattle.std.proofs.lemmas.List.Elements.{Contains-get_or}
 use Rattle.std.proofs.lemmas.List.Sorted.{Contains-permutation, IsPermutation-sym}
 use Rattle.std.proofs.lemmas.List.{get_or-map, length-map}
-use Rattle.std.proofs.lemmas.Option.{get_or_from_slice_get, slice_get_within}
 use Rattle.cargo_lock_parts.specs.Identity.{Identity, PackageData, identity_key, identity_of}
-use Rattle.cargo_lock_graph.specs.Targets.{IsLastWith}
-use Rattle.cargo_lock_graph.proofs.BestCandidates.{exact-target}
 use Rattle.cargo_lock_merging.specs.Assembled.{AreSides, AssembledAreMerge, IsAssembled, IsIdentityAt, IsIdentityAtIf}
 use Rattle.cargo_lock_merging.specs.Choices.{IsChecksum, IsOfSide, IsReplacement}
 use Rattle.cargo_lock_merging.specs.Commits.{HasCommit, HasOneCommitEach, Lockfiles, key_without_commit}

@@ -1,6 +1,6 @@
 -- To which packages identities refer.
-use Rattle.std.proofs.Common.{◌≡◌, ◌<◌, ◌≤◌, ◌↔◌, ◌⊎◌, ◌++◌, inl, inr, ℕ, true, nat_lt, List, [], ◌∷◌, MatchOption, Option, Some, None, length, map, reverse, slice_get, unwrap_or, refl, sym, ap, subst, ◌∙◌, append_assoc, append-nil, arith}
-use Rattle.std.specs.List.{All, AllZip, Contains, filter}
+use Rattle.std.proofs.Common.{◌≡◌, ◌≤◌, ◌++◌, inl, inr, ℕ, true, nat_lt, List, [], ◌∷◌, MatchOption, Option, Some, None, length, slice_get, unwrap_or, sym, ap, subst, ◌∙◌, append_assoc, arith}
+use Rattle.std.specs.List.{AllZip, Contains, filter}
 use Rattle.std.proofs.lemmas.Bool.{cases_Bool, eq-eqb, eqb-true, ltb-true, ltb-false}
 use Rattle.std.proofs.lemmas.List.Elements.{Contains-append_right}
 use Rattle.std.proofs.lemmas.Option.{same_Some, slice_get_within}
@@ -8,7 +8,7 @@ use Rattle.cargo_lock_parts.specs.Identity.{HasNameAndVersion, Identity, Package
 use Rattle.cargo_lock_graph.specs.Edges.{Edge, GraphData, edges_at, is_at}
 use Rattle.cargo_lock_graph.specs.Targets.{HoldsOf, IsEdgeOf, IsLastBelow, IsTarget, Link, MatchesAt, links, links_of}
 use Rattle.cargo_lock_graph.specs.declared.graph.EdgeDirection.TheVariants.{Outgoing}
-use Rattle.cargo_lock_merging.specs.Linked.{AreLinked, AreStatedOnce, AreTargetsAt, IsAlone, IsStatedAt, IsTargetOf, RefersTo}
+use Rattle.cargo_lock_merging.specs.Linked.{AreLinked, AreStatedOnce, AreTargetsAt, IsAlone, IsStatedAt, RefersTo}
 use Rattle.cargo_lock_merging.proofs.Members.{first-in, from-reverse, got-in, in-got, in-joined, in-kept, in-map, in-reverse, joined-in, kept-in, map-in}
 use Rattle.cargo_lock_merging.proofs.Zipping.{zip-left, zip-right}
 

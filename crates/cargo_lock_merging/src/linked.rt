@@ -75,7 +75,13 @@ impl<'a> Linked<'a> {
         ensures within { IfOk result (λ targets. All (λ k. k < length self.now) targets.items) }
         ensures err { IsOkUnless result Memory }
     {
-        targets(alloc, self.graph, &self.versions, self.packages, NodeIndex::new(at))
+        targets(
+            alloc,
+            self.graph,
+            &self.versions,
+            self.packages,
+            NodeIndex::new(at),
+        )
     }
 
     // The index of the package that an identity states. The one error is `Memory`.

@@ -1,6 +1,6 @@
-use Rattle.std.proofs.Common.{◌≡◌, ◌∙◌, Bool, ap, sym, true}
+use Rattle.std.proofs.Common.{◌≡◌, ◌∙◌, sym}
 use Rattle.cargo_lock_parts.specs.Source.{Source}
-use Rattle.cargo_lock_parts.specs.SourceKey.{Key, key_of}
+use Rattle.cargo_lock_parts.specs.SourceKey.{key_of}
 use Rattle.cargo_lock_parts.specs.SourceLaws.{is_same_source-Decides}
 use Rattle.cargo_lock_merging.specs.Commits.{key_without_commit}
 use Rattle.cargo_lock_merging.proofs.linked.are_one_source.Goals as goal

@@ -1,10 +1,9 @@
-use Rattle.std.proofs.Common.{◌≡◌, ◌∙◌, ◌<◌, ◌≤◌, ℕ, List, Option, Some, None, ap, arith, length, option_map, refl, slice_get, subst, sym, true≢false}
+use Rattle.std.proofs.Common.{◌≡◌, ◌∙◌, ◌<◌, List, Some, ap, arith, length, option_map, refl, slice_get, subst, sym, true≢false}
 use Rattle.std.proofs.lemmas.Option.{same_Some, slice_get_read}
 use Rattle.cargo_lock_parts.specs.Identity.{HasNameAndVersion, Identity, PackageData, identity_of}
 use Rattle.cargo_lock_graph.specs.Targets.{HoldsOf, IsLastBelow}
-use Rattle.cargo_lock_graph.proofs.BestCandidates.{find-next, find-smaller}
+use Rattle.cargo_lock_graph.proofs.BestCandidates.{find-next}
 use Rattle.cargo_lock_merging.specs.Commits.{key_without_commit}
-use Rattle.cargo_lock_merging.specs.Linked.{IsStatedAt}
 use Rattle.cargo_lock_merging.proofs.Linking.{none-all, none-more, none-past}
 use Rattle.cargo_lock_merging.proofs.linked.stated.Goals as goal
 
@@ -44,8 +43,7 @@ loop-next-preserved c =
     let (bound, within, last, none) = c.loop-next.invariant in
     let here : IsLastBelow (HoldsOf (HasNameAndVersion i) packages) bound (Some c.in-Some.at) = subst (λ o. IsLastBelow (HoldsOf (HasNameAndVersion i) packages) bound o) c.in-Some.is last in
     let low = here.0 in
-    let before = subst (λ (ps : List PackageData). (p : PackageData) → slice_get ps c.in-Some.at ≡ Some p → IsLastBelow (HoldsOf (HasNameAndVersion (identity_of p)) ps) c.in-Some.at c.before-next.result) c.requires c.before-next.ensures.here in
-    (
+    let before = subst (λ (ps : List PackageData). (p : PackageData) → slice_get ps c.in-Some.at ≡ Some p → IsLastBelow (HoldsOf (HasNameAndVersion (identity_of p)) ps) c.in-Some.at c.before-next.result) c.requires c.before-next.ensures.here in (
       c.in-Some.at,
       omega (arith, low, within),
       find-next packages i here.1.0 c.in-Some.at c.before-next.result here.1.2 (before here.1.0 here.1.1),

@@ -1,10 +1,9 @@
-use Rattle.std.proofs.Common.{◌≡◌, ◌∙◌, ◌<◌, ◌++◌, ◌∷◌, [], ℕ, List, append-nil, ap, length, refl, subst, sym, unwrap_or}
+use Rattle.std.proofs.Common.{◌∙◌, ◌<◌, ◌++◌, ◌∷◌, [], ℕ, List, ap, length, subst, sym, unwrap_or}
 use Rattle.std.specs.List.{All, AllZip}
 use Rattle.std.proofs.lemmas.List.Elements.{All-push}
 use Rattle.std.proofs.lemmas.Option.{slice_get_within}
 use Rattle.cargo_lock_parts.specs.Identity.{PackageData}
-use Rattle.cargo_lock_graph.specs.Edges.{Edge, edges_at}
-use Rattle.cargo_lock_graph.specs.declared.graph.EdgeDirection.TheVariants.{Outgoing}
+use Rattle.cargo_lock_graph.specs.Edges.{Edge}
 use Rattle.cargo_lock_merging.specs.Linked.{AreLinked, RefersTo}
 use Rattle.cargo_lock_merging.proofs.Linking.{edge-target, either-refers, joined-next, refers-within}
 use Rattle.cargo_lock_merging.proofs.Zipping.{zip-push}
@@ -21,8 +20,7 @@ loop-edge-preserved c =
     let linked : AreLinked packages c.args.graph.now = record { same = c.requires.same; edges = c.requires.edges } in
     let target = edge-target packages c.args.graph.now linked c.args.node front c.next.new.self e more in
     let refers : R e c.either.result = either-refers packages e.dependency c.weight.result.now c.in_ok-stated.stated e.to c.either.result (c.either.ensures ∙ ap (λ n. unwrap_or c.in_ok-stated.stated n) c.target.ensures) c.weight.ensures c.in_ok-stated.ensures.ok target in
-    let there = refers-within packages e.dependency c.either.result refers in
-    (
+    let there = refers-within packages e.dependency c.either.result refers in (
       tt,
       tt,
       (
