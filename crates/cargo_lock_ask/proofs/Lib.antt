@@ -13,3 +13,4 @@ pub mod Rowing
 pub mod Escaping
 pub mod Quoting
 pub mod DiagramLines
+pub mod Answering

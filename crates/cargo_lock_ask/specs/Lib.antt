@@ -8,6 +8,7 @@ pub mod Marks
 pub mod Scene
 pub mod Arrows
 pub mod Lines
+pub mod Answers
 pub mod Listing
 pub mod Labels
 pub mod Labelling
@@ -15,3 +16,4 @@ pub mod Diagram
 pub mod DiagramLaws
 pub mod Duplicates
 pub mod Groups
+pub mod Tally
