@@ -14,3 +14,4 @@ pub mod Escaping
 pub mod Quoting
 pub mod DiagramLines
 pub mod Answering
+pub mod PictureRead

@@ -14,6 +14,7 @@ pub mod Labels
 pub mod Labelling
 pub mod Diagram
 pub mod DiagramLaws
+pub mod Pictures
 pub mod Duplicates
 pub mod Groups
 pub mod Tally
