@@ -4,7 +4,7 @@ _cargo_lock() {
     local current=${COMP_WORDS[COMP_CWORD]} previous=${COMP_WORDS[COMP_CWORD - 1]}
     COMPREPLY=()
     if [ "$COMP_CWORD" = 1 ]; then
-        _cargo_lock_offer 'list translate tree bom diff check help -h --help -V --version'
+        _cargo_lock_offer 'list translate tree bom diff check why duplicates graph help -h --help -V --version'
         return
     fi
     if [ "$previous" = = ]; then
@@ -60,7 +60,38 @@ _cargo_lock() {
         *) _cargo_lock_offer '-f --file --any-size --json -h --help' ;;
         esac
         ;;
-    help) _cargo_lock_offer 'list translate tree bom diff check help' ;;
+    why)
+        case $previous in
+        -f | --file) _cargo_lock_files ;;
+        *)
+            if [[ $current == -* ]]; then
+                _cargo_lock_offer '-f --file --any-size --all --json -h --help'
+            else
+                _cargo_lock_packages
+            fi
+            ;;
+        esac
+        ;;
+    duplicates)
+        case $previous in
+        -f | --file) _cargo_lock_files ;;
+        *) _cargo_lock_offer '-f --file --any-size --exit-code --json -h --help' ;;
+        esac
+        ;;
+    graph)
+        case $previous in
+        -f | --file) _cargo_lock_files ;;
+        --format) _cargo_lock_offer 'dot mermaid' ;;
+        *)
+            if [[ $current == -* ]]; then
+                _cargo_lock_offer '-f --file --any-size --format -i --invert -h --help'
+            else
+                _cargo_lock_packages
+            fi
+            ;;
+        esac
+        ;;
+    help) _cargo_lock_offer 'list translate tree bom diff check why duplicates graph help' ;;
     esac
 }
 

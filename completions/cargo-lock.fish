@@ -21,6 +21,9 @@ complete -c cargo-lock -n '__cargo_lock_runs ""' -a tree -d 'Draws the trees of 
 complete -c cargo-lock -n '__cargo_lock_runs ""' -a bom -d 'Writes a bill of materials, as CycloneDX 1.6 has it in JSON'
 complete -c cargo-lock -n '__cargo_lock_runs ""' -a diff -d 'Shows what differs between the packages of two lockfiles'
 complete -c cargo-lock -n '__cargo_lock_runs ""' -a check -d 'Prints what is wrong with a lockfile'
+complete -c cargo-lock -n '__cargo_lock_runs ""' -a why -d 'Shows why a package is in a lockfile'
+complete -c cargo-lock -n '__cargo_lock_runs ""' -a duplicates -d 'Lists the names that several packages have, and what needs each package'
+complete -c cargo-lock -n '__cargo_lock_runs ""' -a graph -d 'Writes a picture of packages, for Graphviz or Mermaid'
 complete -c cargo-lock -n '__cargo_lock_runs ""' -a help -d 'Print this message or the help of the given subcommand(s)'
 complete -c cargo-lock -n '__cargo_lock_runs ""' -s h -l help -d 'Print help'
 complete -c cargo-lock -n '__cargo_lock_runs ""' -s V -l version -d 'Print version'
@@ -69,4 +72,24 @@ complete -c cargo-lock -n '__cargo_lock_runs check' -l any-size -d 'Reads a lock
 complete -c cargo-lock -n '__cargo_lock_runs check' -l json -d 'Prints one line of JSON'
 complete -c cargo-lock -n '__cargo_lock_runs check' -s h -l help -d 'Print help'
 
-complete -c cargo-lock -n '__cargo_lock_runs help' -a 'list translate tree bom diff check help' -d COMMAND
+complete -c cargo-lock -n '__cargo_lock_runs why' -s f -l file -r -F -d 'The lockfile, - for standard input'
+complete -c cargo-lock -n '__cargo_lock_runs why' -l any-size -d 'Reads a lockfile of 256 MiB or more too'
+complete -c cargo-lock -n '__cargo_lock_runs why' -l all -d 'Shows a chain from each root that leads to the package'
+complete -c cargo-lock -n '__cargo_lock_runs why' -l json -d 'Prints one line of JSON'
+complete -c cargo-lock -n '__cargo_lock_runs why' -s h -l help -d 'Print help'
+complete -c cargo-lock -n '__cargo_lock_runs why' -a '(__cargo_lock_packages)' -d SPEC
+
+complete -c cargo-lock -n '__cargo_lock_runs duplicates' -s f -l file -r -F -d 'The lockfile, - for standard input'
+complete -c cargo-lock -n '__cargo_lock_runs duplicates' -l any-size -d 'Reads a lockfile of 256 MiB or more too'
+complete -c cargo-lock -n '__cargo_lock_runs duplicates' -l exit-code -d 'Ends with status 1 where several packages have one name'
+complete -c cargo-lock -n '__cargo_lock_runs duplicates' -l json -d 'Prints one line of JSON'
+complete -c cargo-lock -n '__cargo_lock_runs duplicates' -s h -l help -d 'Print help'
+
+complete -c cargo-lock -n '__cargo_lock_runs graph' -s f -l file -r -F -d 'The lockfile, - for standard input'
+complete -c cargo-lock -n '__cargo_lock_runs graph' -l any-size -d 'Reads a lockfile of 256 MiB or more too'
+complete -c cargo-lock -n '__cargo_lock_runs graph' -l format -x -a 'dot mermaid' -d 'The text is for Graphviz, or for Mermaid'
+complete -c cargo-lock -n '__cargo_lock_runs graph' -s i -l invert -d 'Shows what depends on each package'
+complete -c cargo-lock -n '__cargo_lock_runs graph' -s h -l help -d 'Print help'
+complete -c cargo-lock -n '__cargo_lock_runs graph' -a '(__cargo_lock_packages)' -d SPEC
+
+complete -c cargo-lock -n '__cargo_lock_runs help' -a 'list translate tree bom diff check why duplicates graph help' -d COMMAND

@@ -11,6 +11,9 @@ _cargo-lock() {
         'bom:Writes a bill of materials, as CycloneDX 1.6 has it in JSON'
         'diff:Shows what differs between the packages of two lockfiles'
         'check:Prints what is wrong with a lockfile'
+        'why:Shows why a package is in a lockfile'
+        'duplicates:Lists the names that several packages have, and what needs each package'
+        'graph:Writes a picture of packages, for Graphviz or Mermaid'
         'help:Print this message or the help of the given subcommand(s)'
     )
     _arguments -C \
@@ -79,6 +82,32 @@ _cargo-lock() {
             '--any-size[Reads a lockfile of 256 MiB or more too]' \
             '--json[Prints one line of JSON]' \
             '(- *)'{-h,--help}'[Print help]'
+        ;;
+    why)
+        _arguments -s \
+            '(-f --file)'{-f,--file}'[The lockfile, - for standard input]:PATH:_files' \
+            '--any-size[Reads a lockfile of 256 MiB or more too]' \
+            '--all[Shows a chain from each root that leads to the package]' \
+            '--json[Prints one line of JSON]' \
+            '(- *)'{-h,--help}'[Print help]' \
+            '1:SPEC:_cargo-lock-packages'
+        ;;
+    duplicates)
+        _arguments -s \
+            '(-f --file)'{-f,--file}'[The lockfile, - for standard input]:PATH:_files' \
+            '--any-size[Reads a lockfile of 256 MiB or more too]' \
+            '--exit-code[Ends with status 1 where several packages have one name]' \
+            '--json[Prints one line of JSON]' \
+            '(- *)'{-h,--help}'[Print help]'
+        ;;
+    graph)
+        _arguments -s \
+            '(-f --file)'{-f,--file}'[The lockfile, - for standard input]:PATH:_files' \
+            '--any-size[Reads a lockfile of 256 MiB or more too]' \
+            '--format[The text is for Graphviz, or for Mermaid]:FORMAT:(dot mermaid)' \
+            '(-i --invert)'{-i,--invert}'[Shows what depends on each package]' \
+            '(- *)'{-h,--help}'[Print help]' \
+            '*:SPEC:_cargo-lock-packages'
         ;;
     help)
         _describe -t commands COMMAND commands

@@ -9,7 +9,7 @@ use Rattle.std.proofs.lemmas.Str.{chars-IsAscii, encode_ascii}
 use Rattle.cargo_lock_parts.specs.Identity.{PackageData}
 use Rattle.cargo_lock_ask.specs.Diagram.{after_label, arrow_sign, before_label, shape_of}
 use Rattle.cargo_lock_ask.specs.DiagramLaws.{EachArrowIsOneLine, EachPackageIsOneLine}
-use Rattle.cargo_lock_ask.specs.Labels.{escaped, escaped_char, is_plain, quote}
+use Rattle.cargo_lock_ask.specs.Labels.{ampersand, escaped, escaped_char, is_plain, quote}
 use Rattle.cargo_lock_ask.specs.Lines.{named_text}
 use Rattle.cargo_lock_ask.specs.declared.diagram.Shape.{Shape}
 use Rattle.cargo_lock_ask.specs.declared.diagram.Shape.TheVariants.{Hexagon, Rectangle, Rounded}
@@ -26,7 +26,7 @@ use Rattle.shown.specs.declared.form.Form.TheVariants.{Plain}
 byte-prints : (b : ℕ) → IsInRange 0x20 0x7E b → Prints (escaped_char Dot b)
 byte-prints b range =
     let one : Prints (b ∷ []) = cons b [] range empty in
-    rw (encode_ascii b (omega arith)) (either_text (b == quote || b == backslash) (words (codes "\\") refl one) one)
+    rw (encode_ascii b (omega arith)) (either_text (b == quote || b == backslash) (words (codes "\\") refl one) (either_text (b == ampersand) (literal (codes "&amp;") refl) one))
 
 bytes-print : (text : List ℕ) → IsPrintable text → Prints (flat_map (escaped_char Dot) text)
 bytes-print [] h = empty
@@ -39,17 +39,17 @@ plain-prints : (c : ℕ) (b : Bool) → (b ≡ true → IsInRange 0x20 0x7E c) �
 plain-prints c true h = cons c [] (h refl) empty
 plain-prints c false h = words (codes "#") refl (join (decimal-prints c) (literal (codes ";") refl))
 
-escaped-prints : (target : Target) (text : List ℕ) → IsPrintable text → Prints (escaped target text)
+pub escaped-prints : (target : Target) (text : List ℕ) → IsPrintable text → Prints (escaped target text)
 unfolding escaped
 escaped-prints Dot text h = rw (chars-IsAscii text (printable-ascii text h)) (bytes-print text h)
 escaped-prints Mermaid text h = join_each (escaped_char Mermaid) (λ c. plain-prints c (is_plain c) (plain-range c)) (chars text)
 
-named-prints : (p : PackageData) → Prints (named_text p)
+pub named-prints : (p : PackageData) → Prints (named_text p)
 named-prints p = join (shown-prints Plain p.name) (words (codes " ") refl (shown-prints Plain _))
 
 -- ---- lines
 
-before-prints : (target : Target) (shape : Shape) → Prints (before_label target shape)
+pub before-prints : (target : Target) (shape : Shape) → Prints (before_label target shape)
 before-prints Dot shape = literal (codes " [label=\"") refl
 before-prints Mermaid Rectangle = literal (codes "[\"") refl
 before-prints Mermaid Hexagon = literal (codes "{{\"") refl
@@ -64,7 +64,7 @@ after-one Mermaid Rectangle = (codes "\"]", literal (codes "\"]") refl, refl)
 after-one Mermaid Hexagon = (codes "\"}}", literal (codes "\"}}") refl, refl)
 after-one Mermaid Rounded = (codes "\"])", literal (codes "\"])") refl, refl)
 
-sign-prints : (target : Target) → Prints (arrow_sign target)
+pub sign-prints : (target : Target) → Prints (arrow_sign target)
 sign-prints Dot = literal (codes " -> n") refl
 sign-prints Mermaid = literal (codes " --> n") refl
 

@@ -13,3 +13,5 @@ pub mod Rowing
 pub mod Escaping
 pub mod Quoting
 pub mod DiagramLines
+pub mod Answering
+pub mod PictureRead

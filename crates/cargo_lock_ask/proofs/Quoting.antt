@@ -9,7 +9,7 @@ use Rattle.std.proofs.lemmas.Bool.{cases_eq}
 use Rattle.std.proofs.lemmas.Bool.Decides.{nat_tests}
 use Rattle.std.proofs.lemmas.List.Elements.{All-append, All-cons, All-head, All-nil, All-tail}
 use Rattle.std.proofs.lemmas.Str.{chars-IsAscii, encode_ascii}
-use Rattle.cargo_lock_ask.specs.Labels.{DotLabelIsRead, MermaidLabelHasNoQuote, escaped, escaped_char, is_plain, quote, read_label, with_byte}
+use Rattle.cargo_lock_ask.specs.Labels.{DotLabelIsRead, MermaidLabelHasNoQuote, escaped, escaped_char, is_plain, ampersand, quote, Between, read_label, with_byte}
 use Rattle.cargo_lock_ask.specs.declared.label.Target.TheVariants.{Dot, Mermaid}
 use Rattle.shown.specs.Laws.{IsPrintable}
 use Rattle.shown.specs.Shown.{backslash}
@@ -19,35 +19,42 @@ use Rattle.shown.specs.Shown.{backslash}
 not-eqb : (a b : ℕ) → ¬ (a ≡ b) → (a == b) ≡ false
 not-eqb a b other = grind (arith, nat_tests, other)
 
-read-other : (b : ℕ) (more : List ℕ) → b < 128 → (b == quote) ≡ false → (b == backslash) ≡ false
-    → read_label false (escaped_char Dot b ++ more) ≡ option_map (with_byte b) (read_label false more)
+read-other : (b : ℕ) (more : List ℕ) → b < 128 → (b == quote) ≡ false → (b == backslash) ≡ false → (b == ampersand) ≡ false
+    → read_label Between (escaped_char Dot b ++ more) ≡ option_map (with_byte b) (read_label Between more)
 unfolding read_label
-read-other b more low q s = rw (q, s, encode_ascii b low, q, s) refl
+read-other b more low q s a = rw (q, s, a, encode_ascii b low, q, s, a) refl
 
-read-quote : (more : List ℕ) → read_label false (escaped_char Dot quote ++ more) ≡ option_map (with_byte quote) (read_label false more)
+read-quote : (more : List ℕ) → read_label Between (escaped_char Dot quote ++ more) ≡ option_map (with_byte quote) (read_label Between more)
 unfolding read_label
 read-quote more = rw (encode_ascii quote (omega arith)) refl
 
-read-backslash : (more : List ℕ) → read_label false (escaped_char Dot backslash ++ more) ≡ option_map (with_byte backslash) (read_label false more)
+read-backslash : (more : List ℕ) → read_label Between (escaped_char Dot backslash ++ more) ≡ option_map (with_byte backslash) (read_label Between more)
 unfolding read_label
 read-backslash more = rw (encode_ascii backslash (omega arith)) refl
 
-read-byte : (b : ℕ) (more : List ℕ) → b < 128 → read_label false (escaped_char Dot b ++ more) ≡ option_map (with_byte b) (read_label false more)
+read-ampersand : (more : List ℕ) → read_label Between (escaped_char Dot ampersand ++ more) ≡ option_map (with_byte ampersand) (read_label Between more)
+unfolding read_label
+read-ampersand more = refl
+
+read-byte : (b : ℕ) (more : List ℕ) → b < 128 → read_label Between (escaped_char Dot b ++ more) ≡ option_map (with_byte b) (read_label Between more)
 unfolding read_label
 read-byte b more low = elim (cases_eq b quote) [
-  | inl same ↦ subst (λ n. read_label false (escaped_char Dot n ++ more) ≡ option_map (with_byte n) (read_label false more)) (sym same) (read-quote more)
+  | inl same ↦ subst (λ n. read_label Between (escaped_char Dot n ++ more) ≡ option_map (with_byte n) (read_label Between more)) (sym same) (read-quote more)
   | inr other ↦ elim (cases_eq b backslash) [
-    | inl same ↦ subst (λ n. read_label false (escaped_char Dot n ++ more) ≡ option_map (with_byte n) (read_label false more)) (sym same) (read-backslash more)
-    | inr also ↦ read-other b more low (not-eqb b quote other) (not-eqb b backslash also)
+    | inl same ↦ subst (λ n. read_label Between (escaped_char Dot n ++ more) ≡ option_map (with_byte n) (read_label Between more)) (sym same) (read-backslash more)
+    | inr also ↦ elim (cases_eq b ampersand) [
+      | inl same ↦ subst (λ n. read_label Between (escaped_char Dot n ++ more) ≡ option_map (with_byte n) (read_label Between more)) (sym same) (read-ampersand more)
+      | inr too ↦ read-other b more low (not-eqb b quote other) (not-eqb b backslash also) (not-eqb b ampersand too)
+    ]
   ]
 ]
 
-read-bytes : (text rest : List ℕ) → IsPrintable text → read_label false (flat_map (escaped_char Dot) text ++ quote ∷ rest) ≡ Some (text, rest)
+read-bytes : (text rest : List ℕ) → IsPrintable text → read_label Between (flat_map (escaped_char Dot) text ++ quote ∷ rest) ≡ Some (text, rest)
 unfolding read_label
 read-bytes [] rest h = refl
 read-bytes (b ∷ bs) rest h =
     let range : IsInRange 0x20 0x7E b = All-head (IsInRange 0x20 0x7E) b bs h in
-    ap (read_label false) (append_assoc (escaped_char Dot b) (flat_map (escaped_char Dot) bs) (quote ∷ rest))
+    ap (read_label Between) (append_assoc (escaped_char Dot b) (flat_map (escaped_char Dot) bs) (quote ∷ rest))
     ∙ read-byte b (flat_map (escaped_char Dot) bs ++ quote ∷ rest) (omega arith)
     ∙ ap (option_map (with_byte b)) (read-bytes bs rest (All-tail (IsInRange 0x20 0x7E) b bs h))
 

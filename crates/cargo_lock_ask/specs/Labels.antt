@@ -1,6 +1,6 @@
 -- How the label of a package is written in a text of Graphviz or of Mermaid, so that no name can
 -- end its label.
-use Rattle.std.specs.Prelude.{◌≡◌, ◌≢◌, ℕ, ◌==◌, ◌||◌, All, Bool, true, false, if◌then◌else◌, List}
+use Rattle.std.specs.Prelude.{◌≡◌, ◌≢◌, ℕ, ◌==◌, ◌||◌, All, Bool, if◌then◌else◌, List}
 use Rattle.std.specs.Prelude.{[], ◌∷◌, ◌++◌, Option, Some, None, codes, decimal, encode_utf8}
 use Rattle.std.specs.Prelude.{option_map}
 use Rattle.std.specs.Int.{is_in_range}
@@ -28,11 +28,15 @@ is_mark c = c == 0x20 || (c == 0x2B || (c == 0x2D || (c == 0x2E || c == 0x5F)))
 abbrev pub is_plain : ℕ → Bool
 is_plain c = is_letter_or_digit c || is_mark c
 
--- A character in a label. Graphviz reads a character after a backslash as itself, and Mermaid reads
--- `#`, a number and `;` as the character with that number.
+-- `&`, which begins an entity of HTML, as `&lt;`
+abbrev pub ampersand : ℕ
+ampersand = 38
+
+-- A character in a label. Graphviz reads a quote or a backslash after a backslash as itself and
+-- `&amp;` as `&`, and Mermaid reads `#`, a number and `;` as the character with that number.
 abbrev pub escaped_char : Target → ℕ → List ℕ
 escaped_char Dot c = if c == quote || c == backslash then codes "\\" ++ encode_utf8 c
-    else encode_utf8 c
+    else (if c == ampersand then codes "&amp;" else encode_utf8 c)
 escaped_char Mermaid c = if is_plain c then c ∷ []
     else codes "#" ++ (decimal c ++ codes ";")
 
@@ -46,21 +50,37 @@ escaped target text = flat_map (escaped_char target) (chars text)
 abbrev pub with_byte : ℕ → List ℕ × List ℕ → List ℕ × List ℕ
 with_byte b read = (b ∷ read.0, read.1)
 
--- The label of a quoted string from here on, and what follows the quote that ends it. A byte after
--- a backslash is a part of the label, whatever it is. There is no label if no quote ends it.
-unfoldable pub read_label : (after_backslash : Bool) → List ℕ → Option (List ℕ × List ℕ)
-read_label after [] = None
-read_label true (b ∷ bs) = option_map (with_byte b) (read_label false bs)
-read_label false (b ∷ bs) = if b == quote then Some ([], bs)
-    else (if b == backslash then read_label true bs
-    else option_map (with_byte b) (read_label false bs))
+-- where a reader of a label is: between two characters, behind a backslash, or in an entity, of
+-- which this is still to come
+pub data Reading : Type 0 where
+  Between : Reading
+  BehindBackslash : Reading
+  InEntity : List ℕ → Reading
+
+-- The label of a quoted string from here on, and what follows the quote that ends it. A quote or a
+-- backslash behind a backslash is itself, and the entity `&amp;` is `&`. Other texts that begin
+-- with a backslash or with `&` mean something else to Graphviz, and are not read here. There is no
+-- label if no quote ends it.
+unfoldable pub read_label : Reading → List ℕ → Option (List ℕ × List ℕ)
+read_label reading [] = None
+read_label Between (b ∷ bs) = if b == quote then Some ([], bs)
+    else (if b == backslash then read_label BehindBackslash bs
+    else (if b == ampersand then read_label (InEntity (codes "amp;")) bs
+    else option_map (with_byte b) (read_label Between bs)))
+read_label BehindBackslash (b ∷ bs) = if b == quote || b == backslash
+    then option_map (with_byte b) (read_label Between bs) else None
+read_label (InEntity []) (b ∷ bs) = None
+read_label (InEntity (e ∷ [])) (b ∷ bs) =
+    if b == e then option_map (with_byte ampersand) (read_label Between bs) else None
+read_label (InEntity (e ∷ f ∷ rest)) (b ∷ bs) =
+    if b == e then read_label (InEntity (f ∷ rest)) bs else None
 
 -- ---- laws
 
 -- Graphviz reads exactly the text as the label, and then what follows
 abbrev pub DotLabelIsRead : Type 0
 DotLabelIsRead = (text rest : List ℕ) → IsPrintable text
-    → read_label false (escaped Dot text ++ quote ∷ rest) ≡ Some (text, rest)
+    → read_label Between (escaped Dot text ++ quote ∷ rest) ≡ Some (text, rest)
 
 -- a label of Mermaid has no quote
 abbrev pub MermaidLabelHasNoQuote : Type 0

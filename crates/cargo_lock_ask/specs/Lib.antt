@@ -8,10 +8,13 @@ pub mod Marks
 pub mod Scene
 pub mod Arrows
 pub mod Lines
+pub mod Answers
 pub mod Listing
 pub mod Labels
 pub mod Labelling
 pub mod Diagram
 pub mod DiagramLaws
+pub mod Pictures
 pub mod Duplicates
 pub mod Groups
+pub mod Tally

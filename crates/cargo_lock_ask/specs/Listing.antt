@@ -15,16 +15,16 @@ use Rattle.cargo_lock_ask.specs.declared.repeated.Duplicate.{Duplicate}
 use Rattle.shown.specs.Shown.{shown}
 use Rattle.shown.specs.declared.form.Form.TheVariants.{Plain}
 
--- a package: its name, its version as it is shown, and the packages that depend on it
+-- a package, its version and source as they are shown, and the packages that depend on it
 pub record RowData : Type 0 where
-  pub name : List ℕ
+  pub listed : PackageData
   pub version : List ℕ
   pub needers : List PackageData
 
 -- the row with its references resolved to what they refer to
 abbrev pub row_of : Row → RowData
 row_of row = record {
-  name = row.name.now;
+  listed = row.package.now;
   version = string_bytes row.version;
   needers = map (λ p. p.now) row.needers.items;
 }
@@ -43,7 +43,7 @@ version_text p = shown Plain (parts_text p.version) ++ source_behind p.source
 -- the row of a package and the nodes of those that depend on it
 abbrev pub row_with : List PackageData → List ℕ → PackageData → RowData
 row_with packages needers p = record {
-  name = p.name;
+  listed = p;
   version = version_text p;
   needers = packages_at packages needers;
 }
@@ -75,15 +75,15 @@ abbrev pub row_line : ℕ → RowData → List ℕ
 row_line width row = codes "\n  " ++ (row.version
     ++ needers_text (width - length row.version) row.needers)
 
--- the name that rows have, by the first one
-abbrev pub name_in : List RowData → Option (List ℕ)
-name_in rows = option_map (λ row. row.name) (slice_get rows 0)
+-- the package of the first row
+abbrev pub first_in : List RowData → Option PackageData
+first_in rows = option_map (λ row. row.listed) (slice_get rows 0)
 
--- a name as it is shown, if there is one
-abbrev pub name_shown : Option (List ℕ) → List ℕ
+-- the name of a package as it is shown, if there is one
+abbrev pub name_shown : Option PackageData → List ℕ
 name_shown None = []
-name_shown (Some name) = shown Plain name
+name_shown (Some p) = shown Plain p.name
 
 -- the name, and a line for each package; the last line has no newline
 abbrev pub rows_text : ℕ → List RowData → List ℕ
-rows_text width rows = name_shown (name_in rows) ++ flat_map (row_line width) rows
+rows_text width rows = name_shown (first_in rows) ++ flat_map (row_line width) rows

@@ -25,6 +25,13 @@ struct Found {
 /// node. Fails when out of memory.
 ///
 /// It takes time in proportion to the nodes, the edges and the roots.
+///
+/// ```
+/// if let Some(chain) = shortest_chain(rt.alloc(), tree.graph(), roots, node)? {
+///     let count = chain.len();
+///     println!(rt; "the shortest has {count} packages")?;
+/// }
+/// ```
 pub fn shortest_chain(
     alloc: Global,
     graph: &Graph,
@@ -67,6 +74,12 @@ pub(crate) fn chain_by_steps(
 /// when out of memory.
 ///
 /// The graph is searched once.
+///
+/// ```
+/// let chains = chains_of_each(rt.alloc(), tree.graph(), roots, node)?;
+/// let count = chains.len();
+/// println!(rt; "{count} roots lead there")?;
+/// ```
 pub fn chains_of_each(
     alloc: Global,
     graph: &Graph,

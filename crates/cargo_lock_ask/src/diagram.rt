@@ -14,6 +14,15 @@ use std::fmt;
 /// edge, between lines that the target asks for. The node of package 3 is `n3`, and its label is
 /// `NAME VERSION`, as `Shown` shows them. A package without a source is a rectangle, one of a git
 /// repository a hexagon, and any other is rounded.
+///
+/// ```
+/// let diagram = Diagram {
+///     target: Target::Dot,
+///     graph: tree.graph(),
+///     picture: &picture,
+/// };
+/// print!(rt; "{diagram}")?;
+/// ```
 #[derive(Clone, Copy)]
 pub struct Diagram<'a> {
     /// The program that draws it.

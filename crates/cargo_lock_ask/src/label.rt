@@ -87,6 +87,9 @@ fn write_char<W: fmt::Write>(target: Target, c: char, f: &mut Formatter<W>) -> f
             if c == '"' || c == '\\' {
                 return write!(f, "\\{c}");
             }
+            if c == '&' {
+                return f.write_str("&amp;");
+            }
             f.write_char(c)
         }
         Target::Mermaid => {

@@ -2,6 +2,7 @@
 
 ghost use Rattle.cargo_lock_ask.specs.DiagramLaws.{EachArrowIsOneLine, EachPackageIsOneLine};
 ghost use Rattle.cargo_lock_ask.specs.Labels.{DotLabelIsRead, MermaidLabelHasNoQuote};
+ghost use Rattle.cargo_lock_ask.specs.Pictures.{PictureIsRead};
 
 /// Graphviz reads exactly the text as the label, and then what follows.
 pub fn dot_label_is_read()
@@ -21,4 +22,9 @@ pub fn each_package_is_one_line()
 /// An edge of a picture is one line.
 pub fn each_arrow_is_one_line()
     ensures { EachArrowIsOneLine }
+{}
+
+/// The text of a picture reads back, line by line, as its packages and its edges, each once.
+pub fn picture_is_read()
+    ensures { PictureIsRead }
 {}

@@ -2,6 +2,7 @@
 //! have and what needs each of these, and what a picture of the graph shows.
 #![tactic(auto)]
 
+pub mod answers;
 pub mod chain;
 pub mod diagram;
 pub mod label;
@@ -14,7 +15,9 @@ pub mod reason;
 pub mod repeated;
 pub mod scene;
 mod steps;
+pub mod tally;
 
+pub use crate::answers::Answers;
 pub use crate::chain::{chains_of_each, shortest_chain};
 pub use crate::diagram::Diagram;
 pub use crate::label::{Label, Target};
@@ -24,3 +27,4 @@ pub use crate::need::needers;
 pub use crate::reason::{why, why_each};
 pub use crate::repeated::{Duplicate, duplicates};
 pub use crate::scene::{Arrow, Picture, picture_from};
+pub use crate::tally::Listing;

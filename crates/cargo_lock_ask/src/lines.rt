@@ -12,6 +12,11 @@ use std::fmt;
 
 /// Why a package is there. `Display` writes it as lines, the last one without a newline. Texts that
 /// come from a lockfile are shown as `Shown` shows them.
+///
+/// ```
+/// let answer = Answer::Nothing(package);
+/// println!(rt; "{answer}")?;
+/// ```
 #[derive(Drop)]
 pub enum Answer<'a> {
     /// A chain of dependencies leads to the package: `NAME VERSION` and, for each package that

@@ -9,7 +9,7 @@ ghost use Rattle.cargo_lock_ask.specs.Listing as spec;
 use crate::lines::{Named, packages_at};
 use crate::repeated::Duplicate;
 use cargo_lock_graph::graph::{Graph, NodeIndex};
-use cargo_lock_parts::package::{Name, Package, SourceId};
+use cargo_lock_parts::package::{Package, SourceId};
 use shown::Shown;
 use std::alloc::{AllocError, Global};
 use std::fmt;
@@ -17,8 +17,8 @@ use std::fmt;
 /// A package of several with one name, as a line.
 #[derive(Drop)]
 pub struct Row<'a> {
-    /// The name.
-    pub name: &'a Name,
+    /// The package.
+    pub package: &'a Package,
 
     /// The version and the source as they are shown.
     pub version: String,
@@ -34,6 +34,13 @@ pub struct Row<'a> {
 /// `(path)`, and one of crates.io nothing. Versions and sources are one column, and what depends on
 /// each package another. A package on which none depends has only the first. Texts that come from a
 /// lockfile are shown as `Shown` shows them.
+///
+/// ```
+/// for group in &groups {
+///     let rows = Rows::of(rt.alloc(), tree.graph(), group)?;
+///     println!(rt; "{rows}")?;
+/// }
+/// ```
 #[derive(Drop)]
 pub struct Rows<'a> {
     /// The packages.
@@ -89,7 +96,7 @@ fn row_with<'a>(
     let version = version_of(alloc, package)?;
     let needers = packages_at(alloc, graph, needers)?;
     Ok(Row {
-        name: &package.name,
+        package,
         version,
         needers,
     })
@@ -124,37 +131,37 @@ impl fmt::Display for Rows<'_> {
     ghost output = { λ shown. Some (rows_text shown.width (map row_of shown.rows.items)) };
 
     fn fmt<W: fmt::Write>(&self, f: &mut fmt::Formatter<W>) -> fmt::Result {
-        let name = NameText(name_in(&self.rows));
+        let name = NameText(first_in(&self.rows));
         let rows = RowLines(&self.rows, self.width);
         write!(f, "{name}{rows}")
     }
 }
 
-// The name that rows have.
-fn name_in<'a>(rows: &[Row<'a>]) -> Option<&'a Name>
-    ensures { option_map (λ name. name.now) result ≡ spec.name_in (map row_of rows.now) }
+// The package of the first row.
+fn first_in<'a>(rows: &[Row<'a>]) -> Option<&'a Package>
+    ensures { option_map (λ p. p.now) result ≡ spec.first_in (map row_of rows.now) }
 {
     match rows.first() {
-        Some(row) => Some(row.name),
+        Some(row) => Some(row.package),
         None => None,
     }
 }
 
-// A name, if there is one.
+// The name of a package, if there is one.
 #[derive(Clone, Copy)]
-struct NameText<'a>(Option<&'a Name>);
+struct NameText<'a>(Option<&'a Package>);
 
 impl fmt::Display for NameText<'_> {
     ghost use Rattle.std.specs.Prelude.{Some, option_map};
     ghost use Rattle.cargo_lock_ask.specs.Listing.{name_shown};
 
-    ghost output = { λ shown. Some (name_shown (option_map (λ name. name.now) shown.0)) };
+    ghost output = { λ shown. Some (name_shown (option_map (λ p. p.now) shown.0)) };
 
     fn fmt<W: fmt::Write>(&self, f: &mut fmt::Formatter<W>) -> fmt::Result {
-        let NameText(name) = *self;
-        match name {
-            Some(name) => {
-                let name = Shown(name);
+        let NameText(package) = *self;
+        match package {
+            Some(package) => {
+                let name = Shown(&package.name);
                 write!(f, "{name}")
             }
             None => Ok(()),

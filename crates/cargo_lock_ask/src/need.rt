@@ -11,6 +11,15 @@ use std::alloc::{AllocError, Global};
 
 /// The nodes of the packages that depend on the package of a node, each once and ascending. Fails
 /// when out of memory.
+///
+/// ```
+/// for needer in &needers(rt.alloc(), graph, node)? {
+///     if let Some(package) = graph.node_weight(*needer) {
+///         let name = &package.name;
+///         println!(rt; "{name} needs it")?;
+///     }
+/// }
+/// ```
 pub fn needers(alloc: Global, graph: &Graph, node: NodeIndex) -> Result<Vec<NodeIndex>, AllocError>
     ensures { IfOk result (λ needers. AreNeeders graph.now node needers.items) }
 {

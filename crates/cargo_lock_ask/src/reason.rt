@@ -19,6 +19,13 @@ use std::alloc::{AllocError, Global};
 /// memory.
 ///
 /// It takes time in proportion to the nodes and the edges.
+///
+/// ```
+/// if let Some(chain) = why(rt.alloc(), tree.graph(), node)? {
+///     let count = chain.len();
+///     println!(rt; "a chain of {count} packages")?;
+/// }
+/// ```
 pub fn why(
     alloc: Global,
     graph: &Graph,
@@ -40,6 +47,13 @@ pub fn why(
 /// that `why` finds if no other begins elsewhere. Fails when out of memory.
 ///
 /// The graph is searched once.
+///
+/// ```
+/// for chain in &why_each(rt.alloc(), tree.graph(), node)? {
+///     let count = chain.len();
+///     println!(rt; "one of {count} packages from a root")?;
+/// }
+/// ```
 pub fn why_each(
     alloc: Global,
     graph: &Graph,

@@ -26,6 +26,10 @@ pub struct Duplicate {
 /// that depend on it. The names are in the order of their first packages. Fails when out of memory.
 ///
 /// Packages with one version and one source, which Cargo does not write, are several too.
+///
+/// ```
+/// let groups = duplicates(rt.alloc(), tree.graph())?;
+/// ```
 pub fn duplicates(alloc: Global, graph: &Graph) -> Result<Vec<Vec<Duplicate>>, AllocError>
     ensures groups { IfOk result (λ groups. AreDuplicates graph.now.packages
         (map (λ group. map (λ one. one.node) group.items) groups.items)) }

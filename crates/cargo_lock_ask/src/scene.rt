@@ -38,6 +38,10 @@ pub struct Picture {
 /// The packages to which edges lead in a direction from some nodes, which are among them, and the
 /// edges among these packages. In either direction an arrow is from a package to one on which it
 /// depends. Fails when out of memory.
+///
+/// ```
+/// let picture = picture_from(rt.alloc(), tree.graph(), &roots, EdgeDirection::Outgoing)?;
+/// ```
 pub fn picture_from(
     alloc: Global,
     graph: &Graph,

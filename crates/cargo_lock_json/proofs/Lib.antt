@@ -6,3 +6,4 @@ pub mod Texts
 pub mod Packages
 pub mod Differences
 pub mod Found
+pub mod Asked

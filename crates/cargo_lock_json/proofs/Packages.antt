@@ -13,7 +13,7 @@ pub file-depth : (f : FileData) → depth (file_json f) ≤ 1
 unfolding file_json
 file-depth f = omega arith
 
-text-depth : (text : Option (List ℕ)) → depth (text_or_null text) ≤ 0
+pub text-depth : (text : Option (List ℕ)) → depth (text_or_null text) ≤ 0
 text-depth None = omega arith
 text-depth (Some text) = omega arith
 

@@ -3,3 +3,5 @@ pub mod File
 pub mod Package
 pub mod Difference
 pub mod Findings
+pub mod Why
+pub mod Duplicates

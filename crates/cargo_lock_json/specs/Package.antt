@@ -1,10 +1,11 @@
 -- Packages and dependencies in JSON.
-use Rattle.std.specs.Prelude.{ℕ, List, Option, None, Some, codes, option_map, true}
+use Rattle.std.specs.Prelude.{ℕ, List, Option, None, Some, codes, map, option_map, true}
 use Rattle.semver.specs.Identifiers.{parts_text}
-use Rattle.json.specs.Json.{Json, null, string, object, member, no_members}
+use Rattle.json.specs.Json.{Json, array, null, string, object, member, no_members}
 use Rattle.cargo_lock_parts.specs.Checksum.{digest_text}
 use Rattle.cargo_lock_parts.specs.Identity.{Identity, PackageData, identity_of}
 use Rattle.cargo_lock_parts.specs.SourceText.{text_of}
+use Rattle.cargo_lock_json.specs.Text.{items_of}
 
 -- a text, or null if there is none
 abbrev pub text_or_null : Option (List ℕ) → Json
@@ -27,6 +28,10 @@ package_json p = identity_json (identity_of p) p.checksum
 abbrev pub package_or_null : Option PackageData → Json
 package_or_null None = null
 package_or_null (Some p) = package_json p
+
+-- packages, in their order
+abbrev pub packages_json : List PackageData → Json
+packages_json ps = array (items_of (map package_json ps))
 
 -- a dependency, of which no checksum is known
 abbrev pub dependency_json : Identity → Json

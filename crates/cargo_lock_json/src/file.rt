@@ -1,10 +1,11 @@
 //! The lockfiles that a document describes.
 
-ghost use Rattle.std.specs.Prelude.{◌∷◌};
-ghost use Rattle.json.specs.Token.{key};
+ghost use Rattle.std.specs.Prelude.{◌∷◌, [], codes, decimal};
+ghost use Rattle.json.specs.Token.{begin_object, key, number, string};
 ghost use Rattle.json.specs.Tree.{json_tokens};
 ghost use Rattle.cargo_lock_json.specs.Text.{Adds};
 ghost use Rattle.cargo_lock_json.specs.File.{file_json};
+ghost use Rattle.cargo_lock_references.specs.Format.{number_of};
 
 use crate::text::Text;
 use cargo_lock_references::ResolveVersion;
@@ -29,6 +30,22 @@ impl<'a> Model for File<'a> {
     ghost view = { λ file. record { path = file.path.now; format = file.format } };
 }
 
+// Opens a document about one lockfile: its schema, and the members of the lockfile.
+pub(crate) fn begin_document(
+    out: &mut Text,
+    schema: &str,
+    file: &File<'_>,
+) -> Result<(), AllocError>
+    ensures { Adds result out.old out.new (begin_object
+        ∷ key (codes "schema") ∷ string schema.now
+        ∷ key (codes "path") ∷ string «file».now.path
+        ∷ key (codes "format") ∷ number (decimal (number_of «file».now.format)) ∷ []) }
+{
+    out.begin_object()?;
+    out.string_member("schema", schema)?;
+    put_members(out, file)
+}
+
 // Writes a member whose value is a lockfile.
 #[tactic(auto, unfolding(crate::specs::File::file_json))]
 pub(crate) fn put_file(out: &mut Text, name: &str, file: &File<'_>) -> Result<(), AllocError>
@@ -36,7 +53,15 @@ pub(crate) fn put_file(out: &mut Text, name: &str, file: &File<'_>) -> Result<()
 {
     out.key(name)?;
     out.begin_object()?;
-    out.string_member("path", file.path)?;
-    out.number_member("format", u32::from(file.format) as u64)?;
+    put_members(out, file)?;
     out.end_object()
+}
+
+// Writes the members of a lockfile.
+fn put_members(out: &mut Text, file: &File<'_>) -> Result<(), AllocError>
+    ensures { Adds result out.old out.new (key (codes "path") ∷ string «file».now.path
+        ∷ key (codes "format") ∷ number (decimal (number_of «file».now.format)) ∷ []) }
+{
+    out.string_member("path", file.path)?;
+    out.number_member("format", u32::from(file.format) as u64)
 }

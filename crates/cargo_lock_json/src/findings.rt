@@ -11,7 +11,7 @@ ghost use Rattle.cargo_lock_json.specs.Findings.{package_of};
 ghost use Rattle.cargo_lock_json.specs.Findings as spec;
 ghost use Rattle.cargo_lock_json.specs.Text.{Adds, IsJsonText, items_of};
 
-use crate::file::File;
+use crate::file::{File, begin_document};
 use crate::package::{put_dependency, put_package, put_package_or_null};
 use crate::text::Text;
 use cargo_lock_check::Finding;
@@ -52,10 +52,7 @@ fn put_findings(
     ensures { Adds result out.old out.new (json_tokens
         (spec.findings_json file.now (map finding_of findings.now))) }
 {
-    out.begin_object()?;
-    out.string_member("schema", "cargo-lock-check/1")?;
-    out.string_member("path", file.path)?;
-    out.number_member("format", u32::from(file.format) as u64)?;
+    begin_document(out, "cargo-lock-check/1", file)?;
     out.key("findings")?;
     put_array(out, alloc, findings)?;
     out.end_object()

@@ -1,6 +1,6 @@
 //! Packages and dependencies in JSON.
 
-ghost use Rattle.std.specs.Prelude.{◌≡◌, ◌∷◌, codes, option_map, true};
+ghost use Rattle.std.specs.Prelude.{◌≡◌, ◌∷◌, codes, map, option_map, true};
 ghost use Rattle.semver.specs.Identifiers.{parts_of, parts_text};
 ghost use Rattle.json.specs.Token.{begin_object, key, string};
 ghost use Rattle.json.specs.Tree.{json_tokens};
@@ -8,7 +8,7 @@ ghost use Rattle.cargo_lock_json.specs.Text.{Adds};
 ghost use Rattle.cargo_lock_parts.specs.Checksum.{digest_of, digest_text};
 ghost use Rattle.cargo_lock_parts.specs.SourceText.{text_of};
 ghost use Rattle.cargo_lock_json.specs.Package.{dependency_json, package_json, package_or_null};
-ghost use Rattle.cargo_lock_json.specs.Package.{text_or_null};
+ghost use Rattle.cargo_lock_json.specs.Package.{packages_json, text_or_null};
 
 use crate::text::Text;
 use cargo_lock_parts::dependency::Dependency;
@@ -45,6 +45,22 @@ pub(crate) fn put_package(
     put_identity(out, alloc, &package.name, &package.version, &package.source)?;
     put_checksum(out, alloc, &package.checksum)?;
     out.end_object()
+}
+
+// Writes the array of packages.
+pub(crate) fn put_packages(
+    out: &mut Text,
+    alloc: Global,
+    packages: &[&Package],
+) -> Result<(), AllocError>
+    ensures { Adds result out.old out.new
+        (json_tokens (packages_json (map (λ p. p.now) packages.now))) }
+{
+    out.begin_array()?;
+    for one in packages {
+        put_package(out, alloc, one)?;
+    }
+    out.end_array()
 }
 
 #[tactic(auto, unfolding(crate::specs::Package::identity_json))]

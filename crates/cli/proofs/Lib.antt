@@ -1,3 +1,4 @@
 pub mod Flags
 pub mod Pieces
 pub mod Subcommand
+pub mod Fitting

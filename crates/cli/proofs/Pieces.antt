@@ -1,5 +1,5 @@
 -- Texts that are printed in pieces, one for each element of a list.
-use Rattle.std.proofs.Common.{◌≡◌, ◌∙◌, ◌<◌, ◌+◌, ◌++◌, ◌∷◌, ℕ, List, [], Option, ap, append_assoc, sym, subst, take, length, get_or}
+use Rattle.std.proofs.Common.{◌≡◌, ◌∙◌, ◌<◌, ◌+◌, ◌++◌, ◌∷◌, ℕ, List, [], Option, ap, append_assoc, map, refl, sym, subst, take, length, get_or}
 use Rattle.std.specs.Io.KnownBytes.{Appends}
 use Rattle.std.specs.List.{AllZip, flat_map}
 use Rattle.std.proofs.lemmas.List.{append-nil, take_more}
@@ -39,3 +39,8 @@ pub line-text : (start name version source end : List ℕ)
 line-text start name version source end =
     ap (λ (ws : List ℕ). ws ++ end)
     (append_assoc start (name ++ (32 ∷ version)) source ∙ ap (λ (ws : List ℕ). start ++ (ws ++ source)) (sym (append_assoc name (32 ∷ []) version)))
+
+-- what is made of the elements in two steps
+pub map-twice : {A B C : Type 0} (f : B → C) (h : A → B) (xs : List A) → map (λ x. f (h x)) xs ≡ map f (map h xs)
+map-twice f h [] = refl
+map-twice {A} {B} {C} f h (x ∷ xs) = ap (λ (zs : List C). f (h x) ∷ zs) (map-twice f h xs)

@@ -5,7 +5,7 @@ ghost use Rattle.cli.specs.Bom.{IsAskedBill, IsAskedLine, IsBillOf, IsTimeAsked,
 ghost use Rattle.cli.specs.Json.{IsFlag};
 
 use crate::load::named_lockfile;
-use crate::spec::Spec;
+use crate::spec::fitting;
 use cargo_lock::dependency::graph::NodeIndex;
 use cargo_lock::{Lockfile, Package};
 use cargo_lock_bom::options::{Options, VERSION};
@@ -145,18 +145,6 @@ fn only_fitting(alloc: Global, packages: &[Package], spec: &str) -> Result<NodeI
         [node] => Ok(*node),
         others => Err(Fault::of_root(alloc, others.len(), spec)),
     }
-}
-
-/// The nodes of the packages that match a specification.
-fn fitting(alloc: Global, packages: &[Package], spec: &str) -> Result<Vec<NodeIndex>, Fault> {
-    let parsed = Spec::parse(alloc, spec)?;
-    let mut fitting = Vec::new(alloc);
-    for (place, package) in packages.iter().enumerate() {
-        if parsed.fits(alloc, package)? {
-            fitting.push(NodeIndex::new(place))?;
-        }
-    }
-    Ok(fitting)
 }
 
 /// The options of a bill that the arguments ask for, with this root and this time, if they are

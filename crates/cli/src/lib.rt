@@ -1,11 +1,12 @@
 //! The program `cargo-lock` as a library: lists the packages of a lockfile, writes it in another
-//! format, draws its trees, writes its bill of materials, and reports what differs between two and
-//! what is wrong with one.
+//! format, draws its trees, writes its bill of materials, reports what differs between two and what
+//! is wrong with one, says why a package is there and which names several packages have, and writes
+//! a picture of the packages.
 //!
 //! An error is reported in one message on standard error that begins with `*** error: `. The status
-//! is then 2 for `bom`, `check` and `diff`, which the original does not have, and 1 for the others.
-//! Without an error it is 0, and all of the output was written and flushed; what `diff` or `check`
-//! found may make it 1.
+//! is then 2 for `bom`, `check`, `diff`, `duplicates`, `graph` and `why`, which the original does
+//! not have, and 1 for the others. Without an error it is 0, and all of the output was written and
+//! flushed; what `check`, `diff` or `duplicates` found may make it 1.
 #![tactic(auto)]
 
 ghost use Rattle.std.specs.Prelude.{◌≡◌, ◌⊎◌, IfErr, IfOk, IfSome, map};
@@ -17,11 +18,14 @@ ghost use Rattle.cli.specs.Commands.{Follows, FollowsMatches, name_of};
 mod bom;
 mod check;
 mod diff;
+mod duplicates;
+mod graph;
 mod list;
 mod load;
 mod spec;
 mod translate;
 mod tree;
+mod why;
 
 use cargo_lock_bom::options::VERSION;
 use clap::{ArgMatches, Command};
@@ -109,7 +113,10 @@ fn parser<'a>(alloc: Global) -> Result<Command<'a>, AllocError> {
         .subcommand(tree::command(alloc)?)?
         .subcommand(bom::command(alloc)?)?
         .subcommand(diff::command(alloc)?)?
-        .subcommand(check::command(alloc)?)
+        .subcommand(check::command(alloc)?)?
+        .subcommand(why::command(alloc)?)?
+        .subcommand(duplicates::command(alloc)?)?
+        .subcommand(graph::command(alloc)?)
 }
 
 /// A command.
@@ -118,9 +125,12 @@ enum Chosen {
     Bom,
     Check,
     Diff,
+    Duplicates,
+    Graph,
     List,
     Translate,
     Tree,
+    Why,
 }
 
 /// The command of a name.
@@ -131,9 +141,12 @@ fn command_named(name: &str) -> Option<Chosen>
         "bom" => Some(Chosen::Bom),
         "check" => Some(Chosen::Check),
         "diff" => Some(Chosen::Diff),
+        "duplicates" => Some(Chosen::Duplicates),
+        "graph" => Some(Chosen::Graph),
         "list" => Some(Chosen::List),
         "translate" => Some(Chosen::Translate),
         "tree" => Some(Chosen::Tree),
+        "why" => Some(Chosen::Why),
         _ => None,
     }
 }
@@ -175,6 +188,11 @@ fn follow<R: Files + Env + Clock + AllocGlobal, W: Write>(
         }
         Chosen::Check => check::run(rt, options, out),
         Chosen::Diff => diff::run(rt, options, out),
+        Chosen::Duplicates => duplicates::run(rt, options, out),
+        Chosen::Graph => {
+            graph::run(rt, options, out)?;
+            Ok(ExitCode::SUCCESS)
+        }
         Chosen::List => {
             list::run(rt, options, out)?;
             Ok(ExitCode::SUCCESS)
@@ -185,6 +203,10 @@ fn follow<R: Files + Env + Clock + AllocGlobal, W: Write>(
         }
         Chosen::Tree => {
             tree::run(rt, options, out)?;
+            Ok(ExitCode::SUCCESS)
+        }
+        Chosen::Why => {
+            why::run(rt, options, out)?;
             Ok(ExitCode::SUCCESS)
         }
     }

@@ -10,17 +10,20 @@ ghost use Rattle.cli.specs.Tree.{AreDrawn, AreStarts, IsDrawn, IsGraphOf, Prints
 ghost use Rattle.cli.specs.Tree.{PrintsTreesOf, after_empty_lines, direction_of, given_specs};
 
 use crate::load::lockfile;
-use crate::spec::Spec;
+use crate::spec::{Spec, specs};
 use cargo_lock::dependency::Tree;
 use cargo_lock::dependency::graph::{EdgeDirection, NodeIndex};
 use cargo_lock::{Dependency, Error, Lockfile, Package};
-use clap::{Arg, ArgAction, ArgMatches, Command};
+use clap::{ArgMatches, Command};
 use cli_support::Fault;
 use cli_support::output::put;
 use cli_support::words::{any_size, file, flag};
 use std::alloc::{AllocError, Global};
 use std::io::Write;
 use std::rt::Files;
+
+/// The specifications, as help shows them.
+const SPEC_HELP: &str = "Packages, by name, version, both as NAME@VERSION, checksum or commit";
 
 /// The parser of this command: its options and its specifications.
 pub(crate) fn command<'a>(alloc: Global) -> Result<Command<'a>, AllocError> {
@@ -30,15 +33,7 @@ pub(crate) fn command<'a>(alloc: Global) -> Result<Command<'a>, AllocError> {
         .arg(any_size(alloc))?
         .arg(flag(alloc, "exact", 'x').help("Shows checksums, or else where each comes from"))?
         .arg(flag(alloc, "invert", 'i').help("Draws what depends on each package"))?
-        .arg(specs(alloc))
-}
-
-/// The specifications of packages.
-fn specs<'a>(alloc: Global) -> Arg<'a> {
-    Arg::new(alloc, "spec")
-        .value_name("SPEC")
-        .action(ArgAction::Append)
-        .help("Packages, by name, version, both as NAME@VERSION, checksum or commit")
+        .arg(specs(alloc).help(SPEC_HELP))
 }
 
 /// How trees are printed.
@@ -99,13 +94,14 @@ fn draw_starts<W: Write>(
 }
 
 /// The tree of the lockfile. Fails if no package matches a dependency.
-fn tree_of(alloc: Global, lockfile: &Lockfile) -> Result<Tree, Error>
+pub(crate) fn tree_of(alloc: Global, lockfile: &Lockfile) -> Result<Tree, Error>
     ensures { IfOk result (λ tree. IsGraphOf lockfile.now tree.graph) }
 {
     lockfile.dependency_tree(alloc)
 }
 
-fn direction(inverted: bool) -> EdgeDirection
+/// The direction of edges, which a flag turns round.
+pub(crate) fn direction(inverted: bool) -> EdgeDirection
     ensures { result ≡ direction_of inverted }
 {
     if inverted {

@@ -1,6 +1,7 @@
 //! Small programs over the library, each in a file of its own, run over the lockfile in `data/`.
 #![tactic(auto)]
 
+mod asked;
 mod change_version;
 mod check_merge;
 mod checksums;
@@ -136,6 +137,7 @@ fn print_places(rt: &HostRuntime, lockfile: &Lockfile) -> Result<(), Error> {
     println!(rt; "\nchecksums and ranks:")?;
     checksums::print_checksums(rt, lockfile)?;
     versions::print_ranks(rt, lockfile)?;
+    print_asked(rt, lockfile)?;
     println!(rt; "\nflaws:")?;
     flaws::print_flaws(rt, lockfile)?;
     print_difference(rt, lockfile)
@@ -151,6 +153,17 @@ fn print_nodes(rt: &HostRuntime, lockfile: &Lockfile) -> Result<(), Error> {
         }
     }
     Ok(())
+}
+
+/// Runs the programs that ask a tree.
+fn print_asked(rt: &HostRuntime, lockfile: &Lockfile) -> Result<(), Error> {
+    let tree = Tree::new(rt.alloc(), lockfile)?;
+    println!(rt; "\nreasons:")?;
+    asked::print_reasons(rt, &tree)?;
+    println!(rt; "\nseveral packages of one name:")?;
+    asked::print_names(rt, &tree)?;
+    println!(rt; "\npicture:")?;
+    asked::print_picture(rt, &tree)
 }
 
 fn print_difference(rt: &HostRuntime, lockfile: &Lockfile) -> Result<(), Error> {
