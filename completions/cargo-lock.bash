@@ -4,7 +4,7 @@ _cargo_lock() {
     local current=${COMP_WORDS[COMP_CWORD]} previous=${COMP_WORDS[COMP_CWORD - 1]}
     COMPREPLY=()
     if [ "$COMP_CWORD" = 1 ]; then
-        _cargo_lock_offer 'list translate tree bom diff check help -h --help -V --version'
+        _cargo_lock_offer 'list translate tree bom diff check merge help -h --help -V --version'
         return
     fi
     if [ "$previous" = = ]; then
@@ -60,7 +60,19 @@ _cargo_lock() {
         *) _cargo_lock_offer '-f --file --any-size --json -h --help' ;;
         esac
         ;;
-    help) _cargo_lock_offer 'list translate tree bom diff check help' ;;
+    merge)
+        case $previous in
+        -o | --output) _cargo_lock_files ;;
+        *)
+            if [[ $current == -* ]]; then
+                _cargo_lock_offer '--any-size -o --output -h --help'
+            else
+                _cargo_lock_files
+            fi
+            ;;
+        esac
+        ;;
+    help) _cargo_lock_offer 'list translate tree bom diff check merge help' ;;
     esac
 }
 

@@ -21,6 +21,7 @@ complete -c cargo-lock -n '__cargo_lock_runs ""' -a tree -d 'Draws the trees of 
 complete -c cargo-lock -n '__cargo_lock_runs ""' -a bom -d 'Writes a bill of materials, as CycloneDX 1.6 has it in JSON'
 complete -c cargo-lock -n '__cargo_lock_runs ""' -a diff -d 'Shows what differs between the packages of two lockfiles'
 complete -c cargo-lock -n '__cargo_lock_runs ""' -a check -d 'Prints what is wrong with a lockfile'
+complete -c cargo-lock -n '__cargo_lock_runs ""' -a merge -d 'Merges two lockfiles by packages, over their common ancestor'
 complete -c cargo-lock -n '__cargo_lock_runs ""' -a help -d 'Print this message or the help of the given subcommand(s)'
 complete -c cargo-lock -n '__cargo_lock_runs ""' -s h -l help -d 'Print help'
 complete -c cargo-lock -n '__cargo_lock_runs ""' -s V -l version -d 'Print version'
@@ -69,4 +70,9 @@ complete -c cargo-lock -n '__cargo_lock_runs check' -l any-size -d 'Reads a lock
 complete -c cargo-lock -n '__cargo_lock_runs check' -l json -d 'Prints one line of JSON'
 complete -c cargo-lock -n '__cargo_lock_runs check' -s h -l help -d 'Print help'
 
-complete -c cargo-lock -n '__cargo_lock_runs help' -a 'list translate tree bom diff check help' -d COMMAND
+complete -c cargo-lock -n '__cargo_lock_runs merge' -l any-size -d 'Reads a lockfile of 256 MiB or more too'
+complete -c cargo-lock -n '__cargo_lock_runs merge' -s o -l output -r -F -d 'The file that is written, - for standard output'
+complete -c cargo-lock -n '__cargo_lock_runs merge' -s h -l help -d 'Print help'
+complete -c cargo-lock -n '__cargo_lock_runs merge' -F -d 'The lockfile'
+
+complete -c cargo-lock -n '__cargo_lock_runs help' -a 'list translate tree bom diff check merge help' -d COMMAND

@@ -11,6 +11,7 @@ _cargo-lock() {
         'bom:Writes a bill of materials, as CycloneDX 1.6 has it in JSON'
         'diff:Shows what differs between the packages of two lockfiles'
         'check:Prints what is wrong with a lockfile'
+        'merge:Merges two lockfiles by packages, over their common ancestor'
         'help:Print this message or the help of the given subcommand(s)'
     )
     _arguments -C \
@@ -79,6 +80,15 @@ _cargo-lock() {
             '--any-size[Reads a lockfile of 256 MiB or more too]' \
             '--json[Prints one line of JSON]' \
             '(- *)'{-h,--help}'[Print help]'
+        ;;
+    merge)
+        _arguments -s \
+            '--any-size[Reads a lockfile of 256 MiB or more too]' \
+            '(-o --output)'{-o,--output}'[The file that is written, - for standard output]:PATH:_files' \
+            '(- *)'{-h,--help}'[Print help]' \
+            '1:BASE:_files' \
+            '2:OURS:_files' \
+            '3:THEIRS:_files'
         ;;
     help)
         _describe -t commands COMMAND commands
