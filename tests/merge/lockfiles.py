@@ -80,6 +80,10 @@ class Identity:
         source = () if self.source is None else self.source.order(self.source.canonical())
         return (self.name, version_order(self.version), source)
 
+    def patch_order(self):
+        """The same, and then the commit: two unused patches may differ in that alone."""
+        return (*self.order(), self.source.commit or "" if self.source else "")
+
     def dependency_order(self):
         """What Cargo orders the dependencies of a package by."""
         source = () if self.source is None else self.source.order(self.source.url)

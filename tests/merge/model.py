@@ -270,7 +270,7 @@ class Merge:
     def patches(self):
         base, ours, theirs = (set(it.lockfile.patches) for it in self.sides)
         return sorted((it for it in ours | theirs
-                       if rule3(it in base, it in ours, it in theirs)), key=Identity.order)
+                       if rule3(it in base, it in ours, it in theirs)), key=Identity.patch_order)
 
     def metadata(self):
         values = {key: self.metadata_at(key) for key in self.metadata_keys()}

@@ -1,8 +1,17 @@
 """Rows: triples of lockfiles with the merge that is wanted. `rows/README.md` says how they are
 written."""
+import glob
+import importlib.machinery
+import importlib.util
 import os
+import re
 
 HERE = os.path.dirname(os.path.realpath(__file__))
+TESTS = os.path.dirname(HERE)
+# Lockfiles that are not the merge of themselves. In the first two a dependency on a revision leads
+# to the last package at its commit, as edges do, and in the third V1 has another reference for the
+# branch `master`.
+NOT_KEPT = re.compile(r"order\.v|gitsame\.v[12]|masteronly\.v1")
 
 
 def text_of(path):
@@ -77,3 +86,30 @@ def ask_refusals(merge):
                 yield (f"refused: {name} as {role}",
                        fault_of_words(merge(texts), 2, [role, *words.splitlines()]))
     yield "what is refused beside them", fault_of(merge([sound] * 3), (0, sound, []))
+
+
+def cargo_tests():
+    """The script of `tests/cargo` as a module, which knows what V1 to V3 lose of a source."""
+    loader = importlib.machinery.SourceFileLoader("cargo_tests", f"{TESTS}/cargo/run")
+    module = importlib.util.module_from_spec(importlib.util.spec_from_loader(loader.name, loader))
+    loader.exec_module(module)
+    return module
+
+
+def plain(text):
+    """The text without the empty lines that the program writes and Cargo does not."""
+    return re.sub(r"(?<=manual editing\.\n)\n(?=\[)", "", text).replace("\n\n\n", "\n\n").strip("\n")
+
+
+def ask_wrote(merge):
+    """Each lockfile that Cargo wrote, merged with itself over itself and over nothing."""
+    lossy_sources = cargo_tests().lossy_sources
+    for path in sorted(glob.glob(f"{TESTS}/cargo/wrote/*.lock")):
+        name, text = os.path.basename(path), text_of(path)
+        if NOT_KEPT.match(name) or ".v4." not in name and lossy_sources(text):
+            continue
+        for base in (text, ""):
+            answer = merge([base, text, text])
+            wanted = (0, plain(text), [])
+            yield (f"{name} over {'itself' if base else 'nothing'}",
+                   fault_of(answer._replace(text=plain(answer.text)), wanted))

@@ -169,7 +169,7 @@ def edit_rarely(world, branch, used):
         branch.replaced ^= {rng.choice(used or world.targets)}
     elif what == "patch":
         branch.patches ^= {Identity(rng.choice(["unused", "spare"]), "1.0.0", rng.choice(
-            [None, dataclasses.replace(REPOSITORIES[0], commit=rng.choice(COMMITS))]))}
+            [None, *(dataclasses.replace(REPOSITORIES[0], commit=it) for it in COMMITS)]))}
     elif what == "metadata":
         branch.metadata[rng.choice(["note", "a key"])] = rng.choice(["first", "second", "third \\ \""])
     elif what == "format":
@@ -274,7 +274,7 @@ def lockfile_of(world, branch):
     packages = list(unique.values())
     add_oddities(world, branch, packages)
     packages.sort(key=lambda it: it.identity.order())
-    patches = sorted(branch.patches, key=Identity.order)
+    patches = sorted(branch.patches, key=Identity.patch_order)
     return Lockfile(branch.format, packages, patches, dict(branch.metadata))
 
 
