@@ -356,8 +356,12 @@ class Merge:
 
 def survives(lockfile):
     """Whether the text reads back as the lockfile."""
-    again = read(print_text(lockfile))
-    return (again.format, values_of(again)) == (lockfile.format, values_of(lockfile))
+    try:
+        again = read(print_text(lockfile))
+        return (again.format, values_of(again)) == (lockfile.format, values_of(lockfile))
+    except (Refused, AttributeError):
+        # A reference with a space, or one to no package.
+        return False
 
 
 def values_of(lockfile):
