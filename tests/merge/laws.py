@@ -70,8 +70,8 @@ def check_answer(texts, answer):
         return
     if answer.status == 1:
         ask(answer.text == "" and answer.lines, "a conflict writes nothing")
-        ask(all(it.startswith("conflict: ") for it in answer.lines), "a conflict is told in lines")
-        ask(len(set(answer.lines)) == len(answer.lines), "each conflict is told once")
+        ask(all(it.startswith("conflict: ") for it in answer.lines), "a conflict is reported in lines")
+        ask(len(set(answer.lines)) == len(answer.lines), "each conflict is reported once")
         return
     ask(answer.status == 0, f"the status is 0, 1 or 2: {answer.status}")
     lockfiles = [read(it) for it in texts]
@@ -139,14 +139,14 @@ def has_reference(side, merged, place, to):
 
 
 def check_moved(views, merged, answer):
-    """The moved references are told; where there is none, each link of packages with sources is in
+    """The moved references are reported; where there is none, each link of packages with sources is in
     a side."""
     moved = [f"moved: {with_commit(it.key())} on {with_commit(merged.at[to].key())}"
              for place, it in merged.at.items() for to in it.dependencies
              if to.source and not any(has_reference(side, merged, place, to) for side in views[1:])]
-    told = [MOVED.fullmatch(it) for it in answer.lines]
-    ask(all(told), f"a merge is told in lines: {answer.lines}")
-    ask(sorted(it[1] for it in told) == sorted(moved), f"each moved reference is told: {moved}")
+    lines = [MOVED.fullmatch(it) for it in answer.lines]
+    ask(all(lines), f"moved references are reported in lines: {answer.lines}")
+    ask(sorted(it[1] for it in lines) == sorted(moved), f"each moved reference is reported: {moved}")
     known = views[1].links() | views[2].links()
     own = {it for it in merged.links() if it[0].source and it[1].source}
     ask(moved or own <= known, f"a link is in a side where no reference moved: {own - known}")
@@ -163,8 +163,8 @@ def exchanged(line):
     found = MOVED.fullmatch(line)
     if found:
         what, ours, theirs = found.groups()
-        told = [f"ours: {theirs}"] * bool(theirs) + [f"theirs: {ours}"] * bool(ours)
-        return f"{what} ({', '.join(told)})"
+        before = [f"ours: {theirs}"] * bool(theirs) + [f"theirs: {ours}"] * bool(ours)
+        return f"{what} ({', '.join(before)})"
     return line
 
 

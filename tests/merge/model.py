@@ -477,6 +477,6 @@ def main(words):
 
 if __name__ == "__main__":
     status = main(sys.argv[1:])
-    # What standard output did not take was told, and is not written again.
+    # What standard output did not take is not written again.
     sys.stderr.flush()
     os._exit(status)

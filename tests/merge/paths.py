@@ -72,8 +72,8 @@ class Asked:
         if self.files() != before:
             return what, "a file was changed"
         if isinstance(wanted, int):
-            told = answer.lines and answer.lines[0].startswith("*** error: ")
-            is_fault = (answer.status, answer.text, bool(told)) == (wanted, "", True)
+            message = answer.lines and answer.lines[0].startswith("*** error: ")
+            is_fault = (answer.status, answer.text, bool(message)) == (wanted, "", True)
             return what, None if is_fault else f"not a fault: {answer}"
         return what, fault_of(answer, wanted)
 

@@ -54,11 +54,11 @@ def fault_of_words(answer, status, words):
     """The same where the lines are not fixed, and only what is in them."""
     if (answer.status, answer.text) != (status, ""):
         return f"status {answer.status}, and {answer.text!r} on standard output"
-    told = "\n".join(answer.lines)
-    if status == 2 and not told.startswith("*** error: "):
-        return f"another message: {told!r}"
-    missing = [it for it in words if it not in told]
-    return f"not in {told!r}: {missing}" if missing else None
+    message = "\n".join(answer.lines)
+    if status == 2 and not message.startswith("*** error: "):
+        return f"another message: {message!r}"
+    missing = [it for it in words if it not in message]
+    return f"not in {message!r}: {missing}" if missing else None
 
 
 def rows():

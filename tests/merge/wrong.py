@@ -15,7 +15,7 @@ LONE += 'source = "registry+https://example.org/index"\n'
 WRONG = {
     "right": "changes nothing",
     "ours": "takes ours where the sides are in conflict",
-    "told": "writes ours, and reports the conflict",
+    "writes": "writes ours, and reports the conflict",
     "drops": "drops a package",
     "keeps": "keeps an orphan",
     "version": "has another version of a package",
@@ -44,7 +44,7 @@ def changed(name, words, status, text, lines):
     is_file = os.path.isfile(ours) and ours != "-"
     if name == "ours" and status == 1 and is_file or name == "refuses" and status == 2 and is_file:
         return 0, open(ours, encoding="utf-8").read(), ""
-    if name == "told" and status == 1 and is_file:
+    if name == "writes" and status == 1 and is_file:
         return status, open(ours, encoding="utf-8").read(), lines
     if name == "sides" and status == 1:
         return status, text, lines.replace("(ours)", "(x)").replace("(theirs)", "(ours)").replace(
