@@ -23,5 +23,6 @@ pub mod Lists
 pub mod Assembled
 pub mod Refusals
 pub mod Triples
+pub mod Moved
 pub mod Numbers
 pub mod Conflicts

@@ -9,6 +9,7 @@ pub mod laws;
 mod linked;
 pub mod lists;
 pub mod merged;
+pub mod moved;
 pub mod numbers;
 pub mod place;
 pub mod placed;

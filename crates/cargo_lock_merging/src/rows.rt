@@ -62,7 +62,7 @@ pub fn rows<'a>(
 }
 
 // The places of packages.
-fn places(alloc: Global, list: &[Placed]) -> Result<Vec<usize>, AllocError>
+pub(crate) fn places(alloc: Global, list: &[Placed]) -> Result<Vec<usize>, AllocError>
     ensures { IfOk result (λ places. places.items ≡ places_of (all_data list.now)) }
 {
     let mut places = Vec::with_capacity(alloc, list.len())?;
