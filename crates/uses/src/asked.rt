@@ -6,9 +6,10 @@ ghost use Rattle.std.specs.Prelude.{◌<◌, All, length};
 use cargo_lock::dependency::Tree;
 use cargo_lock::dependency::graph::{EdgeDirection, Graph, NodeIndex};
 use cargo_lock::{Error, ResolveVersion};
-use cargo_lock_ask::{Answer, Answers, Diagram, Listing, Rows, Target};
-use cargo_lock_ask::{chains_of_each, duplicates, needers, picture_from, shortest_chain};
-use cargo_lock_ask::{why, why_each};
+use cargo_lock_ask::{
+    Answer, Answers, Diagram, Listing, Rows, Target, chains_of_each, duplicates, needers,
+    picture_from, shortest_chain, why, why_each,
+};
 use cargo_lock_json::{File, answers_json, groups_json};
 
 /// Prints why each package of a tree is there.
