@@ -17,7 +17,7 @@ use Rattle.cargo_lock_merging.proofs.Members.{in-map, map-in}
 use Rattle.cargo_lock_merging.proofs.Once.{one-at}
 use Rattle.cargo_lock_merging.proofs.Planning.{map-push}
 use Rattle.cargo_lock_merging.proofs.Zipping.{zip-push}
-use Rattle.cargo_lock_merge.specs.Assembling.{merged_places}
+use Rattle.cargo_lock_merging.specs.Kept.{merged_places}
 
 -- no merged package is at a place that is none of theirs
 pub none-at : (ms : List Merged) (n : ℕ) → ¬ Contains (merged_places ms) n → (y : PlacedData ℕ) → ¬ HasAt (map merged_data ms) n y

@@ -1,14 +1,21 @@
 -- The merge of three lists by the numbers of their places.
-use Rattle.std.proofs.Common.{ℕ, List, Option, Some, None}
-use Rattle.cargo_lock_parts.specs.Identity.{PackageData}
+use Rattle.std.proofs.Common.{◌≡◌, ◌∙◌, ◌⊎◌, ℕ, List, Option, Some, None, inl, inr, subst, sym}
+use Rattle.std.specs.List.{AllZip, Contains}
+use Rattle.std.specs.List.Sorted.{IsPermutation}
+use Rattle.std.proofs.lemmas.List.Sorted.{Contains-permutation}
+use Rattle.std.proofs.lemmas.Option.{same_Some}
+use Rattle.cargo_lock_parts.specs.Identity.{Identity, PackageData}
 use Rattle.cargo_lock_merging.specs.declared.plan.Plan.{Plan}
+use Rattle.cargo_lock_merging.specs.Assembled.{IsAssembled, IsIdentityAt, IsIdentityAtIf}
 use Rattle.cargo_lock_merging.specs.Commits.{Lockfiles}
 use Rattle.cargo_lock_merging.specs.Merge.{Triple}
 use Rattle.cargo_lock_merging.specs.Merged.{HasPlan}
+use Rattle.cargo_lock_merging.specs.Placed.{PlacedData}
 use Rattle.cargo_lock_merging.specs.Plans.{IsPlan}
 use Rattle.cargo_lock_merging.specs.Triples.{AreSidesOf}
 use Rattle.cargo_lock_merging.proofs.Assembling.{assembled-merge, list-closed, list-numbered}
-use Rattle.cargo_lock_merge.specs.Outcome.{Finds, IsAssembledOf}
+use Rattle.cargo_lock_merging.proofs.Zipping.{zip-left, zip-right}
+use Rattle.cargo_lock_merge.specs.Outcome.{Finds, IsAssembledOf, IsIdentityIn, RefersInFull}
 
 -- the plan of numbered lists
 pub has-plan : (all : Lockfiles) (s : Triple ℕ) (plan : Plan) → AreSidesOf all s → IsPlan s plan → HasPlan s plan
@@ -21,7 +28,33 @@ has-plan all s plan (places, are) is = record {
   plan = is;
 }
 
+-- ---- the references of assembled packages
+
+module _ (m xs : List (PlacedData ℕ)) (ps : List PackageData) (perm : IsPermutation m xs) (zip : AllZip (IsAssembled m) xs ps) where
+  identity-in : (n : ℕ) (i : Identity) → IsIdentityAt m n i → IsIdentityIn ps i
+  identity-in n i (y, at, is) =
+      let (q, there, assembled) = zip-left (IsAssembled m) xs ps y zip (Contains-permutation m xs y perm at.0) in
+      (q, there, is ∙ sym assembled.identity)
+
+  replacement-in : (r : Option ℕ) (s : Option Identity) (i : Identity) → s ≡ Some i → IsIdentityAtIf m r s → IsIdentityIn ps i
+  replacement-in None s i e h = let none = sym h ∙ e in absurd cc
+  replacement-in (Some n) None i e h = absurd cc
+  replacement-in (Some n) (Some j) i e h = subst (IsIdentityIn ps) (same_Some j i e) (identity-in n j h)
+
+  pub refers-in-full : RefersInFull ps
+  refers-in-full p i among refers =
+      let (x, there, assembled) = zip-right (IsAssembled m) xs ps p zip among in
+      by x assembled refers
+    where
+      by : (x : PlacedData ℕ) → IsAssembled m x p → Contains p.dependencies i ⊎ (p.replace ≡ Some i) → IsIdentityIn ps i
+      by x assembled (inl depends) = let (n, listed, at) = (assembled.dependencies i).0 depends in identity-in n i at
+      by x assembled (inr replaced) = replacement-in x.replacement p.replace i replaced assembled.replacement
+
 -- what is found by numbers is found
 pub finds : (all : Lockfiles) (s : Triple ℕ) (o : Option (List PackageData)) → AreSidesOf all s → IsAssembledOf s o → Finds all o
 finds all s None (places, are) none = record { places = places; triple = s; sides = are; none = none }
-finds all s (Some ps) (places, are) (m, merge, assembled) = assembled-merge all places s m ps are merge assembled
+finds all s (Some ps) (places, are) (m, merge, (xs, perm, zip)) = record {
+  commits = record { base = are.base_commits; ours = are.our_commits; theirs = are.their_commits };
+  merge = assembled-merge all places s m ps are merge (xs, perm, zip);
+  references = refers-in-full m xs ps perm zip;
+}

@@ -2,14 +2,14 @@
 
 ghost use Rattle.std.specs.Prelude.{◌≡◌, ◌↔◌, ℕ, IfOk, IsOkUnless, MatchOption, map};
 ghost use Rattle.std.specs.List.{AllZip, Contains};
-ghost use Rattle.std.specs.List.Sorted.{IsPermutation, IsStrictlyIncreasing};
+ghost use Rattle.std.specs.List.Sorted.{IsStrictlyIncreasing};
 ghost use Rattle.cargo_lock_parts.specs.declared.error.Error.TheVariants.{Memory};
 ghost use Rattle.cargo_lock_parts.specs.Identity.{Identity, identity_of};
 ghost use Rattle.cargo_lock_merging.specs.Assembled.{AreAssembled, IsAssembled, IsIdentityAt};
 ghost use Rattle.cargo_lock_merging.specs.Assembled.{IsIdentityAtIf};
 ghost use Rattle.cargo_lock_merging.specs.Merged.{merged_data};
 ghost use Rattle.cargo_lock_merging.specs.Placed.{HasAt, PlacedData};
-ghost use Rattle.cargo_lock_merge.specs.Assembling.{merged_places};
+ghost use Rattle.cargo_lock_merging.specs.Kept.{merged_places};
 
 use crate::order::{order_dependencies, order_packages};
 use cargo_lock_merging::merged::Merged;

@@ -1,8 +1,7 @@
 //! The order in which Cargo writes packages, and the dependencies of a package.
 
-ghost use Rattle.std.specs.Prelude.{◌≡◌, ◌<◌, IsOkUnless, OnOk, length};
+ghost use Rattle.std.specs.Prelude.{◌<◌, OnOk, length};
 ghost use Rattle.std.specs.List.Sorted.{IsPermutation};
-ghost use Rattle.cargo_lock_parts.specs.declared.error.Error.TheVariants.{Memory};
 
 use cargo_lock_check::{dependency_order, package_order};
 use cargo_lock_merging::placed::cmp_identities;

@@ -20,9 +20,12 @@ use std::alloc::Global;
 /// The packages of the merge of two sides over a base, in the order in which Cargo writes them, or
 /// `None` if the sides are in conflict about something that the merge needs.
 ///
-/// At each place, which is a name, a source without its commit, and the release line of a version
-/// of a registry, the package is that of the side that changed it. `Stop::Refused` says which of
-/// the three lists cannot be merged, and why. The other error is `Stop::Memory`.
+/// A place is a name, a source without its commit, and the release line of the version, but for a
+/// git source. Without a source it is the name, with the version where one of the lists has several
+/// such packages. At each place the package is that of the side that changed it; if both changed
+/// it, the one of the greater version, or for a git source that of the commit that both agree on.
+/// `Stop::Refused` says which of the three lists cannot be merged, and why. The other error is
+/// `Stop::Memory`.
 pub fn merge<'a>(
     alloc: Global,
     base: &'a Vec<Package>,

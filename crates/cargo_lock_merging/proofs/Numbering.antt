@@ -2,24 +2,36 @@
 use Rattle.std.proofs.Common.{◌≡◌, ◌<◌, ◌+◌, ◌++◌, ℕ, Bool, true, false, cond, List, [], ◌∷◌, length, get_or, map, slice_get, take, Option, Some, None, IsSome, refl, sym, ap, subst, ◌∙◌, arith, append_assoc}
 use Rattle.std.specs.Bool.{Decides}
 use Rattle.std.specs.BTreeMap.{BTreeMap, get, is_at}
+use Rattle.std.specs.Prelude.{option_map}
 use Rattle.std.proofs.lemmas.List.{get_or-map, length-map, take_more}
 use Rattle.std.proofs.lemmas.Option.{same_Some, slice_get-get_or}
+use Rattle.semver.specs.Identifiers.{parts_of}
+use Rattle.semver.specs.Parse.{Parts}
 use Rattle.cargo_lock_parts.specs.Identity.{PackageData}
+use Rattle.cargo_lock_parts.specs.SourceKey.{key_of}
 use Rattle.cargo_lock_parts.specs.PartialIdentity.{PartialIdentity, is_same_partial_identity-Decides, partial_identity_cmp, partial_key}
 use Rattle.cargo_lock_graph.specs.Targets.{IsLastBelow}
 use Rattle.cargo_lock_graph.proofs.BestCandidates.{last-new, last-same}
 use Rattle.cargo_lock_merging.specs.declared.numbers.Spot.{Spot}
-use Rattle.cargo_lock_merging.specs.Commits.{Lockfiles}
+use Rattle.cargo_lock_merging.specs.declared.place.Located.{Located}
+use Rattle.cargo_lock_merging.specs.Commits.{Lockfiles, key_without_commit}
 use Rattle.cargo_lock_merging.specs.Located.{IsLocated}
 use Rattle.cargo_lock_merging.specs.Numbers.{AreLast, spot_place, spot_places}
 use Rattle.cargo_lock_merging.specs.Places.{Place, has_several, place_of, version_in}
 
 -- the place of a package whose parts are located
-pub located-place : (all : Lockfiles) (s : Spot) (p : PackageData) (several : Bool) → s.«package».now ≡ p → several ≡ has_several all p.name → IsLocated p several s.located → spot_place s ≡ place_of all p
-located-place all s p several is e h = λ i. record {
+pub located-place : (all : Lockfiles) (s : Spot) (p : PackageData) → s.«package».now ≡ p → IsLocated all p s.located → spot_place s ≡ place_of all p
+located-place all s p is h = λ i. record {
   name = (is i).name;
-  version = (h.version ∙ ap (λ (b : Bool). version_in b p.version p.source) e) i;
+  version = h.version i;
   source = h.source i;
+}
+
+-- the parts of the place of a package without a source
+pub located-member : (all : Lockfiles) (p : PackageData) (v : Parts) (several : Bool) (l : Located) → v ≡ p.version → p.source ≡ None → several ≡ has_several all p.name → (option_map parts_of l.version ≡ version_in several v None) × (option_map key_of l.source ≡ None) → IsLocated all p l
+located-member all p v several l same none is (version, source) = record {
+  version = version ∙ (λ i. version_in (is i) (same i) (sym none i));
+  source = source ∙ ap (option_map key_without_commit) (sym none);
 }
 
 place-step : (P : ℕ → Type 0) (n : ℕ) (b : Bool) (found : Option ℕ) → Decides b (P n) → IsLastBelow P n found → IsLastBelow P (n + 1) (cond b (Some n) found)

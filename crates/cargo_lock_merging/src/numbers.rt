@@ -10,7 +10,7 @@ ghost use Rattle.cargo_lock_merging.specs.Numbers.{all_of, spot_packages, spot_p
 ghost use Rattle.cargo_lock_merging.specs.Numbers.{spot_place};
 ghost use Rattle.cargo_lock_merging.specs.Places.{Place, place_of};
 
-use crate::place::{Lists, Located, has_several, locate};
+use crate::place::{Lists, Located, locate};
 use cargo_lock_parts::error::Result;
 use cargo_lock_parts::package::{Package, PartialIdentity};
 use std::alloc::{AllocError, Global};
@@ -68,7 +68,7 @@ fn spot_of<'a>(lists: &Lists<'a>, package: &'a Package) -> Result<Spot<'a>>
         (λ spot. spot_place spot ≡ place_of (lists_of lists.now) «package».now) }
     ensures err { IsOkUnless result Memory }
 {
-    let located = locate(package, has_several(lists, &package.name))?;
+    let located = locate(lists, package)?;
     Ok(Spot { package, located })
 }
 

@@ -36,13 +36,13 @@ pub struct Located {
 
 /// The version and the source of the package's place. It has the version of a package without a
 /// source only if one of the lists has several packages of the name. The one error is `Memory`.
-pub fn locate(package: &Package, several: bool) -> Result<Located>
-    ensures ok { IfOk result (IsLocated «package».now several) }
+pub fn locate(lists: &Lists, package: &Package) -> Result<Located>
+    ensures ok { IfOk result (IsLocated (lists_of lists.now) «package».now) }
     ensures err { IsOkUnless result Memory }
 {
     match &package.source {
         Some(source) => locate_sourced(source, &package.version),
-        None => locate_member(&package.version, several),
+        None => locate_member(&package.version, has_several(lists, &package.name)),
     }
 }
 

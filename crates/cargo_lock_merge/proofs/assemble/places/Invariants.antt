@@ -1,5 +1,5 @@
 use Rattle.std.proofs.Common.{◌≡◌, take}
-use Rattle.cargo_lock_merge.specs.Assembling.{merged_places}
+use Rattle.cargo_lock_merging.specs.Kept.{merged_places}
 use Rattle.cargo_lock_merge.proofs.assemble.places.Given as goal
 
 abbrev pub invariant-loop-one : goal.invariant-loop-one

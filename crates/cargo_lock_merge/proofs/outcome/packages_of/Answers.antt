@@ -5,7 +5,7 @@ use Rattle.cargo_lock_merging.specs.Assembled.{AreAssembled}
 use Rattle.cargo_lock_merging.specs.Merge.{IsMerge}
 use Rattle.cargo_lock_merging.specs.Merged.{merged_data}
 use Rattle.cargo_lock_merging.specs.Placed.{PlacedData}
-use Rattle.cargo_lock_merge.specs.Assembling.{merged_places}
+use Rattle.cargo_lock_merging.specs.Kept.{merged_places}
 use Rattle.cargo_lock_merge.proofs.outcome.packages_of.Goals as goal
 
 if-some : {V : Type 0} (P : V → Type 0) (o : Option V) (v : V) → o ≡ Some v → IfSome o P → P v

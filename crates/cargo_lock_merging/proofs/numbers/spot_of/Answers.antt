@@ -1,8 +1,6 @@
-use Rattle.std.proofs.Common.{◌∙◌, ap, refl}
-use Rattle.cargo_lock_parts.specs.Identity.{PackageData}
+use Rattle.std.proofs.Common.{refl}
 use Rattle.cargo_lock_merging.specs.declared.numbers.Spot.{Spot}
 use Rattle.cargo_lock_merging.specs.Located.{lists_of}
-use Rattle.cargo_lock_merging.specs.Places.{has_several}
 use Rattle.cargo_lock_merging.proofs.Numbering.{located-place}
 use Rattle.cargo_lock_merging.proofs.numbers.spot_of.Goals as goal
 
@@ -10,5 +8,4 @@ pub returns-clause-place : goal.returns-clause-place
 returns-clause-place c =
     let all = lists_of c.args.lists.now in
     let spot : Spot = record { «package» = c.args.«package»; located = c.in_ok-located.located } in
-    located-place all spot c.args.«package».now c.has_several.result refl (c.has_several.ensures ∙ ap (λ (p : PackageData). has_several all p.name) c.«package».view_is)
-    c.in_ok-located.ensures.ok
+    located-place all spot c.args.«package».now refl c.in_ok-located.ensures.ok
