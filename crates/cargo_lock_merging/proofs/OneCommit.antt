@@ -4,14 +4,14 @@ use Rattle.std.specs.Borrow.{Bor}
 use Rattle.std.specs.BTreeMap.{BTreeMap, get}
 use Rattle.std.specs.List.{Contains}
 use Rattle.std.proofs.lemmas.Bool.{cases_Bool}
-use Rattle.std.proofs.lemmas.List.Elements.{Contains-append_left, Contains-push_cases}
+use Rattle.std.proofs.lemmas.List.Elements.{Contains-append_left, Contains-append_right, Contains-push_cases}
 use Rattle.std.proofs.lemmas.List.{take-append-drop}
 use Rattle.std.proofs.lemmas.Option.{same_Some}
 use Rattle.cargo_lock_parts.specs.Identity.{PackageData}
 use Rattle.cargo_lock_parts.specs.Source.{Source, is_git}
 use Rattle.cargo_lock_parts.specs.SourceKey.{Key, key_of, source_cmp}
-use Rattle.cargo_lock_merging.specs.CommitMaps.{AreCommitsOf, HasPut, IsBare, IsOnce, commit_if}
-use Rattle.cargo_lock_merging.specs.Commits.{HasCommit, HasOneCommitEach, IsCommitIn, commit_in, git_in, key_without_commit}
+use Rattle.cargo_lock_merging.specs.CommitMaps.{AreCommitsOf, AreSourcesOf, HasPut, HasPutSource, IsBare, IsOnce, IsPutSource, commit_if}
+use Rattle.cargo_lock_merging.specs.Commits.{HasCommit, HasOneCommitEach, HasSource, IsCommitIn, commit_in, git_in, key_without_commit}
 use Rattle.cargo_lock_merging.specs.Refusals.{IsApartOrMemory, IsTwoOrMemory}
 use Rattle.cargo_lock_merging.specs.declared.refusal.Fault.{Fault}
 use Rattle.cargo_lock_merging.specs.declared.refusal.Fault.TheVariants.{Memory, Refused}
@@ -37,6 +37,24 @@ commits-start map none = λ s b. subst (λ (o : Option (Bor Source)). IsCommitIn
 
 pub commits-more : (xs : List PackageData) (p : PackageData) (old new : BTreeMap Source (Bor Source)) → AreCommitsOf xs old → HasPut old new p → AreCommitsOf (xs ++ p ∷ []) new
 commits-more xs p old new are put = λ s b. commit-put xs p (key_of s) (commit_if (get source_cmp old s)) (commit_if (get source_cmp new s)) (are s b) (put s b)
+
+-- ---- the sources of the map
+
+sources-map : (o : Option (Bor Source)) (P Q : Bor Source → Type 0) → ((a : Bor Source) → P a → Q a) → IfSome o P → IfSome o Q
+sources-map None P Q f h = tt
+sources-map (Some a) P Q f h = f a h
+
+pub sources-start : (map : BTreeMap Source (Bor Source)) → ((s : Source) → get source_cmp map s ≡ None) → AreSourcesOf [] map
+sources-start map none = λ s. subst (λ (o : Option (Bor Source)). IfSome o (λ (a : Bor Source). HasSource [] a.now × (key_without_commit a.now ≡ key_of s))) (sym (none s)) tt
+
+pub sources-more : (xs : List PackageData) (p : PackageData) (old new : BTreeMap Source (Bor Source)) → AreSourcesOf xs old → HasPutSource old new p → AreSourcesOf (xs ++ p ∷ []) new
+sources-more xs p old new are put = λ s. by s (put s)
+  where
+    by : (s : Source) → IsPutSource p s (get source_cmp old s) (get source_cmp new s)
+        → IfSome (get source_cmp new s) (λ a. HasSource (xs ++ p ∷ []) a.now × (key_without_commit a.now ≡ key_of s))
+    by s (inl same) = subst (λ (o : Option (Bor Source)). IfSome o (λ (a : Bor Source). HasSource (xs ++ p ∷ []) a.now × (key_without_commit a.now ≡ key_of s))) (sym same)
+        (sources-map (get source_cmp old s) _ _ (λ a h. let ((q, there, is), key) = h in ((q, Contains-append_left xs (p ∷ []) q there, is), key)) (are s))
+    by s (inr put) = sources-map (get source_cmp new s) _ _ (λ a h. ((p, Contains-append_right xs (p ∷ []) p (0, omega arith, refl), h.0), h.1)) put
 
 -- one more package at the commit of those before
 pub one-more : (xs : List PackageData) (p : PackageData) (map : BTreeMap Source (Bor Source)) → AreCommitsOf xs map → HasOneCommitEach xs → IsOnce map p → HasOneCommitEach (xs ++ p ∷ [])
@@ -70,19 +88,19 @@ one-more xs p map are one once g c d hc hd = by (cases g c hc) (cases g d hd)
 
 -- packages of the list at two commits
 pub two-of : (packages : List PackageData) (i : ℕ) (p : PackageData) (map : BTreeMap Source (Bor Source)) (fault : Fault) → i < length packages → p ≡ get_or packages i p
-    → AreCommitsOf (take i packages) map → IsApartOrMemory map p fault → IsTwoOrMemory packages fault
+    → AreSourcesOf (take i packages) map → IsApartOrMemory map p fault → IsTwoOrMemory packages fault
 two-of packages i p map Memory low is are h = h
 two-of packages i p map (Refused (OnePlace a b)) low is are h = absurd h
 two-of packages i p map (Refused (Unreplaced a)) low is are h = absurd h
 two-of packages i p map (Refused (Lost text)) low is are h = absurd h
 two-of packages i p map (Refused (TwoCommits a b)) low is are (source, git, got, apart) =
-    let t : Source = b.now in
-    let s = bare t in
-    let key : key_of s ≡ key_without_commit t = bare-key t s refl in
-    let here : HasCommit (take i packages) (key_of s) a.now.precise = subst (λ (o : Option (Bor Source)). IsCommitIn (take i packages) (key_of s) (commit_if o)) got (are s (bare-is t git)) in
+    let s = bare b.now in
+    let ((q, among, is-q), key) = subst (λ (o : Option (Bor Source)). IfSome o (λ (c : Bor Source). HasSource (take i packages) c.now × (key_without_commit c.now ≡ key_of s))) got (are s) in
     record {
-      one = subst (λ (g : Key). HasCommit packages g a.now.precise) key (here.0, taken-in packages i here.0 here.1, here.2);
-      other = (p, (i, low, sym is), (ap git_in source ∙ rw git refl, ap commit_in source));
+      one = (q, taken-in packages i q among, is-q);
+      other = (p, (i, low, sym is), source);
+      git = git;
+      same = key ∙ bare-key b.now s refl;
       apart = apart;
     }
   where

@@ -1,5 +1,5 @@
 -- Commits that are put into a map.
-use Rattle.std.proofs.Common.{◌≡◌, inl, inr, ℕ, Bool, true, false, cond, List, [], ◌∷◌, ◌++◌, take, length, get_or, ◌+◌, ◌<◌, Option, Some, None, refl, sym, ap, ◌∙◌, true≢false}
+use Rattle.std.proofs.Common.{◌≡◌, inl, inr, ℕ, Bool, true, false, cond, List, [], ◌∷◌, ◌++◌, take, length, get_or, ◌+◌, ◌<◌, Option, Some, None, IfSome, refl, sym, ap, subst, ◌∙◌, true≢false}
 use Rattle.std.specs.Borrow.{Bor}
 use Rattle.std.specs.BTreeMap.{is_at}
 use Rattle.std.proofs.lemmas.Bool.{cases_Bool}
@@ -11,7 +11,7 @@ use Rattle.cargo_lock_parts.specs.SourceKey.{Key, key_of, source_cmp}
 use Rattle.cargo_lock_parts.specs.SourceLaws.{is_same_source-Decides}
 use Rattle.cargo_lock_merging.specs.declared.placed.Placed.{Placed}
 use Rattle.cargo_lock_merging.specs.Commits.{commit_in, git_in, key_without_commit}
-use Rattle.cargo_lock_merging.specs.CommitMaps.{IsPut, commit_if}
+use Rattle.cargo_lock_merging.specs.CommitMaps.{IsPut, IsPutSource, commit_if}
 use Rattle.cargo_lock_merging.specs.Numbered.{all_data}
 use Rattle.cargo_lock_merging.specs.Placed.{contents_of}
 use Rattle.cargo_lock_merging.proofs.Merging.{bare-key}
@@ -38,6 +38,15 @@ module _ (p : PackageData) (s k q : Source) (old new : Option (Bor Source)) (sou
   put-git e = elim (cases_Bool (is_at (source_cmp k) q)) [
     | inl at ↦ put-here at (e ∙ ap (λ (b : Bool). cond b (Some source) old) at)
     | inr at ↦ put-there at (e ∙ ap (λ (b : Bool). cond b (Some source) old) at)
+  ]
+
+  -- the source of a package of a git source
+  pub put-source : new ≡ cond (is_at (source_cmp k) q) (Some source) old → IsPutSource p q old new
+  put-source e = elim (cases_Bool (is_at (source_cmp k) q)) [
+    | inl at ↦ inr (subst (λ (o : Option (Bor Source)). IfSome o (λ (a : Bor Source). (p.source ≡ Some a.now) × (key_without_commit a.now ≡ key_of q)))
+        (sym (e ∙ ap (λ (b : Bool). cond b (Some source) old) at))
+        (is ∙ ap Some (sym here), ap key_without_commit here ∙ sym (bare-key s k bare) ∙ (is_same_source-Decides k q).0 at))
+    | inr at ↦ inl (e ∙ ap (λ (b : Bool). cond b (Some source) old) at)
   ]
 
 no-git : (o : Option Source) (s : Source) → o ≡ Some s → is_git s.kind ≡ false → git_in o ≡ None

@@ -5,7 +5,7 @@ use Rattle.std.specs.BTreeMap.{BTreeMap, get}
 use Rattle.cargo_lock_parts.specs.Identity.{PackageData}
 use Rattle.cargo_lock_parts.specs.Source.{Source, is_git}
 use Rattle.cargo_lock_parts.specs.SourceKey.{Key, key_of, source_cmp}
-use Rattle.cargo_lock_merging.specs.Commits.{IsCommitIn, git_in, commit_in}
+use Rattle.cargo_lock_merging.specs.Commits.{HasSource, IsCommitIn, commit_in, git_in, key_without_commit}
 
 -- a git source without its commit
 pub record IsBare (s : Source) : Type 0 where
@@ -37,3 +37,20 @@ HasPut old new p = (s : Source) → IsBare s
 abbrev pub IsOnce : BTreeMap Source (Bor Source) → PackageData → Type 0
 IsOnce map p = (t : Source) → p.source ≡ Some t → IsTrue (is_git t.kind)
     → IfSome (commit_if (get source_cmp map (record t { precise = None }))) (λ c. c ≡ t.precise)
+
+-- each source of the map is that of a package of the list, and is found by its key but for its
+-- commit
+abbrev pub AreSourcesOf : List PackageData → BTreeMap Source (Bor Source) → Type 0
+AreSourcesOf xs map = (s : Source) → IfSome (get source_cmp map s)
+    (λ a. HasSource xs a.now × (key_without_commit a.now ≡ key_of s))
+
+-- the answer is the old one, or the source of the package
+abbrev pub IsPutSource : PackageData → Source → Option (Bor Source) → Option (Bor Source) → Type 0
+IsPutSource p s old new = (new ≡ old)
+    ⊎ IfSome new (λ a. (p.source ≡ Some a.now) × (key_without_commit a.now ≡ key_of s))
+
+-- the map has no other source than before but that of the package
+abbrev pub HasPutSource : BTreeMap Source (Bor Source) → BTreeMap Source (Bor Source) → PackageData
+    → Type 0
+HasPutSource old new p = (s : Source) → IsPutSource p s (get source_cmp old s)
+    (get source_cmp new s)

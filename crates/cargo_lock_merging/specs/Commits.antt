@@ -24,6 +24,10 @@ commit_in (Some s) = s.precise
 abbrev pub IsAtSource : Key → Option (List ℕ) → PackageData → Type 0
 IsAtSource g c p = (git_in p.source ≡ Some g) × (commit_in p.source ≡ c)
 
+-- a package of the list has the source
+abbrev pub HasSource : List PackageData → Source → Type 0
+HasSource xs s = (p : PackageData) × Contains xs p × (p.source ≡ Some s)
+
 -- the list has the git source at the commit
 abbrev pub HasCommit : List PackageData → Key → Option (List ℕ) → Type 0
 HasCommit xs g c = (p : PackageData) × Contains xs p × IsAtSource g c p

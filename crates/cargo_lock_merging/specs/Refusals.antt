@@ -14,7 +14,7 @@ use Rattle.cargo_lock_merging.specs.declared.refusal.Refusal.TheVariants.{Lost, 
 use Rattle.cargo_lock_merging.specs.declared.refusal.Refusal.TheVariants.{Unreplaced}
 use Rattle.cargo_lock_merging.specs.declared.refusal.Fault.{Fault}
 use Rattle.cargo_lock_merging.specs.declared.refusal.Fault.TheVariants.{Memory, Refused}
-use Rattle.cargo_lock_merging.specs.Commits.{HasCommit, Lockfiles, key_without_commit}
+use Rattle.cargo_lock_merging.specs.Commits.{HasSource, Lockfiles, key_without_commit}
 use Rattle.cargo_lock_merging.specs.Linked.{IsStatedAt}
 use Rattle.cargo_lock_merging.specs.Lists.{BeginsAt}
 use Rattle.cargo_lock_merging.specs.Places.{Place, place_of}
@@ -29,10 +29,12 @@ pub record AreAtOnePlace (all : Lockfiles) (packages : List PackageData) (p q : 
     pub other_at : slice_get packages other ≡ Some q
     pub same : place_of all p ≡ place_of all q
 
--- packages of the list are of the git source b, at the commits of a and of b
+-- two packages of the list have the sources a and b, which are one git source at two commits
 pub record AreAtTwoCommits (packages : List PackageData) (a b : Source) : Type 0 where
-  pub one : HasCommit packages (key_without_commit b) a.precise
-  pub other : HasCommit packages (key_without_commit b) b.precise
+  pub one : HasSource packages a
+  pub other : HasSource packages b
+  pub git : is_git b.kind ≡ true
+  pub same : key_without_commit a ≡ key_without_commit b
   pub apart : a.precise ≢ b.precise
 
 -- a package of the list is replaced, and no package is stated by its replacement

@@ -2,7 +2,7 @@
 
 ghost use Rattle.std.specs.Prelude.{◌≡◌, ◌≢◌, IfErr, MatchOption, None, OnOk, Some, true};
 ghost use Rattle.cargo_lock_parts.specs.Source.{is_git};
-ghost use Rattle.cargo_lock_merging.specs.CommitMaps.{HasPut, IsOnce};
+ghost use Rattle.cargo_lock_merging.specs.CommitMaps.{HasPut, HasPutSource, IsOnce};
 ghost use Rattle.cargo_lock_merging.specs.Commits.{HasOneCommitEach, git_in};
 ghost use Rattle.cargo_lock_merging.specs.declared.refusal.Fault.TheVariants.{Refused};
 ghost use Rattle.cargo_lock_merging.specs.declared.refusal.Refusal.TheVariants.{TwoCommits};
@@ -33,6 +33,7 @@ fn put_once<'a>(
     package: &'a Package,
 ) -> Result<'a, ()>
     ensures put { OnOk result (HasPut commits.old commits.new «package».now) }
+    ensures sources { OnOk result (HasPutSource commits.old commits.new «package».now) }
     ensures once { OnOk result (IsOnce commits.old «package».now) }
     ensures err { IfErr result (IsApartOrMemory commits.old «package».now) }
 {

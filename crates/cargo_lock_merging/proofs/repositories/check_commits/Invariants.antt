@@ -1,5 +1,5 @@
 use Rattle.std.proofs.Common.{take}
-use Rattle.cargo_lock_merging.specs.CommitMaps.{AreCommitsOf}
+use Rattle.cargo_lock_merging.specs.CommitMaps.{AreCommitsOf, AreSourcesOf}
 use Rattle.cargo_lock_merging.specs.Commits.{HasOneCommitEach}
 use Rattle.cargo_lock_merging.proofs.repositories.check_commits.Given as goal
 
@@ -7,5 +7,6 @@ use Rattle.cargo_lock_merging.proofs.repositories.check_commits.Given as goal
 abbrev pub invariant-loop-package : goal.invariant-loop-package
 invariant-loop-package l = record {
   commits : AreCommitsOf (take l.package-index l.packages) l.commits;
+  sources : AreSourcesOf (take l.package-index l.packages) l.commits;
   once : HasOneCommitEach (take l.package-index l.packages);
 }
