@@ -49,6 +49,33 @@ def specified(count):
     return [lockfile(package("app", "0.1.0", needs=names), *packages)], names[::10]
 
 
+def halved(count):
+    """So many packages, each of which needs two others, and the last one as an argument."""
+    names = [f"left-{number:06}" for number in range(count)]
+    packages = [
+        package(it, "1.0.0", CRATES_IO, f"{at:064x}", names[2 * at + 1:2 * at + 3])
+        for at, it in enumerate(names)
+    ]
+    return [lockfile(package("app", "0.1.0", needs=names[:1]), *packages)], names[-1:]
+
+
+def of_roots(count):
+    """So many packages that need one package, which is the argument."""
+    needs = ["left"]
+    roots = [package(f"app-{number:06}", "0.1.0", needs=needs) for number in range(count)]
+    return [lockfile(*roots, package("left", "1.0.0", CRATES_IO, f"{1:064x}"))], needs
+
+
+def in_two_versions(count):
+    """So many packages, of half as many names, all of which one package needs."""
+    packages, needs = [], []
+    for number in range(count // 2):
+        for version in ("1.0.0", "2.0.0"):
+            packages.append(package(f"left-{number:06}", version, CRATES_IO, f"{number:064x}"))
+            needs.append(f"left-{number:06} {version}")
+    return [lockfile(package("app", "0.1.0", needs=needs), *packages)], []
+
+
 # The command, what is asked, and the packages of the smaller lockfile.
 SHAPES = {
     "one package many times": (["check", "-f"], repeated, 200),
@@ -56,4 +83,8 @@ SHAPES = {
     "git packages of one name, `bom`": (["bom", "-f"], of_git, 200),
     "other dependencies of one package": (["diff", "-d"], changed, 200),
     "a package in ten is named": (["tree", "-f"], specified, 200),
+    "each package needs two": (["why", "-f"], halved, 50000),
+    "each package needs one": (["why", "--all", "-f"], of_roots, 50000),
+    "each name in two versions": (["duplicates", "-f"], in_two_versions, 50000),
+    "a picture of packages that need two": (["graph", "-f"], halved, 50000),
 }
