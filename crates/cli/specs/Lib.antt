@@ -7,7 +7,6 @@ pub mod Diff
 pub mod Commands
 pub mod List
 pub mod Load
-pub mod Spec
 pub mod Why
 pub mod Duplicates
 pub mod Graph

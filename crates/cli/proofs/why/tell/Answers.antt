@@ -4,7 +4,7 @@ use Rattle.cargo_lock_encoding.specs.Lockfiles.{LockfileData}
 use Rattle.cargo_lock_graph.specs.Edges.{GraphData}
 use Rattle.cargo_lock_json.specs.File.{FileData}
 use Rattle.cli_support.proofs.Writes.{on_ok_weaken}
-use Rattle.cli.specs.Why.{TellsAnswers}
+use Rattle.cli.specs.Why.{PrintsAsked}
 use Rattle.cli.proofs.why.tell.Goals as goal
 
 pub tell_answers-requires : goal.tell_answers-requires
@@ -21,6 +21,6 @@ returns g c =
     on_ok_weaken c.tell_answers.result _ _ (λ told. (
       graph,
       c.in_ok-tree.ensures,
-      subst (λ (file : FileData). TellsAnswers found file graph old new) c.file-file.ensures
-          (subst (λ (h : GraphData). TellsAnswers found c.file-file.result h old new) c.graph.ensures.graph told),
+      subst (λ (file : FileData). PrintsAsked found file graph old new) c.file-file.ensures
+          (subst (λ (h : GraphData). PrintsAsked found c.file-file.result h old new) c.graph.ensures.graph told),
     )) c.tell_answers.ensures
