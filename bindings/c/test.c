@@ -350,8 +350,8 @@ static const char cyclic[] = "version = 3\n"
 #define NAMES(groups)                                                                             \
     "{\"schema\":\"cargo-lock-duplicates/1\",\"path\":\"-\",\"format\":3,\"names\":[" groups "]}\n"
 
-/* Why `left` is there, in the lockfile of two packages and in that of a cycle, and what has its name
- * there. */
+/* Why `left` is there, in the lockfile of two packages and in that of a cycle, and what has its
+ * name there. */
 static const char why_of_two[] =
     WHY("{\"package\":{\"name\":\"left\",\"version\":\"1.0.0\",\"source\":\"" CRATES_IO "\","
         "\"checksum\":\"" CHECKSUM "\"},\"needed_by\":[" WITHOUT_SOURCE("app", "0.1.0") "]}");

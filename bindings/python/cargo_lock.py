@@ -212,10 +212,10 @@ def bill(text: Text, compact: bool = False) -> str:
 
 def why(text: Text, spec: Text, all: bool = False) -> str:
     """Why the packages that a specification fits are in the lockfile, in one line of JSON, as
-    `cargo-lock why --json -f -` prints it: a shortest chain of dependencies for each, and with `all`
-    one from each root that leads to it, as under `--all`. A specification is a name, a version, both
-    as NAME@VERSION, a checksum or a commit. Raises `NotALockfile`, `UnresolvedError` and
-    `SpecError`."""
+    `cargo-lock why --json -f -` prints it: a shortest chain of dependencies for each, and with
+    `all` one from each root that leads to it, as under `--all`. A specification is a name, a
+    version, both as NAME@VERSION, a checksum or a commit. Raises `NotALockfile`, `UnresolvedError`
+    and `SpecError`."""
     wanted = _bytes(spec)
     return _answer(_bytes(text), _library().cargo_lock_why, wanted, len(wanted), all).decode()
 

@@ -339,8 +339,8 @@ class Documents(unittest.TestCase):
     def test_one_chain_or_one_from_each_root(self):
         second = '[[package]]\nname = "second"\nversion = "0.2.0"\ndependencies = ["left"]\n'
         for is_each, wanted in ((False, ["app"]), (True, ["app", "second"])):
-            told = json.loads(cargo_lock.why(f"{LOCKFILE}\n{second}", "left", is_each))
-            chains = [[it["name"] for it in answer["needed_by"]] for answer in told["answers"]]
+            answers = json.loads(cargo_lock.why(f"{LOCKFILE}\n{second}", "left", is_each))["answers"]
+            chains = [[it["name"] for it in answer["needed_by"]] for answer in answers]
             self.assertEqual(chains, [[name] for name in wanted])
 
     def test_a_specification_that_fits_nothing(self):
@@ -354,7 +354,8 @@ class Documents(unittest.TestCase):
         empty = f'{{"schema":"cargo-lock-duplicates/1",{self.HEAD},"names":[]}}\n'
         self.assertEqual(cargo_lock.duplicates(LOCKFILE), empty)
         newer = f'[[package]]\nname = "left"\nversion = "2.0.0"\nsource = "{CRATES_IO}"\n'
-        [left] = json.loads(cargo_lock.duplicates(f"{LOCKFILE}\n{newer}".replace('"left",', '"left 1.0.0",')))["names"]
+        text = f"{LOCKFILE}\n{newer}".replace('"left",', '"left 1.0.0",')
+        [left] = json.loads(cargo_lock.duplicates(text))["names"]
         self.assertEqual(left["name"], "left")
         self.assertEqual(left["packages"][0]["package"], json.loads(self.LEFT))
         self.assertEqual(left["packages"][0]["needed_by"], [json.loads(self.APP)])

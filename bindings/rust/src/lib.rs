@@ -230,10 +230,10 @@ pub fn bill(text: impl AsRef<[u8]>, compact: bool) -> Result<String, Error> {
 }
 
 /// Why the packages that a specification fits are in the lockfile, in one line of JSON, as
-/// `cargo-lock why --json -f -` prints it: a shortest chain of dependencies for each, and with `all`
-/// one from each root that leads to it, as under `--all`. A specification is a name, a version, both
-/// as NAME@VERSION, a checksum or a commit. Refused with `Unresolved` where a dependency has no
-/// package, and with `NothingFits` where no package fits the specification.
+/// `cargo-lock why --json -f -` prints it: a shortest chain of dependencies for each, and with
+/// `all` one from each root that leads to it, as under `--all`. A specification is a name, a
+/// version, both as NAME@VERSION, a checksum or a commit. Refused with `Unresolved` where a
+/// dependency has no package, and with `NothingFits` where no package fits the specification.
 pub fn why(text: impl AsRef<[u8]>, spec: &str, all: bool) -> Result<String, Error> {
     calls::why(text.as_ref(), spec, all)
 }

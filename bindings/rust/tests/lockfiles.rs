@@ -160,10 +160,8 @@ fn bills() {
 #[test]
 fn reasons() {
     let app = "{\"name\":\"app\",\"version\":\"0.1.0\",\"source\":null,\"checksum\":null}";
-    let left = format!(
-        "{{\"name\":\"left\",\"version\":\"1.0.0\",\"source\":\"{CRATES_IO}\",\"checksum\":\"{}\"}}",
-        checksum()
-    );
+    let source = format!("\"source\":\"{CRATES_IO}\",\"checksum\":\"{}\"", checksum());
+    let left = format!("{{\"name\":\"left\",\"version\":\"1.0.0\",{source}}}");
     let head = "{\"schema\":\"cargo-lock-why/1\",\"path\":\"-\",\"format\":3,\"answers\":";
     let of_left = format!("{head}[{{\"package\":{left},\"needed_by\":[{app}]}}]}}\n");
     let of_app = format!("{head}[{{\"package\":{app},\"needed_by\":[]}}]}}\n");

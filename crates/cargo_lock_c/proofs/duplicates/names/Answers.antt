@@ -1,4 +1,4 @@
-use Rattle.std.proofs.Common.{◌≡◌, rules, arith, inl, inr, subst}
+use Rattle.std.proofs.Common.{◌≡◌, rules, arith, inl, inr, string_bytes, subst}
 use Rattle.cargo_lock_graph.specs.Edges.{GraphData}
 use Rattle.cargo_lock_c.specs.Documents.{IsDuplicatesOf}
 use Rattle.cargo_lock_c.specs.Graph.{IsUnresolvedText}
@@ -25,11 +25,10 @@ returns-in_err-names-clause-refused c =
 pub returns-clause-ok : goal.returns-clause-ok
 returns-clause-ok c =
     let tree = c.in_ok-tree.tree in
-    let graph : c.graph.result.now ≡ tree.graph = search rules in
-    (
+    let graph : c.graph.result.now ≡ tree.graph = search rules in (
       c.in_ok-lockfile.lockfile,
       tree.graph,
       c.in_ok-lockfile.ensures.ok,
       record { packages = c.in_ok-tree.ensures.packages; edges = c.in_ok-tree.ensures.edges },
-      subst (λ (g : GraphData). IsDuplicatesOf c.in_ok-lockfile.lockfile g _) graph c.in_ok-names.ensures.ok,
+      subst (λ (g : GraphData). IsDuplicatesOf c.in_ok-lockfile.lockfile g (string_bytes c.in_ok-names.names)) graph c.in_ok-names.ensures.ok,
     )

@@ -11,9 +11,9 @@ returns-in-Ok-answers-clause-why c =
     (rw (same, ← spec) c.in-Ok-answers.ensures.ok) c.hand_out.ensures.handed
 
 pub returns-in-Err-clause-unresolved : goal.returns-in-Err-clause-unresolved
-returns-in-Err-clause-unresolved c = λ seven. c.in-Err.ensures.unresolved (sym c.status.ensures ∙ seven)
+returns-in-Err-clause-unresolved c = λ seven. c.in-Err.ensures.unresolved (sym c.status-in-Err.ensures ∙ seven)
 
 pub returns-in-Err-clause-nothing_fits : goal.returns-in-Err-clause-nothing_fits
 returns-in-Err-clause-nothing_fits c =
     let spec : c.in-Ok.spec.now ≡ c.args.spec.now = search rules in
-    λ thirteen. subst (λ (s : List ℕ). FitsNone c.args.text.now s) spec (c.in-Err.ensures.nothing_fits (sym c.status.ensures ∙ thirteen))
+    λ thirteen. subst (λ (s : List ℕ). FitsNone c.args.text.now s) spec (c.in-Err.ensures.nothing_fits (sym c.status-in-Err.ensures ∙ thirteen))
