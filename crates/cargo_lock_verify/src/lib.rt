@@ -4,8 +4,10 @@
 pub mod finding;
 pub mod hashing;
 pub mod laws;
+pub mod report;
 pub mod subject;
 
 pub use crate::finding::{Archive, Finding};
 pub use crate::hashing::digest;
+pub use crate::report::Report;
 pub use crate::subject::{Subject, findings};

@@ -73,8 +73,15 @@ fn put_unless_verified<'a>(
     put_unverified(found, package, archives)
 }
 
-// Whether one of the archives has the checksum.
-fn has_checksum(archives: &[Archive], checksum: &Checksum) -> bool
+/// Whether one of the archives has the checksum.
+pub(crate) fn has_checksum(archives: &[Archive], checksum: &Checksum) -> bool
+    ensures { result ≡ list_any (is_digest (digest_of checksum.now)) (map archive_of archives.now) }
+{
+    is_among(archives, checksum)
+}
+
+// The same, as a test of each archive.
+fn is_among(archives: &[Archive], checksum: &Checksum) -> bool
     ensures { result ≡ list_any (λ a. is_digest (digest_of checksum.now) (archive_of a))
         archives.now }
 {
