@@ -19,16 +19,16 @@ pub struct Archive {
 /// `NAME VERSION SRC` as in a difference, where a package of crates.io has no `SRC`; texts of a
 /// stranger, the path among them, are shown as the crate `shown` does.
 #[derive(Drop)]
-pub enum Finding<'a> {
+pub enum Finding<'p, 'a> {
     /// No archive of the package has its checksum, and this is one of them:
     /// ``! NAME VERSION SRC: `PATH` is DIGEST, not CHECKSUM``.
-    Changed(&'a Package, &'a Archive),
+    Changed(&'p Package, &'a Archive),
 
     /// The package has no archive: `- NAME VERSION SRC: no archive`.
-    Missing(&'a Package),
+    Missing(&'p Package),
 }
 
-impl fmt::Display for Finding<'_> {
+impl fmt::Display for Finding<'_, '_> {
     ghost use Rattle.std.specs.Prelude.{Some};
     ghost use Rattle.cargo_lock_verify.specs.Archives.{finding_of};
     ghost use Rattle.cargo_lock_verify.specs.Lines.{finding_line};

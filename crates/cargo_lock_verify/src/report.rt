@@ -13,22 +13,22 @@ use std::fmt;
 /// What a comparison of archives with a lockfile reports. `Display` writes a line for each finding,
 /// and at last `N verified`, each with its newline.
 #[derive(Drop)]
-pub struct Report<'a> {
+pub struct Report<'p, 'a> {
     /// The findings.
-    pub findings: Vec<Finding<'a>>,
+    pub findings: Vec<Finding<'p, 'a>>,
 
     /// How many packages have an archive with their checksum.
     pub verified: usize,
 }
 
-impl<'a> Report<'a> {
+impl<'p, 'a> Report<'p, 'a> {
     /// What is reported of these subjects: all findings, or those of changed archives alone. Fails
     /// when out of memory.
     pub fn of(
         alloc: Global,
-        subjects: &'a [Subject<'a>],
+        subjects: &'a [Subject<'p>],
         with_missing: bool,
-    ) -> Result<Report<'a>, AllocError>
+    ) -> Result<Report<'p, 'a>, AllocError>
         ensures findings { IfOk result (λ report. map finding_of report.findings.items
             ≡ reported with_missing (spec.findings (map subject_of subjects.now))) }
         ensures verified { IfOk result (λ report. report.verified
@@ -45,10 +45,10 @@ impl<'a> Report<'a> {
 }
 
 // The findings of changed archives.
-fn changed_alone<'a>(
+fn changed_alone<'p, 'a>(
     alloc: Global,
-    subjects: &'a [Subject<'a>],
-) -> Result<Vec<Finding<'a>>, AllocError>
+    subjects: &'a [Subject<'p>],
+) -> Result<Vec<Finding<'p, 'a>>, AllocError>
     ensures { IfOk result (λ found. map finding_of found.items
         ≡ filter is_changed (spec.findings (map subject_of subjects.now))) }
 {
@@ -58,7 +58,7 @@ fn changed_alone<'a>(
 }
 
 // Whether an archive is changed.
-fn is_of_changed(finding: &Finding<'_>) -> bool
+fn is_of_changed(finding: &Finding<'_, '_>) -> bool
     ensures { result ≡ is_changed (finding_of finding.now) }
 {
     matches!(finding, Finding::Changed(_, _))
@@ -88,7 +88,7 @@ fn is_of_verified(subject: &Subject<'_>) -> bool
     }
 }
 
-impl fmt::Display for Report<'_> {
+impl fmt::Display for Report<'_, '_> {
     ghost use Rattle.std.specs.Prelude.{Some, map};
     ghost use Rattle.cargo_lock_verify.specs.Archives.{finding_of};
     ghost use Rattle.cargo_lock_verify.specs.Report.{report_text};
@@ -97,28 +97,10 @@ impl fmt::Display for Report<'_> {
         Some (report_text (map finding_of report.findings.items) report.verified) };
 
     fn fmt<W: fmt::Write>(&self, f: &mut fmt::Formatter<W>) -> fmt::Result {
-        let lines = FindingLines(&self.findings);
-        let verified = self.verified;
-        write!(f, "{lines}{verified} verified\n")
-    }
-}
-
-// The line of each finding.
-#[derive(Clone, Copy)]
-struct FindingLines<'a>(&'a Vec<Finding<'a>>);
-
-impl fmt::Display for FindingLines<'_> {
-    ghost use Rattle.std.specs.Prelude.{Some, map};
-    ghost use Rattle.cargo_lock_verify.specs.Archives.{finding_of};
-    ghost use Rattle.cargo_lock_verify.specs.Lines.{findings_text};
-
-    ghost output = { λ shown. Some (findings_text (map finding_of shown.0.now.items)) };
-
-    fn fmt<W: fmt::Write>(&self, f: &mut fmt::Formatter<W>) -> fmt::Result {
-        let FindingLines(findings) = *self;
-        for finding in findings {
+        for finding in &self.findings {
             write!(f, "{finding}\n")?;
         }
-        Ok(())
+        let verified = self.verified;
+        write!(f, "{verified} verified\n")
     }
 }

@@ -28,10 +28,10 @@ pub struct Subject<'a> {
 /// ```
 /// let found = findings(alloc, &subjects)?;
 /// ```
-pub fn findings<'a>(
+pub fn findings<'p, 'a>(
     alloc: Global,
-    subjects: &'a [Subject<'a>],
-) -> Result<Vec<Finding<'a>>, AllocError>
+    subjects: &'a [Subject<'p>],
+) -> Result<Vec<Finding<'p, 'a>>, AllocError>
     ensures { IfOk result (λ found. map finding_of found.items
         ≡ spec.findings (map subject_of subjects.now)) }
 {
@@ -43,9 +43,9 @@ pub fn findings<'a>(
 }
 
 // Adds what is wrong with the archives of a package.
-fn put_findings<'a>(
-    found: &mut Vec<Finding<'a>>,
-    subject: &'a Subject<'a>,
+fn put_findings<'p, 'a>(
+    found: &mut Vec<Finding<'p, 'a>>,
+    subject: &'a Subject<'p>,
 ) -> Result<(), AllocError>
     ensures { OnOk result (map finding_of found.new.items
         ≡ map finding_of found.old.items ++ found_in (subject_of subject.now)) }
@@ -58,9 +58,9 @@ fn put_findings<'a>(
 }
 
 // Adds what is wrong with the archives of a package that has this checksum.
-fn put_unless_verified<'a>(
-    found: &mut Vec<Finding<'a>>,
-    package: &'a Package,
+fn put_unless_verified<'p, 'a>(
+    found: &mut Vec<Finding<'p, 'a>>,
+    package: &'p Package,
     archives: &'a [Archive],
     checksum: &Checksum,
 ) -> Result<(), AllocError>
@@ -89,9 +89,9 @@ fn is_among(archives: &[Archive], checksum: &Checksum) -> bool
 }
 
 // Adds each archive of a package whose checksum none has, or that there is no archive.
-fn put_unverified<'a>(
-    found: &mut Vec<Finding<'a>>,
-    package: &'a Package,
+fn put_unverified<'p, 'a>(
+    found: &mut Vec<Finding<'p, 'a>>,
+    package: &'p Package,
     archives: &'a [Archive],
 ) -> Result<(), AllocError>
     ensures { OnOk result (map finding_of found.new.items
@@ -105,9 +105,9 @@ fn put_unverified<'a>(
 }
 
 // Adds each archive of a package whose checksum none has.
-fn put_changed<'a>(
-    found: &mut Vec<Finding<'a>>,
-    package: &'a Package,
+fn put_changed<'p, 'a>(
+    found: &mut Vec<Finding<'p, 'a>>,
+    package: &'p Package,
     archives: &'a [Archive],
 ) -> Result<(), AllocError>
     ensures { OnOk result (map finding_of found.new.items

@@ -2,7 +2,7 @@ use Rattle.std.proofs.Common.{map, take}
 use Rattle.std.specs.Fmt.{HasWritten, IsPlainFormatter}
 use Rattle.cargo_lock_verify.specs.Archives.{finding_of}
 use Rattle.cargo_lock_verify.specs.Lines.{findings_text}
-use Rattle.cargo_lock_verify.proofs.report.FindingLinesDisplay.fmt.Given as goal
+use Rattle.cargo_lock_verify.proofs.report.ReportDisplay.fmt.Given as goal
 
 -- the lines of the findings so far are written
 abbrev pub invariant-loop-finding : goal.invariant-loop-finding
