@@ -1,2 +1,4 @@
 pub mod Assembling
+pub mod Moving
+pub mod Conflicting
 pub mod Outcomes

@@ -2,7 +2,9 @@
 #![tactic(auto)]
 
 mod assemble;
+pub mod conflict;
+pub mod moved;
 mod order;
-mod outcome;
+pub mod outcome;
 
 pub use crate::outcome::merge;
