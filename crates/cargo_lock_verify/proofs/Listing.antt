@@ -1,0 +1,20 @@
+-- Archives of the program and their data.
+use Rattle.std.proofs.Common.{◌≡◌, ◌||◌, ℕ, Bool, true, false, true≢false, List, [], ◌∷◌, ap, sym, map, length, nat_eq, refl}
+use Rattle.std.specs.List.{list_any}
+use Rattle.cargo_lock_parts.specs.Identity.{PackageData}
+use Rattle.cargo_lock_verify.specs.declared.finding.Archive.{Archive}
+use Rattle.cargo_lock_verify.specs.Archives.{Changed, archive_of, changed_of, found_of, is_digest}
+
+pub any-of-data : (digest : List ℕ) (archives : List Archive)
+    → list_any (is_digest digest) (map archive_of archives) ≡ list_any (λ a. is_digest digest (archive_of a)) archives
+any-of-data digest [] = refl
+any-of-data digest (a ∷ rest) = ap (λ b. is_digest digest (archive_of a) || b) (any-of-data digest rest)
+
+changed-of-data : (p : PackageData) (archives : List Archive) → map (Changed p) (map archive_of archives) ≡ map (changed_of p) archives
+changed-of-data p [] = refl
+changed-of-data p (a ∷ rest) = ap (λ xs. changed_of p a ∷ xs) (changed-of-data p rest)
+
+pub found-of-some : (p : PackageData) (archives : List Archive) → nat_eq (length archives) 0 ≡ false
+    → found_of p (map archive_of archives) ≡ map (changed_of p) archives
+found-of-some p [] e = absurd (true≢false e)
+found-of-some p (a ∷ rest) e = ap (λ xs. changed_of p a ∷ xs) (changed-of-data p rest)
