@@ -1,1 +1,5 @@
+pub mod Moved
+pub mod Conflict
 pub mod Outcome
+pub mod Words
+pub mod Lines

@@ -2,7 +2,12 @@
 #![tactic(auto)]
 
 mod assemble;
+pub mod conflict;
+pub mod laws;
+pub mod moved;
 mod order;
-mod outcome;
+pub mod outcome;
+pub mod refused;
+mod words;
 
 pub use crate::outcome::merge;
