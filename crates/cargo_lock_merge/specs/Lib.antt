@@ -1,1 +1,6 @@
 pub mod Outcome
+pub mod Formats
+pub mod Patches
+pub mod OwnMetadata
+pub mod Referring
+pub mod MergedLockfiles
