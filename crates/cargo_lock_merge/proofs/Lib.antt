@@ -1,4 +1,6 @@
 pub mod Assembling
+pub mod Moving
+pub mod Conflicting
 pub mod Outcomes
 pub mod Patching
 pub mod Referred

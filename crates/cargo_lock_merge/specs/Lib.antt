@@ -1,3 +1,5 @@
+pub mod Moved
+pub mod Conflict
 pub mod Outcome
 pub mod Formats
 pub mod Patches
