@@ -1,5 +1,6 @@
 pub mod Assembling
 pub mod Moving
+pub mod OneLine
 pub mod Conflicting
 pub mod Outcomes
 pub mod Patching

@@ -17,9 +17,13 @@ use Rattle.cargo_lock.proofs.PrintedTexts.{text-means-one}
 use Rattle.cargo_lock.specs.CargoChecksums.{with_cargo_checksums_in}
 use Rattle.cargo_lock_encoding.specs.Lockfiles.{LockfileData}
 use Rattle.cargo_lock_encoding.specs.Means.{TextMeans}
-use Rattle.cargo_lock_merge.specs.MergedLockfiles.{HaveNoRoots, IsMergedLockfile, IsMetadataMergeOf, IsRestOf, IsSameLockfile, IsUnread, LockfileTriple, TextIsOf, is_same_but_metadata, lockfile_of, packages_of}
+use Rattle.cargo_lock_merging.specs.Commits.{Lockfiles}
+use Rattle.cargo_lock_merge.specs.MergedLockfiles.{AreConflictingPackages, HaveNoRoots, IsMergedLockfile, IsMetadataMergeOf, IsRestOf, IsSameLockfile, IsUnread, LockfileTriple, TextIsOf, is_same_but_metadata, lockfile_of, packages_of}
+use Rattle.cargo_lock_merge.specs.Outcome as InConflict
 use Rattle.cargo_lock_merge.specs.Outcome.{IsFound}
 use Rattle.cargo_lock_merge.specs.Referring.{IsReferring}
+use Rattle.cargo_lock_merge.specs.declared.conflict.Conflict.{Conflict}
+use Rattle.cargo_lock_merge.specs.declared.moved.Moved.{Moved}
 use Rattle.cargo_lock_merge.specs.declared.lockfiles.Rest.{Rest}
 use Rattle.cargo_lock_merge.specs.OwnMetadata.{AreMetadataConflicts, AreMetadataOf, IsConflictAt, IsMergedAt, own_metadata, value_at}
 use Rattle.cargo_lock_merge.specs.declared.metadata.MetadataConflict.{MetadataConflict}
@@ -182,9 +186,9 @@ agreed-conflicts s l none empty h key =
 -- ---- the whole
 
 -- the parts of a merge without conflicts are a merged lockfile
-pub merged-lockfile : (s : LockfileTriple) (r : Rest) (merged packages : List PackageData) → HaveNoRoots s → IsFound (packages_of s) merged → AllZip IsReferring merged packages
-    → btree_map_len r.metadata.conflicts ≡ 0 → IsRestOf s r → IsMergedLockfile s (lockfile_of packages r)
-merged-lockfile s r merged packages roots found refers none rest = record {
+pub merged-lockfile : (s : LockfileTriple) (r : Rest) (merged packages : List PackageData) (rs : List Moved) → HaveNoRoots s → IsFound (packages_of s) merged rs → AllZip IsReferring merged packages
+    → btree_map_len r.metadata.conflicts ≡ 0 → IsRestOf s r → IsMergedLockfile s (lockfile_of packages r) rs
+merged-lockfile s r merged packages rs roots found refers none rest = record {
   roots = roots;
   version = rest.version;
   packages = (merged, found, refers);
@@ -192,3 +196,12 @@ merged-lockfile s r merged packages roots found refers none rest = record {
   metadata = metadata-agreed s r.metadata none rest.metadata;
   patch = rest.patch;
 }
+
+-- there is at least one conflict of the packages
+pub conflicting : (all : Lockfiles) (cs : List Conflict) → InConflict.IsInConflict all cs → AreConflictingPackages all cs
+conflicting all [] h = absurd (h.some refl)
+conflicting all (c ∷ cs) h = h
+
+-- a merge has no conflicts of packages
+pub no-conflicting : (all : Lockfiles) (cs : List Conflict) (ps : List PackageData) (rs : List Moved) → cs ≡ [] → IsFound all ps rs → AreConflictingPackages all cs
+no-conflicting all cs ps rs none found = subst (λ (xs : List Conflict). AreConflictingPackages all xs) (sym none) (ps, rs, found)

@@ -1,4 +1,6 @@
 pub mod Moved
+pub mod Words
+pub mod Lines
 pub mod Conflict
 pub mod Outcome
 pub mod Formats

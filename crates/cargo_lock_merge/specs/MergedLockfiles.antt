@@ -1,6 +1,6 @@
 -- The merge of lockfiles.
-use Rattle.std.specs.Prelude.{◌≡◌, ◌≢◌, ◌⊎◌, ℕ, Bool, IsSome, IsTrue, List, Option, Some, None, true}
-use Rattle.std.specs.Prelude.{false, nat_eq, string_bytes}
+use Rattle.std.specs.Prelude.{◌≡◌, ◌≢◌, ◌⊎◌, ℕ, Bool, IsSome, List, [], ◌∷◌, Option, Some, None}
+use Rattle.std.specs.Prelude.{nat_eq, string_bytes}
 use Rattle.std.specs.Cmp.Lexicographic.{pointwise}
 use Rattle.std.specs.List.{AllZip}
 use Rattle.std.specs.Option.{option_eq}
@@ -11,19 +11,20 @@ use Rattle.cargo_lock_encoding.specs.Means.{TextMeans}
 use Rattle.cargo_lock_encoding.specs.Survives.{HasSamePackages}
 use Rattle.cargo_lock_encoding.specs.Text.{join_lines, lines_of}
 use Rattle.cargo_lock_merge.specs.Formats.{IsLaterFormat}
-use Rattle.cargo_lock_merge.specs.Outcome.{IsFound, three}
+use Rattle.cargo_lock_merge.specs.Outcome.{IsFound, IsInConflict, three}
 use Rattle.cargo_lock_merge.specs.OwnMetadata.{AreMetadataConflicts, AreMetadataOf, IsMergedAt}
 use Rattle.cargo_lock_merge.specs.OwnMetadata.{own_metadata, value_at}
 use Rattle.cargo_lock_merge.specs.Patches.{ArePatchesOf}
 use Rattle.cargo_lock_merge.specs.Referring.{IsReferring}
+use Rattle.cargo_lock_merge.specs.declared.conflict.Conflict.{Conflict}
 use Rattle.cargo_lock_merge.specs.declared.lockfiles.LockfileConflicts.{LockfileConflicts}
 use Rattle.cargo_lock_merge.specs.declared.lockfiles.LockfileMerge.{LockfileMerge}
 use Rattle.cargo_lock_merge.specs.declared.lockfiles.LockfileMerge.TheVariants.{InConflict, Merged}
 use Rattle.cargo_lock_merge.specs.declared.lockfiles.MergeError.{MergeError}
 use Rattle.cargo_lock_merge.specs.declared.lockfiles.MergeError.TheVariants.{Memory, Refused, Root}
 use Rattle.cargo_lock_merge.specs.declared.lockfiles.Rest.{Rest}
+use Rattle.cargo_lock_merge.specs.declared.moved.Moved.{Moved}
 use Rattle.cargo_lock_merge.specs.declared.metadata.MetadataMerge.{MetadataMerge}
-use Rattle.cargo_lock_merging.specs.Assembled.{HasNoMerge}
 use Rattle.cargo_lock_merging.specs.Commits.{Lockfiles}
 use Rattle.cargo_lock_merging.specs.Triples.{IsStop}
 use Rattle.cargo_lock_merging.specs.declared.triple.Role.{Role}
@@ -75,21 +76,24 @@ pub record HaveNoRoots (s : LockfileTriple) : Type 0 where
 
 -- ---- what a merge has
 
--- the packages are the merge of the three lists, with their references with commits or without
-abbrev pub AreMergedPackages : Lockfiles → List PackageData → Type 0
-AreMergedPackages all packages = (merged : List PackageData) × IsFound all merged
+-- The packages are the merge of the three lists, with their references with commits or without.
+-- Beside them are the references that moved.
+abbrev pub AreMergedPackages : Lockfiles → List PackageData → List Moved → Type 0
+AreMergedPackages all packages moved = (merged : List PackageData) × IsFound all merged moved
     × AllZip IsReferring merged packages
 
 -- The lockfile is the merge of two sides over a base: it has the later format of both sides, the
 -- merged packages, no root apart from them, the metadata on which the three agree, and the unused
--- patches that both sides have, or one side has and the base has not.
-pub record IsMergedLockfile (s : LockfileTriple) (l : LockfileData) : Type 0 where
-  pub roots : HaveNoRoots s
-  pub version : IsLaterFormat s.ours.version s.theirs.version l.version
-  pub packages : AreMergedPackages (packages_of s) l.packages
-  pub root : l.root ≡ None
-  pub metadata : AreMetadataOf s.base s.ours s.theirs l.metadata
-  pub patch : ArePatchesOf s.base.patch s.ours.patch s.theirs.patch l.patch
+-- patches that both sides have, or one side has and the base has not. Beside it are the references
+-- that moved.
+pub record IsMergedLockfile (s : LockfileTriple) (l : LockfileData) (rs : List Moved) : Type 0
+  where
+    pub roots : HaveNoRoots s
+    pub version : IsLaterFormat s.ours.version s.theirs.version l.version
+    pub packages : AreMergedPackages (packages_of s) l.packages rs
+    pub root : l.root ≡ None
+    pub metadata : AreMetadataOf s.base s.ours s.theirs l.metadata
+    pub patch : ArePatchesOf s.base.patch s.ours.patch s.theirs.patch l.patch
 
 -- two lockfiles have the same format, and equal packages, roots and unused patches
 pub record IsSameLockfile (x l : LockfileData) : Type 0 where
@@ -108,13 +112,14 @@ text_of_lockfile l = join_lines (lines_of l)
 
 -- the merge has this format, and its text does not read back as it
 abbrev pub IsLostIn : LockfileTriple → ResolveVersion → Type 0
-IsLostIn s format = (l : LockfileData) × IsMergedLockfile s l × (l.version ≡ format)
-    × ¬ TextIsOf l (text_of_lockfile l)
+IsLostIn s format = (l : LockfileData) × (moved : List Moved) × IsMergedLockfile s l moved
+    × (l.version ≡ format) × ¬ TextIsOf l (text_of_lockfile l)
 
--- the packages have no merge, or they have one
-abbrev pub AreConflictingPackages : Lockfiles → Bool → Type 0
-AreConflictingPackages all true = HasNoMerge all
-AreConflictingPackages all false = (packages : List PackageData) × IsFound all packages
+-- these are the conflicts of the packages, or there are none, and the packages have a merge
+abbrev pub AreConflictingPackages : Lockfiles → List Conflict → Type 0
+AreConflictingPackages all [] = (packages : List PackageData) × (moved : List Moved)
+    × IsFound all packages moved
+AreConflictingPackages all (c ∷ cs) = IsInConflict all (c ∷ cs)
 
 -- the format does not keep the merge, if this is one
 abbrev pub IsLostInIf : LockfileTriple → Option ResolveVersion → Type 0
@@ -123,13 +128,13 @@ IsLostInIf s (Some format) = IsLostIn s format
 
 -- the sides are in conflict about something
 abbrev pub HasConflicts : LockfileConflicts → Type 0
-HasConflicts c = IsTrue c.packages
+HasConflicts c = (c.packages.items ≢ [])
     ⊎ (((key : List ℕ) × IsSome (value_at c.metadata key)) ⊎ IsSome c.format)
 
 -- The conflicts are exactly those of the sides, and there is one.
 pub record AreConflictsOf (s : LockfileTriple) (c : LockfileConflicts) : Type 0 where
   pub roots : HaveNoRoots s
-  pub packages : AreConflictingPackages (packages_of s) c.packages
+  pub packages : AreConflictingPackages (packages_of s) c.packages.items
   pub metadata : AreMetadataConflicts s.base s.ours s.theirs c.metadata
   pub format : IsLostInIf s c.format
   pub some : HasConflicts c
@@ -137,7 +142,7 @@ pub record AreConflictsOf (s : LockfileTriple) (c : LockfileConflicts) : Type 0 
 -- the lockfile is the merge, and this is its text, which reads back as it; or the sides are in
 -- conflict
 abbrev pub MergesTo : LockfileTriple → LockfileMerge → Type 0
-MergesTo s (Merged lockfile text) = IsMergedLockfile s lockfile
+MergesTo s (Merged lockfile text moved) = IsMergedLockfile s lockfile moved.items
     × (string_bytes text ≡ text_of_lockfile lockfile) × TextIsOf lockfile (string_bytes text)
 MergesTo s (InConflict conflicts) = AreConflictsOf s conflicts
 

@@ -1,22 +1,28 @@
 //! What the two sides are in conflict about.
 
-ghost use Rattle.std.specs.Prelude.{◌≡◌, ◌++◌, ℕ, IfOk, IsOkUnless, OnOk, map};
+ghost use Rattle.std.specs.Prelude.{◌≡◌, ◌++◌, ℕ, IfOk, IsOkUnless, OnOk, is_some, map, option_map};
 ghost use Rattle.cargo_lock_parts.specs.declared.error.Error.TheVariants.{Memory};
 ghost use Rattle.cargo_lock_merging.specs.Merge.{Triple, lockfiles_of};
 ghost use Rattle.cargo_lock_merging.specs.Merged.{HasPlan};
 ghost use Rattle.cargo_lock_merging.specs.Plans.{triple_of};
 ghost use Rattle.cargo_lock_merge.specs.Conflict.{AreConflictsAtPlaces, AreConflictsOf};
 ghost use Rattle.cargo_lock_merge.specs.declared.conflict.Conflict.TheVariants.{AtPlace, OfSource};
+ghost use Rattle.cargo_lock_merge.specs.Lines.{absent, checksum_value, commit_value, commit_values};
+ghost use Rattle.cargo_lock_merge.specs.Lines.{line_of, replacement_value, same_if, source_line};
+ghost use Rattle.cargo_lock_merge.specs.declared.words.Value.TheVariants.{Version};
 
+use crate::words::{BareSource, NamedPackage, Value, Values};
 use cargo_lock_merging::commits::{Commits, SourceCommits};
 use cargo_lock_merging::conflicts::{Conflict as PlaceConflict, Kind, conflicts};
 use cargo_lock_merging::disputes::disputes;
-use cargo_lock_merging::placed::{Placed, cmp_identities};
+use cargo_lock_merging::placed::{Placed, are_same, cmp_identities};
 use cargo_lock_merging::plan::Plan;
 use cargo_lock_parts::error::Result;
-use cargo_lock_parts::package::Package;
+use cargo_lock_parts::package::{Package, SourceId};
+use shown::Shown;
 use std::alloc::{AllocError, Global};
 use std::cmp::Ordering;
+use std::fmt;
 
 /// What the two sides are in conflict about.
 #[derive(Clone, Copy)]
@@ -111,4 +117,235 @@ fn put_sources<'a>(
         all.push(Conflict::OfSource(*one))?;
     }
     Ok(())
+}
+
+impl fmt::Display for Conflict<'_> {
+    ghost use Rattle.std.specs.Prelude.{Some};
+    ghost use Rattle.cargo_lock_merge.specs.Lines.{conflict_line};
+
+    ghost output = { λ conflict. Some (conflict_line conflict) };
+
+    fn fmt<W: fmt::Write>(&self, f: &mut fmt::Formatter<W>) -> fmt::Result {
+        match *self {
+            Conflict::AtPlace(conflict) => {
+                let Line { subject, values } = line_of(conflict);
+                write!(f, "conflict: {subject}: {values}")
+            }
+            Conflict::OfSource(commits) => {
+                let source = BareSource(commits.source);
+                let values = commit_values(commits.base, commits);
+                write!(f, "conflict: {source}: {values}")
+            }
+        }
+    }
+}
+
+// The parts of the line of a conflict at a place.
+#[derive(Clone, Copy)]
+struct Line<'a> {
+    subject: Subject<'a>,
+    values: Values<'a>,
+}
+
+// What a conflict at a place is about.
+#[derive(Clone, Copy)]
+enum Subject<'a> {
+    // This package.
+    Package(&'a Package),
+
+    // The source of this package, which one side alone has.
+    Source(&'a Package),
+
+    // The checksum of this package.
+    Checksum(&'a Package),
+
+    // The replacement of this package.
+    Replacement(&'a Package),
+
+    // Nothing that a side has.
+    Nothing,
+}
+
+impl fmt::Display for Subject<'_> {
+    ghost use Rattle.std.specs.Prelude.{Some};
+    ghost use Rattle.cargo_lock_merge.specs.Lines.{subject_text};
+
+    ghost output = { λ subject. Some (subject_text subject) };
+
+    fn fmt<W: fmt::Write>(&self, f: &mut fmt::Formatter<W>) -> fmt::Result {
+        match *self {
+            Subject::Package(package) => {
+                let name = Shown(&package.name);
+                write!(f, "{name}")
+            }
+            Subject::Source(package) => {
+                let name = Shown(&package.name);
+                write!(f, "source of {name}")
+            }
+            Subject::Checksum(package) => {
+                let package = NamedPackage(package);
+                write!(f, "checksum of {package}")
+            }
+            Subject::Replacement(package) => {
+                let package = NamedPackage(package);
+                write!(f, "replacement of {package}")
+            }
+            Subject::Nothing => f.write_str("none"),
+        }
+    }
+}
+
+// The parts of the line of a conflict.
+fn line_of<'a>(conflict: PlaceConflict<'a>) -> Line<'a>
+    ensures { result ≡ line_of conflict.entry }
+{
+    match (conflict.kind, conflict.ours, conflict.theirs) {
+        (Kind::Package, Some(ours), Some(theirs)) => Line {
+            subject: Subject::Package(ours),
+            values: Values {
+                old: version_if(conflict.base),
+                ours: Value::Version(ours),
+                theirs: Value::Version(theirs),
+            },
+        },
+        (Kind::Package, Some(only), None) => source_line(only, conflict.source),
+        (Kind::Package, None, Some(only)) => source_line(only, conflict.source),
+        (Kind::Checksum, Some(ours), Some(theirs)) => Line {
+            subject: Subject::Checksum(ours),
+            values: Values {
+                old: checksum_if(same_if(conflict.base, ours)),
+                ours: Value::Checksum(ours),
+                theirs: Value::Checksum(theirs),
+            },
+        },
+        (Kind::Replacement, Some(ours), Some(theirs)) => Line {
+            subject: Subject::Replacement(ours),
+            values: Values {
+                old: replacement_if(same_if(conflict.base, ours)),
+                ours: Value::Replacement(ours),
+                theirs: Value::Replacement(theirs),
+            },
+        },
+        _ => Line {
+            subject: Subject::Nothing,
+            values: absent(),
+        },
+    }
+}
+
+// The line of a package that one side alone has, at another commit of its source than the merged
+// one.
+fn source_line<'a>(only: &'a Package, source: Option<SourceCommits<'a>>) -> Line<'a>
+    ensures { result ≡ source_line only.entry source.entry }
+{
+    match source {
+        Some(commits) => Line {
+            subject: Subject::Source(only),
+            values: commit_values(None, commits),
+        },
+        None => Line {
+            subject: Subject::Source(only),
+            values: absent(),
+        },
+    }
+}
+
+fn absent<'a>() -> Values<'a>
+    ensures { result ≡ absent }
+{
+    Values {
+        old: None,
+        ours: Value::Absent,
+        theirs: Value::Absent,
+    }
+}
+
+// The commits of a source, after an old one.
+fn commit_values<'a>(old: Option<&'a SourceId>, commits: SourceCommits<'a>) -> Values<'a>
+    ensures { result ≡ commit_values old.entry commits.entry }
+{
+    Values {
+        old: match old {
+            Some(old) => Some(Value::Commit(old)),
+            None => None,
+        },
+        ours: commit_if(commits.ours),
+        theirs: commit_if(commits.theirs),
+    }
+}
+
+fn commit_if<'a>(source: Option<&'a SourceId>) -> Value<'a>
+    ensures { result ≡ commit_value source.entry }
+{
+    match source {
+        Some(source) => Value::Commit(source),
+        None => Value::Absent,
+    }
+}
+
+fn version_if<'a>(package: Option<&'a Package>) -> Option<Value<'a>>
+    ensures { result ≡ option_map Version «package».entry }
+{
+    match package {
+        Some(package) => Some(Value::Version(package)),
+        None => None,
+    }
+}
+
+// The package, if it has the identity of another one.
+fn same_if<'a>(package: Option<&'a Package>, other: &Package) -> Option<&'a Package>
+    ensures { result ≡ same_if «package».entry other.now }
+{
+    match package {
+        Some(package) => if are_same(package, other) {
+            Some(package)
+        } else {
+            None
+        },
+        None => None,
+    }
+}
+
+// The checksum of the package, if it has one.
+fn checksum_if<'a>(package: Option<&'a Package>) -> Option<Value<'a>>
+    ensures { result ≡ checksum_value «package».entry }
+{
+    match package {
+        Some(package) => {
+            if has_checksum(package) {
+                Some(Value::Checksum(package))
+            } else {
+                None
+            }
+        }
+        None => None,
+    }
+}
+
+fn has_checksum(package: &Package) -> bool
+    ensures { result ≡ is_some «package».now.checksum }
+{
+    package.checksum.is_some()
+}
+
+// The replacement of the package, if it has one.
+fn replacement_if<'a>(package: Option<&'a Package>) -> Option<Value<'a>>
+    ensures { result ≡ replacement_value «package».entry }
+{
+    match package {
+        Some(package) => {
+            if is_replaced(package) {
+                Some(Value::Replacement(package))
+            } else {
+                None
+            }
+        }
+        None => None,
+    }
+}
+
+fn is_replaced(package: &Package) -> bool
+    ensures { result ≡ is_some «package».now.replace }
+{
+    package.replace.is_some()
 }

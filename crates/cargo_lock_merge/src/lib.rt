@@ -4,14 +4,17 @@
 mod assemble;
 pub mod conflict;
 mod format;
+pub mod laws;
 mod lines;
 pub mod lockfiles;
 pub mod metadata;
 pub mod moved;
 mod order;
-mod outcome;
+pub mod outcome;
 mod patches;
 mod referring;
+pub mod refused;
+mod words;
 
 pub use crate::lockfiles::merge_lockfiles;
-pub use crate::outcome::{Outcome, merge};
+pub use crate::outcome::merge;

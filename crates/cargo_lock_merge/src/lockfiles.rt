@@ -1,6 +1,6 @@
 //! The merge of lockfiles.
 
-ghost use Rattle.std.specs.Prelude.{◌≡◌, IfErr, IfOk, IsOkUnless, OnOk, option_map};
+ghost use Rattle.std.specs.Prelude.{◌≡◌, IfErr, IfOk, IsOkUnless, OnOk};
 ghost use Rattle.std.specs.Bool.{Decides};
 ghost use Rattle.cargo_lock.specs.CargoChecksums.{with_cargo_checksums_in};
 ghost use Rattle.cargo_lock_merge.specs.MergedLockfiles.{HaveNoRoots, IsMergeError, IsMergedLockfile};
@@ -11,11 +11,13 @@ ghost use Rattle.cargo_lock_merge.specs.MergedLockfiles.{packages_of, triple_of}
 ghost use Rattle.cargo_lock_merge.specs.Outcome.{Finds, IsFound};
 ghost use Rattle.cargo_lock_parts.specs.declared.error.Error.TheVariants.{Memory};
 
+use crate::conflict::Conflict;
 use crate::format::later_format;
 use crate::metadata::{
     MetadataConflict, MetadataMerge, MetadataSides, merge_metadata, own_metadata,
 };
-use crate::outcome::merge;
+use crate::moved::Moved;
+use crate::outcome::{Outcome, merge};
 use crate::patches::merge_patches;
 use crate::referring::refer_as_cargo;
 use cargo_lock::{Error, Lockfile, MetadataKey, ResolveVersion};
@@ -51,21 +53,21 @@ impl<'a> From<Error> for MergeError<'a> {
     }
 }
 
-/// What came of a merge of lockfiles.
+/// What a merge of lockfiles is.
 #[derive(Drop)]
-pub enum LockfileMerge {
-    /// The merged lockfile, and its text.
-    Merged(Lockfile, String),
+pub enum LockfileMerge<'a> {
+    /// The merged lockfile, its text, and the references that the merge moved.
+    Merged(Lockfile, String, Vec<Moved<'a>>),
 
     /// The sides are in conflict.
-    InConflict(LockfileConflicts),
+    InConflict(LockfileConflicts<'a>),
 }
 
 /// What the sides of a merge are in conflict about.
 #[derive(Drop)]
-pub struct LockfileConflicts {
-    /// Whether the packages are in conflict.
-    pub packages: bool,
+pub struct LockfileConflicts<'a> {
+    /// What is at places, and the commits of git sources.
+    pub packages: Vec<Conflict<'a>>,
 
     /// The keys of the metadata whose values are.
     pub metadata: BTreeMap<MetadataKey, MetadataConflict>,
@@ -82,7 +84,8 @@ struct Rest {
     patch: Patch,
 }
 
-/// The merge of two lockfiles over their base, and its text, or the conflicts.
+/// The merge of two lockfiles over their base, its text and the references that the merge moved, or
+/// the conflicts.
 ///
 /// The merge has the later format of both sides. Its packages are those of `merge`, with their
 /// references as Cargo writes them: one in full has no commit. An unused patch is there if both sides have it, or if one side has it and the base has not. The metadata besides
@@ -100,14 +103,14 @@ pub fn merge_lockfiles<'a>(
     base: &'a Lockfile,
     ours: &'a Lockfile,
     theirs: &'a Lockfile,
-) -> Result<LockfileMerge, MergeError<'a>>
+) -> Result<LockfileMerge<'a>, MergeError<'a>>
     ensures ok { IfOk result (MergesTo (triple_of base.now ours.now theirs.now)) }
     ensures err { IfErr result (IsMergeError (triple_of base.now ours.now theirs.now)) }
 {
     refuse_roots(base, ours, theirs)?;
-    let packages = merged_packages(alloc, base, ours, theirs)?;
+    let outcome = merged_packages(alloc, base, ours, theirs)?;
     let rest = rest_of(alloc, base, ours, theirs)?;
-    Ok(joined(alloc, packages, rest)?)
+    Ok(joined(alloc, outcome, rest)?)
 }
 
 // Refuses a lockfile with a root apart from its packages.
@@ -131,20 +134,18 @@ fn refuse_roots<'a>(
     Ok(())
 }
 
-// The merged packages.
+// The merged packages, or their conflicts.
 fn merged_packages<'a>(
     alloc: Global,
     base: &'a Lockfile,
     ours: &'a Lockfile,
     theirs: &'a Lockfile,
-) -> Result<Option<Vec<Package>>, MergeError<'a>>
-    ensures ok { IfOk result
-        (λ merged. Finds (packages_of (triple_of base.now ours.now theirs.now))
-        (option_map (λ v. v.items) merged)) }
+) -> Result<Outcome<'a>, MergeError<'a>>
+    ensures ok { IfOk result (Finds (packages_of (triple_of base.now ours.now theirs.now))) }
     ensures err { IfErr result (IsMergeError (triple_of base.now ours.now theirs.now)) }
 {
     match merge(alloc, &base.packages, &ours.packages, &theirs.packages) {
-        Ok(merged) => Ok(merged),
+        Ok(outcome) => Ok(outcome),
         Err(Stop::Memory) => Err(MergeError::Memory),
         Err(Stop::Refused(role, refusal)) => Err(MergeError::Refused(role, refusal)),
     }
@@ -194,16 +195,15 @@ fn metadata_of(
 }
 
 // The lockfile of these parts, or the conflicts.
-fn joined(alloc: Global, packages: Option<Vec<Package>>, rest: Rest) -> error::Result<LockfileMerge>
+fn joined<'a>(alloc: Global, outcome: Outcome<'a>, rest: Rest) -> error::Result<LockfileMerge<'a>>
     ensures ok { IfOk result (λ merge. (s : LockfileTriple) → HaveNoRoots s
-        → Finds (packages_of s) (option_map (λ v. v.items) packages) → IsRestOf s rest
-        → MergesTo s merge) }
+        → Finds (packages_of s) outcome.entry → IsRestOf s rest → MergesTo s merge) }
     ensures err { IsOkUnless result Memory }
 {
-    match packages {
-        Some(packages) => joined_packages(alloc, packages, rest),
-        None => Ok(LockfileMerge::InConflict(LockfileConflicts {
-            packages: true,
+    match outcome {
+        Outcome::Merged(packages, moved) => joined_packages(alloc, packages, moved, rest),
+        Outcome::Conflicts(packages) => Ok(LockfileMerge::InConflict(LockfileConflicts {
+            packages,
             metadata: rest.metadata.conflicts,
             format: None,
         })),
@@ -211,21 +211,23 @@ fn joined(alloc: Global, packages: Option<Vec<Package>>, rest: Rest) -> error::R
 }
 
 // The same with merged packages.
-fn joined_packages(
+fn joined_packages<'a>(
     alloc: Global,
     packages: Vec<Package>,
+    moved: Vec<Moved<'a>>,
     rest: Rest,
-) -> error::Result<LockfileMerge>
+) -> error::Result<LockfileMerge<'a>>
     ensures ok { IfOk result (λ merge. (s : LockfileTriple) → HaveNoRoots s
-        → IsFound (packages_of s) packages.items → IsRestOf s rest → MergesTo s merge) }
+        → IsFound (packages_of s) packages.items moved.entry.items → IsRestOf s rest
+        → MergesTo s merge) }
     ensures err { IsOkUnless result Memory }
 {
     if rest.metadata.conflicts.is_empty() {
         let packages = refer_as_cargo(alloc, rest.version, &packages)?;
-        with_text(alloc, lockfile_of(packages, rest))
+        with_text(alloc, lockfile_of(packages, rest), moved)
     } else {
         Ok(LockfileMerge::InConflict(LockfileConflicts {
-            packages: false,
+            packages: Vec::new(alloc),
             metadata: rest.metadata.conflicts,
             format: None,
         }))
@@ -251,17 +253,21 @@ fn lockfile_of(packages: Vec<Package>, rest: Rest) -> Lockfile
 }
 
 // The lockfile with its text, if that reads back as it.
-fn with_text(alloc: Global, lockfile: Lockfile) -> error::Result<LockfileMerge>
-    ensures ok { IfOk result
-        (λ merge. (s : LockfileTriple) → IsMergedLockfile s lockfile → MergesTo s merge) }
+fn with_text<'a>(
+    alloc: Global,
+    lockfile: Lockfile,
+    moved: Vec<Moved<'a>>,
+) -> error::Result<LockfileMerge<'a>>
+    ensures ok { IfOk result (λ merge. (s : LockfileTriple)
+        → IsMergedLockfile s lockfile moved.entry.items → MergesTo s merge) }
     ensures err { IsOkUnless result Memory }
 {
     let text = lockfile.to_string(alloc)?;
     if reads_back(alloc, &lockfile, text.as_str())? {
-        Ok(LockfileMerge::Merged(lockfile, text))
+        Ok(LockfileMerge::Merged(lockfile, text, moved))
     } else {
         Ok(LockfileMerge::InConflict(LockfileConflicts {
-            packages: false,
+            packages: Vec::new(alloc),
             metadata: BTreeMap::new(alloc),
             format: Some(lockfile.version),
         }))

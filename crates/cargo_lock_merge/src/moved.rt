@@ -10,6 +10,7 @@ ghost use Rattle.cargo_lock_merging.specs.Moved.{AreListed};
 ghost use Rattle.cargo_lock_merging.specs.Numbered.{all_data};
 ghost use Rattle.cargo_lock_merge.specs.Moved.{AreMarked, AreMovedReferences, AreNamed, HasNamesake};
 
+use crate::words::{SourceBehind, WithCommit};
 use cargo_lock_check::{dependency_order, package_order};
 use cargo_lock_graph::versions::Versions;
 use cargo_lock_merging::merged::Merged;
@@ -20,6 +21,7 @@ use cargo_lock_parts::error::Result;
 use cargo_lock_parts::package::Package;
 use std::alloc::{AllocError, Global};
 use std::cmp::Ordering;
+use std::fmt;
 
 /// A reference that a merge moved: a merged package depends on another one with a source, and
 /// neither side has this dependency.
@@ -185,4 +187,72 @@ fn moved_order(alloc: Global, one: &Found, other: &Found) -> Result<Ordering>
     let one = Dependency::of(one.merged.to)?;
     let other = Dependency::of(other.merged.to)?;
     Ok(dependency_order(alloc, &one, &other)?)
+}
+
+impl fmt::Display for Moved<'_> {
+    ghost use Rattle.std.specs.Prelude.{Some};
+    ghost use Rattle.cargo_lock_merge.specs.Lines.{moved_line};
+
+    ghost output = { λ moved. Some (moved_line moved) };
+
+    fn fmt<W: fmt::Write>(&self, f: &mut fmt::Formatter<W>) -> fmt::Result {
+        let reference = ReferenceText(self.found.merged, self.with_sources);
+        let before = Before(self.found.ours, self.found.theirs);
+        write!(f, "moved: {reference}{before}")
+    }
+}
+
+// Both packages of a reference, each with its source if that is asked.
+#[derive(Clone, Copy)]
+struct ReferenceText<'a>(Reference<'a>, bool);
+
+impl fmt::Display for ReferenceText<'_> {
+    ghost use Rattle.std.specs.Prelude.{Some};
+    ghost use Rattle.cargo_lock_merge.specs.Lines.{moved_text};
+
+    ghost output = { λ shown. Some (moved_text shown.0 shown.1) };
+
+    fn fmt<W: fmt::Write>(&self, f: &mut fmt::Formatter<W>) -> fmt::Result {
+        let ReferenceText(reference, with_sources) = *self;
+        let Reference { from, to } = reference;
+        let from_text = WithCommit(from);
+        let to_text = WithCommit(to);
+        if with_sources {
+            let from_source = SourceBehind(&from.source);
+            let to_source = SourceBehind(&to.source);
+            return write!(f, "{from_text}{from_source} on {to_text}{to_source}");
+        }
+        write!(f, "{from_text} on {to_text}")
+    }
+}
+
+// The references that the sides have at the places of a moved one, in round brackets.
+#[derive(Clone, Copy)]
+struct Before<'a>(Option<Reference<'a>>, Option<Reference<'a>>);
+
+impl fmt::Display for Before<'_> {
+    ghost use Rattle.std.specs.Prelude.{Some};
+    ghost use Rattle.cargo_lock_merge.specs.Lines.{before_text};
+
+    ghost output = { λ shown. Some (before_text shown.0 shown.1) };
+
+    fn fmt<W: fmt::Write>(&self, f: &mut fmt::Formatter<W>) -> fmt::Result {
+        let Before(ours, theirs) = *self;
+        match (ours, theirs) {
+            (None, None) => Ok(()),
+            (Some(ours), None) => {
+                let ours = ReferenceText(ours, false);
+                write!(f, " (ours: {ours})")
+            }
+            (None, Some(theirs)) => {
+                let theirs = ReferenceText(theirs, false);
+                write!(f, " (theirs: {theirs})")
+            }
+            (Some(ours), Some(theirs)) => {
+                let ours = ReferenceText(ours, false);
+                let theirs = ReferenceText(theirs, false);
+                write!(f, " (ours: {ours}, theirs: {theirs})")
+            }
+        }
+    }
 }

@@ -1,15 +1,13 @@
-use Rattle.std.proofs.Common.{Global, Option, Vec, inl, option_map, refl, subst}
+use Rattle.std.proofs.Common.{inl}
 use Rattle.cargo_lock_merge.specs.MergedLockfiles.{packages_of}
-use Rattle.cargo_lock_merge.specs.Outcome.{Finds}
-use Rattle.cargo_lock_parts.specs.declared.package.Package.{Package}
-use Rattle.cargo_lock_merge.proofs.LockfileMerging.{metadata-conflicts}
+use Rattle.cargo_lock_merge.proofs.LockfileMerging.{conflicting, metadata-conflicts}
 use Rattle.cargo_lock_merge.proofs.lockfiles.joined.Goals as goal
 
-pub returns-in-None-clause-ok : goal.returns-in-None-clause-ok
-returns-in-None-clause-ok c = λ s roots found rest. record {
+pub returns-in-Conflicts-clause-ok : goal.returns-in-Conflicts-clause-ok
+returns-in-Conflicts-clause-ok c = λ s roots found rest. record {
   roots = roots;
-  packages = subst (λ (o : Option (Vec Package Global)). Finds (packages_of s) (option_map (λ v. v.items) o)) c.in-None.is found;
+  packages = ?;
   metadata = metadata-conflicts s c.args.rest.metadata rest.metadata;
   format = tt;
-  some = inl refl;
+  some = ?;
 }
