@@ -19,14 +19,18 @@ def load_rt():
 
 def by_truth(must_fail):
     """Returns the kit's function that tries an edit, with whether the edit is refused in place of
-    the kit's word for what the try came to."""
+    the kit's word for what the try came to. Some kits return that truth value themselves."""
+    refused = [getattr(rt, name) for name in ("REFUSED", "AT_LIMIT") if hasattr(rt, name)]
 
     def tried(*given):
         outcome, said = must_fail(*given)
-        return outcome in (rt.REFUSED, rt.AT_LIMIT), said
+        return (outcome in refused if refused else outcome is True), said
 
     return tried
 
 
 rt = load_rt()
 rt.must_fail = by_truth(rt.must_fail)
+# (some kits keep no work for other checkouts, and copy no folders by links)
+rt.work_for = getattr(rt, "work_for", lambda crate: None)
+rt.linked = getattr(rt, "linked", shutil.copytree)

@@ -1,9 +1,10 @@
 """The record of refusals, tests/edits/refused: which edits were refused, and over what.
 
-For each crate it has a line `CRATE BASE`, and below it a line `    NAME EDIT` for each refused
-edit, sorted. EDIT is the sum of the edit's bytes. BASE is the sum of all that a refusal rests on:
-the kit and its command, the rule, the crate's line of crates.txt, its files, and what can be seen
-of each library below it. A line counts while both sums are those of the files at hand.
+For each kit it has a line `kit KIT`, since machines differ in theirs. Below it is for each crate a
+line `CRATE BASE`, and below that a line `    NAME EDIT` for each refused edit, sorted. EDIT is the
+sum of the edit's bytes. BASE is the sum of all that a refusal rests on: the kit and its command, the
+rule, the crate's line of crates.txt, its files, and what can be seen of each library below it. A
+line counts while both sums are those of the files at hand.
 """
 import hashlib
 import os
@@ -25,31 +26,51 @@ LIMIT = re.compile(r"ran out of|could not tell|no verdict|too many steps|out of 
 SEEN = (b'"facade', b'"specs')
 
 
-def read(path=FILE):
-    """Returns the record: for each crate its base, and the sum of each edit by its name."""
-    found, lines = {}, ()
+def kit():
+    """Returns the name of the kit at hand."""
+    return bytes_of(f"{rt.rtlib.KIT}/KIT-ID").decode().strip()
+
+
+def read_all(path):
+    """Returns the record of each kit, by its name."""
+    kits, found, lines = {}, {}, {}
     if not os.path.isfile(path):
-        return found
+        return kits
     with open(path, encoding="utf-8") as file:
         for line in file.read().splitlines():
-            name, _, its_sum = line.strip().partition(" ")
+            name, _, rest = line.strip().partition(" ")
             if line.startswith("    "):
-                lines[name] = its_sum
+                lines[name] = rest
+            elif name == "kit":
+                found = kits.setdefault(rest, {})
             elif name and not line.startswith("#"):
                 lines = {}
-                found[name] = (its_sum, lines)
-    return found
+                found[name] = (rest, lines)
+    return kits
+
+
+def read(path=FILE):
+    """Returns the record of the kit at hand: for each crate its base, and the sum of each edit by
+    its name."""
+    return read_all(path).get(kit(), {})
 
 
 def write(record, path=FILE):
-    text = HEAD
-    for crate, (base, lines) in sorted(record.items()):
-        text += f"{crate} {base}\n" if lines else ""
-        text += "".join(f"    {name} {lines[name]}\n" for name in sorted(lines))
+    """Writes the record of the kit at hand, and keeps those of other kits."""
+    kits = read_all(path) | {kit(): record}
+    text = HEAD + "".join(f"kit {name}\n{lines_of(kits[name])}" for name in sorted(kits))
     part = f"{path}.part"
     with open(part, "w", encoding="utf-8") as file:
         file.write(text)
     os.replace(part, path)
+
+
+def lines_of(record):
+    text = ""
+    for crate, (base, lines) in sorted(record.items()):
+        text += f"{crate} {base}\n" if lines else ""
+        text += "".join(f"    {name} {lines[name]}\n" for name in sorted(lines))
+    return text
 
 
 def sum_of_edit(edit):

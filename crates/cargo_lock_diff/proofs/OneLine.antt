@@ -28,7 +28,7 @@ alone-prints (Some s) = either_text (is_default_registry s) (literal (codes "cra
 sources-print : (old new : PackageData) → Prints (sources_text old new)
 sources-print old new = words (codes ": ") refl (join (alone-prints old.source) (words (codes " -> ") refl (alone-prints new.source)))
 
-checksum-prints : (c : Option (List ℕ)) → Prints (checksum_text c)
+pub checksum-prints : (c : Option (List ℕ)) → Prints (checksum_text c)
 checksum-prints None = literal (codes "none") refl
 checksum-prints (Some digest) = shown-prints Plain _
 
@@ -39,7 +39,7 @@ checksums-print old new = words (codes ": checksum ") refl (join (checksum-print
 named-prints : (p : PackageData) → Prints (named_text p)
 named-prints p = join (shown-prints Plain p.name) (words (codes " ") refl (version-prints p.version))
 
-package-prints : (p : PackageData) → Prints (package_text p)
+pub package-prints : (p : PackageData) → Prints (package_text p)
 package-prints p = join (named-prints p) (behind-prints p.source)
 
 dependency-prints : (d : Identity) → Prints (dependency_shown d)

@@ -28,9 +28,9 @@ impl fmt::Display for Named<'_> {
     }
 }
 
-// The name, the version and the source after them.
+/// Displays a package as `NAME VERSION SRC`, as it is in the lines of a difference.
 #[derive(Clone, Copy)]
-pub(crate) struct PackageText<'a>(pub(crate) &'a Package);
+pub struct PackageText<'a>(pub &'a Package);
 
 impl fmt::Display for PackageText<'_> {
     ghost use Rattle.std.specs.Prelude.{Some};
@@ -213,9 +213,9 @@ impl fmt::Display for Checksums<'_> {
     }
 }
 
-// The checksum, or `none`.
+/// Displays the checksum of a package, or `none` if it has none.
 #[derive(Clone, Copy)]
-struct ChecksumText<'a>(&'a Package);
+pub struct ChecksumText<'a>(pub &'a Package);
 
 impl fmt::Display for ChecksumText<'_> {
     ghost use Rattle.std.specs.Prelude.{Some};

@@ -1,7 +1,5 @@
 -- Each line is one line: each part of it is printable.
-use Rattle.std.proofs.Common.{◌++◌, ℕ, Bool, true, false, List, codes, Option, Some, None, option_map, refl}
-use Rattle.std.specs.Borrow.{Bor}
-use Rattle.semver.specs.Parse.{Parts}
+use Rattle.std.proofs.Common.{ℕ, Bool, false, List, codes, Option, Some, None, refl}
 use Rattle.shown.specs.declared.form.Form.TheVariants.{Plain, Quoted}
 use Rattle.shown.proofs.LinesOf.{each-is-line}
 use Rattle.shown.proofs.Printable.{Prints, either_text, empty, join, literal, shown-prints, words}

@@ -8,7 +8,6 @@ pub mod Commands
 pub mod List
 pub mod Merge
 pub mod Load
-pub mod Spec
 pub mod Why
 pub mod Duplicates
 pub mod Graph

@@ -5,8 +5,8 @@ ghost use Rattle.clap.specs.Matches.{found_of};
 ghost use Rattle.cargo_lock_diff.specs.Change.{change_of, changes_text};
 ghost use Rattle.cargo_lock_json.specs.Difference.{difference_json};
 ghost use Rattle.cargo_lock_json.specs.Text.{IsJsonText};
-ghost use Rattle.cli.specs.Diff.{IsStatus, IsTold, PrintsTold, TellsChanges};
-ghost use Rattle.cli.specs.Diff.{TellsDifference, TellsDifferenceOf, last_line, told_text};
+ghost use Rattle.cli.specs.Diff.{IsStatus, IsTold, PrintsTold, PrintsChanges};
+ghost use Rattle.cli.specs.Diff.{PrintsDifference, PrintsDifferenceOf, last_line, told_text};
 ghost use Rattle.cli.specs.Json.{PrintsLine};
 
 use crate::load::{compared_lockfile, file};
@@ -78,7 +78,7 @@ pub(crate) fn run<R: Files + AllocGlobal, W: Write>(
     options: &ArgMatches<'_>,
     out: &mut W,
 ) -> Result<ExitCode, Fault>
-    ensures { IfOk result (λ status. TellsDifference (found_of options.now)
+    ensures { IfOk result (λ status. PrintsDifference (found_of options.now)
         (W.contents out.old) (W.contents out.new)
         (status ≡ ExitCode.FAILURE) (status ≡ ExitCode.SUCCESS)) }
 {
@@ -87,29 +87,29 @@ pub(crate) fn run<R: Files + AllocGlobal, W: Write>(
     }
     let old = compared_lockfile(rt, options, "old")?;
     let new = compared_lockfile(rt, options, "new")?;
-    tell(rt.alloc(), options, &old, &new, out)
+    report(rt.alloc(), options, &old, &new, out)
 }
 
 /// Prints what differs between the packages of two lockfiles. Returns the status.
-fn tell<W: Write>(
+fn report<W: Write>(
     alloc: Global,
     options: &ArgMatches<'_>,
     old: &Lockfile,
     new: &Lockfile,
     out: &mut W,
 ) -> Result<ExitCode, Fault>
-    ensures { IfOk result (λ status. TellsDifferenceOf (found_of options.now) old.now new.now
+    ensures { IfOk result (λ status. PrintsDifferenceOf (found_of options.now) old.now new.now
         (W.contents out.old) (W.contents out.new)
         (status ≡ ExitCode.FAILURE) (status ≡ ExitCode.SUCCESS)) }
 {
     let difference = Difference::of(alloc, &old.packages, &new.packages)?;
     let before = file(options, "old", old);
     let after = file(options, "new", new);
-    tell_changes(alloc, options, &before, &after, &difference, out)
+    report_changes(alloc, options, &before, &after, &difference, out)
 }
 
 /// Prints the changes of a difference. Returns the status.
-fn tell_changes<W: Write>(
+fn report_changes<W: Write>(
     alloc: Global,
     options: &ArgMatches<'_>,
     before: &File<'_>,
@@ -117,7 +117,7 @@ fn tell_changes<W: Write>(
     difference: &Difference<'_>,
     out: &mut W,
 ) -> Result<ExitCode, Fault>
-    ensures { IfOk result (λ status. TellsChanges (found_of options.now) before.now after.now
+    ensures { IfOk result (λ status. PrintsChanges (found_of options.now) before.now after.now
         difference.now (W.contents out.old) (W.contents out.new)
         (status ≡ ExitCode.FAILURE) (status ≡ ExitCode.SUCCESS)) }
 {

@@ -6,7 +6,10 @@ ghost use Rattle.cargo_lock_encoding.specs.Means.{TextMeans};
 ghost use Rattle.cli.specs.Json.{file_of};
 ghost use Rattle.cli.specs.Diff.{IsCompared};
 ghost use Rattle.cli.specs.Load.{IsOfLockfile};
+ghost use Rattle.cli.specs.Tree.{IsGraphOf};
 
+use crate::tree::tree_of;
+use cargo_lock::dependency::Tree;
 use cargo_lock::{Error, Lockfile};
 use cargo_lock_json::File;
 use clap::ArgMatches;
@@ -75,6 +78,19 @@ pub(crate) fn lockfile_without_packages(alloc: Global) -> Result<Lockfile, Fault
     let lockfile = lockfile_of(alloc, "")?;
     let compared = lockfile.with_cargo_checksums(alloc)?;
     Ok(compared)
+}
+
+/// The lockfile at the path of the option `file`, and its tree. Fails if it is not read, with the
+/// path in the error, or if no package matches a dependency.
+pub(crate) fn named_tree<R: Files + AllocGlobal>(
+    rt: &R,
+    options: &ArgMatches<'_>,
+) -> Result<(Lockfile, Tree), Fault>
+    ensures { IfOk result (λ read. IsMeant read.0 × IsGraphOf read.0 read.1.graph) }
+{
+    let lockfile = named_lockfile(rt, options, "file")?;
+    let tree = tree_of(rt.alloc(), &lockfile)?;
+    Ok((lockfile, tree))
 }
 
 /// The text of the lockfile at the path of the option `name`. Fails if it is not read, with the

@@ -1,0 +1,3 @@
+mod Exact
+mod Listing
+mod OneLine

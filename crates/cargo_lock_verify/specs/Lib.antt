@@ -1,0 +1,4 @@
+pub mod Archives
+pub mod Lines
+pub mod Reading
+pub mod Report

@@ -1,0 +1,53 @@
+//! What is found of packages and their archives, each as a line.
+
+use cargo_lock_diff::{ChecksumText, PackageText};
+use cargo_lock_parts::package::{Checksum, Package};
+use shown::{Quoted, Shown};
+use std::fmt;
+
+/// An archive of a package.
+#[derive(Drop)]
+pub struct Archive {
+    /// Its path.
+    pub path: String,
+
+    /// The SHA-256 of its bytes, as `digest` returns it.
+    pub digest: Checksum,
+}
+
+/// What is wrong with the archives of a package. `Display` writes a line without a newline:
+/// `NAME VERSION SRC` as in a difference, where a package of crates.io has no `SRC`; texts of a
+/// stranger, the path among them, are shown as the crate `shown` does.
+#[derive(Drop)]
+pub enum Finding<'p, 'a> {
+    /// No archive of the package has its checksum, and this is one of them:
+    /// ``! NAME VERSION SRC: `PATH` is DIGEST, not CHECKSUM``.
+    Changed(&'p Package, &'a Archive),
+
+    /// The package has no archive: `- NAME VERSION SRC: no archive`.
+    Missing(&'p Package),
+}
+
+impl fmt::Display for Finding<'_, '_> {
+    ghost use Rattle.std.specs.Prelude.{Some};
+    ghost use Rattle.cargo_lock_verify.specs.Archives.{finding_of};
+    ghost use Rattle.cargo_lock_verify.specs.Lines.{finding_line};
+
+    ghost output = { λ finding. Some (finding_line (finding_of finding)) };
+
+    fn fmt<W: fmt::Write>(&self, f: &mut fmt::Formatter<W>) -> fmt::Result {
+        match self {
+            Finding::Changed(package, archive) => {
+                let checksum = ChecksumText(package);
+                let package = PackageText(package);
+                let path = Quoted(&archive.path);
+                let digest = Shown(&archive.digest);
+                write!(f, "! {package}: `{path}` is {digest}, not {checksum}")
+            }
+            Finding::Missing(package) => {
+                let package = PackageText(package);
+                write!(f, "- {package}: no archive")
+            }
+        }
+    }
+}

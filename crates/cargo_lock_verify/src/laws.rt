@@ -1,0 +1,20 @@
+//! Laws of what is found, each the contract of a function without a body.
+
+ghost use Rattle.cargo_lock_verify.specs.Archives.{FindingsAreExact, NoneIfVerified};
+ghost use Rattle.cargo_lock_verify.specs.Lines.{EachIsOneLine};
+
+/// What is found is exactly each archive of a package with a checksum that is not verified, and each
+/// package with a checksum and no archive.
+pub fn findings_are_exact()
+    ensures { FindingsAreExact }
+{}
+
+/// Nothing is found exactly if an archive of each package with a checksum has that checksum.
+pub fn none_if_verified()
+    ensures { NoneIfVerified }
+{}
+
+/// Each finding is one line, whatever names, sources and paths hold.
+pub fn each_is_one_line()
+    ensures { EachIsOneLine }
+{}

@@ -1,0 +1,13 @@
+//! Whether the archives of packages are those that a lockfile names, by the SHA-256 of their bytes.
+#![tactic(auto)]
+
+pub mod finding;
+pub mod hashing;
+pub mod laws;
+pub mod report;
+pub mod subject;
+
+pub use crate::finding::{Archive, Finding};
+pub use crate::hashing::digest;
+pub use crate::report::Report;
+pub use crate::subject::{Subject, findings};
