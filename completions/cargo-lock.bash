@@ -4,7 +4,7 @@ _cargo_lock() {
     local current=${COMP_WORDS[COMP_CWORD]} previous=${COMP_WORDS[COMP_CWORD - 1]}
     COMPREPLY=()
     if [ "$COMP_CWORD" = 1 ]; then
-        _cargo_lock_offer 'list translate tree bom diff check why duplicates graph help -h --help -V --version'
+        _cargo_lock_offer 'list translate tree bom diff check why duplicates graph merge help -h --help -V --version'
         return
     fi
     if [ "$previous" = = ]; then
@@ -91,7 +91,19 @@ _cargo_lock() {
             ;;
         esac
         ;;
-    help) _cargo_lock_offer 'list translate tree bom diff check why duplicates graph help' ;;
+    merge)
+        case $previous in
+        -o | --output) _cargo_lock_files ;;
+        *)
+            if [[ $current == -* ]]; then
+                _cargo_lock_offer '--any-size -o --output -h --help'
+            else
+                _cargo_lock_files
+            fi
+            ;;
+        esac
+        ;;
+    help) _cargo_lock_offer 'list translate tree bom diff check why duplicates graph merge help' ;;
     esac
 }
 

@@ -14,6 +14,7 @@ _cargo-lock() {
         'why:Shows why a package is in a lockfile'
         'duplicates:Lists the names that several packages have, and what needs each package'
         'graph:Writes a picture of packages, for Graphviz or Mermaid'
+        'merge:Merges two lockfiles by packages, over their common ancestor'
         'help:Print this message or the help of the given subcommand(s)'
     )
     _arguments -C \
@@ -108,6 +109,15 @@ _cargo-lock() {
             '(-i --invert)'{-i,--invert}'[Shows what depends on each package]' \
             '(- *)'{-h,--help}'[Print help]' \
             '*:SPEC:_cargo-lock-packages'
+        ;;
+    merge)
+        _arguments -s \
+            '--any-size[Reads a lockfile of 256 MiB or more too]' \
+            '(-o --output)'{-o,--output}'[The file that is written, - for standard output]:PATH:_files' \
+            '(- *)'{-h,--help}'[Print help]' \
+            '1:BASE:_files' \
+            '2:OURS:_files' \
+            '3:THEIRS:_files'
         ;;
     help)
         _describe -t commands COMMAND commands

@@ -33,7 +33,7 @@ impl fmt::Display for Refused<'_, '_> {
 
 // The part of a lockfile in a merge.
 #[derive(Clone, Copy)]
-struct RoleText(Role);
+pub(crate) struct RoleText(pub(crate) Role);
 
 impl fmt::Display for RoleText {
     ghost use Rattle.std.specs.Prelude.{Some};

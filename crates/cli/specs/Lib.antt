@@ -6,6 +6,7 @@ pub mod Tree
 pub mod Diff
 pub mod Commands
 pub mod List
+pub mod Merge
 pub mod Load
 pub mod Why
 pub mod Duplicates

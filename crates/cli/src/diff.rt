@@ -5,11 +5,11 @@ ghost use Rattle.clap.specs.Matches.{found_of};
 ghost use Rattle.cargo_lock_diff.specs.Change.{change_of, changes_text};
 ghost use Rattle.cargo_lock_json.specs.Difference.{difference_json};
 ghost use Rattle.cargo_lock_json.specs.Text.{IsJsonText};
-ghost use Rattle.cli.specs.Diff.{IsCompared, IsStatus, IsTold, PrintsTold, PrintsChanges};
+ghost use Rattle.cli.specs.Diff.{IsStatus, IsTold, PrintsTold, PrintsChanges};
 ghost use Rattle.cli.specs.Diff.{PrintsDifference, PrintsDifferenceOf, last_line, told_text};
 ghost use Rattle.cli.specs.Json.{PrintsLine};
 
-use crate::load::{file, named_lockfile};
+use crate::load::{compared_lockfile, file};
 use cargo_lock::Lockfile;
 use cargo_lock_diff::{Change, Difference, Summary};
 use cargo_lock_json::{File, difference_json};
@@ -88,19 +88,6 @@ pub(crate) fn run<R: Files + AllocGlobal, W: Write>(
     let old = compared_lockfile(rt, options, "old")?;
     let new = compared_lockfile(rt, options, "new")?;
     report(rt.alloc(), options, &old, &new, out)
-}
-
-/// The lockfile whose path the argument `name` has, with the checksums that Cargo reads.
-fn compared_lockfile<R: Files + AllocGlobal>(
-    rt: &R,
-    options: &ArgMatches<'_>,
-    name: &str,
-) -> Result<Lockfile, Fault>
-    ensures { IfOk result IsCompared }
-{
-    let lockfile = named_lockfile(rt, options, name)?;
-    let compared = lockfile.with_cargo_checksums(rt.alloc())?;
-    Ok(compared)
 }
 
 /// Prints what differs between the packages of two lockfiles. Returns the status.

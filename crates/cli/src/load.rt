@@ -4,6 +4,7 @@ ghost use Rattle.clap.specs.Matches.{found_of};
 ghost use Rattle.cargo_lock.specs.Loads.{IsMeant};
 ghost use Rattle.cargo_lock_encoding.specs.Means.{TextMeans};
 ghost use Rattle.cli.specs.Json.{file_of};
+ghost use Rattle.cli.specs.Diff.{IsCompared};
 ghost use Rattle.cli.specs.Load.{IsOfLockfile};
 ghost use Rattle.cli.specs.Tree.{IsGraphOf};
 
@@ -54,6 +55,29 @@ pub(crate) fn named_lockfile<R: Files + AllocGlobal>(
         Ok(lockfile) => Ok(lockfile),
         Err(fault) => Err(named(rt.alloc(), options, name, fault)),
     }
+}
+
+/// The lockfile whose path the argument `name` has, with the checksums that Cargo reads. Fails if it
+/// is not read, with the path in the error.
+pub(crate) fn compared_lockfile<R: Files + AllocGlobal>(
+    rt: &R,
+    options: &ArgMatches<'_>,
+    name: &str,
+) -> Result<Lockfile, Fault>
+    ensures { IfOk result IsCompared }
+{
+    let lockfile = named_lockfile(rt, options, name)?;
+    let compared = lockfile.with_cargo_checksums(rt.alloc())?;
+    Ok(compared)
+}
+
+/// The lockfile of an empty text, which has no packages.
+pub(crate) fn lockfile_without_packages(alloc: Global) -> Result<Lockfile, Fault>
+    ensures { IfOk result IsCompared }
+{
+    let lockfile = lockfile_of(alloc, "")?;
+    let compared = lockfile.with_cargo_checksums(alloc)?;
+    Ok(compared)
 }
 
 /// The lockfile at the path of the option `file`, and its tree. Fails if it is not read, with the

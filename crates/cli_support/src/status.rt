@@ -27,5 +27,6 @@ fn is_own(word: &str) -> bool
         || word == "diff"
         || word == "duplicates"
         || word == "graph"
+        || word == "merge"
         || word == "why"
 }
