@@ -4,7 +4,7 @@ _cargo_lock() {
     local current=${COMP_WORDS[COMP_CWORD]} previous=${COMP_WORDS[COMP_CWORD - 1]}
     COMPREPLY=()
     if [ "$COMP_CWORD" = 1 ]; then
-        _cargo_lock_offer 'list translate tree bom diff check why duplicates graph merge help -h --help -V --version'
+        _cargo_lock_offer 'list translate tree bom diff check why duplicates graph merge verify help -h --help -V --version'
         return
     fi
     if [ "$previous" = = ]; then
@@ -103,7 +103,14 @@ _cargo_lock() {
             ;;
         esac
         ;;
-    help) _cargo_lock_offer 'list translate tree bom diff check why duplicates graph merge help' ;;
+    verify)
+        case $previous in
+        -f | --file) _cargo_lock_files ;;
+        --cache) _cargo_lock_files ;;
+        *) _cargo_lock_offer '-f --file --any-size --cache --all -h --help' ;;
+        esac
+        ;;
+    help) _cargo_lock_offer 'list translate tree bom diff check why duplicates graph merge verify help' ;;
     esac
 }
 

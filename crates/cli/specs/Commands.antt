@@ -6,7 +6,7 @@ use Rattle.clap.specs.declared.parser.matches.ArgMatches.{ArgMatches}
 use Rattle.clap.specs.declared.parser.matches.Found.{Found}
 use Rattle.cli.specs.declared.Chosen.{Chosen}
 use Rattle.cli.specs.declared.Chosen.TheVariants.{Bom, Check, Diff, Duplicates, Graph}
-use Rattle.cli.specs.declared.Chosen.TheVariants.{List as Listing, Merge, Translate, Tree, Why}
+use Rattle.cli.specs.declared.Chosen.TheVariants.{List as Listing, Merge, Translate, Tree, Verify, Why}
 use Rattle.cli.specs.Bom.{PrintsBill}
 use Rattle.cli.specs.Check.{PrintsCheck}
 use Rattle.cli.specs.Diff.{PrintsDifference}
@@ -16,6 +16,7 @@ use Rattle.cli.specs.List.{PrintsList}
 use Rattle.cli.specs.Merge.{PrintsMerge}
 use Rattle.cli.specs.Translate.{PrintsTranslation}
 use Rattle.cli.specs.Tree.{PrintsTrees}
+use Rattle.cli.specs.Verify.{PrintsVerified}
 use Rattle.cli.specs.Why.{PrintsWhy}
 
 -- the name of a command
@@ -29,6 +30,7 @@ name_of Listing = codes "list"
 name_of Merge = codes "merge"
 name_of Translate = codes "translate"
 name_of Tree = codes "tree"
+name_of Verify = codes "verify"
 name_of Why = codes "why"
 
 -- what a command leaves with the options that were found, and its status: `check`, `diff`,
@@ -44,6 +46,7 @@ Follows Listing found old new failure success = PrintsList found old new × succ
 Follows Merge found old new failure success = PrintsMerge found old new failure success
 Follows Translate found old new failure success = PrintsTranslation found old new × success
 Follows Tree found old new failure success = PrintsTrees found old new × success
+Follows Verify found old new failure success = PrintsVerified found old new failure success
 Follows Why found old new failure success = PrintsWhy found old new × success
 
 -- a command is followed whose name and options the parse found

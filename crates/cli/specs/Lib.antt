@@ -8,6 +8,7 @@ pub mod Commands
 pub mod List
 pub mod Merge
 pub mod Load
+pub mod Verify
 pub mod Why
 pub mod Duplicates
 pub mod Graph

@@ -1,12 +1,13 @@
 //! The program `cargo-lock` as a library: lists the packages of a lockfile, writes it in another
 //! format, draws its trees, writes its bill of materials, reports what differs between two and what
 //! is wrong with one, says why a package is there and which names several packages have, writes a
-//! picture of the packages, and merges two lockfiles over a third.
+//! picture of the packages, merges two lockfiles over a third, and compares archives of packages with
+//! their checksums.
 //!
 //! An error is reported in one message on standard error that begins with `*** error: `. The status
-//! is then 2 for `bom`, `check`, `diff`, `duplicates`, `graph`, `merge` and `why`, which the original
-//! does not have, and 1 for the others. Without an error it is 0, and all of the output was written
-//! and flushed; what `check`, `diff`, `duplicates` or `merge` found may make it 1.
+//! is then 2 for `bom`, `check`, `diff`, `duplicates`, `graph`, `merge`, `verify` and `why`, which the
+//! original does not have, and 1 for the others. Without an error it is 0, and all of the output was
+//! written and flushed; what `check`, `diff`, `duplicates`, `merge` or `verify` found may make it 1.
 #![tactic(auto)]
 
 ghost use Rattle.std.specs.Prelude.{◌≡◌, ◌⊎◌, IfErr, IfOk, IfSome, codes, map};
@@ -15,6 +16,7 @@ ghost use Rattle.clap.specs.Matches.{found_of};
 ghost use Rattle.cli_support.specs.Status.{IsFaultStatus, IsNamed};
 ghost use Rattle.cli.specs.Commands.{Follows, FollowsMatches, name_of};
 
+mod archives;
 mod bom;
 mod check;
 mod diff;
@@ -27,6 +29,7 @@ mod merge;
 mod spec;
 mod translate;
 mod tree;
+mod verify;
 mod why;
 
 use crate::ending::Ended;
@@ -141,7 +144,8 @@ fn parser<'a>(alloc: Global) -> Result<Command<'a>, AllocError> {
         .subcommand(why::command(alloc)?)?
         .subcommand(duplicates::command(alloc)?)?
         .subcommand(graph::command(alloc)?)?
-        .subcommand(merge::command(alloc)?)
+        .subcommand(merge::command(alloc)?)?
+        .subcommand(verify::command(alloc)?)
 }
 
 /// A command.
@@ -156,6 +160,7 @@ enum Chosen {
     Merge,
     Translate,
     Tree,
+    Verify,
     Why,
 }
 
@@ -173,6 +178,7 @@ fn command_named(name: &str) -> Option<Chosen>
         "merge" => Some(Chosen::Merge),
         "translate" => Some(Chosen::Translate),
         "tree" => Some(Chosen::Tree),
+        "verify" => Some(Chosen::Verify),
         "why" => Some(Chosen::Why),
         _ => None,
     }
@@ -251,6 +257,7 @@ fn follow<R: Files + Env + Clock + AllocGlobal, W: Write>(
             tree::run(rt, options, out)?;
             Ok(Ended::silent(ExitCode::SUCCESS))
         }
+        Chosen::Verify => Ok(Ended::silent(verify::run(rt, options, out)?)),
         Chosen::Why => {
             why::run(rt, options, out)?;
             Ok(Ended::silent(ExitCode::SUCCESS))

@@ -28,5 +28,6 @@ fn is_own(word: &str) -> bool
         || word == "duplicates"
         || word == "graph"
         || word == "merge"
+        || word == "verify"
         || word == "why"
 }
