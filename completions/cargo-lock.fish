@@ -101,7 +101,7 @@ complete -c cargo-lock -n '__cargo_lock_runs merge' -F -d 'The lockfile'
 
 complete -c cargo-lock -n '__cargo_lock_runs verify' -s f -l file -r -F -d 'The lockfile, - for standard input'
 complete -c cargo-lock -n '__cargo_lock_runs verify' -l any-size -d 'Reads a lockfile of 256 MiB or more too'
-complete -c cargo-lock -n '__cargo_lock_runs verify' -l cache -r -F -d 'The folder of the archives, as Cargo\'s registry/cache'
+complete -c cargo-lock -n '__cargo_lock_runs verify' -l cache -r -F -d 'The folder of the archives, as registry/cache of Cargo'
 complete -c cargo-lock -n '__cargo_lock_runs verify' -l all -d 'Reports packages without an archive too'
 complete -c cargo-lock -n '__cargo_lock_runs verify' -s h -l help -d 'Print help'
 

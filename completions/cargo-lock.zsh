@@ -124,7 +124,7 @@ _cargo-lock() {
         _arguments -s \
             '(-f --file)'{-f,--file}'[The lockfile, - for standard input]:PATH:_files' \
             '--any-size[Reads a lockfile of 256 MiB or more too]' \
-            "--cache[The folder of the archives, as Cargo's registry/cache]:FOLDER:_files -/" \
+            '--cache[The folder of the archives, as registry/cache of Cargo]:FOLDER:_files -/' \
             '--all[Reports packages without an archive too]' \
             '(- *)'{-h,--help}'[Print help]'
         ;;

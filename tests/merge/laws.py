@@ -7,6 +7,8 @@ from lockfiles import Refused, print_text, read
 from model import ROLES, Side, doubled_names, rule3, with_commit
 
 LINE = re.compile(r"(conflict: .*?: )(.* -> )?(.*) \(ours\), (.*) \(theirs\)")
+# A source behind a package, where others have its name and version.
+SOURCE = re.compile(r" \([a-z-]+\+[^ )]*\)")
 MOVED = re.compile(r"(moved: .*) \((?:ours: (.*?))?(?:, )?(?:theirs: (.*))?\)")
 
 
@@ -146,7 +148,8 @@ def check_moved(views, merged, answer):
              if to.source and not any(has_reference(side, merged, place, to) for side in views[1:])]
     lines = [MOVED.fullmatch(it) for it in answer.lines]
     ask(all(lines), f"moved references are reported in lines: {answer.lines}")
-    ask(sorted(it[1] for it in lines) == sorted(moved), f"each moved reference is reported: {moved}")
+    reported = [SOURCE.sub("", it[1]) for it in lines]
+    ask(sorted(reported) == sorted(moved), f"each moved reference is reported: {moved}")
     known = views[1].links() | views[2].links()
     own = {it for it in merged.links() if it[0].source and it[1].source}
     ask(moved or own <= known, f"a link is in a side where no reference moved: {own - known}")

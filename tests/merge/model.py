@@ -161,7 +161,7 @@ class Merge:
         self.conflicts = self.all_conflicts()
         self.answer = None if self.conflicts else self.merged()
         if self.answer and not survives(self.answer):
-            self.conflicts = [f"conflict: format: V{self.answer.format} does not keep the merge"]
+            self.conflicts = [f"conflict: format V{self.answer.format} does not keep the merge"]
             self.answer = None
         self.moved = self.moved_references() if self.answer else []
 
@@ -308,8 +308,7 @@ class Merge:
         for key in sorted(self.metadata_keys()):
             if self.metadata_at(key) == DISPUTED:
                 values = self.metadata_values(key)
-                found.append(conflict_line(f"metadata {shown(key)}", values[:1] + [
-                    "none" if it == ABSENT else it for it in values[1:]], shown))
+                found.append(conflict_line(f"metadata {quoted(key)}", values, metadata_text))
         return found
 
     def first_key(self, place):
@@ -351,7 +350,14 @@ class Merge:
                 if (one.source is None or came.key() == one) and to.key() == other:
                     return []
                 before.append(f"{side.role}: {with_commit(came.key())} on {with_commit(to.key())}")
-        return [f"moved: {with_commit(one)} on {with_commit(other)} ({', '.join(before)})"]
+        sources = any(self.has_namesake(it) for it in (one, other))
+        references = f"{with_source(one, sources)} on {with_source(other, sources)}"
+        return [f"moved: {references} ({', '.join(before)})"]
+
+    def has_namesake(self, identity):
+        """Whether several merged packages have the name and the version."""
+        same = [it for it in self.answer.packages if named(it.identity) == named(identity)]
+        return len(same) > 1
 
 
 def survives(lockfile):
@@ -374,6 +380,12 @@ def values_of(lockfile):
 
 # ---- lines
 
+def quoted(text):
+    """A text of a stranger in backquotes."""
+    is_kept = lambda c: " " <= c <= "~" and c not in "\\`"
+    return "`" + "".join(c if is_kept(c) else f"\\u{{{ord(c):x}}}" for c in text) + "`"
+
+
 def shown(text):
     """A text of a stranger in a line."""
     return "".join(c if "!" <= c <= "~" and c != "\\" else f"\\u{{{ord(c):x}}}" for c in text)
@@ -391,6 +403,15 @@ def commit(text):
 def with_commit(identity):
     source = identity.source
     return named(identity) + (f"#{commit(source.commit)}" if source and source.commit else "")
+
+
+def metadata_text(value):
+    return "none" if value == ABSENT else quoted(value)
+
+
+def with_source(identity, is_asked):
+    behind = f" ({shown(identity.source.text(False))})" if is_asked and identity.source else ""
+    return with_commit(identity) + behind
 
 
 def replacement_text(identity):

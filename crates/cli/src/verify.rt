@@ -30,7 +30,7 @@ it downloads it. The status is 1 where a line is printed for a package, and 2 wh
 an archive cannot be read.";
 
 /// The options, as help shows them.
-const CACHE_HELP: &str = "The folder of the archives, as Cargo's registry/cache";
+const CACHE_HELP: &str = "The folder of the archives, as registry/cache of Cargo";
 
 const ALL_HELP: &str = "Reports packages without an archive too";
 
