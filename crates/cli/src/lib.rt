@@ -257,7 +257,13 @@ fn follow<R: Files + Env + Clock + AllocGlobal, W: Write>(
             tree::run(rt, options, out)?;
             Ok(Ended::silent(ExitCode::SUCCESS))
         }
-        Chosen::Verify => Ok(Ended::silent(verify::run(rt, options, out)?)),
+        Chosen::Verify => {
+            let status = verify::run(rt, options, out)?;
+            Ok(Ended {
+                status,
+                lines: None,
+            })
+        }
         Chosen::Why => {
             why::run(rt, options, out)?;
             Ok(Ended::silent(ExitCode::SUCCESS))
