@@ -12,6 +12,9 @@ use std::io::{self, ErrorKind, Read};
 use std::path::Path;
 use std::rt::Files;
 
+/// How many bytes of names are read at once. The system refuses a read that a name does not fit.
+const PIECE: usize = 4096;
+
 /// How the name of an archive ends.
 const ENDING: &str = ".crate";
 
@@ -134,8 +137,15 @@ fn bytes_in<R: Files + AllocGlobal>(rt: &R, folder: &str) -> io::Result<Vec<u8>>
     let folder = path_of(rt.alloc(), folder, "")?;
     let mut names = rt.open_dir(&folder)?;
     let mut bytes = Vec::new(rt.alloc());
-    names.read_to_end(&mut bytes)?;
-    Ok(bytes)
+    let mut piece = [0; PIECE];
+    for _ in 0..u64::MAX {
+        let count = names.read(&mut piece)?;
+        if count == 0 {
+            return Ok(bytes);
+        }
+        bytes.extend_from_slice(&piece[..count])?;
+    }
+    Err(io::Error::from(ErrorKind::FileTooLarge))
 }
 
 /// The names of such bytes, in order, but for the folder itself and the one above.
