@@ -14,8 +14,8 @@ const PIECE: usize = 16_384;
 /// An error of the reader is returned, but for an interrupted read, which is tried again.
 ///
 /// ```
-/// let mut file = File::open(rt, path)?;
-/// let checksum = digest(&mut file)?;
+/// let mut file = OpenOptions::new().read(true).open(rt, Path::new(path))?;
+/// let digest = digest(&mut file)?;
 /// ```
 pub fn digest<R: Read>(reader: &mut R) -> io::Result<Checksum>
     ensures { IfOk result (IsDigestOfRest (R.remaining reader.old)) }

@@ -1,6 +1,7 @@
 //! Small programs over the library, each in a file of its own, run over the lockfile in `data/`.
 #![tactic(auto)]
 
+mod archives;
 mod asked;
 mod change_version;
 mod check_merge;
@@ -170,7 +171,9 @@ fn print_difference(rt: &HostRuntime, lockfile: &Lockfile) -> Result<(), Error> 
     println!(rt; "\ndifference:")?;
     let changed = change_version::changed(rt.alloc(), lockfile, "tower-buffer", "0.3.1")?;
     differences::print_changes(rt, lockfile, &changed)?;
-    differences::print_no_change(rt, lockfile)
+    differences::print_no_change(rt, lockfile)?;
+    println!(rt; "\narchives:")?;
+    archives::print_wrong(rt, lockfile, FILE)
 }
 
 /// Runs the programs that take the text of a lockfile.

@@ -10,5 +10,5 @@ pub returns : goal.returns
 returns c =
     let found : List Finding = c.in_ok-found.found.items in
     let kept : c.retain.new.self.items ≡ filter (λ (f : Finding). is_changed (finding_of f)) found =
-        filter_same _ (λ (f : Finding). is_changed (finding_of f)) _ (λ x b f' k. search rules) _ _ c.retain.ensures.filtered in
+    filter_same _ (λ (f : Finding). is_changed (finding_of f)) _ (λ x b f' k. search rules) _ _ c.retain.ensures.filtered in
     ap (map finding_of) kept ∙ changed-of-found found ∙ ap (filter is_changed) c.in_ok-found.ensures

@@ -10,7 +10,7 @@ returns-then-has_checksum c =
     let archives : List ArchiveData = map archive_of c.args.archives.now in
     let found : List FindingData = map finding_of c.args.found.now.items in
     let e : list_any (is_digest digest) archives ≡ true =
-        sym c.has_checksum.ensures ∙ c.if-has_checksum.true in
+    sym c.has_checksum.ensures ∙ c.if-has_checksum.true in
     subst (λ (b : Bool). found ≡ found ++ (if b then [] else found_of c.args.package.now archives)) (sym e) (sym (append-nil found))
 
 pub returns : goal.returns
@@ -19,6 +19,6 @@ returns c =
     let archives : List ArchiveData = map archive_of c.args.archives.now in
     let found : List FindingData = map finding_of c.args.found.now.items in
     let e : list_any (is_digest digest) archives ≡ false =
-        sym c.has_checksum.ensures ∙ c.if-has_checksum.false in
+    sym c.has_checksum.ensures ∙ c.if-has_checksum.false in
     subst (λ (b : Bool). OnOk c.put_unverified.result (map finding_of c.put_unverified.new.found.items
-        ≡ found ++ (if b then [] else found_of c.args.package.now archives))) (sym e) c.put_unverified.ensures
+    ≡ found ++ (if b then [] else found_of c.args.package.now archives))) (sym e) c.put_unverified.ensures

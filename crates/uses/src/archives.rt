@@ -1,0 +1,33 @@
+//! Whether a file is the archive that a lockfile names.
+
+use cargo_lock::{Error, Lockfile, Package};
+use cargo_lock_verify::{Archive, Subject, digest, findings};
+use std::fs::OpenOptions;
+use std::path::Path;
+
+/// Prints what is wrong with the file at a path as the archive of each package.
+pub fn print_wrong(rt: &HostRuntime, lockfile: &Lockfile, path: &str) -> Result<(), Error> {
+    let alloc = rt.alloc();
+    let mut subjects = Vec::new(alloc);
+    for package in &lockfile.packages {
+        subjects.push(subject(rt, package, path)?)?;
+    }
+    let found = findings(alloc, &subjects)?;
+    for finding in &found {
+        println!(rt; "{finding}")?;
+    }
+    Ok(())
+}
+
+fn subject<'a>(rt: &HostRuntime, package: &'a Package, path: &str) -> Result<Subject<'a>, Error> {
+    let mut archives = Vec::new(rt.alloc());
+    archives.push(archive(rt, path)?)?;
+    Ok(Subject { package, archives })
+}
+
+fn archive(rt: &HostRuntime, path: &str) -> Result<Archive, Error> {
+    let mut file = OpenOptions::new().read(true).open(rt, Path::new(path))?;
+    let digest = digest(&mut file)?;
+    let path = String::from_str(rt.alloc(), path)?;
+    Ok(Archive { path, digest })
+}
