@@ -4,4 +4,3 @@ mod EdgeLists
 mod PackageLines
 mod EachLine
 mod BillFaults
-mod Unanswered

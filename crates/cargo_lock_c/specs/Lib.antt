@@ -6,4 +6,3 @@ pub mod Graph
 pub mod Differences
 pub mod Findings
 pub mod Bills
-pub mod Documents

@@ -1,20 +1,8 @@
-//! A merge of lockfiles by packages.
+//! A merge of lists of packages, as lockfiles have them.
 #![tactic(auto)]
 
 mod assemble;
-pub mod conflict;
-mod format;
-pub mod laws;
-mod lines;
-pub mod lockfiles;
-pub mod metadata;
-pub mod moved;
 mod order;
-pub mod outcome;
-mod patches;
-mod referring;
-pub mod refused;
-mod words;
+mod outcome;
 
-pub use crate::lockfiles::merge_lockfiles;
 pub use crate::outcome::merge;

@@ -13,7 +13,6 @@ pub mod Entries
 pub mod Plans
 pub mod Merged
 pub mod Kept
-pub mod Moved
 pub mod Renaming
 pub mod Places
 pub mod Laws
@@ -25,5 +24,4 @@ pub mod Assembled
 pub mod Refusals
 pub mod Triples
 pub mod Numbers
-pub mod Disputes
 pub mod Conflicts

@@ -20,11 +20,11 @@ use std::cmp::Ordering;
 /// The side whose package a merge has at a place where the base and the two sides have these
 /// packages. `None` if neither side has one there, or if the sides are in conflict about it. The
 /// one error is `Memory`.
-pub fn choose<'a, 'd>(
-    commits: &Commits<'a, 'd>,
-    base: Option<Placed<'a, 'd>>,
-    ours: Option<Placed<'a, 'd>>,
-    theirs: Option<Placed<'a, 'd>>,
+pub fn choose<'a>(
+    commits: &Commits<'a>,
+    base: Option<Placed<'a>>,
+    ours: Option<Placed<'a>>,
+    theirs: Option<Placed<'a>>,
 ) -> Result<Option<Side>>
     ensures ok { IfOk result (IsChoice commits.now (data_if base.entry) (data_if ours.entry)
         (data_if theirs.entry)) }
@@ -39,11 +39,7 @@ pub fn choose<'a, 'd>(
 }
 
 // The side, if its package is chosen where the other side has none.
-fn choose_only<'a, 'd>(
-    commits: &Commits<'a, 'd>,
-    only: Placed<'a, 'd>,
-    side: Side,
-) -> Result<Option<Side>>
+fn choose_only<'a>(commits: &Commits<'a>, only: Placed<'a>, side: Side) -> Result<Option<Side>>
     ensures ok { IfOk result (λ chosen. (taken : Bool) × Decides taken
         (IsUsable commits.now only.entry.package.now)
         × (chosen ≡ (if taken then Some side else None))) }
@@ -54,7 +50,7 @@ fn choose_only<'a, 'd>(
 }
 
 // Whether the only package at a place is chosen.
-fn is_usable<'a, 'd>(commits: &Commits<'a, 'd>, package: &Package) -> Result<bool>
+fn is_usable<'a>(commits: &Commits<'a>, package: &Package) -> Result<bool>
     ensures ok { IfOk result (λ usable. Decides usable (IsUsable commits.now «package».now)) }
     ensures err { IsOkUnless result Memory }
 {
@@ -66,11 +62,11 @@ fn is_usable<'a, 'd>(commits: &Commits<'a, 'd>, package: &Package) -> Result<boo
 }
 
 // The side whose package is chosen where both have one.
-fn choose_of_both<'a, 'd>(
-    commits: &Commits<'a, 'd>,
-    base: Option<Placed<'a, 'd>>,
-    ours: Placed<'a, 'd>,
-    theirs: Placed<'a, 'd>,
+fn choose_of_both<'a>(
+    commits: &Commits<'a>,
+    base: Option<Placed<'a>>,
+    ours: Placed<'a>,
+    theirs: Placed<'a>,
 ) -> Result<Option<Side>>
     ensures ok { IfOk result (IsChoice commits.now (data_if base.entry)
         (Some (data_of ours.entry)) (Some (data_of theirs.entry))) }
@@ -84,10 +80,10 @@ fn choose_of_both<'a, 'd>(
 }
 
 // The side whose package is at the merged commit.
-fn choose_by_commit<'a, 'd>(
-    commits: &Commits<'a, 'd>,
-    ours: Placed<'a, 'd>,
-    theirs: Placed<'a, 'd>,
+fn choose_by_commit<'a>(
+    commits: &Commits<'a>,
+    ours: Placed<'a>,
+    theirs: Placed<'a>,
 ) -> Result<Option<Side>>
     requires { AreOfGit (Some (data_of ours)) (Some (data_of theirs)) }
     ensures ok { IfOk result (λ side. (b : Option (PlacedData ℕ)) → IsChoice commits.now b
@@ -113,10 +109,10 @@ fn side_at(ours: bool, theirs: bool, same: bool) -> Option<Side>
 }
 
 // The side whose package is agreed on, or else has the greater version where that decides.
-fn choose_by_rule<'a, 'd>(
-    base: Option<Placed<'a, 'd>>,
-    ours: Placed<'a, 'd>,
-    theirs: Placed<'a, 'd>,
+fn choose_by_rule<'a>(
+    base: Option<Placed<'a>>,
+    ours: Placed<'a>,
+    theirs: Placed<'a>,
 ) -> Option<Side>
     requires { ¬ AreOfGit (Some (data_of ours)) (Some (data_of theirs)) }
     ensures { (all : Lockfiles) → IsChoice all (data_if base.entry) (Some (data_of ours.entry))
@@ -129,11 +125,7 @@ fn choose_by_rule<'a, 'd>(
 }
 
 // Which of the identities are equal.
-fn equality<'a, 'd>(
-    base: Option<Placed<'a, 'd>>,
-    ours: Placed<'a, 'd>,
-    theirs: Placed<'a, 'd>,
-) -> Equal
+fn equality<'a>(base: Option<Placed<'a>>, ours: Placed<'a>, theirs: Placed<'a>) -> Equal
     ensures { AreEqual (key_if (data_if base.entry)) (Some (key (data_of ours.entry)))
         (Some (key (data_of theirs.entry))) result }
 {
@@ -145,7 +137,7 @@ fn equality<'a, 'd>(
 }
 
 /// Whether the package has the identity of that of the base, if there is one.
-pub fn is_same_as<'a, 'd>(base: Option<Placed<'a, 'd>>, package: Placed<'a, 'd>) -> bool
+pub fn is_same_as<'a>(base: Option<Placed<'a>>, package: Placed<'a>) -> bool
     ensures { Decides result
         (Some (key (data_of «package».entry)) ≡ key_if (data_if base.entry)) }
 {
@@ -157,10 +149,10 @@ pub fn is_same_as<'a, 'd>(base: Option<Placed<'a, 'd>>, package: Placed<'a, 'd>)
 
 // The side with the greater version of a package of a registry, if both versions are above that of
 // the base.
-fn choose_by_version<'a, 'd>(
-    base: Option<Placed<'a, 'd>>,
-    ours: Placed<'a, 'd>,
-    theirs: Placed<'a, 'd>,
+fn choose_by_version<'a>(
+    base: Option<Placed<'a>>,
+    ours: Placed<'a>,
+    theirs: Placed<'a>,
 ) -> Option<Side>
     ensures { IsVersionSide (data_if base.entry) (data_of ours.entry) (data_of theirs.entry)
         result }
@@ -179,11 +171,7 @@ fn choose_by_version<'a, 'd>(
 }
 
 // Whether both versions are above that of the base, if there is one.
-fn are_above<'a, 'd>(
-    base: Option<Placed<'a, 'd>>,
-    ours: Placed<'a, 'd>,
-    theirs: Placed<'a, 'd>,
-) -> bool
+fn are_above<'a>(base: Option<Placed<'a>>, ours: Placed<'a>, theirs: Placed<'a>) -> bool
     ensures { Decides result (AreAbove (data_if base.entry) (data_of ours.entry)
         (data_of theirs.entry)) }
 {
@@ -194,7 +182,7 @@ fn are_above<'a, 'd>(
 }
 
 // Whether the version of the other package is above that of this one.
-fn is_below<'a, 'd>(one: Placed<'a, 'd>, other: Placed<'a, 'd>) -> bool
+fn is_below<'a>(one: Placed<'a>, other: Placed<'a>) -> bool
     ensures { Decides result (IsBelow (data_of one.entry) (data_of other.entry)) }
 {
     cmp_versions(one.package, other.package) == Ordering::Less

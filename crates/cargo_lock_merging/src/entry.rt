@@ -22,9 +22,9 @@ use std::alloc::{AllocError, Global};
 
 /// The package that is chosen at a place.
 #[derive(Clone, Copy)]
-pub struct Chosen<'a, 'd> {
+pub struct Chosen<'a> {
     /// The package of a side.
-    pub package: Placed<'a, 'd>,
+    pub package: Placed<'a>,
 
     /// The side whose checksum it has. `None` if the sides are in conflict about it.
     pub checksum: Option<Side>,
@@ -35,12 +35,12 @@ pub struct Chosen<'a, 'd> {
 
 /// What a merge has at a place.
 #[derive(Drop)]
-pub struct Entry<'a, 'd> {
+pub struct Entry<'a> {
     /// What the base and the two sides have there.
-    pub row: Row<'a, 'd>,
+    pub row: Row<'a>,
 
     /// The chosen package. `None` if the sides are in conflict about it.
-    pub chosen: Option<Chosen<'a, 'd>>,
+    pub chosen: Option<Chosen<'a>>,
 
     /// The places that are depended on, in ascending order.
     pub dependencies: Vec<usize>,
@@ -50,11 +50,7 @@ pub struct Entry<'a, 'd> {
 }
 
 /// What a merge has at the place of the row. The one error is `Memory`.
-pub fn entry_at<'a, 'd>(
-    alloc: Global,
-    commits: &Commits<'a, 'd>,
-    row: &Row<'a, 'd>,
-) -> Result<Entry<'a, 'd>>
+pub fn entry_at<'a>(alloc: Global, commits: &Commits<'a>, row: &Row<'a>) -> Result<Entry<'a>>
     requires { IsRowInOrder row.now }
     ensures row { IfOk result (λ e. e.row ≡ row.now) }
     ensures ok { IfOk result (IsEntry commits.now) }
@@ -66,7 +62,7 @@ pub fn entry_at<'a, 'd>(
 }
 
 // What is chosen where the package of this side is.
-fn settle<'a, 'd>(row: &Row<'a, 'd>, side: Option<Side>) -> Option<Chosen<'a, 'd>>
+fn settle<'a>(row: &Row<'a>, side: Option<Side>) -> Option<Chosen<'a>>
     ensures { (all : Lockfiles) → IsChoiceOf all row.now side → IsSettled all row.now result }
 {
     let package = package_of(row, side?)?;
@@ -74,7 +70,7 @@ fn settle<'a, 'd>(row: &Row<'a, 'd>, side: Option<Side>) -> Option<Chosen<'a, 'd
 }
 
 // The package of a side.
-pub(crate) fn package_of<'a, 'd>(row: &Row<'a, 'd>, side: Side) -> Option<Placed<'a, 'd>>
+pub(crate) fn package_of<'a>(row: &Row<'a>, side: Side) -> Option<Placed<'a>>
     ensures { data_if result ≡ side_of (data_if row.now.ours) (data_if row.now.theirs) side }
 {
     match side {
@@ -84,7 +80,7 @@ pub(crate) fn package_of<'a, 'd>(row: &Row<'a, 'd>, side: Side) -> Option<Placed
 }
 
 // The chosen package with its checksum and its replacement.
-fn chosen_of<'a, 'd>(row: &Row<'a, 'd>, package: Placed<'a, 'd>) -> Chosen<'a, 'd>
+fn chosen_of<'a>(row: &Row<'a>, package: Placed<'a>) -> Chosen<'a>
     requires { IsOfSide (data_if row.now.ours) (data_if row.now.theirs) (data_of «package») }
     ensures package { data_of result.package ≡ data_of «package».entry }
     ensures values { HasValues row.now result }
@@ -97,11 +93,11 @@ fn chosen_of<'a, 'd>(row: &Row<'a, 'd>, package: Placed<'a, 'd>) -> Chosen<'a, '
 }
 
 // The entry of what is chosen.
-fn entry_of<'a, 'd>(
+fn entry_of<'a>(
     alloc: Global,
-    row: &Row<'a, 'd>,
-    chosen: Option<Chosen<'a, 'd>>,
-) -> std::result::Result<Entry<'a, 'd>, AllocError>
+    row: &Row<'a>,
+    chosen: Option<Chosen<'a>>,
+) -> std::result::Result<Entry<'a>, AllocError>
     requires row { IsRowInOrder row.now }
     requires chosen { MatchOption chosen (Unit {0}) (λ c. HasValues row.now c
         × IsOfSide (data_if row.now.ours) (data_if row.now.theirs) (data_of c.package)) }
@@ -119,10 +115,10 @@ fn entry_of<'a, 'd>(
 }
 
 // The places that are depended on.
-fn dependencies_if<'a, 'd>(
+fn dependencies_if<'a>(
     alloc: Global,
-    row: &Row<'a, 'd>,
-    chosen: Option<Chosen<'a, 'd>>,
+    row: &Row<'a>,
+    chosen: Option<Chosen<'a>>,
 ) -> std::result::Result<Vec<usize>, AllocError>
     requires row { IsRowInOrder row.now }
     requires chosen { MatchOption chosen (Unit {0}) (λ c.
@@ -144,7 +140,7 @@ fn dependencies_if<'a, 'd>(
 }
 
 // The place of the replacement of what is chosen.
-fn replacement_if<'a, 'd>(row: &Row<'a, 'd>, chosen: Option<Chosen<'a, 'd>>) -> Option<usize>
+fn replacement_if<'a>(row: &Row<'a>, chosen: Option<Chosen<'a>>) -> Option<usize>
     requires { MatchOption chosen (Unit {0}) (λ c. HasValues row.now c) }
     ensures { (d : ℕ) → (result ≡ Some d) ↔ IsReplacementIf row.now chosen.entry d }
 {

@@ -12,7 +12,7 @@ use std::cmp::Ordering;
 /// A package at its place, which is a number, with the places of its dependencies and of its
 /// replacement.
 #[derive(Clone, Copy)]
-pub struct Placed<'a, 'd> {
+pub struct Placed<'a> {
     /// The place.
     pub place: usize,
 
@@ -20,7 +20,7 @@ pub struct Placed<'a, 'd> {
     pub package: &'a Package,
 
     /// The places of the dependencies, in ascending order.
-    pub dependencies: &'d [usize],
+    pub dependencies: &'a [usize],
 
     /// The place of the replacement.
     pub replacement: Option<usize>,

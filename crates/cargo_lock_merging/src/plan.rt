@@ -26,23 +26,23 @@ use std::alloc::{AllocError, Global};
 
 /// What a merge has at each place, in the order of the places, and which of them are reached.
 #[derive(Drop)]
-pub struct Plan<'a, 'd> {
+pub struct Plan<'a> {
     /// What it has at each place of a side.
-    pub entries: Vec<Entry<'a, 'd>>,
+    pub entries: Vec<Entry<'a>>,
 
     /// For each of these places, whether it is reached.
     pub reached: Vec<bool>,
 }
 
-impl<'a, 'd> Plan<'a, 'd> {
+impl<'a> Plan<'a> {
     /// The plan of a merge of these packages, which are in the order of their places. The one error
     /// is `Memory`.
     pub fn of(
         alloc: Global,
-        base: &'d [Placed<'a, 'd>],
-        ours: &'d [Placed<'a, 'd>],
-        theirs: &'d [Placed<'a, 'd>],
-    ) -> Result<Plan<'a, 'd>>
+        base: &'a [Placed<'a>],
+        ours: &'a [Placed<'a>],
+        theirs: &'a [Placed<'a>],
+    ) -> Result<Plan<'a>>
         requires base { IsNumbered (all_data base.now) }
         requires ours { IsNumbered (all_data ours.now) }
         requires theirs { IsNumbered (all_data theirs.now) }
@@ -56,12 +56,12 @@ impl<'a, 'd> Plan<'a, 'd> {
 }
 
 // What a merge has at each place.
-fn entries<'a, 'd>(
+fn entries<'a>(
     alloc: Global,
-    base: &'d [Placed<'a, 'd>],
-    ours: &'d [Placed<'a, 'd>],
-    theirs: &'d [Placed<'a, 'd>],
-) -> Result<Vec<Entry<'a, 'd>>>
+    base: &'a [Placed<'a>],
+    ours: &'a [Placed<'a>],
+    theirs: &'a [Placed<'a>],
+) -> Result<Vec<Entry<'a>>>
     requires base { IsNumbered (all_data base.now) }
     requires ours { IsNumbered (all_data ours.now) }
     requires theirs { IsNumbered (all_data theirs.now) }
@@ -75,11 +75,7 @@ fn entries<'a, 'd>(
 }
 
 // What a merge has at the place of each row.
-fn entries_of<'a, 'd>(
-    alloc: Global,
-    commits: &Commits<'a, 'd>,
-    rows: &[Row<'a, 'd>],
-) -> Result<Vec<Entry<'a, 'd>>>
+fn entries_of<'a>(alloc: Global, commits: &Commits<'a>, rows: &[Row<'a>]) -> Result<Vec<Entry<'a>>>
     requires { All IsRowInOrder rows.now }
     ensures ok { IfOk result (λ all. HasEntries commits.now rows.now all.items) }
     ensures err { IsOkUnless result Memory }

@@ -6,9 +6,8 @@ pub mod Tree
 pub mod Diff
 pub mod Commands
 pub mod List
-pub mod Merge
 pub mod Load
-pub mod Verify
+pub mod Spec
 pub mod Why
 pub mod Duplicates
 pub mod Graph
