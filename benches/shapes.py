@@ -59,6 +59,14 @@ def halved(count):
     return [lockfile(package("app", "0.1.0", needs=names[:1]), *packages)], names[-1:]
 
 
+def of_one_name(count):
+    """So many packages of one name, which is the argument, and one package that needs each."""
+    versions = [f"{number}.0.0" for number in range(count)]
+    packages = [package("left", it, CRATES_IO, f"{at:064x}") for at, it in enumerate(versions)]
+    needs = [f"left {it}" for it in versions]
+    return [lockfile(package("app", "0.1.0", needs=needs), *packages)], ["left"]
+
+
 def of_roots(count):
     """So many packages that need one package, which is the argument."""
     needs = ["left"]
@@ -84,6 +92,7 @@ SHAPES = {
     "other dependencies of one package": (["diff", "-d"], changed, 200),
     "a package in ten is named": (["tree", "-f"], specified, 200),
     "each package needs two": (["why", "-f"], halved, 50000),
+    "packages of one name, each asked for": (["why", "-f"], of_one_name, 50000),
     "each package needs one": (["why", "--all", "-f"], of_roots, 50000),
     "each name in two versions": (["duplicates", "-f"], in_two_versions, 50000),
     "a picture of packages that need two": (["graph", "-f"], halved, 50000),

@@ -4,7 +4,7 @@ _cargo_lock() {
     local current=${COMP_WORDS[COMP_CWORD]} previous=${COMP_WORDS[COMP_CWORD - 1]}
     COMPREPLY=()
     if [ "$COMP_CWORD" = 1 ]; then
-        _cargo_lock_offer 'list translate tree bom diff check why duplicates graph help -h --help -V --version'
+        _cargo_lock_offer 'list translate tree bom diff check why duplicates graph merge verify help -h --help -V --version'
         return
     fi
     if [ "$previous" = = ]; then
@@ -91,7 +91,26 @@ _cargo_lock() {
             ;;
         esac
         ;;
-    help) _cargo_lock_offer 'list translate tree bom diff check why duplicates graph help' ;;
+    merge)
+        case $previous in
+        -o | --output) _cargo_lock_files ;;
+        *)
+            if [[ $current == -* ]]; then
+                _cargo_lock_offer '--any-size -o --output -h --help'
+            else
+                _cargo_lock_files
+            fi
+            ;;
+        esac
+        ;;
+    verify)
+        case $previous in
+        -f | --file) _cargo_lock_files ;;
+        --cache) _cargo_lock_files ;;
+        *) _cargo_lock_offer '-f --file --any-size --cache --all -h --help' ;;
+        esac
+        ;;
+    help) _cargo_lock_offer 'list translate tree bom diff check why duplicates graph merge verify help' ;;
     esac
 }
 

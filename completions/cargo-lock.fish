@@ -24,6 +24,8 @@ complete -c cargo-lock -n '__cargo_lock_runs ""' -a check -d 'Prints what is wro
 complete -c cargo-lock -n '__cargo_lock_runs ""' -a why -d 'Shows why a package is in a lockfile'
 complete -c cargo-lock -n '__cargo_lock_runs ""' -a duplicates -d 'Lists the names that several packages have, and what needs each package'
 complete -c cargo-lock -n '__cargo_lock_runs ""' -a graph -d 'Writes a picture of packages, for Graphviz or Mermaid'
+complete -c cargo-lock -n '__cargo_lock_runs ""' -a merge -d 'Merges two lockfiles by packages, over their common ancestor'
+complete -c cargo-lock -n '__cargo_lock_runs ""' -a verify -d 'Compares the archives of packages with the checksums of a lockfile'
 complete -c cargo-lock -n '__cargo_lock_runs ""' -a help -d 'Print this message or the help of the given subcommand(s)'
 complete -c cargo-lock -n '__cargo_lock_runs ""' -s h -l help -d 'Print help'
 complete -c cargo-lock -n '__cargo_lock_runs ""' -s V -l version -d 'Print version'
@@ -92,4 +94,15 @@ complete -c cargo-lock -n '__cargo_lock_runs graph' -s i -l invert -d 'Shows wha
 complete -c cargo-lock -n '__cargo_lock_runs graph' -s h -l help -d 'Print help'
 complete -c cargo-lock -n '__cargo_lock_runs graph' -a '(__cargo_lock_packages)' -d SPEC
 
-complete -c cargo-lock -n '__cargo_lock_runs help' -a 'list translate tree bom diff check why duplicates graph help' -d COMMAND
+complete -c cargo-lock -n '__cargo_lock_runs merge' -l any-size -d 'Reads a lockfile of 256 MiB or more too'
+complete -c cargo-lock -n '__cargo_lock_runs merge' -s o -l output -r -F -d 'The file that is written, - for standard output'
+complete -c cargo-lock -n '__cargo_lock_runs merge' -s h -l help -d 'Print help'
+complete -c cargo-lock -n '__cargo_lock_runs merge' -F -d 'The lockfile'
+
+complete -c cargo-lock -n '__cargo_lock_runs verify' -s f -l file -r -F -d 'The lockfile, - for standard input'
+complete -c cargo-lock -n '__cargo_lock_runs verify' -l any-size -d 'Reads a lockfile of 256 MiB or more too'
+complete -c cargo-lock -n '__cargo_lock_runs verify' -l cache -r -F -d 'The folder of the archives, as registry/cache of Cargo'
+complete -c cargo-lock -n '__cargo_lock_runs verify' -l all -d 'Reports packages without an archive too'
+complete -c cargo-lock -n '__cargo_lock_runs verify' -s h -l help -d 'Print help'
+
+complete -c cargo-lock -n '__cargo_lock_runs help' -a 'list translate tree bom diff check why duplicates graph merge verify help' -d COMMAND

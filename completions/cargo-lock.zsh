@@ -14,6 +14,8 @@ _cargo-lock() {
         'why:Shows why a package is in a lockfile'
         'duplicates:Lists the names that several packages have, and what needs each package'
         'graph:Writes a picture of packages, for Graphviz or Mermaid'
+        'merge:Merges two lockfiles by packages, over their common ancestor'
+        'verify:Compares the archives of packages with the checksums of a lockfile'
         'help:Print this message or the help of the given subcommand(s)'
     )
     _arguments -C \
@@ -108,6 +110,23 @@ _cargo-lock() {
             '(-i --invert)'{-i,--invert}'[Shows what depends on each package]' \
             '(- *)'{-h,--help}'[Print help]' \
             '*:SPEC:_cargo-lock-packages'
+        ;;
+    merge)
+        _arguments -s \
+            '--any-size[Reads a lockfile of 256 MiB or more too]' \
+            '(-o --output)'{-o,--output}'[The file that is written, - for standard output]:PATH:_files' \
+            '(- *)'{-h,--help}'[Print help]' \
+            '1:BASE:_files' \
+            '2:OURS:_files' \
+            '3:THEIRS:_files'
+        ;;
+    verify)
+        _arguments -s \
+            '(-f --file)'{-f,--file}'[The lockfile, - for standard input]:PATH:_files' \
+            '--any-size[Reads a lockfile of 256 MiB or more too]' \
+            '--cache[The folder of the archives, as registry/cache of Cargo]:FOLDER:_files -/' \
+            '--all[Reports packages without an archive too]' \
+            '(- *)'{-h,--help}'[Print help]'
         ;;
     help)
         _describe -t commands COMMAND commands

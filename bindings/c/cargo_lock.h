@@ -4,9 +4,9 @@
  * call at once, and there is nothing to free. A thread needs a stack of CARGO_LOCK_STACK bytes.
  * Some threads have less unless it is asked for: those of Java 1 MiB, those of musl 128 KiB.
  *
- * `text` points to `text_len` bytes, which are only read; so do `old` and `new_`, which may be the
- * same bytes. `out` points to room for `out_len` items, and `length` and `format` to one number
- * each. These are the caller's, are not null, also where they hold nothing, and do not overlap while
+ * `text` points to `text_len` bytes, which are only read; so do `spec`, and `old` and `new_`, which
+ * may be the same bytes. `out` points to room for `out_len` items, and `length` and `format` to one
+ * number each. These are the caller's, are not null, also where they hold nothing, and do not overlap while
  * a call runs.
  *
  * Each call returns a status. At CARGO_LOCK_DONE the answer is at the front of `out`, and
@@ -19,7 +19,8 @@
  * and control characters: do not print it unchanged on a terminal. Nor a bill: it has the names
  * too, and JSON escapes no control characters above U+001F. The lines of cargo_lock_diff and
  * cargo_lock_check have printable characters of ASCII alone, and show any other as `\u{..}` with its
- * number.
+ * number. The documents of cargo_lock_why and cargo_lock_duplicates are as a bill is: do not print
+ * them unchanged on a terminal.
  */
 #ifndef CARGO_LOCK_H
 #define CARGO_LOCK_H
@@ -67,7 +68,11 @@ enum {
     CARGO_LOCK_NO_NEW_TEXT = 11,
     /* Two packages have the same name, version and source, user names and passwords aside, so a bill
      * would refer to both by one text. */
-    CARGO_LOCK_REPEATED = 12
+    CARGO_LOCK_REPEATED = 12,
+    /* No package fits the specification. */
+    CARGO_LOCK_NOTHING_FITS = 13,
+    /* The bytes of the specification are no UTF-8. */
+    CARGO_LOCK_NO_SPEC_TEXT = 14
 };
 
 /* An edge, by the numbers of two packages in the lockfile's order, from 0: the package that depends,
@@ -136,6 +141,21 @@ uint32_t cargo_lock_check(const uint8_t *text, size_t text_len, uint8_t *out, si
  * line. DONE, NO_LOCKFILE, NO_TEXT, NO_MEMORY, NO_ROOM, UNRESOLVED or REPEATED. */
 uint32_t cargo_lock_bill(const uint8_t *text, size_t text_len, bool compact, uint8_t *out,
                          size_t out_len, size_t *length);
+
+/* Why the packages that a specification fits are in the lockfile, in one line of JSON with a
+ * newline at the end, as `cargo-lock why --json -f -` prints it: the path in it is `-`. There is a
+ * shortest chain of dependencies for each of these packages, and with `all` one from each root that
+ * leads to it, as under `--all`. A specification is a name, a version, both as NAME@VERSION, a
+ * checksum or a commit, and is read before the text. DONE, NO_LOCKFILE, NO_TEXT, NO_MEMORY, NO_ROOM,
+ * UNRESOLVED, NOTHING_FITS or NO_SPEC_TEXT. */
+uint32_t cargo_lock_why(const uint8_t *text, size_t text_len, const uint8_t *spec, size_t spec_len,
+                        bool all, uint8_t *out, size_t out_len, size_t *length);
+
+/* The names that several packages of the lockfile have, with these packages and what depends on
+ * each, in one line of JSON with a newline at the end, as `cargo-lock duplicates --json -f -`
+ * prints it: the path in it is `-`. DONE, NO_LOCKFILE, NO_TEXT, NO_MEMORY, NO_ROOM or UNRESOLVED. */
+uint32_t cargo_lock_duplicates(const uint8_t *text, size_t text_len, uint8_t *out, size_t out_len,
+                               size_t *length);
 
 #ifdef __cplusplus
 }

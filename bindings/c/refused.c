@@ -116,13 +116,27 @@ static uint32_t bill(void)
     return cargo_lock_bill(text, text_len, false, (uint8_t *)room, ROOM, &length);
 }
 
+/* What fits a package of most of the texts. */
+static const char spec[] = "1.0.0";
+
+static uint32_t why(void)
+{
+    return cargo_lock_why(text, text_len, (const uint8_t *)spec, sizeof spec - 1, true,
+                          (uint8_t *)room, ROOM, &length);
+}
+
+static uint32_t duplicates(void)
+{
+    return cargo_lock_duplicates(text, text_len, (uint8_t *)room, ROOM, &length);
+}
+
 static const struct {
     const char *name;
     uint32_t (*call)(void);
 } calls[] = {{"format", format},       {"fault", fault}, {"survives", survives},
              {"translate", translate}, {"edges", edges}, {"packages", packages},
              {"tree", tree},           {"diff", diff},   {"check", check},
-             {"bill", bill}};
+             {"bill", bill},           {"why", why},   {"duplicates", duplicates}};
 
 /* ---- what is asked of each */
 

@@ -74,6 +74,11 @@ static uint32_t ask(void)
         return cargo_lock_check(bytes, text_len, out, ROOM, &length);
     if (strcmp(call, "bill") == 0)
         return cargo_lock_bill(bytes, text_len, false, out, ROOM, &length);
+    if (strcmp(call, "why") == 0)
+        return cargo_lock_why(bytes, text_len, (const uint8_t *)"left", 4, true, out, ROOM,
+                              &length);
+    if (strcmp(call, "duplicates") == 0)
+        return cargo_lock_duplicates(bytes, text_len, out, ROOM, &length);
     fprintf(stderr, "no call is %s\n", call);
     exit(2);
 }

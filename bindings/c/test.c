@@ -146,6 +146,28 @@ static uint32_t bill_in_lines(text given, uint8_t *out, size_t out_len, size_t *
     return cargo_lock_bill(given.bytes, given.length, false, out, out_len, length);
 }
 
+/* A call that returns why packages are there that a specification fits. */
+#define REASONS(call, spec, all)                                                                  \
+    static uint32_t call(text given, uint8_t *out, size_t out_len, size_t *length)                \
+    {                                                                                             \
+        static const char wanted[] = spec;                                                        \
+        return cargo_lock_why(given.bytes, given.length, (const uint8_t *)wanted,                 \
+                              sizeof wanted - 1, all, out, out_len, length);                      \
+    }
+
+REASONS(why_left, "left", false)
+REASONS(why_left_from_each, "left@1.0.0", true)
+REASONS(why_checksum, CHECKSUM, false)
+REASONS(why_none, "left@2.0.0", false)
+REASONS(why_part_of_name, "lef", true)
+REASONS(why_empty, "", false)
+REASONS(why_bytes, "left\xff", false)
+
+static uint32_t names(text given, uint8_t *out, size_t out_len, size_t *length)
+{
+    return cargo_lock_duplicates(given.bytes, given.length, out, out_len, length);
+}
+
 /* The lockfile that others are compared with. */
 static text other;
 
@@ -312,9 +334,61 @@ static void ask_bills(text third)
     free(without.bytes);
 }
 
+/* Two packages that need each other, and one of the same name that nothing needs. */
+static const char cyclic[] = "version = 3\n"
+                             "[[package]]\nname = \"left\"\nversion = \"1.0.0\"\n"
+                             "dependencies = [\"right\"]\n"
+                             "[[package]]\nname = \"left\"\nversion = \"2.0.0\"\n"
+                             "[[package]]\nname = \"right\"\nversion = \"1.0.0\"\n"
+                             "source = \"" CRATES_IO "\"\n"
+                             "dependencies = [\"left 1.0.0\"]\n";
+
+#define WITHOUT_SOURCE(name, version)                                                             \
+    "{\"name\":\"" name "\",\"version\":\"" version "\",\"source\":null,\"checksum\":null}"
+#define WHY(answers)                                                                              \
+    "{\"schema\":\"cargo-lock-why/1\",\"path\":\"-\",\"format\":3,\"answers\":[" answers "]}\n"
+#define NAMES(groups)                                                                             \
+    "{\"schema\":\"cargo-lock-duplicates/1\",\"path\":\"-\",\"format\":3,\"names\":[" groups "]}\n"
+
+/* Why `left` is there, in the lockfile of two packages and in that of a cycle, and what has its
+ * name there. */
+static const char why_of_two[] =
+    WHY("{\"package\":{\"name\":\"left\",\"version\":\"1.0.0\",\"source\":\"" CRATES_IO "\","
+        "\"checksum\":\"" CHECKSUM "\"},\"needed_by\":[" WITHOUT_SOURCE("app", "0.1.0") "]}");
+static const char why_of_cycle[] =
+    WHY("{\"package\":" WITHOUT_SOURCE("left", "1.0.0") ",\"needed_by\":[]},"
+        "{\"package\":" WITHOUT_SOURCE("left", "2.0.0") ",\"needed_by\":[]}");
+static const char names_of_cycle[] =
+    NAMES("{\"name\":\"left\",\"packages\":["
+          "{\"package\":" WITHOUT_SOURCE("left", "1.0.0") ",\"needed_by\":[{\"name\":\"right\","
+          "\"version\":\"1.0.0\",\"source\":\"" CRATES_IO "\",\"checksum\":null}]},"
+          "{\"package\":" WITHOUT_SOURCE("left", "2.0.0") ",\"needed_by\":[]}]}");
+
+static void ask_documents(text third, text none)
+{
+    text cycle = text_of(cyclic, ""), without = text_of(unresolved, "");
+    ANSWERS(third, why_left, why_of_two);
+    ANSWERS(third, why_left_from_each, why_of_two);
+    ANSWERS(third, why_checksum, why_of_two);
+    ANSWERS(cycle, why_left, why_of_cycle);
+    ANSWERS(third, names, NAMES(""));
+    ANSWERS(cycle, names, names_of_cycle);
+    REFUSES(third, why_none, CARGO_LOCK_NOTHING_FITS);
+    REFUSES(third, why_part_of_name, CARGO_LOCK_NOTHING_FITS);
+    REFUSES(third, why_empty, CARGO_LOCK_NOTHING_FITS);
+    REFUSES(third, why_bytes, CARGO_LOCK_NO_SPEC_TEXT);
+    REFUSES(none, why_bytes, CARGO_LOCK_NO_SPEC_TEXT);
+    REFUSES(without, why_none, CARGO_LOCK_UNRESOLVED);
+    REFUSES(without, why_left, CARGO_LOCK_UNRESOLVED);
+    REFUSES(without, names, CARGO_LOCK_UNRESOLVED);
+    free(cycle.bytes);
+    free(without.bytes);
+}
+
 static void ask_refusals(text third, text none, text bytes)
 {
-    static const call calls[] = {as_fourth, packages, edges, tree, changes, findings, bill};
+    static const call calls[] = {as_fourth, packages, edges,    tree, changes,
+                                 findings,  bill,     why_left, names};
     text without = text_of(unresolved, ""), tab = text_of(tabbed, "");
     for (size_t at = 0; at < sizeof calls / sizeof *calls; at++) {
         REFUSES(none, calls[at], CARGO_LOCK_NO_LOCKFILE);
@@ -372,6 +446,7 @@ int main(void)
     ask_formats(third, none, bytes);
     ask_answers(third);
     ask_bills(third);
+    ask_documents(third, none);
     ask_refusals(third, none, bytes);
     ask_in_threads(third);
     free(third.bytes);

@@ -33,10 +33,12 @@ __all__ = [
     "Package",
     "PackageError",
     "RepeatedError",
+    "SpecError",
     "UnresolvedError",
     "bill",
     "check",
     "diff",
+    "duplicates",
     "edges",
     "fault",
     "format_of",
@@ -44,6 +46,7 @@ __all__ = [
     "survives",
     "translate",
     "tree",
+    "why",
 ]
 
 Text = Union[str, bytes, bytearray, memoryview]
@@ -82,6 +85,10 @@ class LineError(Error):
 class RepeatedError(Error):
     """Two packages have the same name, version and source, user names and passwords aside, so a bill
     would refer to both by one text."""
+
+
+class SpecError(Error, ValueError):
+    """No package fits the specification, or its bytes are no UTF-8."""
 
 
 class Package(NamedTuple):
@@ -203,13 +210,30 @@ def bill(text: Text, compact: bool = False) -> str:
     return _answer(_bytes(text), _library().cargo_lock_bill, compact).decode()
 
 
+def why(text: Text, spec: Text, all: bool = False) -> str:
+    """Why the packages that a specification fits are in the lockfile, in one line of JSON, as
+    `cargo-lock why --json -f -` prints it: a shortest chain of dependencies for each, and with
+    `all` one from each root that leads to it, as under `--all`. A specification is a name, a
+    version, both as NAME@VERSION, a checksum or a commit. Raises `NotALockfile`, `UnresolvedError`
+    and `SpecError`."""
+    wanted = _bytes(spec)
+    return _answer(_bytes(text), _library().cargo_lock_why, wanted, len(wanted), all).decode()
+
+
+def duplicates(text: Text) -> str:
+    """The names that several packages of the lockfile have, with these packages and what depends on
+    each, in one line of JSON, as `cargo-lock duplicates --json -f -` prints it. Raises
+    `NotALockfile` and `UnresolvedError`."""
+    return _answer(_bytes(text), _library().cargo_lock_duplicates).decode()
+
+
 # ---- how they are made
 
 _INTERFACE = 1
 _FILE = f"libcargo_lock.so.{_INTERFACE}"
 _DONE, _NO_LOCKFILE, _NO_TEXT, _NO_MEMORY, _NO_FORMAT = range(5)
 _NO_ROOM, _LOST, _UNRESOLVED, _NO_PACKAGE, _NO_LINE = range(5, 10)
-_REPEATED = 12
+_REPEATED, _NOTHING_FITS, _NO_SPEC_TEXT = 12, 13, 14
 # What is said of the second of two texts, and what is said of a text alone.
 _OF_NEW = {10: _NO_LOCKFILE, 11: _NO_TEXT}
 
@@ -221,6 +245,8 @@ _ERRORS: dict[int, tuple[type[Error], str]] = {
     _NO_PACKAGE: (PackageError, "there is no package of that number"),
     _NO_LINE: (LineError, "a name or a source has a control character or ends a line"),
     _REPEATED: (RepeatedError, "a bill would refer to two packages by one text"),
+    _NOTHING_FITS: (SpecError, "no package fits the specification"),
+    _NO_SPEC_TEXT: (SpecError, "the bytes of the specification are no UTF-8"),
 }
 
 
@@ -249,6 +275,8 @@ _CALLS: dict[str, list[Any]] = {
     "diff": [ctypes.c_char_p, ctypes.c_size_t, ctypes.c_bool, *_ROOM],
     "check": _ROOM,
     "bill": [ctypes.c_bool, *_ROOM],
+    "why": [ctypes.c_char_p, ctypes.c_size_t, ctypes.c_bool, *_ROOM],
+    "duplicates": _ROOM,
 }
 
 _loaded: Optional[ctypes.CDLL] = None

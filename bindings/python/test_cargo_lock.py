@@ -322,6 +322,54 @@ source = "git+ssh://b@example.org/left"
             cargo_lock.bill("version = 5")
 
 
+class Documents(unittest.TestCase):
+    HEAD = '"path":"-","format":3'
+    APP = '{"name":"app","version":"0.1.0","source":null,"checksum":null}'
+    LEFT = f'{{"name":"left","version":"1.0.0","source":"{CRATES_IO}","checksum":"{CHECKSUM}"}}'
+
+    def test_why_a_package_is_there(self):
+        wanted = (
+            f'{{"schema":"cargo-lock-why/1",{self.HEAD},'
+            f'"answers":[{{"package":{self.LEFT},"needed_by":[{self.APP}]}}]}}\n'
+        )
+        for spec in ("left", "1.0.0", "left@1.0.0", CHECKSUM, b"left"):
+            self.assertEqual(cargo_lock.why(LOCKFILE, spec), wanted)
+        self.assertEqual(cargo_lock.why(LOCKFILE, "left", all=True), wanted)
+
+    def test_one_chain_or_one_from_each_root(self):
+        second = '[[package]]\nname = "second"\nversion = "0.2.0"\ndependencies = ["left"]\n'
+        for is_each, wanted in ((False, ["app"]), (True, ["app", "second"])):
+            answers = json.loads(cargo_lock.why(f"{LOCKFILE}\n{second}", "left", is_each))["answers"]
+            chains = [[it["name"] for it in answer["needed_by"]] for answer in answers]
+            self.assertEqual(chains, [[name] for name in wanted])
+
+    def test_a_specification_that_fits_nothing(self):
+        for spec in ("lef", "left@2.0.0", "", "@"):
+            with self.assertRaisesRegex(cargo_lock.SpecError, "^no package fits"):
+                cargo_lock.why(LOCKFILE, spec)
+        with self.assertRaisesRegex(cargo_lock.SpecError, "^the bytes .* are no UTF-8$"):
+            cargo_lock.why("version = 5", b"\xff")
+
+    def test_names_of_several_packages(self):
+        empty = f'{{"schema":"cargo-lock-duplicates/1",{self.HEAD},"names":[]}}\n'
+        self.assertEqual(cargo_lock.duplicates(LOCKFILE), empty)
+        newer = f'[[package]]\nname = "left"\nversion = "2.0.0"\nsource = "{CRATES_IO}"\n'
+        text = f"{LOCKFILE}\n{newer}".replace('"left",', '"left 1.0.0",')
+        [left] = json.loads(cargo_lock.duplicates(text))["names"]
+        self.assertEqual(left["name"], "left")
+        self.assertEqual(left["packages"][0]["package"], json.loads(self.LEFT))
+        self.assertEqual(left["packages"][0]["needed_by"], [json.loads(self.APP)])
+        self.assertEqual(left["packages"][1]["package"]["version"], "2.0.0")
+        self.assertEqual(left["packages"][1]["needed_by"], [])
+
+    def test_a_lockfile_without_a_graph(self):
+        for call in (lambda text: cargo_lock.why(text, "app"), cargo_lock.duplicates):
+            with self.assertRaises(cargo_lock.UnresolvedError):
+                call(UNRESOLVED)
+            with self.assertRaisesRegex(cargo_lock.NotALockfile, "format version: `5`"):
+                call("version = 5")
+
+
 class Room(unittest.TestCase):
     """What the library leaves of the room that it is given."""
 

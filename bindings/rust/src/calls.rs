@@ -33,6 +33,8 @@ mod library {
     hands_out!(cargo_lock_packages, u8);
     hands_out!(cargo_lock_check, u8);
     hands_out!(cargo_lock_bill, u8, compact: bool);
+    hands_out!(cargo_lock_why, u8, spec: *const u8, spec_len: usize, all: bool);
+    hands_out!(cargo_lock_duplicates, u8);
     hands_out!(cargo_lock_edges, Edge);
     hands_out!(cargo_lock_tree, u8, package: usize, inverted: bool, exact: bool);
     hands_out!(cargo_lock_diff, u8, new: *const u8, new_len: usize, dependencies: bool);
@@ -87,6 +89,23 @@ pub(crate) fn bill(text: &[u8], compact: bool) -> Result<String, Error> {
     words(text, |out, length| unsafe {
         let (at, room) = (out.as_mut_ptr(), out.len());
         library::cargo_lock_bill(text.as_ptr(), text.len(), compact, at, room, length)
+    })
+}
+
+pub(crate) fn why(text: &[u8], spec: &str, all: bool) -> Result<String, Error> {
+    // SAFETY: as above.
+    words(text, |out, length| unsafe {
+        let (at, room) = (out.as_mut_ptr(), out.len());
+        let (given, given_len) = (text.as_ptr(), text.len());
+        library::cargo_lock_why(given, given_len, spec.as_ptr(), spec.len(), all, at, room, length)
+    })
+}
+
+pub(crate) fn duplicates(text: &[u8]) -> Result<String, Error> {
+    // SAFETY: as above.
+    words(text, |out, length| unsafe {
+        let (at, room) = (out.as_mut_ptr(), out.len());
+        library::cargo_lock_duplicates(text.as_ptr(), text.len(), at, room, length)
     })
 }
 
@@ -191,6 +210,7 @@ fn fault_of(text: &[u8], status: u32) -> Error {
         8 => Error::NoPackage,
         9 => Error::NoLine,
         12 => Error::Repeated,
+        13 => Error::NothingFits,
         status => Error::UnknownStatus(status),
     }
 }

@@ -85,6 +85,9 @@ pub enum Error {
     /// bill would refer to both by one text.
     Repeated,
 
+    /// No package fits the specification.
+    NothingFits,
+
     /// The library answered a status that this crate does not know.
     UnknownStatus(u32),
 }
@@ -101,6 +104,7 @@ impl fmt::Display for Error {
             Error::NoPackage => f.write_str("there is no package of that number"),
             Error::NoLine => f.write_str("a name or a source has a control character or ends a line"),
             Error::Repeated => f.write_str("a bill would refer to two packages by one text"),
+            Error::NothingFits => f.write_str("no package fits the specification"),
             Error::UnknownStatus(status) => write!(f, "unknown status {status}"),
         }
     }
@@ -223,4 +227,20 @@ pub fn check(text: impl AsRef<[u8]>) -> Result<Vec<String>, Error> {
 /// reference.
 pub fn bill(text: impl AsRef<[u8]>, compact: bool) -> Result<String, Error> {
     calls::bill(text.as_ref(), compact)
+}
+
+/// Why the packages that a specification fits are in the lockfile, in one line of JSON, as
+/// `cargo-lock why --json -f -` prints it: a shortest chain of dependencies for each, and with
+/// `all` one from each root that leads to it, as under `--all`. A specification is a name, a
+/// version, both as NAME@VERSION, a checksum or a commit. Refused with `Unresolved` where a
+/// dependency has no package, and with `NothingFits` where no package fits the specification.
+pub fn why(text: impl AsRef<[u8]>, spec: &str, all: bool) -> Result<String, Error> {
+    calls::why(text.as_ref(), spec, all)
+}
+
+/// The names that several packages of the lockfile have, with these packages and what depends on
+/// each, in one line of JSON, as `cargo-lock duplicates --json -f -` prints it. Refused with
+/// `Unresolved` where a dependency has no package.
+pub fn duplicates(text: impl AsRef<[u8]>) -> Result<String, Error> {
+    calls::duplicates(text.as_ref())
 }

@@ -1,8 +1,8 @@
 //! Tests of the calls over small lockfiles. `bindings/run` runs them.
 
 use proved_cargo_lock::{
-    bill, check, diff, edges, fault, format, packages, survives, translate, tree, DiffError,
-    Direction, Edge, Error, Package,
+    bill, check, diff, duplicates, edges, fault, format, packages, survives, translate, tree, why,
+    DiffError, Direction, Edge, Error, Package,
 };
 use std::thread;
 
@@ -155,6 +155,39 @@ fn bills() {
     assert_eq!(bill(b"\xff", false), Err(Error::NotUtf8));
     let words = Error::Repeated.to_string();
     assert_eq!(words, "a bill would refer to two packages by one text");
+}
+
+#[test]
+fn reasons() {
+    let app = "{\"name\":\"app\",\"version\":\"0.1.0\",\"source\":null,\"checksum\":null}";
+    let source = format!("\"source\":\"{CRATES_IO}\",\"checksum\":\"{}\"", checksum());
+    let left = format!("{{\"name\":\"left\",\"version\":\"1.0.0\",{source}}}");
+    let head = "{\"schema\":\"cargo-lock-why/1\",\"path\":\"-\",\"format\":3,\"answers\":";
+    let of_left = format!("{head}[{{\"package\":{left},\"needed_by\":[{app}]}}]}}\n");
+    let of_app = format!("{head}[{{\"package\":{app},\"needed_by\":[]}}]}}\n");
+    assert_eq!(why(lockfile(), "left", false), Ok(of_left.clone()));
+    assert_eq!(why(lockfile(), "left@1.0.0", true), Ok(of_left));
+    assert_eq!(why(lockfile(), "0.1.0", false), Ok(of_app));
+    assert_eq!(why(lockfile(), "left@2.0.0", false), Err(Error::NothingFits));
+    assert_eq!(why(UNRESOLVED, "app", false), Err(Error::Unresolved));
+    assert_eq!(why(b"\xff", "app", false), Err(Error::NotUtf8));
+    assert_eq!(Error::NothingFits.to_string(), "no package fits the specification");
+}
+
+#[test]
+fn names_of_several_packages() {
+    let head = "{\"schema\":\"cargo-lock-duplicates/1\",\"path\":\"-\",\"format\":3,\"names\":";
+    assert_eq!(duplicates(lockfile()), Ok(format!("{head}[]}}\n")));
+    let one = |version| format!("[[package]]\nname = \"a\"\nversion = \"{version}\"\n");
+    let listed = |version| {
+        let package = format!("\"name\":\"a\",\"version\":\"{version}\"");
+        format!("{{\"package\":{{{package},\"source\":null,\"checksum\":null}},\"needed_by\":[]}}")
+    };
+    let text = format!("version = 3\n{}{}", one("1.0.0"), one("2.0.0"));
+    let both = format!("{},{}", listed("1.0.0"), listed("2.0.0"));
+    let wanted = format!("{head}[{{\"name\":\"a\",\"packages\":[{both}]}}]}}\n");
+    assert_eq!(duplicates(text), Ok(wanted));
+    assert_eq!(duplicates(UNRESOLVED), Err(Error::Unresolved));
 }
 
 #[test]

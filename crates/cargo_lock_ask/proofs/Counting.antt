@@ -29,7 +29,7 @@ slice_get-set_same [] i v h = absurd (omega (arith, h))
 slice_get-set_same (x ∷ xs) zero v h = refl
 slice_get-set_same (x ∷ xs) (suc i) v h = slice_get-set_same xs i v (omega (arith, h))
 
-uncounted-set : (steps : List (Option ℕ)) (place n : ℕ) → slice_get steps place ≡ Some None
+pub uncounted-set : (steps : List (Option ℕ)) (place n : ℕ) → slice_get steps place ≡ Some None
     → uncounted steps ≡ suc (uncounted (set steps place (Some n)))
 uncounted-set [] place n h = cc h
 uncounted-set (None ∷ steps) zero n h = refl

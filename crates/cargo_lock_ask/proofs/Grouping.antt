@@ -280,3 +280,8 @@ several-kept (g ∷ groups) = go (ltb 1 g.len) (is_several g.items) (ap (ltb 1) 
   go false false same rest = rest
   go true false same rest = absurd (cc same)
   go false true same rest = absurd (cc same)
+
+-- what is made of the elements in two steps
+pub map-twice : {A B C : Type 0} (f : B → C) (h : A → B) (xs : List A) → map (λ x. f (h x)) xs ≡ map f (map h xs)
+map-twice f h [] = refl
+map-twice {A} {B} {C} f h (x ∷ xs) = ap (λ (zs : List C). f (h x) ∷ zs) (map-twice f h xs)

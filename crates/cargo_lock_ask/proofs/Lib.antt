@@ -2,8 +2,12 @@ pub mod Members
 pub mod Needing
 pub mod Counting
 pub mod Walking
+pub mod Earlier
+pub mod Following
+pub mod Reasoning
 pub mod Placing
 pub mod Starting
+pub mod Specified
 pub mod Grouping
 pub mod Reaching
 pub mod Pairs

@@ -204,7 +204,7 @@ search-start far starts count a b nodes bare empty f =
     }
 
 -- one edge more
-path-on : (far : ℕ → List ℕ) (a : ℕ) (path : List ℕ) (b c : ℕ) → IsPath far a path b → is_one_of c (far b) ≡ true → IsPath far a (path ++ c ∷ []) c
+pub path-on : (far : ℕ → List ℕ) (a : ℕ) (path : List ℕ) (b c : ℕ) → IsPath far a path b → is_one_of c (far b) ≡ true → IsPath far a (path ++ c ∷ []) c
 path-on far a [] b c same h = (subst (λ n. is_one_of c (far n) ≡ true) (sym same) h, refl)
 path-on far a (n ∷ ns) b c leads h = (leads.0, path-on far n ns b c leads.1 h)
 

@@ -34,7 +34,7 @@ more-taken : (nodes : List ℕ) (i node : ℕ) → i < length nodes → node ≡
 more-taken nodes i node low is = take_more nodes i node low ∙ ap (λ m. take i nodes ++ m ∷ []) (sym is)
 
 -- a node without a count
-no-steps : (steps : List (Option ℕ)) (node n : ℕ) → None ≡ unwrap_or (slice_get steps node) None → ¬ HasSteps steps node n
+pub no-steps : (steps : List (Option ℕ)) (node n : ℕ) → None ≡ unwrap_or (slice_get steps node) None → ¬ HasSteps steps node n
 no-steps steps node n none h = let e : None ≡ Some n = none ∙ ap (λ o. unwrap_or o None) h in cc e
 
 push-pass : (steps : List (Option ℕ)) (nodes : List ℕ) (node : ℕ) (best : Option Found) → ((n : ℕ) → ¬ HasSteps steps node n)

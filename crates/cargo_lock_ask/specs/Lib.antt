@@ -1,7 +1,10 @@
 pub mod Places
+pub mod Spec
 pub mod Chains
 pub mod Starts
 pub mod Steps
+pub mod FirstChains
+pub mod Reasons
 pub mod Needers
 pub mod Reach
 pub mod Marks

@@ -1,13 +1,15 @@
 //! Why some packages are in a graph, as lines.
 
-ghost use Rattle.std.specs.Prelude.{◌≡◌, ◌<◌, ◌++◌, ℕ, false, All, IfOk, List, OnOk, length, map};
-ghost use Rattle.cargo_lock_ask.specs.Answers.{AreAnswers, AreAnswersAbout, AreChosen, answers_by};
-ghost use Rattle.cargo_lock_ask.specs.Answers.{needed_by};
-ghost use Rattle.cargo_lock_ask.specs.Lines.{AnswerData, answer_of};
+ghost use Rattle.std.specs.Prelude.{◌≡◌, ◌<◌, ◌++◌, ℕ, true, false, All, IfOk, List, OnOk, length};
+ghost use Rattle.std.specs.Prelude.{map};
+ghost use Rattle.cargo_lock_graph.specs.Edges.{GraphData};
+ghost use Rattle.cargo_lock_ask.specs.Answers.{AreAnswers, AreChosen, answers_by, needed_by};
+ghost use Rattle.cargo_lock_ask.specs.Lines.{answer_of};
+ghost use Rattle.cargo_lock_ask.specs.Reasons.{AreReasons};
 ghost use Rattle.cargo_lock_ask.specs.Starts.{AreStarts};
 
 use crate::lines::{Answer, needers_of_chain};
-use crate::reason::{why, why_each};
+use crate::reason::{Reasons, why_each};
 use cargo_lock_graph::graph::{Graph, NodeIndex};
 use cargo_lock_parts::package::Package;
 use std::alloc::{AllocError, Global};
@@ -40,62 +42,65 @@ impl<'a> Answers<'a> {
         ensures { IfOk result (λ made.
             AreAnswers is_each graph.now nodes.now (map answer_of made.answers.items)) }
     {
-        let mut answers = Vec::new(alloc);
-        for node in nodes {
-            add_answers(alloc, graph, *node, is_each, &mut answers)?;
-        }
+        let answers = if is_each {
+            each_answer(alloc, graph, nodes)?
+        } else {
+            first_answers(alloc, graph, nodes)?
+        };
         Ok(Answers { answers })
     }
 }
 
-// Adds the answers about a node.
-fn add_answers<'a>(
+// The answers about some nodes by a chain from each start. The graph is searched for each node.
+fn each_answer<'a>(
     alloc: Global,
     graph: &'a Graph,
-    node: NodeIndex,
-    is_each: bool,
-    answers: &mut Vec<Answer<'a>>,
-) -> Result<(), AllocError>
-    requires { node < length graph.now.packages }
-    ensures { OnOk result ((own : List AnswerData) × AreAnswersAbout is_each graph.now node own
-        × (map answer_of answers.new.items ≡ map answer_of answers.old.items ++ own)) }
+    nodes: &[NodeIndex],
+) -> Result<Vec<Answer<'a>>, AllocError>
+    requires { All (λ k. k < length graph.now.packages) nodes.now }
+    ensures { IfOk result (λ answers.
+        AreAnswers true graph.now nodes.now (map answer_of answers.items)) }
 {
-    let chains = chosen(alloc, graph, node, is_each)?;
-    add_answers_by(alloc, graph, &graph[node], &chains, answers)
+    let mut answers = Vec::new(alloc);
+    for node in nodes {
+        let chains = why_each(alloc, graph, *node)?;
+        add_answers_by(alloc, graph, &graph[*node], &chains, &mut answers)?;
+    }
+    Ok(answers)
 }
 
-// The chains that are shown of a node.
-fn chosen(
+// The answers about some nodes by one chain. The graph is searched once for all of them.
+fn first_answers<'a>(
     alloc: Global,
-    graph: &Graph,
-    node: NodeIndex,
-    is_each: bool,
-) -> Result<Vec<Vec<NodeIndex>>, AllocError>
-    requires { node < length graph.now.packages }
-    ensures { IfOk result (λ chains. (starts : List ℕ) × AreStarts graph.now node starts
-        × AreChosen is_each graph.now node starts
-        (map (λ chain. chain.items) chains.items)) }
+    graph: &'a Graph,
+    nodes: &[NodeIndex],
+) -> Result<Vec<Answer<'a>>, AllocError>
+    requires { All (λ k. k < length graph.now.packages) nodes.now }
+    ensures { IfOk result (λ answers.
+        AreAnswers false graph.now nodes.now (map answer_of answers.items)) }
 {
-    if is_each {
-        why_each(alloc, graph, node)
-    } else {
-        shortest(alloc, graph, node)
+    let reasons = Reasons::of(alloc, graph)?;
+    let mut answers = Vec::new(alloc);
+    for node in nodes {
+        let chains = shortest(alloc, &reasons, *node)?;
+        add_answers_by(alloc, graph, &graph[*node], &chains, &mut answers)?;
     }
+    Ok(answers)
 }
 
 // The shortest chain to a node, if any leads to it.
 fn shortest(
     alloc: Global,
-    graph: &Graph,
+    reasons: &Reasons,
     node: NodeIndex,
 ) -> Result<Vec<Vec<NodeIndex>>, AllocError>
-    requires { node < length graph.now.packages }
-    ensures { IfOk result (λ chains. (starts : List ℕ) × AreStarts graph.now node starts
-        × AreChosen false graph.now node starts
-        (map (λ chain. chain.items) chains.items)) }
+    requires { (graph : GraphData) × AreReasons graph reasons.now }
+    ensures { IfOk result (λ chains. (graph : GraphData) → AreReasons graph reasons.now
+        → node < length graph.packages → (starts : List ℕ) × AreStarts graph node starts
+        × AreChosen false graph node starts (map (λ chain. chain.items) chains.items)) }
 {
     let mut chains = Vec::new(alloc);
-    if let Some(chain) = why(alloc, graph, node)? {
+    if let Some(chain) = reasons.why(alloc, node)? {
         chains.push(chain)?;
     }
     Ok(chains)

@@ -1,10 +1,12 @@
 //! What people ask of a graph of packages: why a package is there, which names several packages
-//! have and what needs each of these, and what a picture of the graph shows.
+//! have and what needs each of these, and what a picture of the graph shows; and which packages a
+//! specification fits.
 #![tactic(auto)]
 
 pub mod answers;
 pub mod chain;
 pub mod diagram;
+mod first;
 pub mod label;
 pub mod laws;
 pub mod lines;
@@ -14,6 +16,7 @@ mod reach;
 pub mod reason;
 pub mod repeated;
 pub mod scene;
+pub mod spec;
 mod steps;
 pub mod tally;
 
@@ -27,4 +30,5 @@ pub use crate::need::needers;
 pub use crate::reason::{why, why_each};
 pub use crate::repeated::{Duplicate, duplicates};
 pub use crate::scene::{Arrow, Picture, picture_from};
+pub use crate::spec::fitting;
 pub use crate::tally::Listing;

@@ -33,9 +33,11 @@ pub(crate) fn ends_once(
     node: NodeIndex,
     direction: EdgeDirection,
 ) -> Result<Vec<NodeIndex>, AllocError>
-    ensures { IfOk result (λ ends. IsPlaces
+    ensures places { IfOk result (λ ends. IsPlaces
         (Contains (far_ends direction graph.now.edges node)) (length graph.now.packages)
         ends.items) }
+    ensures within { IfOk result (λ _.
+        All (λ k. k < length graph.now.packages) (far_ends direction graph.now.edges node)) }
 {
     let mut ends = ends(alloc, graph, node, direction)?;
     ends.sort_unstable();

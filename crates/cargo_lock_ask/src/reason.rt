@@ -1,13 +1,17 @@
 //! Why a package is in a graph.
 
 ghost use Rattle.std.specs.Prelude.{◌≡◌, ◌<◌, ◌↔◌, ℕ, List, IfOk, IsTrue, MatchOption, length, map};
+ghost use Rattle.cargo_lock_graph.specs.Edges.{GraphData};
 ghost use Rattle.cargo_lock_ask.specs.Chains.{AreChainsOfEach, IsShortestChain, IsUnreached};
+ghost use Rattle.cargo_lock_ask.specs.FirstChains.{AreFirstChains, linked_by};
 ghost use Rattle.cargo_lock_ask.specs.Places.{IsPlaces};
+ghost use Rattle.cargo_lock_ask.specs.Reasons.{AreReasons};
 ghost use Rattle.cargo_lock_ask.specs.Starts.{AreStarts, IsMember};
 ghost use Rattle.cargo_lock_ask.specs.Starts as spec;
 ghost use Rattle.cargo_lock_ask.specs.Steps.{AreSteps};
 
 use crate::chain::{chain_by_steps, chains_by_steps, is_one_counted};
+use crate::first::FirstChains;
 use crate::steps::steps_to;
 use cargo_lock_graph::graph::{EdgeDirection, Graph, NodeIndex};
 use std::alloc::{AllocError, Global};
@@ -66,6 +70,65 @@ pub fn why_each(
     let steps = steps_to(alloc, graph, to)?;
     let starts = starts(alloc, graph, &steps)?;
     chains_by_steps(alloc, graph, &steps, &starts, to)
+}
+
+// Where chains begin: at the roots, and at the packages without a source.
+#[derive(Drop)]
+pub(crate) struct Reasons {
+    from_roots: FirstChains,
+    from_members: FirstChains,
+}
+
+impl Reasons {
+    // Searches the graph from the roots, and from the packages without a source.
+    pub(crate) fn of(alloc: Global, graph: &Graph) -> Result<Reasons, AllocError>
+        ensures { IfOk result (AreReasons graph.now) }
+    {
+        let from_roots = from_roots(alloc, graph)?;
+        let from_members = from_members(alloc, graph)?;
+        Ok(Reasons {
+            from_roots,
+            from_members,
+        })
+    }
+
+    // What `why` finds.
+    pub(crate) fn why(
+        &self,
+        alloc: Global,
+        to: NodeIndex,
+    ) -> Result<Option<Vec<NodeIndex>>, AllocError>
+        requires { (graph : GraphData) × AreReasons graph self.now }
+        ensures { IfOk result (λ answer. (graph : GraphData) → AreReasons graph self.now
+            → to < length graph.packages → (starts : List ℕ) × AreStarts graph to starts
+            × MatchOption answer
+            (IsUnreached graph starts to)
+            (λ chain. IsShortestChain graph starts to chain.items)) }
+    {
+        match self.from_roots.chain_to(alloc, to)? {
+            Some(chain) => Ok(Some(chain)),
+            None => self.from_members.chain_to(alloc, to),
+        }
+    }
+}
+
+// The chains from the roots.
+fn from_roots(alloc: Global, graph: &Graph) -> Result<FirstChains, AllocError>
+    ensures { IfOk result
+        (λ chains. AreFirstChains graph.now (spec.roots graph.now) (linked_by chains)) }
+{
+    let roots = roots(alloc, graph)?;
+    FirstChains::from(alloc, graph, &roots)
+}
+
+// The chains from the packages without a source.
+fn from_members(alloc: Global, graph: &Graph) -> Result<FirstChains, AllocError>
+    ensures { IfOk result (λ chains. (members : List ℕ)
+        × IsPlaces (IsMember graph.now) (length graph.now.packages) members
+        × AreFirstChains graph.now members (linked_by chains)) }
+{
+    let members = members(alloc, graph)?;
+    FirstChains::from(alloc, graph, &members)
 }
 
 // The nodes at which the chains to a node begin, by how many steps it is from each node to that

@@ -2,10 +2,11 @@
 
 ghost use Rattle.std.specs.Prelude.{◌≡◌, IfOk, if◌then◌else◌, map};
 ghost use Rattle.std.specs.List.{AllZip};
-ghost use Rattle.cargo_lock_ask.specs.Tally.{IsGroupOf, group_of, surplus_of_all};
+ghost use Rattle.cargo_lock_ask.specs.Tally.{AreGroupsOf, IsGroupOf, group_of};
+ghost use Rattle.cargo_lock_ask.specs.Tally.{surplus_of_all};
 
 use crate::listing::Rows;
-use crate::repeated::Duplicate;
+use crate::repeated::{Duplicate, duplicates};
 use cargo_lock_graph::graph::Graph;
 use std::alloc::{AllocError, Global};
 use std::fmt;
@@ -15,7 +16,6 @@ use std::fmt;
 ///
 /// ```
 /// let listing = Listing::of(rt.alloc(), tree.graph(), &groups)?;
-/// print!(rt; "{listing}")?;
 /// ```
 #[derive(Drop)]
 pub struct Listing<'a> {
@@ -24,6 +24,20 @@ pub struct Listing<'a> {
 }
 
 impl<'a> Listing<'a> {
+    /// The lines of all names that several packages of a graph have. Fails when out of memory.
+    ///
+    /// ```
+    /// let listing = Listing::about(rt.alloc(), tree.graph())?;
+    /// print!(rt; "{listing}")?;
+    /// ```
+    pub fn about(alloc: Global, graph: &'a Graph) -> Result<Listing<'a>, AllocError>
+        ensures { IfOk result
+            (λ made. AreGroupsOf graph.now (map group_of made.groups.items)) }
+    {
+        let groups = duplicates(alloc, graph)?;
+        Listing::of(alloc, graph, &groups)
+    }
+
     /// The lines of the groups that `duplicates` finds. Fails when out of memory.
     pub fn of(
         alloc: Global,

@@ -4,3 +4,4 @@ mod EdgeLists
 mod PackageLines
 mod EachLine
 mod BillFaults
+mod Unanswered

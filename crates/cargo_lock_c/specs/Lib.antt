@@ -6,3 +6,4 @@ pub mod Graph
 pub mod Differences
 pub mod Findings
 pub mod Bills
+pub mod Documents

@@ -8,7 +8,7 @@ use Rattle.cargo_lock_c.specs.declared.refusal.Refusal.TheVariants.{NoLockfile, 
 use Rattle.cargo_lock_c.specs.declared.refusal.Refusal.TheVariants.{NoFormat, Lost, Unresolved}
 use Rattle.cargo_lock_c.specs.declared.refusal.Refusal.TheVariants.{NoPackage, NoLine}
 use Rattle.cargo_lock_c.specs.declared.refusal.Refusal.TheVariants.{NoNewLockfile, NoNewText}
-use Rattle.cargo_lock_c.specs.declared.refusal.Refusal.TheVariants.{Repeated}
+use Rattle.cargo_lock_c.specs.declared.refusal.Refusal.TheVariants.{Repeated, NothingFits, NoSpecText}
 
 -- the status of a call that returns no answer; 0 is that of an answer, and 5 that of an answer that
 -- is longer than the buffer
@@ -24,6 +24,8 @@ status_of NoLine = 9
 status_of NoNewLockfile = 10
 status_of NoNewText = 11
 status_of Repeated = 12
+status_of NothingFits = 13
+status_of NoSpecText = 14
 
 -- the refusal for the second of two texts, from that of reading one
 abbrev pub refusal_of_new : Refusal → Refusal

@@ -7,6 +7,8 @@ ghost use Rattle.std.specs.Prelude.{◌≡◌};
 
 mod bill;
 mod difference;
+mod document;
+mod duplicates;
 mod edges;
 mod findings;
 mod formats;
@@ -15,6 +17,7 @@ mod packages;
 mod reading;
 mod refusal;
 mod tree;
+mod why;
 
 /// The number of this interface. It increases if a call changes.
 const INTERFACE: u32 = 1;

@@ -47,6 +47,12 @@ pub(crate) enum Refusal {
 
     /// The same text would refer to two packages in a bill.
     Repeated,
+
+    /// No package fits a specification.
+    NothingFits,
+
+    /// The bytes of a specification are not UTF-8.
+    NoSpecText,
 }
 
 impl Refusal {
@@ -66,6 +72,8 @@ impl Refusal {
             Refusal::NoNewLockfile => 10,
             Refusal::NoNewText => 11,
             Refusal::Repeated => 12,
+            Refusal::NothingFits => 13,
+            Refusal::NoSpecText => 14,
         }
     }
 

@@ -1,5 +1,5 @@
 -- The merge of three lists by the numbers of their places.
-use Rattle.std.proofs.Common.{◌≡◌, ◌∙◌, ◌⊎◌, ℕ, List, Option, Some, None, inl, inr, subst, sym}
+use Rattle.std.proofs.Common.{◌≡◌, ◌≢◌, ◌∙◌, ◌⊎◌, ℕ, List, [], Option, Some, None, inl, inr, map, subst, sym}
 use Rattle.std.specs.List.{AllZip, Contains}
 use Rattle.std.specs.List.Sorted.{IsPermutation}
 use Rattle.std.proofs.lemmas.List.Sorted.{Contains-permutation}
@@ -8,25 +8,49 @@ use Rattle.cargo_lock_parts.specs.Identity.{Identity, PackageData}
 use Rattle.cargo_lock_merging.specs.declared.plan.Plan.{Plan}
 use Rattle.cargo_lock_merging.specs.Assembled.{IsAssembled, IsIdentityAt, IsIdentityAtIf}
 use Rattle.cargo_lock_merging.specs.Commits.{Lockfiles}
-use Rattle.cargo_lock_merging.specs.Merge.{Triple}
+use Rattle.cargo_lock_merging.specs.Merge.{AreInConflict, IsMerge, Triple}
 use Rattle.cargo_lock_merging.specs.Merged.{HasPlan}
 use Rattle.cargo_lock_merging.specs.Placed.{PlacedData}
-use Rattle.cargo_lock_merging.specs.Plans.{IsPlan}
+use Rattle.cargo_lock_merging.specs.Moved.{AreListed}
+use Rattle.cargo_lock_merging.specs.Plans.{IsNumbered, IsPlan}
 use Rattle.cargo_lock_merging.specs.Triples.{AreSidesOf}
 use Rattle.cargo_lock_merging.proofs.Assembling.{assembled-merge, list-closed, list-numbered}
+use Rattle.cargo_lock_merging.proofs.Members.{none-in}
 use Rattle.cargo_lock_merging.proofs.Zipping.{zip-left, zip-right}
-use Rattle.cargo_lock_merge.specs.Outcome.{Finds, IsAssembledOf, IsIdentityIn, RefersInFull}
+use Rattle.cargo_lock_merge.specs.declared.conflict.Conflict.{Conflict}
+use Rattle.cargo_lock_merge.specs.declared.outcome.Outcome.{Outcome}
+use Rattle.cargo_lock_merge.specs.declared.outcome.Outcome.TheVariants.{Conflicts, Merged}
+use Rattle.cargo_lock_merge.specs.Conflict.{AreConflictsOf, subject_of}
+use Rattle.cargo_lock_merge.specs.Outcome.{AreReady, Finds, IsIdentityIn, IsMergedOf, IsOutcomeOf, RefersInFull}
 
--- the plan of numbered lists
-pub has-plan : (all : Lockfiles) (s : Triple ℕ) (plan : Plan) → AreSidesOf all s → IsPlan s plan → HasPlan s plan
-has-plan all s plan (places, are) is = record {
+-- the lists by numbers are ready to be merged
+pub ready : (all : Lockfiles) (s : Triple ℕ) → AreSidesOf all s → AreReady s
+ready all s (places, are) = record {
   base = list-numbered all places all.base s.base are.base are.base_commits;
   ours = list-numbered all places all.ours s.ours are.ours are.our_commits;
   theirs = list-numbered all places all.theirs s.theirs are.theirs are.their_commits;
   ours_closed = list-closed all places all.ours s.ours are.ours;
   theirs_closed = list-closed all places all.theirs s.theirs are.theirs;
+}
+
+-- and their plan is one of a merge
+pub has-plan : (s : Triple ℕ) (plan : Plan) → AreReady s → IsPlan s plan → HasPlan s plan
+has-plan s plan r is = record {
+  base = r.base;
+  ours = r.ours;
+  theirs = r.theirs;
+  ours_closed = r.ours_closed;
+  theirs_closed = r.theirs_closed;
   plan = is;
 }
+
+pub listed : (xs : List (PlacedData ℕ)) → IsNumbered xs → AreListed xs
+listed xs h = record { order = h.order; each = h.each }
+
+-- where there is a conflict, it is among all of them
+pub some-listed : (s : Triple ℕ) (cs : List Conflict) → AreInConflict s → AreConflictsOf s cs → cs ≢ []
+some-listed s cs conflict are none =
+    conflict (λ c k. none-in c (subst (λ (ds : List Conflict). Contains (map subject_of ds) c) none ((are.exact c).1 k)))
 
 -- ---- the references of assembled packages
 
@@ -51,10 +75,29 @@ module _ (m xs : List (PlacedData ℕ)) (ps : List PackageData) (perm : IsPermut
       by x assembled (inr replaced) = replacement-in x.replacement p.replace i replaced assembled.replacement
 
 -- what is found by numbers is found
-pub finds : (all : Lockfiles) (s : Triple ℕ) (o : Option (List PackageData)) → AreSidesOf all s → IsAssembledOf s o → Finds all o
-finds all s None (places, are) none = record { places = places; triple = s; sides = are; none = none }
-finds all s (Some ps) (places, are) (m, merge, (xs, perm, zip)) = record {
+pub finds : (all : Lockfiles) (s : Triple ℕ) (o : Outcome) → AreSidesOf all s → IsOutcomeOf s o → Finds all o
+finds all s (Merged packages moved) (places, are) (m, merge, ((xs, perm, zip), references)) = record {
   commits = record { base = are.base_commits; ours = are.our_commits; theirs = are.their_commits };
-  merge = assembled-merge all places s m ps are merge (xs, perm, zip);
-  references = refers-in-full m xs ps perm zip;
+  merge = assembled-merge all places s m packages.items are merge (xs, perm, zip);
+  references = refers-in-full m xs packages.items perm zip;
+  places = places;
+  triple = s;
+  sides = are;
+  numbered = m;
+  merged = merge;
+  assembled = (xs, perm, zip);
+  moved = references;
 }
+finds all s (Conflicts conflicts) (places, are) (none, listed, some) = record {
+  places = places;
+  triple = s;
+  sides = are;
+  none = none;
+  conflicts = listed;
+  some = some;
+}
+
+-- the outcome of a merge by numbers
+pub is-outcome : (s : Triple ℕ) (m : List (PlacedData ℕ)) (o : Outcome) → IsMerge s m → IsMergedOf s.ours s.theirs m o → IsOutcomeOf s o
+is-outcome s m (Merged packages moved) merge are = (m, merge, are)
+is-outcome s m (Conflicts conflicts) merge are = absurd are

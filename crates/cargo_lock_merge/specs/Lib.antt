@@ -1,1 +1,10 @@
+pub mod Moved
+pub mod Words
+pub mod Lines
+pub mod Conflict
 pub mod Outcome
+pub mod Formats
+pub mod Patches
+pub mod OwnMetadata
+pub mod Referring
+pub mod MergedLockfiles

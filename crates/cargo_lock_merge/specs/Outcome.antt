@@ -1,17 +1,22 @@
 -- The merge of three lists of packages.
-use Rattle.std.specs.Prelude.{◌≡◌, ◌⊎◌, ℕ, List, Option, Some, None}
+use Rattle.std.specs.Prelude.{◌≡◌, ◌≢◌, ◌⊎◌, ℕ, List, [], Some}
 use Rattle.std.specs.List.{Contains}
 use Rattle.cargo_lock_parts.specs.Identity.{Identity, PackageData, identity_of}
-use Rattle.cargo_lock_merging.specs.declared.plan.Plan.{Plan}
 use Rattle.cargo_lock_merging.specs.declared.triple.Sides.{Sides}
-use Rattle.cargo_lock_merging.specs.Assembled.{AreAssembled, HasNoMerge}
+use Rattle.cargo_lock_merging.specs.Assembled.{AreAssembled, AreSides}
 use Rattle.cargo_lock_merging.specs.Commits.{Lockfiles}
 use Rattle.cargo_lock_merging.specs.LawsOfMerges.{HaveOneCommitEach}
 use Rattle.cargo_lock_merging.specs.Merge.{IsMerge, Triple}
-use Rattle.cargo_lock_merging.specs.Merged.{HasPlan}
 use Rattle.cargo_lock_merging.specs.Placed.{PlacedData}
-use Rattle.cargo_lock_merging.specs.Places.{IsMergeOf}
+use Rattle.cargo_lock_merging.specs.Places.{IsMergeOf, Place}
+use Rattle.cargo_lock_merging.specs.Plans.{IsClosed, IsNumbered}
 use Rattle.cargo_lock_merging.specs.Triples.{AreSidesOf, triple_in}
+use Rattle.cargo_lock_merge.specs.declared.conflict.Conflict.{Conflict}
+use Rattle.cargo_lock_merge.specs.declared.moved.Moved.{Moved}
+use Rattle.cargo_lock_merge.specs.declared.outcome.Outcome.{Outcome}
+use Rattle.cargo_lock_merge.specs.declared.outcome.Outcome.TheVariants.{Conflicts, Merged}
+use Rattle.cargo_lock_merge.specs.Conflict.{AreConflictsOf}
+use Rattle.cargo_lock_merge.specs.Moved.{AreMovedReferences}
 
 -- the base, ours and theirs
 abbrev pub three : List PackageData → List PackageData → List PackageData → Lockfiles
@@ -27,26 +32,58 @@ RefersInFull packages = (p : PackageData) (i : Identity) → Contains packages p
     → Contains p.dependencies i ⊎ (p.replace ≡ Some i) → IsIdentityIn packages i
 
 -- The packages are the merge of the three lists, each of which has each git source at one commit.
-pub record IsFound (all : Lockfiles) (packages : List PackageData) : Type 0 where
+-- Beside them are the references that moved.
+pub record IsFound (all : Lockfiles) (ps : List PackageData) (rs : List Moved) : Type 0 where
   pub commits : HaveOneCommitEach all
-  pub merge : IsMergeOf all packages
-  pub references : RefersInFull packages
+  pub merge : IsMergeOf all ps
+  pub references : RefersInFull ps
+  pub places : List Place
+  pub triple : Triple ℕ
+  pub sides : AreSides all places triple
+  pub numbered : List (PlacedData ℕ)
+  pub merged : IsMerge triple numbered
+  pub assembled : AreAssembled numbered ps
+  pub moved : AreMovedReferences triple.ours triple.theirs numbered ps rs
 
--- the packages are the merge of the three lists, or there is no merge
-abbrev pub Finds : Lockfiles → Option (List PackageData) → Type 0
-Finds all None = HasNoMerge all
-Finds all (Some packages) = IsFound all packages
+-- There is no merge of the three lists, by the numbers of their places, since the sides are in
+-- conflict about these, of which there is at least one.
+pub record IsInConflict (all : Lockfiles) (cs : List Conflict) : Type 0 where
+  pub places : List Place
+  pub triple : Triple ℕ
+  pub sides : AreSides all places triple
+  pub none : (m : List (PlacedData ℕ)) → ¬ IsMerge triple m
+  pub conflicts : AreConflictsOf triple cs
+  pub some : cs ≢ []
+
+-- the packages are the merge of the three lists, or there is none
+abbrev pub Finds : Lockfiles → Outcome → Type 0
+Finds all (Merged packages moved) = IsFound all packages.items moved.items
+Finds all (Conflicts conflicts) = IsInConflict all conflicts.items
 
 -- ---- as the program has them
 
--- the packages are those of a merge by numbers, or there is none
-abbrev pub IsAssembledOf : Triple ℕ → Option (List PackageData) → Type 0
-IsAssembledOf s None = (m : List (PlacedData ℕ)) → ¬ IsMerge s m
-IsAssembledOf s (Some packages) = (m : List (PlacedData ℕ)) × IsMerge s m × AreAssembled m packages
+-- the packages are those of a merge by numbers, with the references that moved
+abbrev pub IsMergedOf : List (PlacedData ℕ) → List (PlacedData ℕ) → List (PlacedData ℕ) → Outcome
+    → Type 0
+IsMergedOf o t m (Merged packages moved) = AreAssembled m packages.items × AreMovedReferences o t m
+    packages.items moved.items
+IsMergedOf o t m (Conflicts conflicts) = ⊥
 
--- the plan is that of some merge
-abbrev pub IsPlanned : Plan → Type 0
-IsPlanned plan = (s : Triple ℕ) × HasPlan s plan
+-- the outcome is a merge by numbers, or there is none
+abbrev pub IsOutcomeOf : Triple ℕ → Outcome → Type 0
+IsOutcomeOf s (Merged packages moved) = (m : List (PlacedData ℕ)) × IsMerge s m
+    × IsMergedOf s.ours s.theirs m (Merged packages moved)
+IsOutcomeOf s (Conflicts conflicts) = ((m : List (PlacedData ℕ)) → ¬ IsMerge s m)
+    × AreConflictsOf s conflicts.items × (conflicts.items ≢ [])
+
+-- the lists are in the order of their places, and each of a side has a package for each dependency
+-- and replacement
+pub record AreReady (s : Triple ℕ) : Type 0 where
+  pub base : IsNumbered s.base
+  pub ours : IsNumbered s.ours
+  pub theirs : IsNumbered s.theirs
+  pub ours_closed : IsClosed s.ours
+  pub theirs_closed : IsClosed s.theirs
 
 -- the lists are those of some lockfiles
 abbrev pub IsTriple : Sides → Type 0

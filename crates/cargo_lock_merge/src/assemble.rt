@@ -13,11 +13,12 @@ ghost use Rattle.cargo_lock_merging.specs.Kept.{merged_places};
 
 use crate::order::{order_dependencies, order_packages};
 use cargo_lock_merging::merged::Merged;
+use cargo_lock_merging::moved::places_of_merged;
 use cargo_lock_merging::reach::index_of;
 use cargo_lock_parts::dependency::Dependency;
 use cargo_lock_parts::error::Result;
 use cargo_lock_parts::package::Package;
-use std::alloc::{AllocError, Global};
+use std::alloc::Global;
 
 /// The packages of a merge in the order in which Cargo writes them, each with its dependencies in
 /// that order. The merged packages are in the order of their places. The one error is `Memory`.
@@ -27,21 +28,10 @@ pub(crate) fn assemble(alloc: Global, merged: &[Merged<'_>]) -> Result<Vec<Packa
         (λ packages. AreAssembled (map merged_data merged.now) packages.items) }
     ensures err { IsOkUnless result Memory }
 {
-    let places = places(alloc, merged)?;
+    let places = places_of_merged(alloc, merged)?;
     let mut packages = packages(alloc, merged, &places)?;
     order_packages(alloc, &mut packages)?;
     Ok(packages)
-}
-
-// The places of the packages.
-fn places(alloc: Global, merged: &[Merged<'_>]) -> std::result::Result<Vec<usize>, AllocError>
-    ensures { IfOk result (λ places. places.items ≡ merged_places merged.now) }
-{
-    let mut places = Vec::with_capacity(alloc, merged.len())?;
-    for one in merged {
-        places.push(one.place)?;
-    }
-    Ok(places)
 }
 
 // The packages, in the order of their places.

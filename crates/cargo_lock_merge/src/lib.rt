@@ -1,8 +1,20 @@
-//! A merge of lists of packages, as lockfiles have them.
+//! A merge of lockfiles by packages.
 #![tactic(auto)]
 
 mod assemble;
+pub mod conflict;
+mod format;
+pub mod laws;
+mod lines;
+pub mod lockfiles;
+pub mod metadata;
+pub mod moved;
 mod order;
-mod outcome;
+pub mod outcome;
+mod patches;
+mod referring;
+pub mod refused;
+mod words;
 
+pub use crate::lockfiles::merge_lockfiles;
 pub use crate::outcome::merge;

@@ -1,24 +1,43 @@
 //! The merge of three lists of packages.
 
-ghost use Rattle.std.specs.Prelude.{ℕ, IfErr, IfOk, IsOkUnless, option_map};
+ghost use Rattle.std.specs.Prelude.{IfErr, IfOk, IsOkUnless, map};
 ghost use Rattle.cargo_lock_parts.specs.declared.error.Error.TheVariants.{Memory};
 ghost use Rattle.cargo_lock_merging.specs.Commits.{Lockfiles};
-ghost use Rattle.cargo_lock_merging.specs.Merge.{Triple};
-ghost use Rattle.cargo_lock_merging.specs.Merged.{HasPlan};
+ghost use Rattle.cargo_lock_merging.specs.Kept.{AreInPlace};
+ghost use Rattle.cargo_lock_merging.specs.Merged.{merged_data};
+ghost use Rattle.cargo_lock_merging.specs.Moved.{AreListed};
+ghost use Rattle.cargo_lock_merging.specs.Numbered.{all_data};
+ghost use Rattle.cargo_lock_merging.specs.Plans.{triple_of};
 ghost use Rattle.cargo_lock_merging.specs.Triples.{AreSidesOf, IsStop, triple_in};
-ghost use Rattle.cargo_lock_merge.specs.Outcome.{Finds, IsAssembledOf, IsPlanned, IsTriple, three};
+ghost use Rattle.cargo_lock_merge.specs.Outcome.{AreReady, Finds, IsMergedOf, IsOutcomeOf};
+ghost use Rattle.cargo_lock_merge.specs.Outcome.{IsTriple, three};
 
 use crate::assemble::assemble;
+use crate::conflict::{Conflict, conflicts_of};
+use crate::moved::{Moved, moved_of};
 use cargo_lock_merging::lists::placed;
-use cargo_lock_merging::merged::merged_packages;
+use cargo_lock_merging::merged::{Merged, merged_packages};
+use cargo_lock_merging::placed::Placed;
 use cargo_lock_merging::plan::Plan;
 use cargo_lock_merging::triple::{Sides, Stop};
 use cargo_lock_parts::error;
 use cargo_lock_parts::package::Package;
 use std::alloc::Global;
 
-/// The packages of the merge of two sides over a base, in the order in which Cargo writes them, or
-/// `None` if the sides are in conflict about something that the merge needs.
+/// What a merge of two sides over a base is.
+#[derive(Drop)]
+pub enum Outcome<'a> {
+    /// The merged packages, in the order in which Cargo writes them, and the references that the
+    /// merge moved, in the order of these packages.
+    Merged(Vec<Package>, Vec<Moved<'a>>),
+
+    /// What the sides are in conflict about, at least one thing: what is at places in the order of
+    /// the packages there, and then the commits of git sources.
+    Conflicts(Vec<Conflict<'a>>),
+}
+
+/// The merge of two sides over a base, or what the sides are in conflict about, of what the merge
+/// needs.
 ///
 /// A place is a name, a source without its commit, and the release line of the version, but for a
 /// git source. Without a source it is the name, with the version where one of the lists has several
@@ -31,10 +50,8 @@ pub fn merge<'a>(
     base: &'a Vec<Package>,
     ours: &'a Vec<Package>,
     theirs: &'a Vec<Package>,
-) -> Result<Option<Vec<Package>>, Stop<'a>>
-    ensures ok { IfOk result
-        (λ merged. Finds (three base.now.items ours.now.items theirs.now.items)
-        (option_map (λ v. v.items) merged)) }
+) -> Result<Outcome<'a>, Stop<'a>>
+    ensures ok { IfOk result (Finds (three base.now.items ours.now.items theirs.now.items)) }
     ensures err { IfErr result (IsStop (three base.now.items ours.now.items theirs.now.items)) }
 {
     let sides = Sides::of(alloc, base, ours, theirs)?;
@@ -42,28 +59,51 @@ pub fn merge<'a>(
 }
 
 // The same of lists by numbers of their places.
-fn merge_sides(alloc: Global, sides: &Sides<'_>) -> error::Result<Option<Vec<Package>>>
+fn merge_sides<'a>(alloc: Global, sides: &Sides<'a>) -> error::Result<Outcome<'a>>
     requires { IsTriple sides.now }
-    ensures ok { IfOk result (λ merged. (all : Lockfiles) → AreSidesOf all (triple_in sides.now)
-        → Finds all (option_map (λ v. v.items) merged)) }
+    ensures ok { IfOk result (λ outcome. (all : Lockfiles) → AreSidesOf all (triple_in sides.now)
+        → Finds all outcome) }
     ensures err { IsOkUnless result Memory }
 {
     let base = placed(alloc, &sides.base)?;
     let ours = placed(alloc, &sides.ours)?;
     let theirs = placed(alloc, &sides.theirs)?;
-    let plan = Plan::of(alloc, &base, &ours, &theirs)?;
-    packages_of(alloc, &plan)
+    merge_placed(alloc, &base, &ours, &theirs)
 }
 
-// The packages of a plan.
-fn packages_of(alloc: Global, plan: &Plan<'_>) -> error::Result<Option<Vec<Package>>>
-    requires { IsPlanned plan.now }
-    ensures ok { IfOk result (λ merged. (s : Triple ℕ) → HasPlan s plan.now
-        → IsAssembledOf s (option_map (λ v. v.items) merged)) }
+// The same of packages at their places.
+fn merge_placed<'a, 'd>(
+    alloc: Global,
+    base: &'d [Placed<'a, 'd>],
+    ours: &'d [Placed<'a, 'd>],
+    theirs: &'d [Placed<'a, 'd>],
+) -> error::Result<Outcome<'a>>
+    requires { AreReady (triple_of base.now ours.now theirs.now) }
+    ensures ok { IfOk result (IsOutcomeOf (triple_of base.now ours.now theirs.now)) }
     ensures err { IsOkUnless result Memory }
 {
-    match merged_packages(alloc, plan)? {
-        Some(merged) => Ok(Some(assemble(alloc, &merged)?)),
-        None => Ok(None),
+    let plan = Plan::of(alloc, base, ours, theirs)?;
+    match merged_packages(alloc, &plan)? {
+        Some(merged) => merged_of(alloc, &merged, ours, theirs),
+        None => Ok(Outcome::Conflicts(conflicts_of(alloc, base, ours, theirs, &plan)?)),
     }
+}
+
+// The outcome of merged packages.
+fn merged_of<'a>(
+    alloc: Global,
+    merged: &[Merged<'a>],
+    ours: &[Placed<'a, '_>],
+    theirs: &[Placed<'a, '_>],
+) -> error::Result<Outcome<'a>>
+    requires merged { AreInPlace merged.now }
+    requires ours { AreListed (all_data ours.now) }
+    requires theirs { AreListed (all_data theirs.now) }
+    ensures ok { IfOk result (IsMergedOf (all_data ours.now) (all_data theirs.now) (map merged_data
+        merged.now)) }
+    ensures err { IsOkUnless result Memory }
+{
+    let packages = assemble(alloc, merged)?;
+    let moved = moved_of(alloc, merged, ours, theirs, &packages)?;
+    Ok(Outcome::Merged(packages, moved))
 }

@@ -40,3 +40,6 @@ pub mod Unmoved
 pub mod Unchanged
 pub mod Stable
 pub mod Relisted
+pub mod Moving
+pub mod Disputing
+pub mod Permuting

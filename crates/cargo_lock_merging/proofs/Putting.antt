@@ -16,7 +16,7 @@ use Rattle.cargo_lock_merging.specs.Numbered.{all_data}
 use Rattle.cargo_lock_merging.specs.Placed.{contents_of}
 use Rattle.cargo_lock_merging.proofs.Merging.{bare-key}
 
-git-key : (o : Option Source) (s : Source) → o ≡ Some s → is_git s.kind ≡ true → git_in o ≡ Some (key_without_commit s)
+pub git-key : (o : Option Source) (s : Source) → o ≡ Some s → is_git s.kind ≡ true → git_in o ≡ Some (key_without_commit s)
 git-key o s e g = ap git_in e ∙ rw g refl
 
 module _ (p : PackageData) (s k q : Source) (old new : Option (Bor Source)) (source : Bor Source) (is : p.source ≡ Some s) (here : source.now ≡ s) (git : is_git s.kind ≡ true)

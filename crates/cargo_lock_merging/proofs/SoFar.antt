@@ -12,7 +12,7 @@ use Rattle.cargo_lock_merging.specs.declared.merged.Merged.{Merged}
 use Rattle.cargo_lock_merging.specs.declared.plan.Plan.{Plan}
 use Rattle.cargo_lock_merging.specs.Choices.{IsDependencyOf, checksum_if, if_same, replacement_if}
 use Rattle.cargo_lock_merging.specs.Entries.{IsDependencyIf, IsEntry, IsSettled}
-use Rattle.cargo_lock_merging.specs.Kept.{AreSoFar, IsMarkedPlace, IsOfEntry, merged_places}
+use Rattle.cargo_lock_merging.specs.Kept.{AreInPlace, AreSoFar, IsMarkedPlace, IsOfEntry, merged_places}
 use Rattle.cargo_lock_merging.specs.Merge.{HaveAt, IsMerge, IsMergedFrom, IsMergedPackage, IsReached, Triple, lockfiles_of}
 use Rattle.cargo_lock_merging.specs.Merged.{HasPlan, IsMergedEntry, IsUnsettled, merged_data}
 use Rattle.cargo_lock_merging.specs.Numbered.{IsChecksumChoice, IsReplacementChoice, IsRowOf, data_if, data_of, places_of}
@@ -151,6 +151,13 @@ module _ (s : Triple ℕ) (plan : Plan) (h : HasPlan s plan) where
 
   pub entry-settled : (i : ℕ) (e : Entry) → i < length plan.entries.items → e ≡ get_or plan.entries.items i e → IsSettled (lockfiles_of s) e.row e.chosen
   entry-settled i e low is = (entry-at e (i, low, sym is)).settled
+
+  -- each has its dependencies in order
+  pub in-place : (i : ℕ) (ms : List Merged) → AreSoFar plan i ms → AreInPlace ms
+  in-place i ms f = record {
+    order = f.ascending;
+    each = λ k d low. let e = f.each k d low in subst IsStrictlyIncreasing (sym e.2.dependencies) (entry-at e.0 e.1).ascending;
+  }
 
   -- ---- where there is a conflict
 

@@ -23,6 +23,11 @@ IsOfEntry plan m = (e : Entry) × Contains plan.entries.items e × IsMergedEntry
 abbrev pub merged_places : List Merged → List ℕ
 merged_places = map (λ m. m.place)
 
+-- merged packages are in the order of their places, each with its dependencies in order
+pub record AreInPlace (ms : List Merged) : Type 0 where
+  pub order : IsStrictlyIncreasing (merged_places ms)
+  pub each : All (λ m. IsStrictlyIncreasing m.dependencies.items) ms
+
 -- the packages are those of the first entries that have marks
 pub record AreSoFar (plan : Plan) (i : ℕ) (ms : List Merged) : Type 0 where
   pub ascending : IsStrictlyIncreasing (merged_places ms)

@@ -13,6 +13,7 @@ pub mod Entries
 pub mod Plans
 pub mod Merged
 pub mod Kept
+pub mod Moved
 pub mod Renaming
 pub mod Places
 pub mod Laws
@@ -24,4 +25,5 @@ pub mod Assembled
 pub mod Refusals
 pub mod Triples
 pub mod Numbers
+pub mod Disputes
 pub mod Conflicts

@@ -109,6 +109,10 @@ IsConflict {P = P} s (OfSource g) = ((p : P) × IsReached s p
     × (c : PlacedData P) × HaveAt s p x y z × IsOfSide y z c × (git_in c.content.source ≡ Some g)))
     × IsSourceConflict (lockfiles_of s) g
 
+-- it is not so that the sides are in conflict about nothing
+abbrev pub AreInConflict : {P : Type 0} → Triple P → Type 0
+AreInConflict {P = P} s = ¬ ((c : ConflictData P) → ¬ IsConflict s c)
+
 -- ---- moved references
 
 -- a side has the merged package x, or where it is a member any at its place, with its dependency on

@@ -20,11 +20,11 @@ use std::cmp::Ordering;
 /// The side whose package a merge has at a place where the base and the two sides have these
 /// packages. `None` if neither side has one there, or if the sides are in conflict about it. The
 /// one error is `Memory`.
-pub fn choose<'a>(
-    commits: &Commits<'a>,
-    base: Option<Placed<'a>>,
-    ours: Option<Placed<'a>>,
-    theirs: Option<Placed<'a>>,
+pub fn choose<'a, 'd>(
+    commits: &Commits<'a, 'd>,
+    base: Option<Placed<'a, 'd>>,
+    ours: Option<Placed<'a, 'd>>,
+    theirs: Option<Placed<'a, 'd>>,
 ) -> Result<Option<Side>>
     ensures ok { IfOk result (IsChoice commits.now (data_if base.entry) (data_if ours.entry)
         (data_if theirs.entry)) }
@@ -39,7 +39,11 @@ pub fn choose<'a>(
 }
 
 // The side, if its package is chosen where the other side has none.
-fn choose_only<'a>(commits: &Commits<'a>, only: Placed<'a>, side: Side) -> Result<Option<Side>>
+fn choose_only<'a, 'd>(
+    commits: &Commits<'a, 'd>,
+    only: Placed<'a, 'd>,
+    side: Side,
+) -> Result<Option<Side>>
     ensures ok { IfOk result (λ chosen. (taken : Bool) × Decides taken
         (IsUsable commits.now only.entry.package.now)
         × (chosen ≡ (if taken then Some side else None))) }
@@ -50,7 +54,7 @@ fn choose_only<'a>(commits: &Commits<'a>, only: Placed<'a>, side: Side) -> Resul
 }
 
 // Whether the only package at a place is chosen.
-fn is_usable<'a>(commits: &Commits<'a>, package: &Package) -> Result<bool>
+fn is_usable<'a, 'd>(commits: &Commits<'a, 'd>, package: &Package) -> Result<bool>
     ensures ok { IfOk result (λ usable. Decides usable (IsUsable commits.now «package».now)) }
     ensures err { IsOkUnless result Memory }
 {
@@ -62,11 +66,11 @@ fn is_usable<'a>(commits: &Commits<'a>, package: &Package) -> Result<bool>
 }
 
 // The side whose package is chosen where both have one.
-fn choose_of_both<'a>(
-    commits: &Commits<'a>,
-    base: Option<Placed<'a>>,
-    ours: Placed<'a>,
-    theirs: Placed<'a>,
+fn choose_of_both<'a, 'd>(
+    commits: &Commits<'a, 'd>,
+    base: Option<Placed<'a, 'd>>,
+    ours: Placed<'a, 'd>,
+    theirs: Placed<'a, 'd>,
 ) -> Result<Option<Side>>
     ensures ok { IfOk result (IsChoice commits.now (data_if base.entry)
         (Some (data_of ours.entry)) (Some (data_of theirs.entry))) }
@@ -80,10 +84,10 @@ fn choose_of_both<'a>(
 }
 
 // The side whose package is at the merged commit.
-fn choose_by_commit<'a>(
-    commits: &Commits<'a>,
-    ours: Placed<'a>,
-    theirs: Placed<'a>,
+fn choose_by_commit<'a, 'd>(
+    commits: &Commits<'a, 'd>,
+    ours: Placed<'a, 'd>,
+    theirs: Placed<'a, 'd>,
 ) -> Result<Option<Side>>
     requires { AreOfGit (Some (data_of ours)) (Some (data_of theirs)) }
     ensures ok { IfOk result (λ side. (b : Option (PlacedData ℕ)) → IsChoice commits.now b
@@ -109,10 +113,10 @@ fn side_at(ours: bool, theirs: bool, same: bool) -> Option<Side>
 }
 
 // The side whose package is agreed on, or else has the greater version where that decides.
-fn choose_by_rule<'a>(
-    base: Option<Placed<'a>>,
-    ours: Placed<'a>,
-    theirs: Placed<'a>,
+fn choose_by_rule<'a, 'd>(
+    base: Option<Placed<'a, 'd>>,
+    ours: Placed<'a, 'd>,
+    theirs: Placed<'a, 'd>,
 ) -> Option<Side>
     requires { ¬ AreOfGit (Some (data_of ours)) (Some (data_of theirs)) }
     ensures { (all : Lockfiles) → IsChoice all (data_if base.entry) (Some (data_of ours.entry))
@@ -125,7 +129,11 @@ fn choose_by_rule<'a>(
 }
 
 // Which of the identities are equal.
-fn equality<'a>(base: Option<Placed<'a>>, ours: Placed<'a>, theirs: Placed<'a>) -> Equal
+fn equality<'a, 'd>(
+    base: Option<Placed<'a, 'd>>,
+    ours: Placed<'a, 'd>,
+    theirs: Placed<'a, 'd>,
+) -> Equal
     ensures { AreEqual (key_if (data_if base.entry)) (Some (key (data_of ours.entry)))
         (Some (key (data_of theirs.entry))) result }
 {
@@ -137,7 +145,7 @@ fn equality<'a>(base: Option<Placed<'a>>, ours: Placed<'a>, theirs: Placed<'a>) 
 }
 
 /// Whether the package has the identity of that of the base, if there is one.
-pub fn is_same_as<'a>(base: Option<Placed<'a>>, package: Placed<'a>) -> bool
+pub fn is_same_as<'a, 'd>(base: Option<Placed<'a, 'd>>, package: Placed<'a, 'd>) -> bool
     ensures { Decides result
         (Some (key (data_of «package».entry)) ≡ key_if (data_if base.entry)) }
 {
@@ -149,10 +157,10 @@ pub fn is_same_as<'a>(base: Option<Placed<'a>>, package: Placed<'a>) -> bool
 
 // The side with the greater version of a package of a registry, if both versions are above that of
 // the base.
-fn choose_by_version<'a>(
-    base: Option<Placed<'a>>,
-    ours: Placed<'a>,
-    theirs: Placed<'a>,
+fn choose_by_version<'a, 'd>(
+    base: Option<Placed<'a, 'd>>,
+    ours: Placed<'a, 'd>,
+    theirs: Placed<'a, 'd>,
 ) -> Option<Side>
     ensures { IsVersionSide (data_if base.entry) (data_of ours.entry) (data_of theirs.entry)
         result }
@@ -171,7 +179,11 @@ fn choose_by_version<'a>(
 }
 
 // Whether both versions are above that of the base, if there is one.
-fn are_above<'a>(base: Option<Placed<'a>>, ours: Placed<'a>, theirs: Placed<'a>) -> bool
+fn are_above<'a, 'd>(
+    base: Option<Placed<'a, 'd>>,
+    ours: Placed<'a, 'd>,
+    theirs: Placed<'a, 'd>,
+) -> bool
     ensures { Decides result (AreAbove (data_if base.entry) (data_of ours.entry)
         (data_of theirs.entry)) }
 {
@@ -182,7 +194,7 @@ fn are_above<'a>(base: Option<Placed<'a>>, ours: Placed<'a>, theirs: Placed<'a>)
 }
 
 // Whether the version of the other package is above that of this one.
-fn is_below<'a>(one: Placed<'a>, other: Placed<'a>) -> bool
+fn is_below<'a, 'd>(one: Placed<'a, 'd>, other: Placed<'a, 'd>) -> bool
     ensures { Decides result (IsBelow (data_of one.entry) (data_of other.entry)) }
 {
     cmp_versions(one.package, other.package) == Ordering::Less

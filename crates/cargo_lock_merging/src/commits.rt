@@ -8,8 +8,10 @@ ghost use Rattle.cargo_lock_parts.specs.Source.{is_git};
 ghost use Rattle.cargo_lock_parts.specs.SourceKey.{key_of};
 ghost use Rattle.cargo_lock_merging.specs.Agreed.{AreEqual};
 ghost use Rattle.cargo_lock_merging.specs.CommitMaps.{HasPut, IsBare, commit_if};
-ghost use Rattle.cargo_lock_merging.specs.Commits.{HasOneCommitEach, IsAtMergedCommit};
-ghost use Rattle.cargo_lock_merging.specs.Commits.{IsCommitIn, IsMergedCommit, key_without_commit};
+ghost use Rattle.cargo_lock_merging.specs.Commits.{AreCommits, HasOneCommitEach, IsAtMergedCommit};
+ghost use Rattle.cargo_lock_merging.specs.Commits.{IsCommitIn, IsMergedCommit, git_in, key_without_commit};
+ghost use Rattle.cargo_lock_merging.specs.Disputes.{IsSourceOf};
+ghost use Rattle.cargo_lock_merging.specs.LawsOfMerges.{HaveOneCommitEach};
 ghost use Rattle.cargo_lock_merging.specs.Numbered.{all_data};
 ghost use Rattle.cargo_lock_merging.specs.Placed.{contents_of};
 ghost use Rattle.cargo_lock_merging.specs.Rule3.{IsMergedValue};
@@ -24,12 +26,12 @@ use std::marker::Model;
 
 // The packages of a lockfile, with the commit of each git source.
 #[derive(Drop)]
-struct Sources<'a> {
-    packages: &'a [Placed<'a>],
+struct Sources<'a, 'd> {
+    packages: &'d [Placed<'a, 'd>],
     commits: BTreeMap<SourceId, &'a SourceId>,
 }
 
-impl<'a> Model for Sources<'a> {
+impl<'a, 'd> Model for Sources<'a, 'd> {
     ghost use Rattle.std.specs.Prelude.{List};
     ghost use Rattle.cargo_lock_parts.specs.Identity.{PackageData};
     ghost use Rattle.cargo_lock_merging.specs.CommitMaps.{AreCommitsOf};
@@ -43,9 +45,9 @@ impl<'a> Model for Sources<'a> {
     ghost invariant = { λ s. AreCommitsOf (contents_of (all_data s.packages.now)) s.commits };
 }
 
-impl<'a> Sources<'a> {
+impl<'a, 'd> Sources<'a, 'd> {
     // These packages, with the commits of their git sources.
-    fn of(alloc: Global, packages: &'a [Placed<'a>]) -> Result<Sources<'a>>
+    fn of(alloc: Global, packages: &'d [Placed<'a, 'd>]) -> Result<Sources<'a, 'd>>
         ensures ok { IfOk result (λ sources. sources ≡ contents_of (all_data packages.now)) }
         ensures err { IsOkUnless result Memory }
     {
@@ -81,15 +83,31 @@ fn put_commit<'a>(
     Ok(())
 }
 
-/// The commits of git sources in the base and in the two sides.
-#[derive(Drop)]
-pub struct Commits<'a> {
-    base: Sources<'a>,
-    ours: Sources<'a>,
-    theirs: Sources<'a>,
+/// A git source, and where it is at its commit in the base and in the two sides.
+#[derive(Clone, Copy)]
+pub struct SourceCommits<'a> {
+    /// The git source, at one of its commits.
+    pub source: &'a SourceId,
+
+    /// The source of a package of the base. `None` if the base has none of the git source.
+    pub base: Option<&'a SourceId>,
+
+    /// The same of ours.
+    pub ours: Option<&'a SourceId>,
+
+    /// The same of theirs.
+    pub theirs: Option<&'a SourceId>,
 }
 
-impl<'a> Model for Commits<'a> {
+/// The commits of git sources in the base and in the two sides.
+#[derive(Drop)]
+pub struct Commits<'a, 'd> {
+    base: Sources<'a, 'd>,
+    ours: Sources<'a, 'd>,
+    theirs: Sources<'a, 'd>,
+}
+
+impl<'a, 'd> Model for Commits<'a, 'd> {
     ghost use Rattle.cargo_lock_merging.specs.Commits.{Lockfiles, HasOneCommitEach};
 
     ghost Value = { Lockfiles };
@@ -100,15 +118,15 @@ impl<'a> Model for Commits<'a> {
         × HasOneCommitEach c.theirs };
 }
 
-impl<'a> Commits<'a> {
+impl<'a, 'd> Commits<'a, 'd> {
     /// The commits of these packages. In each of the three lists, each git source is at one commit.
     /// The one error is `Memory`.
     pub fn of(
         alloc: Global,
-        base: &'a [Placed<'a>],
-        ours: &'a [Placed<'a>],
-        theirs: &'a [Placed<'a>],
-    ) -> Result<Commits<'a>>
+        base: &'d [Placed<'a, 'd>],
+        ours: &'d [Placed<'a, 'd>],
+        theirs: &'d [Placed<'a, 'd>],
+    ) -> Result<Commits<'a, 'd>>
         requires base { HasOneCommitEach (contents_of (all_data base.now)) }
         requires ours { HasOneCommitEach (contents_of (all_data ours.now)) }
         requires theirs { HasOneCommitEach (contents_of (all_data theirs.now)) }
@@ -124,6 +142,41 @@ impl<'a> Commits<'a> {
             ours: Sources::of(alloc, ours)?,
             theirs: Sources::of(alloc, theirs)?,
         })
+    }
+
+    /// The git source of the package, with its commits. `None` if the package is of no git source.
+    /// The one error is `Memory`.
+    pub fn source_of(&self, package: &'a Package) -> Result<Option<SourceCommits<'a>>>
+        ensures ok { IfOk result (λ found. MatchOption found
+            (git_in «package».now.source ≡ None) (IsSourceOf self.now «package».now)) }
+        ensures err { IsOkUnless result Memory }
+    {
+        let source = match &package.source {
+            Some(source) => source,
+            None => return Ok(None),
+        };
+        if source.is_git() {
+            let bare = source.with_precise(None)?;
+            Ok(Some(self.commits_of(&bare, source)))
+        } else {
+            Ok(None)
+        }
+    }
+
+    // The source with the commits of its git source.
+    fn commits_of(&self, bare: &SourceId, source: &'a SourceId) -> SourceCommits<'a>
+        requires { IsBare bare.now }
+        ensures source { result.source.now ≡ source.now }
+        ensures commits { AreCommits self.now (key_of bare.now) (commit_if result.base)
+            (commit_if result.ours) (commit_if result.theirs) }
+        ensures one { HaveOneCommitEach self.now }
+    {
+        SourceCommits {
+            source,
+            base: self.base.get(bare),
+            ours: self.ours.get(bare),
+            theirs: self.theirs.get(bare),
+        }
     }
 
     /// Whether the package is of a git source, at the merged commit. The one error is `Memory`.
@@ -203,7 +256,11 @@ fn merged_commit<'a>(
 }
 
 // Which of the commits are equal.
-fn equality<'a>(base: Option<&'a SourceId>, ours: &'a SourceId, theirs: &'a SourceId) -> Equal
+pub(crate) fn equality<'a>(
+    base: Option<&'a SourceId>,
+    ours: &'a SourceId,
+    theirs: &'a SourceId,
+) -> Equal
     ensures { AreEqual (commit_if base.entry) (Some ours.now.precise) (Some theirs.now.precise)
         result }
 {

@@ -22,9 +22,9 @@ use std::alloc::{AllocError, Global};
 
 /// The package that is chosen at a place.
 #[derive(Clone, Copy)]
-pub struct Chosen<'a> {
+pub struct Chosen<'a, 'd> {
     /// The package of a side.
-    pub package: Placed<'a>,
+    pub package: Placed<'a, 'd>,
 
     /// The side whose checksum it has. `None` if the sides are in conflict about it.
     pub checksum: Option<Side>,
@@ -35,12 +35,12 @@ pub struct Chosen<'a> {
 
 /// What a merge has at a place.
 #[derive(Drop)]
-pub struct Entry<'a> {
+pub struct Entry<'a, 'd> {
     /// What the base and the two sides have there.
-    pub row: Row<'a>,
+    pub row: Row<'a, 'd>,
 
     /// The chosen package. `None` if the sides are in conflict about it.
-    pub chosen: Option<Chosen<'a>>,
+    pub chosen: Option<Chosen<'a, 'd>>,
 
     /// The places that are depended on, in ascending order.
     pub dependencies: Vec<usize>,
@@ -50,7 +50,11 @@ pub struct Entry<'a> {
 }
 
 /// What a merge has at the place of the row. The one error is `Memory`.
-pub fn entry_at<'a>(alloc: Global, commits: &Commits<'a>, row: &Row<'a>) -> Result<Entry<'a>>
+pub fn entry_at<'a, 'd>(
+    alloc: Global,
+    commits: &Commits<'a, 'd>,
+    row: &Row<'a, 'd>,
+) -> Result<Entry<'a, 'd>>
     requires { IsRowInOrder row.now }
     ensures row { IfOk result (λ e. e.row ≡ row.now) }
     ensures ok { IfOk result (IsEntry commits.now) }
@@ -62,7 +66,7 @@ pub fn entry_at<'a>(alloc: Global, commits: &Commits<'a>, row: &Row<'a>) -> Resu
 }
 
 // What is chosen where the package of this side is.
-fn settle<'a>(row: &Row<'a>, side: Option<Side>) -> Option<Chosen<'a>>
+fn settle<'a, 'd>(row: &Row<'a, 'd>, side: Option<Side>) -> Option<Chosen<'a, 'd>>
     ensures { (all : Lockfiles) → IsChoiceOf all row.now side → IsSettled all row.now result }
 {
     let package = package_of(row, side?)?;
@@ -70,7 +74,7 @@ fn settle<'a>(row: &Row<'a>, side: Option<Side>) -> Option<Chosen<'a>>
 }
 
 // The package of a side.
-pub(crate) fn package_of<'a>(row: &Row<'a>, side: Side) -> Option<Placed<'a>>
+pub(crate) fn package_of<'a, 'd>(row: &Row<'a, 'd>, side: Side) -> Option<Placed<'a, 'd>>
     ensures { data_if result ≡ side_of (data_if row.now.ours) (data_if row.now.theirs) side }
 {
     match side {
@@ -80,7 +84,7 @@ pub(crate) fn package_of<'a>(row: &Row<'a>, side: Side) -> Option<Placed<'a>>
 }
 
 // The chosen package with its checksum and its replacement.
-fn chosen_of<'a>(row: &Row<'a>, package: Placed<'a>) -> Chosen<'a>
+fn chosen_of<'a, 'd>(row: &Row<'a, 'd>, package: Placed<'a, 'd>) -> Chosen<'a, 'd>
     requires { IsOfSide (data_if row.now.ours) (data_if row.now.theirs) (data_of «package») }
     ensures package { data_of result.package ≡ data_of «package».entry }
     ensures values { HasValues row.now result }
@@ -93,11 +97,11 @@ fn chosen_of<'a>(row: &Row<'a>, package: Placed<'a>) -> Chosen<'a>
 }
 
 // The entry of what is chosen.
-fn entry_of<'a>(
+fn entry_of<'a, 'd>(
     alloc: Global,
-    row: &Row<'a>,
-    chosen: Option<Chosen<'a>>,
-) -> std::result::Result<Entry<'a>, AllocError>
+    row: &Row<'a, 'd>,
+    chosen: Option<Chosen<'a, 'd>>,
+) -> std::result::Result<Entry<'a, 'd>, AllocError>
     requires row { IsRowInOrder row.now }
     requires chosen { MatchOption chosen (Unit {0}) (λ c. HasValues row.now c
         × IsOfSide (data_if row.now.ours) (data_if row.now.theirs) (data_of c.package)) }
@@ -115,10 +119,10 @@ fn entry_of<'a>(
 }
 
 // The places that are depended on.
-fn dependencies_if<'a>(
+fn dependencies_if<'a, 'd>(
     alloc: Global,
-    row: &Row<'a>,
-    chosen: Option<Chosen<'a>>,
+    row: &Row<'a, 'd>,
+    chosen: Option<Chosen<'a, 'd>>,
 ) -> std::result::Result<Vec<usize>, AllocError>
     requires row { IsRowInOrder row.now }
     requires chosen { MatchOption chosen (Unit {0}) (λ c.
@@ -140,7 +144,7 @@ fn dependencies_if<'a>(
 }
 
 // The place of the replacement of what is chosen.
-fn replacement_if<'a>(row: &Row<'a>, chosen: Option<Chosen<'a>>) -> Option<usize>
+fn replacement_if<'a, 'd>(row: &Row<'a, 'd>, chosen: Option<Chosen<'a, 'd>>) -> Option<usize>
     requires { MatchOption chosen (Unit {0}) (λ c. HasValues row.now c) }
     ensures { (d : ℕ) → (result ≡ Some d) ↔ IsReplacementIf row.now chosen.entry d }
 {

@@ -4,11 +4,13 @@
 pub mod choices;
 pub mod commits;
 pub mod conflicts;
+pub mod disputes;
 pub mod entry;
 pub mod laws;
 mod linked;
 pub mod lists;
 pub mod merged;
+pub mod moved;
 pub mod numbers;
 pub mod place;
 pub mod placed;

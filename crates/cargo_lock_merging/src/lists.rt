@@ -215,10 +215,10 @@ fn places(
 }
 
 /// The packages at their places, borrowed. Fails when out of memory.
-pub fn placed<'a>(
+pub fn placed<'a, 'd>(
     alloc: Global,
-    list: &'a [Numbered<'_>],
-) -> std::result::Result<Vec<Placed<'a>>, AllocError>
+    list: &'d [Numbered<'a>],
+) -> std::result::Result<Vec<Placed<'a, 'd>>, AllocError>
     ensures { IfOk result (λ all. all_data all.items ≡ all_numbered list.now) }
 {
     let mut all = Vec::with_capacity(alloc, list.len())?;

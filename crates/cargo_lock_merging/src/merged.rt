@@ -2,7 +2,6 @@
 
 ghost use Rattle.std.specs.Prelude.{◌≡◌, ℕ, IfOk, IfSome, IsOkUnless, List, MatchOption, map};
 ghost use Rattle.std.specs.Prelude.{option_map};
-ghost use Rattle.std.specs.List.Sorted.{IsStrictlyIncreasing};
 ghost use Rattle.cargo_lock_parts.specs.declared.error.Error.TheVariants.{Memory};
 ghost use Rattle.cargo_lock_merging.specs.Numbered.{all_data};
 ghost use Rattle.cargo_lock_merging.specs.Places.{Place};
@@ -12,7 +11,8 @@ ghost use Rattle.std.specs.Bool.{Decides};
 ghost use Rattle.cargo_lock_parts.specs.Checksum.{digest_of};
 ghost use Rattle.cargo_lock_merging.specs.Commits.{Lockfiles};
 ghost use Rattle.cargo_lock_merging.specs.Entries.{IsSettled};
-ghost use Rattle.cargo_lock_merging.specs.Merge.{IsMerge, Triple};
+ghost use Rattle.cargo_lock_merging.specs.Kept.{AreInPlace};
+ghost use Rattle.cargo_lock_merging.specs.Merge.{AreInConflict, IsMerge, Triple};
 ghost use Rattle.cargo_lock_merging.specs.Merged.{AreValues, HasPlan, IsMergedEntry, IsUnsettled};
 ghost use Rattle.cargo_lock_merging.specs.Merged.{merged_data};
 ghost use Rattle.cargo_lock_merging.specs.Placed.{PlacedData};
@@ -54,11 +54,11 @@ struct Values<'a> {
 /// The merge of the packages of three lockfiles, which are in the order of their places. In those of
 /// the sides, each dependency and each replacement has its package. `None` if the sides are in
 /// conflict about something that is reached. The one error is `Memory`.
-pub fn merge_numbered<'a>(
+pub fn merge_numbered<'a, 'd>(
     alloc: Global,
-    base: &'a [Placed<'a>],
-    ours: &'a [Placed<'a>],
-    theirs: &'a [Placed<'a>],
+    base: &'d [Placed<'a, 'd>],
+    ours: &'d [Placed<'a, 'd>],
+    theirs: &'d [Placed<'a, 'd>],
 ) -> cargo_lock_parts::error::Result<Option<Vec<Merged<'a>>>>
     requires base { IsNumbered (all_data base.now) }
     requires ours { IsNumbered (all_data ours.now) }
@@ -80,15 +80,17 @@ pub fn merge_numbered<'a>(
 
 /// The merged packages, in the order of their places. `None` if the sides are in conflict about
 /// something that is reached. Fails when out of memory.
-pub fn merged_packages<'a>(
+pub fn merged_packages<'a, 'd>(
     alloc: Global,
-    plan: &Plan<'a>,
+    plan: &Plan<'a, 'd>,
 ) -> Result<Option<Vec<Merged<'a>>>, AllocError>
     ensures merge { IfOk result (λ merged. (s : Triple ℕ) → HasPlan s plan.now → MatchOption merged
         ((m : List (PlacedData ℕ)) → ¬ IsMerge s m)
         (λ all. IsMerge s (map merged_data all.items))) }
-    ensures ascending { IfOk result (λ merged. (s : Triple ℕ) → HasPlan s plan.now
-        → IfSome merged (λ all. IsStrictlyIncreasing (map (λ m. m.place) all.items))) }
+    ensures in_place { IfOk result (λ merged. (s : Triple ℕ) → HasPlan s plan.now
+        → IfSome merged (λ all. AreInPlace all.items)) }
+    ensures conflict { IfOk result (λ merged. (s : Triple ℕ) → HasPlan s plan.now
+        → MatchOption merged (AreInConflict s) (λ all. Unit {0})) }
 {
     let mut all = Vec::new(alloc);
     for (at, entry) in plan.entries.iter().enumerate() {
@@ -113,7 +115,10 @@ pub(crate) fn is_marked(marks: &[bool], at: usize) -> bool
 }
 
 // The merged package of the entry. `None` if the sides are in conflict about it.
-fn merged_entry<'a>(alloc: Global, entry: &Entry<'a>) -> Result<Option<Merged<'a>>, AllocError>
+fn merged_entry<'a, 'd>(
+    alloc: Global,
+    entry: &Entry<'a, 'd>,
+) -> Result<Option<Merged<'a>>, AllocError>
     ensures { IfOk result (λ merged. (all : Lockfiles)
         → IsSettled all entry.now.row entry.now.chosen → MatchOption merged
         (IsUnsettled entry.now.chosen) (IsMergedEntry entry.now)) }
@@ -131,7 +136,7 @@ fn merged_entry<'a>(alloc: Global, entry: &Entry<'a>) -> Result<Option<Merged<'a
 }
 
 // What the merged package of the entry has. `None` if the sides are in conflict about it.
-fn values_of<'a>(entry: &Entry<'a>) -> Option<Values<'a>>
+fn values_of<'a, 'd>(entry: &Entry<'a, 'd>) -> Option<Values<'a>>
     ensures { (all : Lockfiles) → IsSettled all entry.now.row entry.now.chosen
         → MatchOption result (IsUnsettled entry.now.chosen) (AreValues entry.now) }
 {

@@ -12,7 +12,7 @@ use std::cmp::Ordering;
 /// A package at its place, which is a number, with the places of its dependencies and of its
 /// replacement.
 #[derive(Clone, Copy)]
-pub struct Placed<'a> {
+pub struct Placed<'a, 'd> {
     /// The place.
     pub place: usize,
 
@@ -20,7 +20,7 @@ pub struct Placed<'a> {
     pub package: &'a Package,
 
     /// The places of the dependencies, in ascending order.
-    pub dependencies: &'a [usize],
+    pub dependencies: &'d [usize],
 
     /// The place of the replacement.
     pub replacement: Option<usize>,

@@ -26,23 +26,23 @@ use std::alloc::{AllocError, Global};
 
 /// What a merge has at each place, in the order of the places, and which of them are reached.
 #[derive(Drop)]
-pub struct Plan<'a> {
+pub struct Plan<'a, 'd> {
     /// What it has at each place of a side.
-    pub entries: Vec<Entry<'a>>,
+    pub entries: Vec<Entry<'a, 'd>>,
 
     /// For each of these places, whether it is reached.
     pub reached: Vec<bool>,
 }
 
-impl<'a> Plan<'a> {
+impl<'a, 'd> Plan<'a, 'd> {
     /// The plan of a merge of these packages, which are in the order of their places. The one error
     /// is `Memory`.
     pub fn of(
         alloc: Global,
-        base: &'a [Placed<'a>],
-        ours: &'a [Placed<'a>],
-        theirs: &'a [Placed<'a>],
-    ) -> Result<Plan<'a>>
+        base: &'d [Placed<'a, 'd>],
+        ours: &'d [Placed<'a, 'd>],
+        theirs: &'d [Placed<'a, 'd>],
+    ) -> Result<Plan<'a, 'd>>
         requires base { IsNumbered (all_data base.now) }
         requires ours { IsNumbered (all_data ours.now) }
         requires theirs { IsNumbered (all_data theirs.now) }
@@ -56,12 +56,12 @@ impl<'a> Plan<'a> {
 }
 
 // What a merge has at each place.
-fn entries<'a>(
+fn entries<'a, 'd>(
     alloc: Global,
-    base: &'a [Placed<'a>],
-    ours: &'a [Placed<'a>],
-    theirs: &'a [Placed<'a>],
-) -> Result<Vec<Entry<'a>>>
+    base: &'d [Placed<'a, 'd>],
+    ours: &'d [Placed<'a, 'd>],
+    theirs: &'d [Placed<'a, 'd>],
+) -> Result<Vec<Entry<'a, 'd>>>
     requires base { IsNumbered (all_data base.now) }
     requires ours { IsNumbered (all_data ours.now) }
     requires theirs { IsNumbered (all_data theirs.now) }
@@ -75,7 +75,11 @@ fn entries<'a>(
 }
 
 // What a merge has at the place of each row.
-fn entries_of<'a>(alloc: Global, commits: &Commits<'a>, rows: &[Row<'a>]) -> Result<Vec<Entry<'a>>>
+fn entries_of<'a, 'd>(
+    alloc: Global,
+    commits: &Commits<'a, 'd>,
+    rows: &[Row<'a, 'd>],
+) -> Result<Vec<Entry<'a, 'd>>>
     requires { All IsRowInOrder rows.now }
     ensures ok { IfOk result (λ all. HasEntries commits.now rows.now all.items) }
     ensures err { IsOkUnless result Memory }

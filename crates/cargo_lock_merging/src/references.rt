@@ -14,12 +14,12 @@ use std::alloc::{AllocError, Global};
 
 /// The places that the chosen package depends on after a merge, in ascending order, where the base
 /// and the two sides have these packages. Fails when out of memory.
-pub fn dependencies_of_chosen<'a>(
+pub fn dependencies_of_chosen<'a, 'd>(
     alloc: Global,
-    base: Option<Placed<'a>>,
-    ours: Option<Placed<'a>>,
-    theirs: Option<Placed<'a>>,
-    chosen: Placed<'a>,
+    base: Option<Placed<'a, 'd>>,
+    ours: Option<Placed<'a, 'd>>,
+    theirs: Option<Placed<'a, 'd>>,
+    chosen: Placed<'a, 'd>,
 ) -> Result<Vec<usize>, AllocError>
     requires base { HasAscending (data_if base) }
     requires ours { HasAscending (data_if ours) }
@@ -39,12 +39,12 @@ pub fn dependencies_of_chosen<'a>(
 }
 
 // The same where both sides have a package.
-fn dependencies_of_both<'a>(
+fn dependencies_of_both<'a, 'd>(
     alloc: Global,
-    base: Option<Placed<'a>>,
-    ours: Placed<'a>,
-    theirs: Placed<'a>,
-    chosen: Placed<'a>,
+    base: Option<Placed<'a, 'd>>,
+    ours: Placed<'a, 'd>,
+    theirs: Placed<'a, 'd>,
+    chosen: Placed<'a, 'd>,
 ) -> Result<Vec<usize>, AllocError>
     requires base { HasAscending (data_if base) }
     requires ours { IsStrictlyIncreasing ours.dependencies.now }
@@ -70,7 +70,11 @@ fn dependencies_of_both<'a>(
 }
 
 // Whether the package of a side counts: it has the identity of the chosen one or that of the base.
-fn counts<'a>(base: Option<Placed<'a>>, chosen: Placed<'a>, package: Placed<'a>) -> bool
+fn counts<'a, 'd>(
+    base: Option<Placed<'a, 'd>>,
+    chosen: Placed<'a, 'd>,
+    package: Placed<'a, 'd>,
+) -> bool
     ensures { Decides result (Counts (data_if base.entry) (data_of chosen.entry)
         (data_of «package».entry)) }
 {
@@ -79,10 +83,10 @@ fn counts<'a>(base: Option<Placed<'a>>, chosen: Placed<'a>, package: Placed<'a>)
 
 /// The places that a package of either side depends on, in ascending order. Fails when out of
 /// memory.
-pub fn dependencies_of_either<'a>(
+pub fn dependencies_of_either<'a, 'd>(
     alloc: Global,
-    ours: Option<Placed<'a>>,
-    theirs: Option<Placed<'a>>,
+    ours: Option<Placed<'a, 'd>>,
+    theirs: Option<Placed<'a, 'd>>,
 ) -> Result<Vec<usize>, AllocError>
     requires ours { HasAscending (data_if ours) }
     requires theirs { HasAscending (data_if theirs) }
@@ -94,7 +98,7 @@ pub fn dependencies_of_either<'a>(
 }
 
 // The places that the package depends on, if there is one.
-fn dependencies_of<'a>(package: Option<Placed<'a>>) -> &'a [usize]
+fn dependencies_of<'a, 'd>(package: Option<Placed<'a, 'd>>) -> &'d [usize]
     requires { HasAscending (data_if «package») }
     ensures ascending { IsStrictlyIncreasing result.now }
     ensures holds { (d : ℕ) → Contains result.now d ↔ DependsOn (data_if «package».entry) d }

@@ -14,21 +14,21 @@ use std::alloc::{AllocError, Global};
 
 /// What the base and the two sides have at a place.
 #[derive(Clone, Copy)]
-pub struct Row<'a> {
+pub struct Row<'a, 'd> {
     pub place: usize,
-    pub base: Option<Placed<'a>>,
-    pub ours: Option<Placed<'a>>,
-    pub theirs: Option<Placed<'a>>,
+    pub base: Option<Placed<'a, 'd>>,
+    pub ours: Option<Placed<'a, 'd>>,
+    pub theirs: Option<Placed<'a, 'd>>,
 }
 
 /// The rows of the places at which one of the two sides has a package, in the order of the places.
 /// Takes a number of steps that grows with the lengths. Fails when out of memory.
-pub fn rows<'a>(
+pub fn rows<'a, 'd>(
     alloc: Global,
-    base: &[Placed<'a>],
-    ours: &[Placed<'a>],
-    theirs: &[Placed<'a>],
-) -> Result<Vec<Row<'a>>, AllocError>
+    base: &[Placed<'a, 'd>],
+    ours: &[Placed<'a, 'd>],
+    theirs: &[Placed<'a, 'd>],
+) -> Result<Vec<Row<'a, 'd>>, AllocError>
     requires base { IsInOrder (all_data base.now) }
     requires ours { IsInOrder (all_data ours.now) }
     requires theirs { IsInOrder (all_data theirs.now) }
@@ -62,7 +62,7 @@ pub fn rows<'a>(
 }
 
 // The places of packages.
-fn places(alloc: Global, list: &[Placed]) -> Result<Vec<usize>, AllocError>
+pub(crate) fn places(alloc: Global, list: &[Placed]) -> Result<Vec<usize>, AllocError>
     ensures { IfOk result (λ places. places.items ≡ places_of (all_data list.now)) }
 {
     let mut places = Vec::with_capacity(alloc, list.len())?;
@@ -73,7 +73,11 @@ fn places(alloc: Global, list: &[Placed]) -> Result<Vec<usize>, AllocError>
 }
 
 // The package at the place, if there is one. The search goes on from where it stopped before.
-fn package_of<'a>(list: &[Placed<'a>], at: &mut usize, place: usize) -> Option<Placed<'a>>
+fn package_of<'a, 'd>(
+    list: &[Placed<'a, 'd>],
+    at: &mut usize,
+    place: usize,
+) -> Option<Placed<'a, 'd>>
     requires ascending { IsInOrder (all_data list.now) }
     requires below { AreBelow (places_of (all_data list.now)) at.old place }
     ensures found { IsAt (all_data list.now) place (data_if result) }

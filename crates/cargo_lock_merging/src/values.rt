@@ -13,11 +13,11 @@ use cargo_lock_parts::package::{Checksum, Package};
 
 /// The side whose checksum the chosen package has after a merge. `None` if the sides are in
 /// conflict about it.
-pub fn choose_checksum<'a>(
-    base: Option<Placed<'a>>,
-    ours: Option<Placed<'a>>,
-    theirs: Option<Placed<'a>>,
-    chosen: Placed<'a>,
+pub fn choose_checksum<'a, 'd>(
+    base: Option<Placed<'a, 'd>>,
+    ours: Option<Placed<'a, 'd>>,
+    theirs: Option<Placed<'a, 'd>>,
+    chosen: Placed<'a, 'd>,
 ) -> Option<Side>
     requires { IsOfSide (data_if ours) (data_if theirs) (data_of chosen) }
     ensures { IsChecksumChoice (data_if base.entry) (data_if ours.entry) (data_if theirs.entry)
@@ -34,11 +34,11 @@ pub fn choose_checksum<'a>(
 
 /// The side whose replacement the chosen package has after a merge. `None` if the sides are in
 /// conflict about it.
-pub fn choose_replacement<'a>(
-    base: Option<Placed<'a>>,
-    ours: Option<Placed<'a>>,
-    theirs: Option<Placed<'a>>,
-    chosen: Placed<'a>,
+pub fn choose_replacement<'a, 'd>(
+    base: Option<Placed<'a, 'd>>,
+    ours: Option<Placed<'a, 'd>>,
+    theirs: Option<Placed<'a, 'd>>,
+    chosen: Placed<'a, 'd>,
 ) -> Option<Side>
     requires { IsOfSide (data_if ours) (data_if theirs) (data_of chosen) }
     ensures { IsReplacementChoice (data_if base.entry) (data_if ours.entry) (data_if theirs.entry)
@@ -54,7 +54,10 @@ pub fn choose_replacement<'a>(
 }
 
 // The package, if it has the identity of the chosen one.
-fn if_same<'a>(chosen: Placed<'a>, package: Option<Placed<'a>>) -> Option<Placed<'a>>
+fn if_same<'a, 'd>(
+    chosen: Placed<'a, 'd>,
+    package: Option<Placed<'a, 'd>>,
+) -> Option<Placed<'a, 'd>>
     ensures { data_if result ≡ if_same (data_of chosen.entry) (data_if «package».entry) }
 {
     match package {
@@ -64,7 +67,11 @@ fn if_same<'a>(chosen: Placed<'a>, package: Option<Placed<'a>>) -> Option<Placed
 }
 
 // Which of the checksums are equal.
-fn equal_checksums<'a>(base: Option<Placed<'a>>, ours: Placed<'a>, theirs: Placed<'a>) -> Equal
+fn equal_checksums<'a, 'd>(
+    base: Option<Placed<'a, 'd>>,
+    ours: Placed<'a, 'd>,
+    theirs: Placed<'a, 'd>,
+) -> Equal
     ensures { AreEqual (checksum_if (data_if base.entry)) ours.entry.package.now.checksum
         theirs.entry.package.now.checksum result }
 {
@@ -76,7 +83,7 @@ fn equal_checksums<'a>(base: Option<Placed<'a>>, ours: Placed<'a>, theirs: Place
 }
 
 // Whether the package has the checksum of that of the base, which is none if that is absent.
-fn is_checksum_of<'a>(base: Option<Placed<'a>>, package: Placed<'a>) -> bool
+fn is_checksum_of<'a, 'd>(base: Option<Placed<'a, 'd>>, package: Placed<'a, 'd>) -> bool
     ensures { Decides result
         («package».entry.package.now.checksum ≡ checksum_if (data_if base.entry)) }
 {
@@ -104,7 +111,11 @@ fn are_equal(one: &Package, other: &Package) -> bool
 }
 
 // Which of the replacements are equal.
-fn equal_replacements<'a>(base: Option<Placed<'a>>, ours: Placed<'a>, theirs: Placed<'a>) -> Equal
+fn equal_replacements<'a, 'd>(
+    base: Option<Placed<'a, 'd>>,
+    ours: Placed<'a, 'd>,
+    theirs: Placed<'a, 'd>,
+) -> Equal
     ensures { AreEqual (replacement_if (data_if base.entry)) ours.entry.replacement
         theirs.entry.replacement result }
 {

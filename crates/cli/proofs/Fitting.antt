@@ -1,26 +1,13 @@
--- The places of packages that specifications fit.
-use Rattle.std.proofs.Common.{◌≡◌, ◌≢◌, ◌∙◌, ◌<◌, ◌+◌, ◌++◌, ◌∷◌, [], All, ap, inl, inr, ℕ, Bool, true, false, cond, List, arith, get_or, length, refl, subst, sym}
+-- The places of packages that several specifications fit.
+use Rattle.std.proofs.Common.{◌≡◌, ◌≢◌, ◌<◌, ◌++◌, ◌∷◌, [], All, ap, inl, inr, ℕ, List, arith, get_or, length, refl, subst, sym}
 use Rattle.std.specs.List.{Contains}
 use Rattle.std.proofs.lemmas.List.Elements.{Contains-append_left, Contains-append_right, Contains-append_cases, Contains-get_or, Contains-push, Contains-push_cases}
 use Rattle.cargo_lock_ask.specs.Places.{IsPlaces}
-use Rattle.cargo_lock_ask.proofs.Placing.{places-pass, places-put}
-use Rattle.cargo_lock_check.proofs.PackagePlaces.{fails-there, holds-there}
 use Rattle.cargo_lock_graph.specs.Edges.{GraphData, externals}
 use Rattle.cargo_lock_graph.specs.declared.graph.EdgeDirection.TheVariants.{Incoming}
 use Rattle.cargo_lock_parts.specs.Identity.{PackageData}
 use Rattle.cli.specs.Graph.{AreBegun, AreFitting}
-use Rattle.cli.specs.Spec.{Fits, fits, spec_in}
-
--- one more package, tested
-pub fitting-tested : (spec : List ℕ) (packages : List PackageData) (place : ℕ) (p : PackageData) (is : Bool) (xs ys : List ℕ) → place < length packages → p ≡ get_or packages place p
-    → is ≡ fits (spec_in spec) p → ys ≡ cond is (xs ++ place ∷ []) xs → IsPlaces (Fits spec packages) place xs → IsPlaces (Fits spec packages) (place + 1) ys
-fitting-tested spec packages place p true xs ys low at says grows so_far =
-    places-put (Fits spec packages) place (place + 1) xs ys so_far (holds-there (λ q. fits (spec_in spec) q ≡ true) packages place p low at (sym says)) refl grows
-fitting-tested spec packages place p false xs ys low at says grows so_far =
-    rw grows (places-pass (Fits spec packages) place (place + 1) xs so_far
-    (fails-there (λ q. fits (spec_in spec) q ≡ true) packages place p low at (λ h. let e : false ≡ true = says ∙ h in cc e)) refl)
-
--- ---- several specifications
+use Rattle.cargo_lock_ask.specs.Spec.{Fits}
 
 pub none-fitting : (packages : List PackageData) → AreFitting [] packages []
 none-fitting packages = record {

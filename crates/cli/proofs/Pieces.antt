@@ -39,8 +39,3 @@ pub line-text : (start name version source end : List ℕ)
 line-text start name version source end =
     ap (λ (ws : List ℕ). ws ++ end)
     (append_assoc start (name ++ (32 ∷ version)) source ∙ ap (λ (ws : List ℕ). start ++ (ws ++ source)) (sym (append_assoc name (32 ∷ []) version)))
-
--- what is made of the elements in two steps
-pub map-twice : {A B C : Type 0} (f : B → C) (h : A → B) (xs : List A) → map (λ x. f (h x)) xs ≡ map f (map h xs)
-map-twice f h [] = refl
-map-twice {A} {B} {C} f h (x ∷ xs) = ap (λ (zs : List C). f (h x) ∷ zs) (map-twice f h xs)

@@ -25,18 +25,18 @@ pub record PrintsFound (found : Found) (file : FileData) (told : List FindingDat
   pub unasked : IsUnasked found (codes "json") → Appends old new (findings_text told)
 
 -- the findings are printed, and the status is theirs
-abbrev pub TellsFindings : Found → FileData → FindingsData → Option (List ℕ) → Option (List ℕ)
+abbrev pub PrintsFindings : Found → FileData → FindingsData → Option (List ℕ) → Option (List ℕ)
     → Type 0 → Type 0 → Type 0
-TellsFindings found file f old new failure success = PrintsFound found file (told_of f) old new
+PrintsFindings found file f old new failure success = PrintsFound found file (told_of f) old new
     × IsFindingsStatus (told_of f) failure success
 
 -- the findings of a text and a lockfile are printed, and the status is theirs
-abbrev pub TellsFindingsOf : Found → List ℕ → LockfileData → Option (List ℕ) → Option (List ℕ)
+abbrev pub PrintsFindingsOf : Found → List ℕ → LockfileData → Option (List ℕ) → Option (List ℕ)
     → Type 0 → Type 0 → Type 0
-TellsFindingsOf found text l old new failure success = (f : FindingsData) × AreFindings text l f
-    × TellsFindings found (file_of found (codes "file") l) f old new failure success
+PrintsFindingsOf found text l old new failure success = (f : FindingsData) × AreFindings text l f
+    × PrintsFindings found (file_of found (codes "file") l) f old new failure success
 
 -- the same for some text and the lockfile that it means: no contract says what a file holds
-abbrev pub TellsCheck : Found → Option (List ℕ) → Option (List ℕ) → Type 0 → Type 0 → Type 0
-TellsCheck found old new failure success = (text : List ℕ) × (l : LockfileData) × TextMeans text l
-    × TellsFindingsOf found text l old new failure success
+abbrev pub PrintsCheck : Found → Option (List ℕ) → Option (List ℕ) → Type 0 → Type 0 → Type 0
+PrintsCheck found old new failure success = (text : List ℕ) × (l : LockfileData) × TextMeans text l
+    × PrintsFindingsOf found text l old new failure success

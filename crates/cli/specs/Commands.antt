@@ -6,16 +6,18 @@ use Rattle.clap.specs.declared.parser.matches.ArgMatches.{ArgMatches}
 use Rattle.clap.specs.declared.parser.matches.Found.{Found}
 use Rattle.cli.specs.declared.Chosen.{Chosen}
 use Rattle.cli.specs.declared.Chosen.TheVariants.{Bom, Check, Diff, Duplicates, Graph}
-use Rattle.cli.specs.declared.Chosen.TheVariants.{List as Listing, Translate, Tree, Why}
+use Rattle.cli.specs.declared.Chosen.TheVariants.{List as Listing, Merge, Translate, Tree, Verify, Why}
 use Rattle.cli.specs.Bom.{PrintsBill}
-use Rattle.cli.specs.Check.{TellsCheck}
-use Rattle.cli.specs.Diff.{TellsDifference}
-use Rattle.cli.specs.Duplicates.{TellsDuplicates}
+use Rattle.cli.specs.Check.{PrintsCheck}
+use Rattle.cli.specs.Diff.{PrintsDifference}
+use Rattle.cli.specs.Duplicates.{PrintsDuplicates}
 use Rattle.cli.specs.Graph.{DrawsGraph}
 use Rattle.cli.specs.List.{PrintsList}
+use Rattle.cli.specs.Merge.{PrintsMerge}
 use Rattle.cli.specs.Translate.{PrintsTranslation}
 use Rattle.cli.specs.Tree.{PrintsTrees}
-use Rattle.cli.specs.Why.{TellsWhy}
+use Rattle.cli.specs.Verify.{PrintsVerified}
+use Rattle.cli.specs.Why.{PrintsWhy}
 
 -- the name of a command
 abbrev pub name_of : Chosen → List ℕ
@@ -25,22 +27,27 @@ name_of Diff = codes "diff"
 name_of Duplicates = codes "duplicates"
 name_of Graph = codes "graph"
 name_of Listing = codes "list"
+name_of Merge = codes "merge"
 name_of Translate = codes "translate"
 name_of Tree = codes "tree"
+name_of Verify = codes "verify"
 name_of Why = codes "why"
 
--- what a command leaves with the options that were found, and its status: `check`, `diff` and
--- `duplicates` may end with failure if they found something, and each other one ends with success
+-- what a command leaves with the options that were found, and its status: `check`, `diff`,
+-- `duplicates` and `merge` may end with failure if they found something, and each other one ends
+-- with success
 abbrev pub Follows : Chosen → Found → Option (List ℕ) → Option (List ℕ) → Type 0 → Type 0 → Type 0
 Follows Bom found old new failure success = PrintsBill found old new × success
-Follows Check found old new failure success = TellsCheck found old new failure success
-Follows Diff found old new failure success = TellsDifference found old new failure success
-Follows Duplicates found old new failure success = TellsDuplicates found old new failure success
+Follows Check found old new failure success = PrintsCheck found old new failure success
+Follows Diff found old new failure success = PrintsDifference found old new failure success
+Follows Duplicates found old new failure success = PrintsDuplicates found old new failure success
 Follows Graph found old new failure success = DrawsGraph found old new × success
 Follows Listing found old new failure success = PrintsList found old new × success
+Follows Merge found old new failure success = PrintsMerge found old new failure success
 Follows Translate found old new failure success = PrintsTranslation found old new × success
 Follows Tree found old new failure success = PrintsTrees found old new × success
-Follows Why found old new failure success = TellsWhy found old new × success
+Follows Verify found old new failure success = PrintsVerified found old new failure success
+Follows Why found old new failure success = PrintsWhy found old new × success
 
 -- a command is followed whose name and options the parse found
 pub record FollowsMatches (m : ArgMatches) (old new : Option (List ℕ))

@@ -49,18 +49,18 @@ pub record PrintsTold (found : Found) (before after : FileData) (told : List Cha
   pub unasked : IsUnasked found (codes "json") → Appends old new (told_text told)
 
 -- the text is that of the changes of a difference, and the status is that of both
-abbrev pub TellsChanges : Found → FileData → FileData → DifferenceData → Option (List ℕ)
+abbrev pub PrintsChanges : Found → FileData → FileData → DifferenceData → Option (List ℕ)
     → Option (List ℕ) → Type 0 → Type 0 → Type 0
-TellsChanges found before after d old new failure success = (told : List ChangeData)
+PrintsChanges found before after d old new failure success = (told : List ChangeData)
     × IsTold found d told × PrintsTold found before after told old new
     × IsStatus found d told failure success
 
 -- the same for the difference of the packages of two lockfiles
-abbrev pub TellsDifferenceOf : Found → LockfileData → LockfileData → Option (List ℕ)
+abbrev pub PrintsDifferenceOf : Found → LockfileData → LockfileData → Option (List ℕ)
     → Option (List ℕ) → Type 0 → Type 0 → Type 0
-TellsDifferenceOf found before after old new failure success = (d : DifferenceData)
+PrintsDifferenceOf found before after old new failure success = (d : DifferenceData)
     × IsDifference before.packages after.packages d
-    × TellsChanges found (file_of found (codes "old") before) (file_of found (codes "new") after) d
+    × PrintsChanges found (file_of found (codes "old") before) (file_of found (codes "new") after) d
     old new failure success
 
 -- the lockfile is one that some text means, with the checksums that Cargo reads
@@ -68,7 +68,7 @@ abbrev pub IsCompared : LockfileData → Type 0
 IsCompared x = (l : LockfileData) × IsMeant l × (x ≡ with_cargo_checksums_in l)
 
 -- the same for two such lockfiles
-abbrev pub TellsDifference : Found → Option (List ℕ) → Option (List ℕ) → Type 0 → Type 0 → Type 0
-TellsDifference found old new failure success = (before after : LockfileData)
+abbrev pub PrintsDifference : Found → Option (List ℕ) → Option (List ℕ) → Type 0 → Type 0 → Type 0
+PrintsDifference found old new failure success = (before after : LockfileData)
     × IsCompared before × IsCompared after
-    × TellsDifferenceOf found before after old new failure success
+    × PrintsDifferenceOf found before after old new failure success

@@ -28,19 +28,14 @@ pub record PrintsGroups (found : Found) (file : FileData) (groups : List GroupDa
   pub unasked : IsUnasked found (codes "json") → Appends old new (listing_text groups)
 
 -- the names that several packages of a graph have are printed, and the status is theirs
-abbrev pub TellsGroups : Found → FileData → GraphData → Option (List ℕ) → Option (List ℕ) → Type 0
+abbrev pub PrintsNames : Found → FileData → GraphData → Option (List ℕ) → Option (List ℕ) → Type 0
     → Type 0 → Type 0
-TellsGroups found file graph old new failure success = (groups : List GroupData)
+PrintsNames found file graph old new failure success = (groups : List GroupData)
     × AreGroupsOf graph groups × PrintsGroups found file groups old new
     × IsGroupsStatus found groups failure success
 
--- the same for the graph of a lockfile
-abbrev pub TellsGroupsOf : Found → LockfileData → Option (List ℕ) → Option (List ℕ) → Type 0
-    → Type 0 → Type 0
-TellsGroupsOf found l old new failure success = (graph : GraphData) × IsGraphOf l graph
-    × TellsGroups found (file_of found (codes "file") l) graph old new failure success
-
--- the same for a lockfile that some text means
-abbrev pub TellsDuplicates : Found → Option (List ℕ) → Option (List ℕ) → Type 0 → Type 0 → Type 0
-TellsDuplicates found old new failure success = (l : LockfileData) × IsMeant l
-    × TellsGroupsOf found l old new failure success
+-- the same for the graph of a lockfile that some text means
+abbrev pub PrintsDuplicates : Found → Option (List ℕ) → Option (List ℕ) → Type 0 → Type 0 → Type 0
+PrintsDuplicates found old new failure success = (l : LockfileData) × (graph : GraphData)
+    × IsMeant l × IsGraphOf l graph
+    × PrintsNames found (file_of found (codes "file") l) graph old new failure success

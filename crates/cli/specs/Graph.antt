@@ -19,7 +19,7 @@ use Rattle.cargo_lock_graph.specs.declared.graph.EdgeDirection.{EdgeDirection}
 use Rattle.cargo_lock_graph.specs.declared.graph.EdgeDirection.TheVariants.{Incoming}
 use Rattle.cargo_lock.specs.Loads.{IsMeant}
 use Rattle.cli.specs.Json.{IsFlag}
-use Rattle.cli.specs.Spec.{Fits}
+use Rattle.cargo_lock_ask.specs.Spec.{Fits}
 use Rattle.cli.specs.Tree.{IsGraphOf, direction_of, given_specs}
 
 -- the program that draws the text: Mermaid if the arguments name it, and otherwise Graphviz; the
@@ -62,11 +62,7 @@ pub record DrawsPicture (found : Found) (graph : GraphData) (old new : Option (L
     pub picture : IsPicture graph (direction_of is_inverted) starts nodes arrows
     pub printed : Appends old new (diagram_text (target_in found) graph.packages nodes arrows)
 
--- the same for the graph of a lockfile
-abbrev pub DrawsPictureOf : Found → LockfileData → Option (List ℕ) → Option (List ℕ) → Type 0
-DrawsPictureOf found l old new = (graph : GraphData) × IsGraphOf l graph
-    × DrawsPicture found graph old new
-
--- the same for a lockfile that some text means
+-- the same for the graph of a lockfile that some text means
 abbrev pub DrawsGraph : Found → Option (List ℕ) → Option (List ℕ) → Type 0
-DrawsGraph found old new = (l : LockfileData) × IsMeant l × DrawsPictureOf found l old new
+DrawsGraph found old new = (l : LockfileData) × (graph : GraphData) × IsMeant l × IsGraphOf l graph
+    × DrawsPicture found graph old new

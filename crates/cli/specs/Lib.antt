@@ -6,8 +6,9 @@ pub mod Tree
 pub mod Diff
 pub mod Commands
 pub mod List
+pub mod Merge
 pub mod Load
-pub mod Spec
+pub mod Verify
 pub mod Why
 pub mod Duplicates
 pub mod Graph

@@ -13,7 +13,7 @@ use Rattle.cargo_lock_json.specs.File.{FileData}
 use Rattle.cargo_lock_json.specs.Text.{IsJsonText}
 use Rattle.cargo_lock_json.specs.Why.{answers_json}
 use Rattle.cli.specs.Json.{IsAsked, IsFlag, IsUnasked, PrintsLine, file_of}
-use Rattle.cli.specs.Spec.{Fits}
+use Rattle.cargo_lock_ask.specs.Spec.{Fits}
 use Rattle.cli.specs.Tree.{IsGraphOf}
 
 -- the specification of a package
@@ -39,15 +39,11 @@ pub record PrintsAnswers (found : Found) (file : FileData) (answers : List Answe
   pub unasked : IsUnasked found (codes "json") → Appends old new (answers_text answers)
 
 -- the answers that the arguments ask for are printed
-abbrev pub TellsAnswers : Found → FileData → GraphData → Option (List ℕ) → Option (List ℕ) → Type 0
-TellsAnswers found file graph old new = (answers : List AnswerData)
+abbrev pub PrintsAsked : Found → FileData → GraphData → Option (List ℕ) → Option (List ℕ) → Type 0
+PrintsAsked found file graph old new = (answers : List AnswerData)
     × AreAsked found graph answers × PrintsAnswers found file answers old new
 
--- the same for the graph of a lockfile
-abbrev pub TellsAnswersOf : Found → LockfileData → Option (List ℕ) → Option (List ℕ) → Type 0
-TellsAnswersOf found l old new = (graph : GraphData) × IsGraphOf l graph
-    × TellsAnswers found (file_of found (codes "file") l) graph old new
-
--- the same for a lockfile that some text means
-abbrev pub TellsWhy : Found → Option (List ℕ) → Option (List ℕ) → Type 0
-TellsWhy found old new = (l : LockfileData) × IsMeant l × TellsAnswersOf found l old new
+-- the same for the graph of a lockfile that some text means
+abbrev pub PrintsWhy : Found → Option (List ℕ) → Option (List ℕ) → Type 0
+PrintsWhy found old new = (l : LockfileData) × (graph : GraphData) × IsMeant l × IsGraphOf l graph
+    × PrintsAsked found (file_of found (codes "file") l) graph old new

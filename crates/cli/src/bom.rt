@@ -5,9 +5,9 @@ ghost use Rattle.cli.specs.Bom.{IsAskedBill, IsAskedLine, IsBillOf, IsTimeAsked,
 ghost use Rattle.cli.specs.Json.{IsFlag};
 
 use crate::load::named_lockfile;
-use crate::spec::fitting;
 use cargo_lock::dependency::graph::NodeIndex;
 use cargo_lock::{Lockfile, Package};
+use cargo_lock_ask::fitting;
 use cargo_lock_bom::options::{Options, VERSION};
 use cargo_lock_bom::printed::{printed_bill, with_root};
 use clap::{Arg, ArgAction, ArgMatches, Command};

@@ -5,8 +5,8 @@ ghost use Rattle.clap.specs.Matches.{found_of};
 ghost use Rattle.cargo_lock_check.specs.Finding.{finding_of, findings_text};
 ghost use Rattle.cargo_lock_json.specs.Findings.{findings_json};
 ghost use Rattle.cargo_lock_json.specs.Text.{IsJsonText};
-ghost use Rattle.cli.specs.Check.{IsFindingsStatus, PrintsFound, TellsCheck, TellsFindings};
-ghost use Rattle.cli.specs.Check.{TellsFindingsOf};
+ghost use Rattle.cli.specs.Check.{IsFindingsStatus, PrintsFound, PrintsCheck, PrintsFindings};
+ghost use Rattle.cli.specs.Check.{PrintsFindingsOf};
 ghost use Rattle.cli.specs.Json.{PrintsLine};
 
 use crate::load::{file, named_lockfile_of, named_text};
@@ -62,42 +62,42 @@ pub(crate) fn run<R: Files + AllocGlobal, W: Write>(
     options: &ArgMatches<'_>,
     out: &mut W,
 ) -> Result<ExitCode, Fault>
-    ensures { IfOk result (λ status. TellsCheck (found_of options.now)
+    ensures { IfOk result (λ status. PrintsCheck (found_of options.now)
         (W.contents out.old) (W.contents out.new)
         (status ≡ ExitCode.FAILURE) (status ≡ ExitCode.SUCCESS)) }
 {
     let file = named_text(rt, options, "file")?;
     let text = file.as_str();
     let lockfile = named_lockfile_of(rt.alloc(), options, "file", text)?;
-    tell(rt.alloc(), options, text, &lockfile, out)
+    report(rt.alloc(), options, text, &lockfile, out)
 }
 
 /// Prints what is wrong with a lockfile that was read from a text. Returns the status.
-fn tell<W: Write>(
+fn report<W: Write>(
     alloc: Global,
     options: &ArgMatches<'_>,
     text: &str,
     lockfile: &Lockfile,
     out: &mut W,
 ) -> Result<ExitCode, Fault>
-    ensures { IfOk result (λ status. TellsFindingsOf (found_of options.now)
+    ensures { IfOk result (λ status. PrintsFindingsOf (found_of options.now)
         text.now lockfile.now (W.contents out.old) (W.contents out.new)
         (status ≡ ExitCode.FAILURE) (status ≡ ExitCode.SUCCESS)) }
 {
     let findings = Findings::of(alloc, text, lockfile)?;
     let file = file(options, "file", lockfile);
-    tell_findings(alloc, options, &file, &findings, out)
+    report_findings(alloc, options, &file, &findings, out)
 }
 
 /// Prints the findings. Returns the status.
-fn tell_findings<W: Write>(
+fn report_findings<W: Write>(
     alloc: Global,
     options: &ArgMatches<'_>,
     file: &File<'_>,
     findings: &Findings<'_>,
     out: &mut W,
 ) -> Result<ExitCode, Fault>
-    ensures { IfOk result (λ status. TellsFindings (found_of options.now) file.now findings.now
+    ensures { IfOk result (λ status. PrintsFindings (found_of options.now) file.now findings.now
         (W.contents out.old) (W.contents out.new)
         (status ≡ ExitCode.FAILURE) (status ≡ ExitCode.SUCCESS)) }
 {

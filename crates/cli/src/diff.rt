@@ -5,11 +5,11 @@ ghost use Rattle.clap.specs.Matches.{found_of};
 ghost use Rattle.cargo_lock_diff.specs.Change.{change_of, changes_text};
 ghost use Rattle.cargo_lock_json.specs.Difference.{difference_json};
 ghost use Rattle.cargo_lock_json.specs.Text.{IsJsonText};
-ghost use Rattle.cli.specs.Diff.{IsCompared, IsStatus, IsTold, PrintsTold, TellsChanges};
-ghost use Rattle.cli.specs.Diff.{TellsDifference, TellsDifferenceOf, last_line, told_text};
+ghost use Rattle.cli.specs.Diff.{IsStatus, IsTold, PrintsTold, PrintsChanges};
+ghost use Rattle.cli.specs.Diff.{PrintsDifference, PrintsDifferenceOf, last_line, told_text};
 ghost use Rattle.cli.specs.Json.{PrintsLine};
 
-use crate::load::{file, named_lockfile};
+use crate::load::{compared_lockfile, file};
 use cargo_lock::Lockfile;
 use cargo_lock_diff::{Change, Difference, Summary};
 use cargo_lock_json::{File, difference_json};
@@ -78,7 +78,7 @@ pub(crate) fn run<R: Files + AllocGlobal, W: Write>(
     options: &ArgMatches<'_>,
     out: &mut W,
 ) -> Result<ExitCode, Fault>
-    ensures { IfOk result (λ status. TellsDifference (found_of options.now)
+    ensures { IfOk result (λ status. PrintsDifference (found_of options.now)
         (W.contents out.old) (W.contents out.new)
         (status ≡ ExitCode.FAILURE) (status ≡ ExitCode.SUCCESS)) }
 {
@@ -87,42 +87,29 @@ pub(crate) fn run<R: Files + AllocGlobal, W: Write>(
     }
     let old = compared_lockfile(rt, options, "old")?;
     let new = compared_lockfile(rt, options, "new")?;
-    tell(rt.alloc(), options, &old, &new, out)
-}
-
-/// The lockfile whose path the argument `name` has, with the checksums that Cargo reads.
-fn compared_lockfile<R: Files + AllocGlobal>(
-    rt: &R,
-    options: &ArgMatches<'_>,
-    name: &str,
-) -> Result<Lockfile, Fault>
-    ensures { IfOk result IsCompared }
-{
-    let lockfile = named_lockfile(rt, options, name)?;
-    let compared = lockfile.with_cargo_checksums(rt.alloc())?;
-    Ok(compared)
+    report(rt.alloc(), options, &old, &new, out)
 }
 
 /// Prints what differs between the packages of two lockfiles. Returns the status.
-fn tell<W: Write>(
+fn report<W: Write>(
     alloc: Global,
     options: &ArgMatches<'_>,
     old: &Lockfile,
     new: &Lockfile,
     out: &mut W,
 ) -> Result<ExitCode, Fault>
-    ensures { IfOk result (λ status. TellsDifferenceOf (found_of options.now) old.now new.now
+    ensures { IfOk result (λ status. PrintsDifferenceOf (found_of options.now) old.now new.now
         (W.contents out.old) (W.contents out.new)
         (status ≡ ExitCode.FAILURE) (status ≡ ExitCode.SUCCESS)) }
 {
     let difference = Difference::of(alloc, &old.packages, &new.packages)?;
     let before = file(options, "old", old);
     let after = file(options, "new", new);
-    tell_changes(alloc, options, &before, &after, &difference, out)
+    report_changes(alloc, options, &before, &after, &difference, out)
 }
 
 /// Prints the changes of a difference. Returns the status.
-fn tell_changes<W: Write>(
+fn report_changes<W: Write>(
     alloc: Global,
     options: &ArgMatches<'_>,
     before: &File<'_>,
@@ -130,7 +117,7 @@ fn tell_changes<W: Write>(
     difference: &Difference<'_>,
     out: &mut W,
 ) -> Result<ExitCode, Fault>
-    ensures { IfOk result (λ status. TellsChanges (found_of options.now) before.now after.now
+    ensures { IfOk result (λ status. PrintsChanges (found_of options.now) before.now after.now
         difference.now (W.contents out.old) (W.contents out.new)
         (status ≡ ExitCode.FAILURE) (status ≡ ExitCode.SUCCESS)) }
 {

@@ -1,18 +1,15 @@
 //! The command `duplicates`: the names that several packages of a lockfile have.
 ghost use Rattle.std.specs.Prelude.{◌≡◌, IfOk, OnOk, map};
 ghost use Rattle.clap.specs.Matches.{found_of};
-ghost use Rattle.cargo_lock_ask.specs.Tally.{AreGroupsOf, group_of};
+ghost use Rattle.cargo_lock_ask.specs.Tally.{group_of};
 ghost use Rattle.cargo_lock_json.specs.Duplicates.{groups_json};
 ghost use Rattle.cargo_lock_json.specs.Text.{IsJsonText};
-ghost use Rattle.cli.specs.Duplicates.{IsGroupsStatus, PrintsGroups, TellsDuplicates, TellsGroups};
-ghost use Rattle.cli.specs.Duplicates.{TellsGroupsOf};
+ghost use Rattle.cli.specs.Duplicates.{IsGroupsStatus, PrintsDuplicates, PrintsGroups, PrintsNames};
 ghost use Rattle.cli.specs.Json.{PrintsLine};
 
-use crate::load::{file, named_lockfile};
-use crate::tree::tree_of;
-use cargo_lock::Lockfile;
+use crate::load::{file, named_tree};
 use cargo_lock::dependency::graph::Graph;
-use cargo_lock_ask::{Listing, Rows, duplicates};
+use cargo_lock_ask::{Listing, Rows};
 use cargo_lock_json::{File, groups_json};
 use clap::{ArgMatches, Command};
 use cli_support::output::put;
@@ -56,43 +53,28 @@ pub(crate) fn run<R: Files + AllocGlobal, W: Write>(
     options: &ArgMatches<'_>,
     out: &mut W,
 ) -> Result<ExitCode, Fault>
-    ensures { IfOk result (λ status. TellsDuplicates (found_of options.now)
+    ensures { IfOk result (λ status. PrintsDuplicates (found_of options.now)
         (W.contents out.old) (W.contents out.new)
         (status ≡ ExitCode.FAILURE) (status ≡ ExitCode.SUCCESS)) }
 {
-    let lockfile = named_lockfile(rt, options, "file")?;
-    tell(rt.alloc(), options, &lockfile, out)
-}
-
-/// Prints the names that several packages of a lockfile have. Returns the status.
-fn tell<W: Write>(
-    alloc: Global,
-    options: &ArgMatches<'_>,
-    lockfile: &Lockfile,
-    out: &mut W,
-) -> Result<ExitCode, Fault>
-    ensures { IfOk result (λ status. TellsGroupsOf (found_of options.now) lockfile.now
-        (W.contents out.old) (W.contents out.new)
-        (status ≡ ExitCode.FAILURE) (status ≡ ExitCode.SUCCESS)) }
-{
-    let tree = tree_of(alloc, lockfile)?;
-    let file = file(options, "file", lockfile);
-    tell_groups(alloc, options, &file, tree.graph(), out)
+    let (lockfile, tree) = named_tree(rt, options)?;
+    let file = file(options, "file", &lockfile);
+    report_names(rt.alloc(), options, &file, tree.graph(), out)
 }
 
 /// Prints the names that several packages of a graph have. Returns the status.
-fn tell_groups<W: Write>(
+fn report_names<W: Write>(
     alloc: Global,
     options: &ArgMatches<'_>,
     file: &File<'_>,
     graph: &Graph,
     out: &mut W,
 ) -> Result<ExitCode, Fault>
-    ensures { IfOk result (λ status. TellsGroups (found_of options.now) file.now graph.now
+    ensures { IfOk result (λ status. PrintsNames (found_of options.now) file.now graph.now
         (W.contents out.old) (W.contents out.new)
         (status ≡ ExitCode.FAILURE) (status ≡ ExitCode.SUCCESS)) }
 {
-    let listing = listing_of(alloc, graph)?;
+    let listing = Listing::about(alloc, graph)?;
     print_groups(alloc, options, file, &listing, out)?;
     Ok(status(options, &listing))
 }
@@ -130,15 +112,6 @@ fn print_document<W: Write>(
     let text = groups_json(alloc, file, groups)?;
     put(out, format_args!("{text}\n"))?;
     Ok(())
-}
-
-/// The lines of the names that several packages of a graph have.
-fn listing_of<'a>(alloc: Global, graph: &'a Graph) -> Result<Listing<'a>, AllocError>
-    ensures { IfOk result
-        (λ made. AreGroupsOf graph.now (map group_of made.groups.items)) }
-{
-    let groups = duplicates(alloc, graph)?;
-    Listing::of(alloc, graph, &groups)
 }
 
 /// The status for the names that are printed.

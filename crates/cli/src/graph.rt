@@ -3,16 +3,15 @@ ghost use Rattle.std.specs.Prelude.{◌≡◌, ◌<◌, All, IfOk, OnOk, length,
 ghost use Rattle.std.specs.Io.KnownBytes.{Appends};
 ghost use Rattle.clap.specs.Matches.{found_of};
 ghost use Rattle.cargo_lock_ask.specs.Diagram.{diagram_text};
-ghost use Rattle.cli.specs.Graph.{AreBegun, AreFitting, DrawsGraph, DrawsPicture, DrawsPictureOf};
-ghost use Rattle.cli.specs.Graph.{target_in};
+ghost use Rattle.cli.specs.Graph.{AreBegun, AreFitting, DrawsGraph, DrawsPicture, target_in};
 ghost use Rattle.cli.specs.Tree.{given_specs};
 
-use crate::load::named_lockfile;
+use crate::load::named_tree;
 use crate::spec::{some_fitting, specs};
-use crate::tree::{direction, tree_of};
+use crate::tree::direction;
+use cargo_lock::Package;
 use cargo_lock::dependency::Tree;
 use cargo_lock::dependency::graph::{Graph, NodeIndex};
-use cargo_lock::{Lockfile, Package};
 use cargo_lock_ask::{Diagram, Picture, Target, picture_from};
 use clap::{Arg, ArgAction, ArgMatches, Command};
 use cli_support::Fault;
@@ -69,23 +68,14 @@ pub(crate) fn run<R: Files + AllocGlobal, W: Write>(
     ensures { OnOk result
         (DrawsGraph (found_of options.now) (W.contents out.old) (W.contents out.new)) }
 {
-    let lockfile = named_lockfile(rt, options, "file")?;
-    draw(rt.alloc(), options, &lockfile, out)
-}
-
-/// Prints the picture of a lockfile.
-fn draw<W: Write>(
-    alloc: Global,
-    options: &ArgMatches<'_>,
-    lockfile: &Lockfile,
-    out: &mut W,
-) -> Result<(), Fault>
-    ensures { OnOk result (DrawsPictureOf (found_of options.now) lockfile.now
-        (W.contents out.old) (W.contents out.new)) }
-{
-    let tree = tree_of(alloc, lockfile)?;
-    let packages = lockfile.packages.as_slice();
-    draw_tree(alloc, options, packages, &tree, out)
+    let (lockfile, tree) = named_tree(rt, options)?;
+    draw_tree(
+        rt.alloc(),
+        options,
+        lockfile.packages.as_slice(),
+        &tree,
+        out,
+    )
 }
 
 /// Prints the picture of a tree.

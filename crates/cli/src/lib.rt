@@ -1,32 +1,38 @@
 //! The program `cargo-lock` as a library: lists the packages of a lockfile, writes it in another
 //! format, draws its trees, writes its bill of materials, reports what differs between two and what
-//! is wrong with one, says why a package is there and which names several packages have, and writes
-//! a picture of the packages.
+//! is wrong with one, says why a package is there and which names several packages have, writes a
+//! picture of the packages, merges two lockfiles over a third, and compares archives of packages with
+//! their checksums.
 //!
 //! An error is reported in one message on standard error that begins with `*** error: `. The status
-//! is then 2 for `bom`, `check`, `diff`, `duplicates`, `graph` and `why`, which the original does
-//! not have, and 1 for the others. Without an error it is 0, and all of the output was written and
-//! flushed; what `check`, `diff` or `duplicates` found may make it 1.
+//! is then 2 for `bom`, `check`, `diff`, `duplicates`, `graph`, `merge`, `verify` and `why`, which the
+//! original does not have, and 1 for the others. Without an error it is 0, and all of the output was
+//! written and flushed; what `check`, `diff`, `duplicates`, `merge` or `verify` found may make it 1.
 #![tactic(auto)]
 
-ghost use Rattle.std.specs.Prelude.{◌≡◌, ◌⊎◌, IfErr, IfOk, IfSome, map};
+ghost use Rattle.std.specs.Prelude.{◌≡◌, ◌⊎◌, IfErr, IfOk, IfSome, codes, map};
 ghost use Rattle.std.specs.Io.KnownBytes.{Keeps};
 ghost use Rattle.clap.specs.Matches.{found_of};
-ghost use Rattle.cli_support.specs.Status.{IsFaultStatus};
+ghost use Rattle.cli_support.specs.Status.{IsFaultStatus, IsNamed};
 ghost use Rattle.cli.specs.Commands.{Follows, FollowsMatches, name_of};
 
+mod archives;
 mod bom;
 mod check;
 mod diff;
 mod duplicates;
+mod ending;
 mod graph;
 mod list;
 mod load;
+mod merge;
 mod spec;
 mod translate;
 mod tree;
+mod verify;
 mod why;
 
+use crate::ending::Ended;
 use cargo_lock_bom::options::VERSION;
 use clap::{ArgMatches, Command};
 pub use cli_support::Fault;
@@ -41,31 +47,52 @@ use std::rt::Files;
 use std::time::Clock;
 
 /// Runs the command that `words`, the arguments without the program's own name, ask for. Its output
-/// goes to `out`, which is then flushed, and an error goes to `err`, as one message. If it returns
-/// success, nothing was written to `err`; if something was, the status is that of an error.
+/// goes to `out`, which is then flushed, and an error goes to `err`, as one message, as do the lines
+/// of `merge`. For each other command, if it returns success, nothing was written to `err`; if
+/// something was, the status is that of an error.
 pub fn run<R: Files + Env + Clock + AllocGlobal, S: AsStr, W: Write, E: Write>(
     rt: &R,
     words: &[S],
     out: &mut W,
     err: &mut E,
 ) -> ExitCode
-    ensures kept { result ≡ ExitCode.SUCCESS → Keeps (E.contents err.old) (E.contents err.new) }
+    ensures kept { result ≡ ExitCode.SUCCESS → (¬ IsNamed (codes "merge") (map S.text words.now))
+        → Keeps (E.contents err.old) (E.contents err.new) }
     ensures fault { (Keeps (E.contents err.old) (E.contents err.new))
-        ⊎ IsFaultStatus (map S.text words.now) result }
+        ⊎ (IsNamed (codes "merge") (map S.text words.now)
+        ⊎ IsFaultStatus (map S.text words.now) result) }
 {
-    ended(err, words, execute(rt, words, out))
+    status_of(err, words, execute(rt, words, out))
 }
 
-/// Returns the status of a finished command. If the command failed, prints the message of the
-/// error, and returns the status of an error of the command.
-fn ended<S: AsStr, E: Write>(err: &mut E, words: &[S], outcome: Result<ExitCode, Fault>) -> ExitCode
-    ensures ok { IfOk outcome (λ status.
-        (result ≡ status) × Keeps (E.contents err.old) (E.contents err.new)) }
+/// Returns the status of a finished command, and prints the lines of `merge`. If the command failed,
+/// prints the message of the error, and returns the status of an error of the command.
+fn status_of<S: AsStr, E: Write>(
+    err: &mut E,
+    words: &[S],
+    outcome: Result<Ended, Fault>,
+) -> ExitCode
+    ensures status { IfOk outcome (λ ended. result ≡ ended.status) }
+    ensures ok { IfOk outcome (λ _. (Keeps (E.contents err.old) (E.contents err.new))
+        ⊎ IsNamed (codes "merge") (map S.text words.now)) }
     ensures fault { IfErr outcome (λ _. IsFaultStatus (map S.text words.now) result) }
 {
     match outcome {
-        Ok(status) => status,
+        Ok(ended) => {
+            if words::name_command(words, "merge") {
+                put_lines(err, &ended);
+            }
+            ended.status
+        }
         Err(fault) => report(err, &fault, status::of_fault(words)),
+    }
+}
+
+/// Prints the lines of a finished command. A writer that fails has what it took of them.
+fn put_lines<E: Write>(err: &mut E, ended: &Ended) {
+    if let Some(lines) = &ended.lines {
+        let _ = output::put_all(err, lines.as_bytes());
+        let _ = err.flush();
     }
 }
 
@@ -79,25 +106,25 @@ pub fn report<E: Write>(err: &mut E, fault: &Fault, status: ExitCode) -> ExitCod
 }
 
 /// Reads the arguments, and runs their command or prints the help or the version that they ask for.
-/// Returns the status.
+/// Returns how it ended.
 fn execute<R: Files + Env + Clock + AllocGlobal, S: AsStr, W: Write>(
     rt: &R,
     words: &[S],
     out: &mut W,
-) -> Result<ExitCode, Fault> {
+) -> Result<Ended, Fault> {
     let words = words::with_command(rt.alloc(), words)?;
-    let status = match parser(rt.alloc())?.try_get_matches_from(words.as_slice()) {
+    let ended = match parser(rt.alloc())?.try_get_matches_from(words.as_slice()) {
         Ok(matches) => dispatch(rt, &matches, out)?,
         Err(error) => {
             if error.use_stderr() {
                 return Err(Fault::from(error));
             }
             output::put(out, format_args!("{error}"))?;
-            ExitCode::SUCCESS
+            Ended::silent(ExitCode::SUCCESS)
         }
     };
     out.flush()?;
-    Ok(status)
+    Ok(ended)
 }
 
 /// The parser of the arguments. If an option is given more than once, the last value counts, and a
@@ -116,7 +143,9 @@ fn parser<'a>(alloc: Global) -> Result<Command<'a>, AllocError> {
         .subcommand(check::command(alloc)?)?
         .subcommand(why::command(alloc)?)?
         .subcommand(duplicates::command(alloc)?)?
-        .subcommand(graph::command(alloc)?)
+        .subcommand(graph::command(alloc)?)?
+        .subcommand(merge::command(alloc)?)?
+        .subcommand(verify::command(alloc)?)
 }
 
 /// A command.
@@ -128,8 +157,10 @@ enum Chosen {
     Duplicates,
     Graph,
     List,
+    Merge,
     Translate,
     Tree,
+    Verify,
     Why,
 }
 
@@ -144,22 +175,24 @@ fn command_named(name: &str) -> Option<Chosen>
         "duplicates" => Some(Chosen::Duplicates),
         "graph" => Some(Chosen::Graph),
         "list" => Some(Chosen::List),
+        "merge" => Some(Chosen::Merge),
         "translate" => Some(Chosen::Translate),
         "tree" => Some(Chosen::Tree),
+        "verify" => Some(Chosen::Verify),
         "why" => Some(Chosen::Why),
         _ => None,
     }
 }
 
-/// Runs the command that the parser found. Returns the status.
+/// Runs the command that the parser found. Returns how it ended.
 fn dispatch<R: Files + Env + Clock + AllocGlobal, W: Write>(
     rt: &R,
     matches: &ArgMatches<'_>,
     out: &mut W,
-) -> Result<ExitCode, Fault>
-    ensures { IfOk result (λ status. FollowsMatches matches.now
+) -> Result<Ended, Fault>
+    ensures { IfOk result (λ ended. FollowsMatches matches.now
         (W.contents out.old) (W.contents out.new)
-        (status ≡ ExitCode.FAILURE) (status ≡ ExitCode.SUCCESS)) }
+        (ended.status ≡ ExitCode.FAILURE) (ended.status ≡ ExitCode.SUCCESS)) }
 {
     let Some((name, options)) = matches.subcommand() else {
         return Err(Fault::NoCommand);
@@ -170,44 +203,70 @@ fn dispatch<R: Files + Env + Clock + AllocGlobal, W: Write>(
     }
 }
 
-/// Runs a command with its options. Returns the status.
+/// Runs a command with its options. Returns how it ended.
 fn follow<R: Files + Env + Clock + AllocGlobal, W: Write>(
     rt: &R,
     command: Chosen,
     options: &ArgMatches<'_>,
     out: &mut W,
-) -> Result<ExitCode, Fault>
-    ensures { IfOk result (λ status. Follows command (found_of options.now)
+) -> Result<Ended, Fault>
+    ensures { IfOk result (λ ended. Follows command (found_of options.now)
         (W.contents out.old) (W.contents out.new)
-        (status ≡ ExitCode.FAILURE) (status ≡ ExitCode.SUCCESS)) }
+        (ended.status ≡ ExitCode.FAILURE) (ended.status ≡ ExitCode.SUCCESS)) }
 {
     match command {
         Chosen::Bom => {
             bom::run(rt, options, out)?;
-            Ok(ExitCode::SUCCESS)
+            Ok(Ended::silent(ExitCode::SUCCESS))
         }
-        Chosen::Check => check::run(rt, options, out),
-        Chosen::Diff => diff::run(rt, options, out),
-        Chosen::Duplicates => duplicates::run(rt, options, out),
+        Chosen::Check => {
+            let status = check::run(rt, options, out)?;
+            Ok(Ended {
+                status,
+                lines: None,
+            })
+        }
+        Chosen::Diff => {
+            let status = diff::run(rt, options, out)?;
+            Ok(Ended {
+                status,
+                lines: None,
+            })
+        }
+        Chosen::Duplicates => {
+            let status = duplicates::run(rt, options, out)?;
+            Ok(Ended {
+                status,
+                lines: None,
+            })
+        }
         Chosen::Graph => {
             graph::run(rt, options, out)?;
-            Ok(ExitCode::SUCCESS)
+            Ok(Ended::silent(ExitCode::SUCCESS))
         }
         Chosen::List => {
             list::run(rt, options, out)?;
-            Ok(ExitCode::SUCCESS)
+            Ok(Ended::silent(ExitCode::SUCCESS))
         }
+        Chosen::Merge => merge::run(rt, options, out),
         Chosen::Translate => {
             translate::run(rt, options, out)?;
-            Ok(ExitCode::SUCCESS)
+            Ok(Ended::silent(ExitCode::SUCCESS))
         }
         Chosen::Tree => {
             tree::run(rt, options, out)?;
-            Ok(ExitCode::SUCCESS)
+            Ok(Ended::silent(ExitCode::SUCCESS))
+        }
+        Chosen::Verify => {
+            let status = verify::run(rt, options, out)?;
+            Ok(Ended {
+                status,
+                lines: None,
+            })
         }
         Chosen::Why => {
             why::run(rt, options, out)?;
-            Ok(ExitCode::SUCCESS)
+            Ok(Ended::silent(ExitCode::SUCCESS))
         }
     }
 }

@@ -4,8 +4,12 @@ ghost use Rattle.clap.specs.Matches.{found_of};
 ghost use Rattle.cargo_lock.specs.Loads.{IsMeant};
 ghost use Rattle.cargo_lock_encoding.specs.Means.{TextMeans};
 ghost use Rattle.cli.specs.Json.{file_of};
+ghost use Rattle.cli.specs.Diff.{IsCompared};
 ghost use Rattle.cli.specs.Load.{IsOfLockfile};
+ghost use Rattle.cli.specs.Tree.{IsGraphOf};
 
+use crate::tree::tree_of;
+use cargo_lock::dependency::Tree;
 use cargo_lock::{Error, Lockfile};
 use cargo_lock_json::File;
 use clap::ArgMatches;
@@ -51,6 +55,42 @@ pub(crate) fn named_lockfile<R: Files + AllocGlobal>(
         Ok(lockfile) => Ok(lockfile),
         Err(fault) => Err(named(rt.alloc(), options, name, fault)),
     }
+}
+
+/// The lockfile whose path the argument `name` has, with the checksums that Cargo reads. Fails if it
+/// is not read, with the path in the error.
+pub(crate) fn compared_lockfile<R: Files + AllocGlobal>(
+    rt: &R,
+    options: &ArgMatches<'_>,
+    name: &str,
+) -> Result<Lockfile, Fault>
+    ensures { IfOk result IsCompared }
+{
+    let lockfile = named_lockfile(rt, options, name)?;
+    let compared = lockfile.with_cargo_checksums(rt.alloc())?;
+    Ok(compared)
+}
+
+/// The lockfile of an empty text, which has no packages.
+pub(crate) fn lockfile_without_packages(alloc: Global) -> Result<Lockfile, Fault>
+    ensures { IfOk result IsCompared }
+{
+    let lockfile = lockfile_of(alloc, "")?;
+    let compared = lockfile.with_cargo_checksums(alloc)?;
+    Ok(compared)
+}
+
+/// The lockfile at the path of the option `file`, and its tree. Fails if it is not read, with the
+/// path in the error, or if no package matches a dependency.
+pub(crate) fn named_tree<R: Files + AllocGlobal>(
+    rt: &R,
+    options: &ArgMatches<'_>,
+) -> Result<(Lockfile, Tree), Fault>
+    ensures { IfOk result (λ read. IsMeant read.0 × IsGraphOf read.0 read.1.graph) }
+{
+    let lockfile = named_lockfile(rt, options, "file")?;
+    let tree = tree_of(rt.alloc(), &lockfile)?;
+    Ok((lockfile, tree))
 }
 
 /// The text of the lockfile at the path of the option `name`. Fails if it is not read, with the

@@ -10,7 +10,7 @@ ghost use Rattle.cli.specs.Tree.{AreDrawn, AreStarts, IsDrawn, IsGraphOf, Prints
 ghost use Rattle.cli.specs.Tree.{PrintsTreesOf, after_empty_lines, direction_of, given_specs};
 
 use crate::load::lockfile;
-use crate::spec::{Spec, specs};
+use crate::spec::{some_fitting, specs};
 use cargo_lock::dependency::Tree;
 use cargo_lock::dependency::graph::{EdgeDirection, NodeIndex};
 use cargo_lock::{Dependency, Error, Lockfile, Package};
@@ -156,10 +156,18 @@ fn start_of(
 ) -> Result<NodeIndex, Fault>
     ensures { IfOk result (λ start. start < length tree.now.graph.packages) }
 {
-    let parsed = Spec::parse(alloc, spec)?;
-    match first_fitting(alloc, packages, &parsed)? {
+    let fitting = some_fitting(alloc, packages, spec)?;
+    match first_of(packages, &fitting) {
         Some(package) => node_of(alloc, tree, package, spec),
         None => Err(Fault::of_spec(alloc, spec)),
+    }
+}
+
+/// The package of the first of some nodes.
+fn first_of<'p>(packages: &'p [Package], nodes: &[NodeIndex]) -> Option<&'p Package> {
+    match nodes.first() {
+        Some(node) => packages.get(node.index()),
+        None => None,
     }
 }
 
@@ -172,19 +180,6 @@ fn node_of(alloc: Global, tree: &Tree, package: &Package, spec: &str) -> Result<
         Some(node) => Ok(*node),
         None => Err(Fault::of_spec(alloc, spec)),
     }
-}
-
-fn first_fitting<'p>(
-    alloc: Global,
-    packages: &'p [Package],
-    spec: &Spec<'_>,
-) -> Result<Option<&'p Package>, Fault> {
-    for package in packages {
-        if spec.fits(alloc, package)? {
-            return Ok(Some(package));
-        }
-    }
-    Ok(None)
 }
 
 /// Prints the trees of nodes, with an empty line between two of them.

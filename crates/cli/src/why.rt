@@ -5,14 +5,13 @@ ghost use Rattle.cargo_lock_ask.specs.Lines.{answer_of};
 ghost use Rattle.cargo_lock_json.specs.Text.{IsJsonText};
 ghost use Rattle.cargo_lock_json.specs.Why.{answers_json};
 ghost use Rattle.cli.specs.Json.{PrintsLine};
-ghost use Rattle.cli.specs.Why.{AreAsked, PrintsAnswers, TellsAnswers, TellsAnswersOf, TellsWhy};
+ghost use Rattle.cli.specs.Why.{AreAsked, PrintsAnswers, PrintsAsked, PrintsWhy};
 ghost use Rattle.cli.specs.Why as spec;
 
-use crate::load::{file, named_lockfile};
+use crate::load::{file, named_tree};
 use crate::spec::some_fitting;
-use crate::tree::tree_of;
+use cargo_lock::Package;
 use cargo_lock::dependency::graph::Graph;
-use cargo_lock::{Lockfile, Package};
 use cargo_lock_ask::{Answer, Answers};
 use cargo_lock_json::{File, answers_json};
 use clap::{Arg, ArgAction, ArgMatches, Command};
@@ -71,30 +70,16 @@ pub(crate) fn run<R: Files + AllocGlobal, W: Write>(
     out: &mut W,
 ) -> Result<(), Fault>
     ensures { OnOk result
-        (TellsWhy (found_of options.now) (W.contents out.old) (W.contents out.new)) }
+        (PrintsWhy (found_of options.now) (W.contents out.old) (W.contents out.new)) }
 {
-    let lockfile = named_lockfile(rt, options, "file")?;
-    tell(rt.alloc(), options, &lockfile, out)
-}
-
-/// Prints why packages of a lockfile are there.
-fn tell<W: Write>(
-    alloc: Global,
-    options: &ArgMatches<'_>,
-    lockfile: &Lockfile,
-    out: &mut W,
-) -> Result<(), Fault>
-    ensures { OnOk result (TellsAnswersOf (found_of options.now) lockfile.now
-        (W.contents out.old) (W.contents out.new)) }
-{
-    let tree = tree_of(alloc, lockfile)?;
-    let file = file(options, "file", lockfile);
+    let (lockfile, tree) = named_tree(rt, options)?;
+    let file = file(options, "file", &lockfile);
     let packages = lockfile.packages.as_slice();
-    tell_answers(alloc, options, &file, packages, tree.graph(), out)
+    report_answers(rt.alloc(), options, &file, packages, tree.graph(), out)
 }
 
 /// Prints why packages of a graph are there.
-fn tell_answers<W: Write>(
+fn report_answers<W: Write>(
     alloc: Global,
     options: &ArgMatches<'_>,
     file: &File<'_>,
@@ -103,7 +88,7 @@ fn tell_answers<W: Write>(
     out: &mut W,
 ) -> Result<(), Fault>
     requires { packages.now ≡ graph.now.packages }
-    ensures { OnOk result (TellsAnswers (found_of options.now) file.now graph.now
+    ensures { OnOk result (PrintsAsked (found_of options.now) file.now graph.now
         (W.contents out.old) (W.contents out.new)) }
 {
     let answers = asked(alloc, options, packages, graph)?;

@@ -49,6 +49,10 @@ pub enum Fault {
     #[error("error: standard input cannot be both lockfiles\n")]
     OneInput,
 
+    /// A lockfile cannot be merged, for this reason.
+    #[error("error: {0}\n")]
+    Refused(String),
+
     /// No package matches a specification.
     #[error("error: invalid dependency name: `{0}`\n")]
     Spec(String),

@@ -27,5 +27,7 @@ fn is_own(word: &str) -> bool
         || word == "diff"
         || word == "duplicates"
         || word == "graph"
+        || word == "merge"
+        || word == "verify"
         || word == "why"
 }

@@ -1,5 +1,5 @@
 //! The arguments of the program.
-ghost use Rattle.std.specs.Prelude.{◌≡◌, IfErr, IfSome, None, Some, codes, map, option_map};
+ghost use Rattle.std.specs.Prelude.{◌≡◌, ◌↔◌, IfErr, IfSome, IsTrue, None, Some, codes, map, option_map};
 ghost use Rattle.std.specs.Path.{path_bytes};
 ghost use Rattle.clap.specs.Matches.{first_value, found_of};
 ghost use Rattle.cli_support.specs.Destination.{IsPrinted};
@@ -54,7 +54,9 @@ pub fn with_command<'a, S: AsStr>(
 }
 
 /// Whether the arguments name this command.
-pub fn name_command<S: AsStr>(words: &[S], command: &str) -> bool {
+pub fn name_command<S: AsStr>(words: &[S], command: &str) -> bool
+    ensures { IsTrue result ↔ spec.IsNamed command.now (map S.text words.now) }
+{
     match without_lock(words).first() {
         Some(first) => first.as_str() == command,
         None => false,

@@ -5,9 +5,9 @@ ghost use Rattle.std.specs.Prelude.{◌<◌, All, length};
 
 use cargo_lock::dependency::Tree;
 use cargo_lock::dependency::graph::{EdgeDirection, Graph, NodeIndex};
-use cargo_lock::{Error, ResolveVersion};
+use cargo_lock::{Error, Lockfile, ResolveVersion};
 use cargo_lock_ask::{
-    Answer, Answers, Diagram, Listing, Rows, Target, chains_of_each, duplicates, needers,
+    Answer, Answers, Diagram, Listing, Rows, Target, chains_of_each, duplicates, fitting, needers,
     picture_from, shortest_chain, why, why_each,
 };
 use cargo_lock_json::{File, answers_json, groups_json};
@@ -95,6 +95,14 @@ fn print_nothing(rt: &HostRuntime, graph: &Graph) -> Result<(), Error> {
     Ok(())
 }
 
+/// Prints how many packages a specification fits.
+pub fn print_fitting(rt: &HostRuntime, lockfile: &Lockfile) -> Result<(), Error> {
+    let nodes = fitting(rt.alloc(), &lockfile.packages, "tracing@0.1.35")?;
+    let count = nodes.len();
+    println!(rt; "packages that fit: {count}")?;
+    Ok(())
+}
+
 /// Prints the names that several packages have.
 pub fn print_names(rt: &HostRuntime, tree: &Tree) -> Result<(), Error> {
     let groups = duplicates(rt.alloc(), tree.graph())?;
@@ -103,8 +111,14 @@ pub fn print_names(rt: &HostRuntime, tree: &Tree) -> Result<(), Error> {
         println!(rt; "{rows}")?;
     }
     let listing = Listing::of(rt.alloc(), tree.graph(), &groups)?;
-    print!(rt; "{listing}")?;
+    print_listing(rt, tree)?;
     print_names_document(rt, &listing)
+}
+
+fn print_listing(rt: &HostRuntime, tree: &Tree) -> Result<(), Error> {
+    let listing = Listing::about(rt.alloc(), tree.graph())?;
+    print!(rt; "{listing}")?;
+    Ok(())
 }
 
 fn print_names_document(rt: &HostRuntime, listing: &Listing<'_>) -> Result<(), Error> {

@@ -160,6 +160,7 @@ fn print_nodes(rt: &HostRuntime, lockfile: &Lockfile) -> Result<(), Error> {
 fn print_asked(rt: &HostRuntime, lockfile: &Lockfile) -> Result<(), Error> {
     let tree = Tree::new(rt.alloc(), lockfile)?;
     println!(rt; "\nreasons:")?;
+    asked::print_fitting(rt, lockfile)?;
     asked::print_reasons(rt, &tree)?;
     println!(rt; "\nseveral packages of one name:")?;
     asked::print_names(rt, &tree)?;

@@ -6,8 +6,8 @@ use Rattle.std.proofs.lemmas.List.Sorted.{Contains-permutation, IsPermutation-sy
 use Rattle.std.proofs.lemmas.Map.Keys.{IsStrictlyIncreasing-dedup}
 use Rattle.cargo_lock_ask.proofs.need.ends_once.Goals as goal
 
-pub returns : goal.returns
-returns c =
+pub returns-clause-places : goal.returns-clause-places
+returns-clause-places c =
     let graph = c.args.graph.now in
     let is = dedup_is _ _ _ c.dedup.ensures.filtered in
     let moved = c.sort_unstable.ensures.permutation in
@@ -24,3 +24,6 @@ returns c =
         λ h. rw is (Contains-dedup_nat _ k (Contains-permutation _ _ k moved (subst (λ (xs : List ℕ). Contains xs k) (sym found) h.1))),
       );
     }
+
+pub returns-clause-within : goal.returns-clause-within
+returns-clause-within c = subst (λ (ks : List ℕ). All (λ (k : ℕ). k < length c.args.graph.now.packages) ks) c.in_ok-ends.ensures.are c.in_ok-ends.ensures.within

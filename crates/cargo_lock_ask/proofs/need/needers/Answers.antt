@@ -13,4 +13,4 @@ returns c =
     let graph = c.args.graph.now in
     let node = c.args.node in
     IfOk-weaker c.ends_once.result _ _ (λ v h. places-alike (Contains (far_ends Incoming graph.edges node)) (λ (k : ℕ). Contains (needs graph k) node) (length graph.packages) v.items
-    (sources-needers graph node) (needers-sources graph node) h) c.ends_once.ensures
+    (sources-needers graph node) (needers-sources graph node) h) c.ends_once.ensures.places

@@ -9,7 +9,7 @@ returns-in_ok-add_arrows c =
     let node : ℕ = c.args.node in
     let old : List Arrow = c.args.arrows.now.items in
     node-put c.args.graph.now c.args.marks.now node c.in_ok-targets.targets.items old c.add_arrows.new.arrows.items c.requires.count
-    (marked-is c.args.marks.now node (sym c.is_marked.ensures ∙ c.if-is_marked.true)) c.in_ok-targets.ensures
+    (marked-is c.args.marks.now node (sym c.is_marked.ensures ∙ c.if-is_marked.true)) c.in_ok-targets.ensures.places
     (c.in_ok-add_arrows.ensures ∙ ap (λ (ts : List ℕ). old ++ arrows_to c.args.marks.now node ts) c.deref.ensures.value) c.requires.arrows
 
 pub returns-else-is_marked : goal.returns-else-is_marked

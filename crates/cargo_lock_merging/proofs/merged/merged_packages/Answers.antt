@@ -6,7 +6,8 @@ use Rattle.cargo_lock_merging.specs.Kept.{AreSoFar}
 use Rattle.cargo_lock_merging.specs.Merge.{lockfiles_of}
 use Rattle.cargo_lock_merging.specs.Merged.{IsMergedEntry, IsUnsettled}
 use Rattle.cargo_lock_merging.specs.Reach.{IsMarked}
-use Rattle.cargo_lock_merging.proofs.SoFar.{entry-settled, no-merge, so-far-end, so-far-pass, so-far-push, so-far-start}
+use Rattle.cargo_lock_merging.proofs.Conflicting.{some-conflict}
+use Rattle.cargo_lock_merging.proofs.SoFar.{entry-settled, in-place, no-merge, so-far-end, so-far-pass, so-far-push, so-far-start}
 use Rattle.cargo_lock_merging.proofs.merged.merged_packages.Goals as goal
 use Rattle.cargo_lock_merging.proofs.merged.merged_packages.Goals.{then-is_marked+in_ok-merged+in-Some+in_ok-push-in-Some, else-is_marked}
 
@@ -63,5 +64,15 @@ returns-clause-merge c = λ s h.
     let end = c.loop-at-test.false in
     so-far-end s plan h c.loop-at.at c.loop-at.all.items (c.loop-at.invariant s h) (let is = ap (λ (es : List Entry). length es) c.deref-entry-items.ensures.value in omega (arith, end, is))
 
-pub returns-clause-ascending : goal.returns-clause-ascending
-returns-clause-ascending c = λ s h. (c.loop-at.invariant s h).ascending
+pub returns-clause-in_place : goal.returns-clause-in_place
+returns-clause-in_place c = λ s h. in-place s c.args.plan.now h c.loop-at.at c.loop-at.all.items (c.loop-at.invariant s h)
+
+pub returns-in-None-clause-conflict : goal.returns-in-None-clause-conflict
+returns-in-None-clause-conflict c = λ s h.
+    let plan : Plan = c.args.plan.now in
+    let i = c.loop-at.at in
+    let e : Entry = c.entry-item.result in
+    let at = there plan.entries.items c.deref-entry-items.result.now i e c.deref-entry-items.ensures.value c.loop-at-test.true c.entry-item.is in
+    let none = unmatched c.in_ok-merged.field-0 (IsUnsettled e.chosen) (IsMergedEntry e) c.in-None.is (c.in_ok-merged.ensures (lockfiles_of s) (entry-settled s plan h i e at.0 at.1)) in
+    let marked = subst (λ (bs : List Bool). IsMarked bs i) c.deref.ensures.value (c.is_marked.ensures.0 c.if-is_marked.true) in
+    some-conflict s plan h i e at.0 at.1 marked none

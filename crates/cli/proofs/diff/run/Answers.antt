@@ -3,10 +3,10 @@ use Rattle.cli.proofs.diff.run.Goals as goal
 
 pub returns : goal.returns
 returns g c =
-    if_ok_weaken c.tell.result _ _ (λ status told. (
+    if_ok_weaken c.report.result _ _ (λ status told. (
       c.in_ok-old.old,
       c.in_ok-new.new,
       c.in_ok-old.ensures,
       c.in_ok-new.ensures,
       told,
-    )) c.tell.ensures
+    )) c.report.ensures

@@ -5,7 +5,7 @@ use Rattle.cargo_lock_ask.specs.Lines.{answer_of}
 use Rattle.cargo_lock_ask.specs.Places.{IsPlaces}
 use Rattle.cargo_lock_ask.proofs.Placing.{places-within}
 use Rattle.cargo_lock_parts.specs.Identity.{PackageData}
-use Rattle.cli.specs.Spec.{Fits}
+use Rattle.cargo_lock_ask.specs.Spec.{Fits}
 use Rattle.cli.specs.Why.{given_spec}
 use Rattle.cli.proofs.Flags.{flag-said}
 use Rattle.cli.proofs.why.asked.Goals as goal

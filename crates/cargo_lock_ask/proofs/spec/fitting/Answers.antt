@@ -1,0 +1,25 @@
+use Rattle.std.proofs.Common.{◌∙◌, ◌++◌, ◌∷◌, [], ℕ, List, ap, arith, length, refl}
+use Rattle.cargo_lock_ask.proofs.Placing.{places-end}
+use Rattle.cargo_lock_ask.specs.Spec.{Fits, SpecData, fits}
+use Rattle.cargo_lock_ask.proofs.Specified.{fitting-tested}
+use Rattle.cargo_lock_ask.proofs.spec.fitting.Goals as goal
+use Rattle.cargo_lock_ask.proofs.spec.fitting.Goals.{then-branch+in_ok-push, else-branch}
+
+pub loop-place-preserved : goal.loop-place-preserved
+loop-place-preserved c =
+    let l = c.loop-place in
+    let p = c.index-packages-place.result in
+    let before : List ℕ = l.fitting.items in
+    fitting-tested c.args.spec.now c.args.packages.now l.place p c.in_ok-fits.field-0 before _
+    c.loop-place-test.true c.index-packages-place.is (c.in_ok-fits.ensures ∙ ap (λ (s : SpecData). fits s p) c.in_ok-parsed.ensures)
+    (elim c.if-branch.branch [
+      | then-branch+in_ok-push w ↦ rw (w.fitting-is, w.if-branch.true) (w.in_ok-push.ensures.items ∙ ap (λ (k : ℕ). before ++ k ∷ []) w.new.ensures)
+      | else-branch w ↦ rw (w.fitting-is, w.if-branch.false) refl
+    ]) l.invariant
+
+pub returns : goal.returns
+returns c =
+    let packages = c.args.packages.now in
+    let past = c.loop-place-test.false in
+    let before = c.loop-place.auto.place-end in
+    places-end (Fits c.args.spec.now packages) c.loop-place.place (length packages) c.loop-place.fitting.items c.loop-place.invariant (omega (arith, past, before))

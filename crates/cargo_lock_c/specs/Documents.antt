@@ -1,0 +1,65 @@
+-- Documents of JSON about a lockfile, as callers get them: as the program prints them for the
+-- lockfile on standard input.
+use Rattle.std.specs.Prelude.{◌≡◌, ◌≢◌, ◌++◌, ◌∷◌, ℕ, Bool, List, [], codes, length}
+use Rattle.cargo_lock_ask.specs.Answers.{AreAnswers}
+use Rattle.cargo_lock_ask.specs.Lines.{AnswerData}
+use Rattle.cargo_lock_ask.specs.Places.{IsPlaces}
+use Rattle.cargo_lock_ask.specs.Spec.{Fits}
+use Rattle.cargo_lock_ask.specs.Tally.{AreGroupsOf, GroupData}
+use Rattle.cargo_lock_parts.specs.Ascii.{newline}
+use Rattle.cargo_lock_graph.specs.Edges.{GraphData}
+use Rattle.cargo_lock_graph.specs.Targets.{AreEdgesOf}
+use Rattle.cargo_lock_encoding.specs.Lockfiles.{LockfileData}
+use Rattle.cargo_lock_encoding.specs.Means.{TextMeans}
+use Rattle.cargo_lock_json.specs.Duplicates.{groups_json}
+use Rattle.cargo_lock_json.specs.File.{FileData}
+use Rattle.cargo_lock_json.specs.Text.{IsJsonText}
+use Rattle.cargo_lock_json.specs.Why.{answers_json}
+
+-- the lockfile as a document has it: its path is that of standard input
+abbrev pub file_of : LockfileData → FileData
+file_of l = record { path = codes "-"; format = l.version }
+
+-- a text for which this holds, and a newline
+abbrev pub IsLine : (List ℕ → Type 0) → List ℕ → Type 0
+IsLine Holds bytes = (text : List ℕ) × Holds text × (bytes ≡ text ++ newline ∷ [])
+
+-- the graph is that of the lockfile
+pub record IsGraphOf (l : LockfileData) (graph : GraphData) : Type 0 where
+  pub packages : graph.packages ≡ l.packages
+  pub edges : AreEdgesOf l.packages graph.edges
+
+-- ---- why
+
+-- The bytes are the document of why packages of a graph are there: those that the specification
+-- fits, which is one at least, each by a shortest chain or by one from each start that leads to it.
+pub record IsWhyOf (l : LockfileData) (graph : GraphData) (spec : List ℕ) (is_each : Bool)
+    (bytes : List ℕ) : Type 0 where
+  pub nodes : List ℕ
+  pub answers : List AnswerData
+  pub fitting : IsPlaces (Fits spec graph.packages) (length graph.packages) nodes
+  pub some : nodes ≢ []
+  pub answered : AreAnswers is_each graph nodes answers
+  pub printed : IsLine (IsJsonText (answers_json (file_of l) answers)) bytes
+
+-- the text is that of a lockfile, and these bytes are that document of its graph
+abbrev pub IsWhyText : List ℕ → (spec : List ℕ) → (is_each : Bool) → List ℕ → Type 0
+IsWhyText text spec is_each bytes = (l : LockfileData) × (graph : GraphData) × TextMeans text l
+    × IsGraphOf l graph × IsWhyOf l graph spec is_each bytes
+
+-- the text is that of a lockfile, and the specification fits none of its packages
+abbrev pub FitsNone : List ℕ → (spec : List ℕ) → Type 0
+FitsNone text spec = (l : LockfileData) × TextMeans text l
+    × ((place : ℕ) → ¬ Fits spec l.packages place)
+
+-- ---- duplicates
+
+-- the bytes are the document of the names that several packages of a graph have
+abbrev pub IsDuplicatesOf : LockfileData → GraphData → List ℕ → Type 0
+IsDuplicatesOf l graph bytes = (groups : List GroupData) × AreGroupsOf graph groups
+    × IsLine (IsJsonText (groups_json (file_of l) groups)) bytes
+
+-- the text is that of a lockfile, and these bytes are that document of its graph
+abbrev pub IsDuplicatesText : List ℕ → List ℕ → Type 0
+IsDuplicatesText text bytes = (l : LockfileData) × (graph : GraphData) × TextMeans text l
+    × IsGraphOf l graph × IsDuplicatesOf l graph bytes

@@ -1,0 +1,189 @@
+-- The lines of conflicts, of moved references and of refusals.
+use Rattle.std.specs.Prelude.{◌≡◌, ℕ, Bool, List, [], ◌∷◌, ◌++◌, codes, false, map, Option, Some, None, is_some, option_map, string_bytes}
+use Rattle.std.specs.Prelude.{if◌then◌else◌}
+use Rattle.std.specs.Borrow.{Bor}
+use Rattle.std.specs.List.{flat_map}
+use Rattle.std.specs.Str.Lines.{lines}
+use Rattle.cargo_lock_parts.specs.Ascii.{newline}
+use Rattle.cargo_lock_parts.specs.Identity.{PackageData, identity_of}
+use Rattle.cargo_lock_parts.specs.IdentityOrder.{is_same_identity}
+use Rattle.cargo_lock_parts.specs.Source.{Source}
+use Rattle.cargo_lock_merging.specs.declared.commits.SourceCommits.{SourceCommits}
+use Rattle.cargo_lock_merging.specs.declared.conflicts.Conflict as merging
+use Rattle.cargo_lock_merging.specs.declared.conflicts.Kind.{Kind}
+use Rattle.cargo_lock_merging.specs.declared.conflicts.Kind.TheVariants as kind
+use Rattle.cargo_lock_merging.specs.declared.moved.Reference.{Reference}
+use Rattle.cargo_lock_merging.specs.declared.refusal.Refusal.{Refusal}
+use Rattle.cargo_lock_merging.specs.declared.refusal.Refusal.TheVariants.{Lost, OnePlace, TwoCommits}
+use Rattle.cargo_lock_merging.specs.declared.refusal.Refusal.TheVariants.{Unreplaced}
+use Rattle.cargo_lock_merging.specs.declared.triple.Role.{Role}
+use Rattle.cargo_lock_merging.specs.declared.triple.Role.TheVariants as role
+use Rattle.cargo_lock_merge.specs.declared.conflict.Conflict.{Conflict}
+use Rattle.cargo_lock_merge.specs.declared.conflict.Conflict.TheVariants.{AtPlace, OfSource}
+use Rattle.cargo_lock_merge.specs.declared.conflict.Line.{Line}
+use Rattle.cargo_lock_merge.specs.declared.conflict.Subject.{Subject}
+use Rattle.cargo_lock_merge.specs.declared.conflict.Subject.TheVariants as subject
+use Rattle.cargo_lock_merge.specs.declared.moved.Moved.{Moved}
+use Rattle.cargo_lock_merge.specs.declared.words.Value.{Value}
+use Rattle.cargo_lock_merge.specs.declared.words.Value.TheVariants as value
+use Rattle.cargo_lock_merge.specs.declared.words.Values.{Values}
+use Rattle.cargo_lock_merge.specs.Words.{bare_text, commit_text, named_text, source_behind}
+use Rattle.cargo_lock_merge.specs.Words.{values_text, with_commit_text}
+use Rattle.shown.specs.Shown.{shown}
+use Rattle.shown.specs.declared.form.Form.TheVariants.{Plain, Quoted}
+
+-- ---- conflicts
+
+-- what the conflict is about
+abbrev pub subject_text : Subject → List ℕ
+subject_text (subject.Package p) = shown Plain p.now.name
+subject_text (subject.Source p) = codes "source of " ++ shown Plain p.now.name
+subject_text (subject.Checksum p) = codes "checksum of " ++ named_text p.now
+subject_text (subject.Replacement p) = codes "replacement of " ++ named_text p.now
+subject_text subject.Nothing = codes "none"
+
+-- a commit that may be absent
+abbrev pub commit_value : Option (Bor Source) → Value
+commit_value None = value.Absent
+commit_value (Some s) = value.Commit s
+
+-- the commits of a source, after an old one
+abbrev pub commit_values : Option (Bor Source) → SourceCommits → Values
+commit_values old c = record {
+  old = option_map value.Commit old;
+  ours = commit_value c.ours;
+  theirs = commit_value c.theirs;
+}
+
+-- none
+abbrev pub absent : Values
+absent = record { old = None; ours = value.Absent; theirs = value.Absent }
+
+-- the package, if it has the identity of another one
+abbrev pub same_if : Option (Bor PackageData) → PackageData → Option (Bor PackageData)
+same_if None q = None
+same_if (Some p) q = if is_same_identity (identity_of p.now) (identity_of q) then Some p else None
+
+-- the checksum of a package, if it has one
+abbrev pub checksum_value : Option (Bor PackageData) → Option Value
+checksum_value None = None
+checksum_value (Some p) = if is_some p.now.checksum then Some (value.Checksum p) else None
+
+-- the replacement of a package, if it has one
+abbrev pub replacement_value : Option (Bor PackageData) → Option Value
+replacement_value None = None
+replacement_value (Some p) = if is_some p.now.replace then Some (value.Replacement p) else None
+
+-- of a package that one side alone has, at another commit of its source than the merged one
+abbrev pub source_line : Bor PackageData → Option SourceCommits → Line
+source_line p None = record { subject = subject.Source p; values = absent }
+source_line p (Some c) = record { subject = subject.Source p; values = commit_values None c }
+
+-- what a conflict of this kind is about, and what the three have, where the sides have these packages
+abbrev pub line_by : Kind → Option (Bor PackageData) → Option (Bor PackageData) → merging.Conflict
+    → Line
+line_by kind.Package (Some o) (Some t) c = record {
+  subject = subject.Package o;
+  values = record {
+    old = option_map value.Version c.base;
+    ours = value.Version o;
+    theirs = value.Version t;
+  };
+}
+line_by kind.Package (Some o) None c = source_line o c.source
+line_by kind.Package None (Some t) c = source_line t c.source
+line_by kind.Checksum (Some o) (Some t) c = record {
+  subject = subject.Checksum o;
+  values = record {
+    old = checksum_value (same_if c.base o.now);
+    ours = value.Checksum o;
+    theirs = value.Checksum t;
+  };
+}
+line_by kind.Replacement (Some o) (Some t) c = record {
+  subject = subject.Replacement o;
+  values = record {
+    old = replacement_value (same_if c.base o.now);
+    ours = value.Replacement o;
+    theirs = value.Replacement t;
+  };
+}
+line_by kind o t c = record { subject = subject.Nothing; values = absent }
+
+-- the same of the conflict
+abbrev pub line_of : merging.Conflict → Line
+line_of c = line_by c.kind c.ours c.theirs c
+
+-- the line of a conflict
+abbrev pub conflict_line : Conflict → List ℕ
+conflict_line (AtPlace c) = codes "conflict: " ++ (subject_text (line_of c).subject
+    ++ (codes ": " ++ values_text (line_of c).values))
+conflict_line (OfSource c) = codes "conflict: " ++ (bare_text c.source.now
+    ++ (codes ": " ++ values_text (commit_values c.base c)))
+
+-- ---- moved references
+
+-- both packages of a reference, with their sources or without
+abbrev pub moved_text : Reference → Bool → List ℕ
+moved_text r with_sources = if with_sources
+    then with_commit_text r.from.now ++ (source_behind r.from.now.source ++ (codes " on "
+    ++ (with_commit_text r.to.now ++ source_behind r.to.now.source)))
+    else with_commit_text r.from.now ++ (codes " on " ++ with_commit_text r.to.now)
+
+-- the references that the sides have at the places
+abbrev pub before_text : Option Reference → Option Reference → List ℕ
+before_text None None = []
+before_text (Some o) None = codes " (ours: " ++ (moved_text o false ++ codes ")")
+before_text None (Some t) = codes " (theirs: " ++ (moved_text t false ++ codes ")")
+before_text (Some o) (Some t) = codes " (ours: " ++ (moved_text o false ++ (codes ", theirs: "
+    ++ (moved_text t false ++ codes ")")))
+
+-- the line of a moved reference
+abbrev pub moved_line : Moved → List ℕ
+moved_line r = codes "moved: " ++ (moved_text r.found.merged r.with_sources
+    ++ before_text r.found.ours r.found.theirs)
+
+-- ---- refusals
+
+-- the part of a lockfile
+abbrev pub role_text : Role → List ℕ
+role_text role.Base = codes "base"
+role_text role.Ours = codes "ours"
+role_text role.Theirs = codes "theirs"
+
+-- two packages at one place, which may have one identity
+abbrev pub one_place_text : PackageData → PackageData → List ℕ
+one_place_text p q = if is_same_identity (identity_of p) (identity_of q)
+    then codes "package " ++ (named_text p ++ codes " is listed twice")
+    else codes "packages " ++ (named_text p ++ (codes " and " ++ (named_text q ++ codes
+    " are at one place")))
+
+-- why a lockfile is refused
+abbrev pub reason_text : Refusal → List ℕ
+reason_text (OnePlace p q) = one_place_text p.now q.now
+reason_text (TwoCommits a b) = bare_text a.now ++ (codes " is at " ++ (commit_text a.now.precise
+    ++ (codes " and " ++ commit_text b.now.precise)))
+reason_text (Unreplaced p) = codes "no package is the replacement of " ++ named_text p.now
+reason_text (Lost text) = shown Quoted (string_bytes text)
+
+-- the line of a refusal
+abbrev pub refused_line : Role → Refusal → List ℕ
+refused_line part refusal = role_text part ++ (codes ": " ++ reason_text refusal)
+
+-- ---- laws
+
+-- each conflict is exactly one line, whatever its names, versions, sources and checksums hold
+abbrev pub ConflictsAreLines : Type 0
+ConflictsAreLines = (conflicts : List Conflict)
+    → lines (flat_map (λ c. conflict_line c ++ newline ∷ []) conflicts) ≡ map conflict_line conflicts
+
+-- so is each moved reference
+abbrev pub MovedAreLines : Type 0
+MovedAreLines = (moved : List Moved)
+    → lines (flat_map (λ r. moved_line r ++ newline ∷ []) moved) ≡ map moved_line moved
+
+-- so is each refusal, with the part of the lockfile
+abbrev pub RefusalsAreLines : Type 0
+RefusalsAreLines = (refusals : List (Role × Refusal))
+    → lines (flat_map (λ r. refused_line r.0 r.1 ++ newline ∷ []) refusals)
+    ≡ map (λ r. refused_line r.0 r.1) refusals

@@ -1,0 +1,108 @@
+-- The parts of the lines of conflicts, of moved references and of refusals.
+use Rattle.std.specs.Prelude.{ℕ, List, [], ◌++◌, codes, Option, Some, None, false, if◌then◌else◌, take, true}
+use Rattle.std.specs.Char.{encode_utf8}
+use Rattle.std.specs.List.{flat_map}
+use Rattle.std.specs.Str.{chars}
+use Rattle.semver.specs.Identifiers.{parts_text}
+use Rattle.url.specs.Parts.{serialize}
+use Rattle.cargo_lock_parts.specs.Checksum.{digest_text}
+use Rattle.cargo_lock_parts.specs.Identity.{Identity, PackageData}
+use Rattle.cargo_lock_parts.specs.Source.{Branch, DefaultBranch, Directory, Git, GitReference, Kind}
+use Rattle.cargo_lock_parts.specs.Source.{LocalRegistry, Path, Registry, Rev, Source}
+use Rattle.cargo_lock_parts.specs.Source.{SparseRegistry, Tag, is_git}
+use Rattle.cargo_lock_parts.specs.SourceText.{pair_text, text_of}
+use Rattle.cargo_lock_merge.specs.declared.words.Value.{Value}
+use Rattle.cargo_lock_merge.specs.declared.words.Value.TheVariants.{Absent, Checksum, Commit}
+use Rattle.cargo_lock_merge.specs.declared.words.Value.TheVariants.{Replacement, Version}
+use Rattle.cargo_lock_merge.specs.declared.words.Values.{Values}
+use Rattle.shown.specs.Shown.{shown}
+use Rattle.shown.specs.declared.form.Form.TheVariants.{Plain}
+
+-- the first eight characters of a text
+unfoldable pub start_of : List ℕ → List ℕ
+start_of text = flat_map encode_utf8 (take 8 (chars text))
+
+-- the name and the version
+abbrev pub named_text : PackageData → List ℕ
+named_text p = shown Plain p.name ++ (codes " " ++ shown Plain (parts_text p.version))
+
+-- the beginning of a commit, after `#`, if there is one
+abbrev pub mark_of : Option (List ℕ) → List ℕ
+mark_of None = []
+mark_of (Some commit) = codes "#" ++ shown Plain (start_of commit)
+
+-- that of a git source
+abbrev pub commit_mark : Option Source → List ℕ
+commit_mark None = []
+commit_mark (Some s) = if is_git s.kind then mark_of s.precise else []
+
+-- the name, the version and the beginning of the commit
+abbrev pub with_commit_text : PackageData → List ℕ
+with_commit_text p = named_text p ++ commit_mark p.source
+
+-- the same of an identity
+abbrev pub identity_text : Identity → List ℕ
+identity_text i = shown Plain i.name
+    ++ (codes " " ++ (shown Plain (parts_text i.version) ++ commit_mark i.source))
+
+-- the beginning of a commit, or `none`
+abbrev pub commit_text : Option (List ℕ) → List ℕ
+commit_text None = codes "none"
+commit_text (Some commit) = shown Plain (start_of commit)
+
+-- the source in round brackets, if there is one
+abbrev pub source_behind : Option Source → List ℕ
+source_behind None = []
+source_behind (Some s) = codes " (" ++ (shown Plain (text_of false s) ++ codes ")")
+
+-- the reference of a git source, after `?`
+abbrev pub reference_text : GitReference → List ℕ
+reference_text DefaultBranch = []
+reference_text (Tag value) = codes "?" ++ shown Plain (pair_text true (Tag value))
+reference_text (Branch value) = codes "?" ++ shown Plain (pair_text true (Branch value))
+reference_text (Rev value) = codes "?" ++ shown Plain (pair_text true (Rev value))
+
+-- the same of a kind
+abbrev pub query_of : Kind → List ℕ
+query_of (Git reference) = reference_text reference
+query_of Path = []
+query_of Registry = []
+query_of SparseRegistry = []
+query_of LocalRegistry = []
+query_of Directory = []
+
+-- a git source without its commit
+abbrev pub bare_text : Source → List ℕ
+bare_text s = codes "git+" ++ (shown Plain (serialize s.url) ++ query_of s.kind)
+
+-- a checksum, or `none`
+abbrev pub checksum_text : Option (List ℕ) → List ℕ
+checksum_text None = codes "none"
+checksum_text (Some digest) = shown Plain (digest_text digest)
+
+-- a replacement, or `none`
+abbrev pub replacement_text : Option Identity → List ℕ
+replacement_text None = codes "none"
+replacement_text (Some i) = identity_text i
+
+-- what the base or a side has
+abbrev pub value_text : Value → List ℕ
+value_text (Version p) = shown Plain (parts_text p.now.version)
+value_text (Commit s) = commit_text s.now.precise
+value_text (Checksum p) = checksum_text p.now.checksum
+value_text (Replacement p) = replacement_text p.now.replace
+value_text Absent = codes "none"
+
+-- what ours and theirs have
+abbrev pub both_text : Value → Value → List ℕ
+both_text ours theirs = value_text ours
+    ++ (codes " (ours), " ++ (value_text theirs ++ codes " (theirs)"))
+
+-- what the base has, if that is shown, and what ours and theirs have
+abbrev pub values_by : Option Value → Value → Value → List ℕ
+values_by None ours theirs = both_text ours theirs
+values_by (Some old) ours theirs = value_text old ++ (codes " -> " ++ both_text ours theirs)
+
+-- the same of all three
+abbrev pub values_text : Values → List ℕ
+values_text v = values_by v.old v.ours v.theirs

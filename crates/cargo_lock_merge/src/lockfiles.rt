@@ -1,0 +1,322 @@
+//! The merge of lockfiles.
+
+ghost use Rattle.std.specs.Prelude.{◌≡◌, IfErr, IfOk, IsOkUnless, OnOk};
+ghost use Rattle.std.specs.Bool.{Decides};
+ghost use Rattle.cargo_lock.specs.CargoChecksums.{with_cargo_checksums_in};
+ghost use Rattle.cargo_lock_merge.specs.MergedLockfiles.{HaveNoRoots, IsMergeError, IsMergedLockfile};
+ghost use Rattle.cargo_lock_merge.specs.MergedLockfiles.{IsMetadataMergeOf, IsRestOf, IsSameLockfile};
+ghost use Rattle.cargo_lock_merge.specs.MergedLockfiles.{IsUnread, LockfileTriple, MergesTo, TextIsOf};
+ghost use Rattle.cargo_lock_merge.specs.MergedLockfiles.{is_same_but_metadata, lockfile_of};
+ghost use Rattle.cargo_lock_merge.specs.MergedLockfiles.{packages_of, triple_of};
+ghost use Rattle.cargo_lock_merge.specs.Outcome.{Finds, IsFound};
+ghost use Rattle.cargo_lock_parts.specs.declared.error.Error.TheVariants.{Memory};
+
+use crate::conflict::Conflict;
+use crate::format::later_format;
+use crate::metadata::{
+    MetadataConflict, MetadataMerge, MetadataSides, merge_metadata, own_metadata,
+};
+use crate::moved::Moved;
+use crate::outcome::{Outcome, merge};
+use crate::patches::merge_patches;
+use crate::referring::refer_as_cargo;
+use cargo_lock::{Error, Lockfile, MetadataKey, ResolveVersion};
+use cargo_lock_merging::refusal::Refusal;
+use cargo_lock_merging::triple::{Role, Stop};
+use cargo_lock_parts::error;
+use cargo_lock_parts::package::Package;
+use cargo_lock_parts::patch::Patch;
+use std::alloc::Global;
+use std::collections::BTreeMap;
+
+/// Why lockfiles are not merged.
+#[derive(Drop)]
+pub enum MergeError<'a> {
+    /// Memory ran out.
+    Memory,
+
+    /// The lockfile with this part has a root apart from its packages, as old lockfiles have it.
+    Root(Role),
+
+    /// The packages of the lockfile with this part cannot be merged.
+    Refused(Role, Refusal<'a>),
+}
+
+impl<'a> From<Error> for MergeError<'a> {
+    ghost use Rattle.std.specs.Prelude.{◌≡◌};
+    ghost use Rattle.cargo_lock_merge.specs.declared.lockfiles.MergeError.TheVariants.{Memory};
+
+    ghost from_gives = { λ _ fault. fault ≡ Memory };
+
+    fn from(_: Error) -> MergeError<'a> {
+        MergeError::Memory
+    }
+}
+
+/// What a merge of lockfiles is.
+#[derive(Drop)]
+pub enum LockfileMerge<'a> {
+    /// The merged lockfile, its text, and the references that the merge moved.
+    Merged(Lockfile, String, Vec<Moved<'a>>),
+
+    /// The sides are in conflict.
+    InConflict(LockfileConflicts<'a>),
+}
+
+/// What the sides of a merge are in conflict about.
+#[derive(Drop)]
+pub struct LockfileConflicts<'a> {
+    /// What is at places, and the commits of git sources.
+    pub packages: Vec<Conflict<'a>>,
+
+    /// The keys of the metadata whose values are.
+    pub metadata: BTreeMap<MetadataKey, MetadataConflict>,
+
+    /// The format of the merge, if the text of the merge in it does not read back as the merge.
+    pub format: Option<ResolveVersion>,
+}
+
+// The parts of a merge besides its packages.
+#[derive(Drop)]
+struct Rest {
+    version: ResolveVersion,
+    metadata: MetadataMerge,
+    patch: Patch,
+}
+
+/// The merge of two lockfiles over their base, its text and the references that the merge moved, or
+/// the conflicts.
+///
+/// The merge has the later format of both sides. Its packages are those of `merge`, with their
+/// references as Cargo writes them: one in full has no commit. An unused patch is there if both sides have it, or if one side has it and the base has not. The metadata besides
+/// the checksums of packages are those that the three agree on, key by key. If the text of the
+/// merge does not read back as the merge, that is a conflict too: no text has both the replacement
+/// and the dependencies of a package.
+///
+/// The checksums of packages in V1 are those in the packages, so call `with_cargo_checksums` for
+/// each lockfile first.
+///
+/// `MergeError::Root` and `MergeError::Refused` say which of the lockfiles cannot be merged, and
+/// why. The other error is `MergeError::Memory`.
+pub fn merge_lockfiles<'a>(
+    alloc: Global,
+    base: &'a Lockfile,
+    ours: &'a Lockfile,
+    theirs: &'a Lockfile,
+) -> Result<LockfileMerge<'a>, MergeError<'a>>
+    ensures ok { IfOk result (MergesTo (triple_of base.now ours.now theirs.now)) }
+    ensures err { IfErr result (IsMergeError (triple_of base.now ours.now theirs.now)) }
+{
+    refuse_roots(base, ours, theirs)?;
+    let outcome = merged_packages(alloc, base, ours, theirs)?;
+    let rest = rest_of(alloc, base, ours, theirs)?;
+    Ok(joined(alloc, outcome, rest)?)
+}
+
+// Refuses a lockfile with a root apart from its packages.
+fn refuse_roots<'a>(
+    base: &Lockfile,
+    ours: &Lockfile,
+    theirs: &Lockfile,
+) -> Result<(), MergeError<'a>>
+    ensures ok { OnOk result (HaveNoRoots (triple_of base.now ours.now theirs.now)) }
+    ensures err { IfErr result (IsMergeError (triple_of base.now ours.now theirs.now)) }
+{
+    if base.root.is_some() {
+        return Err(MergeError::Root(Role::Base));
+    }
+    if ours.root.is_some() {
+        return Err(MergeError::Root(Role::Ours));
+    }
+    if theirs.root.is_some() {
+        return Err(MergeError::Root(Role::Theirs));
+    }
+    Ok(())
+}
+
+// The merged packages, or their conflicts.
+fn merged_packages<'a>(
+    alloc: Global,
+    base: &'a Lockfile,
+    ours: &'a Lockfile,
+    theirs: &'a Lockfile,
+) -> Result<Outcome<'a>, MergeError<'a>>
+    ensures ok { IfOk result (Finds (packages_of (triple_of base.now ours.now theirs.now))) }
+    ensures err { IfErr result (IsMergeError (triple_of base.now ours.now theirs.now)) }
+{
+    match merge(alloc, &base.packages, &ours.packages, &theirs.packages) {
+        Ok(outcome) => Ok(outcome),
+        Err(Stop::Memory) => Err(MergeError::Memory),
+        Err(Stop::Refused(role, refusal)) => Err(MergeError::Refused(role, refusal)),
+    }
+}
+
+// The other parts of the merge.
+fn rest_of(
+    alloc: Global,
+    base: &Lockfile,
+    ours: &Lockfile,
+    theirs: &Lockfile,
+) -> error::Result<Rest>
+    ensures ok { IfOk result (IsRestOf (triple_of base.now ours.now theirs.now)) }
+    ensures err { IsOkUnless result Memory }
+{
+    let metadata = metadata_of(alloc, base, ours, theirs)?;
+    let patch = merge_patches(alloc, &base.patch, &ours.patch, &theirs.patch)?;
+    Ok(Rest {
+        version: later_format(ours.version, theirs.version),
+        metadata,
+        patch,
+    })
+}
+
+// The merged metadata.
+fn metadata_of(
+    alloc: Global,
+    base: &Lockfile,
+    ours: &Lockfile,
+    theirs: &Lockfile,
+) -> error::Result<MetadataMerge>
+    ensures ok { IfOk result
+        (IsMetadataMergeOf (triple_of base.now ours.now theirs.now)) }
+    ensures err { IsOkUnless result Memory }
+{
+    let base = own_metadata(alloc, base)?;
+    let ours = own_metadata(alloc, ours)?;
+    let theirs = own_metadata(alloc, theirs)?;
+    merge_metadata(
+        alloc,
+        &MetadataSides {
+            base: &base,
+            ours: &ours,
+            theirs: &theirs,
+        },
+    )
+}
+
+// The lockfile of these parts, or the conflicts.
+fn joined<'a>(alloc: Global, outcome: Outcome<'a>, rest: Rest) -> error::Result<LockfileMerge<'a>>
+    ensures ok { IfOk result (λ merge. (s : LockfileTriple) → HaveNoRoots s
+        → Finds (packages_of s) outcome.entry → IsRestOf s rest → MergesTo s merge) }
+    ensures err { IsOkUnless result Memory }
+{
+    match outcome {
+        Outcome::Merged(packages, moved) => joined_packages(alloc, packages, moved, rest),
+        Outcome::Conflicts(packages) => Ok(LockfileMerge::InConflict(LockfileConflicts {
+            packages,
+            metadata: rest.metadata.conflicts,
+            format: None,
+        })),
+    }
+}
+
+// The same with merged packages.
+fn joined_packages<'a>(
+    alloc: Global,
+    packages: Vec<Package>,
+    moved: Vec<Moved<'a>>,
+    rest: Rest,
+) -> error::Result<LockfileMerge<'a>>
+    ensures ok { IfOk result (λ merge. (s : LockfileTriple) → HaveNoRoots s
+        → IsFound (packages_of s) packages.items moved.entry.items → IsRestOf s rest
+        → MergesTo s merge) }
+    ensures err { IsOkUnless result Memory }
+{
+    if rest.metadata.conflicts.is_empty() {
+        let packages = refer_as_cargo(alloc, rest.version, &packages)?;
+        with_text(alloc, lockfile_of(packages, rest), moved)
+    } else {
+        Ok(LockfileMerge::InConflict(LockfileConflicts {
+            packages: Vec::new(alloc),
+            metadata: rest.metadata.conflicts,
+            format: None,
+        }))
+    }
+}
+
+// The lockfile of these parts.
+fn lockfile_of(packages: Vec<Package>, rest: Rest) -> Lockfile
+    ensures { result ≡ lockfile_of packages.items rest }
+{
+    let Rest {
+        version,
+        metadata,
+        patch,
+    } = rest;
+    Lockfile {
+        version,
+        packages,
+        root: None,
+        metadata: metadata.agreed,
+        patch,
+    }
+}
+
+// The lockfile with its text, if that reads back as it.
+fn with_text<'a>(
+    alloc: Global,
+    lockfile: Lockfile,
+    moved: Vec<Moved<'a>>,
+) -> error::Result<LockfileMerge<'a>>
+    ensures ok { IfOk result (λ merge. (s : LockfileTriple)
+        → IsMergedLockfile s lockfile moved.entry.items → MergesTo s merge) }
+    ensures err { IsOkUnless result Memory }
+{
+    let text = lockfile.to_string(alloc)?;
+    if reads_back(alloc, &lockfile, text.as_str())? {
+        Ok(LockfileMerge::Merged(lockfile, text, moved))
+    } else {
+        Ok(LockfileMerge::InConflict(LockfileConflicts {
+            packages: Vec::new(alloc),
+            metadata: BTreeMap::new(alloc),
+            format: Some(lockfile.version),
+        }))
+    }
+}
+
+// Whether the text reads back as the lockfile, with the checksums that Cargo reads.
+fn reads_back(alloc: Global, lockfile: &Lockfile, text: &str) -> error::Result<bool>
+    ensures ok { IfOk result (λ back. Decides back (TextIsOf lockfile.now text.now)) }
+    ensures err { IsOkUnless result Memory }
+{
+    match Lockfile::from_str(alloc, text) {
+        Ok(read) => is_read_as(alloc, read, lockfile),
+        Err(fault) => {
+            if is_unread(&fault) {
+                Ok(false)
+            } else {
+                Err(Error::Memory)
+            }
+        }
+    }
+}
+
+// Whether the error says that a text is no lockfile.
+fn is_unread(fault: &Error) -> bool
+    ensures { Decides result (IsUnread fault.now) }
+{
+    match fault {
+        Error::Parse(_) => !fault.is_too_long(),
+        _ => false,
+    }
+}
+
+// Whether what was read is the lockfile, with the checksums that Cargo reads.
+fn is_read_as(alloc: Global, read: Lockfile, lockfile: &Lockfile) -> error::Result<bool>
+    ensures ok { IfOk result (λ same. Decides same
+        (IsSameLockfile (with_cargo_checksums_in read) lockfile.now)) }
+    ensures err { IsOkUnless result Memory }
+{
+    let read = read.with_cargo_checksums(alloc)?;
+    Ok(are_same(&read, lockfile))
+}
+
+// Whether two lockfiles have the same format and equal packages, roots and unused patches.
+fn are_same(one: &Lockfile, other: &Lockfile) -> bool
+    ensures { result ≡ is_same_but_metadata one.now other.now }
+{
+    u32::from(one.version) == u32::from(other.version)
+        && one.packages == other.packages
+        && one.root == other.root
+        && one.patch == other.patch
+}

@@ -1,0 +1,258 @@
+//! The references that a merge moved.
+
+ghost use Rattle.std.specs.Prelude.{◌≡◌, ◌<◌, ◌⊎◌, IfOk, IsOkUnless, OnOk, length, map};
+ghost use Rattle.std.specs.Bool.{Decides};
+ghost use Rattle.std.specs.List.Sorted.{IsPermutation};
+ghost use Rattle.cargo_lock_parts.specs.declared.error.Error.TheVariants.{Memory};
+ghost use Rattle.cargo_lock_merging.specs.Kept.{AreInPlace};
+ghost use Rattle.cargo_lock_merging.specs.Merged.{merged_data};
+ghost use Rattle.cargo_lock_merging.specs.Moved.{AreListed};
+ghost use Rattle.cargo_lock_merging.specs.Numbered.{all_data};
+ghost use Rattle.cargo_lock_merge.specs.Moved.{AreMarked, AreMovedReferences, AreNamed, HasNamesake};
+
+use crate::words::{SourceBehind, WithCommit};
+use cargo_lock_check::{dependency_order, package_order};
+use cargo_lock_graph::versions::Versions;
+use cargo_lock_merging::merged::Merged;
+use cargo_lock_merging::moved::{Moved as Found, Reference, moved_references};
+use cargo_lock_merging::placed::{Placed, cmp_identities};
+use cargo_lock_parts::dependency::Dependency;
+use cargo_lock_parts::error::Result;
+use cargo_lock_parts::package::Package;
+use std::alloc::{AllocError, Global};
+use std::cmp::Ordering;
+use std::fmt;
+
+/// A reference that a merge moved: a merged package depends on another one with a source, and
+/// neither side has this dependency.
+#[derive(Clone, Copy)]
+pub struct Moved<'a> {
+    found: Found<'a>,
+    with_sources: bool,
+}
+
+impl<'a> Moved<'a> {
+    /// The reference, between a package of a side with the identity of each merged one.
+    pub fn merged(&self) -> Reference<'a>
+        ensures { result ≡ self.now.found.merged }
+    {
+        self.found.merged
+    }
+
+    /// The reference that ours has between the packages at the places of the merged ones, if it has
+    /// one.
+    pub fn ours(&self) -> Option<Reference<'a>>
+        ensures { result ≡ self.now.found.ours }
+    {
+        self.found.ours
+    }
+
+    /// The one that theirs has.
+    pub fn theirs(&self) -> Option<Reference<'a>>
+        ensures { result ≡ self.now.found.theirs }
+    {
+        self.found.theirs
+    }
+}
+
+/// The references that a merge moved, in the order of the packages. The one error is `Memory`.
+pub(crate) fn moved_of<'a>(
+    alloc: Global,
+    merged: &[Merged<'a>],
+    ours: &[Placed<'a, '_>],
+    theirs: &[Placed<'a, '_>],
+    packages: &[Package],
+) -> Result<Vec<Moved<'a>>>
+    requires merged { AreInPlace merged.now }
+    requires ours { AreListed (all_data ours.now) }
+    requires theirs { AreListed (all_data theirs.now) }
+    ensures ok { IfOk result (λ all. AreMovedReferences (all_data ours.now) (all_data theirs.now)
+        (map merged_data merged.now) packages.now all.items) }
+    ensures err { IsOkUnless result Memory }
+{
+    let mut found = moved_references(alloc, merged, ours, theirs)?;
+    order_moved(alloc, &mut found)?;
+    let named = with_identities(alloc, &found)?;
+    Ok(marked(alloc, &named, packages)?)
+}
+
+// A reference with the identities of its merged packages.
+#[derive(Drop)]
+struct Named<'a> {
+    found: Found<'a>,
+    from: Dependency,
+    to: Dependency,
+}
+
+// The references with their identities.
+fn with_identities<'a>(alloc: Global, found: &[Found<'a>]) -> Result<Vec<Named<'a>>>
+    ensures ok { IfOk result (λ all. AreNamed found.now all.items) }
+    ensures err { IsOkUnless result Memory }
+{
+    let mut all = Vec::with_capacity(alloc, found.len())?;
+    for one in found {
+        let from = Dependency::of(one.merged.from)?;
+        let to = Dependency::of(one.merged.to)?;
+        all.push(Named {
+            found: *one,
+            from,
+            to,
+        })?;
+    }
+    Ok(all)
+}
+
+// The references, each with whether its line has sources.
+fn marked<'a, 'd>(
+    alloc: Global,
+    named: &'d [Named<'a>],
+    packages: &'d [Package],
+) -> std::result::Result<Vec<Moved<'a>>, AllocError>
+    ensures { IfOk result (λ all. AreMarked packages.now named.now all.items) }
+{
+    let versions = Versions::of(alloc, packages)?;
+    let mut all = Vec::with_capacity(alloc, named.len())?;
+    for one in named {
+        all.push(Moved {
+            found: one.found,
+            with_sources: have_namesake(&versions, one),
+        })?;
+    }
+    Ok(all)
+}
+
+// Whether another package has the name and the version of one of the two.
+fn have_namesake<'a, 'd>(versions: &Versions<'d>, one: &'d Named<'a>) -> bool
+    ensures { Decides result
+        (HasNamesake versions.now one.now.from ⊎ HasNamesake versions.now one.now.to) }
+{
+    has_namesake(versions, &one.from) || has_namesake(versions, &one.to)
+}
+
+// Whether several packages have the name and the version of the identity.
+fn has_namesake<'d>(versions: &Versions<'d>, identity: &'d Dependency) -> bool
+    ensures { Decides result (HasNamesake versions.now identity.now) }
+{
+    match versions.last(identity) {
+        Some(at) => versions.before(at).is_some(),
+        None => false,
+    }
+}
+
+// Puts references in the order of their packages.
+fn order_moved(alloc: Global, list: &mut Vec<Found<'_>>) -> Result<()>
+    ensures ok { OnOk result (IsPermutation list.old.items list.new.items) }
+    ensures err { IsOkUnless result Memory }
+{
+    list.sort_by(|one, other| cmp_moved(one, other))?;
+    for at in 1..list.len() {
+        sink_moved(alloc, list, at)?;
+    }
+    Ok(())
+}
+
+fn cmp_moved(one: &Found, other: &Found) -> Ordering {
+    cmp_identities(one.merged.from, other.merged.from).then(cmp_identities(
+        one.merged.to,
+        other.merged.to,
+    ))
+}
+
+// Moves a reference towards the front, past those after which it comes.
+fn sink_moved(alloc: Global, list: &mut Vec<Found<'_>>, from: usize) -> Result<()>
+    requires { from < length list.old.items }
+    ensures ok { OnOk result (IsPermutation list.old.items list.new.items) }
+    ensures err { IsOkUnless result Memory }
+{
+    let mut at = from;
+    while at > 0 {
+        let order = moved_order(alloc, &list[at - 1], &list[at])?;
+        if order != Ordering::Greater {
+            return Ok(());
+        }
+        list.swap(at - 1, at);
+        at -= 1;
+    }
+    Ok(())
+}
+
+// The order in which Cargo writes two references.
+fn moved_order(alloc: Global, one: &Found, other: &Found) -> Result<Ordering>
+    ensures { IsOkUnless result Memory }
+{
+    let order = package_order(alloc, one.merged.from, other.merged.from)?;
+    if order != Ordering::Equal {
+        return Ok(order);
+    }
+    let one = Dependency::of(one.merged.to)?;
+    let other = Dependency::of(other.merged.to)?;
+    Ok(dependency_order(alloc, &one, &other)?)
+}
+
+impl fmt::Display for Moved<'_> {
+    ghost use Rattle.std.specs.Prelude.{Some};
+    ghost use Rattle.cargo_lock_merge.specs.Lines.{moved_line};
+
+    ghost output = { λ moved. Some (moved_line moved) };
+
+    fn fmt<W: fmt::Write>(&self, f: &mut fmt::Formatter<W>) -> fmt::Result {
+        let reference = ReferenceText(self.found.merged, self.with_sources);
+        let before = Before(self.found.ours, self.found.theirs);
+        write!(f, "moved: {reference}{before}")
+    }
+}
+
+// Both packages of a reference, each with its source if that is asked.
+#[derive(Clone, Copy)]
+struct ReferenceText<'a>(Reference<'a>, bool);
+
+impl fmt::Display for ReferenceText<'_> {
+    ghost use Rattle.std.specs.Prelude.{Some};
+    ghost use Rattle.cargo_lock_merge.specs.Lines.{moved_text};
+
+    ghost output = { λ shown. Some (moved_text shown.0 shown.1) };
+
+    fn fmt<W: fmt::Write>(&self, f: &mut fmt::Formatter<W>) -> fmt::Result {
+        let ReferenceText(reference, with_sources) = *self;
+        let Reference { from, to } = reference;
+        let from_text = WithCommit(from);
+        let to_text = WithCommit(to);
+        if with_sources {
+            let from_source = SourceBehind(&from.source);
+            let to_source = SourceBehind(&to.source);
+            return write!(f, "{from_text}{from_source} on {to_text}{to_source}");
+        }
+        write!(f, "{from_text} on {to_text}")
+    }
+}
+
+// The references that the sides have at the places of a moved one, in round brackets.
+#[derive(Clone, Copy)]
+struct Before<'a>(Option<Reference<'a>>, Option<Reference<'a>>);
+
+impl fmt::Display for Before<'_> {
+    ghost use Rattle.std.specs.Prelude.{Some};
+    ghost use Rattle.cargo_lock_merge.specs.Lines.{before_text};
+
+    ghost output = { λ shown. Some (before_text shown.0 shown.1) };
+
+    fn fmt<W: fmt::Write>(&self, f: &mut fmt::Formatter<W>) -> fmt::Result {
+        let Before(ours, theirs) = *self;
+        match (ours, theirs) {
+            (None, None) => Ok(()),
+            (Some(ours), None) => {
+                let ours = ReferenceText(ours, false);
+                write!(f, " (ours: {ours})")
+            }
+            (None, Some(theirs)) => {
+                let theirs = ReferenceText(theirs, false);
+                write!(f, " (theirs: {theirs})")
+            }
+            (Some(ours), Some(theirs)) => {
+                let ours = ReferenceText(ours, false);
+                let theirs = ReferenceText(theirs, false);
+                write!(f, " (ours: {ours}, theirs: {theirs})")
+            }
+        }
+    }
+}

@@ -1,0 +1,137 @@
+//! The command `verify`: whether the archives of packages are those that a lockfile names.
+ghost use Rattle.std.specs.Prelude.{◌≡◌, IfOk, map};
+ghost use Rattle.clap.specs.Matches.{found_of};
+ghost use Rattle.cargo_lock_verify.specs.Archives.{subject_of};
+ghost use Rattle.cli.specs.Verify.{AreSubjectsOf, PrintsReport, PrintsVerified};
+ghost use Rattle.cli.specs.Verify.{PrintsVerifiedOf};
+
+use crate::archives::Archives;
+use crate::load::compared_lockfile;
+use cargo_lock::Lockfile;
+use cargo_lock::package::Package;
+use cargo_lock_verify::{Report, Subject};
+use clap::{Arg, ArgAction, ArgMatches, Command};
+use cli_support::output::put;
+use cli_support::words::{any_size, long_flag};
+use cli_support::{Fault, words};
+use std::alloc::{AllocError, Global};
+use std::io::Write;
+use std::process::ExitCode;
+use std::rt::Files;
+
+/// The lines of `verify`, as help shows them.
+const VERIFY_HELP: &str = "\
+The archive of a package is NAME-VERSION.crate, in FOLDER or in a folder in it. Each package with a \
+checksum has an archive with that SHA-256, or a line:
+  ! NAME VERSION SRC: `PATH` is DIGEST, not CHECKSUM    none has it, and this is one of them
+  - NAME VERSION SRC: no archive                        with --all
+The last line is how many packages have one. Cargo compares an archive with its checksum once, when \
+it downloads it. The status is 1 where a line is printed for a package, and 2 where the lockfile or \
+an archive cannot be read.";
+
+/// The options, as help shows them.
+const CACHE_HELP: &str = "The folder of the archives, as registry/cache of Cargo";
+
+const ALL_HELP: &str = "Reports packages without an archive too";
+
+/// The parser of this command: its options.
+pub(crate) fn command<'a>(alloc: Global) -> Result<Command<'a>, AllocError> {
+    Command::new(alloc, "verify")
+        .about("Compares the archives of packages with the checksums of a lockfile")
+        .after_help(VERIFY_HELP)
+        .arg(words::file(alloc))?
+        .arg(any_size(alloc))?
+        .arg(cache(alloc))?
+        .arg(long_flag(alloc, "all").help(ALL_HELP))
+}
+
+/// The option for the folder of the archives.
+fn cache<'a>(alloc: Global) -> Arg<'a> {
+    Arg::new(alloc, "cache")
+        .long("cache")
+        .value_name("FOLDER")
+        .required(true)
+        .allow_hyphen_values(true)
+        .action(ArgAction::Set)
+        .help(CACHE_HELP)
+}
+
+/// Prints which packages of the lockfile have no archive with their checksum, and how many have one.
+/// The status is 1 if a line is printed for a package, and otherwise 0. Fails if the lockfile, the
+/// folder or an archive is not read, or if `out` fails; a prefix of the text was then written in the
+/// last case, and nothing in the others.
+pub(crate) fn run<R: Files + AllocGlobal, W: Write>(
+    rt: &R,
+    options: &ArgMatches<'_>,
+    out: &mut W,
+) -> Result<ExitCode, Fault>
+    ensures { IfOk result (λ status. PrintsVerified (found_of options.now)
+        (W.contents out.old) (W.contents out.new)
+        (status ≡ ExitCode.FAILURE) (status ≡ ExitCode.SUCCESS)) }
+{
+    let lockfile = compared_lockfile(rt, options, "file")?;
+    print_verified(rt, options, &lockfile, out)
+}
+
+/// Prints what is found of the archives of these packages. Returns the status.
+fn print_verified<R: Files + AllocGlobal, W: Write>(
+    rt: &R,
+    options: &ArgMatches<'_>,
+    lockfile: &Lockfile,
+    out: &mut W,
+) -> Result<ExitCode, Fault>
+    ensures { IfOk result (λ status. PrintsVerifiedOf (found_of options.now) lockfile.now.packages
+        (W.contents out.old) (W.contents out.new)
+        (status ≡ ExitCode.FAILURE) (status ≡ ExitCode.SUCCESS)) }
+{
+    let subjects = subjects_of(rt, options, &lockfile.packages)?;
+    print_report(rt.alloc(), options, &subjects, out)
+}
+
+/// The packages, each with its archives in the folder that the arguments name.
+fn subjects_of<'a, R: Files + AllocGlobal>(
+    rt: &R,
+    options: &ArgMatches<'_>,
+    packages: &'a [Package],
+) -> Result<Vec<Subject<'a>>, Fault>
+    ensures { IfOk result (λ subjects. AreSubjectsOf packages.now (map subject_of subjects.items)) }
+{
+    let archives = Archives::of(rt, options.get_str("cache").unwrap_or(""))?;
+    subjects_with(rt, &archives, packages)
+}
+
+/// The packages, each with its archives.
+fn subjects_with<'a, R: Files + AllocGlobal>(
+    rt: &R,
+    archives: &Archives,
+    packages: &'a [Package],
+) -> Result<Vec<Subject<'a>>, Fault>
+    ensures { IfOk result (λ subjects. AreSubjectsOf packages.now (map subject_of subjects.items)) }
+{
+    let mut subjects = Vec::with_capacity(rt.alloc(), packages.len())?;
+    for package in packages {
+        let archives = archives.of_package(rt, package)?;
+        subjects.push(Subject { package, archives })?;
+    }
+    Ok(subjects)
+}
+
+/// Prints what is found of these subjects. Returns the status.
+fn print_report<W: Write>(
+    alloc: Global,
+    options: &ArgMatches<'_>,
+    subjects: &[Subject<'_>],
+    out: &mut W,
+) -> Result<ExitCode, Fault>
+    ensures { IfOk result (λ status. PrintsReport (found_of options.now)
+        (map subject_of subjects.now) (W.contents out.old) (W.contents out.new)
+        (status ≡ ExitCode.FAILURE) (status ≡ ExitCode.SUCCESS)) }
+{
+    let report = Report::of(alloc, subjects, options.get_flag("all"))?;
+    put(out, format_args!("{report}"))?;
+    if report.findings.is_empty() {
+        Ok(ExitCode::SUCCESS)
+    } else {
+        Ok(ExitCode::FAILURE)
+    }
+}

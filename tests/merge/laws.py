@@ -1,0 +1,225 @@
+"""The laws of a merge, asked of an answer to a triple, and of the answers to what is made of it. None
+of them says how a merge is found: they know places, and otherwise only read lockfiles.
+"""
+import re
+
+from lockfiles import Refused, print_text, read
+from model import ROLES, Side, doubled_names, rule3, with_commit
+
+LINE = re.compile(r"(conflict: .*?: )(.* -> )?(.*) \(ours\), (.*) \(theirs\)")
+# A source behind a package, where others have its name and version.
+SOURCE = re.compile(r" \([a-z-]+\+[^ )]*\)")
+MOVED = re.compile(r"(moved: .*) \((?:ours: (.*?))?(?:, )?(?:theirs: (.*))?\)")
+
+
+class Broken(Exception):
+    """A law does not hold."""
+
+
+def ask(holds, law):
+    if not holds:
+        raise Broken(law)
+
+
+class View:
+    """The packages of a lockfile by places, as these names are doubled."""
+
+    def __init__(self, text, doubled, role="merged"):
+        self.lockfile = read(text)
+        self.side = Side(role, self.lockfile, doubled)
+        self.at = self.side.at
+
+    def identities(self):
+        return {it.key(): place for place, it in self.at.items()}
+
+    def links(self):
+        """Each dependency, and its package, by identity."""
+        return {(it.key(), self.at[to].key()) for it in self.at.values() for to in it.dependencies}
+
+    def roots(self):
+        return {place for place in self.at if place.source is None}
+
+    def reached(self):
+        found = self.roots()
+        rest = list(found)
+        while rest:
+            it = self.at[rest.pop()]
+            new = (it.dependencies | {it.replacement} - {None}) - found
+            found |= new
+            rest += new
+        return found
+
+    def has_orphan(self):
+        return self.reached() != set(self.at)
+
+
+def contents(text):
+    """The packages of a text with all that they have, and the unused patches."""
+    lockfile = read(text)
+    side = Side("read", lockfile, doubled_names([lockfile]))
+    packages = {(place, it.key(), it.package.checksum, frozenset(it.dependencies), it.replacement)
+                for place, it in side.at.items()}
+    return packages, set(lockfile.patches)
+
+
+# ---- of one answer
+
+def check_answer(texts, answer):
+    """The laws of one answer."""
+    if answer.status == 2:
+        ask(answer.text == "" and answer.lines and answer.lines[0].startswith("*** error: "),
+            "a refusal is a message alone")
+        return
+    if answer.status == 1:
+        ask(answer.text == "" and answer.lines, "a conflict writes nothing")
+        ask(all(it.startswith("conflict: ") for it in answer.lines), "a conflict is reported in lines")
+        ask(len(set(answer.lines)) == len(answer.lines), "each conflict is reported once")
+        return
+    ask(answer.status == 0, f"the status is 0, 1 or 2: {answer.status}")
+    lockfiles = [read(it) for it in texts]
+    doubled = doubled_names(lockfiles)
+    views = [View(text, doubled, role) for text, role in zip(texts, ROLES)]
+    try:
+        merged = View(answer.text, doubled)
+    except Refused as error:
+        raise Broken(f"a merge is sound: {error}") from error
+    check_sound(views, merged, answer)
+    check_sides(views, merged)
+    check_both(views, merged)
+    check_moved(views, merged, answer)
+
+
+def check_sound(views, merged, answer):
+    """What placing a lockfile does not ask: one package at each place, one commit of each source,
+    and a package for each dependency."""
+    ask(not merged.has_orphan(), "a merge has no orphan")
+    ask(print_text(merged.lockfile) == answer.text, "a merge is printed as Cargo prints it")
+    ask(merged.lockfile.format == max(it.lockfile.format for it in views[1:]),
+        "a merge has the later format")
+    roots = {place for it in views for place in it.roots()}
+    kept = {it for it in roots if rule3(*(it in view.roots() for view in views))}
+    ask(kept <= set(merged.at), "a kept root stays")
+
+
+def check_sides(views, merged):
+    """Everything comes from a side."""
+    _, ours, theirs = views
+    for place, it in merged.at.items():
+        sides = [side.at[place] for side in (ours, theirs) if place in side.at]
+        same = [side for side in sides if side.key() == it.key()]
+        ask(same, f"a package is of a side: {it.key()}")
+        ask(it.package.checksum in [side.package.checksum for side in same],
+            f"a checksum is of a side: {it.key()}")
+        ask(it.replacement in [side.replacement for side in same],
+            f"a replacement is of a side: {it.key()}")
+        ask(it.dependencies <= set().union(*(side.dependencies for side in sides)),
+            f"a dependency is of a side: {it.key()}")
+
+
+def check_both(views, merged):
+    """What both sides have stays, and what one side took away is gone."""
+    base, ours, theirs = views
+    for place in set(ours.at) & set(theirs.at) & set(merged.at):
+        one, other, it = ours.at[place], theirs.at[place], merged.at[place]
+        if one.key() != other.key():
+            continue
+        ask(it.key() == one.key(), f"a package stays that both sides have: {one.key()}")
+        ask(one.dependencies & other.dependencies <= it.dependencies,
+            f"a dependency stays that both sides have: {one.key()}")
+        old = base.at.get(place)
+        if old and old.key() == one.key():
+            taken = old.dependencies - (one.dependencies & other.dependencies)
+            ask(not taken & it.dependencies, f"what a side took away is gone: {one.key()}")
+
+
+def has_reference(side, merged, place, to):
+    """A side has the merged package, or if that has no source any at its place, with its dependency
+    on the merged package."""
+    came, target = side.at.get(place), side.at.get(to)
+    return bool(came and target and to in came.dependencies and target.key() == merged.at[to].key()
+                and (place.source is None or came.key() == merged.at[place].key()))
+
+
+def check_moved(views, merged, answer):
+    """The moved references are reported; where there is none, each link of packages with sources is in
+    a side."""
+    moved = [f"moved: {with_commit(it.key())} on {with_commit(merged.at[to].key())}"
+             for place, it in merged.at.items() for to in it.dependencies
+             if to.source and not any(has_reference(side, merged, place, to) for side in views[1:])]
+    lines = [MOVED.fullmatch(it) for it in answer.lines]
+    ask(all(lines), f"moved references are reported in lines: {answer.lines}")
+    reported = [SOURCE.sub("", it[1]) for it in lines]
+    ask(sorted(reported) == sorted(moved), f"each moved reference is reported: {moved}")
+    known = views[1].links() | views[2].links()
+    own = {it for it in merged.links() if it[0].source and it[1].source}
+    ask(moved or own <= known, f"a link is in a side where no reference moved: {own - known}")
+
+
+# ---- of several answers
+
+def exchanged(line):
+    """A line with its sides exchanged."""
+    found = LINE.fullmatch(line)
+    if found:
+        what, base, ours, theirs = found.groups()
+        return f"{what}{base or ''}{theirs} (ours), {ours} (theirs)"
+    found = MOVED.fullmatch(line)
+    if found:
+        what, ours, theirs = found.groups()
+        before = [f"ours: {theirs}"] * bool(theirs) + [f"theirs: {ours}"] * bool(ours)
+        return f"{what} ({', '.join(before)})"
+    return line
+
+
+def check_exchange(merge, texts, answer):
+    base, ours, theirs = texts
+    other = merge([base, theirs, ours])
+    ask(other.status == answer.status, "sides may be exchanged: the status")
+    if answer.status == 2:
+        return
+    ask(sorted(map(exchanged, other.lines)) == sorted(answer.lines),
+        "sides may be exchanged: the lines")
+    if answer.status == 0:
+        ask(contents(other.text) == contents(answer.text), "sides may be exchanged: the packages")
+
+
+def check_one_side(merge, texts, number):
+    """A merge with what one side alone changed, or both sides alike, is that."""
+    base, ours, theirs = texts
+    change = [ours, theirs][number // 3]
+    asked = [[base, change, base], [base, base, change], [base, change, change]][number % 3]
+    try:
+        lockfiles = [read(it) for it in asked]
+        view = View(change, doubled_names(lockfiles))
+        if view.has_orphan():
+            return
+    except Refused:
+        return
+    answer = merge(asked)
+    if answer.status == 2:
+        return
+    what = ["b x b", "b b x", "b x x"][number % 3]
+    ask(answer.status == 0 and not answer.lines, f"{what} is x: {answer.lines}")
+    ask(contents(answer.text) == contents(change), f"{what} is x")
+
+
+def check_stable(merge, texts, answer):
+    """A merge is stable where no name is doubled."""
+    base, ours, theirs = texts
+    if answer.status != 0 or doubled_names([read(it) for it in texts]):
+        return
+    for asked in ([base, answer.text, theirs], [base, ours, answer.text]):
+        again = merge(asked)
+        ask(again.status == 0, f"a merge is stable: {again.lines}")
+        ask(contents(again.text)[0] == contents(answer.text)[0], "a merge is stable")
+
+
+def check(merge, texts, number):
+    """All laws of a triple, where `merge` gives answers. Returns the answer to the triple."""
+    answer = merge(texts)
+    check_answer(texts, answer)
+    check_exchange(merge, texts, answer)
+    if answer.status != 2:
+        check_one_side(merge, texts, number % 6)
+        check_stable(merge, texts, answer)
+    return answer
