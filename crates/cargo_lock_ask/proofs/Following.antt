@@ -6,7 +6,7 @@ use Rattle.std.proofs.lemmas.Bool.{cases_eq, cases_lt}
 use Rattle.std.proofs.lemmas.List.{get_or-take, length-map, length-replicate, length-take-le, map_push, reverse-append, take_all, take_more}
 use Rattle.std.proofs.lemmas.List.Elements.{Contains-append_left, Contains-push, Contains-push_cases}
 use Rattle.std.proofs.lemmas.List.Kept.{AllPairs-from_increasing}
-use Rattle.std.proofs.lemmas.Option.{same_Some, slice_get-get_or, slice_get-map, slice_get_within}
+use Rattle.std.proofs.lemmas.Option.{get_or_from_slice_get, same_Some, slice_get-get_or, slice_get-map, slice_get_read, slice_get_within}
 use Rattle.std.proofs.Math.ListN.{length-set}
 use Rattle.cargo_lock_graph.specs.Drawing.{is_one_of}
 use Rattle.cargo_lock_graph.specs.Edges.{GraphData}
@@ -19,9 +19,12 @@ use Rattle.cargo_lock_ask.specs.declared.first.Link.{Link}
 use Rattle.cargo_lock_ask.proofs.Counting.{none-counted, slice_get-set_other, slice_get-set_same, uncounted-none, uncounted-set}
 use Rattle.cargo_lock_ask.proofs.Earlier.{earlier-alone, earlier-last, earlier-no-worse, earlier-on, no-worse-both, no-worse-on, no-worse-self}
 use Rattle.cargo_lock_ask.proofs.Members.{none-in}
-use Rattle.cargo_lock_ask.proofs.Reaching.{path-on, same-read}
 
 -- ---- one element more
+
+-- what is read at a place of the list does not turn on the value for places beyond it
+same-read : {X : Type 0} (xs : List X) (i : ℕ) (x d : X) → i < length xs → x ≡ get_or xs i x → get_or xs i d ≡ x
+same-read xs i x d low is = get_or_from_slice_get xs i x d (slice_get_read xs (length xs) i x refl low is)
 
 at-last : {X : Type 0} (xs : List X) (x : X) (i : ℕ) (y : X) → slice_get (xs ++ x ∷ []) i ≡ Some y → (slice_get xs i ≡ Some y) ⊎ ((i ≡ length xs) × (x ≡ y))
 at-last xs x i y at = elim (cases_lt i (length xs)) [
@@ -239,6 +242,11 @@ begun-all graph starts i found end h = record {
 chain-some : (graph : GraphData) (starts : List ℕ) (to : ℕ) (chain : List ℕ) → IsChain graph starts to chain → 0 < length chain
 chain-some graph starts to [] h = absurd h
 chain-some graph starts to (c ∷ cs) h = omega arith
+
+-- one edge more
+path-on : (far : ℕ → List ℕ) (a : ℕ) (path : List ℕ) (b c : ℕ) → IsPath far a path b → is_one_of c (far b) ≡ true → IsPath far a (path ++ c ∷ []) c
+path-on far a [] b c same h = (subst (λ n. is_one_of c (far n) ≡ true) (sym same) h, refl)
+path-on far a (n ∷ ns) b c leads h = (leads.0, path-on far n ns b c leads.1 h)
 
 chain-on : (graph : GraphData) (starts : List ℕ) (a b : ℕ) (chain : List ℕ) → IsChain graph starts a chain → is_one_of b (needs graph a) ≡ true → IsChain graph starts b (chain ++ b ∷ [])
 chain-on graph starts a b [] h leads = absurd h

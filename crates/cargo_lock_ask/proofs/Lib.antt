@@ -9,13 +9,6 @@ pub mod Placing
 pub mod Starting
 pub mod Specified
 pub mod Grouping
-pub mod Reaching
-pub mod Pairs
-pub mod Arrowing
 pub mod Writing
 pub mod Rowing
-pub mod Escaping
-pub mod Quoting
-pub mod DiagramLines
 pub mod Answering
-pub mod PictureRead

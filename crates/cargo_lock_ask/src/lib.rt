@@ -1,34 +1,25 @@
 //! What people ask of a graph of packages: why a package is there, which names several packages
-//! have and what needs each of these, and what a picture of the graph shows; and which packages a
-//! specification fits.
+//! have and what needs each of these; and which packages a specification fits.
 #![tactic(auto)]
 
 pub mod answers;
 pub mod chain;
-pub mod diagram;
 mod first;
-pub mod label;
-pub mod laws;
 pub mod lines;
 pub mod listing;
 pub mod need;
-mod reach;
 pub mod reason;
 pub mod repeated;
-pub mod scene;
 pub mod spec;
 mod steps;
 pub mod tally;
 
 pub use crate::answers::Answers;
 pub use crate::chain::{chains_of_each, shortest_chain};
-pub use crate::diagram::Diagram;
-pub use crate::label::{Label, Target};
 pub use crate::lines::{Answer, needers_of_chain};
 pub use crate::listing::{Row, Rows};
 pub use crate::need::needers;
 pub use crate::reason::{why, why_each};
 pub use crate::repeated::{Duplicate, duplicates};
-pub use crate::scene::{Arrow, Picture, picture_from};
 pub use crate::spec::fitting;
 pub use crate::tally::Listing;

@@ -6,13 +6,13 @@ use Rattle.std.specs.List.{Contains}
 use Rattle.clap.specs.Matches.{first_value}
 use Rattle.clap.specs.declared.parser.matches.Found.{Found}
 use Rattle.cargo_lock_parts.specs.Identity.{PackageData}
-use Rattle.cargo_lock_ask.specs.Diagram.{diagram_text}
-use Rattle.cargo_lock_ask.specs.Places.{IsPlaces}
-use Rattle.cargo_lock_ask.specs.Reach.{IsReachedFrom}
-use Rattle.cargo_lock_ask.specs.Scene.{AreEdgesAmong}
-use Rattle.cargo_lock_ask.specs.declared.label.Target.{Target}
-use Rattle.cargo_lock_ask.specs.declared.label.Target.TheVariants.{Dot, Mermaid}
-use Rattle.cargo_lock_ask.specs.declared.scene.Arrow.{Arrow}
+use Rattle.cargo_lock_picture.specs.Diagram.{diagram_text}
+use Rattle.cargo_lock_picture.specs.Places.{IsPlaces}
+use Rattle.cargo_lock_picture.specs.Reach.{IsReachedFrom}
+use Rattle.cargo_lock_picture.specs.Scene.{AreEdgesAmong}
+use Rattle.cargo_lock_picture.specs.declared.label.Target.{Target}
+use Rattle.cargo_lock_picture.specs.declared.label.Target.TheVariants.{Dot, Mermaid}
+use Rattle.cargo_lock_picture.specs.declared.scene.Arrow.{Arrow}
 use Rattle.cargo_lock_encoding.specs.Lockfiles.{LockfileData}
 use Rattle.cargo_lock_graph.specs.Edges.{GraphData, externals, far_ends}
 use Rattle.cargo_lock_graph.specs.declared.graph.EdgeDirection.{EdgeDirection}

@@ -2,7 +2,7 @@
 ghost use Rattle.std.specs.Prelude.{◌≡◌, ◌<◌, All, IfOk, OnOk, length, map};
 ghost use Rattle.std.specs.Io.KnownBytes.{Appends};
 ghost use Rattle.clap.specs.Matches.{found_of};
-ghost use Rattle.cargo_lock_ask.specs.Diagram.{diagram_text};
+ghost use Rattle.cargo_lock_picture.specs.Diagram.{diagram_text};
 ghost use Rattle.cli.specs.Graph.{AreBegun, AreFitting, DrawsGraph, DrawsPicture, target_in};
 ghost use Rattle.cli.specs.Tree.{given_specs};
 
@@ -12,7 +12,7 @@ use crate::tree::direction;
 use cargo_lock::Package;
 use cargo_lock::dependency::Tree;
 use cargo_lock::dependency::graph::{Graph, NodeIndex};
-use cargo_lock_ask::{Diagram, Picture, Target, picture_from};
+use cargo_lock_picture::{Diagram, Picture, Target, picture_from};
 use clap::{Arg, ArgAction, ArgMatches, Command};
 use cli_support::Fault;
 use cli_support::output::put;

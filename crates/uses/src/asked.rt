@@ -7,10 +7,11 @@ use cargo_lock::dependency::Tree;
 use cargo_lock::dependency::graph::{EdgeDirection, Graph, NodeIndex};
 use cargo_lock::{Error, Lockfile, ResolveVersion};
 use cargo_lock_ask::{
-    Answer, Answers, Diagram, Listing, Rows, Target, chains_of_each, duplicates, fitting, needers,
-    picture_from, shortest_chain, why, why_each,
+    Answer, Answers, Listing, Rows, chains_of_each, duplicates, fitting, needers, shortest_chain,
+    why, why_each,
 };
 use cargo_lock_json::{File, answers_json, groups_json};
+use cargo_lock_picture::{Diagram, Target, picture_from};
 
 /// Prints why each package of a tree is there.
 pub fn print_reasons(rt: &HostRuntime, tree: &Tree) -> Result<(), Error> {

@@ -1,9 +1,9 @@
 use Rattle.std.proofs.Common.{◌<◌, ℕ, All, List, codes, length, subst, sym}
 use Rattle.std.specs.Io.KnownBytes.{Appends}
 use Rattle.clap.specs.Matches.{found_of}
-use Rattle.cargo_lock_ask.specs.Diagram.{diagram_text}
-use Rattle.cargo_lock_ask.specs.declared.label.Target.{Target}
-use Rattle.cargo_lock_ask.specs.declared.scene.Arrow.{Arrow}
+use Rattle.cargo_lock_picture.specs.Diagram.{diagram_text}
+use Rattle.cargo_lock_picture.specs.declared.label.Target.{Target}
+use Rattle.cargo_lock_picture.specs.declared.scene.Arrow.{Arrow}
 use Rattle.cargo_lock_graph.specs.Edges.{GraphData}
 use Rattle.cargo_lock_graph.specs.declared.graph.EdgeDirection.{EdgeDirection}
 use Rattle.cli_support.proofs.Writes.{on_ok_weaken}

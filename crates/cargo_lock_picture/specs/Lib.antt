@@ -1,0 +1,10 @@
+pub mod Places
+pub mod Reach
+pub mod Marks
+pub mod Scene
+pub mod Arrows
+pub mod Labels
+pub mod Labelling
+pub mod Diagram
+pub mod DiagramLaws
+pub mod Pictures
