@@ -31,7 +31,8 @@ a source is a rectangle, one of a git repository a hexagon, and any other is rou
 cargo-lock graph | dot -Tsvg > graph.svg";
 
 /// The specifications, as help shows them.
-const SPEC_HELP: &str = "Packages, as for tree; each that fits is a start";
+const SPEC_HELP: &str = "\
+Packages, by name, version, both as NAME@VERSION, checksum or commit; each that fits is a start";
 
 /// The parser of this command: its options and its specifications.
 pub(crate) fn command<'a>(alloc: Global) -> Result<Command<'a>, AllocError> {

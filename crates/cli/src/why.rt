@@ -33,7 +33,9 @@ lockfile, compared from the root on. Where there is none, the answer is
   nothing leads to NAME VERSION";
 
 /// The specification, as help shows it.
-const SPEC_HELP: &str = "A package, as for tree; there is an answer for each that fits";
+const SPEC_HELP: &str = "\
+A package, by name, version, both as NAME@VERSION, checksum or commit; there is an answer for each \
+that fits";
 
 /// Chains from all roots, as help shows them.
 const ALL_HELP: &str = "Shows a chain from each root that leads to the package";
