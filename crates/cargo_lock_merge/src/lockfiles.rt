@@ -88,16 +88,20 @@ struct Rest {
 /// the conflicts.
 ///
 /// The merge has the later format of both sides. Its packages are those of `merge`, with their
-/// references as Cargo writes them: one in full has no commit. An unused patch is there if both sides have it, or if one side has it and the base has not. The metadata besides
-/// the checksums of packages are those that the three agree on, key by key. If the text of the
-/// merge does not read back as the merge, that is a conflict too: no text has both the replacement
-/// and the dependencies of a package.
+/// references as Cargo writes them: one in full has no commit. An unused patch is there if both
+/// sides have it, or if one side has it and the base has not. The metadata besides the checksums of
+/// packages are those that the three agree on, key by key. If the text of the merge does not read
+/// back as the merge, that is a conflict too: no text has both the replacement and the dependencies
+/// of a package.
 ///
 /// The checksums of packages in V1 are those in the packages, so call `with_cargo_checksums` for
 /// each lockfile first.
 ///
 /// `MergeError::Root` and `MergeError::Refused` say which of the lockfiles cannot be merged, and
-/// why. The other error is `MergeError::Memory`.
+/// why. Where several cannot be, a root is reported first, and then the base before ours, and ours
+/// before theirs. Of one lockfile a git source at two commits comes first, then two packages at one
+/// place, a dependency without its package, and a replacement without its package. The other error
+/// is `MergeError::Memory`.
 pub fn merge_lockfiles<'a>(
     alloc: Global,
     base: &'a Lockfile,

@@ -45,8 +45,8 @@ pub enum Fault {
     #[error("error: lockfile of 256 MiB or more\n")]
     TooLarge,
 
-    /// Both of two lockfiles were to be read from standard input.
-    #[error("error: standard input cannot be both lockfiles\n")]
+    /// Two lockfiles were to be read from standard input.
+    #[error("error: standard input cannot be two lockfiles\n")]
     OneInput,
 
     /// A lockfile cannot be merged, for this reason.
