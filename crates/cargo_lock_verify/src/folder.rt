@@ -1,0 +1,163 @@
+//! Folders of packages, as `cargo vendor` leaves them, and what is found of them, each as a line.
+
+use cargo_lock_diff::{ChecksumText, PackageText};
+use cargo_lock_parts::package::{Checksum, Package};
+use shown::{Quoted, Shown};
+use std::collections::BTreeMap;
+use std::fmt;
+
+/// A folder of a package: what its list `.cargo-checksum.json` says, and what is there.
+#[derive(Drop)]
+pub struct Folder {
+    /// Its path.
+    pub path: String,
+
+    /// The SHA-256 of the archive of the package, as the list has it, if it has one.
+    pub archive: Option<Checksum>,
+
+    /// The files of the list, by their paths in the folder, each with its SHA-256.
+    pub listed: BTreeMap<String, Checksum>,
+
+    /// The files that are there besides the list, each with the SHA-256 of its bytes.
+    pub files: BTreeMap<String, Checksum>,
+
+    /// The links that are there.
+    pub links: Vec<String>,
+}
+
+/// A package, and the folders whose manifest has its name and version.
+#[derive(Drop)]
+pub struct Vendored<'a> {
+    /// The package.
+    pub package: &'a Package,
+
+    /// The folders. Which are of its name and version is for the caller to say.
+    pub folders: Vec<Folder>,
+}
+
+/// What is wrong with a folder of a package.
+#[derive(Drop)]
+pub enum FolderFinding<'p, 'a> {
+    /// The package has a source and no folder: `- NAME VERSION SRC: no folder`.
+    NoFolder(&'p Package),
+
+    /// The list has another SHA-256 of the archive than the lockfile, where `none` is a value too:
+    /// ``! NAME VERSION SRC: `FOLDER` has the archive DIGEST, not CHECKSUM``.
+    OtherArchive(&'p Package, &'a Folder),
+
+    /// A file of the list is not there: ``- NAME VERSION SRC: `FOLDER/FILE` is missing``.
+    Absent(&'p Package, &'a Folder, &'a String),
+
+    /// A file has another SHA-256 than the list says:
+    /// ``! NAME VERSION SRC: `FOLDER/FILE` is DIGEST, not DIGEST``.
+    OtherFile(&'p Package, &'a Folder, FileDigests<'a>),
+
+    /// A file is not in the list: ``+ NAME VERSION SRC: `FOLDER/FILE` is not in the list``.
+    Unlisted(&'p Package, &'a Folder, &'a String),
+
+    /// A link is there: ``! NAME VERSION SRC: `FOLDER/FILE` is a link``.
+    Link(&'p Package, &'a Folder, &'a String),
+}
+
+/// A file of a list, with its SHA-256, and that of the list.
+#[derive(Clone, Copy)]
+pub struct FileDigests<'a> {
+    /// The path of the file in its folder.
+    pub path: &'a String,
+
+    /// The SHA-256 of the bytes of the file.
+    pub digest: &'a Checksum,
+
+    /// That of the list.
+    pub listed: &'a Checksum,
+}
+
+impl fmt::Display for FolderFinding<'_, '_> {
+    ghost use Rattle.std.specs.Prelude.{Some};
+    ghost use Rattle.cargo_lock_verify.specs.Vendored.{finding_of};
+    ghost use Rattle.cargo_lock_verify.specs.VendoredLines.{finding_line};
+
+    ghost output = { λ finding. Some (finding_line (finding_of finding)) };
+
+    fn fmt<W: fmt::Write>(&self, f: &mut fmt::Formatter<W>) -> fmt::Result {
+        match *self {
+            FolderFinding::NoFolder(package) => {
+                let package = PackageText(package);
+                write!(f, "- {package}: no folder")
+            }
+            FolderFinding::OtherArchive(package, folder) => {
+                let path = Quoted(&folder.path);
+                let archive = DigestText(&folder.archive);
+                let checksum = ChecksumText(package);
+                let package = PackageText(package);
+                write!(
+                    f,
+                    "! {package}: `{path}` has the archive {archive}, not {checksum}"
+                )
+            }
+            FolderFinding::Absent(package, folder, path) => {
+                let package = PackageText(package);
+                let path = FilePath(folder, path);
+                write!(f, "- {package}: `{path}` is missing")
+            }
+            FolderFinding::OtherFile(package, folder, file) => {
+                let package = PackageText(package);
+                let path = FilePath(folder, file.path);
+                let digest = Shown(file.digest);
+                let listed = Shown(file.listed);
+                write!(f, "! {package}: `{path}` is {digest}, not {listed}")
+            }
+            FolderFinding::Unlisted(package, folder, path) => {
+                let package = PackageText(package);
+                let path = FilePath(folder, path);
+                write!(f, "+ {package}: `{path}` is not in the list")
+            }
+            FolderFinding::Link(package, folder, path) => {
+                let package = PackageText(package);
+                let path = FilePath(folder, path);
+                write!(f, "! {package}: `{path}` is a link")
+            }
+        }
+    }
+}
+
+// A digest, or `none`.
+#[derive(Clone, Copy)]
+struct DigestText<'a>(&'a Option<Checksum>);
+
+impl fmt::Display for DigestText<'_> {
+    ghost use Rattle.std.specs.Prelude.{Some, option_map};
+    ghost use Rattle.cargo_lock_parts.specs.Checksum.{digest_of};
+    ghost use Rattle.cargo_lock_diff.specs.Change.{checksum_text};
+
+    ghost output = { λ shown. Some (checksum_text (option_map digest_of shown.0.now)) };
+
+    fn fmt<W: fmt::Write>(&self, f: &mut fmt::Formatter<W>) -> fmt::Result {
+        let DigestText(digest) = *self;
+        match digest {
+            Some(digest) => {
+                let digest = Shown(digest);
+                write!(f, "{digest}")
+            }
+            None => f.write_str("none"),
+        }
+    }
+}
+
+// The path of a file in a folder.
+#[derive(Clone, Copy)]
+struct FilePath<'f, 'a>(&'f Folder, &'a String);
+
+impl fmt::Display for FilePath<'_, '_> {
+    ghost use Rattle.std.specs.Prelude.{Some, string_bytes};
+    ghost use Rattle.cargo_lock_verify.specs.VendoredLines.{path_text};
+
+    ghost output = { λ shown. Some (path_text shown.0.now (string_bytes shown.1.now)) };
+
+    fn fmt<W: fmt::Write>(&self, f: &mut fmt::Formatter<W>) -> fmt::Result {
+        let FilePath(folder, path) = *self;
+        let folder = Quoted(&folder.path);
+        let path = Quoted(path);
+        write!(f, "{folder}/{path}")
+    }
+}
