@@ -1,17 +1,17 @@
 -- What is found of folders is exactly what the relations say.
-use Rattle.std.proofs.Common.{◌≡◌, ◌≢◌, ◌⊎◌, ◌↔◌, ℕ, Bool, true, false, true≢false, List, [], ◌∷◌, ◌++◌, Option, None, Some, IsSome, is_none, is_some, map, refl, ap, sym, ◌∙◌, inl, inr, subst, if◌then◌else◌, bytes_eq, option_map, string_bytes}
+use Rattle.std.proofs.Common.{◌≡◌, ◌≢◌, ℕ, Bool, true, false, true≢false, List, [], ◌∷◌, Option, None, Some, IsSome, is_none, is_some, map, refl, ap, sym, ◌∙◌, inl, inr, subst, if◌then◌else◌, bytes_eq, option_map, string_bytes}
 use Rattle.std.specs.BTreeMap.{get_by_text}
 use Rattle.std.specs.List.{All, Contains, flat_map}
 use Rattle.std.specs.Option.{option_eq}
 use Rattle.std.proofs.lemmas.Slice.Eq.{bytes_eq-Decides}
 use Rattle.std.proofs.lemmas.Option.{same_Some}
-use Rattle.std.proofs.lemmas.List.Elements.{All-append, All-cons, All-contains, All-contains_itself, All-head, All-map, All-nil, All-tail, All-weaker, Contains-append_cases, Contains-append_left, Contains-append_right}
+use Rattle.std.proofs.lemmas.List.Elements.{All-append, All-cons, All-contains, All-contains_itself, All-map, All-nil, All-weaker, Contains-append_left, Contains-append_right}
 use Rattle.cargo_lock_parts.specs.Checksum.{digest_of}
 use Rattle.cargo_lock_parts.specs.Identity.{PackageData}
 use Rattle.cargo_lock_parts.specs.Source.{Source}
 use Rattle.cargo_lock_verify.specs.declared.folder.Folder.{Folder}
 use Rattle.cargo_lock_verify.specs.Vendored.{Absent, FindingData, FolderFindingsAreExact, IsAsListed, IsFoundIn, IsFoundOf, IsVendored, Link, ListedData, NoFolder, NoneIfVendored, OtherArchive, OtherFile, Unlisted, VendoredData}
-use Rattle.cargo_lock_verify.specs.Vendored.{archive_found, digest_at, each_found, files_found, files_of, findings, folder_found, folders_found, found_by, is_same_archive, links_found, listed_by, listed_found, of_file, of_listed, vendored_found}
+use Rattle.cargo_lock_verify.specs.Vendored.{archive_found, digest_at, files_found, files_of, findings, folder_found, folders_found, found_by, is_same_archive, links_found, listed_by, listed_found, of_file, of_listed, vendored_found}
 use Rattle.cargo_lock_verify.proofs.Exact.{cases, first, in-flat, in-map, later, no-element, no-elements}
 
 -- ---- digests that may be absent
@@ -64,7 +64,7 @@ listed-so : (p : PackageData) (f : Folder) (l : ListedData) → Contains (files_
 listed-so p f l there = by (digest_at f.files l.path) refl
   where
     by : (o : Option (List ℕ)) → digest_at f.files l.path ≡ o → All (IsFoundIn p f) (listed_by p f l o)
-    by None is = All-cons (IsFoundIn p f) (Absent p f l.path) [] (refl, refl, l, there, refl, is) (All-nil (IsFoundIn p f))
+    by None is = All-cons (IsFoundIn p f) (Absent p f l.path) [] (refl, refl, (l, there, refl, is)) (All-nil (IsFoundIn p f))
     by (Some d) is = either (bytes_eq d l.digest) refl
       where
         either : (b : Bool) → bytes_eq d l.digest ≡ b
@@ -77,7 +77,7 @@ file-so : (p : PackageData) (f : Folder) (l : ListedData) → Contains (files_of
 file-so p f l there = by (is_none (get_by_text f.listed l.path)) refl
   where
     by : (b : Bool) → is_none (get_by_text f.listed l.path) ≡ b → All (IsFoundIn p f) (if b then Unlisted p f l.path ∷ [] else [])
-    by true e = All-cons (IsFoundIn p f) (Unlisted p f l.path) [] (refl, refl, l, there, refl, absent-at f l.path e) (All-nil (IsFoundIn p f))
+    by true e = All-cons (IsFoundIn p f) (Unlisted p f l.path) [] (refl, refl, (l, there, refl, absent-at f l.path e)) (All-nil (IsFoundIn p f))
     by false e = All-nil (IsFoundIn p f)
 
 link-so : (p : PackageData) (f : Folder) → All (IsFoundIn p f) (links_found p f)
@@ -113,7 +113,7 @@ folders-so v = by v.folders refl
         (folder_found v.content g) (folder-so v.content g))
 
 -- this is found of a package with a source
-IsFoundWith : VendoredData → FindingData → Type 0
+abbrev IsFoundWith : VendoredData → FindingData → Type 0
 IsFoundWith v x = (v.content.source ≢ None) × IsFoundOf v x
 
 vendored-so : (v : VendoredData) → All (IsFoundWith v) (vendored_found v)
@@ -125,7 +125,7 @@ vendored-so v = by v.content.source refl
         (folders_found v.content v.folders) (folders-so v)
 
 -- this is found of one of the packages
-IsFoundAmong : List VendoredData → FindingData → Type 0
+abbrev IsFoundAmong : List VendoredData → FindingData → Type 0
 IsFoundAmong all x = (v : VendoredData) × Contains all v × (v.content.source ≢ None) × IsFoundOf v x
 
 all-so : (all : List VendoredData) → All (IsFoundAmong all) (findings all)
@@ -157,16 +157,16 @@ unlisted-in : (p : PackageData) (f : Folder) (l : ListedData) → digest_at f.li
 unlisted-in p f l is = subst (λ (b : Bool). Contains (if b then Unlisted p f l.path ∷ [] else []) (Unlisted p f l.path))
     (sym (at-absent f l.path is)) (first (Unlisted p f l.path) [])
 
+map-in : {X : Type 0} (F : X → List ℕ) (G : List ℕ → FindingData) (xs : List X) (y : List ℕ) → Contains (map F xs) y
+    → Contains (map (λ x. G (F x)) xs) (G y)
+map-in F G [] y h = absurd (no-element y h)
+map-in F G (x ∷ xs) y h = elim (cases (F x) (map F xs) y h) [
+  | inl same ↦ subst (λ z. Contains (G (F x) ∷ map (λ w. G (F w)) xs) (G z)) same (first (G (F x)) (map (λ w. G (F w)) xs))
+  | inr there ↦ later (G (F x)) (map (λ w. G (F w)) xs) (G y) (map-in F G xs y there)
+]
+
 link-in : (p : PackageData) (f : Folder) (path : List ℕ) → Contains (map string_bytes f.links.items) path → Contains (links_found p f) (Link p f path)
-link-in p f path = by f.links.items
-  where
-    by : (ls : List _) → Contains (map string_bytes ls) path → Contains (map (λ l. Link p f (string_bytes l)) ls) (Link p f path)
-    by [] h = absurd (no-element path h)
-    by (l ∷ ls) h = elim (cases (string_bytes l) (map string_bytes ls) path h) [
-      | inl same ↦ subst (λ z. Contains (Link p f (string_bytes l) ∷ map (λ m. Link p f (string_bytes m)) ls) (Link p f z)) same
-          (first (Link p f (string_bytes l)) (map (λ m. Link p f (string_bytes m)) ls))
-      | inr there ↦ later (Link p f (string_bytes l)) (map (λ m. Link p f (string_bytes m)) ls) (Link p f path) (by ls there)
-    ]
+link-in p f path h = map-in string_bytes (Link p f) f.links.items path h
 
 in-archive : (p : PackageData) (f : Folder) (x : FindingData) → Contains (archive_found p f) x → Contains (folder_found p f) x
 in-archive p f x = Contains-append_left (archive_found p f) _ x
@@ -238,7 +238,7 @@ folder-findings-are-exact all x = (
 -- ---- nothing is found
 
 -- nothing is found of a folder
-IsQuiet : PackageData → Folder → Type 0
+abbrev IsQuiet : PackageData → Folder → Type 0
 IsQuiet p f = (x : FindingData) → ¬ IsFoundIn p f x
 
 archive-is : (p : PackageData) (f : Folder) → IsQuiet p f → option_map digest_of f.archive ≡ p.checksum
@@ -253,7 +253,7 @@ listed-is : (p : PackageData) (f : Folder) → IsQuiet p f → (l : ListedData) 
 listed-is p f quiet l there = by (digest_at f.files l.path) refl
   where
     by : (o : Option (List ℕ)) → digest_at f.files l.path ≡ o → digest_at f.files l.path ≡ Some l.digest
-    by None is = absurd (quiet (Absent p f l.path) (refl, refl, l, there, refl, is))
+    by None is = absurd (quiet (Absent p f l.path) (refl, refl, (l, there, refl, is)))
     by (Some d) is = either (bytes_eq d l.digest) refl
       where
         either : (b : Bool) → bytes_eq d l.digest ≡ b → digest_at f.files l.path ≡ Some l.digest
@@ -265,7 +265,7 @@ files-are : (p : PackageData) (f : Folder) → IsQuiet p f → (l : ListedData) 
 files-are p f quiet l there = by (is_none (get_by_text f.listed l.path)) refl
   where
     by : (b : Bool) → is_none (get_by_text f.listed l.path) ≡ b → IsSome (digest_at f.listed l.path)
-    by true e = absurd (quiet (Unlisted p f l.path) (refl, refl, l, there, refl, absent-at f l.path e))
+    by true e = absurd (quiet (Unlisted p f l.path) (refl, refl, (l, there, refl, absent-at f l.path e)))
     by false e = present-at f l.path e
 
 links-are : (p : PackageData) (f : Folder) → IsQuiet p f → f.links.items ≡ []
@@ -292,6 +292,9 @@ vendored-if-none all none v there has = record { some = some; each = each }
     each : (f : Folder) → Contains v.folders f → IsAsListed v.content f
     each f in-it = as-listed v.content f (λ x h. nothing x (of-folder v f in-it x h))
 
+some-is-not-none : (o : Option (List ℕ)) → IsSome o → o ≢ None
+some-is-not-none o some e = true≢false (sym some ∙ ap is_some e)
+
 quiet-of : (p : PackageData) (f : Folder) → IsAsListed p f → IsQuiet p f
 quiet-of p f is (NoFolder q) h = h
 quiet-of p f is (OtherArchive q g) h = h.2 is.archive
@@ -300,13 +303,7 @@ quiet-of p f is (Absent q g path) h = let (l, there, same, none) = h.2 in
 quiet-of p f is (OtherFile q g path d listed) h =
     h.4 (same_Some d listed (sym h.3 ∙ is.listed (record { path = path; digest = listed }) h.2))
 quiet-of p f is (Unlisted q g path) h = let (l, there, same, none) = h.2 in
-    no-some (subst IsSome (ap (digest_at f.listed) same ∙ none) (is.files l there))
-  where
-    vacant : Option (List ℕ)
-    vacant = None
-
-    no-some : ¬ IsSome vacant
-    no-some some = search
+    some-is-not-none (digest_at f.listed l.path) (is.files l there) (ap (digest_at f.listed) same ∙ none)
 quiet-of p f is (Link q g path) h = no-element path (subst (λ ls. Contains (map string_bytes ls) path) is.links h.2)
 
 none-of : (v : VendoredData) (x : FindingData) → IsVendored v → ¬ IsFoundOf v x

@@ -1,5 +1,10 @@
 //! Folders of packages, as `cargo vendor` leaves them, and what is found of them, each as a line.
 
+ghost use Rattle.std.specs.Prelude.{Some, string_bytes};
+ghost use Rattle.std.specs.Fmt.{DisplaysOnOk};
+ghost use Rattle.cargo_lock_parts.specs.Checksum.{digest_of};
+ghost use Rattle.cargo_lock_verify.specs.VendoredLines.{other_archive_line, other_file_line};
+
 use cargo_lock_diff::{ChecksumText, PackageText};
 use cargo_lock_parts::package::{Checksum, Package};
 use shown::{Quoted, Shown};
@@ -85,39 +90,77 @@ impl fmt::Display for FolderFinding<'_, '_> {
                 let package = PackageText(package);
                 write!(f, "- {package}: no folder")
             }
-            FolderFinding::OtherArchive(package, folder) => {
-                let path = Quoted(&folder.path);
-                let archive = DigestText(&folder.archive);
-                let checksum = ChecksumText(package);
-                let package = PackageText(package);
-                write!(
-                    f,
-                    "! {package}: `{path}` has the archive {archive}, not {checksum}"
-                )
-            }
+            FolderFinding::OtherArchive(package, folder) => write_other_archive(package, folder, f),
             FolderFinding::Absent(package, folder, path) => {
-                let package = PackageText(package);
-                let path = FilePath(folder, path);
-                write!(f, "- {package}: `{path}` is missing")
+                let file = FileText(package, folder, path);
+                write!(f, "- {file} is missing")
             }
             FolderFinding::OtherFile(package, folder, file) => {
-                let package = PackageText(package);
-                let path = FilePath(folder, file.path);
-                let digest = Shown(file.digest);
-                let listed = Shown(file.listed);
-                write!(f, "! {package}: `{path}` is {digest}, not {listed}")
+                write_other_file(package, folder, &file, f)
             }
             FolderFinding::Unlisted(package, folder, path) => {
-                let package = PackageText(package);
-                let path = FilePath(folder, path);
-                write!(f, "+ {package}: `{path}` is not in the list")
+                let file = FileText(package, folder, path);
+                write!(f, "+ {file} is not in the list")
             }
             FolderFinding::Link(package, folder, path) => {
-                let package = PackageText(package);
-                let path = FilePath(folder, path);
-                write!(f, "! {package}: `{path}` is a link")
+                let file = FileText(package, folder, path);
+                write!(f, "! {file} is a link")
             }
         }
+    }
+}
+
+fn write_other_archive<W: fmt::Write>(
+    package: &Package,
+    folder: &Folder,
+    f: &mut fmt::Formatter<W>,
+) -> fmt::Result
+    ensures { DisplaysOnOk W.write_str_gives f.old result
+        (Some (other_archive_line «package».now folder.now)) f.new }
+{
+    let path = Quoted(&folder.path);
+    let archive = DigestText(&folder.archive);
+    let checksum = ChecksumText(package);
+    let package = PackageText(package);
+    write!(
+        f,
+        "! {package}: `{path}` has the archive {archive}, not {checksum}"
+    )
+}
+
+fn write_other_file<W: fmt::Write>(
+    package: &Package,
+    folder: &Folder,
+    file: &FileDigests<'_>,
+    f: &mut fmt::Formatter<W>,
+) -> fmt::Result
+    ensures { DisplaysOnOk W.write_str_gives f.old result
+        (Some (other_file_line «package».now folder.now (string_bytes file.now.path.now)
+        (digest_of file.now.digest.now) (digest_of file.now.listed.now))) f.new }
+{
+    let digest = Shown(file.digest);
+    let listed = Shown(file.listed);
+    let file = FileText(package, folder, file.path);
+    write!(f, "! {file} is {digest}, not {listed}")
+}
+
+// A package, and the path of a file in its folder.
+#[derive(Clone, Copy)]
+struct FileText<'p, 'f, 'a>(&'p Package, &'f Folder, &'a String);
+
+impl fmt::Display for FileText<'_, '_, '_> {
+    ghost use Rattle.std.specs.Prelude.{Some, string_bytes};
+    ghost use Rattle.cargo_lock_verify.specs.VendoredLines.{file_text};
+
+    ghost output = { λ shown.
+        Some (file_text shown.0.now shown.1.now (string_bytes shown.2.now)) };
+
+    fn fmt<W: fmt::Write>(&self, f: &mut fmt::Formatter<W>) -> fmt::Result {
+        let FileText(package, folder, path) = *self;
+        let package = PackageText(package);
+        let folder = Quoted(&folder.path);
+        let path = Quoted(path);
+        write!(f, "{package}: `{folder}/{path}`")
     }
 }
 
@@ -141,23 +184,5 @@ impl fmt::Display for DigestText<'_> {
             }
             None => f.write_str("none"),
         }
-    }
-}
-
-// The path of a file in a folder.
-#[derive(Clone, Copy)]
-struct FilePath<'f, 'a>(&'f Folder, &'a String);
-
-impl fmt::Display for FilePath<'_, '_> {
-    ghost use Rattle.std.specs.Prelude.{Some, string_bytes};
-    ghost use Rattle.cargo_lock_verify.specs.VendoredLines.{path_text};
-
-    ghost output = { λ shown. Some (path_text shown.0.now (string_bytes shown.1.now)) };
-
-    fn fmt<W: fmt::Write>(&self, f: &mut fmt::Formatter<W>) -> fmt::Result {
-        let FilePath(folder, path) = *self;
-        let folder = Quoted(&folder.path);
-        let path = Quoted(path);
-        write!(f, "{folder}/{path}")
     }
 }

@@ -69,7 +69,8 @@ fn is_of_verified(alloc: Global, vendored: &Vendored<'_>) -> Result<bool, AllocE
 fn has_source(vendored: &Vendored<'_>) -> bool
     ensures { result ≡ is_some (vendored_of vendored.now).content.source }
 {
-    vendored.package.source.is_some()
+    let package = vendored.package;
+    package.source.is_some()
 }
 
 // Whether nothing is found of the package.

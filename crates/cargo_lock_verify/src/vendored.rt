@@ -5,7 +5,7 @@ ghost use Rattle.std.specs.Bool.{Decides};
 ghost use Rattle.cargo_lock_parts.specs.Checksum.{digest_of};
 ghost use Rattle.cargo_lock_verify.specs.Vendored.{archive_found, file_found, files_found};
 ghost use Rattle.cargo_lock_verify.specs.Vendored.{folder_found, folders_found, is_same_archive};
-ghost use Rattle.cargo_lock_verify.specs.Vendored.{links_found, listed_found, listed_of};
+ghost use Rattle.cargo_lock_verify.specs.Vendored.{links_found, listed_found, listed_of, of_file};
 ghost use Rattle.cargo_lock_verify.specs.Vendored.{of_listed, vendored_found, vendored_of};
 ghost use Rattle.cargo_lock_verify.specs.Vendored as spec;
 
@@ -172,7 +172,7 @@ fn put_other<'p, 'a>(
     file: FileDigests<'a>,
 ) -> Result<(), AllocError>
     ensures { OnOk result (map spec.finding_of found.new.items
-        ≡ map spec.finding_of found.old.items ++ file_found «package».now folder.now file) }
+        ≡ map spec.finding_of found.old.items ++ file_found «package».now folder.now file.entry) }
 {
     if *file.digest != *file.listed {
         found.push(FolderFinding::OtherFile(package, folder, file))?;
@@ -189,10 +189,26 @@ fn put_files<'p, 'a>(
     ensures { OnOk result (map spec.finding_of found.new.items
         ≡ map spec.finding_of found.old.items ++ files_found «package».now folder.now) }
 {
-    for (path, _) in &folder.files {
-        if folder.listed.get(path.as_str()).is_none() {
-            found.push(FolderFinding::Unlisted(package, folder, path))?;
-        }
+    for (path, digest) in &folder.files {
+        put_file(found, package, folder, path, digest)?;
+    }
+    Ok(())
+}
+
+// Adds a file, with this digest, if it is not in the list.
+fn put_file<'p, 'a>(
+    found: &mut Vec<FolderFinding<'p, 'a>>,
+    package: &'p Package,
+    folder: &'a Folder,
+    path: &'a String,
+    digest: &Checksum,
+) -> Result<(), AllocError>
+    ensures { OnOk result (map spec.finding_of found.new.items ≡ map spec.finding_of found.old.items
+        ++ of_file «package».now folder.now (listed_of path.now digest.now)) }
+{
+    let _ = digest;
+    if folder.listed.get(path.as_str()).is_none() {
+        found.push(FolderFinding::Unlisted(package, folder, path))?;
     }
     Ok(())
 }

@@ -1,6 +1,6 @@
 //! The command `verify`: whether the archives of packages are those that a lockfile names, or the
 //! folders that `cargo vendor` made are as their lists say.
-ghost use Rattle.std.specs.Prelude.{◌≡◌, IfOk, map};
+ghost use Rattle.std.specs.Prelude.{◌≡◌, IfOk, false, map, true};
 ghost use Rattle.clap.specs.Matches.{found_of};
 ghost use Rattle.cargo_lock_verify.specs.Archives.{subject_of};
 ghost use Rattle.cargo_lock_verify.specs.Vendored.{vendored_of};
@@ -174,11 +174,7 @@ fn print_vendor_report<W: Write>(
 {
     let report = VendorReport::of(alloc, vendored)?;
     put(out, format_args!("{report}"))?;
-    if report.findings.is_empty() {
-        Ok(ExitCode::SUCCESS)
-    } else {
-        Ok(ExitCode::FAILURE)
-    }
+    Ok(status_of(report.findings.is_empty()))
 }
 
 /// The packages, each with its archives in the folder that the arguments name.
@@ -222,9 +218,17 @@ fn print_report<W: Write>(
 {
     let report = Report::of(alloc, subjects, options.get_flag("all"))?;
     put(out, format_args!("{report}"))?;
-    if report.findings.is_empty() {
-        Ok(ExitCode::SUCCESS)
+    Ok(status_of(report.findings.is_empty()))
+}
+
+/// The status where nothing is found, or something.
+fn status_of(is_quiet: bool) -> ExitCode
+    ensures quiet { is_quiet ≡ true → result ≡ ExitCode.SUCCESS }
+    ensures found { is_quiet ≡ false → result ≡ ExitCode.FAILURE }
+{
+    if is_quiet {
+        ExitCode::SUCCESS
     } else {
-        Ok(ExitCode::FAILURE)
+        ExitCode::FAILURE
     }
 }
