@@ -106,8 +106,8 @@ _cargo_lock() {
     verify)
         case $previous in
         -f | --file) _cargo_lock_files ;;
-        --cache) _cargo_lock_files ;;
-        *) _cargo_lock_offer '-f --file --any-size --cache --all -h --help' ;;
+        --cache | --vendor) _cargo_lock_files ;;
+        *) _cargo_lock_offer '-f --file --any-size --cache --vendor --all -h --help' ;;
         esac
         ;;
     help) _cargo_lock_offer 'list translate tree bom diff check why duplicates graph merge verify help' ;;

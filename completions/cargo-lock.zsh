@@ -15,7 +15,7 @@ _cargo-lock() {
         'duplicates:Lists the names that several packages have, and what needs each package'
         'graph:Writes a picture of packages, for Graphviz or Mermaid'
         'merge:Merges two lockfiles by packages, over their common ancestor'
-        'verify:Compares the archives of packages with the checksums of a lockfile'
+        'verify:Compares archives, or vendored folders, with the checksums of a lockfile'
         'help:Print this message or the help of the given subcommand(s)'
     )
     _arguments -C \
@@ -125,6 +125,7 @@ _cargo-lock() {
             '(-f --file)'{-f,--file}'[The lockfile, - for standard input]:PATH:_files' \
             '--any-size[Reads a lockfile of 256 MiB or more too]' \
             '--cache[The folder of the archives, as registry/cache of Cargo]:FOLDER:_files -/' \
+            '--vendor[The folder that `cargo vendor` made]:FOLDER:_files -/' \
             '--all[Reports packages without an archive too]' \
             '(- *)'{-h,--help}'[Print help]'
         ;;

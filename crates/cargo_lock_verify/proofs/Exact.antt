@@ -1,20 +1,20 @@
 -- What is found is exactly what the relations say.
-use Rattle.std.proofs.Common.{◌≡◌, ◌≢◌, ◌⊎◌, ◌↔◌, ℕ, Bool, true, false, true≢false, List, [], ◌∷◌, ◌++◌, Option, None, Some, is_some, map, refl, ap, sym, ◌∙◌, inl, inr, subst, if◌then◌else◌, arith, bytes_eq, length, ◌<◌}
+use Rattle.std.proofs.Common.{◌≡◌, ◌≢◌, ◌⊎◌, ℕ, Bool, true, false, true≢false, List, [], ◌∷◌, Option, None, Some, is_some, map, refl, ap, sym, ◌∙◌, inl, inr, subst, if◌then◌else◌, arith}
 use Rattle.std.specs.List.{All, Contains, flat_map, list_any}
 use Rattle.std.proofs.lemmas.Slice.Eq.{bytes_eq-Decides}
 use Rattle.std.proofs.lemmas.Option.{same_Some}
 use Rattle.std.proofs.lemmas.List.Folds.{Any-from_list_any, list_any-from_Any}
-use Rattle.std.proofs.lemmas.List.Elements.{All-append, All-cons, All-contains, All-contains_itself, All-head, All-map, All-nil, All-tail, All-weaker, Contains-append_cases, Contains-append_left, Contains-append_right, Contains-get_or, Contains-push, Contains-push_cases}
+use Rattle.std.proofs.lemmas.List.Elements.{All-append, All-cons, All-contains, All-contains_itself, All-head, All-map, All-nil, All-tail, All-weaker, Contains-append_cases, Contains-append_left, Contains-append_right, Contains-push, Contains-push_cases}
 use Rattle.cargo_lock_parts.specs.Identity.{PackageData}
 use Rattle.cargo_lock_verify.specs.Archives.{ArchiveData, Changed, FindingData, FindingsAreExact, IsFound, IsFoundOf, IsVerified, Missing, NoneIfVerified, SubjectData}
 use Rattle.cargo_lock_verify.specs.Archives.{findings, found_by, found_in, found_of, is_digest}
 
 -- ---- elements of lists
 
-no-element : {X : Type 0} (x : X) → ¬ Contains [] x
+pub no-element : {X : Type 0} (x : X) → ¬ Contains [] x
 no-element x h = let low = h.1 in absurd (omega (arith, low))
 
-cases : {X : Type 0} (y : X) (ys : List X) (x : X) → Contains (y ∷ ys) x → (y ≡ x) ⊎ Contains ys x
+pub cases : {X : Type 0} (y : X) (ys : List X) (x : X) → Contains (y ∷ ys) x → (y ≡ x) ⊎ Contains ys x
 cases y ys x h = elim (Contains-append_cases (y ∷ []) ys x h) [
   | inl here ↦ elim (Contains-push_cases [] y x here) [
     | inl none ↦ absurd (no-element x none)
@@ -23,20 +23,20 @@ cases y ys x h = elim (Contains-append_cases (y ∷ []) ys x h) [
   | inr there ↦ inr there
 ]
 
-first : {X : Type 0} (y : X) (ys : List X) → Contains (y ∷ ys) y
+pub first : {X : Type 0} (y : X) (ys : List X) → Contains (y ∷ ys) y
 first y ys = Contains-append_left (y ∷ []) ys y (Contains-push [] y)
 
-later : {X : Type 0} (y : X) (ys : List X) (x : X) → Contains ys x → Contains (y ∷ ys) x
+pub later : {X : Type 0} (y : X) (ys : List X) (x : X) → Contains ys x → Contains (y ∷ ys) x
 later y ys x h = Contains-append_right (y ∷ []) ys x h
 
-in-map : {X Y : Type 0} (f : X → Y) (xs : List X) (x : X) → Contains xs x → Contains (map f xs) (f x)
+pub in-map : {X Y : Type 0} (f : X → Y) (xs : List X) (x : X) → Contains xs x → Contains (map f xs) (f x)
 in-map f [] x h = absurd (no-element x h)
 in-map f (y ∷ ys) x h = elim (cases y ys x h) [
   | inl same ↦ subst (λ z. Contains (f y ∷ map f ys) z) (ap f same) (first (f y) (map f ys))
   | inr there ↦ later (f y) (map f ys) (f x) (in-map f ys x there)
 ]
 
-in-flat : {X Y : Type 0} (f : X → List Y) (xs : List X) (x : X) (y : Y) → Contains xs x → Contains (f x) y
+pub in-flat : {X Y : Type 0} (f : X → List Y) (xs : List X) (x : X) (y : Y) → Contains xs x → Contains (f x) y
     → Contains (flat_map f xs) y
 in-flat f [] x y h here = absurd (no-element x h)
 in-flat f (z ∷ zs) x y h here = elim (cases z zs x h) [
@@ -136,7 +136,7 @@ some-found : (p : PackageData) (all : List ArchiveData) → (f : FindingData) ×
 some-found p [] = (Missing p, first (Missing p) [])
 some-found p (a ∷ rest) = (Changed p a, first (Changed p a) (map (Changed p) rest))
 
-no-elements : {X : Type 0} (xs : List X) → ((x : X) → ¬ Contains xs x) → xs ≡ []
+pub no-elements : {X : Type 0} (xs : List X) → ((x : X) → ¬ Contains xs x) → xs ≡ []
 no-elements [] h = refl
 no-elements (x ∷ xs) h = absurd (h x (first x xs))
 

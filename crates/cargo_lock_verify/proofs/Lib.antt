@@ -1,3 +1,4 @@
 mod Exact
+mod ExactFolders
 mod Listing
 mod OneLine

@@ -1,5 +1,5 @@
 -- Archives of the program and their data.
-use Rattle.std.proofs.Common.{◌≡◌, ◌||◌, cond, filter, ℕ, Bool, true, false, true≢false, List, [], ◌∷◌, ap, sym, map, length, nat_eq, refl}
+use Rattle.std.proofs.Common.{◌≡◌, ◌||◌, cond, filter, ℕ, Bool, true, false, true≢false, List, [], ◌∷◌, ap, map, length, nat_eq, refl}
 use Rattle.std.specs.List.{list_any}
 use Rattle.cargo_lock_parts.specs.Identity.{PackageData}
 use Rattle.cargo_lock_verify.specs.declared.finding.Archive.{Archive}

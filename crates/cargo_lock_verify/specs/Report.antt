@@ -1,5 +1,5 @@
 -- What is reported of findings.
-use Rattle.std.specs.Prelude.{◌++◌, [], ◌∷◌, ℕ, Bool, false, true, List, Option, None, Some}
+use Rattle.std.specs.Prelude.{◌++◌, ℕ, Bool, false, true, List, Option, None, Some}
 use Rattle.std.specs.Prelude.{codes, decimal, filter, if◌then◌else◌}
 use Rattle.std.specs.List.{list_any}
 use Rattle.cargo_lock_verify.specs.Archives.{FindingData, Changed, Missing, SubjectData, is_digest}

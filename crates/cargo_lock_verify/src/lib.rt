@@ -2,12 +2,18 @@
 #![tactic(auto)]
 
 pub mod finding;
+pub mod folder;
 pub mod hashing;
 pub mod laws;
 pub mod report;
 pub mod subject;
+pub mod vendor_report;
+pub mod vendored;
 
 pub use crate::finding::{Archive, Finding};
+pub use crate::folder::{FileDigests, Folder, FolderFinding, Vendored};
 pub use crate::hashing::digest;
 pub use crate::report::Report;
 pub use crate::subject::{Subject, findings};
+pub use crate::vendor_report::VendorReport;
+pub use crate::vendored::vendored_findings;

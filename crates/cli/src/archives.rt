@@ -1,19 +1,12 @@
 //! The archives in a folder that is like Cargo's `registry/cache`.
 
-use cargo_lock::Error;
-use cargo_lock::package::{Checksum, Package};
-use cargo_lock_verify::{Archive, digest};
+use crate::files::{digest_at, fault_at, is_file, is_folder, names_in, path_of};
+use cargo_lock::package::Package;
+use cargo_lock_verify::Archive;
 use cli_support::Fault;
-use cli_support::fault::path_shown;
-use std::alloc::{AllocError, Global};
+use std::alloc::Global;
 use std::collections::BTreeMap;
-use std::fs::{self, OpenOptions};
-use std::io::{self, ErrorKind, Read};
-use std::path::Path;
 use std::rt::Files;
-
-/// How many bytes of names are read at once. The system refuses a read that a name does not fit.
-const PIECE: usize = 4096;
 
 /// How the name of an archive ends.
 const ENDING: &str = ".crate";
@@ -111,82 +104,5 @@ fn put_archive<R: Files + AllocGlobal>(
             Ok(())
         }
         Err(error) => Err(fault_at(rt.alloc(), path, error)),
-    }
-}
-
-/// The digest of the file at a path.
-fn digest_at<R: Files>(rt: &R, path: &str) -> io::Result<Checksum> {
-    let mut file = OpenOptions::new().read(true).open(rt, Path::new(path))?;
-    digest(&mut file)
-}
-
-/// The names in a folder, in order. One that is not UTF-8 is left out, since it is of no package.
-fn names_in<R: Files + AllocGlobal>(rt: &R, folder: &str) -> Result<Vec<String>, Fault> {
-    match bytes_in(rt, folder) {
-        Ok(bytes) => names_of(rt.alloc(), &bytes),
-        Err(error) => Err(fault_at(rt.alloc(), folder, error)),
-    }
-}
-
-/// The names in a folder, each with a zero byte after it. The path is opened with a slash at its end,
-/// so that it may be a link to a folder.
-fn bytes_in<R: Files + AllocGlobal>(rt: &R, folder: &str) -> io::Result<Vec<u8>> {
-    if folder.is_empty() {
-        return Err(io::Error::from(ErrorKind::NotFound));
-    }
-    let folder = path_of(rt.alloc(), folder, "")?;
-    let mut names = rt.open_dir(&folder)?;
-    let mut bytes = Vec::new(rt.alloc());
-    let mut piece = [0; PIECE];
-    for _ in 0..u64::MAX {
-        let count = names.read(&mut piece)?;
-        if count == 0 {
-            return Ok(bytes);
-        }
-        bytes.extend_from_slice(&piece[..count])?;
-    }
-    Err(io::Error::from(ErrorKind::FileTooLarge))
-}
-
-/// The names of such bytes, in order, but for the folder itself and the one above.
-fn names_of(alloc: Global, bytes: &[u8]) -> Result<Vec<String>, Fault> {
-    let mut names = Vec::new(alloc);
-    for name in bytes.split(|byte| *byte == 0) {
-        match str::from_utf8(name) {
-            Ok("" | "." | "..") | Err(_) => {}
-            Ok(name) => names.push(String::from_str(alloc, name)?)?,
-        }
-    }
-    names.sort()?;
-    Ok(names)
-}
-
-/// The path of a name in a folder.
-fn path_of(alloc: Global, folder: &str, name: &str) -> Result<String, AllocError> {
-    if folder.ends_with('/') {
-        format!(in alloc; "{folder}{name}")
-    } else {
-        format!(in alloc; "{folder}/{name}")
-    }
-}
-
-/// Whether a folder is at the path, or a link to one.
-fn is_folder<R: Files>(rt: &R, path: &str) -> bool {
-    fs::metadata(rt, Path::new(path)).is_ok_and(|found| found.is_dir())
-}
-
-/// Whether a file is at the path, or a link to one.
-fn is_file<R: Files>(rt: &R, path: &str) -> bool {
-    fs::metadata(rt, Path::new(path)).is_ok_and(|found| found.is_file())
-}
-
-/// The error of a file or folder, with its path.
-fn fault_at(alloc: Global, path: &str, error: io::Error) -> Fault {
-    if error.kind() == ErrorKind::OutOfMemory {
-        return Fault::Library(Error::Memory);
-    }
-    match path_shown(alloc, Path::new(path)) {
-        Ok(path) => Fault::File(path, Error::from(error)),
-        Err(refused) => Fault::from(refused),
     }
 }

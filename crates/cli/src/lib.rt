@@ -22,6 +22,7 @@ mod check;
 mod diff;
 mod duplicates;
 mod ending;
+mod files;
 mod graph;
 mod list;
 mod load;
@@ -29,6 +30,7 @@ mod merge;
 mod spec;
 mod translate;
 mod tree;
+mod vendor;
 mod verify;
 mod why;
 

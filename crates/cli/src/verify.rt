@@ -1,15 +1,18 @@
-//! The command `verify`: whether the archives of packages are those that a lockfile names.
-ghost use Rattle.std.specs.Prelude.{◌≡◌, IfOk, map};
+//! The command `verify`: whether the archives of packages are those that a lockfile names, or the
+//! folders that `cargo vendor` made are as their lists say.
+ghost use Rattle.std.specs.Prelude.{◌≡◌, IfOk, false, map, true};
 ghost use Rattle.clap.specs.Matches.{found_of};
 ghost use Rattle.cargo_lock_verify.specs.Archives.{subject_of};
-ghost use Rattle.cli.specs.Verify.{AreSubjectsOf, PrintsReport, PrintsVerified};
-ghost use Rattle.cli.specs.Verify.{PrintsVerifiedOf};
+ghost use Rattle.cargo_lock_verify.specs.Vendored.{vendored_of};
+ghost use Rattle.cli.specs.Verify.{AreSubjectsOf, AreVendoredOf, PrintsReport};
+ghost use Rattle.cli.specs.Verify.{PrintsVendorReport, PrintsVerified, PrintsVerifiedOf};
 
 use crate::archives::Archives;
 use crate::load::compared_lockfile;
+use crate::vendor::Vendor;
 use cargo_lock::Lockfile;
 use cargo_lock::package::Package;
-use cargo_lock_verify::{Report, Subject};
+use cargo_lock_verify::{Report, Subject, VendorReport, Vendored};
 use clap::{Arg, ArgAction, ArgMatches, Command};
 use cli_support::output::put;
 use cli_support::words::{any_size, long_flag};
@@ -21,44 +24,77 @@ use std::rt::Files;
 
 /// The lines of `verify`, as help shows them.
 const VERIFY_HELP: &str = "\
-The archive of a package is NAME-VERSION.crate, in FOLDER or in a folder in it. Each package with a \
-checksum has an archive with that SHA-256, or a line:
+With --cache, the archive of a package is NAME-VERSION.crate, in FOLDER or in a folder in it. Each \
+package with a checksum has an archive with that SHA-256, or a line:
   ! NAME VERSION SRC: `PATH` is DIGEST, not CHECKSUM    none has it, and this is one of them
   - NAME VERSION SRC: no archive                        with --all
-The last line is how many packages have one. Cargo compares an archive with its checksum once, when \
-it downloads it. The status is 1 where a line is printed for a package, and 2 where the lockfile or \
-an archive cannot be read.";
+Cargo compares an archive with its checksum once, when it downloads it.
+
+With --vendor, the folder of a package with a source is the one in FOLDER whose manifest has its \
+name and version. It is as its .cargo-checksum.json says, or there are lines:
+  - NAME VERSION SRC: no folder
+  ! NAME VERSION SRC: `FOLDER` has the archive DIGEST, not CHECKSUM
+  - NAME VERSION SRC: `FILE` is missing
+  ! NAME VERSION SRC: `FILE` is DIGEST, not DIGEST      the second is that of the list
+  + NAME VERSION SRC: `FILE` is not in the list
+  ! NAME VERSION SRC: `FILE` is a link
+That a folder is as its list says does not show that its files are those of the archive.
+
+The last line is how many packages are right. The status is 1 where a line is printed for a \
+package, and 2 where the lockfile, an archive or a folder cannot be read.";
 
 /// The options, as help shows them.
 const CACHE_HELP: &str = "The folder of the archives, as registry/cache of Cargo";
+
+const VENDOR_HELP: &str = "The folder that `cargo vendor` made";
 
 const ALL_HELP: &str = "Reports packages without an archive too";
 
 /// The parser of this command: its options.
 pub(crate) fn command<'a>(alloc: Global) -> Result<Command<'a>, AllocError> {
     Command::new(alloc, "verify")
-        .about("Compares the archives of packages with the checksums of a lockfile")
+        .about("Compares archives, or vendored folders, with the checksums of a lockfile")
         .after_help(VERIFY_HELP)
         .arg(words::file(alloc))?
         .arg(any_size(alloc))?
-        .arg(cache(alloc))?
-        .arg(long_flag(alloc, "all").help(ALL_HELP))
+        .arg(cache(alloc)?)?
+        .arg(vendor(alloc)?)?
+        .arg(all(alloc)?)
 }
 
 /// The option for the folder of the archives.
-fn cache<'a>(alloc: Global) -> Arg<'a> {
-    Arg::new(alloc, "cache")
-        .long("cache")
-        .value_name("FOLDER")
-        .required(true)
-        .allow_hyphen_values(true)
-        .action(ArgAction::Set)
+fn cache<'a>(alloc: Global) -> Result<Arg<'a>, AllocError> {
+    folder(alloc, "cache")
         .help(CACHE_HELP)
+        .required_unless_present("vendor")
 }
 
-/// Prints which packages of the lockfile have no archive with their checksum, and how many have one.
-/// The status is 1 if a line is printed for a package, and otherwise 0. Fails if the lockfile, the
-/// folder or an archive is not read, or if `out` fails; a prefix of the text was then written in the
+/// The option for the folder that `cargo vendor` made.
+fn vendor<'a>(alloc: Global) -> Result<Arg<'a>, AllocError> {
+    folder(alloc, "vendor")
+        .help(VENDOR_HELP)
+        .conflicts_with("cache")
+}
+
+/// The option to report packages without an archive.
+fn all<'a>(alloc: Global) -> Result<Arg<'a>, AllocError> {
+    long_flag(alloc, "all")
+        .help(ALL_HELP)
+        .conflicts_with("vendor")
+}
+
+/// An option for a folder.
+fn folder<'a>(alloc: Global, name: &'a str) -> Arg<'a> {
+    Arg::new(alloc, name)
+        .long(name)
+        .value_name("FOLDER")
+        .allow_hyphen_values(true)
+        .action(ArgAction::Set)
+}
+
+/// Prints which packages of the lockfile have no archive with their checksum, or no folder that is
+/// as its list says, and how many have one. The status is 1 if a line is printed for a package, and
+/// otherwise 0. Fails if the lockfile, a folder or a file is not read, or if `out` fails; a prefix of the text was then written in the
 /// last case, and nothing in the others.
 pub(crate) fn run<R: Files + AllocGlobal, W: Write>(
     rt: &R,
@@ -73,7 +109,7 @@ pub(crate) fn run<R: Files + AllocGlobal, W: Write>(
     print_verified(rt, options, &lockfile, out)
 }
 
-/// Prints what is found of the archives of these packages. Returns the status.
+/// Prints what is found of these packages. Returns the status.
 fn print_verified<R: Files + AllocGlobal, W: Write>(
     rt: &R,
     options: &ArgMatches<'_>,
@@ -84,8 +120,61 @@ fn print_verified<R: Files + AllocGlobal, W: Write>(
         (W.contents out.old) (W.contents out.new)
         (status ≡ ExitCode.FAILURE) (status ≡ ExitCode.SUCCESS)) }
 {
-    let subjects = subjects_of(rt, options, &lockfile.packages)?;
-    print_report(rt.alloc(), options, &subjects, out)
+    match options.get_str("vendor") {
+        Some(folder) => {
+            let vendored = vendored_of(rt, folder, &lockfile.packages)?;
+            print_vendor_report(rt.alloc(), &vendored, out)
+        }
+        None => {
+            let subjects = subjects_of(rt, options, &lockfile.packages)?;
+            print_report(rt.alloc(), options, &subjects, out)
+        }
+    }
+}
+
+/// The packages, each with its folders in a folder that `cargo vendor` made.
+fn vendored_of<'a, R: Files + AllocGlobal>(
+    rt: &R,
+    folder: &str,
+    packages: &'a [Package],
+) -> Result<Vec<Vendored<'a>>, Fault>
+    ensures { IfOk result
+        (λ vendored. AreVendoredOf packages.now (map vendored_of vendored.items)) }
+{
+    let vendor = Vendor::of(rt, folder)?;
+    vendored_with(rt, &vendor, packages)
+}
+
+/// The packages, each with its folders.
+fn vendored_with<'a, R: Files + AllocGlobal>(
+    rt: &R,
+    vendor: &Vendor,
+    packages: &'a [Package],
+) -> Result<Vec<Vendored<'a>>, Fault>
+    ensures { IfOk result
+        (λ vendored. AreVendoredOf packages.now (map vendored_of vendored.items)) }
+{
+    let mut vendored = Vec::with_capacity(rt.alloc(), packages.len())?;
+    for package in packages {
+        let folders = vendor.of_package(rt, package)?;
+        vendored.push(Vendored { package, folders })?;
+    }
+    Ok(vendored)
+}
+
+/// Prints what is found of these folders. Returns the status.
+fn print_vendor_report<W: Write>(
+    alloc: Global,
+    vendored: &[Vendored<'_>],
+    out: &mut W,
+) -> Result<ExitCode, Fault>
+    ensures { IfOk result (λ status. PrintsVendorReport (map vendored_of vendored.now)
+        (W.contents out.old) (W.contents out.new)
+        (status ≡ ExitCode.FAILURE) (status ≡ ExitCode.SUCCESS)) }
+{
+    let report = VendorReport::of(alloc, vendored)?;
+    put(out, format_args!("{report}"))?;
+    Ok(status_of(report.findings.is_empty()))
 }
 
 /// The packages, each with its archives in the folder that the arguments name.
@@ -129,9 +218,17 @@ fn print_report<W: Write>(
 {
     let report = Report::of(alloc, subjects, options.get_flag("all"))?;
     put(out, format_args!("{report}"))?;
-    if report.findings.is_empty() {
-        Ok(ExitCode::SUCCESS)
+    Ok(status_of(report.findings.is_empty()))
+}
+
+/// The status where nothing is found, or something.
+fn status_of(is_quiet: bool) -> ExitCode
+    ensures quiet { is_quiet ≡ true → result ≡ ExitCode.SUCCESS }
+    ensures found { is_quiet ≡ false → result ≡ ExitCode.FAILURE }
+{
+    if is_quiet {
+        ExitCode::SUCCESS
     } else {
-        Ok(ExitCode::FAILURE)
+        ExitCode::FAILURE
     }
 }

@@ -1,7 +1,9 @@
-//! Whether a file is the archive that a lockfile names.
+//! Whether a file is the archive that a lockfile names, and whether folders are as their lists say.
 
 use cargo_lock::{Error, Lockfile, Package};
-use cargo_lock_verify::{Archive, Subject, digest, findings};
+use cargo_lock_verify::{
+    Archive, Subject, VendorReport, Vendored, digest, findings, vendored_findings,
+};
 use std::fs::OpenOptions;
 use std::path::Path;
 
@@ -30,4 +32,20 @@ fn archive(rt: &HostRuntime, path: &str) -> Result<Archive, Error> {
     let digest = digest(&mut file)?;
     let path = String::from_str(rt.alloc(), path)?;
     Ok(Archive { path, digest })
+}
+
+/// Prints what is wrong with packages that have no folder.
+pub fn print_without_folders(rt: &HostRuntime, lockfile: &Lockfile) -> Result<(), Error> {
+    let alloc = rt.alloc();
+    let mut vendored = Vec::new(alloc);
+    for package in &lockfile.packages {
+        let folders = Vec::new(alloc);
+        vendored.push(Vendored { package, folders })?;
+    }
+    let found = vendored_findings(alloc, &vendored)?;
+    let report = VendorReport::of(alloc, &vendored)?;
+    if found.len() == report.findings.len() {
+        print!(rt; "{report}")?;
+    }
+    Ok(())
 }

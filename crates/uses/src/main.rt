@@ -174,7 +174,8 @@ fn print_difference(rt: &HostRuntime, lockfile: &Lockfile) -> Result<(), Error> 
     differences::print_changes(rt, lockfile, &changed)?;
     differences::print_no_change(rt, lockfile)?;
     println!(rt; "\narchives:")?;
-    archives::print_wrong(rt, lockfile, FILE)
+    archives::print_wrong(rt, lockfile, FILE)?;
+    archives::print_without_folders(rt, lockfile)
 }
 
 /// Runs the programs that take the text of a lockfile.

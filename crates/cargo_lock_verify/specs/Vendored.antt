@@ -1,0 +1,176 @@
+-- What is wrong with the folders of packages, as `cargo vendor` leaves them. Each has a list of its
+-- files, with the SHA-256 of each and of the archive of the package.
+use Rattle.std.specs.Prelude.{◌≡◌, ◌≢◌, ◌↔◌, ◌++◌, [], ◌∷◌, ℕ, Bool, IsSome, List, Option, None, Some, map}
+use Rattle.std.specs.Prelude.{String, bytes_eq, if◌then◌else◌, is_none, option_map, string_bytes}
+use Rattle.std.specs.BTreeMap.{BTreeMap, get_by_text}
+use Rattle.std.specs.List.{Contains, flat_map}
+use Rattle.std.specs.Option.{option_eq}
+use Rattle.cargo_lock_parts.specs.Checksum.{digest_of}
+use Rattle.cargo_lock_parts.specs.Identity.{PackageData}
+use Rattle.cargo_lock_parts.specs.Source.{Source}
+use Rattle.cargo_lock_parts.specs.declared.package.checksum.Checksum.{Checksum}
+use Rattle.cargo_lock_verify.specs.declared.folder.FileDigests.{FileDigests}
+use Rattle.cargo_lock_verify.specs.declared.folder.Folder.{Folder}
+use Rattle.cargo_lock_verify.specs.declared.folder.FolderFinding.{FolderFinding}
+use Rattle.cargo_lock_verify.specs.declared.folder.FolderFinding.TheVariants as finding
+use Rattle.cargo_lock_verify.specs.declared.folder.Vendored.{Vendored}
+
+-- a package, and the folders of its name and version
+pub record VendoredData : Type 0 where
+  pub content : PackageData
+  pub folders : List Folder
+
+-- the data of a package of the program
+abbrev pub vendored_of : Vendored → VendoredData
+vendored_of v = record { content = v.«package».now; folders = v.folders.items }
+
+-- a file of a list: its path, and its digest
+pub record ListedData : Type 0 where
+  pub path : List ℕ
+  pub digest : List ℕ
+
+-- the data of a file of the program
+abbrev pub listed_of : {Y : Type 0} → String Y → Checksum → ListedData
+listed_of path digest = record { path = string_bytes path; digest = digest_of digest }
+
+-- the files of a list, or those of a folder, in the order of their paths
+abbrev pub files_of : {Y : Type 0} → BTreeMap (String Y) Checksum → List ListedData
+files_of files = map (λ e. listed_of e.0 e.1) files.entries
+
+-- the digest at a path
+abbrev pub digest_at : {Y : Type 0} → BTreeMap (String Y) Checksum → List ℕ → Option (List ℕ)
+digest_at files path = option_map digest_of (get_by_text files path)
+
+-- What is found: a package with a source has no folder; the list of a folder has another digest of
+-- the archive than the lockfile; a file of a list is missing, or has another digest, which comes
+-- first, than the list says; a file is not in the list; or there is a link.
+pub data FindingData : Type 0 where
+  NoFolder : PackageData → FindingData
+  OtherArchive : PackageData → Folder → FindingData
+  Absent : PackageData → Folder → List ℕ → FindingData
+  OtherFile : PackageData → Folder → List ℕ → List ℕ → List ℕ → FindingData
+  Unlisted : PackageData → Folder → List ℕ → FindingData
+  Link : PackageData → Folder → List ℕ → FindingData
+
+-- the data of a finding of the program
+abbrev pub finding_of : FolderFinding → FindingData
+finding_of (finding.NoFolder p) = NoFolder p.now
+finding_of (finding.OtherArchive p f) = OtherArchive p.now f.now
+finding_of (finding.Absent p f path) = Absent p.now f.now (string_bytes path.now)
+finding_of (finding.OtherFile p f file) = OtherFile p.now f.now (string_bytes file.path.now)
+    (digest_of file.digest.now) (digest_of file.listed.now)
+finding_of (finding.Unlisted p f path) = Unlisted p.now f.now (string_bytes path.now)
+finding_of (finding.Link p f path) = Link p.now f.now (string_bytes path.now)
+
+-- the list of the folder has the digest of the archive that the lockfile has, if both have one
+abbrev pub is_same_archive : PackageData → Folder → Bool
+is_same_archive p f = option_eq bytes_eq (option_map digest_of f.archive) p.checksum
+
+-- what is found of the archive in the list of a folder
+abbrev pub archive_found : PackageData → Folder → List FindingData
+archive_found p f = if is_same_archive p f then [] else OtherArchive p f ∷ []
+
+-- what is found of a file of the list, where this digest, or none, is that of the file
+abbrev pub listed_by : PackageData → Folder → ListedData → Option (List ℕ) → List FindingData
+listed_by p f l None = Absent p f l.path ∷ []
+listed_by p f l (Some digest) = if bytes_eq digest l.digest then []
+    else OtherFile p f l.path digest l.digest ∷ []
+
+-- what is found of a file of the list
+abbrev pub of_listed : PackageData → Folder → ListedData → List FindingData
+of_listed p f l = listed_by p f l (digest_at f.files l.path)
+
+-- what is found of the files of the list
+abbrev pub listed_found : PackageData → Folder → List FindingData
+listed_found p f = flat_map (of_listed p f) (files_of f.listed)
+
+-- what is found of a file that is there
+abbrev pub of_file : PackageData → Folder → ListedData → List FindingData
+of_file p f l = if is_none (get_by_text f.listed l.path) then Unlisted p f l.path ∷ [] else []
+
+-- what is found of the files that are there
+abbrev pub files_found : PackageData → Folder → List FindingData
+files_found p f = flat_map (of_file p f) (files_of f.files)
+
+-- what is found of the links that are there
+abbrev pub links_found : PackageData → Folder → List FindingData
+links_found p f = map (λ l. Link p f (string_bytes l)) f.links.items
+
+-- what is found of a folder
+abbrev pub folder_found : PackageData → Folder → List FindingData
+folder_found p f = archive_found p f ++ (listed_found p f ++ (files_found p f ++ links_found p f))
+
+-- what is found of each of some folders
+abbrev pub each_found : PackageData → List Folder → List FindingData
+each_found p = flat_map (folder_found p)
+
+-- what is found of the folders of a package with a source
+abbrev pub folders_found : PackageData → List Folder → List FindingData
+folders_found p [] = NoFolder p ∷ []
+folders_found p (f ∷ rest) = each_found p (f ∷ rest)
+
+-- what is found of the folders of a package, which has this source
+abbrev pub found_by : VendoredData → Option Source → List FindingData
+found_by v None = []
+found_by v (Some s) = folders_found v.content v.folders
+
+-- what is found of the folders of a package
+abbrev pub vendored_found : VendoredData → List FindingData
+vendored_found v = found_by v v.content.source
+
+-- what is found of packages, in their order
+abbrev pub findings : List VendoredData → List FindingData
+findings = flat_map vendored_found
+
+-- ---- as the program has them
+
+-- what is found of a file of the program
+abbrev pub file_found : PackageData → Folder → FileDigests → List FindingData
+file_found p f file = listed_by p f (listed_of file.path.now file.listed.now)
+    (Some (digest_of file.digest.now))
+
+-- ---- the same as relations
+
+-- the folder is as its list says: it has the archive of the package, each file of the list with its
+-- digest, no other file, and no link
+pub record IsAsListed (p : PackageData) (f : Folder) : Type 0 where
+  pub archive : option_map digest_of f.archive ≡ p.checksum
+  pub listed : (l : ListedData) → Contains (files_of f.listed) l
+      → digest_at f.files l.path ≡ Some l.digest
+  pub files : (l : ListedData) → Contains (files_of f.files) l
+      → IsSome (digest_at f.listed l.path)
+  pub links : f.links.items ≡ []
+
+-- the package has a folder, and each of its folders is as its list says
+pub record IsVendored (v : VendoredData) : Type 0 where
+  pub some : v.folders ≢ []
+  pub each : (f : Folder) → Contains v.folders f → IsAsListed v.content f
+
+-- nothing is found exactly if each package with a source has a folder, and each of its folders is
+-- as its list says
+abbrev pub NoneIfVendored : Type 0
+NoneIfVendored = (all : List VendoredData) → (findings all ≡ [])
+    ↔ ((v : VendoredData) → Contains all v → v.content.source ≢ None → IsVendored v)
+
+-- this is found of the folder of a package
+abbrev pub IsFoundIn : PackageData → Folder → FindingData → Type 0
+IsFoundIn p f (NoFolder q) = ⊥
+IsFoundIn p f (OtherArchive q g) = (q ≡ p) × (g ≡ f) × (option_map digest_of f.archive ≢ p.checksum)
+IsFoundIn p f (Absent q g path) = (q ≡ p) × (g ≡ f) × ((l : ListedData)
+    × Contains (files_of f.listed) l × (l.path ≡ path) × (digest_at f.files path ≡ None))
+IsFoundIn p f (OtherFile q g path digest listed) = (q ≡ p) × (g ≡ f)
+    × Contains (files_of f.listed) (record { path = path; digest = listed })
+    × (digest_at f.files path ≡ Some digest) × (digest ≢ listed)
+IsFoundIn p f (Unlisted q g path) = (q ≡ p) × (g ≡ f) × ((l : ListedData)
+    × Contains (files_of f.files) l × (l.path ≡ path) × (digest_at f.listed path ≡ None))
+IsFoundIn p f (Link q g path) = (q ≡ p) × (g ≡ f) × Contains (map string_bytes f.links.items) path
+
+-- this is found of the folders of a package with a source: it has none, or it is found of one
+abbrev pub IsFoundOf : VendoredData → FindingData → Type 0
+IsFoundOf v (NoFolder q) = (q ≡ v.content) × (v.folders ≡ [])
+IsFoundOf v other = (f : Folder) × Contains v.folders f × IsFoundIn v.content f other
+
+-- what is found is exactly that, of each package with a source
+abbrev pub FolderFindingsAreExact : Type 0
+FolderFindingsAreExact = (all : List VendoredData) (x : FindingData) → Contains (findings all) x
+    ↔ ((v : VendoredData) × Contains all v × (v.content.source ≢ None) × IsFoundOf v x)

@@ -1,0 +1,153 @@
+//! Files and folders: their names, digests and texts, and the errors of those that are not read.
+
+use cargo_lock::Error;
+use cargo_lock::package::Checksum;
+use cargo_lock_verify::digest;
+use cli_support::Fault;
+use cli_support::fault::path_shown;
+use std::alloc::{AllocError, Global};
+use std::fs::{self, OpenOptions};
+use std::io::{self, ErrorKind, Read};
+use std::path::Path;
+use std::rt::Files;
+
+/// How many bytes of names are read at once. The system refuses a read that a name does not fit.
+const PIECE: usize = 4096;
+
+/// The length in bytes from which on a manifest or a list of files is refused.
+const LIMIT: u64 = 1 << 24;
+
+/// The digest of the file at a path.
+pub(crate) fn digest_at<R: Files>(rt: &R, path: &str) -> io::Result<Checksum> {
+    let mut file = OpenOptions::new().read(true).open(rt, Path::new(path))?;
+    digest(&mut file)
+}
+
+/// The names in a folder, in order. One that is not UTF-8 is left out. Fails if the folder is not
+/// read.
+pub(crate) fn names_in<R: Files + AllocGlobal>(rt: &R, folder: &str) -> Result<Vec<String>, Fault> {
+    match bytes_in(rt, folder) {
+        Ok(bytes) => names_of(rt.alloc(), &bytes),
+        Err(error) => Err(fault_at(rt.alloc(), folder, error)),
+    }
+}
+
+/// The names in a folder, in order. Fails if the folder is not read, and if one is not UTF-8.
+pub(crate) fn all_names_in<R: Files + AllocGlobal>(
+    rt: &R,
+    folder: &str,
+) -> Result<Vec<String>, Fault> {
+    match bytes_in(rt, folder) {
+        Ok(bytes) => {
+            if str::from_utf8(&bytes).is_err() {
+                return Err(fault_of(rt.alloc(), folder, "a name in it is not UTF-8"));
+            }
+            names_of(rt.alloc(), &bytes)
+        }
+        Err(error) => Err(fault_at(rt.alloc(), folder, error)),
+    }
+}
+
+/// The names in a folder, each with a zero byte after it. The path is opened with a slash at its end,
+/// so that it may be a link to a folder.
+fn bytes_in<R: Files + AllocGlobal>(rt: &R, folder: &str) -> io::Result<Vec<u8>> {
+    if folder.is_empty() {
+        return Err(io::Error::from(ErrorKind::NotFound));
+    }
+    let folder = path_of(rt.alloc(), folder, "")?;
+    let mut names = rt.open_dir(&folder)?;
+    let mut bytes = Vec::new(rt.alloc());
+    let mut piece = [0; PIECE];
+    for _ in 0..u64::MAX {
+        let count = names.read(&mut piece)?;
+        if count == 0 {
+            return Ok(bytes);
+        }
+        bytes.extend_from_slice(&piece[..count])?;
+    }
+    Err(io::Error::from(ErrorKind::FileTooLarge))
+}
+
+/// The names of such bytes, in order, but for the folder itself and the one above.
+fn names_of(alloc: Global, bytes: &[u8]) -> Result<Vec<String>, Fault> {
+    let mut names = Vec::new(alloc);
+    for name in bytes.split(|byte| *byte == 0) {
+        match str::from_utf8(name) {
+            Ok("" | "." | "..") | Err(_) => {}
+            Ok(name) => names.push(String::from_str(alloc, name)?)?,
+        }
+    }
+    names.sort()?;
+    Ok(names)
+}
+
+/// The path of a name in a folder.
+pub(crate) fn path_of(alloc: Global, folder: &str, name: &str) -> Result<String, AllocError> {
+    if folder.ends_with('/') {
+        format!(in alloc; "{folder}{name}")
+    } else {
+        format!(in alloc; "{folder}/{name}")
+    }
+}
+
+/// Whether a folder is at the path, or a link to one.
+pub(crate) fn is_folder<R: Files>(rt: &R, path: &str) -> bool {
+    fs::metadata(rt, Path::new(path)).is_ok_and(|found| found.is_dir())
+}
+
+/// Whether a file is at the path, or a link to one.
+pub(crate) fn is_file<R: Files>(rt: &R, path: &str) -> bool {
+    fs::metadata(rt, Path::new(path)).is_ok_and(|found| found.is_file())
+}
+
+/// The error of a file or folder, with its path.
+pub(crate) fn fault_at(alloc: Global, path: &str, error: io::Error) -> Fault {
+    if error.kind() == ErrorKind::OutOfMemory {
+        return Fault::Library(Error::Memory);
+    }
+    match path_shown(alloc, Path::new(path)) {
+        Ok(path) => Fault::File(path, Error::from(error)),
+        Err(refused) => Fault::from(refused),
+    }
+}
+
+/// The error of a file or folder whose content is refused, with its path and the reason.
+pub(crate) fn fault_of(alloc: Global, path: &str, why: &str) -> Fault {
+    match refusal_of(alloc, path, why) {
+        Ok(fault) => fault,
+        Err(refused) => Fault::from(refused),
+    }
+}
+
+fn refusal_of(alloc: Global, path: &str, why: &str) -> Result<Fault, AllocError> {
+    let path = path_shown(alloc, Path::new(path))?;
+    let why = String::from_str(alloc, why)?;
+    Ok(Fault::File(path, Error::Parse(why)))
+}
+
+/// The text of a file. Fails if it is not read, is not UTF-8, or has 16 MiB or more.
+pub(crate) fn text_at<R: Files + AllocGlobal>(rt: &R, path: &str) -> Result<String, Fault> {
+    match bytes_at(rt, path) {
+        Ok(bytes) => text_of(rt.alloc(), path, bytes),
+        Err(error) => Err(fault_at(rt.alloc(), path, error)),
+    }
+}
+
+/// The first bytes of a file, at most as many as the limit.
+fn bytes_at<R: Files + AllocGlobal>(rt: &R, path: &str) -> io::Result<Vec<u8>> {
+    let file = OpenOptions::new().read(true).open(rt, Path::new(path))?;
+    let mut bytes = Vec::new(rt.alloc());
+    file.take(LIMIT).read_to_end(&mut bytes)?;
+    Ok(bytes)
+}
+
+/// The text of the bytes of a file.
+fn text_of(alloc: Global, path: &str, bytes: Vec<u8>) -> Result<String, Fault> {
+    if bytes.len() as u64 >= LIMIT {
+        return Err(fault_of(alloc, path, "it has 16 MiB or more"));
+    }
+    match String::from_utf8(bytes) {
+        Ok(text) => Ok(text),
+        Err(_) => Err(fault_of(alloc, path, "it is not UTF-8")),
+    }
+}

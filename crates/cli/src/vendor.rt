@@ -1,0 +1,298 @@
+//! The folders in a folder that `cargo vendor` made.
+
+use crate::files::{
+    all_names_in, digest_at, fault_at, fault_of, is_file, names_in, path_of, text_at,
+};
+use cargo_lock::Error;
+use cargo_lock::package::{Checksum, Package};
+use cargo_lock_verify::Folder;
+use cli_support::Fault;
+use serde_json::{Category, Value};
+use std::alloc::{AllocError, Global};
+use std::collections::BTreeMap;
+use std::fs;
+use std::path::Path;
+use std::rt::Files;
+use toml::Table;
+
+/// The list of the files of a folder.
+const LIST: &str = ".cargo-checksum.json";
+
+/// The manifest of a folder.
+const MANIFEST: &str = "Cargo.toml";
+
+/// The paths of the folders with a manifest, by the name and the version that it has. No path is
+/// made of a name of a lockfile.
+#[derive(Drop)]
+pub(crate) struct Vendor {
+    folders: BTreeMap<String, Vec<String>>,
+}
+
+impl Vendor {
+    /// Reads the manifests of the folders in a folder. A folder whose name begins with a dot, one
+    /// without a manifest, and one whose manifest has no name and no version are left out, and so
+    /// is a link. Fails if a folder or a manifest is not read.
+    pub(crate) fn of<R: Files + AllocGlobal>(rt: &R, folder: &str) -> Result<Vendor, Fault> {
+        let mut vendor = Vendor {
+            folders: BTreeMap::new(rt.alloc()),
+        };
+        for name in &names_in(rt, folder)? {
+            if !name.starts_with('.') {
+                vendor.put(rt, path_of(rt.alloc(), folder, name)?)?;
+            }
+        }
+        Ok(vendor)
+    }
+
+    /// Adds what is at a path, if it is a folder with a manifest.
+    fn put<R: Files + AllocGlobal>(&mut self, rt: &R, path: String) -> Result<(), Fault> {
+        let manifest = path_of(rt.alloc(), &path, MANIFEST)?;
+        if kind_at(rt, &path)? != Kind::Folder || !is_file(rt, &manifest) {
+            return Ok(());
+        }
+        match identity_at(rt, &manifest)? {
+            Some(identity) => self.put_path(rt.alloc(), identity, path),
+            None => Ok(()),
+        }
+    }
+
+    /// Adds the path of a folder of this name and version.
+    fn put_path(&mut self, alloc: Global, identity: String, path: String) -> Result<(), Fault> {
+        if let Some(paths) = self.folders.get_mut(identity.as_str()) {
+            paths.push(path)?;
+            return Ok(());
+        }
+        let mut paths = Vec::new(alloc);
+        paths.push(path)?;
+        self.folders.insert(identity, paths)?;
+        Ok(())
+    }
+
+    /// The folders of a package with a source. Fails if one is not read.
+    pub(crate) fn of_package<R: Files + AllocGlobal>(
+        &self,
+        rt: &R,
+        package: &Package,
+    ) -> Result<Vec<Folder>, Fault> {
+        let mut folders = Vec::new(rt.alloc());
+        if package.source.is_none() {
+            return Ok(folders);
+        }
+        let identity = identity_of(rt.alloc(), package)?;
+        if let Some(paths) = self.folders.get(identity.as_str()) {
+            for path in paths {
+                folders.push(folder_at(rt, path)?)?;
+            }
+        }
+        Ok(folders)
+    }
+}
+
+/// The name and the version of a package.
+fn identity_of(alloc: Global, package: &Package) -> Result<String, AllocError> {
+    let name = &package.name;
+    let version = &package.version;
+    format!(in alloc; "{name} {version}")
+}
+
+/// The name and the version that a manifest has.
+fn identity_at<R: Files + AllocGlobal>(rt: &R, path: &str) -> Result<Option<String>, Fault> {
+    let text = text_at(rt, path)?;
+    match toml::table_from_str(rt.alloc(), text.as_str()) {
+        Ok(table) => Ok(identity_in(rt.alloc(), &table)?),
+        Err(error) if error.is_memory() => Err(Fault::Library(Error::Memory)),
+        Err(_) => Err(fault_of(rt.alloc(), path, "it is not TOML")),
+    }
+}
+
+/// The name and the version in the table of a manifest.
+fn identity_in(alloc: Global, manifest: &Table) -> Result<Option<String>, AllocError> {
+    let package = match manifest.get("package") {
+        Some(package) => package,
+        None => return Ok(None),
+    };
+    match (text_in(package, "name"), text_in(package, "version")) {
+        (Some(name), Some(version)) => Ok(Some(format!(in alloc; "{name} {version}")?)),
+        _ => Ok(None),
+    }
+}
+
+/// The text at a key of a table.
+fn text_in<'a>(table: &'a toml::Value, key: &str) -> Option<&'a str> {
+    match table.get(key) {
+        Some(value) => value.as_str(),
+        None => None,
+    }
+}
+
+// ---- a folder
+
+/// What is at a path.
+#[derive(Clone, Copy, PartialEq, Eq)]
+enum Kind {
+    /// A file.
+    File,
+
+    /// A folder.
+    Folder,
+
+    /// A link.
+    Link,
+
+    /// Nothing of these.
+    Other,
+}
+
+/// What is at a path. A link is not followed.
+fn kind_at<R: Files + AllocGlobal>(rt: &R, path: &str) -> Result<Kind, Fault> {
+    match fs::symlink_metadata(rt, Path::new(path)) {
+        Ok(found) if found.is_file() => Ok(Kind::File),
+        Ok(found) if found.is_dir() => Ok(Kind::Folder),
+        Ok(found) if found.is_symlink() => Ok(Kind::Link),
+        Ok(_) => Ok(Kind::Other),
+        Err(error) => Err(fault_at(rt.alloc(), path, error)),
+    }
+}
+
+/// The list of the folder at a path, and the files and links in it.
+fn folder_at<R: Files + AllocGlobal>(rt: &R, path: &str) -> Result<Folder, Fault> {
+    let mut folder = Folder {
+        path: String::from_str(rt.alloc(), path)?,
+        archive: None,
+        listed: BTreeMap::new(rt.alloc()),
+        files: BTreeMap::new(rt.alloc()),
+        links: Vec::new(rt.alloc()),
+    };
+    put_list(rt, &mut folder)?;
+    put_all_files(rt, &mut folder)?;
+    Ok(folder)
+}
+
+/// Adds what is in the folder, and in each folder in it.
+fn put_all_files<R: Files + AllocGlobal>(rt: &R, folder: &mut Folder) -> Result<(), Fault> {
+    let mut waiting = Vec::new(rt.alloc());
+    waiting.push(String::new(rt.alloc()))?;
+    for _ in 0..u64::MAX {
+        match waiting.pop() {
+            Some(inner) => put_files_in(rt, folder, &mut waiting, &inner)?,
+            None => return Ok(()),
+        }
+    }
+    Ok(())
+}
+
+/// Adds what is in a folder in the folder, where the folders in it go to those that are waiting.
+fn put_files_in<R: Files + AllocGlobal>(
+    rt: &R,
+    folder: &mut Folder,
+    waiting: &mut Vec<String>,
+    inner: &str,
+) -> Result<(), Fault> {
+    let at = joined(rt.alloc(), &folder.path, inner)?;
+    for name in &all_names_in(rt, &at)? {
+        let path = joined(rt.alloc(), inner, name)?;
+        put_at(rt, folder, waiting, path)?;
+    }
+    Ok(())
+}
+
+/// The path of what is at a path in a folder, where one of the two may be empty.
+fn joined(alloc: Global, folder: &str, path: &str) -> Result<String, AllocError> {
+    if folder.is_empty() {
+        String::from_str(alloc, path)
+    } else if path.is_empty() {
+        String::from_str(alloc, folder)
+    } else {
+        path_of(alloc, folder, path)
+    }
+}
+
+/// Adds what is at a path in the folder.
+fn put_at<R: Files + AllocGlobal>(
+    rt: &R,
+    folder: &mut Folder,
+    waiting: &mut Vec<String>,
+    path: String,
+) -> Result<(), Fault> {
+    let at = path_of(rt.alloc(), &folder.path, &path)?;
+    match kind_at(rt, &at)? {
+        Kind::Folder => waiting.push(path)?,
+        Kind::Link => folder.links.push(path)?,
+        Kind::File if path.as_str() == LIST => {}
+        Kind::File => put_file(rt, folder, path, &at)?,
+        Kind::Other => return Err(fault_of(rt.alloc(), &at, "it is no file")),
+    }
+    Ok(())
+}
+
+/// Adds the file at a path in the folder, with the digest of its bytes.
+fn put_file<R: Files + AllocGlobal>(
+    rt: &R,
+    folder: &mut Folder,
+    path: String,
+    at: &str,
+) -> Result<(), Fault> {
+    match digest_at(rt, at) {
+        Ok(digest) => {
+            folder.files.insert(path, digest)?;
+            Ok(())
+        }
+        Err(error) => Err(fault_at(rt.alloc(), at, error)),
+    }
+}
+
+// ---- the list of a folder
+
+/// Adds what the list of the folder says.
+fn put_list<R: Files + AllocGlobal>(rt: &R, folder: &mut Folder) -> Result<(), Fault> {
+    let path = path_of(rt.alloc(), &folder.path, LIST)?;
+    if kind_at(rt, &path)? != Kind::File {
+        return Err(fault_of(rt.alloc(), &path, "it is no file"));
+    }
+    let text = text_at(rt, &path)?;
+    match Value::from_str(rt.alloc(), text.as_str()) {
+        Ok(list) => put_list_of(rt.alloc(), folder, &path, &list),
+        Err(error) if error.classify() == Category::Memory => Err(Fault::Library(Error::Memory)),
+        Err(_) => Err(fault_of(rt.alloc(), &path, "it is not JSON")),
+    }
+}
+
+/// Adds what this list says.
+fn put_list_of(alloc: Global, folder: &mut Folder, path: &str, list: &Value) -> Result<(), Fault> {
+    folder.archive = archive_in(alloc, path, list)?;
+    let files = match list.get("files").and_then(Value::as_object) {
+        Some(files) => files,
+        None => return Err(fault_of(alloc, path, "it has no `files`")),
+    };
+    for (file, digest) in files {
+        if !is_inside(file) {
+            return Err(fault_of(alloc, path, "a path in it leads out of the folder"));
+        }
+        let digest = digest_in(alloc, path, digest)?;
+        folder.listed.insert(file.clone()?, digest)?;
+    }
+    Ok(())
+}
+
+/// The digest of the archive in a list, if it has one.
+fn archive_in(alloc: Global, path: &str, list: &Value) -> Result<Option<Checksum>, Fault> {
+    match list.get("package") {
+        Some(Value::Null) | None => Ok(None),
+        Some(digest) => Ok(Some(digest_in(alloc, path, digest)?)),
+    }
+}
+
+/// The digest that a value of a list is.
+fn digest_in(alloc: Global, path: &str, digest: &Value) -> Result<Checksum, Fault> {
+    let text = digest.as_str().unwrap_or("");
+    match Checksum::from_str(alloc, text) {
+        Ok(digest) => Ok(digest),
+        Err(Error::Memory) => Err(Fault::Library(Error::Memory)),
+        Err(_) => Err(fault_of(alloc, path, "a digest in it is not SHA-256")),
+    }
+}
+
+/// Whether a path stays in its folder: it is not absolute, and no part of it is `..`.
+fn is_inside(path: &str) -> bool {
+    !path.starts_with('/') && path.split('/').all(|part| part != "..")
+}
