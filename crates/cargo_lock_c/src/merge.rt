@@ -77,7 +77,7 @@ pub extern "C" fn cargo_lock_merge(
     ensures { IsMergeTold Text base.now ours.now theirs.now result out.old out.new
         length.old length.new }
 {
-    match told(alloc, base, ours, theirs, Part::Text) {
+    match read_and_merge(alloc, base, ours, theirs, Part::Text) {
         Ok(told) => hand_out_told(&told, out, length),
         Err(refusal) => refusal.status(),
     }
@@ -98,7 +98,7 @@ pub extern "C" fn cargo_lock_merge_moved(
     ensures { IsMergeTold Moved base.now ours.now theirs.now result out.old out.new
         length.old length.new }
 {
-    match told(alloc, base, ours, theirs, Part::Moved) {
+    match read_and_merge(alloc, base, ours, theirs, Part::Moved) {
         Ok(told) => hand_out_told(&told, out, length),
         Err(refusal) => refusal.status(),
     }
@@ -119,7 +119,13 @@ fn hand_out_told(told: &Told, out: &mut [u8], length: &mut usize) -> u32
 }
 
 /// How the merge of the lockfiles of three texts' bytes ends, and the text about it.
-fn told(alloc: Global, base: &[u8], ours: &[u8], theirs: &[u8], part: Part) -> Result<Told, Refusal>
+fn read_and_merge(
+    alloc: Global,
+    base: &[u8],
+    ours: &[u8],
+    theirs: &[u8],
+    part: Part,
+) -> Result<Told, Refusal>
     ensures ok { IfOk result (λ told. IsMergeText part base.now ours.now theirs.now told.ending
         (string_bytes told.text)) }
     ensures err { IfErr result (LacksMerge base.now ours.now theirs.now) }
