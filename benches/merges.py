@@ -1,5 +1,5 @@
-"""Three lockfiles of a merge: generated ones, and shapes in which each package, reference or conflict
-might be compared with each other one."""
+"""Three lockfiles of a merge: generated ones, and shapes in which each package, reference or
+conflict might be compared with each other one."""
 import random
 import types
 
@@ -115,7 +115,8 @@ def of_registries(count):
 
 def with_suffix(count):
     """One name and version from so many git sources, of which two differ only in `.git`."""
-    return of_sources(count, lambda it: f"git+https://git.example/{it // 2:06}{('', '.git')[it % 2]}")
+    ends = ("", ".git")
+    return of_sources(count, lambda it: f"git+https://git.example/{it // 2:06}{ends[it % 2]}")
 
 
 def of_repository(count):
@@ -191,7 +192,8 @@ def of_metadata(count):
         keys += [f'"own {it:06}" = "{side if it % 3 == side else 0}"' for it in range(count)]
         needs = [f"{left(it)} 1.0.0 ({CRATES_IO})" for it in range(count)]
         app = package("app", "0.1.0", needs=needs)
-        texts.append(f"{shapes.HEAD}{app}{''.join(packages)}\n[metadata]\n" + "\n".join(keys) + "\n")
+        head = f"{shapes.HEAD}{app}{''.join(packages)}\n[metadata]\n"
+        texts.append(head + "\n".join(keys) + "\n")
     return texts
 
 
@@ -199,9 +201,10 @@ def of_patches(count):
     """So many unused patches, of which each side has others."""
     texts = []
     for side in range(3):
+        versions = [f"1.0.{side if it % 3 == side else 0}" for it in range(count)]
         unused = [
-            f'\n[[patch.unused]]\nname = "{left(it)}"\nversion = "1.0.{side if it % 3 == side else 0}"\n'
-            for it in range(count)
+            f'\n[[patch.unused]]\nname = "{left(at)}"\nversion = "{it}"\n'
+            for at, it in enumerate(versions)
         ]
         texts.append(lockfile(package("app", "0.1.0"), *unused))
     return texts

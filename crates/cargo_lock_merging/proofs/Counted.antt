@@ -1,5 +1,5 @@
 -- How many packages without a source have a name, one package after another.
-use Rattle.std.proofs.Common.{◌≡◌, ◌≢◌, ◌∙◌, ◌<◌, ◌+◌, ◌↔◌, ◌⊎◌, ℕ, Bool, true, false, cond, List, Option, Some, None, get_or, is_none, length, take, ap, arith, inl, inr, refl, sym}
+use Rattle.std.proofs.Common.{◌≡◌, ◌≢◌, ◌∙◌, ◌<◌, ◌+◌, ◌↔◌, ◌⊎◌, ℕ, Bool, true, false, cond, List, Option, Some, None, get_or, is_none, is_some, length, not, take, ap, arith, inl, inr, refl, sym}
 use Rattle.std.specs.BTreeMap.{BTreeMap}
 use Rattle.std.specs.Borrow.{Bor}
 use Rattle.std.specs.Cmp.Lexicographic.{slice_cmp}
@@ -50,3 +50,12 @@ pub counted-same : (ps : List PackageData) (i : ℕ) (p : PackageData) (old : BT
     → AreCounts (take i ps) old → AreCounts (take (i + 1) ps) old
 counted-same ps i p old within is sourced so-far name = so-far name
     ∙ sym (count_by_more_no (is_member_named name) ps i p within (ap (is_member_named name) (sym is) ∙ ap (λ b. b && bytes_eq name p.name) sourced))
+
+-- what `is_none` says of a source
+pub none-of : {X : Type 0} (o : Option X) (b : Bool) → is_some o ≡ not b → b ≡ true → o ≡ None
+none-of None b says holds = refl
+none-of (Some x) b says holds = let w : true ≡ false = says ∙ ap not holds in cc w
+
+pub some-of : {X : Type 0} (o : Option X) (b : Bool) → is_some o ≡ not b → b ≡ false → is_none o ≡ false
+some-of None b says fails = let w : false ≡ true = says ∙ ap not fails in cc w
+some-of (Some x) b says fails = refl
