@@ -1,10 +1,15 @@
 -- Why three texts have no merge, and the text about one.
-use Rattle.std.proofs.Common.{◌≡◌, ◌≤◌, ◌⊎◌, ℕ, List, arith, inl, inr, refl, subst, sym}
+use Rattle.std.proofs.Common.{◌≡◌, ◌∙◌, ◌≤◌, ◌<◌, ◌+◌, ◌⊎◌, ℕ, List, [], ◌∷◌, ◌++◌, length, take, get_or, ap, arith, inl, inr, refl, subst, sym}
+use Rattle.std.specs.List.{flat_map}
+use Rattle.std.proofs.lemmas.List.{flat_map_more, take_more}
+use Rattle.cargo_lock_encoding.specs.Lockfiles.{LockfileData}
+use Rattle.cargo_lock_merge.specs.Lines.{moved_line}
+use Rattle.cargo_lock_merge.specs.declared.moved.Moved.{Moved}
 use Rattle.cargo_lock_c.specs.declared.merge.Ending.{Ending}
 use Rattle.cargo_lock_c.specs.declared.refusal.Refusal.{Refusal}
 use Rattle.cargo_lock_c.specs.declared.refusal.Refusal.TheVariants.{NoLockfile, NoText, NoMemory, NoFormat, Lost, Unresolved, NoPackage, NoLine, NoNewLockfile, NoNewText, Repeated, NothingFits, NoSpecText, NoThirdLockfile, NoThirdText}
 use Rattle.cargo_lock_c.specs.Answers.{IsHandedOut}
-use Rattle.cargo_lock_c.specs.Merges.{IsHandedOutWith, IsRead, IsTold, LacksMerge, status_with}
+use Rattle.cargo_lock_c.specs.Merges.{IsComparedOf, IsHandedOutWith, IsRead, IsTold, LacksMerge, moved_lines, status_with}
 use Rattle.cargo_lock_c.specs.Statuses.{refusal_of_new, refusal_of_third, status_of}
 use Rattle.cargo_lock_c.specs.Texts.{RefusesText}
 use Rattle.cargo_lock_c.proofs.HandedOut.{handed-answer}
@@ -72,7 +77,22 @@ lacks-third base ours theirs NoThirdText h below first second = absurd (omega (a
 pub memory-lacks : (base ours theirs : List ℕ) (r : Refusal) → r ≡ NoMemory → LacksMerge base ours theirs r
 memory-lacks base ours theirs r memory = subst (LacksMerge base ours theirs) (sym memory) tt
 
+-- a lockfile of the text was read
+pub is-read : (text : List ℕ) (x : LockfileData) → IsComparedOf text x → IsRead text
+is-read text x h = (h.0, h.1)
+
 -- ---- the text in the caller's buffer
+
+-- what a copy leaves is what is handed out with the status of the ending
+pub handed-done : (ending : Ending) (text : List ℕ) (handed : ℕ) (old new : List ℕ) (before after : ℕ) → handed ≡ 0
+    → IsHandedOut (λ given. given ≡ text) handed old new before after → IsHandedOutWith ending text (status_with ending) old new before after
+handed-done ending text handed old new before after is h =
+    inl (refl, subst (λ (n : ℕ). IsHandedOut (λ given. given ≡ text) n old new before after) is h)
+
+pub handed-full : (ending : Ending) (text : List ℕ) (handed : ℕ) (old new : List ℕ) (before after : ℕ) → handed ≡ 5
+    → IsHandedOut (λ given. given ≡ text) handed old new before after → IsHandedOutWith ending text handed old new before after
+handed-full ending text handed old new before after is h =
+    inr (is, subst (λ (n : ℕ). IsHandedOut (λ given. given ≡ text) n old new before after) is h)
 
 -- a text of which P holds is in the buffer, or longer than it
 pub told-text : (P : Ending → List ℕ → Type 0) (Lacks : Refusal → Type 0) (ending : Ending) (text : List ℕ) (status : ℕ) (old new : List ℕ) (before after : ℕ)
@@ -86,3 +106,15 @@ told-text P Lacks ending text status old new before after holds (inr full) =
 pub told-refusal : (P : Ending → List ℕ → Type 0) (Lacks : Refusal → Type 0) (refusal : Refusal) (status : ℕ) (old : List ℕ) (before : ℕ)
     → status ≡ status_of refusal → Lacks refusal → IsTold P Lacks status old old before before
 told-refusal P Lacks refusal status old before told lacks = inr (inr (refusal, told, lacks, refl, refl))
+
+-- ---- moved references
+
+-- after the lines of the references before it, that of the next one
+pub moved-more : (ms : List Moved) (i : ℕ) (m : Moved) (a b line : List ℕ)
+    → i < length ms → m ≡ get_or ms i m → a ≡ moved_lines (take i ms)
+    → line ≡ moved_line m ++ 10 ∷ [] → b ≡ a ++ line → b ≡ moved_lines (take (i + 1) ms)
+moved-more ms i m a b line within is before text after =
+    let ended : Moved → List ℕ = λ r. moved_line r ++ 10 ∷ [] in
+    let item : take (i + 1) ms ≡ take i ms ++ m ∷ [] = take_more ms i m within ∙ ap (λ (x : Moved). take i ms ++ x ∷ []) (sym is) in
+    let more : a ++ line ≡ flat_map ended (take i ms) ++ ended m = rw (before, text) refl in
+    after ∙ more ∙ flat_map_more ended [] (take i ms) m ∙ ap (flat_map ended) (sym item)

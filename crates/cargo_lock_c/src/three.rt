@@ -82,6 +82,6 @@ fn read_compared(alloc: Global, bytes: &[u8]) -> Result<Lockfile, Refusal>
     ensures below { IfErr result (λ refusal. status_of refusal ≤ 3) }
 {
     let lockfile = read(alloc, bytes)?;
-    let lockfile = compared(alloc, lockfile)?;
-    Ok(lockfile)
+    let whole = compared(alloc, lockfile)?;
+    Ok(whole)
 }
