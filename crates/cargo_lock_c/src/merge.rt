@@ -74,7 +74,7 @@ pub extern "C" fn cargo_lock_merge(
     out: &mut [u8],
     length: &mut usize,
 ) -> u32
-    ensures { IsMergeTold Text base.now ours.now theirs.now result out.old out.new
+    ensures { IsMergeTold Part.Text base.now ours.now theirs.now result out.old out.new
         length.old length.new }
 {
     match read_and_merge(alloc, base, ours, theirs, Part::Text) {
@@ -95,7 +95,7 @@ pub extern "C" fn cargo_lock_merge_moved(
     out: &mut [u8],
     length: &mut usize,
 ) -> u32
-    ensures { IsMergeTold Moved base.now ours.now theirs.now result out.old out.new
+    ensures { IsMergeTold Part.Moved base.now ours.now theirs.now result out.old out.new
         length.old length.new }
 {
     match read_and_merge(alloc, base, ours, theirs, Part::Moved) {
