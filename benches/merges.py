@@ -18,23 +18,36 @@ def generated(size, form, seed=1):
     asked = types.SimpleNamespace(
         packages=size, references=3.5, versions=1, sources="all", twins=0.01, roots=10, seed=seed
     )
-    base = generate.lockfile(asked)
+    base = with_members(generate.lockfile(asked), asked.roots)
     sides = [base, changed(base, 0, seed), changed(base, EACH // 2, seed + 1)]
     return [text_of(side, form) for side in sides]
 
 
+def copied(packages, change):
+    """The packages, each as it is changed, with what they need among these."""
+    copies = {id(one): change(at, one)._replace(needs=[]) for at, one in enumerate(packages)}
+    for one in packages:
+        copies[id(one)].needs.extend(copies[id(it)] for it in one.needs)
+    return list(copies.values())
+
+
+def with_members(packages, roots):
+    """The packages, with roots that are members of a workspace: they lead to all others."""
+    def change(at, one):
+        return one._replace(source=None, commit=None, checksum=None) if at < roots else one
+
+    return copied(packages, change)
+
+
 def changed(packages, first, seed):
     """The packages of a side: later versions, from the first one on, and new packages."""
-    chance = random.Random(seed)
-    later = {}
-    for at, one in enumerate(packages):
+    def change(at, one):
         major, minor, patch = one.version
         is_later = at % EACH == first and one.checksum
-        version = (major, minor, patch + 100) if is_later else one.version
-        later[id(one)] = one._replace(version=version, needs=[])
-    for one in packages:
-        later[id(one)].needs.extend(later[id(it)] for it in one.needs)
-    made = list(later.values())
+        return one._replace(version=(major, minor, patch + 100)) if is_later else one
+
+    chance = random.Random(seed)
+    made = copied(packages, change)
     for number in range(len(packages) // 100):
         name = f"new-{first}-{number}"
         checksum = generate.digits(chance, 64)
