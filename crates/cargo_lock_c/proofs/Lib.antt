@@ -5,4 +5,3 @@ mod PackageLines
 mod EachLine
 mod BillFaults
 mod Unanswered
-mod MergeTexts

@@ -7,4 +7,3 @@ pub mod Differences
 pub mod Findings
 pub mod Bills
 pub mod Documents
-pub mod Merges

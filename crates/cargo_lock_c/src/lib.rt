@@ -13,11 +13,9 @@ mod edges;
 mod findings;
 mod formats;
 mod handing;
-mod merge;
 mod packages;
 mod reading;
 mod refusal;
-mod three;
 mod tree;
 mod why;
 
