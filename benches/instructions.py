@@ -4,6 +4,7 @@ import re
 import subprocess
 import sys
 
+import merges
 import shapes
 
 COMMANDS = {
@@ -95,3 +96,37 @@ def print_shapes(asked, bench):
         one, two = (of_shape(asked, words, make, it) for it in (size, 2 * size))
         cells = [f"{one:,.0f}", f"{two:,.0f}", f"{two / one:.2f}"]
         bench.row([name, f"`{' '.join(words)}`", f"{size:,}", *cells])
+
+
+# ---- merges
+
+def written(asked, texts):
+    """The paths of the three lockfiles of a merge."""
+    paths = [f"{asked.work}/merge-{side}.lock" for side in ("base", "ours", "theirs")]
+    for path, text in zip(paths, texts):
+        with open(path, "w", encoding="utf-8") as out:
+            out.write(text)
+    return paths
+
+
+def of_merge(asked, texts):
+    """The instructions of a merge."""
+    return count([asked.program, "merge", *written(asked, texts)])
+
+
+def print_merges(asked, alone, bench):
+    """Prints how many times the instructions of reading three TOML texts alone a merge takes, and
+    by how much those of shapes grow if there are twice as many packages."""
+    print("\nMerges, beside reading the three TOML texts alone:\n")
+    bench.head(["Lockfiles", "Packages", "TOML alone", "merge"])
+    for form in asked.formats:
+        for size in asked.sizes:
+            texts = merges.generated(size, form, asked.seed)
+            base = sum(count([alone, path]) for path in written(asked, texts))
+            cells = [f"{base:,.0f}", f"{of_merge(asked, texts) / base:.2f}"]
+            bench.row([f"V{form}, many names", f"{size:,}", *cells])
+    print("\nShapes of merges, in millions of instructions:\n")
+    bench.head(["Shape", "Packages", "Instructions", "Twice the size", "Growth"])
+    for name, (make, size) in merges.SHAPES.items():
+        one, two = (of_merge(asked, make(it)) for it in (size, 2 * size))
+        bench.row([name, f"{size:,}", f"{one:,.0f}", f"{two:,.0f}", f"{two / one:.2f}"])

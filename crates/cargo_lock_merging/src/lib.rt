@@ -9,6 +9,7 @@ pub mod entry;
 pub mod laws;
 mod linked;
 pub mod lists;
+pub mod member_counts;
 pub mod merged;
 pub mod moved;
 pub mod numbers;

@@ -5,11 +5,13 @@ ghost use Rattle.std.specs.Prelude.{length, map, slice_get};
 ghost use Rattle.cargo_lock_parts.specs.declared.error.Error.TheVariants.{Memory};
 ghost use Rattle.cargo_lock_parts.specs.PartialIdentity.{partial_key};
 ghost use Rattle.cargo_lock_graph.specs.Targets.{IsLastBelow};
-ghost use Rattle.cargo_lock_merging.specs.Located.{lists_of};
+ghost use Rattle.cargo_lock_merging.specs.Commits.{Lockfiles};
+ghost use Rattle.cargo_lock_merging.specs.Located.{AreMemberCounts, lists_of};
 ghost use Rattle.cargo_lock_merging.specs.Numbers.{all_of, spot_packages, spot_places};
 ghost use Rattle.cargo_lock_merging.specs.Numbers.{spot_place};
 ghost use Rattle.cargo_lock_merging.specs.Places.{Place, place_of};
 
+use crate::member_counts::MemberCounts;
 use crate::place::{Lists, Located, locate};
 use cargo_lock_parts::error::Result;
 use cargo_lock_parts::package::{Package, PartialIdentity};
@@ -36,39 +38,41 @@ pub fn spots<'a>(alloc: Global, lists: &Lists<'a>) -> Result<Vec<Spot<'a>>>
         ≡ map (place_of (lists_of lists.now)) (all_of (lists_of lists.now))) }
     ensures err { IsOkUnless result Memory }
 {
+    let counts = MemberCounts::of(alloc, lists)?;
     let mut spots = Vec::new(alloc);
-    put_spots(&mut spots, lists, lists.base)?;
-    put_spots(&mut spots, lists, lists.ours)?;
-    put_spots(&mut spots, lists, lists.theirs)?;
+    put_spots(&mut spots, &counts, lists.base)?;
+    put_spots(&mut spots, &counts, lists.ours)?;
+    put_spots(&mut spots, &counts, lists.theirs)?;
     Ok(spots)
 }
 
 // Adds the packages of a list with their places.
 fn put_spots<'a>(
     spots: &mut Vec<Spot<'a>>,
-    lists: &Lists<'a>,
+    counts: &MemberCounts<'a>,
     packages: &'a [Package],
 ) -> Result<()>
     ensures packages { OnOk result (spot_packages spots.new.items
         ≡ spot_packages spots.old.items ++ packages.now) }
-    ensures places { OnOk result (spot_places spots.new.items
-        ≡ spot_places spots.old.items ++ map (place_of (lists_of lists.now)) packages.now) }
+    ensures places { OnOk result ((all : Lockfiles) → AreMemberCounts all counts.now
+        → spot_places spots.new.items
+        ≡ spot_places spots.old.items ++ map (place_of all) packages.now) }
     ensures err { IsOkUnless result Memory }
 {
     for package in packages {
-        spots.push(spot_of(lists, package)?)?;
+        spots.push(spot_of(counts, package)?)?;
     }
     Ok(())
 }
 
 // The package with its place.
-fn spot_of<'a>(lists: &Lists<'a>, package: &'a Package) -> Result<Spot<'a>>
+fn spot_of<'a>(counts: &MemberCounts<'a>, package: &'a Package) -> Result<Spot<'a>>
     ensures package { IfOk result (λ spot. spot.package.now ≡ «package».now) }
-    ensures place { IfOk result
-        (λ spot. spot_place spot ≡ place_of (lists_of lists.now) «package».now) }
+    ensures place { IfOk result (λ spot. (all : Lockfiles) → AreMemberCounts all counts.now
+        → spot_place spot ≡ place_of all «package».now) }
     ensures err { IsOkUnless result Memory }
 {
-    let located = locate(lists, package)?;
+    let located = locate(counts, package)?;
     Ok(Spot { package, located })
 }
 

@@ -1,16 +1,15 @@
 //! The places of packages in lockfiles.
 
-ghost use Rattle.std.specs.Prelude.{◌≡◌, IfOk, IsOkUnless, None, Some, count_by, false};
-ghost use Rattle.std.specs.Prelude.{nat_lt, option_map};
+ghost use Rattle.std.specs.Prelude.{◌≡◌, IfOk, IsOkUnless, None, Some, false, option_map};
 ghost use Rattle.semver.specs.Identifiers.{parts_of};
 ghost use Rattle.cargo_lock_parts.specs.declared.error.Error.TheVariants.{Memory};
 ghost use Rattle.cargo_lock_parts.specs.PartialIdentity.{partial_key};
 ghost use Rattle.cargo_lock_parts.specs.SourceKey.{key_of};
-ghost use Rattle.cargo_lock_merging.specs.Commits.{key_without_commit};
-ghost use Rattle.cargo_lock_merging.specs.Located.{IsLocated, lists_of};
-ghost use Rattle.cargo_lock_merging.specs.Places.{has_several, is_member_named, line_of};
-ghost use Rattle.cargo_lock_merging.specs.Places.{version_in};
+ghost use Rattle.cargo_lock_merging.specs.Commits.{Lockfiles, key_without_commit};
+ghost use Rattle.cargo_lock_merging.specs.Located.{AreMemberCounts, IsLocated};
+ghost use Rattle.cargo_lock_merging.specs.Places.{line_of, version_in};
 
+use crate::member_counts::MemberCounts;
 use cargo_lock_parts::error::Result;
 use cargo_lock_parts::package::{Name, Package, PartialIdentity, SourceId, Version};
 
@@ -36,13 +35,14 @@ pub struct Located {
 
 /// The version and the source of the package's place. It has the version of a package without a
 /// source only if one of the lists has several packages of the name. The one error is `Memory`.
-pub fn locate(lists: &Lists, package: &Package) -> Result<Located>
-    ensures ok { IfOk result (IsLocated (lists_of lists.now) «package».now) }
+pub fn locate<'a>(counts: &MemberCounts<'a>, package: &'a Package) -> Result<Located>
+    ensures ok { IfOk result (λ located. (all : Lockfiles) → AreMemberCounts all counts.now
+        → IsLocated all «package».now located) }
     ensures err { IsOkUnless result Memory }
 {
     match &package.source {
         Some(source) => locate_sourced(source, &package.version),
-        None => locate_member(&package.version, has_several(lists, &package.name)),
+        None => locate_member(&package.version, counts.has_several(&package.name)),
     }
 }
 
@@ -123,29 +123,4 @@ impl Located {
             source: self.source.as_ref(),
         }
     }
-}
-
-/// Whether one of the lists has several packages of this name without a source.
-pub fn has_several(lists: &Lists, name: &Name) -> bool
-    ensures { result ≡ has_several (lists_of lists.now) name.now }
-{
-    is_doubled(lists.base, name) || is_doubled(lists.ours, name) || is_doubled(lists.theirs, name)
-}
-
-// Whether the list has several packages of this name without a source.
-fn is_doubled(packages: &[Package], name: &Name) -> bool
-    ensures { result ≡ nat_lt 1 (count_by (is_member_named name.now) packages.now) }
-{
-    packages
-        .iter()
-        .filter(|package| is_member_named(package, name))
-        .count()
-        > 1
-}
-
-// Whether the package has this name and no source.
-fn is_member_named(package: &Package, name: &Name) -> bool
-    ensures { result ≡ is_member_named name.now «package».now }
-{
-    package.source.is_none() && name.as_str() == package.name.as_str()
 }

@@ -1,7 +1,6 @@
 use Rattle.std.proofs.Common.{◌∙◌, List, ap, sym}
 use Rattle.cargo_lock_parts.specs.Identity.{PackageData}
 use Rattle.cargo_lock_merging.specs.declared.numbers.Spot.{Spot}
-use Rattle.cargo_lock_merging.specs.Located.{lists_of}
 use Rattle.cargo_lock_merging.specs.Numbers.{spot_packages, spot_place, spot_places}
 use Rattle.cargo_lock_merging.specs.Places.{place_of}
 use Rattle.cargo_lock_merging.proofs.Numbering.{put-more}
@@ -9,7 +8,6 @@ use Rattle.cargo_lock_merging.proofs.numbers.put_spots.Goals as goal
 
 pub loop-package-preserved : goal.loop-package-preserved
 loop-package-preserved c =
-    let all = lists_of c.args.lists.now in
     let l = c.loop-package in
     let ps : List PackageData = c.args.packages.now in
     let i = l.package-index in
@@ -20,7 +18,7 @@ loop-package-preserved c =
       packages = ap spot_packages items
           ∙ put-more (λ (s : Spot). s.«package».now) (λ (p : PackageData). p) (spot_packages c.args.spots.now.items) l.spots.items ps i s p l.invariant.packages c.loop-package-test.true (sym c.package-item.is)
           c.in_ok-spot_of.ensures.«package»;
-      places = ap spot_places items
-          ∙ put-more spot_place (place_of all) (spot_places c.args.spots.now.items) l.spots.items ps i s p l.invariant.places c.loop-package-test.true (sym c.package-item.is)
-          c.in_ok-spot_of.ensures.place;
+      places = λ all are. ap spot_places items
+          ∙ put-more spot_place (place_of all) (spot_places c.args.spots.now.items) l.spots.items ps i s p (l.invariant.places all are) c.loop-package-test.true (sym c.package-item.is)
+          (c.in_ok-spot_of.ensures.place all are);
     }

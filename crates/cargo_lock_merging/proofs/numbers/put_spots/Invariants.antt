@@ -1,5 +1,6 @@
 use Rattle.std.proofs.Common.{◌≡◌, ◌++◌, map, take}
-use Rattle.cargo_lock_merging.specs.Located.{lists_of}
+use Rattle.cargo_lock_merging.specs.Commits.{Lockfiles}
+use Rattle.cargo_lock_merging.specs.Located.{AreMemberCounts}
 use Rattle.cargo_lock_merging.specs.Numbers.{spot_packages, spot_places}
 use Rattle.cargo_lock_merging.specs.Places.{place_of}
 use Rattle.cargo_lock_merging.proofs.numbers.put_spots.Given as goal
@@ -7,5 +8,5 @@ use Rattle.cargo_lock_merging.proofs.numbers.put_spots.Given as goal
 abbrev pub invariant-loop-package : goal.invariant-loop-package
 invariant-loop-package l = record {
   packages : spot_packages l.spots.items ≡ spot_packages l.initial.spots.items ++ map (λ p. p) (take l.package-index l.packages);
-  places : spot_places l.spots.items ≡ spot_places l.initial.spots.items ++ map (place_of (lists_of l.lists)) (take l.package-index l.packages);
+  places : (all : Lockfiles) → AreMemberCounts all l.counts → spot_places l.spots.items ≡ spot_places l.initial.spots.items ++ map (place_of all) (take l.package-index l.packages);
 }
