@@ -410,7 +410,7 @@ def metadata_text(value):
 
 
 def with_source(identity, is_asked):
-    behind = f" ({shown(identity.source.text(False))})" if is_asked and identity.source else ""
+    behind = f" ({shown(identity.source.bare().text())})" if is_asked and identity.source else ""
     return with_commit(identity) + behind
 
 

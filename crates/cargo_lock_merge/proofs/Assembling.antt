@@ -106,7 +106,7 @@ zip-set R (a ∷ xs) [] i x y zip one = absurd zip
 zip-set R (a ∷ xs) (b ∷ ys) zero x y zip one = (one, zip.1)
 zip-set R (a ∷ xs) (b ∷ ys) (suc i) x y zip one = (zip.0, zip-set R xs ys i x y zip.1 one)
 
-zip-get : {X Y : Type 0} (R : X → Y → Type 0) (xs : List X) (ys : List Y) (i : ℕ) (x : X) (y : Y) → AllZip R xs ys → i < length ys → R (get_or xs i x) (get_or ys i y)
+pub zip-get : {X Y : Type 0} (R : X → Y → Type 0) (xs : List X) (ys : List Y) (i : ℕ) (x : X) (y : Y) → AllZip R xs ys → i < length ys → R (get_or xs i x) (get_or ys i y)
 zip-get R [] [] i x y zip low = absurd (omega (arith, low))
 zip-get R [] (b ∷ ys) i x y zip low = absurd zip
 zip-get R (a ∷ xs) [] i x y zip low = absurd zip

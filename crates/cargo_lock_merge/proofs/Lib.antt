@@ -1,4 +1,5 @@
 pub mod Assembling
+pub mod Sorting
 pub mod Moving
 pub mod OneLine
 pub mod Conflicting

@@ -19,6 +19,7 @@ use Rattle.cargo_lock_encoding.specs.Lockfiles.{LockfileData}
 use Rattle.cargo_lock_encoding.specs.Means.{TextMeans}
 use Rattle.cargo_lock_merging.specs.Commits.{Lockfiles}
 use Rattle.cargo_lock_merge.specs.MergedLockfiles.{AreConflictingPackages, HaveNoRoots, IsMergedLockfile, IsMetadataMergeOf, IsRestOf, IsSameLockfile, IsUnread, LockfileTriple, TextIsOf, is_same_but_metadata, lockfile_of, packages_of}
+use Rattle.cargo_lock_merge.proofs.Sorting.{referring-in-order}
 use Rattle.cargo_lock_merge.specs.Outcome as InConflict
 use Rattle.cargo_lock_merge.specs.Outcome.{IsFound}
 use Rattle.cargo_lock_merge.specs.Referring.{IsReferring}
@@ -192,6 +193,7 @@ merged-lockfile s r merged packages rs roots found refers none rest = record {
   roots = roots;
   version = rest.version;
   packages = (merged, found, refers);
+  order = referring-in-order merged packages refers found.order;
   root = refl;
   metadata = metadata-agreed s r.metadata none rest.metadata;
   patch = rest.patch;

@@ -3,7 +3,7 @@ use Rattle.std.proofs.Common.{◌≡◌, ◌≢◌, ◌⊎◌, ◌<◌, ◌+◌,
 use Rattle.std.specs.Bool.{Decides}
 use Rattle.std.specs.Prelude.{is_some}
 use Rattle.std.specs.List.{AllPairs, AllZip, Contains}
-use Rattle.std.specs.List.Sorted.{IsPermutation}
+use Rattle.std.specs.List.Sorted.{IsPermutation, IsSorted}
 use Rattle.std.proofs.lemmas.Bool.{cases_order}
 use Rattle.std.proofs.lemmas.List.{take_more}
 use Rattle.std.proofs.lemmas.List.Elements.{All-cons, Contains-get_or}
@@ -21,6 +21,7 @@ use Rattle.cargo_lock_merging.proofs.Planning.{all-in}
 use Rattle.cargo_lock_merging.proofs.Zipping.{zip-push}
 use Rattle.cargo_lock_merge.specs.declared.moved.Moved.{Moved}
 use Rattle.cargo_lock_merge.specs.declared.moved.Named.{Named}
+use Rattle.cargo_lock_merge.specs.Order.{moved_order}
 use Rattle.cargo_lock_merge.specs.Moved.{AreMarked, AreMovedReferences, AreNamed, HasNamesake, IsShownAmong, places_in}
 
 before-apart : (a b : ℕ × ℕ) → IsBefore a b → a ≢ b
@@ -28,15 +29,16 @@ before-apart a b (inl less) e = let f = ap (λ (p : ℕ × ℕ). p.0) e in omega
 before-apart a b (inr (same, less)) e = let f = ap (λ (p : ℕ × ℕ). p.1) e in omega (arith, less, f)
 
 -- each once, in another order
-pub are-moved : (o t m : List (PlacedData ℕ)) (packages : List PackageData) (old new : List merging.Moved) (all : List Moved) → AreMoved o t m old → IsPermutation old new → map (λ (r : Moved). r.found) all ≡ new → All (IsShownAmong packages) all
+pub are-moved : (o t m : List (PlacedData ℕ)) (packages : List PackageData) (old new : List merging.Moved) (all : List Moved) → AreMoved o t m old → IsPermutation old new → map (λ (r : Moved). r.found) all ≡ new → IsSorted moved_order all → All (IsShownAmong packages) all
     → AreMovedReferences o t m packages all
-are-moved o t m packages old new all h perm same shown = record {
+are-moved o t m packages old new all h perm same sorted shown = record {
   each = from (λ (r : merging.Moved). (x : PlacedData ℕ) × (y : PlacedData ℕ) × IsMoved o t m x y r) h.each;
   all_there = λ x y moved. subst (λ (zs : List (ℕ × ℕ)). Contains zs (x.place, y.place)) places
       (Contains-permutation (map places_of_moved old) (map places_of_moved new) (x.place, y.place) (map-permuted places_of_moved old new perm) (h.all_there x y moved));
   once = subst (AllPairs (λ a b. a ≢ b)) places
       (pairs-permuted (λ a b. a ≢ b) (λ a b apart e. apart (sym e)) (map places_of_moved old) (map places_of_moved new) (map-permuted places_of_moved old new perm)
       (λ i j d less low. before-apart _ _ (h.order i j d less low)));
+  order = sorted;
   shown = shown;
 }
   where

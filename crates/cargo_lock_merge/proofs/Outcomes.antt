@@ -76,9 +76,10 @@ module _ (m xs : List (PlacedData ℕ)) (ps : List PackageData) (perm : IsPermut
 
 -- what is found by numbers is found
 pub finds : (all : Lockfiles) (s : Triple ℕ) (o : Outcome) → AreSidesOf all s → IsOutcomeOf s o → Finds all o
-finds all s (Merged packages moved) (places, are) (m, merge, ((xs, perm, zip), references)) = record {
+finds all s (Merged packages moved) (places, are) (m, merge, ((xs, perm, zip), order, references)) = record {
   commits = record { base = are.base_commits; ours = are.our_commits; theirs = are.their_commits };
   merge = assembled-merge all places s m packages.items are merge (xs, perm, zip);
+  order = order;
   references = refers-in-full m xs packages.items perm zip;
   places = places;
   triple = s;

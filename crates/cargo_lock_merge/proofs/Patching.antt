@@ -3,7 +3,7 @@ use Rattle.std.proofs.Common.{◌≡◌, ◌↔◌, ◌⊎◌, ◌||◌, ◌<◌
 use Rattle.std.specs.Cmp.{IsEquivalence, eq_by_cmp_equiv}
 use Rattle.std.specs.BTreeSet.{keys}
 use Rattle.std.specs.List.{IsDistinct}
-use Rattle.std.specs.List.Sorted.{IsPermutation}
+use Rattle.std.specs.List.Sorted.{IsPermutation, IsSorted}
 use Rattle.std.proofs.lemmas.Bool.{or_cases, or_left, or_right}
 use Rattle.std.proofs.lemmas.List.Folds.{list_any_more}
 use Rattle.std.proofs.lemmas.List.Sorted.{list_any-IsPermutation}
@@ -12,6 +12,7 @@ use Rattle.std.proofs.lemmas.Map.Steps.{list_any_congr}
 use Rattle.std.proofs.lemmas.Option.{get_or_from_slice_get, slice_get_within}
 use Rattle.cargo_lock.specs.Shortest.{AreDistinct, IsAmong}
 use Rattle.cargo_lock_merge.specs.declared.patches.PatchSets.{PatchSets}
+use Rattle.cargo_lock_merge.specs.Order.{patch_order}
 use Rattle.cargo_lock_merge.specs.Patches.{AreKept, ArePatchesOf, IsIn, IsKeptOf, has_identity}
 use Rattle.cargo_lock_merging.specs.Rule3.{IsKept}
 use Rattle.cargo_lock_parts.specs.Identity.{Identity}
@@ -164,12 +165,13 @@ distinct-places xs once j k x y at_j at_k same =
     omega (arith, before, after)
 
 -- the patches that are kept are those of the merge
-pub kept-patches : (b o t m : List Identity) → AreKept b o t m → ArePatchesOf b o t m
-kept-patches b o t m h = record {
+pub kept-patches : (b o t m : List Identity) → IsSorted patch_order m → AreKept b o t m → ArePatchesOf b o t m
+kept-patches b o t m sorted h = record {
   kept = λ d.
       let same = kept-both (in-both b d) (in-both o d) (in-both t d) in
       (λ k. same.0 ((h.kept d).0 (among-in m d k)), λ k. in-among m d ((h.kept d).1 (same.1 k)));
   once = distinct-places m h.once;
+  order = sorted;
 }
 
 -- equal lists have the same merge

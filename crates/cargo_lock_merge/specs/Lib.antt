@@ -1,3 +1,4 @@
+pub mod Order
 pub mod Moved
 pub mod Words
 pub mod Lines

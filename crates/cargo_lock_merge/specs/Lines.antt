@@ -2,6 +2,7 @@
 use Rattle.std.specs.Prelude.{◌≡◌, ℕ, Bool, List, [], ◌∷◌, ◌++◌, codes, false, map, Option, Some, None, is_some, option_map, string_bytes}
 use Rattle.std.specs.Prelude.{if◌then◌else◌}
 use Rattle.std.specs.Borrow.{Bor}
+use Rattle.std.specs.Fmt.{digits}
 use Rattle.std.specs.List.{flat_map}
 use Rattle.std.specs.Str.Lines.{lines}
 use Rattle.cargo_lock_parts.specs.Ascii.{newline}
@@ -23,10 +24,16 @@ use Rattle.cargo_lock_merge.specs.declared.conflict.Conflict.TheVariants.{AtPlac
 use Rattle.cargo_lock_merge.specs.declared.conflict.Line.{Line}
 use Rattle.cargo_lock_merge.specs.declared.conflict.Subject.{Subject}
 use Rattle.cargo_lock_merge.specs.declared.conflict.Subject.TheVariants as subject
+use Rattle.cargo_lock_merge.specs.declared.lockfiles.LockfileConflicts.{LockfileConflicts}
+use Rattle.cargo_lock_merge.specs.declared.lockfiles.MergeError.{MergeError}
+use Rattle.cargo_lock_merge.specs.declared.lockfiles.MergeError.TheVariants as error
+use Rattle.cargo_lock_merge.specs.declared.metadata.MetadataConflict.{MetadataConflict}
 use Rattle.cargo_lock_merge.specs.declared.moved.Moved.{Moved}
 use Rattle.cargo_lock_merge.specs.declared.words.Value.{Value}
 use Rattle.cargo_lock_merge.specs.declared.words.Value.TheVariants as value
 use Rattle.cargo_lock_merge.specs.declared.words.Values.{Values}
+use Rattle.cargo_lock_references.specs.Format.{number_of}
+use Rattle.cargo_lock_references.specs.declared.version.ResolveVersion.{ResolveVersion}
 use Rattle.cargo_lock_merge.specs.Words.{bare_text, commit_text, named_text, source_behind}
 use Rattle.cargo_lock_merge.specs.Words.{values_text, with_commit_text}
 use Rattle.shown.specs.Shown.{shown}
@@ -169,6 +176,50 @@ reason_text (Lost text) = shown Quoted (string_bytes text)
 -- the line of a refusal
 abbrev pub refused_line : Role → Refusal → List ℕ
 refused_line part refusal = role_text part ++ (codes ": " ++ reason_text refusal)
+
+-- the line of what stops a merge, without a newline
+abbrev pub merge_error_text : MergeError → List ℕ
+merge_error_text error.Memory = codes "out of memory"
+merge_error_text (error.Root part) = role_text part ++ codes ": a root apart from the packages"
+merge_error_text (error.Refused part refusal) = refused_line part refusal
+
+-- ---- the conflicts of lockfiles
+
+-- the lines of the conflicts of packages
+abbrev pub conflict_lines : List Conflict → List ℕ
+conflict_lines = flat_map (λ c. conflict_line c ++ newline ∷ [])
+
+-- a value of the metadata, or `none`
+abbrev pub metadata_value_text : Option (List ℕ) → List ℕ
+metadata_value_text None = codes "none"
+metadata_value_text (Some value) = codes "`" ++ (shown Quoted value ++ codes "`")
+
+-- the value of the base and an arrow, if there is one
+abbrev pub old_text : Option (List ℕ) → List ℕ
+old_text None = []
+old_text (Some value) = codes "`" ++ (shown Quoted value ++ codes "` -> ")
+
+-- the line of a conflict about the value at a key of the metadata
+abbrev pub metadata_line : List ℕ → MetadataConflict → List ℕ
+metadata_line key c = codes "conflict: metadata `" ++ (shown Quoted key ++ (codes "`: "
+    ++ (old_text c.base ++ (metadata_value_text c.ours ++ (codes " (ours), "
+    ++ (metadata_value_text c.theirs ++ codes " (theirs)"))))))
+
+-- the lines of these conflicts
+abbrev pub metadata_lines : List (List ℕ × MetadataConflict) → List ℕ
+metadata_lines = flat_map (λ e. metadata_line e.0 e.1 ++ newline ∷ [])
+
+-- the line of a format that does not keep the merge
+abbrev pub format_text : Option ResolveVersion → List ℕ
+format_text None = []
+format_text (Some format) = codes "conflict: format V" ++ (digits 10 false (number_of format)
+    ++ codes " does not keep the merge\n")
+
+-- the lines of all conflicts: of packages, of the metadata in the order of the keys, and of the
+-- format
+abbrev pub conflicts_text : LockfileConflicts → List ℕ
+conflicts_text c = conflict_lines c.packages.items
+    ++ (metadata_lines c.metadata.entries ++ format_text c.format)
 
 -- ---- laws
 

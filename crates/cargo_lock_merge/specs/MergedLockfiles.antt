@@ -11,6 +11,7 @@ use Rattle.cargo_lock_encoding.specs.Means.{TextMeans}
 use Rattle.cargo_lock_encoding.specs.Survives.{HasSamePackages}
 use Rattle.cargo_lock_encoding.specs.Text.{join_lines, lines_of}
 use Rattle.cargo_lock_merge.specs.Formats.{IsLaterFormat}
+use Rattle.cargo_lock_merge.specs.Order.{AreInOrder}
 use Rattle.cargo_lock_merge.specs.Outcome.{IsFound, IsInConflict, three}
 use Rattle.cargo_lock_merge.specs.OwnMetadata.{AreMetadataConflicts, AreMetadataOf, IsMergedAt}
 use Rattle.cargo_lock_merge.specs.OwnMetadata.{own_metadata, value_at}
@@ -83,14 +84,15 @@ AreMergedPackages all packages moved = (merged : List PackageData) × IsFound al
     × AllZip IsReferring merged packages
 
 -- The lockfile is the merge of two sides over a base: it has the later format of both sides, the
--- merged packages, no root apart from them, the metadata on which the three agree, and the unused
--- patches that both sides have, or one side has and the base has not. Beside it are the references
--- that moved.
+-- merged packages in the order in which Cargo writes them, no root apart from them, the metadata on
+-- which the three agree, and the unused patches that both sides have, or one side has and the base
+-- has not. Beside it are the references that moved.
 pub record IsMergedLockfile (s : LockfileTriple) (l : LockfileData) (rs : List Moved) : Type 0
   where
     pub roots : HaveNoRoots s
     pub version : IsLaterFormat s.ours.version s.theirs.version l.version
     pub packages : AreMergedPackages (packages_of s) l.packages rs
+    pub order : AreInOrder l.packages
     pub root : l.root ≡ None
     pub metadata : AreMetadataOf s.base s.ours s.theirs l.metadata
     pub patch : ArePatchesOf s.base.patch s.ours.patch s.theirs.patch l.patch

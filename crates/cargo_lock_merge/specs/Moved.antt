@@ -2,6 +2,7 @@
 use Rattle.std.specs.Prelude.{◌≡◌, ◌≢◌, ◌<◌, ◌⊎◌, ℕ, All, List, map}
 use Rattle.std.specs.Bool.{Decides}
 use Rattle.std.specs.List.{AllPairs, AllZip, Contains}
+use Rattle.std.specs.List.Sorted.{IsSorted}
 use Rattle.cargo_lock_parts.specs.Identity.{HasNameAndVersion, Identity, PackageData, identity_of}
 use Rattle.cargo_lock_graph.specs.Targets.{HoldsOf}
 use Rattle.cargo_lock_merging.specs.declared.moved.Moved as merging
@@ -10,6 +11,7 @@ use Rattle.cargo_lock_merging.specs.Moved.{IsMoved, places_of_moved, sides}
 use Rattle.cargo_lock_merging.specs.Placed.{PlacedData}
 use Rattle.cargo_lock_merge.specs.declared.moved.Moved.{Moved}
 use Rattle.cargo_lock_merge.specs.declared.moved.Named.{Named}
+use Rattle.cargo_lock_merge.specs.Order.{moved_order}
 
 -- several packages of the list have the name and the version of the identity
 abbrev pub HasNamesake : List PackageData → Identity → Type 0
@@ -26,14 +28,15 @@ IsShownAmong packages r = Decides r.with_sources
 abbrev pub places_in : Moved → ℕ × ℕ
 places_in r = places_of_moved r.found
 
--- These are the moved references of a merge m of the sides o and t, each once. The packages are
--- those of the merge.
+-- These are the moved references of a merge m of the sides o and t, each once, in the order of their
+-- packages. The packages are those of the merge.
 pub record AreMovedReferences (o t m : List (PlacedData ℕ)) (packages : List PackageData)
     (all : List Moved) : Type 0 where
   pub each : All (λ r. (x : PlacedData ℕ) × (y : PlacedData ℕ) × IsMoved o t m x y r.found) all
   pub all_there : (x y : PlacedData ℕ) → IsMovedReference (sides o t) m x y
       → Contains (map places_in all) (x.place, y.place)
   pub once : AllPairs (λ a b. a ≢ b) (map places_in all)
+  pub order : IsSorted moved_order all
   pub shown : All (IsShownAmong packages) all
 
 -- ---- as the program has them

@@ -17,6 +17,7 @@ use Rattle.cargo_lock_merge.specs.declared.outcome.Outcome.{Outcome}
 use Rattle.cargo_lock_merge.specs.declared.outcome.Outcome.TheVariants.{Conflicts, Merged}
 use Rattle.cargo_lock_merge.specs.Conflict.{AreConflictsOf}
 use Rattle.cargo_lock_merge.specs.Moved.{AreMovedReferences}
+use Rattle.cargo_lock_merge.specs.Order.{AreInOrder}
 
 -- the base, ours and theirs
 abbrev pub three : List PackageData → List PackageData → List PackageData → Lockfiles
@@ -31,11 +32,12 @@ abbrev pub RefersInFull : List PackageData → Type 0
 RefersInFull packages = (p : PackageData) (i : Identity) → Contains packages p
     → Contains p.dependencies i ⊎ (p.replace ≡ Some i) → IsIdentityIn packages i
 
--- The packages are the merge of the three lists, each of which has each git source at one commit.
--- Beside them are the references that moved.
+-- The packages are the merge of the three lists, each of which has each git source at one commit,
+-- in the order in which Cargo writes them. Beside them are the references that moved.
 pub record IsFound (all : Lockfiles) (ps : List PackageData) (rs : List Moved) : Type 0 where
   pub commits : HaveOneCommitEach all
   pub merge : IsMergeOf all ps
+  pub order : AreInOrder ps
   pub references : RefersInFull ps
   pub places : List Place
   pub triple : Triple ℕ
@@ -65,8 +67,8 @@ Finds all (Conflicts conflicts) = IsInConflict all conflicts.items
 -- the packages are those of a merge by numbers, with the references that moved
 abbrev pub IsMergedOf : List (PlacedData ℕ) → List (PlacedData ℕ) → List (PlacedData ℕ) → Outcome
     → Type 0
-IsMergedOf o t m (Merged packages moved) = AreAssembled m packages.items × AreMovedReferences o t m
-    packages.items moved.items
+IsMergedOf o t m (Merged packages moved) = AreAssembled m packages.items
+    × AreInOrder packages.items × AreMovedReferences o t m packages.items moved.items
 IsMergedOf o t m (Conflicts conflicts) = ⊥
 
 -- the outcome is a merge by numbers, or there is none

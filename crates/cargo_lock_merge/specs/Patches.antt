@@ -2,17 +2,20 @@
 use Rattle.std.specs.Prelude.{◌↔◌, Bool, IsTrue, List}
 use Rattle.std.specs.BTreeSet.{keys}
 use Rattle.std.specs.List.{IsDistinct, list_any}
+use Rattle.std.specs.List.Sorted.{IsSorted}
 use Rattle.cargo_lock.specs.Shortest.{AreDistinct, IsAmong}
+use Rattle.cargo_lock_merge.specs.Order.{patch_order}
 use Rattle.cargo_lock_merge.specs.declared.patches.PatchSets.{PatchSets}
 use Rattle.cargo_lock_merging.specs.Rule3.{IsKept}
 use Rattle.cargo_lock_parts.specs.Identity.{Identity}
 use Rattle.cargo_lock_parts.specs.IdentityOrder.{is_same_identity}
 
 -- The unused patches m are those of a merge of two sides over a base: exactly those which both
--- sides have, or which one side has and the base has not, each once.
+-- sides have, or which one side has and the base has not, each once, in the order of packages.
 pub record ArePatchesOf (b o t m : List Identity) : Type 0 where
   pub kept : (d : Identity) → IsAmong m d ↔ IsKept (IsAmong b d) (IsAmong o d) (IsAmong t d)
   pub once : AreDistinct m
+  pub order : IsSorted patch_order m
 
 -- ---- as the program has them
 

@@ -50,11 +50,6 @@ abbrev pub commit_text : Option (List ℕ) → List ℕ
 commit_text None = codes "none"
 commit_text (Some commit) = shown Plain (start_of commit)
 
--- the source in round brackets, if there is one
-abbrev pub source_behind : Option Source → List ℕ
-source_behind None = []
-source_behind (Some s) = codes " (" ++ (shown Plain (text_of false s) ++ codes ")")
-
 -- the reference of a git source, after `?`
 abbrev pub reference_text : GitReference → List ℕ
 reference_text DefaultBranch = []
@@ -74,6 +69,15 @@ query_of Directory = []
 -- a git source without its commit
 abbrev pub bare_text : Source → List ℕ
 bare_text s = codes "git+" ++ (shown Plain (serialize s.url) ++ query_of s.kind)
+
+-- a source without a commit
+abbrev pub source_text : Source → List ℕ
+source_text s = if is_git s.kind then bare_text s else shown Plain (text_of false s)
+
+-- the source in round brackets, if there is one
+abbrev pub source_behind : Option Source → List ℕ
+source_behind None = []
+source_behind (Some s) = codes " (" ++ (source_text s ++ codes ")")
 
 -- a checksum, or `none`
 abbrev pub checksum_text : Option (List ℕ) → List ℕ

@@ -1,8 +1,8 @@
 //! The packages of a merge, as a lockfile has them.
 
-ghost use Rattle.std.specs.Prelude.{◌≡◌, ◌↔◌, ℕ, IfOk, IsOkUnless, MatchOption, map};
+ghost use Rattle.std.specs.Prelude.{◌≡◌, ◌↔◌, ℕ, All, IfOk, IsOkUnless, MatchOption, map};
 ghost use Rattle.std.specs.List.{AllZip, Contains};
-ghost use Rattle.std.specs.List.Sorted.{IsStrictlyIncreasing};
+ghost use Rattle.std.specs.List.Sorted.{IsSorted, IsStrictlyIncreasing};
 ghost use Rattle.cargo_lock_parts.specs.declared.error.Error.TheVariants.{Memory};
 ghost use Rattle.cargo_lock_parts.specs.Identity.{Identity, identity_of};
 ghost use Rattle.cargo_lock_merging.specs.Assembled.{AreAssembled, IsAssembled, IsIdentityAt};
@@ -10,8 +10,10 @@ ghost use Rattle.cargo_lock_merging.specs.Assembled.{IsIdentityAtIf};
 ghost use Rattle.cargo_lock_merging.specs.Merged.{merged_data};
 ghost use Rattle.cargo_lock_merging.specs.Placed.{HasAt, PlacedData};
 ghost use Rattle.cargo_lock_merging.specs.Kept.{merged_places};
+ghost use Rattle.cargo_lock_check.specs.Order.{dependency_order};
+ghost use Rattle.cargo_lock_merge.specs.Order.{AreInOrder, HasSortedDependencies};
 
-use crate::order::{order_dependencies, order_packages};
+use crate::order::put_in_order;
 use cargo_lock_merging::merged::Merged;
 use cargo_lock_merging::moved::places_of_merged;
 use cargo_lock_merging::reach::index_of;
@@ -26,11 +28,12 @@ pub(crate) fn assemble(alloc: Global, merged: &[Merged<'_>]) -> Result<Vec<Packa
     requires { IsStrictlyIncreasing (merged_places merged.now) }
     ensures ok { IfOk result
         (λ packages. AreAssembled (map merged_data merged.now) packages.items) }
+    ensures order { IfOk result (λ packages. AreInOrder packages.items) }
     ensures err { IsOkUnless result Memory }
 {
     let places = places_of_merged(alloc, merged)?;
     let mut packages = packages(alloc, merged, &places)?;
-    order_packages(alloc, &mut packages)?;
+    put_in_order(alloc, &mut packages)?;
     Ok(packages)
 }
 
@@ -40,6 +43,7 @@ fn packages(alloc: Global, merged: &[Merged<'_>], places: &[usize]) -> Result<Ve
     requires ascending { IsStrictlyIncreasing (merged_places merged.now) }
     ensures ok { IfOk result (λ packages. AllZip (IsAssembled (map merged_data merged.now))
         (map merged_data merged.now) packages.items) }
+    ensures order { IfOk result (λ packages. All HasSortedDependencies packages.items) }
     ensures err { IsOkUnless result Memory }
 {
     let mut packages = Vec::with_capacity(alloc, merged.len())?;
@@ -60,6 +64,7 @@ fn package(
     requires places { places.now ≡ merged_places merged.now }
     requires ascending { IsStrictlyIncreasing (merged_places merged.now) }
     ensures ok { IfOk result (IsAssembled (map merged_data merged.now) (merged_data one.now)) }
+    ensures order { IfOk result HasSortedDependencies }
     ensures err { IsOkUnless result Memory }
 {
     let dependencies = dependencies(alloc, merged, places, &one.dependencies)?;
@@ -90,6 +95,7 @@ fn dependencies(
     requires ascending { IsStrictlyIncreasing (merged_places merged.now) }
     ensures ok { IfOk result (λ all. (i : Identity) → Contains all.items i
         ↔ ((n : ℕ) × Contains at.now n × IsIdentityAt (map merged_data merged.now) n i)) }
+    ensures order { IfOk result (λ all. IsSorted dependency_order all.items) }
     ensures err { IsOkUnless result Memory }
 {
     let mut all = Vec::with_capacity(alloc, at.len())?;
@@ -98,7 +104,7 @@ fn dependencies(
             all.push(Dependency::of(target)?)?;
         }
     }
-    order_dependencies(alloc, &mut all)?;
+    put_in_order(alloc, &mut all)?;
     Ok(all)
 }
 

@@ -1,13 +1,24 @@
 //! The lines of what stops a merge of lockfiles.
 
+ghost use Rattle.std.specs.Prelude.{Some};
+ghost use Rattle.std.specs.Fmt.{DisplaysOnOk};
+ghost use Rattle.cargo_lock_merge.specs.Lines.{conflict_lines, format_text, metadata_lines};
+
+use crate::conflict::Conflict;
 use crate::lockfiles::{LockfileConflicts, MergeError};
 use crate::metadata::MetadataConflict;
 use crate::refused::{Refused, RoleText};
-use cargo_lock::{MetadataKey, MetadataValue};
+use cargo_lock::{MetadataKey, MetadataValue, ResolveVersion};
 use shown::Quoted;
+use std::collections::BTreeMap;
 use std::fmt;
 
 impl fmt::Display for MergeError<'_> {
+    ghost use Rattle.std.specs.Prelude.{Some};
+    ghost use Rattle.cargo_lock_merge.specs.Lines.{merge_error_text};
+
+    ghost output = { λ error. Some (merge_error_text error) };
+
     fn fmt<W: fmt::Write>(&self, f: &mut fmt::Formatter<W>) -> fmt::Result {
         match self {
             MergeError::Memory => f.write_str("out of memory"),
@@ -24,31 +35,61 @@ impl fmt::Display for MergeError<'_> {
 }
 
 impl fmt::Display for LockfileConflicts<'_> {
+    ghost use Rattle.std.specs.Prelude.{Some};
+    ghost use Rattle.cargo_lock_merge.specs.Lines.{conflicts_text};
+
+    ghost output = { λ conflicts. Some (conflicts_text conflicts) };
+
     fn fmt<W: fmt::Write>(&self, f: &mut fmt::Formatter<W>) -> fmt::Result {
-        for conflict in &self.packages {
-            write!(f, "{conflict}\n")?;
-        }
-        write_metadata(f, self)?;
-        match self.format {
-            Some(version) => {
-                let number = u32::from(version);
-                write!(f, "conflict: format V{number} does not keep the merge\n")
-            }
-            None => Ok(()),
-        }
+        write_conflicts(&self.packages, f)?;
+        write_metadata(&self.metadata, f)?;
+        write_format(self.format, f)
     }
 }
 
-// The lines of the conflicts about the metadata.
-fn write_metadata<W: fmt::Write>(
+// The lines of the conflicts of packages.
+fn write_conflicts<W: fmt::Write>(
+    conflicts: &[Conflict<'_>],
     f: &mut fmt::Formatter<W>,
-    conflicts: &LockfileConflicts<'_>,
-) -> fmt::Result {
-    for (key, conflict) in &conflicts.metadata {
+) -> fmt::Result
+    ensures { DisplaysOnOk W.write_str_gives f.old result
+        (Some (conflict_lines conflicts.now)) f.new }
+{
+    for conflict in conflicts {
+        write!(f, "{conflict}\n")?;
+    }
+    Ok(())
+}
+
+// The lines of the conflicts about the metadata, in the order of the keys.
+fn write_metadata<W: fmt::Write>(
+    conflicts: &BTreeMap<MetadataKey, MetadataConflict>,
+    f: &mut fmt::Formatter<W>,
+) -> fmt::Result
+    ensures { DisplaysOnOk W.write_str_gives f.old result
+        (Some (metadata_lines conflicts.now.entries)) f.new }
+{
+    for (key, conflict) in conflicts {
         let line = MetadataLine { key, conflict };
         write!(f, "{line}\n")?;
     }
     Ok(())
+}
+
+// The line of a format that does not keep the merge.
+fn write_format<W: fmt::Write>(
+    format: Option<ResolveVersion>,
+    f: &mut fmt::Formatter<W>,
+) -> fmt::Result
+    ensures { DisplaysOnOk W.write_str_gives f.old result (Some (format_text format)) f.new }
+{
+    match format {
+        Some(version) => {
+            let number = u32::from(version);
+            write!(f, "conflict: format V{number} does not keep the merge\n")
+        }
+        None => Ok(()),
+    }
 }
 
 // The line of a conflict about the metadata.
@@ -59,16 +100,43 @@ struct MetadataLine<'a> {
 }
 
 impl fmt::Display for MetadataLine<'_> {
+    ghost use Rattle.std.specs.Prelude.{Some};
+    ghost use Rattle.cargo_lock_merge.specs.Lines.{metadata_line};
+
+    ghost output = { λ line. Some (metadata_line line.key.now line.conflict.now) };
+
     fn fmt<W: fmt::Write>(&self, f: &mut fmt::Formatter<W>) -> fmt::Result {
-        let key = Quoted(self.key);
-        write!(f, "conflict: metadata `{key}`: ")?;
-        if let Some(base) = &self.conflict.base {
-            let base = Quoted(base);
-            write!(f, "`{base}` -> ")?;
+        let MetadataLine { key, conflict } = *self;
+        let key = Quoted(key);
+        let base = OldText(&conflict.base);
+        let ours = ValueText(&conflict.ours);
+        let theirs = ValueText(&conflict.theirs);
+        write!(
+            f,
+            "conflict: metadata `{key}`: {base}{ours} (ours), {theirs} (theirs)"
+        )
+    }
+}
+
+// The value of the base and an arrow, if there is one.
+#[derive(Clone, Copy)]
+struct OldText<'a>(&'a Option<MetadataValue>);
+
+impl fmt::Display for OldText<'_> {
+    ghost use Rattle.std.specs.Prelude.{Some};
+    ghost use Rattle.cargo_lock_merge.specs.Lines.{old_text};
+
+    ghost output = { λ shown. Some (old_text shown.0.now) };
+
+    fn fmt<W: fmt::Write>(&self, f: &mut fmt::Formatter<W>) -> fmt::Result {
+        let OldText(value) = *self;
+        match value {
+            Some(value) => {
+                let value = Quoted(value);
+                write!(f, "`{value}` -> ")
+            }
+            None => Ok(()),
         }
-        let ours = ValueText(&self.conflict.ours);
-        let theirs = ValueText(&self.conflict.theirs);
-        write!(f, "{ours} (ours), {theirs} (theirs)")
     }
 }
 
@@ -77,6 +145,11 @@ impl fmt::Display for MetadataLine<'_> {
 struct ValueText<'a>(&'a Option<MetadataValue>);
 
 impl fmt::Display for ValueText<'_> {
+    ghost use Rattle.std.specs.Prelude.{Some};
+    ghost use Rattle.cargo_lock_merge.specs.Lines.{metadata_value_text};
+
+    ghost output = { λ shown. Some (metadata_value_text shown.0.now) };
+
     fn fmt<W: fmt::Write>(&self, f: &mut fmt::Formatter<W>) -> fmt::Result {
         let ValueText(value) = *self;
         match value {

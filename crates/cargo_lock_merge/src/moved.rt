@@ -1,8 +1,7 @@
 //! The references that a merge moved.
 
-ghost use Rattle.std.specs.Prelude.{◌≡◌, ◌<◌, ◌⊎◌, IfOk, IsOkUnless, OnOk, length, map};
+ghost use Rattle.std.specs.Prelude.{◌≡◌, ◌⊎◌, IfOk, IsOkUnless, map};
 ghost use Rattle.std.specs.Bool.{Decides};
-ghost use Rattle.std.specs.List.Sorted.{IsPermutation};
 ghost use Rattle.cargo_lock_parts.specs.declared.error.Error.TheVariants.{Memory};
 ghost use Rattle.cargo_lock_merging.specs.Kept.{AreInPlace};
 ghost use Rattle.cargo_lock_merging.specs.Merged.{merged_data};
@@ -10,12 +9,13 @@ ghost use Rattle.cargo_lock_merging.specs.Moved.{AreListed};
 ghost use Rattle.cargo_lock_merging.specs.Numbered.{all_data};
 ghost use Rattle.cargo_lock_merge.specs.Moved.{AreMarked, AreMovedReferences, AreNamed, HasNamesake};
 
+use crate::order::{Ordered, put_in_order};
 use crate::words::{SourceBehind, WithCommit};
 use cargo_lock_check::{dependency_order, package_order};
 use cargo_lock_graph::versions::Versions;
 use cargo_lock_merging::merged::Merged;
 use cargo_lock_merging::moved::{Moved as Found, Reference, moved_references};
-use cargo_lock_merging::placed::{Placed, cmp_identities};
+use cargo_lock_merging::placed::Placed;
 use cargo_lock_parts::dependency::Dependency;
 use cargo_lock_parts::error::Result;
 use cargo_lock_parts::package::Package;
@@ -70,9 +70,9 @@ pub(crate) fn moved_of<'a>(
         (map merged_data merged.now) packages.now all.items) }
     ensures err { IsOkUnless result Memory }
 {
-    let mut found = moved_references(alloc, merged, ours, theirs)?;
-    order_moved(alloc, &mut found)?;
-    let named = with_identities(alloc, &found)?;
+    let found = moved_references(alloc, merged, ours, theirs)?;
+    let mut named = with_identities(alloc, &found)?;
+    put_in_order(alloc, &mut named)?;
     Ok(marked(alloc, &named, packages)?)
 }
 
@@ -82,6 +82,20 @@ struct Named<'a> {
     found: Found<'a>,
     from: Dependency,
     to: Dependency,
+}
+
+impl Ordered for Named<'_> {
+    ghost use Rattle.cargo_lock_merge.specs.Order.{named_order};
+
+    ghost order = { named_order };
+
+    fn order(&self, alloc: Global, other: &Self) -> std::result::Result<Ordering, AllocError> {
+        let order = package_order(alloc, self.found.merged.from, other.found.merged.from)?;
+        if order != Ordering::Equal {
+            return Ok(order);
+        }
+        dependency_order(alloc, &self.to, &other.to)
+    }
 }
 
 // The references with their identities.
@@ -137,56 +151,6 @@ fn has_namesake<'d>(versions: &Versions<'d>, identity: &'d Dependency) -> bool
         Some(at) => versions.before(at).is_some(),
         None => false,
     }
-}
-
-// Puts references in the order of their packages.
-fn order_moved(alloc: Global, list: &mut Vec<Found<'_>>) -> Result<()>
-    ensures ok { OnOk result (IsPermutation list.old.items list.new.items) }
-    ensures err { IsOkUnless result Memory }
-{
-    list.sort_by(|one, other| cmp_moved(one, other))?;
-    for at in 1..list.len() {
-        sink_moved(alloc, list, at)?;
-    }
-    Ok(())
-}
-
-fn cmp_moved(one: &Found, other: &Found) -> Ordering {
-    cmp_identities(one.merged.from, other.merged.from).then(cmp_identities(
-        one.merged.to,
-        other.merged.to,
-    ))
-}
-
-// Moves a reference towards the front, past those after which it comes.
-fn sink_moved(alloc: Global, list: &mut Vec<Found<'_>>, from: usize) -> Result<()>
-    requires { from < length list.old.items }
-    ensures ok { OnOk result (IsPermutation list.old.items list.new.items) }
-    ensures err { IsOkUnless result Memory }
-{
-    let mut at = from;
-    while at > 0 {
-        let order = moved_order(alloc, &list[at - 1], &list[at])?;
-        if order != Ordering::Greater {
-            return Ok(());
-        }
-        list.swap(at - 1, at);
-        at -= 1;
-    }
-    Ok(())
-}
-
-// The order in which Cargo writes two references.
-fn moved_order(alloc: Global, one: &Found, other: &Found) -> Result<Ordering>
-    ensures { IsOkUnless result Memory }
-{
-    let order = package_order(alloc, one.merged.from, other.merged.from)?;
-    if order != Ordering::Equal {
-        return Ok(order);
-    }
-    let one = Dependency::of(one.merged.to)?;
-    let other = Dependency::of(other.merged.to)?;
-    Ok(dependency_order(alloc, &one, &other)?)
 }
 
 impl fmt::Display for Moved<'_> {

@@ -4,14 +4,15 @@ ghost use Rattle.std.specs.Prelude.{◌≡◌, ◌⊎◌, ◌↔◌, ◌||◌, I
 ghost use Rattle.std.specs.BTreeSet.{keys};
 ghost use Rattle.std.specs.Bool.{Decides};
 ghost use Rattle.std.specs.List.{IsDistinct};
-ghost use Rattle.std.specs.List.Sorted.{IsPermutation};
+ghost use Rattle.std.specs.List.Sorted.{IsPermutation, IsSorted};
+ghost use Rattle.cargo_lock_merge.specs.Order.{patch_order};
 ghost use Rattle.cargo_lock_merge.specs.Patches.{AreKept, ArePatchesOf, IsIn, IsKeptOf};
 ghost use Rattle.cargo_lock_merge.specs.Patches.{has_identity};
 ghost use Rattle.cargo_lock_parts.specs.Identity.{Identity, identity_of};
 ghost use Rattle.cargo_lock_parts.specs.IdentityOrder.{is_same_identity};
 ghost use Rattle.cargo_lock_parts.specs.declared.error.Error.TheVariants.{Memory};
 
-use crate::order::order_packages;
+use crate::order::put_in_order;
 use cargo_lock_merging::rule3::keeps;
 use cargo_lock_parts::dependency::Dependency;
 use cargo_lock_parts::error::Result;
@@ -143,10 +144,11 @@ fn list_of(alloc: Global, set: &BTreeSet<Dependency>) -> Result<Vec<Dependency>>
 // The patches in the order in which Cargo writes them, which is that of packages.
 fn in_order(alloc: Global, patches: &[Dependency]) -> Result<Vec<Dependency>>
     ensures ok { IfOk result (λ ordered. IsPermutation patches.now ordered.items) }
+    ensures order { IfOk result (λ ordered. IsSorted patch_order ordered.items) }
     ensures err { IsOkUnless result Memory }
 {
     let mut packages = packages_of(alloc, patches)?;
-    order_packages(alloc, &mut packages)?;
+    put_in_order(alloc, &mut packages)?;
     identities(alloc, &packages)
 }
 

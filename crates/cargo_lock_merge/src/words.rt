@@ -154,7 +154,7 @@ fn write_start<W: fmt::Write>(text: &str, f: &mut fmt::Formatter<W>) -> fmt::Res
     Ok(())
 }
 
-// The source in round brackets, if there is one.
+// The source without a commit in round brackets, if there is one.
 #[derive(Clone, Copy)]
 pub(crate) struct SourceBehind<'a>(pub(crate) &'a Option<SourceId>);
 
@@ -168,10 +168,32 @@ impl fmt::Display for SourceBehind<'_> {
         let SourceBehind(source) = *self;
         match source {
             Some(source) => {
-                let source = Shown(source);
+                let source = SourceText(source);
                 write!(f, " ({source})")
             }
             None => Ok(()),
+        }
+    }
+}
+
+// A source without a commit.
+#[derive(Clone, Copy)]
+struct SourceText<'a>(&'a SourceId);
+
+impl fmt::Display for SourceText<'_> {
+    ghost use Rattle.std.specs.Prelude.{Some};
+    ghost use Rattle.cargo_lock_merge.specs.Words.{source_text};
+
+    ghost output = { λ shown. Some (source_text shown.0.now) };
+
+    fn fmt<W: fmt::Write>(&self, f: &mut fmt::Formatter<W>) -> fmt::Result {
+        let SourceText(source) = *self;
+        if source.is_git() {
+            let source = BareSource(source);
+            write!(f, "{source}")
+        } else {
+            let source = Shown(source);
+            write!(f, "{source}")
         }
     }
 }

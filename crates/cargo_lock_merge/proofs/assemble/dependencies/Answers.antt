@@ -35,5 +35,5 @@ returns-clause-ok c = λ i.
     let end = c.loop-place-test.false in
     let all : (j : Identity) → Contains c.loop-place.all.items j ↔ ((n : ℕ) × Contains ns n × IsIdentityAt m n j) =
     subst (λ (xs : List ℕ). (j : Identity) → Contains c.loop-place.all.items j ↔ ((n : ℕ) × Contains xs n × IsIdentityAt m n j)) (take_all c.loop-place.place-index ns (omega (arith, end))) c.loop-place.invariant in
-    let moved = c.in_ok-order_dependencies.ensures in
+    let moved = c.in_ok-put_in_order.ensures.permutation in
     (λ h. (all i).0 (Contains-permutation _ _ i (IsPermutation-sym _ _ moved) h), λ h. Contains-permutation _ _ i moved ((all i).1 h))

@@ -11,6 +11,6 @@ returns-clause-ok c =
     let t : List Identity = c.deref-3.result.now in
     let kept : List Identity = c.in_ok-kept.kept.items in
     let moved = subst (λ (xs : List Identity). IsPermutation xs c.in_ok-unused.unused.items) c.deref-4.ensures.value c.in_ok-unused.ensures.ok in
-    let done = kept-patches b o t c.in_ok-unused.unused.items (kept-permutation b o t kept c.in_ok-unused.unused.items moved c.in_ok-kept.ensures.ok) in
+    let done = kept-patches b o t c.in_ok-unused.unused.items c.in_ok-unused.ensures.order (kept-permutation b o t kept c.in_ok-unused.unused.items moved c.in_ok-kept.ensures.ok) in
     patches-along b o t c.args.base.now c.args.ours.now c.args.theirs.now c.in_ok-unused.unused.items (c.deref.ensures.value ∙ c.base.view_is) (c.deref-2.ensures.value ∙ c.ours.view_is)
     (c.deref-3.ensures.value ∙ c.theirs.view_is) done
