@@ -38,10 +38,10 @@ abbrev pub IsComparedOf : List ℕ → LockfileData → Type 0
 IsComparedOf text x = (l : LockfileData) × TextMeans text l × (x ≡ with_cargo_checksums_in l)
 
 -- these are the lockfiles of the three texts
-pub record AreOfTexts (base ours theirs : List ℕ) (s : LockfileTriple) : Type 0 where
-  pub base : IsComparedOf base s.base
-  pub ours : IsComparedOf ours s.ours
-  pub theirs : IsComparedOf theirs s.theirs
+pub record AreOfTexts (first second third : List ℕ) (s : LockfileTriple) : Type 0 where
+  pub base : IsComparedOf first s.base
+  pub ours : IsComparedOf second s.ours
+  pub theirs : IsComparedOf third s.theirs
 
 -- the three lockfiles
 abbrev pub triple_in : Three → LockfileTriple
