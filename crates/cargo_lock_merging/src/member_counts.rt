@@ -34,7 +34,7 @@ impl<'a> MemberCounts<'a> {
         ensures { (all : Lockfiles) → AreMemberCounts all self.now
             → result ≡ has_several all name.now }
     {
-        count_of(&self.ours, name) > 1
+        count_of(&self.base, name) > 1
             || count_of(&self.ours, name) > 1
             || count_of(&self.theirs, name) > 1
     }
