@@ -6,7 +6,7 @@ use Rattle.cargo_lock_c.proofs.three.read_three.Goals as goal
 
 pub returns-in_err-first-clause-err : goal.returns-in_err-first-clause-err
 returns-in_err-first-clause-err c =
-    refusal-passed (LacksMerge c.args.base.now c.args.ours.now c.args.theirs.now) c.from_residual-in_err-first.result c.in_err-first.field-0.0 c.from_residual-in_err-first.ensures.1
+    refusal-passed (LacksMerge c.args.base.now c.args.ours.now c.args.theirs.now) c.from_residual.result c.in_err-first.field-0.0 c.from_residual.ensures.1
     (c.in_err-first.ensures.err c.args.ours.now c.args.theirs.now)
 
 pub returns-in_err-second-clause-err : goal.returns-in_err-second-clause-err
