@@ -1,25 +1,26 @@
 /* cargo_lock for callers in C: reads a Cargo.lock of any format, V1 to V4.
  *
- * Each call takes the bytes of a lockfile, or of two, and keeps nothing: any number of threads may
+ * Each call takes the bytes of a lockfile, of two or of three, and keeps nothing: any number of threads may
  * call at once, and there is nothing to free. A thread needs a stack of CARGO_LOCK_STACK bytes.
  * Some threads have less unless it is asked for: those of Java 1 MiB, those of musl 128 KiB.
  *
- * `text` points to `text_len` bytes, which are only read; so do `spec`, and `old` and `new_`, which
- * may be the same bytes. `out` points to room for `out_len` items, and `length` and `format` to one
+ * `text` points to `text_len` bytes, which are only read; so do `spec`, `old` and `new_`, and `base`,
+ * `ours` and `theirs`, which may be the same bytes. `out` points to room for `out_len` items, and `length` and `format` to one
  * number each. These are the caller's, are not null, also where they hold nothing, and do not overlap while
  * a call runs.
  *
  * Each call returns a status. At CARGO_LOCK_DONE the answer is at the front of `out`, and
  * `*length` is how many items it has. At CARGO_LOCK_NO_ROOM the answer is longer than `out_len`,
- * `*length` is how many items it has, and `out` is unchanged: call again with that room. At any
- * other status `out`, `*length` and `*format` are unchanged. A text in `out` is UTF-8 and has
- * no byte 0 at its end.
+ * `*length` is how many items it has, and `out` is unchanged: call again with that room. At
+ * CARGO_LOCK_CONFLICTS and CARGO_LOCK_.._REFUSED, which only calls of merges return, `out` and
+ * `*length` have a text as at CARGO_LOCK_DONE. At any other status `out`, `*length` and `*format` are
+ * unchanged. A text in `out` is UTF-8 and has no byte 0 at its end.
  *
  * A lockfile comes from a stranger, and a message of cargo_lock_fault has its names, with newlines
  * and control characters: do not print it unchanged on a terminal. Nor a bill: it has the names
- * too, and JSON escapes no control characters above U+001F. The lines of cargo_lock_diff and
- * cargo_lock_check have printable characters of ASCII alone, and show any other as `\u{..}` with its
- * number. The documents of cargo_lock_why and cargo_lock_duplicates are as a bill is: do not print
+ * too, and JSON escapes no control characters above U+001F. The lines of cargo_lock_diff,
+ * cargo_lock_check and cargo_lock_merge_moved, and those of conflicts and of what is refused, have
+ * printable characters of ASCII alone, and show any other as `\u{..}` with its number. The documents of cargo_lock_why and cargo_lock_duplicates are as a bill is: do not print
  * them unchanged on a terminal.
  */
 #ifndef CARGO_LOCK_H
@@ -62,9 +63,9 @@ enum {
     /* A name or a source has a control character, as a tab, or a separator of lines or paragraphs
      * (U+2028, U+2029), so no line can have it. */
     CARGO_LOCK_NO_LINE = 9,
-    /* The second of two texts is no lockfile. cargo_lock_fault says why. */
+    /* The second of several texts is no lockfile. cargo_lock_fault says why. */
     CARGO_LOCK_NO_NEW_LOCKFILE = 10,
-    /* The second of two texts is no UTF-8. */
+    /* The second of several texts is no UTF-8. */
     CARGO_LOCK_NO_NEW_TEXT = 11,
     /* Two packages have the same name, version and source, user names and passwords aside, so a bill
      * would refer to both by one text. */
@@ -72,7 +73,19 @@ enum {
     /* No package fits the specification. */
     CARGO_LOCK_NOTHING_FITS = 13,
     /* The bytes of the specification are no UTF-8. */
-    CARGO_LOCK_NO_SPEC_TEXT = 14
+    CARGO_LOCK_NO_SPEC_TEXT = 14,
+    /* The sides of a merge are in conflict. `out` has a line for each conflict. */
+    CARGO_LOCK_CONFLICTS = 15,
+    /* The base cannot be merged. `out` has the line that says why. */
+    CARGO_LOCK_BASE_REFUSED = 16,
+    /* The same of ours. */
+    CARGO_LOCK_OURS_REFUSED = 17,
+    /* The same of theirs. */
+    CARGO_LOCK_THEIRS_REFUSED = 18,
+    /* The third of three texts is no lockfile. cargo_lock_fault says why. */
+    CARGO_LOCK_NO_THIRD_LOCKFILE = 19,
+    /* The third of three texts is no UTF-8. */
+    CARGO_LOCK_NO_THIRD_TEXT = 20
 };
 
 /* An edge, by the numbers of two packages in the lockfile's order, from 0: the package that depends,
@@ -156,6 +169,25 @@ uint32_t cargo_lock_why(const uint8_t *text, size_t text_len, const uint8_t *spe
  * prints it: the path in it is `-`. DONE, NO_LOCKFILE, NO_TEXT, NO_MEMORY, NO_ROOM or UNRESOLVED. */
 uint32_t cargo_lock_duplicates(const uint8_t *text, size_t text_len, uint8_t *out, size_t out_len,
                                size_t *length);
+
+/* The text of the merge of two lockfiles over their common ancestor, by packages, as `cargo-lock
+ * merge` prints it. An empty base is a lockfile without packages. At CONFLICTS there is no merge, and
+ * `out` has a line for each conflict with a newline at the end; at BASE_REFUSED, OURS_REFUSED or
+ * THEIRS_REFUSED it has the line that says why that lockfile cannot be merged. The texts are read in
+ * their order: NO_LOCKFILE and NO_TEXT are said of the base, NO_NEW_LOCKFILE and NO_NEW_TEXT of ours,
+ * and NO_THIRD_LOCKFILE and NO_THIRD_TEXT of theirs. Or DONE, NO_MEMORY or NO_ROOM. No lockfile says
+ * which versions a requirement admits, so ask `cargo metadata --locked` after a merge. */
+uint32_t cargo_lock_merge(const uint8_t *base, size_t base_len, const uint8_t *ours,
+                          size_t ours_len, const uint8_t *theirs, size_t theirs_len, uint8_t *out,
+                          size_t out_len, size_t *length);
+
+/* The references that this merge moved, dependencies on packages that neither side has for them: a
+ * line for each with a newline at the end, as `cargo-lock merge` prints it on standard error. Where no
+ * reference moved the length is 0. It has a call of its own so that each call has one buffer. The
+ * statuses are those of cargo_lock_merge, with the same texts at CONFLICTS and at .._REFUSED. */
+uint32_t cargo_lock_merge_moved(const uint8_t *base, size_t base_len, const uint8_t *ours,
+                                size_t ours_len, const uint8_t *theirs, size_t theirs_len,
+                                uint8_t *out, size_t out_len, size_t *length);
 
 #ifdef __cplusplus
 }

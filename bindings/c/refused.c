@@ -1,7 +1,7 @@
 /* Refuses each growth of each call in turn, alone and with all that follow it. A call whose memory is
  * refused from some growth on answers NO_MEMORY; where one growth alone is refused, which may be one
  * that was only asked for ahead, it may also give the answer that it gives undisturbed. Whatever it
- * answers, it leaves no block, and changes its room at DONE alone. `bindings/run` runs this over the
+ * answers, it leaves no block, and changes its room where its answer is alone. `bindings/run` runs this over the
  * lockfiles of the tests.
  *
  *     refused Cargo.lock ..
@@ -130,13 +130,27 @@ static uint32_t duplicates(void)
     return cargo_lock_duplicates(text, text_len, (uint8_t *)room, ROOM, &length);
 }
 
+/* Over no base, so that the sides are in conflict where both have the package. */
+static uint32_t merge(void)
+{
+    return cargo_lock_merge(text, 0, text, text_len, (const uint8_t *)other, sizeof other - 1,
+                            (uint8_t *)room, ROOM, &length);
+}
+
+static uint32_t moved(void)
+{
+    return cargo_lock_merge_moved((const uint8_t *)other, sizeof other - 1, text, text_len, text,
+                                  text_len, (uint8_t *)room, ROOM, &length);
+}
+
 static const struct {
     const char *name;
     uint32_t (*call)(void);
 } calls[] = {{"format", format},       {"fault", fault}, {"survives", survives},
              {"translate", translate}, {"edges", edges}, {"packages", packages},
              {"tree", tree},           {"diff", diff},   {"check", check},
-             {"bill", bill},           {"why", why},   {"duplicates", duplicates}};
+             {"bill", bill},           {"why", why},   {"duplicates", duplicates},
+                             {"merge", merge},         {"moved", moved}};
 
 /* ---- what is asked of each */
 

@@ -79,6 +79,12 @@ static uint32_t ask(void)
                               &length);
     if (strcmp(call, "duplicates") == 0)
         return cargo_lock_duplicates(bytes, text_len, out, ROOM, &length);
+    if (strcmp(call, "merge") == 0)
+        return cargo_lock_merge(bytes, text_len, bytes, text_len, bytes, text_len, out, ROOM,
+                                &length);
+    if (strcmp(call, "merge_moved") == 0)
+        return cargo_lock_merge_moved(bytes, text_len, bytes, text_len, bytes, text_len, out, ROOM,
+                                      &length);
     fprintf(stderr, "no call is %s\n", call);
     exit(2);
 }

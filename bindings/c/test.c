@@ -207,8 +207,10 @@ static void fill(uint8_t *room, size_t length)
         room[at] = (uint8_t)(at * 7 + 3);
 }
 
-/* Asks for an answer in room of each length up to some more than it has. */
-static void answers(text given, call asked, const void *wanted, size_t length, int line)
+/* Asks for a text, which comes with this status, in room of each length up to some more than it
+ * has. */
+static void tells(text given, call asked, uint32_t status_of_text, const void *wanted,
+                  size_t length, int line)
 {
     uint8_t *filled = malloc(length + 20);
     fill(filled, length + 20);
@@ -220,7 +222,7 @@ static void answers(text given, call asked, const void *wanted, size_t length, i
         status = asked(given, room, size, &told);
         expect(told == length, "the length of the answer", line);
         if (size >= length) {
-            expect(status == CARGO_LOCK_DONE, "there is room", line);
+            expect(status == status_of_text, "there is room", line);
             expect(!memcmp(room, wanted, length), "the answer", line);
             expect(!memcmp(room + length, filled + length, size - length), "the rest", line);
         } else {
@@ -232,6 +234,13 @@ static void answers(text given, call asked, const void *wanted, size_t length, i
     free(filled);
 }
 
+static void answers(text given, call asked, const void *wanted, size_t length, int line)
+{
+    tells(given, asked, CARGO_LOCK_DONE, wanted, length, line);
+}
+
+#define TELLS(given, asked, status, wanted)                                                       \
+    tells(given, asked, status, wanted, strlen(wanted), __LINE__)
 #define ANSWERS(given, asked, wanted) answers(given, asked, wanted, strlen(wanted), __LINE__)
 
 /* A refusal leaves the room and the length as they were. */
@@ -385,6 +394,98 @@ static void ask_documents(text third, text none)
     free(without.bytes);
 }
 
+/* ---- merges */
+
+#define LEFT(version)                                                                             \
+    "\n[[package]]\nname = \"left\"\nversion = \"" version "\"\nsource = \"" CRATES_IO "\"\n"      \
+    "checksum = \"" CHECKSUM "\"\n"
+#define APP(needs)                                                                                \
+    "version = 4\n\n[[package]]\nname = \"app\"\nversion = \"0.1.0\"\ndependencies = [\n" needs   \
+    "]\n"
+#define RIGHT                                                                                     \
+    "\n[[package]]\nname = \"right\"\nversion = \"1.0.0\"\nsource = \"" CRATES_IO "\"\n"            \
+    "checksum = \"" CHECKSUM "\"\ndependencies = [\n \"left\",\n]\n"
+#define ON_LEFT " \"left\",\n"
+#define ON_BOTH " \"left\",\n \"right\",\n"
+
+/* The base; a later `left`; a new package that needs the one of the base; an earlier `left`; and
+ * `left` twice. */
+static const char old_left[] = APP(ON_LEFT) LEFT("1.1.0");
+static const char later_left[] = APP(ON_LEFT) LEFT("1.2.0");
+static const char new_right[] = APP(ON_BOTH) LEFT("1.1.0") RIGHT;
+static const char earlier_left[] = APP(ON_LEFT) LEFT("1.0.0");
+static const char left_twice[] = APP(ON_LEFT) LEFT("1.1.0") LEFT("1.1.0");
+static const char both_changes[] = APP(ON_BOTH) LEFT("1.2.0") RIGHT;
+
+/* The two lockfiles of a merge besides the one that is given. */
+static text one, two;
+
+#define MERGES(call, base, ours, theirs)                                                          \
+    static uint32_t call(text given, uint8_t *out, size_t out_len, size_t *length)                \
+    {                                                                                             \
+        return cargo_lock_merge(base.bytes, base.length, ours.bytes, ours.length, theirs.bytes,   \
+                                theirs.length, out, out_len, length);                             \
+    }                                                                                             \
+    static uint32_t call##_moved(text given, uint8_t *out, size_t out_len, size_t *length)        \
+    {                                                                                             \
+        return cargo_lock_merge_moved(base.bytes, base.length, ours.bytes, ours.length,           \
+                                      theirs.bytes, theirs.length, out, out_len, length);         \
+    }
+
+MERGES(merge, one, given, two)
+MERGES(merge_over, given, one, two)
+MERGES(merge_with, one, two, given)
+
+static void ask_merges(text none, text bytes)
+{
+    const char *moved = "moved: right 1.0.0 on left 1.2.0 (theirs: right 1.0.0 on left 1.1.0)\n";
+    const char *twice = "package left 1.1.0 is listed twice\n";
+    const char *conflict = "conflict: left: 1.1.0 -> 1.2.0 (ours), 1.0.0 (theirs)\n";
+    text later = text_of(later_left, ""), right = text_of(new_right, "");
+    text earlier = text_of(earlier_left, ""), refused = text_of(left_twice, "");
+    text of_root = text_of(rooted, ""), wanted = text_of(head, both_changes);
+    text of_base = text_of("base: ", twice), of_ours = text_of("ours: ", twice);
+    text of_theirs = text_of("theirs: ", twice), empty = text_of("", "");
+    text greater = text_of(head, old_left);
+    const char *of_theirs_root = "theirs: a root apart from the packages\n";
+
+    one = text_of(old_left, "");
+    two = right;
+    answers(later, merge, wanted.bytes, wanted.length, __LINE__);
+    ANSWERS(later, merge_moved, moved);
+    ANSWERS(one, merge_moved, "");
+    two = earlier;
+    TELLS(later, merge, CARGO_LOCK_CONFLICTS, conflict);
+    TELLS(later, merge_moved, CARGO_LOCK_CONFLICTS, conflict);
+    answers(empty, merge_over, greater.bytes, greater.length, __LINE__);
+    tells(refused, merge_over, CARGO_LOCK_BASE_REFUSED, of_base.bytes, of_base.length, __LINE__);
+    tells(refused, merge, CARGO_LOCK_OURS_REFUSED, of_ours.bytes, of_ours.length, __LINE__);
+    tells(refused, merge_with_moved, CARGO_LOCK_THEIRS_REFUSED, of_theirs.bytes,
+          of_theirs.length, __LINE__);
+    TELLS(of_root, merge_with, CARGO_LOCK_THEIRS_REFUSED, of_theirs_root);
+    REFUSES(none, merge_over, CARGO_LOCK_NO_LOCKFILE);
+    REFUSES(bytes, merge_over_moved, CARGO_LOCK_NO_TEXT);
+    REFUSES(none, merge, CARGO_LOCK_NO_NEW_LOCKFILE);
+    REFUSES(bytes, merge, CARGO_LOCK_NO_NEW_TEXT);
+    REFUSES(none, merge_with, CARGO_LOCK_NO_THIRD_LOCKFILE);
+    REFUSES(bytes, merge_with_moved, CARGO_LOCK_NO_THIRD_TEXT);
+    two = none;
+    REFUSES(bytes, merge, CARGO_LOCK_NO_NEW_TEXT);
+    REFUSES(bytes, merge_over, CARGO_LOCK_NO_TEXT);
+    free(later.bytes);
+    free(right.bytes);
+    free(earlier.bytes);
+    free(refused.bytes);
+    free(of_root.bytes);
+    free(wanted.bytes);
+    free(of_base.bytes);
+    free(of_ours.bytes);
+    free(of_theirs.bytes);
+    free(empty.bytes);
+    free(greater.bytes);
+    free(one.bytes);
+}
+
 static void ask_refusals(text third, text none, text bytes)
 {
     static const call calls[] = {as_fourth, packages, edges,    tree, changes,
@@ -447,6 +548,7 @@ int main(void)
     ask_answers(third);
     ask_bills(third);
     ask_documents(third, none);
+    ask_merges(none, bytes);
     ask_refusals(third, none, bytes);
     ask_in_threads(third);
     free(third.bytes);

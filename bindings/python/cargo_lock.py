@@ -20,15 +20,19 @@ makes it.
 from __future__ import annotations
 
 import ctypes
+import dataclasses
 import os
 from typing import Any, Callable, NamedTuple, Optional, Union
 
 __all__ = [
+    "ConflictError",
     "Edge",
     "Error",
     "FormatError",
     "LineError",
     "LostError",
+    "Merge",
+    "MergeRefused",
     "NotALockfile",
     "Package",
     "PackageError",
@@ -42,6 +46,7 @@ __all__ = [
     "edges",
     "fault",
     "format_of",
+    "merge",
     "packages",
     "survives",
     "translate",
@@ -89,6 +94,27 @@ class RepeatedError(Error):
 
 class SpecError(Error, ValueError):
     """No package fits the specification, or its bytes are no UTF-8."""
+
+
+class ConflictError(Error):
+    """The sides of a merge are in conflict. `conflicts` has a line for each conflict."""
+
+    def __init__(self, conflicts: tuple[str, ...]) -> None:
+        super().__init__("\n".join(conflicts))
+        self.conflicts = conflicts
+
+
+class MergeRefused(Error, ValueError):
+    """A lockfile cannot be merged. It says which, `base`, `ours` or `theirs`, and why."""
+
+
+@dataclasses.dataclass(frozen=True)
+class Merge:
+    """A merged lockfile: its text, and a line for each reference that the merge moved, a dependency
+    on a package that neither side has for it."""
+
+    text: str
+    moved: tuple[str, ...]
 
 
 class Package(NamedTuple):
@@ -191,10 +217,22 @@ def diff(old: Text, new: Text, dependencies: bool = False) -> str:
 
     try:
         return _answer(before, call).decode()
-    except _NewText as refusal:
+    except _LaterText as refusal:
         raise NotALockfile(f"new: {_why_not(after, refusal.status)}") from None
     except NotALockfile as refusal:
         raise NotALockfile(f"old: {refusal}") from None
+
+
+def merge(base: Text, ours: Text, theirs: Text) -> Merge:
+    """The merge of two lockfiles over their common ancestor, by packages, as `cargo-lock merge`
+    prints it. An empty base is a lockfile without packages. Each text is read twice, once for the
+    references that moved. No lockfile says which versions a requirement admits, so ask `cargo
+    metadata --locked` after a merge. Raises `ConflictError`, `MergeRefused` where a lockfile cannot
+    be merged, and `NotALockfile`, whose words begin `base: `, `ours: ` or `theirs: ` by the text that
+    is refused."""
+    sides = _bytes(base), _bytes(ours), _bytes(theirs)
+    text = _merged(_library().cargo_lock_merge, sides)
+    return Merge(text, _lines(_merged(_library().cargo_lock_merge_moved, sides)))
 
 
 def check(text: Text) -> list[str]:
@@ -234,8 +272,10 @@ _FILE = f"libcargo_lock.so.{_INTERFACE}"
 _DONE, _NO_LOCKFILE, _NO_TEXT, _NO_MEMORY, _NO_FORMAT = range(5)
 _NO_ROOM, _LOST, _UNRESOLVED, _NO_PACKAGE, _NO_LINE = range(5, 10)
 _REPEATED, _NOTHING_FITS, _NO_SPEC_TEXT = 12, 13, 14
-# What is said of the second of two texts, and what is said of a text alone.
-_OF_NEW = {10: _NO_LOCKFILE, 11: _NO_TEXT}
+_CONFLICTS, _REFUSED = 15, (16, 17, 18)
+# What is said of the second of several texts and of the third: which one, and what is said of a text
+# alone.
+_OF_LATER = {10: (1, _NO_LOCKFILE), 11: (1, _NO_TEXT), 19: (2, _NO_LOCKFILE), 20: (2, _NO_TEXT)}
 
 _ERRORS: dict[int, tuple[type[Error], str]] = {
     _NO_TEXT: (NotALockfile, "the bytes are no UTF-8"),
@@ -250,12 +290,13 @@ _ERRORS: dict[int, tuple[type[Error], str]] = {
 }
 
 
-class _NewText(Exception):
-    """The second of two texts is refused, with the status that a text alone would have."""
+class _LaterText(Exception):
+    """The second or the third of several texts is refused, with the status that a text alone would
+    have."""
 
-    def __init__(self, status: int) -> None:
+    def __init__(self, place: int, status: int) -> None:
         super().__init__(status)
-        self.status = status
+        self.place, self.status = place, status
 
 
 class _Edge(ctypes.Structure):
@@ -277,6 +318,8 @@ _CALLS: dict[str, list[Any]] = {
     "bill": [ctypes.c_bool, *_ROOM],
     "why": [ctypes.c_char_p, ctypes.c_size_t, ctypes.c_bool, *_ROOM],
     "duplicates": _ROOM,
+    "merge": [ctypes.c_char_p, ctypes.c_size_t, ctypes.c_char_p, ctypes.c_size_t, *_ROOM],
+    "merge_moved": [ctypes.c_char_p, ctypes.c_size_t, ctypes.c_char_p, ctypes.c_size_t, *_ROOM],
 }
 
 _loaded: Optional[ctypes.CDLL] = None
@@ -333,15 +376,45 @@ def _format(number: int) -> int:
 
 
 def _answer(given: bytes, call: Callable[..., int], *words: Any) -> bytes:
-    """The bytes that a call answers. The first room is enough for most texts of this length, so
-    that they are read once; if it is not, it is made as long as it has to be."""
-    length = ctypes.c_size_t(2 * len(given) + 4096)
+    """The bytes that a call answers."""
+    status, answer = _told(2 * len(given) + 4096, given, call, *words)
+    _stop_unless_done(given, status)
+    return answer
+
+
+def _told(first: int, given: bytes, call: Callable[..., int], *words: Any) -> tuple[int, bytes]:
+    """The status of a call, and the bytes that it sets, if it sets some. The first room should be
+    enough for most answers, so that the texts are read once; if it is not, it is made as long as it
+    has to be."""
+    length = ctypes.c_size_t(first)
     status = _NO_ROOM
     while status == _NO_ROOM:
         room = ctypes.create_string_buffer(length.value)
         status = call(given, len(given), *words, room, len(room), length)
-    _stop_unless_done(given, status)
-    return room.raw[: length.value]
+    return status, room.raw[: length.value]
+
+
+def _merged(call: Callable[..., int], sides: tuple[bytes, bytes, bytes]) -> str:
+    """The text that a call of a merge answers."""
+    base, ours, theirs = sides
+    room = 2 * (len(ours) + len(theirs)) + 4096
+    status, text = _told(room, base, call, ours, len(ours), theirs, len(theirs))
+    if status == _CONFLICTS:
+        raise ConflictError(_lines(text.decode()))
+    if status in _REFUSED:
+        raise MergeRefused(*_lines(text.decode()))
+    try:
+        _stop_unless_done(base, status)
+    except _LaterText as refusal:
+        side, words = ("base", "ours", "theirs")[refusal.place], sides[refusal.place]
+        raise NotALockfile(f"{side}: {_why_not(words, refusal.status)}") from None
+    except NotALockfile as refusal:
+        raise NotALockfile(f"base: {refusal}") from None
+    return text.decode()
+
+
+def _lines(text: str) -> tuple[str, ...]:
+    return tuple(text.split("\n")[:-1])
 
 
 def _stop_unless_done(given: bytes, status: int) -> None:
@@ -349,8 +422,8 @@ def _stop_unless_done(given: bytes, status: int) -> None:
         return
     if status == _NO_MEMORY:
         raise MemoryError
-    if status in _OF_NEW:
-        raise _NewText(_OF_NEW[status])
+    if status in _OF_LATER:
+        raise _LaterText(*_OF_LATER[status])
     if status == _NO_LOCKFILE:
         raise NotALockfile(_why_not(given, status))
     kind, words = _ERRORS[status]

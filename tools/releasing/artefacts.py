@@ -91,6 +91,7 @@ def library_archive(built):
         File("lib/libcargo_lock.so", LINK, SHARED),
         text("lib/pkgconfig/cargo_lock.pc", config),
         text("share/doc/cargo_lock/example.c", own("bindings/c/example.c")),
+        text("share/doc/cargo_lock/merge.c", own("bindings/c/merge.c")),
         *licences(built),
     ]
     name = f"libcargo_lock-{built.version}-{SHORT}"

@@ -1,6 +1,6 @@
 //! The calls of the library, as its header `cargo_lock.h` has them. All that is unsafe is here.
 
-use crate::{DiffError, Edge, Error};
+use crate::{DiffError, Edge, Error, MergeError, Side};
 
 use std::mem::size_of;
 
@@ -38,15 +38,48 @@ mod library {
     hands_out!(cargo_lock_edges, Edge);
     hands_out!(cargo_lock_tree, u8, package: usize, inverted: bool, exact: bool);
     hands_out!(cargo_lock_diff, u8, new: *const u8, new_len: usize, dependencies: bool);
+
+    // Declares a call of a merge, which takes the base, ours and theirs.
+    macro_rules! merges {
+        ($call:ident) => {
+            hands_out!(
+                $call, u8, ours: *const u8, ours_len: usize, theirs: *const u8, theirs_len: usize
+            );
+        };
+    }
+
+    merges!(cargo_lock_merge);
+    merges!(cargo_lock_merge_moved);
+
+    /// A call of a merge.
+    pub type Merge = unsafe extern "C" fn(
+        *const u8,
+        usize,
+        *const u8,
+        usize,
+        *const u8,
+        usize,
+        *mut u8,
+        usize,
+        *mut usize,
+    ) -> u32;
 }
 
 // The statuses that are not faults.
 const DONE: u32 = 0;
 const NO_ROOM: u32 = 5;
 
-// What is said of the second of two texts.
+// What is said of the second of several texts, and of the third.
 const NO_NEW_LOCKFILE: u32 = 10;
 const NO_NEW_TEXT: u32 = 11;
+const NO_THIRD_LOCKFILE: u32 = 19;
+const NO_THIRD_TEXT: u32 = 20;
+
+// The statuses of merges that come with a text besides the merged one.
+const CONFLICTS: u32 = 15;
+const BASE_REFUSED: u32 = 16;
+const OURS_REFUSED: u32 = 17;
+const THEIRS_REFUSED: u32 = 18;
 
 pub(crate) fn format(text: &[u8]) -> Result<u32, Error> {
     let mut number = 0;
@@ -155,6 +188,50 @@ pub(crate) fn diff(old: &[u8], new: &[u8], dependencies: bool) -> Result<String,
     }
 }
 
+pub(crate) fn merge(base: &[u8], ours: &[u8], theirs: &[u8]) -> Result<String, MergeError> {
+    merged(library::cargo_lock_merge, base, ours, theirs)
+}
+
+pub(crate) fn merge_moved(base: &[u8], ours: &[u8], theirs: &[u8]) -> Result<String, MergeError> {
+    merged(library::cargo_lock_merge_moved, base, ours, theirs)
+}
+
+/// The text that a call of a merge answers.
+fn merged(
+    call: library::Merge,
+    base: &[u8],
+    ours: &[u8],
+    theirs: &[u8],
+) -> Result<String, MergeError> {
+    // SAFETY: the pointers and lengths are those of slices and of a number that are borrowed.
+    let (status, bytes) = told_in_room(ours.len() + theirs.len(), |out, length| unsafe {
+        call(
+            base.as_ptr(),
+            base.len(),
+            ours.as_ptr(),
+            ours.len(),
+            theirs.as_ptr(),
+            theirs.len(),
+            out.as_mut_ptr(),
+            out.len(),
+            length,
+        )
+    });
+    let text = String::from_utf8(bytes).expect("the library answers UTF-8");
+    match status {
+        DONE => Ok(text),
+        CONFLICTS => Err(MergeError::Conflicts(text.lines().map(str::to_owned).collect())),
+        BASE_REFUSED => Err(MergeError::Refused(Side::Base, text.trim_end().to_owned())),
+        OURS_REFUSED => Err(MergeError::Refused(Side::Ours, text.trim_end().to_owned())),
+        THEIRS_REFUSED => Err(MergeError::Refused(Side::Theirs, text.trim_end().to_owned())),
+        NO_NEW_LOCKFILE => Err(MergeError::Unread(Side::Ours, fault_of(ours, 1))),
+        NO_NEW_TEXT => Err(MergeError::Unread(Side::Ours, fault_of(ours, 2))),
+        NO_THIRD_LOCKFILE => Err(MergeError::Unread(Side::Theirs, fault_of(theirs, 1))),
+        NO_THIRD_TEXT => Err(MergeError::Unread(Side::Theirs, fault_of(theirs, 2))),
+        status => Err(MergeError::Unread(Side::Base, fault_of(base, status))),
+    }
+}
+
 /// The text that a call answers.
 fn words(text: &[u8], call: impl FnMut(&mut [u8], &mut usize) -> u32) -> Result<String, Error> {
     let bytes = items(text, call)?;
@@ -169,25 +246,35 @@ fn items<T: Clone + Default>(
     room_for(text.len(), call).map_err(|status| fault_of(text, status))
 }
 
-/// The items that a call answers, or its status. The first room is enough for most texts of this
-/// length, so that they are read once; if it is not, it is made as long as it has to be.
+/// The items that a call answers, or its status.
 fn room_for<T: Clone + Default>(
     length_of_text: usize,
-    mut call: impl FnMut(&mut [T], &mut usize) -> u32,
+    call: impl FnMut(&mut [T], &mut usize) -> u32,
 ) -> Result<Vec<T>, u32> {
+    match told_in_room(length_of_text, call) {
+        (DONE, items) => Ok(items),
+        (status, _) => Err(status),
+    }
+}
+
+/// The status of a call, and the items that it sets, none if it sets none. The first room is enough
+/// for most texts of this length, so that they are read once; if it is not, it is made as long as it
+/// has to be.
+fn told_in_room<T: Clone + Default>(
+    length_of_text: usize,
+    mut call: impl FnMut(&mut [T], &mut usize) -> u32,
+) -> (u32, Vec<T>) {
     let room = 2 * length_of_text + 4096;
     let mut out = vec![T::default(); room / size_of::<T>()];
     let mut length = 0;
     let mut status = call(&mut out, &mut length);
     while status == NO_ROOM {
         out.resize(length, T::default());
+        length = 0;
         status = call(&mut out, &mut length);
     }
-    if status != DONE {
-        return Err(status);
-    }
     out.truncate(length);
-    Ok(out)
+    (status, out)
 }
 
 /// The fault of a status, if it is one.

@@ -139,6 +139,72 @@ impl error::Error for DiffError {
     }
 }
 
+/// A merged lockfile.
+#[derive(Clone, Debug, PartialEq, Eq, Hash)]
+pub struct Merge {
+    /// Its text.
+    pub text: String,
+
+    /// The references that the merge moved: a line for each dependency on a package that neither
+    /// side has for it.
+    pub moved: Vec<String>,
+}
+
+/// A lockfile of a merge.
+#[derive(Clone, Copy, Debug, PartialEq, Eq, Hash)]
+pub enum Side {
+    /// The common ancestor.
+    Base,
+
+    /// Our lockfile.
+    Ours,
+
+    /// Their lockfile.
+    Theirs,
+}
+
+impl fmt::Display for Side {
+    fn fmt(&self, f: &mut fmt::Formatter<'_>) -> fmt::Result {
+        f.write_str(match self {
+            Side::Base => "base",
+            Side::Ours => "ours",
+            Side::Theirs => "theirs",
+        })
+    }
+}
+
+/// Why lockfiles are not merged.
+#[derive(Clone, Debug, PartialEq, Eq, Hash)]
+pub enum MergeError {
+    /// The sides are in conflict: a line for each conflict.
+    Conflicts(Vec<String>),
+
+    /// A lockfile cannot be merged: the line that says why, which begins with its side.
+    Refused(Side, String),
+
+    /// A text is refused; or else, of the base, memory was. They are read in the order of the sides.
+    Unread(Side, Error),
+}
+
+impl fmt::Display for MergeError {
+    fn fmt(&self, f: &mut fmt::Formatter<'_>) -> fmt::Result {
+        match self {
+            MergeError::Conflicts(lines) => f.write_str(&lines.join("\n")),
+            MergeError::Refused(_, line) => f.write_str(line),
+            MergeError::Unread(side, error) => write!(f, "{side}: {error}"),
+        }
+    }
+}
+
+impl error::Error for MergeError {
+    fn source(&self) -> Option<&(dyn error::Error + 'static)> {
+        match self {
+            MergeError::Unread(_, error) => Some(error),
+            MergeError::Conflicts(_) | MergeError::Refused(..) => None,
+        }
+    }
+}
+
 /// The number of the lockfile's format, 1 to 4.
 pub fn format(text: impl AsRef<[u8]>) -> Result<u32, Error> {
     calls::format(text.as_ref())
@@ -243,4 +309,29 @@ pub fn why(text: impl AsRef<[u8]>, spec: &str, all: bool) -> Result<String, Erro
 /// `Unresolved` where a dependency has no package.
 pub fn duplicates(text: impl AsRef<[u8]>) -> Result<String, Error> {
     calls::duplicates(text.as_ref())
+}
+
+/// The merge of two lockfiles over their common ancestor, by packages, as `cargo-lock merge` prints
+/// it. An empty base is a lockfile without packages. Each text is read twice, once for the references
+/// that moved. No lockfile says which versions a requirement admits, so ask `cargo metadata --locked`
+/// after a merge.
+///
+/// ```
+/// let package = |version| format!("[[package]]\nname = \"app\"\nversion = \"{version}\"\n");
+/// let merged = proved_cargo_lock::merge(package("0.1.0"), package("0.1.0"), package("0.2.0"))?;
+/// assert!(merged.text.contains("0.2.0"));
+/// # Ok::<(), proved_cargo_lock::MergeError>(())
+/// ```
+pub fn merge(
+    base: impl AsRef<[u8]>,
+    ours: impl AsRef<[u8]>,
+    theirs: impl AsRef<[u8]>,
+) -> Result<Merge, MergeError> {
+    let (base, ours, theirs) = (base.as_ref(), ours.as_ref(), theirs.as_ref());
+    let text = calls::merge(base, ours, theirs)?;
+    let moved = calls::merge_moved(base, ours, theirs)?;
+    Ok(Merge {
+        text,
+        moved: moved.lines().map(str::to_owned).collect(),
+    })
 }

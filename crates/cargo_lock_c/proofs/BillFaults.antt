@@ -3,7 +3,7 @@ use Rattle.std.proofs.Common.{◌≡◌, ◌≤◌, ◌⊎◌, ℕ, List, arith,
 use Rattle.cargo_lock_encoding.specs.Lockfiles.{LockfileData}
 use Rattle.cargo_lock_encoding.specs.Means.{TextMeans}
 use Rattle.cargo_lock_c.specs.declared.refusal.Refusal.{Refusal}
-use Rattle.cargo_lock_c.specs.declared.refusal.Refusal.TheVariants.{NoLockfile, NoText, NoMemory, NoFormat, Lost, Unresolved, NoPackage, NoLine, NoNewLockfile, NoNewText, Repeated, NothingFits, NoSpecText}
+use Rattle.cargo_lock_c.specs.declared.refusal.Refusal.TheVariants.{NoLockfile, NoText, NoMemory, NoFormat, Lost, Unresolved, NoPackage, NoLine, NoNewLockfile, NoNewText, Repeated, NothingFits, NoSpecText, NoThirdLockfile, NoThirdText}
 use Rattle.cargo_lock_c.specs.Bills.{IsRepeatedText, IsUnresolvedBill, LacksBill, packages_in_bill}
 use Rattle.cargo_lock_c.specs.Statuses.{status_of}
 use Rattle.cargo_lock_c.specs.Texts.{RefusesText}
@@ -46,3 +46,5 @@ no-bill text l NoNewLockfile means impossible = absurd impossible
 no-bill text l NoNewText means impossible = absurd impossible
 no-bill text l NothingFits means impossible = absurd impossible
 no-bill text l NoSpecText means impossible = absurd impossible
+no-bill text l NoThirdLockfile means impossible = absurd impossible
+no-bill text l NoThirdText means impossible = absurd impossible

@@ -5,3 +5,4 @@ mod PackageLines
 mod EachLine
 mod BillFaults
 mod Unanswered
+mod MergeTexts

@@ -5,7 +5,7 @@ use Rattle.cargo_lock_parts.specs.declared.error.Error.{Error}
 use Rattle.cargo_lock_parts.specs.declared.error.Error.TheVariants.{Io, Parse, Version, Resolution, Memory}
 use Rattle.cargo_lock_parts.specs.Error.{IsParse, Refuses}
 use Rattle.cargo_lock_c.specs.declared.refusal.Refusal.{Refusal}
-use Rattle.cargo_lock_c.specs.declared.refusal.Refusal.TheVariants.{NoLockfile, NoText, NoMemory, NoFormat, Lost, Unresolved, NoPackage, NoLine, NoNewLockfile, NoNewText, Repeated, NothingFits, NoSpecText}
+use Rattle.cargo_lock_c.specs.declared.refusal.Refusal.TheVariants.{NoLockfile, NoText, NoMemory, NoFormat, Lost, Unresolved, NoPackage, NoLine, NoNewLockfile, NoNewText, Repeated, NothingFits, NoSpecText, NoThirdLockfile, NoThirdText}
 use Rattle.cargo_lock_c.specs.Differences.{ReadsOldText, RefusesNewText}
 use Rattle.cargo_lock_c.specs.Statuses.{refusal_of, refusal_of_new, status_of}
 use Rattle.cargo_lock_c.specs.Texts.{MeansNothing, RefusesText}
@@ -73,6 +73,8 @@ refused-new text NoNewText h below = absurd (omega (arith, below))
 refused-new text Repeated h below = absurd (omega (arith, below))
 refused-new text NothingFits h below = absurd (omega (arith, below))
 refused-new text NoSpecText h below = absurd (omega (arith, below))
+refused-new text NoThirdLockfile h below = absurd (omega (arith, below))
+refused-new text NoThirdText h below = absurd (omega (arith, below))
 
 pub new-kind : (r : Refusal) → status_of r ≤ 3
     → (status_of (refusal_of_new r) ≡ 3) ⊎ (status_of (refusal_of_new r) ≡ 10) ⊎ (status_of (refusal_of_new r) ≡ 11)
@@ -89,6 +91,8 @@ new-kind NoNewText below = absurd (omega (arith, below))
 new-kind Repeated below = absurd (omega (arith, below))
 new-kind NothingFits below = absurd (omega (arith, below))
 new-kind NoSpecText below = absurd (omega (arith, below))
+new-kind NoThirdLockfile below = absurd (omega (arith, below))
+new-kind NoThirdText below = absurd (omega (arith, below))
 
 -- a status of the first text says nothing of the second, and needs no first text that is read
 pub below-new : (text : List ℕ) (status : ℕ) → status ≤ 3 → RefusesNewText text status

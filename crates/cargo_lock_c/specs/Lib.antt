@@ -7,3 +7,4 @@ pub mod Differences
 pub mod Findings
 pub mod Bills
 pub mod Documents
+pub mod Merges

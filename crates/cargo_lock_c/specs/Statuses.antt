@@ -9,9 +9,10 @@ use Rattle.cargo_lock_c.specs.declared.refusal.Refusal.TheVariants.{NoFormat, Lo
 use Rattle.cargo_lock_c.specs.declared.refusal.Refusal.TheVariants.{NoPackage, NoLine}
 use Rattle.cargo_lock_c.specs.declared.refusal.Refusal.TheVariants.{NoNewLockfile, NoNewText}
 use Rattle.cargo_lock_c.specs.declared.refusal.Refusal.TheVariants.{Repeated, NothingFits, NoSpecText}
+use Rattle.cargo_lock_c.specs.declared.refusal.Refusal.TheVariants.{NoThirdLockfile, NoThirdText}
 
--- the status of a call that returns no answer; 0 is that of an answer, and 5 that of an answer that
--- is longer than the buffer
+-- the status of a call that returns no answer; 0 is that of an answer, 5 that of an answer that is
+-- longer than the buffer, and 15 to 18 are those of texts about a merge that there is not
 abbrev pub status_of : (refusal : Refusal) → ℕ
 status_of NoLockfile = 1
 status_of NoText = 2
@@ -26,12 +27,20 @@ status_of NoNewText = 11
 status_of Repeated = 12
 status_of NothingFits = 13
 status_of NoSpecText = 14
+status_of NoThirdLockfile = 19
+status_of NoThirdText = 20
 
--- the refusal for the second of two texts, from that of reading one
+-- the refusal for the second of several texts, from that of reading one
 abbrev pub refusal_of_new : Refusal → Refusal
 refusal_of_new NoLockfile = NoNewLockfile
 refusal_of_new NoText = NoNewText
 refusal_of_new other = other
+
+-- the refusal for the third of three texts, from that of reading one
+abbrev pub refusal_of_third : Refusal → Refusal
+refusal_of_third NoLockfile = NoThirdLockfile
+refusal_of_third NoText = NoThirdText
+refusal_of_third other = other
 
 -- the refusal for an error of the library; reading a text and drawing into memory have no `Io` and
 -- no `Version`

@@ -13,9 +13,11 @@ mod edges;
 mod findings;
 mod formats;
 mod handing;
+mod merge;
 mod packages;
 mod reading;
 mod refusal;
+mod three;
 mod tree;
 mod why;
 

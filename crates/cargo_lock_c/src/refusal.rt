@@ -1,7 +1,8 @@
 //! Why a call returns no answer, and the status of each reason.
 
 ghost use Rattle.std.specs.Prelude.{◌≡◌};
-ghost use Rattle.cargo_lock_c.specs.Statuses.{refusal_of_bill, refusal_of_new, status_of};
+ghost use Rattle.cargo_lock_c.specs.Statuses.{refusal_of_bill, refusal_of_new, refusal_of_third};
+ghost use Rattle.cargo_lock_c.specs.Statuses.{status_of};
 
 use cargo_lock::Error;
 use std::alloc::{AllocError, AllocFailed};
@@ -39,10 +40,10 @@ pub(crate) enum Refusal {
     /// A name or a source has a control character, and so cannot be in a line.
     NoLine,
 
-    /// The second of two texts is not a lockfile.
+    /// The second of several texts is not a lockfile.
     NoNewLockfile,
 
-    /// The second of two texts is not UTF-8.
+    /// The second of several texts is not UTF-8.
     NoNewText,
 
     /// The same text would refer to two packages in a bill.
@@ -53,6 +54,12 @@ pub(crate) enum Refusal {
 
     /// The bytes of a specification are not UTF-8.
     NoSpecText,
+
+    /// The third of three texts is not a lockfile.
+    NoThirdLockfile,
+
+    /// The third of three texts is not UTF-8.
+    NoThirdText,
 }
 
 impl Refusal {
@@ -74,16 +81,29 @@ impl Refusal {
             Refusal::Repeated => 12,
             Refusal::NothingFits => 13,
             Refusal::NoSpecText => 14,
+            Refusal::NoThirdLockfile => 19,
+            Refusal::NoThirdText => 20,
         }
     }
 
-    /// The refusal for the second of two texts, from that of reading one.
+    /// The refusal for the second of several texts, from that of reading one.
     pub(crate) fn into_new(self) -> Refusal
         ensures { result ≡ refusal_of_new self }
     {
         match self {
             Refusal::NoLockfile => Refusal::NoNewLockfile,
             Refusal::NoText => Refusal::NoNewText,
+            other => other,
+        }
+    }
+
+    /// The refusal for the third of three texts, from that of reading one.
+    pub(crate) fn into_third(self) -> Refusal
+        ensures { result ≡ refusal_of_third self }
+    {
+        match self {
+            Refusal::NoLockfile => Refusal::NoThirdLockfile,
+            Refusal::NoText => Refusal::NoThirdText,
             other => other,
         }
     }

@@ -1,0 +1,136 @@
+-- The merge of three lockfiles, as callers get it: a text, and a status that says what it is about.
+use Rattle.std.specs.Prelude.{◌≡◌, ◌⊎◌, ◌∷◌, ◌++◌, ℕ, List, [], Option, Some, None, IsUtf8, string_bytes}
+use Rattle.std.specs.List.{flat_map}
+use Rattle.cargo_lock.specs.CargoChecksums.{with_cargo_checksums_in}
+use Rattle.cargo_lock_encoding.specs.Lockfiles.{LockfileData}
+use Rattle.cargo_lock_encoding.specs.Means.{TextMeans}
+use Rattle.cargo_lock_merge.specs.Lines.{moved_line}
+use Rattle.cargo_lock_merge.specs.MergedLockfiles.{IsMergeError, LockfileTriple, MergesTo, triple_of}
+use Rattle.cargo_lock_merge.specs.declared.lockfiles.LockfileMerge.{LockfileMerge}
+use Rattle.cargo_lock_merge.specs.declared.lockfiles.LockfileMerge.TheVariants as merge
+use Rattle.cargo_lock_merge.specs.declared.lockfiles.MergeError.{MergeError}
+use Rattle.cargo_lock_merge.specs.declared.lockfiles.MergeError.TheVariants as error
+use Rattle.cargo_lock_merge.specs.declared.moved.Moved.{Moved as Reference}
+use Rattle.cargo_lock_merging.specs.declared.triple.Role.{Role}
+use Rattle.cargo_lock_merging.specs.declared.triple.Role.TheVariants.{Base, Ours, Theirs}
+use Rattle.cargo_lock_parts.specs.Ascii.{newline}
+use Rattle.cargo_lock_c.specs.declared.merge.Ending.{Ending}
+use Rattle.cargo_lock_c.specs.declared.merge.Ending.TheVariants.{InConflict, Merged, Refused}
+use Rattle.cargo_lock_c.specs.declared.merge.Part.{Part}
+use Rattle.cargo_lock_c.specs.declared.merge.Part.TheVariants.{Moved, Text}
+use Rattle.cargo_lock_c.specs.declared.refusal.Refusal.{Refusal}
+use Rattle.cargo_lock_c.specs.declared.refusal.Refusal.TheVariants.{NoLockfile, NoText, NoMemory}
+use Rattle.cargo_lock_c.specs.declared.refusal.Refusal.TheVariants.{NoNewLockfile, NoNewText}
+use Rattle.cargo_lock_c.specs.declared.refusal.Refusal.TheVariants.{NoThirdLockfile, NoThirdText}
+use Rattle.cargo_lock_c.specs.declared.three.Three.{Three}
+use Rattle.cargo_lock_c.specs.Answers.{IsHandedOut}
+use Rattle.cargo_lock_c.specs.Statuses.{status_of}
+use Rattle.cargo_lock_c.specs.Texts.{MeansNothing}
+
+-- ---- the three texts
+
+-- the text is that of a lockfile
+abbrev pub IsRead : List ℕ → Type 0
+IsRead text = (l : LockfileData) × TextMeans text l
+
+-- the text is that of a lockfile, and this is it with the checksums that Cargo reads
+abbrev pub IsComparedOf : List ℕ → LockfileData → Type 0
+IsComparedOf text x = (l : LockfileData) × TextMeans text l × (x ≡ with_cargo_checksums_in l)
+
+-- these are the lockfiles of the three texts
+pub record AreOfTexts (first second third : List ℕ) (s : LockfileTriple) : Type 0 where
+  pub base : IsComparedOf first s.base
+  pub ours : IsComparedOf second s.ours
+  pub theirs : IsComparedOf third s.theirs
+
+-- the three lockfiles
+abbrev pub triple_in : Three → LockfileTriple
+triple_in three = triple_of three.base three.ours three.theirs
+
+-- Why three texts have no merge: memory ran out, or one of them is not that of a lockfile or not
+-- UTF-8. They are read in their order.
+abbrev pub LacksMerge : (base ours theirs : List ℕ) → Refusal → Type 0
+LacksMerge base ours theirs NoMemory = Unit {0}
+LacksMerge base ours theirs NoLockfile = MeansNothing base
+LacksMerge base ours theirs NoText = ¬ IsUtf8 base
+LacksMerge base ours theirs NoNewLockfile = IsRead base × MeansNothing ours
+LacksMerge base ours theirs NoNewText = IsRead base × (¬ IsUtf8 ours)
+LacksMerge base ours theirs NoThirdLockfile = IsRead base × IsRead ours × MeansNothing theirs
+LacksMerge base ours theirs NoThirdText = IsRead base × IsRead ours × (¬ IsUtf8 theirs)
+LacksMerge base ours theirs other = ⊥
+
+-- ---- how a merge ends, and the text about it
+
+-- the status with which a text is returned
+abbrev pub status_with : Ending → ℕ
+status_with Merged = 0
+status_with InConflict = 15
+status_with (Refused Base) = 16
+status_with (Refused Ours) = 17
+status_with (Refused Theirs) = 18
+
+-- the line of each moved reference, with a newline
+abbrev pub moved_lines : List Reference → List ℕ
+moved_lines moved = flat_map (λ r. moved_line r ++ newline ∷ []) moved
+
+-- what is asked of a merge that there is: its text, or its moved references
+abbrev pub part_text : Part → List ℕ → List Reference → List ℕ
+part_text Text text moved = text
+part_text Moved text moved = moved_lines moved
+
+-- how a merge of lockfiles ends, and the text about it
+abbrev pub IsTextAbout : Part → LockfileMerge → Ending → List ℕ → Type 0
+IsTextAbout part (merge.Merged l text moved) ending bytes = (ending ≡ Merged)
+    × (bytes ≡ part_text part (string_bytes text) moved.items)
+IsTextAbout part (merge.InConflict conflicts) ending bytes = ending ≡ InConflict
+
+-- the lockfile that cannot be merged, if memory did not run out
+abbrev pub refused_role : MergeError → Option Role
+refused_role error.Memory = None
+refused_role (error.Root role) = Some role
+refused_role (error.Refused role refusal) = Some role
+
+-- how a merge ends of which a lockfile is refused, and the text about it
+abbrev pub IsTextAboutError : MergeError → Ending → List ℕ → Type 0
+IsTextAboutError fault ending bytes = (role : Role) × (refused_role fault ≡ Some role)
+    × (ending ≡ Refused role)
+
+-- the text about three lockfiles: what their merge is, or why there is none
+abbrev pub IsTextOf : Part → LockfileTriple → Ending → List ℕ → Type 0
+IsTextOf part s ending bytes =
+    ((m : LockfileMerge) × MergesTo s m × IsTextAbout part m ending bytes)
+    ⊎ ((fault : MergeError) × IsMergeError s fault × IsTextAboutError fault ending bytes)
+
+-- the three texts are those of lockfiles, and this is the text about them
+abbrev pub IsMergeText : Part → (base ours theirs : List ℕ) → Ending → List ℕ → Type 0
+IsMergeText part base ours theirs ending bytes = (s : LockfileTriple)
+    × AreOfTexts base ours theirs s × IsTextOf part s ending bytes
+
+-- ---- what callers get
+
+-- How a call of a merge returns. `P` holds of how the merge ends and of the text about it. With the
+-- status of that ending, the text is in the buffer as an answer is with status 0. With status 5 it
+-- is longer than the buffer. With the status of a refusal, buffer and length are unchanged.
+abbrev pub IsTold : (P : Ending → List ℕ → Type 0) → (Lacks : Refusal → Type 0) → (status : ℕ)
+    → (old new : List ℕ) → (before after : ℕ) → Type 0
+IsTold P Lacks status old new before after =
+    ((ending : Ending) × (status ≡ status_with ending)
+    × IsHandedOut (P ending) 0 old new before after)
+    ⊎ (((ending : Ending) × (status ≡ 5) × IsHandedOut (P ending) 5 old new before after)
+    ⊎ ((refusal : Refusal) × (status ≡ status_of refusal) × Lacks refusal × (new ≡ old)
+    × (after ≡ before)))
+
+-- the same of the part that is asked of the merge of three texts
+abbrev pub IsMergeTold : Part → (base ours theirs : List ℕ) → (status : ℕ) → (old new : List ℕ)
+    → (before after : ℕ) → Type 0
+IsMergeTold part base ours theirs = IsTold (IsMergeText part base ours theirs)
+    (LacksMerge base ours theirs)
+
+-- ---- as the program has them
+
+-- the text is in the buffer with the status of the ending, or longer than the buffer
+abbrev pub IsHandedOutWith : Ending → (text : List ℕ) → (status : ℕ) → (old new : List ℕ)
+    → (before after : ℕ) → Type 0
+IsHandedOutWith ending text status old new before after =
+    ((status ≡ status_with ending) × IsHandedOut (λ given. given ≡ text) 0 old new before after)
+    ⊎ ((status ≡ 5) × IsHandedOut (λ given. given ≡ text) 5 old new before after)

@@ -1,0 +1,223 @@
+//! The merge of three lockfiles by packages.
+
+ghost use Rattle.std.specs.Prelude.{◌≡◌, ◌++◌, ◌∷◌, [], IfErr, IfOk, string_bytes};
+ghost use Rattle.cargo_lock_c.specs.declared.refusal.Refusal.TheVariants.{NoMemory};
+ghost use Rattle.cargo_lock_c.specs.Merges.{IsHandedOutWith, IsMergeText, IsMergeTold, IsTextAbout};
+ghost use Rattle.cargo_lock_c.specs.Merges.{IsTextAboutError, IsTextOf, LacksMerge, moved_lines};
+ghost use Rattle.cargo_lock_c.specs.Merges.{part_text, refused_role, status_with, triple_in};
+
+use crate::handing::hand_out;
+use crate::refusal::{DONE, Refusal};
+use crate::three::{Three, read_three};
+use cargo_lock_merge::lockfiles::{LockfileMerge, MergeError, merge_lockfiles};
+use cargo_lock_merge::moved::Moved;
+use cargo_lock_merging::triple::Role;
+use std::alloc::Global;
+
+/// What is asked of a merge.
+#[derive(Clone, Copy)]
+enum Part {
+    /// Its text.
+    Text,
+
+    /// The lines of its moved references.
+    Moved,
+}
+
+/// How a merge ends.
+#[derive(Clone, Copy)]
+enum Ending {
+    /// The lockfiles are merged.
+    Merged,
+
+    /// The sides are in conflict.
+    InConflict,
+
+    /// The lockfile with this part cannot be merged.
+    Refused(Role),
+}
+
+impl Ending {
+    /// The number that is returned to the caller.
+    fn status(self) -> u32
+        ensures { result ≡ status_with self }
+    {
+        match self {
+            Ending::Merged => DONE,
+            Ending::InConflict => 15,
+            Ending::Refused(Role::Base) => 16,
+            Ending::Refused(Role::Ours) => 17,
+            Ending::Refused(Role::Theirs) => 18,
+        }
+    }
+}
+
+/// How a merge ends, and the text about it.
+#[derive(Drop)]
+struct Told {
+    ending: Ending,
+    text: String,
+}
+
+/// The text of the merge of two lockfiles over their base, as `cargo-lock merge` prints it. An empty
+/// base is a lockfile without packages. The status is 0 if the lockfiles are merged, and the text is
+/// the merged one. It is 15 if the sides are in conflict, and the text is a line for each conflict.
+/// It is 16, 17 or 18 if the base, ours or theirs cannot be merged, and the text is the line that
+/// says why. The texts are read in their order: 1 and 2 are about the base, 10 and 11 about ours,
+/// and 19 and 20 about theirs.
+#[unsafe(no_mangle)]
+pub extern "C" fn cargo_lock_merge(
+    alloc: Global,
+    base: &[u8],
+    ours: &[u8],
+    theirs: &[u8],
+    out: &mut [u8],
+    length: &mut usize,
+) -> u32
+    ensures { IsMergeTold Part.Text base.now ours.now theirs.now result out.old out.new
+        length.old length.new }
+{
+    match read_and_merge(alloc, base, ours, theirs, Part::Text) {
+        Ok(told) => hand_out_told(&told, out, length),
+        Err(refusal) => refusal.status(),
+    }
+}
+
+/// The references that the merge of two lockfiles over their base moved: a line for each, as
+/// `cargo-lock merge` prints it. The statuses are those of `cargo_lock_merge`, with its texts where
+/// there is no merge.
+#[unsafe(no_mangle)]
+pub extern "C" fn cargo_lock_merge_moved(
+    alloc: Global,
+    base: &[u8],
+    ours: &[u8],
+    theirs: &[u8],
+    out: &mut [u8],
+    length: &mut usize,
+) -> u32
+    ensures { IsMergeTold Part.Moved base.now ours.now theirs.now result out.old out.new
+        length.old length.new }
+{
+    match read_and_merge(alloc, base, ours, theirs, Part::Moved) {
+        Ok(told) => hand_out_told(&told, out, length),
+        Err(refusal) => refusal.status(),
+    }
+}
+
+/// Copies a text to the front of the caller's buffer, and sets its length. The status is that of the
+/// ending. If the buffer is too short, nothing is copied.
+fn hand_out_told(told: &Told, out: &mut [u8], length: &mut usize) -> u32
+    ensures { IsHandedOutWith told.now.ending (string_bytes told.now.text) result out.old out.new
+        length.old length.new }
+{
+    let handed = hand_out(told.text.as_bytes(), out, length);
+    if handed == DONE {
+        told.ending.status()
+    } else {
+        handed
+    }
+}
+
+/// How the merge of the lockfiles of three texts' bytes ends, and the text about it.
+fn read_and_merge(
+    alloc: Global,
+    base: &[u8],
+    ours: &[u8],
+    theirs: &[u8],
+    part: Part,
+) -> Result<Told, Refusal>
+    ensures ok { IfOk result (λ told. IsMergeText part base.now ours.now theirs.now told.ending
+        (string_bytes told.text)) }
+    ensures err { IfErr result (LacksMerge base.now ours.now theirs.now) }
+{
+    let three = read_three(alloc, base, ours, theirs)?;
+    let told = told_of(alloc, &three, part)?;
+    Ok(told)
+}
+
+/// How the merge of three lockfiles ends, and the text about it.
+fn told_of(alloc: Global, three: &Three, part: Part) -> Result<Told, Refusal>
+    ensures ok { IfOk result (λ told. IsTextOf part (triple_in three.now) told.ending
+        (string_bytes told.text)) }
+    ensures err { IfErr result (λ refusal. refusal ≡ NoMemory) }
+{
+    match merge_lockfiles(alloc, &three.base, &three.ours, &three.theirs) {
+        Ok(merge) => told_merge(alloc, merge, part),
+        Err(error) => told_error(alloc, error),
+    }
+}
+
+/// The text about a merge of lockfiles.
+fn told_merge(alloc: Global, merge: LockfileMerge<'_>, part: Part) -> Result<Told, Refusal>
+    ensures ok { IfOk result (λ told. IsTextAbout part merge.entry told.ending
+        (string_bytes told.text)) }
+    ensures err { IfErr result (λ refusal. refusal ≡ NoMemory) }
+{
+    match merge {
+        LockfileMerge::Merged(_, text, moved) => Ok(Told {
+            ending: Ending::Merged,
+            text: part_text(alloc, part, text, &moved)?,
+        }),
+        LockfileMerge::InConflict(conflicts) => Ok(Told {
+            ending: Ending::InConflict,
+            text: format!(in alloc; "{conflicts}")?,
+        }),
+    }
+}
+
+/// What is asked of a merge with this text and these moved references.
+fn part_text(
+    alloc: Global,
+    part: Part,
+    text: String,
+    moved: &[Moved<'_>],
+) -> Result<String, Refusal>
+    ensures ok { IfOk result (λ asked. string_bytes asked
+        ≡ part_text part (string_bytes text) moved.now) }
+    ensures err { IfErr result (λ refusal. refusal ≡ NoMemory) }
+{
+    match part {
+        Part::Text => Ok(text),
+        Part::Moved => moved_lines(alloc, moved),
+    }
+}
+
+/// The lines of moved references.
+fn moved_lines(alloc: Global, moved: &[Moved<'_>]) -> Result<String, Refusal>
+    ensures ok { IfOk result (λ lines. string_bytes lines ≡ moved_lines moved.now) }
+    ensures err { IfErr result (λ refusal. refusal ≡ NoMemory) }
+{
+    let mut lines = String::new(alloc);
+    for one in moved {
+        let line = format!(in alloc; "{one}\n")?;
+        lines.push_str(line.as_str())?;
+    }
+    Ok(lines)
+}
+
+/// The text about why a lockfile cannot be merged.
+fn told_error(alloc: Global, error: MergeError<'_>) -> Result<Told, Refusal>
+    ensures ok { IfOk result (λ told. IsTextAboutError error.entry told.ending
+        (string_bytes told.text)) }
+    ensures err { IfErr result (λ refusal. refusal ≡ NoMemory) }
+{
+    let Some(role) = refused_role(&error) else {
+        return Err(Refusal::NoMemory);
+    };
+    let text = format!(in alloc; "{error}\n")?;
+    Ok(Told {
+        ending: Ending::Refused(role),
+        text,
+    })
+}
+
+/// The lockfile that cannot be merged, if memory did not run out.
+fn refused_role(error: &MergeError<'_>) -> Option<Role>
+    ensures { result ≡ refused_role error.now }
+{
+    match error {
+        MergeError::Memory => None,
+        MergeError::Root(role) => Some(*role),
+        MergeError::Refused(role, _) => Some(*role),
+    }
+}
