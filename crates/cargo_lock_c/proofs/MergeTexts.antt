@@ -1,5 +1,5 @@
 -- Why three texts have no merge, and the text about one.
-use Rattle.std.proofs.Common.{◌≡◌, ◌∙◌, ◌≤◌, ◌<◌, ◌+◌, ◌⊎◌, ℕ, List, [], ◌∷◌, ◌++◌, length, take, get_or, ap, arith, inl, inr, refl, subst, sym}
+use Rattle.std.proofs.Common.{◌≡◌, ◌∙◌, ◌≤◌, ◌<◌, ◌+◌, ℕ, List, [], ◌∷◌, ◌++◌, length, take, get_or, ap, arith, inl, inr, refl, subst, sym}
 use Rattle.std.specs.List.{flat_map}
 use Rattle.std.proofs.lemmas.List.{flat_map_more, take_more}
 use Rattle.cargo_lock_encoding.specs.Lockfiles.{LockfileData}
@@ -8,8 +8,7 @@ use Rattle.cargo_lock_merge.specs.declared.moved.Moved.{Moved}
 use Rattle.cargo_lock_c.specs.declared.merge.Ending.{Ending}
 use Rattle.cargo_lock_c.specs.declared.refusal.Refusal.{Refusal}
 use Rattle.cargo_lock_c.specs.declared.refusal.Refusal.TheVariants.{NoLockfile, NoText, NoMemory, NoFormat, Lost, Unresolved, NoPackage, NoLine, NoNewLockfile, NoNewText, Repeated, NothingFits, NoSpecText, NoThirdLockfile, NoThirdText}
-use Rattle.cargo_lock_c.specs.Answers.{IsHandedOut}
-use Rattle.cargo_lock_c.specs.Merges.{IsComparedOf, IsHandedOutWith, IsRead, IsTold, LacksMerge, moved_lines, status_with}
+use Rattle.cargo_lock_c.specs.Merges.{IsComparedOf, IsHandedOutWith, IsRead, IsTold, LacksMerge, moved_lines}
 use Rattle.cargo_lock_c.specs.Statuses.{refusal_of_new, refusal_of_third, status_of}
 use Rattle.cargo_lock_c.specs.Texts.{RefusesText}
 use Rattle.cargo_lock_c.proofs.HandedOut.{handed-answer}
@@ -82,17 +81,6 @@ pub is-read : (text : List ℕ) (x : LockfileData) → IsComparedOf text x → I
 is-read text x h = (h.0, h.1)
 
 -- ---- the text in the caller's buffer
-
--- what a copy leaves is what is handed out with the status of the ending
-pub handed-done : (ending : Ending) (text : List ℕ) (handed : ℕ) (old new : List ℕ) (before after : ℕ) → handed ≡ 0
-    → IsHandedOut (λ given. given ≡ text) handed old new before after → IsHandedOutWith ending text (status_with ending) old new before after
-handed-done ending text handed old new before after is h =
-    inl (refl, subst (λ (n : ℕ). IsHandedOut (λ given. given ≡ text) n old new before after) is h)
-
-pub handed-full : (ending : Ending) (text : List ℕ) (handed : ℕ) (old new : List ℕ) (before after : ℕ) → handed ≡ 5
-    → IsHandedOut (λ given. given ≡ text) handed old new before after → IsHandedOutWith ending text handed old new before after
-handed-full ending text handed old new before after is h =
-    inr (is, subst (λ (n : ℕ). IsHandedOut (λ given. given ≡ text) n old new before after) is h)
 
 -- a text of which P holds is in the buffer, or longer than it
 pub told-text : (P : Ending → List ℕ → Type 0) (Lacks : Refusal → Type 0) (ending : Ending) (text : List ℕ) (status : ℕ) (old new : List ℕ) (before after : ℕ)

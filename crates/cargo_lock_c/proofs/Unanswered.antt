@@ -1,5 +1,5 @@
 -- Why there is no answer about packages, by the status that says so.
-use Rattle.std.proofs.Common.{◌≡◌, ◌≤◌, ◌⊎◌, ◌<◌, ℕ, List, arith, inl, inr, length, subst, sym, refl}
+use Rattle.std.proofs.Common.{◌≡◌, ◌≤◌, ◌⊎◌, ℕ, List, arith, inl, inr, length, subst, sym, refl}
 use Rattle.std.proofs.lemmas.Option.{slice_get_within}
 use Rattle.cargo_lock_ask.specs.Places.{IsPlaces}
 use Rattle.cargo_lock_ask.specs.Spec.{Fits}

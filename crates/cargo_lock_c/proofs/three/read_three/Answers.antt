@@ -1,4 +1,3 @@
-use Rattle.std.proofs.Common.{ℕ, List}
 use Rattle.cargo_lock_c.specs.Merges.{LacksMerge}
 use Rattle.cargo_lock_c.proofs.MergeTexts.{is-read}
 use Rattle.cargo_lock_c.proofs.Refusals.{refusal-passed}
