@@ -65,7 +65,7 @@ module _ (all : Lockfiles) (places : List Place) (packages : List PackageData) (
   list-numbered one = record { order = are.order; each = are.each; commits = list-commits one }
 
 module _ (all : Lockfiles) (places : List Place) (s : Triple ℕ) (sides : AreSides all places s) where
-  used-number : (n : ℕ) → IsUsed s n → IsNumber places n
+  pub used-number : (n : ℕ) → IsUsed s n → IsNumber places n
   used-number n (inl h) = sides.base.numbers n h
   used-number n (inr (inl h)) = sides.ours.numbers n h
   used-number n (inr (inr h)) = sides.theirs.numbers n h

@@ -43,3 +43,4 @@ pub mod Relisted
 pub mod Moving
 pub mod Disputing
 pub mod Permuting
+pub mod Backwards

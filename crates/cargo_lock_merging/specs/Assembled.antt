@@ -5,10 +5,11 @@ use Rattle.std.specs.List.{AllZip, Contains}
 use Rattle.std.specs.List.Sorted.{IsPermutation}
 use Rattle.cargo_lock_parts.specs.Identity.{Identity, PackageData, identity_of}
 use Rattle.cargo_lock_merging.specs.Commits.{HasOneCommitEach, Lockfiles}
-use Rattle.cargo_lock_merging.specs.Lists.{AreNumbered}
-use Rattle.cargo_lock_merging.specs.Merge.{IsMerge, Triple}
+use Rattle.cargo_lock_merging.specs.Lists.{AreNumbered, place_at}
+use Rattle.cargo_lock_merging.specs.Merge.{ConflictData, IsConflict, IsMerge, Triple}
 use Rattle.cargo_lock_merging.specs.Placed.{HasAt, PlacedData}
-use Rattle.cargo_lock_merging.specs.Places.{IsMergeOf, Place}
+use Rattle.cargo_lock_merging.specs.Places.{ArePlaced, IsMergeOf, Place}
+use Rattle.cargo_lock_merging.specs.Renaming.{rename_conflict, rename_triple}
 
 -- the three lists by numbers of places, each with each git source at one commit
 pub record AreSides (all : Lockfiles) (places : List Place) (s : Triple ℕ) : Type 0 where
@@ -47,9 +48,21 @@ AssembledAreMerge = (all : Lockfiles) (places : List Place) (s : Triple ℕ) (m 
     (ps : List PackageData) → AreSides all places s → IsMerge s m → AreAssembled m ps
     → IsMergeOf all ps
 
--- The three lists have no merge, by numbers of their places.
+-- The three lists have no merge: at their places there is none.
 pub record HasNoMerge (all : Lockfiles) : Type 0 where
-  pub places : List Place
-  pub triple : Triple ℕ
-  pub sides : AreSides all places triple
-  pub none : (m : List (PlacedData ℕ)) → ¬ IsMerge triple m
+  pub placed : Triple Place
+  pub base : ArePlaced all all.base placed.base
+  pub ours : ArePlaced all all.ours placed.ours
+  pub theirs : ArePlaced all all.theirs placed.theirs
+  pub none : (m : List (PlacedData Place)) → ¬ IsMerge placed m
+
+-- lists that have no merge by numbers of their places have none
+abbrev pub NoMergeByNumbers : Type 0
+NoMergeByNumbers = (all : Lockfiles) (places : List Place) (s : Triple ℕ) → AreSides all places s
+    → ((m : List (PlacedData ℕ)) → ¬ IsMerge s m) → HasNoMerge all
+
+-- the conflicts of lists at their places are those by numbers of the places
+abbrev pub ConflictsByNumbers : Type 0
+ConflictsByNumbers = (all : Lockfiles) (places : List Place) (s : Triple ℕ) (c : ConflictData Place)
+    → AreSides all places s → IsConflict (rename_triple (place_at places) s) c
+    ↔ ((d : ConflictData ℕ) × IsConflict s d × (rename_conflict (place_at places) d ≡ c))

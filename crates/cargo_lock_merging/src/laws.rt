@@ -1,6 +1,7 @@
 //! Laws of the merge, each the contract of a function without a body.
 
-ghost use Rattle.cargo_lock_merging.specs.Assembled.{AssembledAreMerge};
+ghost use Rattle.cargo_lock_merging.specs.Assembled.{AssembledAreMerge, ConflictsByNumbers};
+ghost use Rattle.cargo_lock_merging.specs.Assembled.{NoMergeByNumbers};
 ghost use Rattle.cargo_lock_merging.specs.Laws.{DependenciesAreOfSides, MergeIsClosed};
 ghost use Rattle.cargo_lock_merging.specs.Laws.{MergeIsSymmetric, NumbersOfPlaces};
 ghost use Rattle.cargo_lock_merging.specs.Laws.{BothStay, MergeHasNoConflict, PackagesAreOfSides};
@@ -16,6 +17,16 @@ ghost use Rattle.cargo_lock_merging.specs.LawsOfMerges.{PlacedAreLockfile, Unmov
 /// A merge by numbers of places is a merge by the places, where no two places have one number.
 pub fn numbers_are_of_places()
     ensures { NumbersOfPlaces }
+{}
+
+/// Lists that have no merge by numbers of their places have none.
+pub fn no_merge_by_numbers()
+    ensures { NoMergeByNumbers }
+{}
+
+/// The conflicts of lists at their places are those by numbers of the places.
+pub fn conflicts_by_numbers()
+    ensures { ConflictsByNumbers }
 {}
 
 /// The sides of a merge may be exchanged.
