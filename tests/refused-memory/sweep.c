@@ -75,15 +75,16 @@ static void fault(const char *what, uint64_t growth, const char *where) {
 }
 
 static void judge_without_effect(uint64_t growth) {
-    char place[512];
+    char place[512], of_operation[768];
     name_place(place, sizeof place);
+    snprintf(of_operation, sizeof of_operation, "%s: %s", operations.line[operation], place);
     own->counts[operation].without_effect++;
     if (!refuses_alone()) {
         fault("the undisturbed answer, and no Memory", growth, "");
         return;
     }
     for (size_t at = 0; at < places.count; at++) {
-        if (strcmp(places.line[at], place) == 0) {
+        if (strcmp(places.line[at], place) == 0 || strcmp(places.line[at], of_operation) == 0) {
             own->seen_at[at]++;
             return;
         }
