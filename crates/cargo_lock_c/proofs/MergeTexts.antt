@@ -8,7 +8,7 @@ use Rattle.cargo_lock_merge.specs.declared.moved.Moved.{Moved}
 use Rattle.cargo_lock_c.specs.declared.merge.Ending.{Ending}
 use Rattle.cargo_lock_c.specs.declared.refusal.Refusal.{Refusal}
 use Rattle.cargo_lock_c.specs.declared.refusal.Refusal.TheVariants.{NoLockfile, NoText, NoMemory, NoFormat, Lost, Unresolved, NoPackage, NoLine, NoNewLockfile, NoNewText, Repeated, NothingFits, NoSpecText, NoThirdLockfile, NoThirdText}
-use Rattle.cargo_lock_c.specs.Merges.{IsComparedOf, IsHandedOutWith, IsRead, IsTold, LacksMerge, moved_lines}
+use Rattle.cargo_lock_c.specs.Merges.{IsComparedOf, IsHandedOutWith, IsRead, IsAnswered, LacksMerge, moved_lines}
 use Rattle.cargo_lock_c.specs.Statuses.{refusal_of_new, refusal_of_third, status_of}
 use Rattle.cargo_lock_c.specs.Texts.{RefusesText}
 use Rattle.cargo_lock_c.proofs.HandedOut.{handed-answer}
@@ -83,17 +83,17 @@ is-read text x h = (h.0, h.1)
 -- ---- the text in the caller's buffer
 
 -- a text of which P holds is in the buffer, or longer than it
-pub told-text : (P : Ending → List ℕ → Type 0) (Lacks : Refusal → Type 0) (ending : Ending) (text : List ℕ) (status : ℕ) (old new : List ℕ) (before after : ℕ)
-    → P ending text → IsHandedOutWith ending text status old new before after → IsTold P Lacks status old new before after
-told-text P Lacks ending text status old new before after holds (inl done) =
+pub answer-text : (P : Ending → List ℕ → Type 0) (Lacks : Refusal → Type 0) (ending : Ending) (text : List ℕ) (status : ℕ) (old new : List ℕ) (before after : ℕ)
+    → P ending text → IsHandedOutWith ending text status old new before after → IsAnswered P Lacks status old new before after
+answer-text P Lacks ending text status old new before after holds (inl done) =
     inl (ending, done.0, handed-answer (P ending) text 0 old new before after holds done.1)
-told-text P Lacks ending text status old new before after holds (inr full) =
+answer-text P Lacks ending text status old new before after holds (inr full) =
     inr (inl (ending, full.0, handed-answer (P ending) text 5 old new before after holds full.1))
 
 -- there is no text
-pub told-refusal : (P : Ending → List ℕ → Type 0) (Lacks : Refusal → Type 0) (refusal : Refusal) (status : ℕ) (old : List ℕ) (before : ℕ)
-    → status ≡ status_of refusal → Lacks refusal → IsTold P Lacks status old old before before
-told-refusal P Lacks refusal status old before told lacks = inr (inr (refusal, told, lacks, refl, refl))
+pub answer-refusal : (P : Ending → List ℕ → Type 0) (Lacks : Refusal → Type 0) (refusal : Refusal) (status : ℕ) (old : List ℕ) (before : ℕ)
+    → status ≡ status_of refusal → Lacks refusal → IsAnswered P Lacks status old old before before
+answer-refusal P Lacks refusal status old before answer lacks = inr (inr (refusal, answer, lacks, refl, refl))
 
 -- ---- moved references
 

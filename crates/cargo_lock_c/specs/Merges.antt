@@ -1,11 +1,13 @@
 -- The merge of three lockfiles, as callers get it: a text, and a status that says what it is about.
-use Rattle.std.specs.Prelude.{◌≡◌, ◌⊎◌, ◌∷◌, ◌++◌, ℕ, List, [], Option, Some, None, IsUtf8, string_bytes}
+use Rattle.std.specs.Prelude.{◌≡◌, ◌⊎◌, ◌∷◌, ◌++◌, ℕ, List, [], Option, Some, None}
+use Rattle.std.specs.Prelude.{IsUtf8, string_bytes}
 use Rattle.std.specs.List.{flat_map}
 use Rattle.cargo_lock.specs.CargoChecksums.{with_cargo_checksums_in}
 use Rattle.cargo_lock_encoding.specs.Lockfiles.{LockfileData}
 use Rattle.cargo_lock_encoding.specs.Means.{TextMeans}
-use Rattle.cargo_lock_merge.specs.Lines.{moved_line}
-use Rattle.cargo_lock_merge.specs.MergedLockfiles.{IsMergeError, LockfileTriple, MergesTo, triple_of}
+use Rattle.cargo_lock_merge.specs.Lines.{conflicts_text, merge_error_text, moved_line}
+use Rattle.cargo_lock_merge.specs.MergedLockfiles.{IsMergeError, LockfileTriple, MergesTo}
+use Rattle.cargo_lock_merge.specs.MergedLockfiles.{triple_of}
 use Rattle.cargo_lock_merge.specs.declared.lockfiles.LockfileMerge.{LockfileMerge}
 use Rattle.cargo_lock_merge.specs.declared.lockfiles.LockfileMerge.TheVariants as merge
 use Rattle.cargo_lock_merge.specs.declared.lockfiles.MergeError.{MergeError}
@@ -78,11 +80,13 @@ abbrev pub part_text : Part → List ℕ → List Reference → List ℕ
 part_text Text text moved = text
 part_text Moved text moved = moved_lines moved
 
--- how a merge of lockfiles ends, and the text about it
+-- how a merge of lockfiles ends, and the text about it: what is asked of it, or a line for each
+-- conflict
 abbrev pub IsTextAbout : Part → LockfileMerge → Ending → List ℕ → Type 0
 IsTextAbout part (merge.Merged l text moved) ending bytes = (ending ≡ Merged)
     × (bytes ≡ part_text part (string_bytes text) moved.items)
-IsTextAbout part (merge.InConflict conflicts) ending bytes = ending ≡ InConflict
+IsTextAbout part (merge.InConflict conflicts) ending bytes = (ending ≡ InConflict)
+    × (bytes ≡ conflicts_text conflicts)
 
 -- the lockfile that cannot be merged, if memory did not run out
 abbrev pub refused_role : MergeError → Option Role
@@ -90,10 +94,10 @@ refused_role error.Memory = None
 refused_role (error.Root role) = Some role
 refused_role (error.Refused role refusal) = Some role
 
--- how a merge ends of which a lockfile is refused, and the text about it
+-- how a merge ends of which a lockfile is refused, and the text about it: the line that says why
 abbrev pub IsTextAboutError : MergeError → Ending → List ℕ → Type 0
 IsTextAboutError fault ending bytes = (role : Role) × (refused_role fault ≡ Some role)
-    × (ending ≡ Refused role)
+    × (ending ≡ Refused role) × (bytes ≡ merge_error_text fault ++ newline ∷ [])
 
 -- the text about three lockfiles: what their merge is, or why there is none
 abbrev pub IsTextOf : Part → LockfileTriple → Ending → List ℕ → Type 0
@@ -111,9 +115,9 @@ IsMergeText part base ours theirs ending bytes = (s : LockfileTriple)
 -- How a call of a merge returns. `P` holds of how the merge ends and of the text about it. With the
 -- status of that ending, the text is in the buffer as an answer is with status 0. With status 5 it
 -- is longer than the buffer. With the status of a refusal, buffer and length are unchanged.
-abbrev pub IsTold : (P : Ending → List ℕ → Type 0) → (Lacks : Refusal → Type 0) → (status : ℕ)
+abbrev pub IsAnswered : (P : Ending → List ℕ → Type 0) → (Lacks : Refusal → Type 0) → (status : ℕ)
     → (old new : List ℕ) → (before after : ℕ) → Type 0
-IsTold P Lacks status old new before after =
+IsAnswered P Lacks status old new before after =
     ((ending : Ending) × (status ≡ status_with ending)
     × IsHandedOut (P ending) 0 old new before after)
     ⊎ (((ending : Ending) × (status ≡ 5) × IsHandedOut (P ending) 5 old new before after)
@@ -121,9 +125,9 @@ IsTold P Lacks status old new before after =
     × (after ≡ before)))
 
 -- the same of the part that is asked of the merge of three texts
-abbrev pub IsMergeTold : Part → (base ours theirs : List ℕ) → (status : ℕ) → (old new : List ℕ)
+abbrev pub IsMergeAnswered : Part → (base ours theirs : List ℕ) → (status : ℕ) → (old new : List ℕ)
     → (before after : ℕ) → Type 0
-IsMergeTold part base ours theirs = IsTold (IsMergeText part base ours theirs)
+IsMergeAnswered part base ours theirs = IsAnswered (IsMergeText part base ours theirs)
     (LacksMerge base ours theirs)
 
 -- ---- as the program has them

@@ -2,9 +2,10 @@
 
 ghost use Rattle.std.specs.Prelude.{◌≡◌, ◌++◌, ◌∷◌, [], IfErr, IfOk, string_bytes};
 ghost use Rattle.cargo_lock_c.specs.declared.refusal.Refusal.TheVariants.{NoMemory};
-ghost use Rattle.cargo_lock_c.specs.Merges.{IsHandedOutWith, IsMergeText, IsMergeTold, IsTextAbout};
-ghost use Rattle.cargo_lock_c.specs.Merges.{IsTextAboutError, IsTextOf, LacksMerge, moved_lines};
-ghost use Rattle.cargo_lock_c.specs.Merges.{part_text, refused_role, status_with, triple_in};
+ghost use Rattle.cargo_lock_c.specs.Merges.{IsHandedOutWith, IsMergeAnswered, IsMergeText};
+ghost use Rattle.cargo_lock_c.specs.Merges.{IsTextAbout, IsTextAboutError, IsTextOf, LacksMerge};
+ghost use Rattle.cargo_lock_c.specs.Merges.{moved_lines, part_text, refused_role, status_with};
+ghost use Rattle.cargo_lock_c.specs.Merges.{triple_in};
 
 use crate::handing::hand_out;
 use crate::refusal::{DONE, Refusal};
@@ -54,17 +55,17 @@ impl Ending {
 
 /// How a merge ends, and the text about it.
 #[derive(Drop)]
-struct Told {
+struct Answer {
     ending: Ending,
     text: String,
 }
 
-/// The text of the merge of two lockfiles over their base, as `cargo-lock merge` prints it. An empty
-/// base is a lockfile without packages. The status is 0 if the lockfiles are merged, and the text is
-/// the merged one. It is 15 if the sides are in conflict, and the text is a line for each conflict.
-/// It is 16, 17 or 18 if the base, ours or theirs cannot be merged, and the text is the line that
-/// says why. The texts are read in their order: 1 and 2 are about the base, 10 and 11 about ours,
-/// and 19 and 20 about theirs.
+/// The text of the merge of two lockfiles over their base, as `cargo-lock merge` prints it. An
+/// empty base is a lockfile without packages. The status is 0 if the lockfiles are merged, and the
+/// text is the merged one. It is 15 if the sides are in conflict, and the text is a line for each
+/// conflict. It is 16, 17 or 18 if the base, ours or theirs cannot be merged, and the text is the
+/// line that says why. The texts are read in their order: 1 and 2 are about the base, 10 and 11
+/// about ours, and 19 and 20 about theirs.
 #[unsafe(no_mangle)]
 pub extern "C" fn cargo_lock_merge(
     alloc: Global,
@@ -74,11 +75,11 @@ pub extern "C" fn cargo_lock_merge(
     out: &mut [u8],
     length: &mut usize,
 ) -> u32
-    ensures { IsMergeTold Part.Text base.now ours.now theirs.now result out.old out.new
+    ensures { IsMergeAnswered Part.Text base.now ours.now theirs.now result out.old out.new
         length.old length.new }
 {
     match read_and_merge(alloc, base, ours, theirs, Part::Text) {
-        Ok(told) => hand_out_told(&told, out, length),
+        Ok(answer) => hand_out_answer(&answer, out, length),
         Err(refusal) => refusal.status(),
     }
 }
@@ -95,24 +96,24 @@ pub extern "C" fn cargo_lock_merge_moved(
     out: &mut [u8],
     length: &mut usize,
 ) -> u32
-    ensures { IsMergeTold Part.Moved base.now ours.now theirs.now result out.old out.new
+    ensures { IsMergeAnswered Part.Moved base.now ours.now theirs.now result out.old out.new
         length.old length.new }
 {
     match read_and_merge(alloc, base, ours, theirs, Part::Moved) {
-        Ok(told) => hand_out_told(&told, out, length),
+        Ok(answer) => hand_out_answer(&answer, out, length),
         Err(refusal) => refusal.status(),
     }
 }
 
-/// Copies a text to the front of the caller's buffer, and sets its length. The status is that of the
-/// ending. If the buffer is too short, nothing is copied.
-fn hand_out_told(told: &Told, out: &mut [u8], length: &mut usize) -> u32
-    ensures { IsHandedOutWith told.now.ending (string_bytes told.now.text) result out.old out.new
-        length.old length.new }
+/// Copies a text to the front of the caller's buffer, and sets its length. The status is that of
+/// the ending. If the buffer is too short, nothing is copied.
+fn hand_out_answer(answer: &Answer, out: &mut [u8], length: &mut usize) -> u32
+    ensures { IsHandedOutWith answer.now.ending (string_bytes answer.now.text) result out.old
+        out.new length.old length.new }
 {
-    let handed = hand_out(told.text.as_bytes(), out, length);
+    let handed = hand_out(answer.text.as_bytes(), out, length);
     if handed == DONE {
-        told.ending.status()
+        answer.ending.status()
     } else {
         handed
     }
@@ -125,40 +126,40 @@ fn read_and_merge(
     ours: &[u8],
     theirs: &[u8],
     part: Part,
-) -> Result<Told, Refusal>
-    ensures ok { IfOk result (λ told. IsMergeText part base.now ours.now theirs.now told.ending
-        (string_bytes told.text)) }
+) -> Result<Answer, Refusal>
+    ensures ok { IfOk result (λ answer. IsMergeText part base.now ours.now theirs.now answer.ending
+        (string_bytes answer.text)) }
     ensures err { IfErr result (LacksMerge base.now ours.now theirs.now) }
 {
     let three = read_three(alloc, base, ours, theirs)?;
-    let told = told_of(alloc, &three, part)?;
-    Ok(told)
+    let answer = answer_of(alloc, &three, part)?;
+    Ok(answer)
 }
 
 /// How the merge of three lockfiles ends, and the text about it.
-fn told_of(alloc: Global, three: &Three, part: Part) -> Result<Told, Refusal>
-    ensures ok { IfOk result (λ told. IsTextOf part (triple_in three.now) told.ending
-        (string_bytes told.text)) }
+fn answer_of(alloc: Global, three: &Three, part: Part) -> Result<Answer, Refusal>
+    ensures ok { IfOk result (λ answer. IsTextOf part (triple_in three.now) answer.ending
+        (string_bytes answer.text)) }
     ensures err { IfErr result (λ refusal. refusal ≡ NoMemory) }
 {
     match merge_lockfiles(alloc, &three.base, &three.ours, &three.theirs) {
-        Ok(merge) => told_merge(alloc, merge, part),
-        Err(error) => told_error(alloc, error),
+        Ok(merge) => merge_answer(alloc, merge, part),
+        Err(error) => error_answer(alloc, error),
     }
 }
 
 /// The text about a merge of lockfiles.
-fn told_merge(alloc: Global, merge: LockfileMerge<'_>, part: Part) -> Result<Told, Refusal>
-    ensures ok { IfOk result (λ told. IsTextAbout part merge.entry told.ending
-        (string_bytes told.text)) }
+fn merge_answer(alloc: Global, merge: LockfileMerge<'_>, part: Part) -> Result<Answer, Refusal>
+    ensures ok { IfOk result (λ answer. IsTextAbout part merge.entry answer.ending
+        (string_bytes answer.text)) }
     ensures err { IfErr result (λ refusal. refusal ≡ NoMemory) }
 {
     match merge {
-        LockfileMerge::Merged(_, text, moved) => Ok(Told {
+        LockfileMerge::Merged(_, text, moved) => Ok(Answer {
             ending: Ending::Merged,
             text: part_text(alloc, part, text, &moved)?,
         }),
-        LockfileMerge::InConflict(conflicts) => Ok(Told {
+        LockfileMerge::InConflict(conflicts) => Ok(Answer {
             ending: Ending::InConflict,
             text: format!(in alloc; "{conflicts}")?,
         }),
@@ -196,16 +197,16 @@ fn moved_lines(alloc: Global, moved: &[Moved<'_>]) -> Result<String, Refusal>
 }
 
 /// The text about why a lockfile cannot be merged.
-fn told_error(alloc: Global, error: MergeError<'_>) -> Result<Told, Refusal>
-    ensures ok { IfOk result (λ told. IsTextAboutError error.entry told.ending
-        (string_bytes told.text)) }
+fn error_answer(alloc: Global, error: MergeError<'_>) -> Result<Answer, Refusal>
+    ensures ok { IfOk result (λ answer. IsTextAboutError error.entry answer.ending
+        (string_bytes answer.text)) }
     ensures err { IfErr result (λ refusal. refusal ≡ NoMemory) }
 {
     let Some(role) = refused_role(&error) else {
         return Err(Refusal::NoMemory);
     };
     let text = format!(in alloc; "{error}\n")?;
-    Ok(Told {
+    Ok(Answer {
         ending: Ending::Refused(role),
         text,
     })

@@ -1,7 +1,8 @@
 //! The lockfiles of the three texts of a merge.
 
 ghost use Rattle.std.specs.Prelude.{◌≤◌, IfErr, IfOk, List, ℕ};
-ghost use Rattle.cargo_lock_c.specs.Merges.{AreOfTexts, IsComparedOf, IsRead, LacksMerge, triple_in};
+ghost use Rattle.cargo_lock_c.specs.Merges.{AreOfTexts, IsComparedOf, IsRead, LacksMerge};
+ghost use Rattle.cargo_lock_c.specs.Merges.{triple_in};
 ghost use Rattle.cargo_lock_c.specs.Statuses.{status_of};
 ghost use Rattle.cargo_lock_c.specs.Texts.{RefusesText};
 

@@ -1,7 +1,7 @@
 //! To which packages of a list dependencies and replacements refer.
 
 ghost use Rattle.std.specs.Prelude.{◌≡◌, ◌<◌, ℕ, All, IfOk, IsOkUnless, MatchOption, Some};
-ghost use Rattle.std.specs.Prelude.{length, option_map, slice_get, unwrap_or};
+ghost use Rattle.std.specs.Prelude.{length, option_map, slice_get, true, unwrap_or};
 ghost use Rattle.std.specs.Bool.{Decides};
 ghost use Rattle.std.specs.List.{AllZip};
 ghost use Rattle.cargo_lock_parts.specs.declared.error.Error.TheVariants.{Memory};
@@ -113,8 +113,9 @@ fn targets<'a>(
 {
     let mut all = Vec::new(alloc);
     for edge in graph.edges_directed(node, EdgeDirection::Outgoing) {
-        let stated = stated(versions, packages, edge.weight())?;
-        all.push(either(stated, edge.target()))?;
+        let to = edge.target();
+        let stated = stated_near(versions, packages, edge.weight(), to.index())?;
+        all.push(either(stated, to))?;
     }
     Ok(all)
 }
@@ -126,6 +127,37 @@ fn either(stated: Option<usize>, node: NodeIndex) -> usize
     match stated {
         Some(at) => at,
         None => node.index(),
+    }
+}
+
+// The index of the package that an identity states. The package at an index is asked first. The
+// others of its name and version, which may be many, are asked only if it is not stated.
+fn stated_near<'a>(
+    versions: &Versions<'a>,
+    packages: &[Package],
+    identity: &'a Dependency,
+    near: usize,
+) -> Result<Option<usize>>
+    requires { versions.now ≡ packages.now }
+    ensures ok { IfOk result (λ found. MatchOption found
+        ((k : ℕ) → ¬ IsStatedAt packages.now identity.now k)
+        (IsStatedAt packages.now identity.now)) }
+    ensures err { IsOkUnless result Memory }
+{
+    if is_stated_at(packages, identity, near)? {
+        return Ok(Some(near));
+    }
+    stated(versions, packages, identity)
+}
+
+// Whether an identity states the package at an index. There may be none.
+fn is_stated_at(packages: &[Package], identity: &Dependency, at: usize) -> Result<bool>
+    ensures ok { IfOk result (λ is. is ≡ true → IsStatedAt packages.now identity.now at) }
+    ensures err { IsOkUnless result Memory }
+{
+    match packages.get(at) {
+        Some(one) if identity.matches(one) => have_one_source(&one.source, &identity.source),
+        _ => Ok(false),
     }
 }
 

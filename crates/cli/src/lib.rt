@@ -16,13 +16,11 @@ ghost use Rattle.clap.specs.Matches.{found_of};
 ghost use Rattle.cli_support.specs.Status.{IsFaultStatus, IsNamed};
 ghost use Rattle.cli.specs.Commands.{Follows, FollowsMatches, name_of};
 
-mod archives;
 mod bom;
 mod check;
 mod diff;
 mod duplicates;
 mod ending;
-mod files;
 mod graph;
 mod list;
 mod load;
@@ -30,7 +28,6 @@ mod merge;
 mod spec;
 mod translate;
 mod tree;
-mod vendor;
 mod verify;
 mod why;
 

@@ -7,13 +7,12 @@ ghost use Rattle.cargo_lock_verify.specs.Vendored.{vendored_of};
 ghost use Rattle.cli.specs.Verify.{AreSubjectsOf, AreVendoredOf, PrintsReport};
 ghost use Rattle.cli.specs.Verify.{PrintsVendorReport, PrintsVerified, PrintsVerifiedOf};
 
-use crate::archives::Archives;
 use crate::load::compared_lockfile;
-use crate::vendor::Vendor;
 use cargo_lock::Lockfile;
 use cargo_lock::package::Package;
 use cargo_lock_verify::{Report, Subject, VendorReport, Vendored};
 use clap::{Arg, ArgAction, ArgMatches, Command};
+use cli_folders::{Entries, Vendor};
 use cli_support::output::put;
 use cli_support::words::{any_size, long_flag};
 use cli_support::{Fault, words};
@@ -156,7 +155,7 @@ fn vendored_with<'a, R: Files + AllocGlobal>(
 {
     let mut vendored = Vec::with_capacity(rt.alloc(), packages.len())?;
     for package in packages {
-        let folders = vendor.of_package(rt, package)?;
+        let folders = vendor.folders_of(rt, package)?;
         vendored.push(Vendored { package, folders })?;
     }
     Ok(vendored)
@@ -185,21 +184,21 @@ fn subjects_of<'a, R: Files + AllocGlobal>(
 ) -> Result<Vec<Subject<'a>>, Fault>
     ensures { IfOk result (λ subjects. AreSubjectsOf packages.now (map subject_of subjects.items)) }
 {
-    let archives = Archives::of(rt, options.get_str("cache").unwrap_or(""))?;
-    subjects_with(rt, &archives, packages)
+    let entries = Entries::of(rt, options.get_str("cache").unwrap_or(""))?;
+    subjects_with(rt, &entries, packages)
 }
 
 /// The packages, each with its archives.
 fn subjects_with<'a, R: Files + AllocGlobal>(
     rt: &R,
-    archives: &Archives,
+    entries: &Entries,
     packages: &'a [Package],
 ) -> Result<Vec<Subject<'a>>, Fault>
     ensures { IfOk result (λ subjects. AreSubjectsOf packages.now (map subject_of subjects.items)) }
 {
     let mut subjects = Vec::with_capacity(rt.alloc(), packages.len())?;
     for package in packages {
-        let archives = archives.of_package(rt, package)?;
+        let archives = entries.archives_of(rt, package)?;
         subjects.push(Subject { package, archives })?;
     }
     Ok(subjects)

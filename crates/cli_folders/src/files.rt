@@ -1,7 +1,7 @@
 //! Files and folders: their names, digests and texts, and the errors of those that are not read.
 
-use cargo_lock::Error;
-use cargo_lock::package::Checksum;
+use cargo_lock_parts::Error;
+use cargo_lock_parts::package::Checksum;
 use cargo_lock_verify::digest;
 use cli_support::Fault;
 use cli_support::fault::path_shown;

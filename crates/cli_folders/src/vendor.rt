@@ -3,8 +3,8 @@
 use crate::files::{
     all_names_in, digest_at, fault_at, fault_of, is_file, names_in, path_of, text_at,
 };
-use cargo_lock::Error;
-use cargo_lock::package::{Checksum, Package};
+use cargo_lock_parts::Error;
+use cargo_lock_parts::package::{Checksum, Package};
 use cargo_lock_verify::Folder;
 use cli_support::Fault;
 use serde_json::{Category, Value};
@@ -24,7 +24,7 @@ const MANIFEST: &str = "Cargo.toml";
 /// The paths of the folders with a manifest, by the name and the version that it has. No path is
 /// made of a name of a lockfile.
 #[derive(Drop)]
-pub(crate) struct Vendor {
+pub struct Vendor {
     folders: BTreeMap<String, Vec<String>>,
 }
 
@@ -32,7 +32,7 @@ impl Vendor {
     /// Reads the manifests of the folders in a folder. A folder whose name begins with a dot, one
     /// without a manifest, and one whose manifest has no name and no version are left out, and so
     /// is a link. Fails if a folder or a manifest is not read.
-    pub(crate) fn of<R: Files + AllocGlobal>(rt: &R, folder: &str) -> Result<Vendor, Fault> {
+    pub fn of<R: Files + AllocGlobal>(rt: &R, folder: &str) -> Result<Vendor, Fault> {
         let mut vendor = Vendor {
             folders: BTreeMap::new(rt.alloc()),
         };
@@ -69,7 +69,7 @@ impl Vendor {
     }
 
     /// The folders of a package with a source. Fails if one is not read.
-    pub(crate) fn of_package<R: Files + AllocGlobal>(
+    pub fn folders_of<R: Files + AllocGlobal>(
         &self,
         rt: &R,
         package: &Package,

@@ -1,0 +1,13 @@
+//! The folders that the program `cargo-lock` reads: archives as Cargo keeps them, and folders that
+//! `cargo vendor` made.
+//!
+//! What is found in them is for the crates above to say. No path is made of a name of a lockfile,
+//! and no link in a vendored folder is followed.
+#![tactic(auto)]
+
+mod entries;
+mod files;
+mod vendor;
+
+pub use crate::entries::Entries;
+pub use crate::vendor::Vendor;
