@@ -1,6 +1,5 @@
 -- The numbers of places, as the program has them: a place has the index of the last package at it.
-use Rattle.std.specs.Prelude.{◌≡◌, ◌++◌, ℕ, List, Some, length, map, option_map, slice_get}
-use Rattle.std.specs.List.{AllZip}
+use Rattle.std.specs.Prelude.{◌≡◌, ◌++◌, ℕ, List, Some, map, option_map, slice_get}
 use Rattle.std.specs.BTreeMap.{BTreeMap, get}
 use Rattle.semver.specs.Identifiers.{parts_of}
 use Rattle.cargo_lock_parts.specs.Identity.{PackageData}
@@ -37,8 +36,3 @@ abbrev pub AreLast : List Place → ℕ → BTreeMap PartialIdentity ℕ → Typ
 AreLast places bound last = (i : PartialIdentity)
     → IsLastBelow (λ k. slice_get places k ≡ Some (partial_key i)) bound
     (get partial_identity_cmp last i)
-
--- these are the numbers of the places, each that of the place at its index
-abbrev pub AreNumbers : List Place → List ℕ → Type 0
-AreNumbers places = AllZip
-    (λ p n. IsLastBelow (λ k. slice_get places k ≡ Some p) (length places) (Some n)) places

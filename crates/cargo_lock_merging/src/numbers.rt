@@ -7,8 +7,8 @@ ghost use Rattle.cargo_lock_parts.specs.PartialIdentity.{partial_key};
 ghost use Rattle.cargo_lock_graph.specs.Targets.{IsLastBelow};
 ghost use Rattle.cargo_lock_merging.specs.Commits.{Lockfiles};
 ghost use Rattle.cargo_lock_merging.specs.Located.{AreMemberCounts, lists_of};
-ghost use Rattle.cargo_lock_merging.specs.Numbers.{AreNumbers, all_of, spot_packages};
-ghost use Rattle.cargo_lock_merging.specs.Numbers.{spot_place, spot_places};
+ghost use Rattle.cargo_lock_merging.specs.Numbers.{all_of, spot_packages, spot_places};
+ghost use Rattle.cargo_lock_merging.specs.Numbers.{spot_place};
 ghost use Rattle.cargo_lock_merging.specs.Places.{Place, place_of};
 
 use crate::member_counts::MemberCounts;
@@ -80,19 +80,19 @@ fn spot_of<'a>(counts: &MemberCounts<'a>, package: &'a Package) -> Result<Spot<'
 #[derive(Drop)]
 pub struct Numbers<'a> {
     spots: &'a [Spot<'a>],
-    numbers: Vec<usize>,
+    last: BTreeMap<PartialIdentity<'a>, usize>,
 }
 
 impl<'a> Model for Numbers<'a> {
-    ghost use Rattle.std.specs.Prelude.{List};
+    ghost use Rattle.std.specs.Prelude.{List, length};
     ghost use Rattle.cargo_lock_parts.specs.PartialIdentity.{PartialKey};
-    ghost use Rattle.cargo_lock_merging.specs.Numbers.{AreNumbers, spot_places};
+    ghost use Rattle.cargo_lock_merging.specs.Numbers.{AreLast, spot_places};
 
     ghost Value = { List PartialKey };
 
     ghost view = { λ n. spot_places n.spots.now };
 
-    ghost invariant = { λ n. AreNumbers (spot_places n.spots.now) n.numbers.items };
+    ghost invariant = { λ n. AreLast (spot_places n.spots.now) (length n.spots.now) n.last };
 }
 
 impl<'a> Numbers<'a> {
@@ -100,9 +100,11 @@ impl<'a> Numbers<'a> {
     pub fn of(alloc: Global, spots: &'a [Spot<'a>]) -> std::result::Result<Numbers<'a>, AllocError>
         ensures { IfOk result (λ numbers. numbers ≡ spot_places spots.now) }
     {
-        let last = LastPlaces::of(alloc, spots)?;
-        let numbers = last.numbers(alloc)?;
-        Ok(Numbers { spots, numbers })
+        let mut last = BTreeMap::new(alloc);
+        for (at, spot) in spots.iter().enumerate() {
+            last.insert(place_at(spot), at)?;
+        }
+        Ok(Numbers { spots, last })
     }
 
     /// How many packages there are.
@@ -118,60 +120,7 @@ impl<'a> Numbers<'a> {
         ensures { (p : Place) → slice_get self.now at ≡ Some p
             → IsLastBelow (λ k. slice_get self.now k ≡ Some p) (length self.now) (Some result) }
     {
-        self.numbers[at]
-    }
-}
-
-// The index of the last package at each place.
-#[derive(Drop)]
-struct LastPlaces<'a> {
-    spots: &'a [Spot<'a>],
-    last: BTreeMap<PartialIdentity<'a>, usize>,
-}
-
-impl<'a> Model for LastPlaces<'a> {
-    ghost use Rattle.std.specs.Prelude.{List, length};
-    ghost use Rattle.cargo_lock_parts.specs.PartialIdentity.{PartialKey};
-    ghost use Rattle.cargo_lock_merging.specs.Numbers.{AreLast, spot_places};
-
-    ghost Value = { List PartialKey };
-
-    ghost view = { λ n. spot_places n.spots.now };
-
-    ghost invariant = { λ n. AreLast (spot_places n.spots.now) (length n.spots.now) n.last };
-}
-
-impl<'a> LastPlaces<'a> {
-    // The last packages at the places of these packages. Fails when out of memory.
-    fn of(alloc: Global, spots: &'a [Spot<'a>]) -> std::result::Result<LastPlaces<'a>, AllocError>
-        ensures { IfOk result (λ last. last ≡ spot_places spots.now) }
-    {
-        let mut last = BTreeMap::new(alloc);
-        for (at, spot) in spots.iter().enumerate() {
-            last.insert(place_at(spot), at)?;
-        }
-        Ok(LastPlaces { spots, last })
-    }
-
-    // The index of the last package at the place of the package at an index.
-    fn number(&self, at: usize) -> usize
-        requires { at < length self.now }
-        ensures { (p : Place) → slice_get self.now at ≡ Some p
-            → IsLastBelow (λ k. slice_get self.now k ≡ Some p) (length self.now) (Some result) }
-    {
         self.last[&place_at(&self.spots[at])]
-    }
-
-    // The same of each package.
-    fn numbers(&self, alloc: Global) -> std::result::Result<Vec<usize>, AllocError>
-        ensures { IfOk result (λ numbers. AreNumbers self.now numbers.items) }
-    {
-        let count = self.spots.len();
-        let mut numbers = Vec::with_capacity(alloc, count)?;
-        for at in 0..count {
-            numbers.push(self.number(at))?;
-        }
-        Ok(numbers)
     }
 }
 

@@ -19,7 +19,7 @@ loop-edge-preserved c =
     let more = joined-next front e c.next.new.self _ _ steps joined in
     let linked : AreLinked packages c.args.graph.now = record { same = c.requires.same; edges = c.requires.edges } in
     let target = edge-target packages c.args.graph.now linked c.args.node front c.next.new.self e more in
-    let refers : R e c.either.result = either-refers packages e.dependency c.weight.result.now c.in_ok-stated.stated e.to c.either.result (c.either.ensures ∙ ap (λ n. unwrap_or c.in_ok-stated.stated n) c.target.ensures) c.weight.ensures c.in_ok-stated.ensures.ok target in
+    let refers : R e c.either.result = either-refers packages e.dependency c.weight.result.now c.in_ok-stated.stated e.to c.either.result (c.either.ensures ∙ ap (λ n. unwrap_or c.in_ok-stated.stated n) c.target-to.ensures) c.weight.ensures c.in_ok-stated.ensures.ok target in
     let there = refers-within packages e.dependency c.either.result refers in (
       tt,
       tt,

@@ -7,7 +7,7 @@ use Rattle.cargo_lock_merging.specs.declared.numbers.Spot.{Spot}
 use Rattle.cargo_lock_merging.specs.Numbers.{spot_place, spot_places}
 use Rattle.cargo_lock_merging.specs.Places.{Place}
 use Rattle.cargo_lock_merging.proofs.Numbering.{number-last, number-there, place-read}
-use Rattle.cargo_lock_merging.proofs.numbers.LastPlaces.number.Goals as goal
+use Rattle.cargo_lock_merging.proofs.numbers.Numbers.number.Goals as goal
 
 pub index-requires : goal.index-requires
 index-requires c =

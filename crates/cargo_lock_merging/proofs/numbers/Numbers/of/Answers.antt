@@ -2,7 +2,7 @@ use Rattle.std.proofs.Common.{◌≡◌, ◌∙◌, ℕ, List, Some, ap, arith, 
 use Rattle.cargo_lock_merging.specs.declared.numbers.Spot.{Spot}
 use Rattle.cargo_lock_merging.specs.Numbers.{AreLast, spot_places}
 use Rattle.cargo_lock_merging.proofs.Numbering.{numbers-step, place-read}
-use Rattle.cargo_lock_merging.proofs.numbers.LastPlaces.of.Goals as goal
+use Rattle.cargo_lock_merging.proofs.numbers.Numbers.of.Goals as goal
 
 pub loop-at-preserved : goal.loop-at-preserved
 loop-at-preserved c =

@@ -1,5 +1,5 @@
 use Rattle.cargo_lock_merging.specs.Numbers.{AreLast, spot_places}
-use Rattle.cargo_lock_merging.proofs.numbers.LastPlaces.of.Given as goal
+use Rattle.cargo_lock_merging.proofs.numbers.Numbers.of.Given as goal
 
 -- the numbers of the first places
 abbrev pub invariant-loop-at : goal.invariant-loop-at
