@@ -1,0 +1,9 @@
+//! Which licences packages have, and whether they are allowed.
+#![tactic(auto)]
+
+
+
+mod token;
+mod tokens;
+
+
