@@ -1,1 +1,4 @@
 pub mod Tokens
+pub mod Grammar
+pub mod Allowed
+pub mod Evaluation

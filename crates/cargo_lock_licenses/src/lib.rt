@@ -1,9 +1,6 @@
 //! Which licences packages have, and whether they are allowed.
 #![tactic(auto)]
 
-
-
+mod evaluation;
 mod token;
 mod tokens;
-
-
