@@ -116,13 +116,14 @@ step allowed s (Id id) = option_map (with_last s) (after_name allowed id s.last)
 step allowed s Other = None
 
 -- whether what was read is true, where nothing is left
-abbrev pub ended : List Level → Level → Option Bool → Option Bool
-ended [] level v = option_map (ended_with level) v
-ended (outer ∷ around) level v = None
+abbrev pub ended : List Level → Option Bool → Option Bool
+ended [] v = v
+ended (outer ∷ around) v = None
 
 -- whether the expression is true, if the tokens that are left end it
 abbrev pub run : List (List ℕ) → State → List TokenData → Option Bool
-run allowed s [] = ended s.around s.level (value_of allowed s.last)
+run allowed s [] =
+    ended s.around (option_map (ended_with s.level) (value_of allowed s.last))
 run allowed s (t ∷ ts) = option_and_then (λ next. run allowed next ts) (step allowed s t)
 
 -- whether the tokens are an expression, and if so, whether it is true
