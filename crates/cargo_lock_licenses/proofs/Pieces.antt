@@ -18,7 +18,7 @@ word_piece [] = []
 word_piece (b ∷ w) = Word (b ∷ w) ∷ []
 
 -- the pieces do not begin with a word
-abbrev IsApart : List Piece → Type 0
+abbrev pub IsApart : List Piece → Type 0
 IsApart [] = Unit {0}
 IsApart (Word w ∷ rest) = ⊥
 IsApart (Sign b ∷ rest) = Unit {0}
@@ -45,6 +45,10 @@ pieces-word (b ∷ w) rest h a = pieces-letter b (w ++ rest) h.0 ∙ ap (onto_wo
 word-tokens : (w : List ℕ) (ps : List Piece) → flat_map piece_tokens (word_piece w ++ ps) ≡ word_tokens w ++ flat_map piece_tokens ps
 word-tokens [] ps = refl
 word-tokens (b ∷ w) ps = refl
+
+-- a word before what begins with no word
+pub tokens-apart : (w rest : List ℕ) → IsWord w → IsApart (pieces rest) → tokens (w ++ rest) ≡ word_tokens w ++ tokens rest
+tokens-apart w rest h apart = ap (flat_map piece_tokens) (pieces-word w rest h apart) ∙ word-tokens w (pieces rest)
 
 -- a word at the end
 pub tokens-end : (w : List ℕ) → IsWord w → tokens w ≡ word_tokens w

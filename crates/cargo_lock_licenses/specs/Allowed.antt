@@ -12,3 +12,8 @@ alternatives (Both l r) = flat_map (λ a. map (λ b. a ++ b) (alternatives r)) (
 -- each term of some alternative is allowed
 abbrev pub IsAllowed : List (List ℕ) → Tree → Type 0
 IsAllowed allowed e = (a : List (List ℕ)) × Contains (alternatives e) a × All (Contains allowed) a
+
+-- more allowed terms forbid no expression
+abbrev pub MoreAllowMore : Type 0
+MoreAllowMore = (some more : List (List ℕ)) (e : Tree) → All (Contains more) some
+    → IsAllowed some e → IsAllowed more e

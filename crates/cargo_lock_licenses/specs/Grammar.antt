@@ -1,5 +1,5 @@
 -- The grammar of licence expressions.
-use Rattle.std.specs.Prelude.{[], ◌∷◌, ◌++◌, ℕ, suc, List, codes}
+use Rattle.std.specs.Prelude.{◌≡◌, [], ◌∷◌, ◌++◌, ℕ, suc, List, codes}
 use Rattle.cargo_lock_licenses.specs.Tokens.{TokenData, And, Close, Id, Open, Or, With, tokens}
 
 -- an expression: a term, which is a name or `NAME WITH NAME`, two expressions of which both hold, or
@@ -44,3 +44,7 @@ ReadsAs = Reads 100 Alternatives
 -- the text is the expression
 abbrev pub IsExpression : List ℕ → Tree → Type 0
 IsExpression text = ReadsAs (tokens text)
+
+-- no text is two expressions
+abbrev pub OneReading : Type 0
+OneReading = (ts : List TokenData) (a b : Tree) → ReadsAs ts a → ReadsAs ts b → a ≡ b

@@ -2,5 +2,9 @@
 #![tactic(auto)]
 
 mod evaluation;
+pub mod expression;
+pub mod laws;
 mod token;
 mod tokens;
+
+pub use crate::expression::Expression;

@@ -3,7 +3,9 @@
 ghost use Rattle.std.specs.Prelude.{◌≡◌, string_bytes};
 ghost use Rattle.cargo_lock_licenses.specs.Tokens.{token_of, word_token};
 
-// A token of a licence expression.
+use std::fmt;
+
+// A token of a licence expression. `Display` writes it with the spaces around it.
 #[derive(Drop)]
 pub(crate) enum Token {
     // `(`.
@@ -41,6 +43,26 @@ impl Token {
             Token::With
         } else {
             Token::Id(word)
+        }
+    }
+}
+
+impl fmt::Display for Token {
+    ghost use Rattle.std.specs.Prelude.{Some};
+    ghost use Rattle.cargo_lock_licenses.specs.Printed.{token_text};
+    ghost use Rattle.cargo_lock_licenses.specs.Tokens.{token_of};
+
+    ghost output = { λ token. Some (token_text (token_of token)) };
+
+    fn fmt<W: fmt::Write>(&self, f: &mut fmt::Formatter<W>) -> fmt::Result {
+        match self {
+            Token::Open => f.write_str("("),
+            Token::Close => f.write_str(")"),
+            Token::Or => f.write_str(" OR "),
+            Token::And => f.write_str(" AND "),
+            Token::With => f.write_str(" WITH "),
+            Token::Id(id) => f.write_str(id),
+            Token::Other => Ok(()),
         }
     }
 }
