@@ -16,6 +16,8 @@ _cargo-lock() {
         'graph:Writes a picture of packages, for Graphviz or Mermaid'
         'merge:Merges two lockfiles by packages, over their common ancestor'
         'verify:Compares archives, or vendored folders, with the checksums of a lockfile'
+        'licenses:Prints the licences of packages, and which are not allowed'
+        'audit:Prints the advisories that concern packages of a lockfile'
         'help:Print this message or the help of the given subcommand(s)'
     )
     _arguments -C \
@@ -127,6 +129,24 @@ _cargo-lock() {
             '--cache[The folder of the archives, as registry/cache of Cargo]:FOLDER:_files -/' \
             '--vendor[The folder that `cargo vendor` made]:FOLDER:_files -/' \
             '--all[Reports packages without an archive too]' \
+            '(- *)'{-h,--help}'[Print help]'
+        ;;
+    licenses)
+        _arguments -s \
+            '(-f --file)'{-f,--file}'[The lockfile, - for standard input]:PATH:_files' \
+            '--any-size[Reads a lockfile of 256 MiB or more too]' \
+            '--cache[The folder of unpacked archives, as registry/src of Cargo]:FOLDER:_files -/' \
+            '--vendor[The folder that `cargo vendor` made]:FOLDER:_files -/' \
+            '*--allow[Allows this term, and others that are given so]:TERM:' \
+            '(- *)'{-h,--help}'[Print help]'
+        ;;
+    audit)
+        _arguments -s \
+            '(-f --file)'{-f,--file}'[The lockfile, - for standard input]:PATH:_files' \
+            '--any-size[Reads a lockfile of 256 MiB or more too]' \
+            '--db[The folder of the advisories]:FOLDER:_files -/' \
+            '*--ignore[Leaves out this advisory, and others that are given so]:ID:' \
+            '*--deny[Counts informational advisories of this kind as vulnerabilities]:KIND:(unmaintained unsound notice)' \
             '(- *)'{-h,--help}'[Print help]'
         ;;
     help)

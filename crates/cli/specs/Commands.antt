@@ -5,13 +5,16 @@ use Rattle.clap.specs.Walk.{rows_of}
 use Rattle.clap.specs.declared.parser.matches.ArgMatches.{ArgMatches}
 use Rattle.clap.specs.declared.parser.matches.Found.{Found}
 use Rattle.cli.specs.declared.Chosen.{Chosen}
-use Rattle.cli.specs.declared.Chosen.TheVariants.{Bom, Check, Diff, Duplicates, Graph}
-use Rattle.cli.specs.declared.Chosen.TheVariants.{List as Listing, Merge, Translate, Tree, Verify, Why}
+use Rattle.cli.specs.declared.Chosen.TheVariants.{Audit, Bom, Check, Diff, Duplicates, Graph}
+use Rattle.cli.specs.declared.Chosen.TheVariants.{Licenses, List as Listing, Merge}
+use Rattle.cli.specs.declared.Chosen.TheVariants.{Translate, Tree, Verify, Why}
+use Rattle.cli.specs.Audit.{PrintsAudit}
 use Rattle.cli.specs.Bom.{PrintsBill}
 use Rattle.cli.specs.Check.{PrintsCheck}
 use Rattle.cli.specs.Diff.{PrintsDifference}
 use Rattle.cli.specs.Duplicates.{PrintsDuplicates}
 use Rattle.cli.specs.Graph.{DrawsGraph}
+use Rattle.cli.specs.Licenses.{PrintsLicenses}
 use Rattle.cli.specs.List.{PrintsList}
 use Rattle.cli.specs.Merge.{PrintsMerge}
 use Rattle.cli.specs.Translate.{PrintsTranslation}
@@ -21,11 +24,13 @@ use Rattle.cli.specs.Why.{PrintsWhy}
 
 -- the name of a command
 abbrev pub name_of : Chosen → List ℕ
+name_of Audit = codes "audit"
 name_of Bom = codes "bom"
 name_of Check = codes "check"
 name_of Diff = codes "diff"
 name_of Duplicates = codes "duplicates"
 name_of Graph = codes "graph"
+name_of Licenses = codes "licenses"
 name_of Listing = codes "list"
 name_of Merge = codes "merge"
 name_of Translate = codes "translate"
@@ -33,15 +38,17 @@ name_of Tree = codes "tree"
 name_of Verify = codes "verify"
 name_of Why = codes "why"
 
--- what a command leaves with the options that were found, and its status: `check`, `diff`,
--- `duplicates` and `merge` may end with failure if they found something, and each other one ends
--- with success
+-- what a command leaves with the options that were found, and its status: `audit`, `check`, `diff`,
+-- `duplicates`, `licenses`, `merge` and `verify` may end with failure if they found something, and
+-- each other one ends with success
 abbrev pub Follows : Chosen → Found → Option (List ℕ) → Option (List ℕ) → Type 0 → Type 0 → Type 0
+Follows Audit found old new failure success = PrintsAudit found old new failure success
 Follows Bom found old new failure success = PrintsBill found old new × success
 Follows Check found old new failure success = PrintsCheck found old new failure success
 Follows Diff found old new failure success = PrintsDifference found old new failure success
 Follows Duplicates found old new failure success = PrintsDuplicates found old new failure success
 Follows Graph found old new failure success = DrawsGraph found old new × success
+Follows Licenses found old new failure success = PrintsLicenses found old new failure success
 Follows Listing found old new failure success = PrintsList found old new × success
 Follows Merge found old new failure success = PrintsMerge found old new failure success
 Follows Translate found old new failure success = PrintsTranslation found old new × success

@@ -1,10 +1,13 @@
+pub mod Audit
 pub mod Bom
 pub mod Json
 pub mod Check
+pub mod Texts
 pub mod Translate
 pub mod Tree
 pub mod Diff
 pub mod Commands
+pub mod Licenses
 pub mod List
 pub mod Merge
 pub mod Load

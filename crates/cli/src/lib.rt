@@ -1,13 +1,13 @@
 //! The program `cargo-lock` as a library: lists the packages of a lockfile, writes it in another
 //! format, draws its trees, writes its bill of materials, reports what differs between two and what
 //! is wrong with one, says why a package is there and which names several packages have, writes a
-//! picture of the packages, merges two lockfiles over a third, and compares archives of packages with
-//! their checksums.
+//! picture of the packages, merges two lockfiles over a third, compares archives of packages with
+//! their checksums, and prints their licences and the advisories that concern them.
 //!
 //! An error is reported in one message on standard error that begins with `*** error: `. The status
-//! is then 2 for `bom`, `check`, `diff`, `duplicates`, `graph`, `merge`, `verify` and `why`, which the
-//! original does not have, and 1 for the others. Without an error it is 0, and all of the output was
-//! written and flushed; what `check`, `diff`, `duplicates`, `merge` or `verify` found may make it 1.
+//! is then 1 for `list`, `translate` and `tree`, and 2 for the others, which the original does not
+//! have. Without an error it is 0, and all of the output was written and flushed; what `audit`,
+//! `check`, `diff`, `duplicates`, `licenses`, `merge` or `verify` found may make it 1.
 #![tactic(auto)]
 
 ghost use Rattle.std.specs.Prelude.{◌≡◌, ◌⊎◌, IfErr, IfOk, IfSome, codes, map};
@@ -16,16 +16,20 @@ ghost use Rattle.clap.specs.Matches.{found_of};
 ghost use Rattle.cli_support.specs.Status.{IsFaultStatus, IsNamed};
 ghost use Rattle.cli.specs.Commands.{Follows, FollowsMatches, name_of};
 
+mod audit;
 mod bom;
 mod check;
 mod diff;
 mod duplicates;
 mod ending;
+mod folders;
 mod graph;
+mod licenses;
 mod list;
 mod load;
 mod merge;
 mod spec;
+mod texts;
 mod translate;
 mod tree;
 mod verify;
@@ -144,17 +148,21 @@ fn parser<'a>(alloc: Global) -> Result<Command<'a>, AllocError> {
         .subcommand(duplicates::command(alloc)?)?
         .subcommand(graph::command(alloc)?)?
         .subcommand(merge::command(alloc)?)?
-        .subcommand(verify::command(alloc)?)
+        .subcommand(verify::command(alloc)?)?
+        .subcommand(licenses::command(alloc)?)?
+        .subcommand(audit::command(alloc)?)
 }
 
 /// A command.
 #[derive(Clone, Copy)]
 enum Chosen {
+    Audit,
     Bom,
     Check,
     Diff,
     Duplicates,
     Graph,
+    Licenses,
     List,
     Merge,
     Translate,
@@ -168,11 +176,13 @@ fn command_named(name: &str) -> Option<Chosen>
     ensures { IfSome result (λ command. name.now ≡ name_of command) }
 {
     match name {
+        "audit" => Some(Chosen::Audit),
         "bom" => Some(Chosen::Bom),
         "check" => Some(Chosen::Check),
         "diff" => Some(Chosen::Diff),
         "duplicates" => Some(Chosen::Duplicates),
         "graph" => Some(Chosen::Graph),
+        "licenses" => Some(Chosen::Licenses),
         "list" => Some(Chosen::List),
         "merge" => Some(Chosen::Merge),
         "translate" => Some(Chosen::Translate),
@@ -214,6 +224,13 @@ fn follow<R: Files + Env + Clock + AllocGlobal, W: Write>(
         (ended.status ≡ ExitCode.FAILURE) (ended.status ≡ ExitCode.SUCCESS)) }
 {
     match command {
+        Chosen::Audit => {
+            let status = audit::run(rt, options, out)?;
+            Ok(Ended {
+                status,
+                lines: None,
+            })
+        }
         Chosen::Bom => {
             bom::run(rt, options, out)?;
             Ok(Ended::silent(ExitCode::SUCCESS))
@@ -242,6 +259,13 @@ fn follow<R: Files + Env + Clock + AllocGlobal, W: Write>(
         Chosen::Graph => {
             graph::run(rt, options, out)?;
             Ok(Ended::silent(ExitCode::SUCCESS))
+        }
+        Chosen::Licenses => {
+            let status = licenses::run(rt, options, out)?;
+            Ok(Ended {
+                status,
+                lines: None,
+            })
         }
         Chosen::List => {
             list::run(rt, options, out)?;

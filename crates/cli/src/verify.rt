@@ -7,11 +7,12 @@ ghost use Rattle.cargo_lock_verify.specs.Vendored.{vendored_of};
 ghost use Rattle.cli.specs.Verify.{AreSubjectsOf, AreVendoredOf, PrintsReport};
 ghost use Rattle.cli.specs.Verify.{PrintsVendorReport, PrintsVerified, PrintsVerifiedOf};
 
+use crate::folders::{cache, vendor};
 use crate::load::compared_lockfile;
 use cargo_lock::Lockfile;
 use cargo_lock::package::Package;
 use cargo_lock_verify::{Report, Subject, VendorReport, Vendored};
-use clap::{Arg, ArgAction, ArgMatches, Command};
+use clap::{Arg, ArgMatches, Command};
 use cli_folders::{Entries, Vendor};
 use cli_support::output::put;
 use cli_support::words::{any_size, long_flag};
@@ -45,8 +46,6 @@ package, and 2 where the lockfile, an archive or a folder cannot be read.";
 /// The options, as help shows them.
 const CACHE_HELP: &str = "The folder of the archives, as registry/cache of Cargo";
 
-const VENDOR_HELP: &str = "The folder that `cargo vendor` made";
-
 const ALL_HELP: &str = "Reports packages without an archive too";
 
 /// The parser of this command: its options.
@@ -56,23 +55,9 @@ pub(crate) fn command<'a>(alloc: Global) -> Result<Command<'a>, AllocError> {
         .after_help(VERIFY_HELP)
         .arg(words::file(alloc))?
         .arg(any_size(alloc))?
-        .arg(cache(alloc)?)?
+        .arg(cache(alloc, CACHE_HELP)?)?
         .arg(vendor(alloc)?)?
         .arg(all(alloc)?)
-}
-
-/// The option for the folder of the archives.
-fn cache<'a>(alloc: Global) -> Result<Arg<'a>, AllocError> {
-    folder(alloc, "cache")
-        .help(CACHE_HELP)
-        .required_unless_present("vendor")
-}
-
-/// The option for the folder that `cargo vendor` made.
-fn vendor<'a>(alloc: Global) -> Result<Arg<'a>, AllocError> {
-    folder(alloc, "vendor")
-        .help(VENDOR_HELP)
-        .conflicts_with("cache")
 }
 
 /// The option to report packages without an archive.
@@ -82,19 +67,10 @@ fn all<'a>(alloc: Global) -> Result<Arg<'a>, AllocError> {
         .conflicts_with("vendor")
 }
 
-/// An option for a folder.
-fn folder<'a>(alloc: Global, name: &'a str) -> Arg<'a> {
-    Arg::new(alloc, name)
-        .long(name)
-        .value_name("FOLDER")
-        .allow_hyphen_values(true)
-        .action(ArgAction::Set)
-}
-
 /// Prints which packages of the lockfile have no archive with their checksum, or no folder that is
 /// as its list says, and how many have one. The status is 1 if a line is printed for a package, and
-/// otherwise 0. Fails if the lockfile, a folder or a file is not read, or if `out` fails; a prefix of the text was then written in the
-/// last case, and nothing in the others.
+/// otherwise 0. Fails if the lockfile, a folder or a file is not read, or if `out` fails; a prefix of
+/// the text was then written in the last case, and nothing in the others.
 pub(crate) fn run<R: Files + AllocGlobal, W: Write>(
     rt: &R,
     options: &ArgMatches<'_>,
@@ -221,7 +197,7 @@ fn print_report<W: Write>(
 }
 
 /// The status where nothing is found, or something.
-fn status_of(is_quiet: bool) -> ExitCode
+pub(crate) fn status_of(is_quiet: bool) -> ExitCode
     ensures quiet { is_quiet ≡ true → result ≡ ExitCode.SUCCESS }
     ensures found { is_quiet ≡ false → result ≡ ExitCode.FAILURE }
 {

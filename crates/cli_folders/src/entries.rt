@@ -1,8 +1,10 @@
-//! The entries of a folder that is like Cargo's `registry/cache`.
+//! The entries of a folder that is like Cargo's `registry/cache` or `registry/src`.
 
 ghost use Rattle.std.specs.Prelude.{◌≡◌, [], IfOk, None};
 
 use crate::files::{digest_at, fault_at, is_file, is_folder, names_in, path_of};
+use crate::manifest::put_manifest;
+use cargo_lock_licenses::Manifest;
 use cargo_lock_parts::package::Package;
 use cargo_lock_verify::Archive;
 use cli_support::Fault;
@@ -83,6 +85,27 @@ impl Entries {
         }
         Ok(archives)
     }
+
+    /// What the manifests of a package with a source say of its licence, in folders that are named
+    /// as Cargo names those of unpacked archives. Fails if one is not read.
+    pub fn manifests_of<R: Files + AllocGlobal>(
+        &self,
+        rt: &R,
+        package: &Package,
+    ) -> Result<Vec<Manifest>, Fault>
+        ensures { IfOk result (λ manifests. «package».now.source ≡ None → manifests.items ≡ []) }
+    {
+        let mut manifests = Vec::new(rt.alloc());
+        if package.source.is_none() {
+            return Ok(manifests);
+        }
+        if let Some(paths) = self.paths.get(folder_name(rt.alloc(), package)?.as_str()) {
+            for path in paths {
+                put_manifest(rt, &mut manifests, path)?;
+            }
+        }
+        Ok(manifests)
+    }
 }
 
 // A list of one path.
@@ -97,6 +120,13 @@ fn archive_name(alloc: Global, package: &Package) -> Result<String, AllocError> 
     let name = &package.name;
     let version = &package.version;
     format!(in alloc; "{name}-{version}.crate")
+}
+
+// The name of the folder in which Cargo unpacks it.
+fn folder_name(alloc: Global, package: &Package) -> Result<String, AllocError> {
+    let name = &package.name;
+    let version = &package.version;
+    format!(in alloc; "{name}-{version}")
 }
 
 // Adds the archive at a path, if a file is there.

@@ -1,8 +1,12 @@
 //! The folders in a folder that `cargo vendor` made.
 
+ghost use Rattle.std.specs.Prelude.{◌≡◌, [], IfOk, None};
+
 use crate::files::{
     all_names_in, digest_at, fault_at, fault_of, is_file, names_in, path_of, text_at,
 };
+use crate::manifest::{manifest_path, put_manifest, table_at, text_in};
+use cargo_lock_licenses::Manifest;
 use cargo_lock_parts::Error;
 use cargo_lock_parts::package::{Checksum, Package};
 use cargo_lock_verify::Folder;
@@ -17,9 +21,6 @@ use toml::Table;
 
 /// The list of the files of a folder.
 const LIST: &str = ".cargo-checksum.json";
-
-/// The manifest of a folder.
-const MANIFEST: &str = "Cargo.toml";
 
 /// The paths of the folders with a manifest, by the name and the version that it has. No path is
 /// made of a name of a lockfile.
@@ -46,7 +47,7 @@ impl Vendor {
 
     /// Adds what is at a path, if it is a folder with a manifest.
     fn put<R: Files + AllocGlobal>(&mut self, rt: &R, path: String) -> Result<(), Fault> {
-        let manifest = path_of(rt.alloc(), &path, MANIFEST)?;
+        let manifest = manifest_path(rt.alloc(), &path)?;
         if kind_at(rt, &path)? != Kind::Folder || !is_file(rt, &manifest) {
             return Ok(());
         }
@@ -73,7 +74,9 @@ impl Vendor {
         &self,
         rt: &R,
         package: &Package,
-    ) -> Result<Vec<Folder>, Fault> {
+    ) -> Result<Vec<Folder>, Fault>
+        ensures { IfOk result (λ folders. «package».now.source ≡ None → folders.items ≡ []) }
+    {
         let mut folders = Vec::new(rt.alloc());
         if package.source.is_none() {
             return Ok(folders);
@@ -86,6 +89,26 @@ impl Vendor {
         }
         Ok(folders)
     }
+
+    /// What the manifests of a package with a source say of its licence. Fails if one is not read.
+    pub fn manifests_of<R: Files + AllocGlobal>(
+        &self,
+        rt: &R,
+        package: &Package,
+    ) -> Result<Vec<Manifest>, Fault>
+        ensures { IfOk result (λ manifests. «package».now.source ≡ None → manifests.items ≡ []) }
+    {
+        let mut manifests = Vec::new(rt.alloc());
+        if package.source.is_none() {
+            return Ok(manifests);
+        }
+        if let Some(paths) = self.folders.get(identity_of(rt.alloc(), package)?.as_str()) {
+            for path in paths {
+                put_manifest(rt, &mut manifests, path)?;
+            }
+        }
+        Ok(manifests)
+    }
 }
 
 /// The name and the version of a package.
@@ -95,33 +118,18 @@ fn identity_of(alloc: Global, package: &Package) -> Result<String, AllocError> {
     format!(in alloc; "{name} {version}")
 }
 
-/// The name and the version that a manifest has.
+/// The name and the version that the manifest at a path has.
 fn identity_at<R: Files + AllocGlobal>(rt: &R, path: &str) -> Result<Option<String>, Fault> {
-    let text = text_at(rt, path)?;
-    match toml::table_from_str(rt.alloc(), text.as_str()) {
-        Ok(table) => Ok(identity_in(rt.alloc(), &table)?),
-        Err(error) if error.is_memory() => Err(Fault::Library(Error::Memory)),
-        Err(_) => Err(fault_of(rt.alloc(), path, "it is not TOML")),
-    }
+    let table = table_at(rt, path)?;
+    let identity = identity_in(rt.alloc(), &table)?;
+    Ok(identity)
 }
 
 /// The name and the version in the table of a manifest.
 fn identity_in(alloc: Global, manifest: &Table) -> Result<Option<String>, AllocError> {
-    let package = match manifest.get("package") {
-        Some(package) => package,
-        None => return Ok(None),
-    };
-    match (text_in(package, "name"), text_in(package, "version")) {
+    match (text_in(manifest, "name"), text_in(manifest, "version")) {
         (Some(name), Some(version)) => Ok(Some(format!(in alloc; "{name} {version}")?)),
         _ => Ok(None),
-    }
-}
-
-/// The text at a key of a table.
-fn text_in<'a>(table: &'a toml::Value, key: &str) -> Option<&'a str> {
-    match table.get(key) {
-        Some(value) => value.as_str(),
-        None => None,
     }
 }
 
