@@ -1,7 +1,7 @@
 -- What the grammar reads is evaluated.
-use Rattle.std.proofs.Common.{◌≡◌, ◌≤◌, ◌<◌, ◌∙◌, ◌∷◌, ◌++◌, ◌+◌, ◌&&◌, ◌||◌, [], ℕ, Bool, true, false, List, Some, None, ap, append-nil, append_assoc, arith, length, lt-ltb, nat_lt, refl, sym}
+use Rattle.std.proofs.Common.{◌≡◌, ◌≤◌, ◌<◌, ◌∙◌, ◌∷◌, ◌++◌, ◌+◌, ◌&&◌, ◌||◌, [], ℕ, Bool, true, false, List, Some, ap, append-nil, append_assoc, arith, length, lt-ltb, nat_lt, refl, sym}
 use Rattle.cargo_lock_licenses.specs.declared.evaluation.Level.{Level}
-use Rattle.cargo_lock_licenses.specs.Evaluation.{LastData, Name, Exempt, Operator, State, Value, at_start, evaluated, is_term, run}
+use Rattle.cargo_lock_licenses.specs.Evaluation.{LastData, Name, Operator, State, Value, at_start, evaluated, is_term, run}
 use Rattle.cargo_lock_licenses.specs.Grammar.{Alternatives, Both, Either, Joined, Part, Reads, ReadsAs, Single, Term, Tree, both, bracket, either, exception, joined, name, single}
 use Rattle.cargo_lock_licenses.specs.Tokens.{And, Close, Id, Open, Or, Other, TokenData, With}
 
@@ -36,7 +36,7 @@ NotAnd (With ∷ ts) = ⊥
 NotAnd (Id id ∷ ts) = Unit {0}
 NotAnd (Other ∷ ts) = Unit {0}
 
-not-with : (ts : List TokenData) → NotAnd ts → NotWith ts
+pub not-with : (ts : List TokenData) → NotAnd ts → NotWith ts
 not-with [] h = tt
 not-with (Open ∷ ts) h = tt
 not-with (Close ∷ ts) h = tt

@@ -1,6 +1,6 @@
 -- An expression is true exactly if one of its alternatives has all its terms allowed.
-use Rattle.std.proofs.Common.{◌≡◌, ◌∙◌, ◌⊎◌, ◌&&◌, ◌||◌, ◌++◌, ◌∷◌, [], ◌<◌, ℕ, Bool, true, false, true≢false, List, ap, arith, bytes_eq, inl, inr, map, refl, subst, sym}
-use Rattle.std.specs.List.{All, Contains, flat_map, list_any}
+use Rattle.std.proofs.Common.{◌≡◌, ◌⊎◌, ◌&&◌, ◌||◌, ◌++◌, ◌∷◌, [], ℕ, Bool, true, false, true≢false, List, ap, arith, bytes_eq, inl, inr, map, refl, subst, sym}
+use Rattle.std.specs.List.{All, Contains, flat_map}
 use Rattle.std.proofs.lemmas.Slice.Eq.{bytes_eq-Decides}
 use Rattle.std.proofs.lemmas.List.Folds.{Any-from_list_any, list_any-from_Any}
 use Rattle.std.proofs.lemmas.List.Elements.{All-append, All-cons, All-contains, All-head, All-nil, All-tail, All-weaker, Contains-append_cases, Contains-append_left, Contains-append_right, Contains-push, Contains-push_cases}
@@ -97,8 +97,7 @@ allowed-if allowed (Either l r) is = elim (either-true (value allowed l) (value 
 allowed-if allowed (Both l r) is =
     let (left, right) = both-true (value allowed l) (value allowed r) is in
     let (a, in-l, all-a) = allowed-if allowed l left in
-    let (b, in-r, all-b) = allowed-if allowed r right in
-    (
+    let (b, in-r, all-b) = allowed-if allowed r right in (
       a ++ b,
       in-flat (λ x. map (λ y. x ++ y) (alternatives r)) (alternatives l) a (a ++ b) in-l (in-map (λ y. a ++ y) (alternatives r) b in-r),
       All-append (Contains allowed) a b all-a all-b,

@@ -87,11 +87,11 @@ pub next-byte : (text bytes : List ℕ) (found found' : List TokenData) (w w' : 
 next-byte text bytes found found' w w' i same within word so_far is_found is_word = (
   subst IsWord (sym is_word) (word-byte w b word),
   so_far
-  ∙ ap (λ (rest : List ℕ). found ++ tokens (w ++ rest)) split
-  ∙ ap (λ (ts : List TokenData). found ++ ts) (tokens-byte w b rest word)
-  ∙ sym (append_assoc found ended (tokens (kept ++ rest)))
-  ∙ ap (λ (ts : List TokenData). ts ++ tokens (kept ++ rest)) (sym is_found)
-  ∙ ap (λ (v : List ℕ). found' ++ tokens (v ++ rest)) (sym is_word),
+      ∙ ap (λ (rest : List ℕ). found ++ tokens (w ++ rest)) split
+      ∙ ap (λ (ts : List TokenData). found ++ ts) (tokens-byte w b rest word)
+      ∙ sym (append_assoc found ended (tokens (kept ++ rest)))
+      ∙ ap (λ (ts : List TokenData). ts ++ tokens (kept ++ rest)) (sym is_found)
+      ∙ ap (λ (v : List ℕ). found' ++ tokens (v ++ rest)) (sym is_word),
 )
   where
     b : ℕ

@@ -1,10 +1,10 @@
 -- An expression that is printed and read is the same one.
-use Rattle.std.proofs.Common.{◌≡◌, ◌==◌, ◌≢◌, ◌∙◌, ◌++◌, ◌∷◌, [], ℕ, Bool, true, false, List, ap, append-nil, append_assoc, bytes_eq, codes, if◌then◌else◌, refl, subst, sym}
+use Rattle.std.proofs.Common.{◌≡◌, ◌==◌, ◌≢◌, ◌∙◌, ◌++◌, ◌∷◌, [], ℕ, Bool, true, false, List, ap, append-nil, append_assoc, bytes_eq, codes, if◌then◌else◌, refl, sym}
 use Rattle.std.specs.List.{flat_map}
 use Rattle.std.specs.Char.{is_ascii_whitespace}
-use Rattle.cargo_lock_licenses.specs.Grammar.{Alternatives, Both, Either, Joined, Part, Reads, Single, Term, Tree, both, bracket, either, exception, joined, name, single}
+use Rattle.cargo_lock_licenses.specs.Grammar.{Alternatives, Joined, Part, Reads, Single, Tree, both, bracket, either, exception, joined, name, single}
 use Rattle.cargo_lock_licenses.specs.Printed.{PrintedReadsAgain, printed, token_text}
-use Rattle.cargo_lock_licenses.specs.Tokens.{And, Close, Id, Open, Or, Other, Piece, Sign, TokenData, With, Word, is_letter, onto_word, piece_tokens, pieces, sign_token, sign_tokens, tokens, word_token}
+use Rattle.cargo_lock_licenses.specs.Tokens.{And, Close, Id, Open, Or, Other, Piece, Sign, TokenData, With, Word, is_letter, onto_word, piece_tokens, pieces, sign_tokens, tokens, word_token}
 use Rattle.cargo_lock_licenses.proofs.Pieces.{IsApart, IsWord, tokens-apart}
 
 -- a name: letters, and no operator

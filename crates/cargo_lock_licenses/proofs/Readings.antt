@@ -1,5 +1,5 @@
 -- What is read of a text, by its evaluation.
-use Rattle.std.proofs.Common.{◌≡◌, ◌↔◌, ◌∙◌, [], ℕ, Bool, true, false, true≢false, IsTrue, List, None, Option, Some, ap, is_some, refl, subst, sym, unwrap_or}
+use Rattle.std.proofs.Common.{◌≡◌, ◌↔◌, ◌∙◌, [], ℕ, Bool, true, false, true≢false, IsTrue, List, None, Option, Some, ap, is_some, refl, sym, unwrap_or}
 use Rattle.cargo_lock_licenses.specs.Allowed.{IsAllowed}
 use Rattle.cargo_lock_licenses.specs.Evaluation.{evaluated}
 use Rattle.cargo_lock_licenses.specs.Grammar.{ReadsAs, Tree}

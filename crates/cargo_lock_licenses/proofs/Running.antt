@@ -1,5 +1,5 @@
 -- The loop over the tokens of an expression.
-use Rattle.std.proofs.Common.{◌≡◌, ◌∙◌, ◌||◌, ◌∷◌, [], ◌+◌, ◌<◌, ℕ, Bool, true, false, List, None, Option, Some, String, add-one, ap, bytes_eq, drop, drop-cons, get_or, length, map, refl, string_bytes, sym}
+use Rattle.std.proofs.Common.{◌≡◌, ◌∙◌, ◌||◌, ◌∷◌, [], ◌+◌, ◌<◌, ℕ, Bool, true, false, List, None, Option, String, add-one, ap, bytes_eq, drop, drop-cons, get_or, length, map, refl, string_bytes, sym}
 use Rattle.std.specs.Prelude.{option_and_then}
 use Rattle.std.specs.List.{list_any}
 use Rattle.cargo_lock_licenses.specs.declared.token.Token.{Token}

@@ -1,9 +1,9 @@
 -- What is evaluated is in the grammar.
-use Rattle.std.proofs.Common.{◌≡◌, ◌≤◌, ◌<◌, ◌∙◌, ◌∷◌, ◌++◌, ◌+◌, ◌&&◌, ◌||◌, [], ℕ, zero, suc, Bool, true, false, List, Option, Some, None, ap, append-nil, append_assoc, arith, if◌then◌else◌, length, ltb-true, nat_lt, refl, subst, sym}
+use Rattle.std.proofs.Common.{◌≡◌, ◌<◌, ◌∙◌, ◌∷◌, ◌++◌, ◌+◌, ◌&&◌, ◌||◌, [], ℕ, zero, suc, Bool, true, false, List, Option, Some, None, ap, append-nil, append_assoc, arith, if◌then◌else◌, length, ltb-true, nat_lt, refl, subst, sym}
 use Rattle.std.specs.Prelude.{option_and_then, option_map}
 use Rattle.cargo_lock_licenses.specs.declared.evaluation.Level.{Level}
 use Rattle.cargo_lock_licenses.specs.Evaluation.{Exempt, LastData, Name, Operator, State, Value, after_name, after_with, and_level, at_level, at_start, closed, ended, ended_with, evaluated, is_term, opened, or_level, run, start, step, value_of, with_last}
-use Rattle.cargo_lock_licenses.specs.Grammar.{Alternatives, Both, Either, Joined, Part, Reads, ReadsAs, Single, Term, Tree, both, bracket, either, exception, joined, name, single, with_exception}
+use Rattle.cargo_lock_licenses.specs.Grammar.{Alternatives, Both, Either, Joined, Part, Reads, Single, Term, Tree, both, bracket, either, exception, joined, name, single, with_exception}
 use Rattle.cargo_lock_licenses.specs.Tokens.{And, Close, Id, Open, Or, Other, TokenData, With}
 use Rattle.cargo_lock_licenses.proofs.Complete.{value}
 

@@ -4,3 +4,7 @@ pub mod Allowed
 pub mod Evaluation
 pub mod Reading
 pub mod Printed
+pub mod Subjects
+pub mod Verdicts
+pub mod Report
+pub mod Lines

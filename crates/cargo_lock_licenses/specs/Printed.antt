@@ -1,7 +1,7 @@
 -- How an expression is printed.
 use Rattle.std.specs.Prelude.{◌≡◌, [], ℕ, List, codes}
 use Rattle.std.specs.List.{flat_map}
-use Rattle.cargo_lock_licenses.specs.Grammar.{IsExpression, ReadsAs, Tree}
+use Rattle.cargo_lock_licenses.specs.Grammar.{IsExpression, Tree}
 use Rattle.cargo_lock_licenses.specs.Tokens.{TokenData, And, Close, Id, Open, Or, Other, With, tokens}
 
 -- a token with the spaces around it

@@ -1,5 +1,5 @@
 -- The tokens of a licence expression, and those of a text.
-use Rattle.std.specs.Prelude.{◌==◌, ◌||◌, [], ◌∷◌, ◌++◌, ℕ, Bool, List, bytes_eq, codes}
+use Rattle.std.specs.Prelude.{◌==◌, ◌||◌, [], ◌∷◌, ℕ, Bool, List, bytes_eq, codes}
 use Rattle.std.specs.Prelude.{if◌then◌else◌, string_bytes}
 use Rattle.std.specs.Char.{is_ascii_alphanumeric, is_ascii_whitespace}
 use Rattle.std.specs.List.{flat_map}

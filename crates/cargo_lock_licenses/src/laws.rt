@@ -1,7 +1,15 @@
-//! Laws of licence expressions, each the contract of a function without a body.
+//! Laws of licence expressions and of what is reported, each the contract of a function without a body.
 
 ghost use Rattle.cargo_lock_licenses.specs.Allowed.{MoreAllowMore};
+ghost use Rattle.cargo_lock_licenses.specs.Grammar.{OneReading};
+ghost use Rattle.cargo_lock_licenses.specs.Lines.{EachIsOneLine};
 ghost use Rattle.cargo_lock_licenses.specs.Printed.{PrintedReadsAgain};
+ghost use Rattle.cargo_lock_licenses.specs.Verdicts.{MoreAddNoFinding};
+
+/// No tokens read as two expressions.
+pub fn one_reading()
+    ensures { OneReading }
+{}
 
 /// An expression that is printed and read again is the same one.
 pub fn printed_reads_again()
@@ -11,4 +19,14 @@ pub fn printed_reads_again()
 /// More allowed terms forbid no expression.
 pub fn more_allow_more()
     ensures { MoreAllowMore }
+{}
+
+/// More allowed terms make no finding.
+pub fn more_add_no_finding()
+    ensures { MoreAddNoFinding }
+{}
+
+/// What is said of each package is one line, whatever names, sources, paths and texts hold.
+pub fn each_is_one_line()
+    ensures { EachIsOneLine }
 {}

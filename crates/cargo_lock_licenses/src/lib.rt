@@ -4,7 +4,13 @@
 mod evaluation;
 pub mod expression;
 pub mod laws;
+pub mod report;
+pub mod subject;
 mod token;
 mod tokens;
+pub mod verdict;
 
 pub use crate::expression::Expression;
+pub use crate::report::Report;
+pub use crate::subject::{Manifest, Subject};
+pub use crate::verdict::Verdict;

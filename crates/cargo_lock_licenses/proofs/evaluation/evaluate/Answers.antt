@@ -1,4 +1,4 @@
-use Rattle.std.proofs.Common.{◌≡◌, Bool, List, ℕ, map, string_bytes, subst, true, false}
+use Rattle.std.proofs.Common.{List, ℕ, map, string_bytes, subst, true, false}
 use Rattle.cargo_lock_licenses.specs.Evaluation.{Steps, State, state_of, step}
 use Rattle.cargo_lock_licenses.specs.Tokens.{token_of}
 use Rattle.cargo_lock_licenses.proofs.Running.{run-fits, run-refused}

@@ -1,4 +1,4 @@
-use Rattle.std.proofs.Common.{◌≡◌, ◌∙◌, ◌++◌, List, [], ap, append-nil, arith, drop, length, map, string_bytes, sym}
+use Rattle.std.proofs.Common.{◌≡◌, ◌∙◌, ◌++◌, List, [], ap, append-nil, arith, drop, map, string_bytes, sym}
 use Rattle.std.proofs.lemmas.List.{drop_all}
 use Rattle.cargo_lock_licenses.specs.Tokens.{TokenData, token_of, word_tokens}
 use Rattle.cargo_lock_licenses.specs.Tokens as spec

@@ -1,6 +1,6 @@
-use Rattle.std.proofs.Common.{◌≡◌, ◌∙◌, [], Bool, List, ap, false, is_some, map, subst, sym, true}
+use Rattle.std.proofs.Common.{◌≡◌, ◌∙◌, [], List, ap, false, is_some, map, subst, sym, true}
 use Rattle.cargo_lock_licenses.specs.Evaluation.{evaluated}
-use Rattle.cargo_lock_licenses.specs.Grammar.{ReadsAs, Tree}
+use Rattle.cargo_lock_licenses.specs.Grammar.{ReadsAs}
 use Rattle.cargo_lock_licenses.specs.Tokens.{TokenData, token_of, tokens}
 use Rattle.cargo_lock_licenses.proofs.Readings.{no-tree, tree-of}
 use Rattle.cargo_lock_licenses.proofs.expression.Expression.parse.Goals as goal

@@ -1,0 +1,36 @@
+-- Packages and what their manifests say of licences.
+use Rattle.std.specs.Prelude.{◌&&◌, ℕ, Bool, List, Option, bytes_eq, is_some, map, option_map}
+use Rattle.std.specs.Prelude.{string_bytes}
+use Rattle.std.specs.Option.{option_eq}
+use Rattle.cargo_lock_parts.specs.Identity.{PackageData}
+use Rattle.cargo_lock_licenses.specs.declared.subject.Manifest.{Manifest}
+use Rattle.cargo_lock_licenses.specs.declared.subject.Subject.{Subject}
+
+-- what a manifest has in `license` and in `license-file`
+pub record ManifestData : Type 0 where
+  pub license : Option (List ℕ)
+  pub file : Option (List ℕ)
+
+-- the data of a manifest of the program
+abbrev pub manifest_of : Manifest → ManifestData
+manifest_of m = record {
+  license = option_map string_bytes m.license;
+  file = option_map string_bytes m.license_file;
+}
+
+-- both manifests say the same
+abbrev pub is_same : ManifestData → ManifestData → Bool
+is_same a b = option_eq bytes_eq a.license b.license && option_eq bytes_eq a.file b.file
+
+-- a package, and what its manifests say
+pub record SubjectData : Type 0 where
+  pub content : PackageData
+  pub manifests : List ManifestData
+
+-- the data of a subject of the program
+abbrev pub subject_of : Subject → SubjectData
+subject_of s = record { content = s.«package».now; manifests = map manifest_of s.manifests.items }
+
+-- the package has a source
+abbrev pub has_source : SubjectData → Bool
+has_source s = is_some s.content.source
