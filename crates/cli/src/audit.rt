@@ -11,7 +11,7 @@ use crate::load::named_lockfile;
 use crate::texts;
 use crate::verify::status_of;
 use cargo_lock::package::Package;
-use cargo_lock_audit::{Advisory, AdvisoryFile, Report, database};
+use cargo_lock_audit::{Advisory, AdvisoryFile, Report, database_of};
 use clap::{Arg, ArgMatches, Command};
 use cli_folders::{advisory_files, database_fault};
 use cli_support::output::put;
@@ -113,7 +113,7 @@ fn advisories_about<R: Files + AllocGlobal>(
 fn advisories_of(alloc: Global, files: Vec<AdvisoryFile>) -> Result<Vec<Advisory>, Fault>
     ensures { IfOk result (λ advisories. AreInOrder advisories.items) }
 {
-    match database(alloc, files) {
+    match database_of(alloc, files) {
         Ok(advisories) => Ok(advisories),
         Err(fault) => Err(database_fault(alloc, &fault)),
     }
