@@ -157,8 +157,11 @@ fn cached_with<'a, R: Files + AllocGlobal>(
 {
     let mut subjects = Vec::with_capacity(rt.alloc(), packages.len())?;
     for package in packages {
-        let manifests = entries.manifests_of(rt, package)?;
-        subjects.push(Subject { package, manifests })?;
+        let unpacked = entries.manifests_of(rt, package)?;
+        subjects.push(Subject {
+            package,
+            manifests: unpacked,
+        })?;
     }
     Ok(subjects)
 }
