@@ -1,5 +1,6 @@
 -- What an expression is worth, token by token. No public contract cites these definitions.
-use Rattle.std.specs.Prelude.{◌≡◌, ◌&&◌, ◌||◌, [], ◌∷◌, ℕ, Bool, false, true, List, Option, Some, None}
+use Rattle.std.specs.Prelude.{◌≡◌, ◌&&◌, ◌||◌, [], ◌∷◌, ℕ, Bool, false, true, List}
+use Rattle.std.specs.Prelude.{Option, Some, None}
 use Rattle.std.specs.Prelude.{bytes_eq, if◌then◌else◌, length, nat_lt, option_and_then, option_map}
 use Rattle.std.specs.Prelude.{string_bytes}
 use Rattle.std.specs.List.{list_any}
@@ -10,8 +11,8 @@ use Rattle.cargo_lock_licenses.specs.declared.evaluation.Level.{Level}
 use Rattle.cargo_lock_licenses.specs.Grammar.{with_exception}
 use Rattle.cargo_lock_licenses.specs.Tokens.{TokenData, And, Close, Id, Open, Or, Other, With}
 
--- what was read last: an operator, a bracket that opens, or nothing; a name; a name and `WITH`; or a
--- term or a bracket that has ended, and whether it is true
+-- what was read last: an operator, a bracket that opens, or nothing; a name; a name and `WITH`; or
+-- a term or a bracket that has ended, and whether it is true
 pub data LastData : Type 0 where
   Operator : LastData
   Name : List ℕ → LastData

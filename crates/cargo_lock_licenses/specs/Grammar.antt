@@ -2,8 +2,8 @@
 use Rattle.std.specs.Prelude.{◌≡◌, [], ◌∷◌, ◌++◌, ℕ, suc, List, codes}
 use Rattle.cargo_lock_licenses.specs.Tokens.{TokenData, And, Close, Id, Open, Or, With, tokens}
 
--- an expression: a term, which is a name or `NAME WITH NAME`, two expressions of which both hold, or
--- two of which one holds
+-- an expression: a term, which is a name or `NAME WITH NAME`, two expressions of which both hold,
+-- or two of which one holds
 pub data Tree : Type 0 where
   Term : List ℕ → Tree
   Both : Tree → Tree → Tree
@@ -25,8 +25,8 @@ pub data Part : Type 0 where
 --   single := NAME | NAME "WITH" NAME | "(" alternatives ")"
 pub data Reads : ℕ → Part → List TokenData → Tree → Type 0 where
   name : (n : ℕ) (id : List ℕ) → Reads n Single (Id id ∷ []) (Term id)
-  exception : (n : ℕ) (id name : List ℕ)
-      → Reads n Single (Id id ∷ With ∷ Id name ∷ []) (Term (with_exception id name))
+  exception : (n : ℕ) (id other : List ℕ)
+      → Reads n Single (Id id ∷ With ∷ Id other ∷ []) (Term (with_exception id other))
   bracket : (n : ℕ) (ts : List TokenData) (e : Tree) → Reads n Alternatives ts e
       → Reads (suc n) Single (Open ∷ (ts ++ Close ∷ [])) e
   single : (n : ℕ) (ts : List TokenData) (e : Tree) → Reads n Single ts e → Reads n Joined ts e

@@ -2,7 +2,8 @@
 use Rattle.std.specs.Prelude.{◌≡◌, [], ℕ, List, codes}
 use Rattle.std.specs.List.{flat_map}
 use Rattle.cargo_lock_licenses.specs.Grammar.{IsExpression, Tree}
-use Rattle.cargo_lock_licenses.specs.Tokens.{TokenData, And, Close, Id, Open, Or, Other, With, tokens}
+use Rattle.cargo_lock_licenses.specs.Tokens.{TokenData, And, Close, Id, Open, Or, Other, With}
+use Rattle.cargo_lock_licenses.specs.Tokens.{tokens}
 
 -- a token with the spaces around it
 abbrev pub token_text : TokenData → List ℕ

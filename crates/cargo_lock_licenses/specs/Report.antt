@@ -11,5 +11,6 @@ AreVerdicts allowed subjects = AllZip (IsVerdict allowed) (filter has_source sub
 -- what is said of a subject is added, if its package has a source
 abbrev pub AddsVerdict : List (List ℕ) → SubjectData → Bool → List VerdictData → List VerdictData
     → Type 0
-AddsVerdict allowed s true old new = (v : VerdictData) × IsVerdict allowed s v × (new ≡ old ++ v ∷ [])
+AddsVerdict allowed s true old new =
+    (v : VerdictData) × IsVerdict allowed s v × (new ≡ old ++ v ∷ [])
 AddsVerdict allowed s false old new = new ≡ old

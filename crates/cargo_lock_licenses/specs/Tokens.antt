@@ -6,8 +6,8 @@ use Rattle.std.specs.List.{flat_map}
 use Rattle.cargo_lock_licenses.specs.declared.token.Token.{Token}
 use Rattle.cargo_lock_licenses.specs.declared.token.Token.TheVariants as token
 
--- a token: a bracket, an operator, the name of a licence or of an exception, or a byte that is in no
--- expression
+-- a token: a bracket, an operator, the name of a licence or of an exception, or a byte that is in
+-- no expression
 pub data TokenData : Type 0 where
   Open : TokenData
   Close : TokenData

@@ -1,6 +1,6 @@
 -- What is said of the licence of a package.
-use Rattle.std.specs.Prelude.{◌≡◌, ◌≢◌, ◌⊎◌, [], ◌∷◌, ℕ, Bool, false, true, List, Option, None, Some}
-use Rattle.std.specs.Prelude.{All, string_bytes}
+use Rattle.std.specs.Prelude.{◌≡◌, ◌≢◌, ◌⊎◌, [], ◌∷◌, ℕ, Bool, false, true, List, All}
+use Rattle.std.specs.Prelude.{Option, None, Some, string_bytes}
 use Rattle.std.specs.List.{Contains}
 use Rattle.cargo_lock_parts.specs.Identity.{PackageData}
 use Rattle.cargo_lock_licenses.specs.declared.verdict.Verdict.{Verdict}

@@ -26,8 +26,8 @@ pub struct Expression {
 impl Expression {
     /// The expression in a text, or `None` if the text is none. A name is a run of ASCII letters,
     /// digits and `-.+:`, as long as possible; operators are in upper case; white space of ASCII
-    /// (space, tab, newline, carriage return, form feed) may be between tokens; at most 100 brackets
-    /// are in one another. Fails when out of memory.
+    /// (space, tab, newline, carriage return, form feed) may be between tokens; at most 100
+    /// brackets are in one another. Fails when out of memory.
     ///
     /// ```
     /// let expression = Expression::parse(alloc, "MIT OR Apache-2.0")?;

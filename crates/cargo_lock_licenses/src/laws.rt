@@ -1,4 +1,5 @@
-//! Laws of licence expressions and of what is reported, each the contract of a function without a body.
+//! Laws of licence expressions and of what is reported, each the contract of a function without a
+//! body.
 
 ghost use Rattle.cargo_lock_licenses.specs.Allowed.{MoreAllowMore};
 ghost use Rattle.cargo_lock_licenses.specs.Grammar.{OneReading};

@@ -1,6 +1,7 @@
 //! The tokens of a text.
 
-ghost use Rattle.std.specs.Prelude.{◌≡◌, ◌++◌, ◌∷◌, [], IfOk, OnOk, if◌then◌else◌, map, string_bytes};
+ghost use Rattle.std.specs.Prelude.{◌≡◌, ◌++◌, ◌∷◌, [], IfOk, OnOk, if◌then◌else◌, map};
+ghost use Rattle.std.specs.Prelude.{string_bytes};
 ghost use Rattle.cargo_lock_licenses.specs.Tokens.{is_letter, sign_tokens, token_of, word_tokens};
 ghost use Rattle.cargo_lock_licenses.specs.Tokens as spec;
 
@@ -29,7 +30,8 @@ fn put_byte(
     byte: u8,
 ) -> Result<(), AllocError>
     ensures found { OnOk result (map token_of found.new.items ≡ map token_of found.old.items
-        ++ (if is_letter byte then [] else word_tokens (string_bytes word.old) ++ sign_tokens byte)) }
+        ++ (if is_letter byte then []
+        else word_tokens (string_bytes word.old) ++ sign_tokens byte)) }
     ensures word { OnOk result (string_bytes word.new
         ≡ (if is_letter byte then string_bytes word.old ++ byte ∷ [] else [])) }
 {
