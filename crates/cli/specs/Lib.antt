@@ -1,4 +1,3 @@
-pub mod Audit
 pub mod Bom
 pub mod Json
 pub mod Check

@@ -22,8 +22,7 @@ pub fn of_fault<S: AsStr>(words: &[S]) -> ExitCode
 fn is_own(word: &str) -> bool
     ensures { result ≡ list_any (bytes_eq word.now) own_commands }
 {
-    word == "audit"
-        || word == "bom"
+    word == "bom"
         || word == "check"
         || word == "diff"
         || word == "duplicates"
