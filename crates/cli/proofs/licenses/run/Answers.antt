@@ -1,0 +1,5 @@
+use Rattle.std.proofs.lemmas.Result.{IfOk-weaker}
+use Rattle.cli.proofs.licenses.run.Goals as goal
+
+pub returns : goal.returns
+returns g c = IfOk-weaker c.print_licenses.result _ _ (λ status h. (c.in_ok-lockfile.lockfile, c.in_ok-lockfile.ensures, h)) c.print_licenses.ensures
