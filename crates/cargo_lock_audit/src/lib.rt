@@ -1,0 +1,6 @@
+//! Which advisories of a database concern which packages of a lockfile.
+#![tactic(auto)]
+
+pub mod requirement;
+
+pub use crate::requirement::{Bound, Relation, Requirement};
