@@ -2,5 +2,6 @@
 #![tactic(auto)]
 
 pub mod requirement;
+pub mod requirement_reading;
 
 pub use crate::requirement::{Bound, Relation, Requirement};

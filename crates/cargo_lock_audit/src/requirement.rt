@@ -1,17 +1,10 @@
 //! Requirements on versions, as advisories have them, and which versions lie in one.
 
-ghost use Rattle.std.specs.Prelude.{◌≡◌, ◌↔◌, IfOk, IsTrue, Ok, map, nat_lt, option_map};
-ghost use Rattle.std.specs.List.{list_all};
-ghost use Rattle.semver.specs.Identifiers.{comparator_view, parts_of, pre_text};
-ghost use Rattle.semver.specs.Parse.{memory_error, req_of};
-ghost use Rattle.cargo_lock_parts.specs.Error.{Reads};
-ghost use Rattle.cargo_lock_audit.specs.Requirement.{meets, lies_in};
+ghost use Rattle.std.specs.Prelude.{◌≡◌};
+ghost use Rattle.semver.specs.Identifiers.{parts_of};
+ghost use Rattle.cargo_lock_audit.specs.Requirement.{lies_in, meets};
 
-
-use cargo_lock_parts::error::{Error, Result};
-use semver::{BuildMetadata, Comparator, Op, Prerelease, Version, VersionReq};
-use shown::Quoted;
-use std::alloc::{AllocError, Global};
+use semver::Version;
 use std::cmp::Ordering;
 use std::marker::Model;
 
