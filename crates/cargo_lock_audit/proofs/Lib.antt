@@ -1,1 +1,6 @@
+mod Exact
+mod Lists
+mod OneLine
+mod Ordered
+mod Strips
 mod Walk

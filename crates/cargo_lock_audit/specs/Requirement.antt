@@ -3,16 +3,10 @@
 use Rattle.std.specs.Prelude.{◌&&◌, ℕ, Bool, List, not}
 use Rattle.std.specs.List.{list_all}
 use Rattle.std.specs.Ordering.{is_gt, is_lt}
-use Rattle.std.specs.declared.cmp.Ordering.{Ordering}
 use Rattle.semver.specs.Parse.{Parts}
-use Rattle.std.specs.Ordering.{nat_cmp, on, then_cmp}
-use Rattle.semver.specs.Order.{pre_cmp}
+use Rattle.cargo_lock_diff.specs.Change.{precedence_cmp}
 use Rattle.cargo_lock_audit.specs.declared.requirement.Relation.{Relation}
 use Rattle.cargo_lock_audit.specs.declared.requirement.Relation.TheVariants.{Exact, Greater, GreaterEq, Less, LessEq}
-
-abbrev pub precedence_cmp : Parts → Parts → Ordering
-precedence_cmp = then_cmp (on (λ v. v.0) nat_cmp) (then_cmp (on (λ v. v.1) nat_cmp)
-    (then_cmp (on (λ v. v.2) nat_cmp) (on (λ v. v.3) pre_cmp)))
 
 -- a bound: how versions that meet it relate to its version
 pub record BoundData : Type 0 where

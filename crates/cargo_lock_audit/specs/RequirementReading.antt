@@ -112,6 +112,6 @@ bounds_of (c ∷ []) = bounds_alone c
 bounds_of (c ∷ d ∷ rest) = all_bounds (c ∷ d ∷ rest)
 
 -- the requirement that a text is
-abbrev pub requirement_of : List ℕ → Option RequirementData
+unfoldable pub requirement_of : List ℕ → Option RequirementData
 requirement_of text = option_map (λ bounds. record { text = text; bounds = bounds })
     (option_and_then bounds_of (result_ok (req_of text)))

@@ -27,6 +27,7 @@ impl Requirement {
     /// ```
     /// let requirement = Requirement::parse(alloc, ">= 0.6.14, < 1.0.0")?;
     /// ```
+    #[tactic(auto, unfolding(crate::specs::RequirementReading::requirement_of))]
     pub fn parse(alloc: Global, text: &str) -> Result<Requirement>
         ensures { Reads (λ r. r) result (requirement_of text.now) }
     {
