@@ -1,6 +1,5 @@
 mod Exact
 mod Lists
 mod OneLine
-mod Ordered
-mod Strips
+pub mod Strips
 mod Walk

@@ -35,6 +35,7 @@ line-prints f = join (either_text f.is_denied (literal (codes "!") refl) (litera
     (join (shown-prints Plain f.advisory.id) (words (codes ": ") refl (said-prints f.advisory f.advisory.informational))))))
 
 unmet-prints : (id : List ℕ) → Prints (unmet_line id)
+unfolding unmet_line
 unmet-prints id = words (codes "- ") refl (join (shown-prints Plain id) (literal (codes ": nothing to ignore") refl))
 
 pub lines-are-printable : LinesArePrintable

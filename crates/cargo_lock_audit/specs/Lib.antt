@@ -1,6 +1,5 @@
 pub mod Advisory
 pub mod AdvisoryReading
-pub mod Database
 pub mod Findings
 pub mod FrontMatter
 pub mod Lines

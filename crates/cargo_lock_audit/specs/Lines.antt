@@ -53,7 +53,7 @@ finding_line f = mark_text f.is_denied ++ (codes " " ++ (package_text f.content
     ++ (codes ": " ++ advisory_text f.advisory)))
 
 -- the line of an id that is ignored, and of which no package has the advisory
-abbrev pub unmet_line : List ℕ → List ℕ
+unfoldable pub unmet_line : List ℕ → List ℕ
 unmet_line id = codes "- " ++ (shown Plain id ++ codes ": nothing to ignore")
 
 -- lines, each with its newline

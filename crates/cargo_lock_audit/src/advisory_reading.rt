@@ -15,7 +15,7 @@ ghost use Rattle.cargo_lock_audit.specs.AdvisoryReading.{requirements_in, source
 ghost use Rattle.cargo_lock_audit.specs.AdvisoryReading.{assembled, kinds_of, names_of};
 
 use crate::advisory::Advisory;
-use crate::front_matter::{body_of, front_length, joined, lines_from_first, title_in};
+use crate::front_matter::{body_of, front_length, front_of, lines_from_first, title_after};
 use crate::requirement::Requirement;
 use cargo_lock_parts::error::{Error, Result};
 use cargo_lock_parts::package::SourceId;
@@ -47,8 +47,8 @@ impl Advisory {
         let lines = lines_from_first(alloc, text)?;
         let body = body_of(alloc, &lines)?;
         let length = front_length(alloc, body)?;
-        let title = title_in(alloc, &body[length + 1..])?;
-        let front = joined(alloc, &body[..length])?;
+        let title = title_after(alloc, body, length)?;
+        let front = front_of(alloc, body, length)?;
         let table = table_of(alloc, &front)?;
         advisory_at(alloc, &table, title)
     }

@@ -1,7 +1,7 @@
 //! The file of an advisory as lines: its front matter, and its title.
 
 ghost use Rattle.std.specs.Prelude.{◌≡◌, ◌<◌, ◌++◌, IfOk, IfSome, OnOk, length, option_map};
-ghost use Rattle.std.specs.Prelude.{position, string_bytes};
+ghost use Rattle.std.specs.Prelude.{◌+◌, drop, position, string_bytes, take};
 ghost use Rattle.std.specs.Str.{trim_start};
 ghost use Rattle.std.specs.Str.Lines.{lines};
 ghost use Rattle.cargo_lock_parts.specs.Error.{IsParseOrMemory, Reads};
@@ -79,8 +79,31 @@ fn is_fence(line: &str) -> bool
     line.starts_with("```")
 }
 
-/// The title, from the first line that is not empty.
-pub(crate) fn title_in<'a>(alloc: Global, lines: &[&'a str]) -> Result<&'a str>
+/// The title after the front matter.
+#[tactic(auto, using(crate::proofs::Strips::drop_lines))]
+pub(crate) fn title_after<'a>(alloc: Global, body: &[&'a str], count: usize) -> Result<&'a str>
+    requires { count < length body.now }
+    ensures { Reads (λ t. t.now) result (title_in (drop (count + 1) (lines_at body.now))) }
+{
+    title_in(alloc, &body[count + 1..])
+}
+
+/// The text of the front matter.
+#[tactic(auto, using(crate::proofs::Strips::take_lines))]
+pub(crate) fn front_of(
+    alloc: Global,
+    body: &[&str],
+    count: usize,
+) -> std::result::Result<String, AllocError>
+    requires { count < length body.now }
+    ensures { IfOk result
+        (λ text. string_bytes text ≡ joined (take count (lines_at body.now))) }
+{
+    joined(alloc, &body[..count])
+}
+
+// The title, from the first line that is not empty.
+fn title_in<'a>(alloc: Global, lines: &[&'a str]) -> Result<&'a str>
     ensures { Reads (λ t. t.now) result (title_in (lines_at lines.now)) }
 {
     for line in lines {
@@ -113,8 +136,8 @@ fn title_of(line: &str) -> Option<&str>
     line.strip_prefix("# ")
 }
 
-/// The text of some lines, each with a newline.
-pub(crate) fn joined(alloc: Global, lines: &[&str]) -> std::result::Result<String, AllocError>
+// The text of some lines, each with a newline.
+fn joined(alloc: Global, lines: &[&str]) -> std::result::Result<String, AllocError>
     ensures { IfOk result (λ text. string_bytes text ≡ joined (lines_at lines.now)) }
 {
     let mut text = String::new(alloc);

@@ -3,7 +3,6 @@
 
 pub mod advisory;
 mod advisory_reading;
-pub mod database;
 pub mod finding;
 mod front_matter;
 pub mod laws;
@@ -13,7 +12,6 @@ pub mod requirement;
 mod requirement_reading;
 
 pub use crate::advisory::Advisory;
-pub use crate::database::{AdvisoryFile, DatabaseFault, database_of};
 pub use crate::finding::Finding;
 pub use crate::pair::{Pair, pairs};
 pub use crate::report::{Report, Unmet};

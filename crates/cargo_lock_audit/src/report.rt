@@ -44,6 +44,7 @@ impl fmt::Display for Unmet<'_> {
 
     ghost output = { λ unmet. Some (unmet_line (id_of unmet)) };
 
+    #[tactic(auto, unfolding(crate::specs::Lines::unmet_line))]
     fn fmt<W: fmt::Write>(&self, f: &mut fmt::Formatter<W>) -> fmt::Result {
         let Unmet(id) = *self;
         let id = Shown(id);
