@@ -212,7 +212,7 @@ impl fmt::Display for Report<'_, '_, '_> {
     ghost use Rattle.std.specs.Prelude.{Some, map};
     ghost use Rattle.cargo_lock_audit.specs.Findings.{finding_of, id_of};
     ghost use Rattle.cargo_lock_audit.specs.Lines.{report_text};
-    
+
     ghost output = { λ report. Some (report_text (map finding_of report.findings.items)
         (map id_of report.unmet.items)) };
 

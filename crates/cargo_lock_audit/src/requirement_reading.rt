@@ -12,8 +12,9 @@ ghost use Rattle.cargo_lock_audit.specs.RequirementReading.{requirement_of, tild
 
 use crate::requirement::{Bound, Relation, Requirement};
 use cargo_lock_parts::error::{Error, Result};
-use semver::{BuildMetadata, Comparator, Op, Prerelease, Version, VersionReq};
-use semver::Error as VersionError;
+use semver::{
+    BuildMetadata, Comparator, Error as VersionError, Op, Prerelease, Version, VersionReq,
+};
 use shown::Quoted;
 use std::alloc::{AllocError, Global};
 
