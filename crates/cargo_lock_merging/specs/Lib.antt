@@ -27,3 +27,5 @@ pub mod Triples
 pub mod Numbers
 pub mod Disputes
 pub mod Conflicts
+pub mod ByPlaces
+pub mod Listings
