@@ -9,3 +9,4 @@ pub mod Referred
 pub mod MetadataMerging
 pub mod LockfileMerging
 pub mod ByPlaces
+pub mod Once

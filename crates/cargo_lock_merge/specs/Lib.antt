@@ -10,3 +10,4 @@ pub mod OwnMetadata
 pub mod Referring
 pub mod MergedLockfiles
 pub mod ByPlaces
+pub mod Once
