@@ -29,3 +29,4 @@ pub mod Disputes
 pub mod Conflicts
 pub mod ByPlaces
 pub mod Listings
+pub mod Origins

@@ -15,6 +15,8 @@ ghost use Rattle.cargo_lock_merging.specs.LawsOfMerges.{MergeIsUnique, MergeOfLi
 ghost use Rattle.cargo_lock_merging.specs.LawsOfMerges.{MergeOfListsIsStable, MergeWithBase};
 ghost use Rattle.cargo_lock_merging.specs.LawsOfMerges.{MergeWithBaseAgrees, MergeWithItself};
 ghost use Rattle.cargo_lock_merging.specs.LawsOfMerges.{PlacedAreLockfile, UnmovedAreOfSides};
+ghost use Rattle.cargo_lock_merging.specs.Origins.{ChecksumsAreOfSides, MergeOfListsWithBase};
+ghost use Rattle.cargo_lock_merging.specs.Origins.{MergeOfListsWithItself};
 
 /// A merge by numbers of places is a merge by the places, where no two places have one number.
 pub fn numbers_are_of_places()
@@ -160,4 +162,19 @@ pub fn merge_of_lists_is_symmetric()
 /// Lists of packages at their places are so where the sides are exchanged.
 pub fn listings_are_symmetric()
     ensures { ListingsAreSymmetric }
+{}
+
+/// Each merged checksum is that of a side's package of the same identity.
+pub fn checksums_are_of_sides()
+    ensures { ChecksumsAreOfSides }
+{}
+
+/// The same as `merge_with_base`, of lists of packages.
+pub fn merge_of_lists_with_base()
+    ensures { MergeOfListsWithBase }
+{}
+
+/// The same as `merge_with_itself`, of lists of packages.
+pub fn merge_of_lists_with_itself()
+    ensures { MergeOfListsWithItself }
 {}
