@@ -1,0 +1,121 @@
+-- Elements of lists, and tests of them.
+use Rattle.std.proofs.Common.{◌≡◌, ◌⊎◌, ◌&&◌, ◌||◌, ℕ, Bool, true, false, true≢false, List, [], ◌∷◌, map, refl, ap, sym, ◌∙◌, inl, inr, subst, arith}
+use Rattle.std.specs.List.{Contains, flat_map, list_all, list_any}
+use Rattle.std.proofs.lemmas.List.Elements.{Contains-append_cases, Contains-append_left, Contains-append_right, Contains-push, Contains-push_cases}
+
+-- ---- tests
+
+pub and-left : (a b : Bool) → (a && b) ≡ true → a ≡ true
+and-left true b e = refl
+and-left false b e = e
+
+pub and-right : (a b : Bool) → (a && b) ≡ true → b ≡ true
+and-right true b e = e
+and-right false b e = absurd (true≢false (sym e))
+
+pub and-both : (a b : Bool) → a ≡ true → b ≡ true → (a && b) ≡ true
+and-both true b e f = f
+and-both false b e f = e
+
+pub or-left : (a b : Bool) → (a || b) ≡ false → a ≡ false
+or-left true b e = e
+or-left false b e = refl
+
+pub or-right : (a b : Bool) → (a || b) ≡ false → b ≡ false
+or-right true b e = absurd (true≢false e)
+or-right false b e = e
+
+pub or-neither : (a b : Bool) → a ≡ false → b ≡ false → (a || b) ≡ false
+or-neither true b e f = e
+or-neither false b e f = f
+
+pub is-false : (b : Bool) → (b ≡ true → ⊥) → b ≡ false
+is-false true h = absurd (h refl)
+is-false false h = refl
+
+pub not-both : (b : Bool) → b ≡ true → b ≡ false → ⊥
+not-both b t f = true≢false (sym t ∙ f)
+
+-- ---- elements
+
+pub no-element : {X : Type 0} (x : X) → ¬ Contains [] x
+no-element x h = let low = h.1 in absurd (omega (arith, low))
+
+pub cases : {X : Type 0} (y : X) (ys : List X) (x : X) → Contains (y ∷ ys) x → (y ≡ x) ⊎ Contains ys x
+cases y ys x h = elim (Contains-append_cases (y ∷ []) ys x h) [
+  | inl here ↦ elim (Contains-push_cases [] y x here) [
+    | inl none ↦ absurd (no-element x none)
+    | inr same ↦ inl same
+  ]
+  | inr there ↦ inr there
+]
+
+pub first : {X : Type 0} (y : X) (ys : List X) → Contains (y ∷ ys) y
+first y ys = Contains-append_left (y ∷ []) ys y (Contains-push [] y)
+
+pub later : {X : Type 0} (y : X) (ys : List X) (x : X) → Contains ys x → Contains (y ∷ ys) x
+later y ys x h = Contains-append_right (y ∷ []) ys x h
+
+pub only : {X : Type 0} (y x : X) → Contains (y ∷ []) x → y ≡ x
+only y x h = elim (cases y [] x h) [ inl same ↦ same | inr none ↦ absurd (no-element x none) ]
+
+pub in-flat : {X Y : Type 0} (f : X → List Y) (xs : List X) (x : X) (y : Y) → Contains xs x → Contains (f x) y
+    → Contains (flat_map f xs) y
+in-flat f [] x y h here = absurd (no-element x h)
+in-flat f (z ∷ zs) x y h here = elim (cases z zs x h) [
+  | inl same ↦ Contains-append_left (f z) (flat_map f zs) y (subst (λ w. Contains (f w) y) (sym same) here)
+  | inr there ↦ Contains-append_right (f z) (flat_map f zs) y (in-flat f zs x y there here)
+]
+
+pub from-flat : {X Y : Type 0} (f : X → List Y) (xs : List X) (y : Y) → Contains (flat_map f xs) y
+    → (x : X) × Contains xs x × Contains (f x) y
+from-flat f [] y h = absurd (no-element y h)
+from-flat f (x ∷ xs) y h = elim (Contains-append_cases (f x) (flat_map f xs) y h) [
+  | inl here ↦ (x, first x xs, here)
+  | inr there ↦ let (z, among, has) = from-flat f xs y there in (z, later x xs z among, has)
+]
+
+pub no-elements : {X : Type 0} (xs : List X) → ((x : X) → ¬ Contains xs x) → xs ≡ []
+no-elements [] h = refl
+no-elements (x ∷ xs) h = absurd (h x (first x xs))
+
+-- ---- tests of elements
+
+pub all-passes : {X : Type 0} (test : X → Bool) (xs : List X) → list_all test xs ≡ true → (x : X) → Contains xs x → test x ≡ true
+all-passes test [] e x h = absurd (no-element x h)
+all-passes test (y ∷ ys) e x h = elim (cases y ys x h) [
+  | inl same ↦ subst (λ z. test z ≡ true) same (and-left (test y) (list_all test ys) e)
+  | inr there ↦ all-passes test ys (and-right (test y) (list_all test ys) e) x there
+]
+
+pub passes-all : {X : Type 0} (test : X → Bool) (xs : List X) → ((x : X) → Contains xs x → test x ≡ true) → list_all test xs ≡ true
+passes-all test [] h = refl
+passes-all test (y ∷ ys) h = and-both (test y) (list_all test ys) (h y (first y ys))
+    (passes-all test ys (λ x there. h x (later y ys x there)))
+
+pub any-none : {X : Type 0} (test : X → Bool) (xs : List X) → list_any test xs ≡ false → (x : X) → Contains xs x → test x ≡ false
+any-none test [] e x h = absurd (no-element x h)
+any-none test (y ∷ ys) e x h = elim (cases y ys x h) [
+  | inl same ↦ subst (λ z. test z ≡ false) same (or-left (test y) (list_any test ys) e)
+  | inr there ↦ any-none test ys (or-right (test y) (list_any test ys) e) x there
+]
+
+pub none-any : {X : Type 0} (test : X → Bool) (xs : List X) → ((x : X) → Contains xs x → test x ≡ false) → list_any test xs ≡ false
+none-any test [] h = refl
+none-any test (y ∷ ys) h = or-neither (test y) (list_any test ys) (h y (first y ys))
+    (none-any test ys (λ x there. h x (later y ys x there)))
+
+pub any-one : {X : Type 0} (test : X → Bool) (xs : List X) → list_any test xs ≡ true → (x : X) × Contains xs x × (test x ≡ true)
+any-one test [] e = absurd (true≢false (sym e))
+any-one test (y ∷ ys) e = by (test y) refl (any-one test ys)
+  where
+    by : (b : Bool) → test y ≡ b → (list_any test ys ≡ true → (x : _) × Contains ys x × (test x ≡ true))
+        → (x : _) × Contains (y ∷ ys) x × (test x ≡ true)
+    by true is rest = (y, first y ys, is)
+    by false is rest = let (x, there, passes) = rest (subst (λ (b : Bool). (b || list_any test ys) ≡ true) is e) in
+        (x, later y ys x there, passes)
+
+-- a test of what f gives
+pub any-map : {X Y : Type 0} (f : X → Y) (test : Y → Bool) (xs : List X) → list_any test (map f xs) ≡ list_any (λ x. test (f x)) xs
+any-map f test [] = refl
+any-map f test (x ∷ xs) = ap (λ b. test (f x) || b) (any-map f test xs)

@@ -1,0 +1,68 @@
+-- What an advisory says, and which packages it concerns.
+use Rattle.std.specs.Prelude.{◌≡◌, ◌⊎◌, ◌↔◌, ◌&&◌, ◌||◌, ℕ, Bool, false, true, List, Option, None, Some}
+use Rattle.std.specs.Prelude.{String, bytes_eq, codes, is_none, not, option_map, string_bytes}
+use Rattle.std.specs.List.{Contains, list_any}
+use Rattle.std.specs.declared.alloc.Global.{Global}
+use Rattle.semver.specs.Parse.{Parts}
+use Rattle.cargo_lock_parts.specs.Identity.{PackageData}
+use Rattle.cargo_lock_parts.specs.Source.{Source}
+use Rattle.cargo_lock_parts.specs.SourceShown.{is_default_registry}
+use Rattle.cargo_lock_audit.specs.Requirement.{BoundData, RequirementData, lies_in, meets}
+
+-- an advisory: its id, the name of its package, its title; its kind if it is no vulnerability; the
+-- source and the collection of its package, if they are said; whether it was withdrawn; and which
+-- versions are patched, or were never affected
+pub record AdvisoryData : Type 0 where
+  pub id : List ℕ
+  pub name : List ℕ
+  pub title : List ℕ
+  pub informational : Option (List ℕ)
+  pub source : Option Source
+  pub collection : Option (List ℕ)
+  pub is_withdrawn : Bool
+  pub patched : List RequirementData
+  pub unaffected : List RequirementData
+
+-- the source is that of crates.io, by its index in git or its sparse index
+abbrev pub is_crates_io : Option Source → Bool
+is_crates_io None = false
+is_crates_io (Some s) = is_default_registry s
+
+-- the collection is that of crates, or none is named
+abbrev pub is_of_collection : Option (List ℕ) → Bool
+is_of_collection None = true
+is_of_collection (Some c) = bytes_eq c (codes "crates")
+
+-- the advisory is about a crate of crates.io
+abbrev pub is_about_crates : AdvisoryData → Bool
+is_about_crates a = (is_none a.source || is_crates_io a.source) && is_of_collection a.collection
+
+-- the version lies in none of the requirements of the advisory
+abbrev pub affects : AdvisoryData → Parts → Bool
+affects a v = not (list_any (lies_in v) a.patched) && not (list_any (lies_in v) a.unaffected)
+
+-- the advisory concerns the package
+abbrev pub concerns : AdvisoryData → PackageData → Bool
+concerns a p = is_crates_io p.source && bytes_eq a.name p.name && is_about_crates a
+    && not a.is_withdrawn && affects a p.version
+
+-- ---- the same as relations
+
+-- the version meets each bound of the requirement
+abbrev pub LiesIn : Parts → RequirementData → Type 0
+LiesIn v r = (b : BoundData) → Contains r.bounds b → meets v b ≡ true
+
+-- the package is of crates.io, and the advisory is about it: it has the name, it names no other source
+-- and no other collection, it was not withdrawn, and the version lies in no requirement
+pub record Concerns (a : AdvisoryData) (p : PackageData) : Type 0 where
+  pub registry : is_crates_io p.source ≡ true
+  pub name : a.name ≡ p.name
+  pub source : (a.source ≡ None) ⊎ (is_crates_io a.source ≡ true)
+  pub collection : (a.collection ≡ None) ⊎ (a.collection ≡ Some (codes "crates"))
+  pub not_withdrawn : a.is_withdrawn ≡ false
+  pub not_patched : (r : RequirementData) → Contains a.patched r → ¬ LiesIn p.version r
+  pub affected : (r : RequirementData) → Contains a.unaffected r → ¬ LiesIn p.version r
+
+-- an advisory concerns a package exactly by that
+abbrev pub ConcernIsExact : Type 0
+ConcernIsExact = (a : AdvisoryData) (p : PackageData) → (concerns a p ≡ true) ↔ Concerns a p

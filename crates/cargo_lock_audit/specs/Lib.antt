@@ -1,0 +1,10 @@
+pub mod Advisory
+pub mod AdvisoryReading
+pub mod Database
+pub mod Findings
+pub mod FrontMatter
+pub mod Lines
+pub mod Pairs
+pub mod Requirement
+pub mod RequirementReading
+pub mod Texts

@@ -1,0 +1,83 @@
+-- The lines of what is found.
+use Rattle.std.specs.Prelude.{◌≡◌, ◌==◌, ◌++◌, [], ◌∷◌, ℕ, Bool, List, Option, None, Some, codes, encode_utf8, if◌then◌else◌, map}
+use Rattle.std.specs.List.{flat_map}
+use Rattle.std.specs.Str.{chars}
+use Rattle.std.specs.Str.Lines.{lines}
+use Rattle.shown.specs.Laws.{IsPrintable}
+use Rattle.shown.specs.Shown.{backquote, shown}
+use Rattle.shown.specs.declared.form.Form.TheVariants.{Plain, Quoted}
+use Rattle.cargo_lock_parts.specs.Ascii.{newline}
+use Rattle.cargo_lock_diff.specs.Change.{package_text}
+use Rattle.cargo_lock_audit.specs.Advisory.{AdvisoryData}
+use Rattle.cargo_lock_audit.specs.Findings.{FindingData}
+use Rattle.cargo_lock_audit.specs.Requirement.{RequirementData}
+
+-- `!` for what is denied, and `?` for the rest
+abbrev pub mark_text : Bool → List ℕ
+mark_text is_denied = if is_denied then codes "!" else codes "?"
+
+-- a character of a title: as between backquotes, but that the backquote is kept
+abbrev pub title_char : ℕ → List ℕ
+title_char c = if c == backquote then codes "`" else shown Quoted (encode_utf8 c)
+
+-- the characters of a title
+abbrev pub title_text : List ℕ → List ℕ
+title_text title = flat_map title_char (chars title)
+
+-- a requirement after ` or `
+abbrev pub or_text : RequirementData → List ℕ
+or_text r = codes " or " ++ shown Quoted r.text
+
+-- each requirement after ` or `
+abbrev pub or_texts : List RequirementData → List ℕ
+or_texts = flat_map or_text
+
+-- which versions are patched
+abbrev pub patched_text : List RequirementData → List ℕ
+patched_text [] = codes "no patched version"
+patched_text (r ∷ rest) = codes "patched " ++ (shown Quoted r.text ++ or_texts rest)
+
+-- what an advisory says, by its kind: that and its title, or else its title and which versions are
+-- patched
+abbrev pub said : AdvisoryData → Option (List ℕ) → List ℕ
+said a None = title_text a.title ++ (codes "; " ++ patched_text a.patched)
+said a (Some kind) = shown Plain kind ++ (codes ": " ++ title_text a.title)
+
+-- the id of an advisory, and what it says
+abbrev pub advisory_text : AdvisoryData → List ℕ
+advisory_text a = shown Plain a.id ++ (codes ": " ++ said a a.informational)
+
+-- the line of a finding
+abbrev pub finding_line : FindingData → List ℕ
+finding_line f = mark_text f.is_denied ++ (codes " " ++ (package_text f.content
+    ++ (codes ": " ++ advisory_text f.advisory)))
+
+-- the line of an id that is ignored, and of which no package has the advisory
+unfoldable pub unmet_line : List ℕ → List ℕ
+unmet_line id = codes "- " ++ (shown Plain id ++ codes ": nothing to ignore")
+
+-- lines, each with its newline
+abbrev pub text_of_lines : List (List ℕ) → List ℕ
+text_of_lines = flat_map (λ line. line ++ newline ∷ [])
+
+-- the line of each finding, with its newline
+abbrev pub findings_text : List FindingData → List ℕ
+findings_text = flat_map (λ f. finding_line f ++ newline ∷ [])
+
+-- the line of each id, with its newline
+abbrev pub unmet_text : List (List ℕ) → List ℕ
+unmet_text = flat_map (λ id. unmet_line id ++ newline ∷ [])
+
+-- the report: the line of each finding, and then of each id that was ignored in vain
+abbrev pub report_text : List FindingData → List (List ℕ) → List ℕ
+report_text found ids = findings_text found ++ unmet_text ids
+
+-- the report is exactly these lines, whatever names, ids, titles and requirements hold
+abbrev pub EachIsOneLine : Type 0
+EachIsOneLine = (found : List FindingData) (ids : List (List ℕ))
+    → lines (report_text found ids) ≡ map finding_line found ++ map unmet_line ids
+
+-- and each of them is printable ASCII
+abbrev pub LinesArePrintable : Type 0
+LinesArePrintable = ((f : FindingData) → IsPrintable (finding_line f))
+    × ((id : List ℕ) → IsPrintable (unmet_line id))

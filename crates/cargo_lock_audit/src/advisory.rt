@@ -1,0 +1,125 @@
+//! Advisories, and which packages one concerns.
+
+ghost use Rattle.std.specs.Prelude.{◌≡◌, option_map, string_bytes};
+ghost use Rattle.std.specs.List.{list_any};
+ghost use Rattle.semver.specs.Identifiers.{parts_of};
+ghost use Rattle.cargo_lock_audit.specs.Advisory.{affects, concerns, is_about_crates, is_crates_io};
+ghost use Rattle.cargo_lock_audit.specs.Advisory.{is_of_collection};
+ghost use Rattle.cargo_lock_audit.specs.Requirement.{lies_in};
+
+use crate::requirement::Requirement;
+use cargo_lock_parts::package::{Package, SourceId};
+use semver::Version;
+use std::marker::Model;
+
+/// What an advisory says, as far as it decides which packages the advisory concerns, and what is
+/// printed of it.
+#[derive(Drop)]
+pub struct Advisory {
+    /// Its id, as `RUSTSEC-2021-0003`.
+    pub id: String,
+
+    /// The name of the package that it is about.
+    pub package: String,
+
+    /// Its title.
+    pub title: String,
+
+    /// Its kind, as `unmaintained`, if it is no vulnerability.
+    pub informational: Option<String>,
+
+    /// Where its package comes from, if that is said. It is crates.io otherwise.
+    pub source: Option<SourceId>,
+
+    /// What its package is, if that is said. It is a crate otherwise, `crates`.
+    pub collection: Option<String>,
+
+    /// Whether it was withdrawn.
+    pub is_withdrawn: bool,
+
+    /// Which versions are patched.
+    pub patched: Vec<Requirement>,
+
+    /// Which versions were never affected.
+    pub unaffected: Vec<Requirement>,
+}
+
+impl Model for Advisory {
+    ghost use Rattle.std.specs.Prelude.{option_map, string_bytes};
+    ghost use Rattle.cargo_lock_audit.specs.Advisory.{AdvisoryData};
+
+    ghost Value = { AdvisoryData };
+
+    ghost view = { λ a. record {
+      id = string_bytes a.id;
+      name = string_bytes a.«package»;
+      title = string_bytes a.title;
+      informational = option_map string_bytes a.informational;
+      source = a.source;
+      collection = option_map string_bytes a.collection;
+      is_withdrawn = a.is_withdrawn;
+      patched = a.patched.items;
+      unaffected = a.unaffected.items;
+    } };
+}
+
+impl Advisory {
+    /// Whether the advisory concerns the package: both are about a crate of crates.io with one name,
+    /// the advisory was not withdrawn, and the version lies in none of its requirements.
+    ///
+    /// ```
+    /// let concerned = packages.iter().any(|package| advisory.concerns(package));
+    /// ```
+    pub fn concerns(&self, package: &Package) -> bool
+        ensures { result ≡ concerns self.now «package».now }
+    {
+        is_crates_io(&package.source)
+            && self.package.as_str() == package.name.as_str()
+            && self.is_about_crates()
+            && !self.is_withdrawn
+            && self.affects(&package.version)
+    }
+
+    // Whether it is about a crate of crates.io.
+    fn is_about_crates(&self) -> bool
+        ensures { result ≡ is_about_crates self.now }
+    {
+        (self.source.is_none() || is_crates_io(&self.source)) && is_of_crates(&self.collection)
+    }
+
+    // Whether the version is neither patched nor unaffected.
+    fn affects(&self, version: &Version) -> bool
+        ensures { result ≡ affects self.now (parts_of version.now) }
+    {
+        !is_in_one(&self.patched, version) && !is_in_one(&self.unaffected, version)
+    }
+}
+
+// Whether the source is that of crates.io.
+fn is_crates_io(source: &Option<SourceId>) -> bool
+    ensures { result ≡ is_crates_io source.now }
+{
+    match source {
+        Some(source) => source.is_default_registry(),
+        None => false,
+    }
+}
+
+// Whether the collection, if one is named, is that of crates.
+fn is_of_crates(collection: &Option<String>) -> bool
+    ensures { result ≡ is_of_collection (option_map string_bytes collection.now) }
+{
+    match collection {
+        Some(collection) => collection.as_str() == "crates",
+        None => true,
+    }
+}
+
+// Whether the version lies in one of the requirements.
+fn is_in_one(requirements: &[Requirement], version: &Version) -> bool
+    ensures { result ≡ list_any (lies_in (parts_of version.now)) requirements.now }
+{
+    requirements
+        .iter()
+        .any(|requirement| requirement.contains(version))
+}

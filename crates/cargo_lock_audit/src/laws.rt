@@ -1,0 +1,43 @@
+//! Laws of what is found, each the contract of a function without a body.
+
+ghost use Rattle.cargo_lock_audit.specs.Advisory.{ConcernIsExact};
+ghost use Rattle.cargo_lock_audit.specs.Findings.{FindingsAreExact, IgnoringLeavesOut};
+ghost use Rattle.cargo_lock_audit.specs.Findings.{NoneIfUnconcerned, NoneWithoutCratesIo};
+ghost use Rattle.cargo_lock_audit.specs.Lines.{EachIsOneLine, LinesArePrintable};
+
+/// An advisory concerns a package exactly if both are about a crate of crates.io with one name, the
+/// advisory was not withdrawn, and the version lies in none of its requirements.
+pub fn concern_is_exact()
+    ensures { ConcernIsExact }
+{}
+
+/// What is found is exactly each package with each advisory that concerns it and is not ignored.
+pub fn findings_are_exact()
+    ensures { FindingsAreExact }
+{}
+
+/// Nothing is found exactly if each advisory that concerns a package is ignored.
+pub fn none_if_unconcerned()
+    ensures { NoneIfUnconcerned }
+{}
+
+/// Nothing is found in a lockfile without packages of crates.io.
+pub fn none_without_crates_io()
+    ensures { NoneWithoutCratesIo }
+{}
+
+/// To ignore more advisories leaves out their findings, and changes nothing else.
+pub fn ignoring_leaves_out()
+    ensures { IgnoringLeavesOut }
+{}
+
+/// A report is a line for each finding and for each id that was ignored in vain, whatever names, ids,
+/// titles and requirements hold.
+pub fn each_is_one_line()
+    ensures { EachIsOneLine }
+{}
+
+/// Each of these lines is printable ASCII.
+pub fn lines_are_printable()
+    ensures { LinesArePrintable }
+{}

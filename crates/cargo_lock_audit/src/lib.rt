@@ -1,0 +1,20 @@
+//! Which advisories of a database concern which packages of a lockfile.
+#![tactic(auto)]
+
+pub mod advisory;
+mod advisory_reading;
+pub mod database;
+pub mod finding;
+mod front_matter;
+pub mod laws;
+pub mod pair;
+pub mod report;
+pub mod requirement;
+mod requirement_reading;
+
+pub use crate::advisory::Advisory;
+pub use crate::database::{AdvisoryFile, DatabaseFault, database_of};
+pub use crate::finding::Finding;
+pub use crate::pair::{Pair, pairs};
+pub use crate::report::{Report, Unmet};
+pub use crate::requirement::{Bound, Relation, Requirement};

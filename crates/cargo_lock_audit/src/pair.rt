@@ -1,0 +1,69 @@
+//! Packages and the advisories that concern them.
+
+ghost use Rattle.std.specs.Prelude.{◌≡◌, ◌++◌, IfOk, OnOk, map};
+ghost use Rattle.cargo_lock_audit.specs.Pairs.{pair_if, pair_of, pairs_of};
+ghost use Rattle.cargo_lock_audit.specs.Pairs as spec;
+
+use crate::advisory::Advisory;
+use cargo_lock_parts::package::Package;
+use std::alloc::{AllocError, Global};
+
+/// A package, and an advisory that concerns it.
+#[derive(Clone, Copy)]
+pub struct Pair<'p, 'a> {
+    /// The package.
+    pub package: &'p Package,
+
+    /// The advisory.
+    pub advisory: &'a Advisory,
+}
+
+/// Each package with each advisory that concerns it, in the order of the packages and then of the
+/// advisories. Fails when out of memory.
+///
+/// ```
+/// let pairs = pairs(alloc, &lockfile.packages, &advisories)?;
+/// ```
+pub fn pairs<'p, 'a>(
+    alloc: Global,
+    packages: &'p [Package],
+    advisories: &'a [Advisory],
+) -> Result<Vec<Pair<'p, 'a>>, AllocError>
+    ensures { IfOk result (λ v. map pair_of v.items ≡ spec.pairs packages.now advisories.now) }
+{
+    let mut pairs = Vec::new(alloc);
+    for package in packages {
+        put_pairs(&mut pairs, package, advisories)?;
+    }
+    Ok(pairs)
+}
+
+// Adds the package with each advisory that concerns it.
+fn put_pairs<'p, 'a>(
+    pairs: &mut Vec<Pair<'p, 'a>>,
+    package: &'p Package,
+    advisories: &'a [Advisory],
+) -> Result<(), AllocError>
+    ensures { OnOk result (map pair_of pairs.new.items
+        ≡ map pair_of pairs.old.items ++ pairs_of advisories.now «package».now) }
+{
+    for advisory in advisories {
+        put_pair(pairs, package, advisory)?;
+    }
+    Ok(())
+}
+
+// Adds the package with the advisory if it concerns it.
+fn put_pair<'p, 'a>(
+    pairs: &mut Vec<Pair<'p, 'a>>,
+    package: &'p Package,
+    advisory: &'a Advisory,
+) -> Result<(), AllocError>
+    ensures { OnOk result (map pair_of pairs.new.items
+        ≡ map pair_of pairs.old.items ++ pair_if «package».now advisory.now) }
+{
+    if advisory.concerns(package) {
+        pairs.push(Pair { package, advisory })?;
+    }
+    Ok(())
+}

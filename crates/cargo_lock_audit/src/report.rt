@@ -1,0 +1,248 @@
+//! What an audit of packages by advisories reports.
+
+ghost use Rattle.std.specs.Prelude.{◌≡◌, ◌++◌, IfOk, OnOk, Some, bytes_eq, map, option_map};
+ghost use Rattle.std.specs.Prelude.{string_bytes};
+ghost use Rattle.std.specs.Fmt.{DisplaysOnOk};
+ghost use Rattle.std.specs.List.{list_any};
+ghost use Rattle.cargo_lock_audit.specs.Findings.{finding_if, finding_of, findings_of};
+ghost use Rattle.cargo_lock_audit.specs.Findings.{is_denied_kind, is_listed, is_pair_with};
+ghost use Rattle.cargo_lock_audit.specs.Findings.{id_of, unmet, unmet_if};
+ghost use Rattle.cargo_lock_audit.specs.Findings as spec;
+ghost use Rattle.cargo_lock_audit.specs.Lines.{findings_text, unmet_text};
+ghost use Rattle.cargo_lock_audit.specs.Pairs.{pair_of};
+ghost use Rattle.cargo_lock_audit.specs.Pairs as pair;
+ghost use Rattle.cargo_lock_audit.specs.Texts.{texts_of};
+
+use crate::advisory::Advisory;
+use crate::finding::Finding;
+use crate::pair::{Pair, pairs};
+use cargo_lock_parts::package::Package;
+use shown::Shown;
+use std::alloc::{AllocError, Global};
+use std::fmt;
+
+/// What an audit reports. `Display` writes a line for each finding, and then for each id that was
+/// ignored in vain `- ID: nothing to ignore`, each with its newline.
+#[derive(Drop)]
+pub struct Report<'p, 'a, 'i> {
+    /// The findings, in the order of the packages and then of the advisories.
+    pub findings: Vec<Finding<'p, 'a>>,
+
+    /// The ids that were to be ignored, and of which no package has the advisory.
+    pub unmet: Vec<Unmet<'i>>,
+}
+
+/// An id that was to be ignored, and of which no package has the advisory. `Display` writes
+/// `- ID: nothing to ignore`, without a newline.
+#[derive(Clone, Copy)]
+pub struct Unmet<'i>(pub &'i String);
+
+impl fmt::Display for Unmet<'_> {
+    ghost use Rattle.std.specs.Prelude.{Some};
+    ghost use Rattle.cargo_lock_audit.specs.Findings.{id_of};
+    ghost use Rattle.cargo_lock_audit.specs.Lines.{unmet_line};
+
+    ghost output = { λ unmet. Some (unmet_line (id_of unmet)) };
+
+    #[tactic(auto, unfolding(crate::specs::Lines::unmet_line))]
+    fn fmt<W: fmt::Write>(&self, f: &mut fmt::Formatter<W>) -> fmt::Result {
+        let Unmet(id) = *self;
+        let id = Shown(id);
+        write!(f, "- {id}: nothing to ignore")
+    }
+}
+
+impl<'p, 'a, 'i> Report<'p, 'a, 'i> {
+    /// What is reported of these packages: each advisory that concerns one, but for those whose ids
+    /// are ignored. `denied` are the kinds of informational advisories that count as much as a
+    /// vulnerability. Fails when out of memory.
+    ///
+    /// ```
+    /// let report = Report::of(alloc, &lockfile.packages, &advisories, &ignored, &denied)?;
+    /// ```
+    pub fn of(
+        alloc: Global,
+        packages: &'p [Package],
+        advisories: &'a [Advisory],
+        ignored: &'i [String],
+        denied: &[String],
+    ) -> Result<Report<'p, 'a, 'i>, AllocError>
+        ensures findings { IfOk result (λ report. map finding_of report.findings.items
+            ≡ spec.findings packages.now advisories.now (texts_of ignored.now)
+            (texts_of denied.now)) }
+        ensures unmet { IfOk result (λ report. map id_of report.unmet.items
+            ≡ unmet (pair.pairs packages.now advisories.now) (texts_of ignored.now)) }
+    {
+        let pairs = pairs(alloc, packages, advisories)?;
+        let unmet = unmet_of(alloc, &pairs, ignored)?;
+        let findings = findings_of(alloc, &pairs, ignored, denied)?;
+        Ok(Report { findings, unmet })
+    }
+
+    /// Whether a package is denied, so whether a finding has the mark `!`.
+    pub fn is_denied(&self) -> bool
+        ensures { result ≡ list_any (λ f. f.is_denied) self.now.findings.items }
+    {
+        self.findings.iter().any(|finding| finding.is_denied)
+    }
+}
+
+// What is found of pairs.
+fn findings_of<'p, 'a>(
+    alloc: Global,
+    pairs: &[Pair<'p, 'a>],
+    ignored: &[String],
+    denied: &[String],
+) -> Result<Vec<Finding<'p, 'a>>, AllocError>
+    ensures { IfOk result (λ v. map finding_of v.items
+        ≡ findings_of (texts_of ignored.now) (texts_of denied.now) (map pair_of pairs.now)) }
+{
+    let mut found = Vec::new(alloc);
+    for pair in pairs {
+        put_finding(&mut found, *pair, ignored, denied)?;
+    }
+    Ok(found)
+}
+
+// Adds the finding of a pair, unless its advisory is ignored.
+fn put_finding<'p, 'a>(
+    found: &mut Vec<Finding<'p, 'a>>,
+    pair: Pair<'p, 'a>,
+    ignored: &[String],
+    denied: &[String],
+) -> Result<(), AllocError>
+    ensures { OnOk result (map finding_of found.new.items ≡ map finding_of found.old.items
+        ++ finding_if (texts_of ignored.now) (texts_of denied.now) (pair_of pair.entry)) }
+{
+    let Pair { package, advisory } = pair;
+    if !is_listed(ignored, &advisory.id) {
+        let is_denied = is_denied_kind(denied, &advisory.informational);
+        found.push(Finding {
+            package,
+            advisory,
+            is_denied,
+        })?;
+    }
+    Ok(())
+}
+
+// Whether an advisory of this kind is denied.
+fn is_denied_kind(denied: &[String], informational: &Option<String>) -> bool
+    ensures { result ≡ is_denied_kind (texts_of denied.now) (option_map string_bytes
+        informational.now) }
+{
+    match informational {
+        Some(kind) => is_listed(denied, kind),
+        None => true,
+    }
+}
+
+// Whether the text is one of the list.
+fn is_listed(texts: &[String], text: &str) -> bool
+    ensures { result ≡ is_listed (texts_of texts.now) text.now }
+{
+    is_among(texts, text)
+}
+
+// The same, as a test of each text.
+fn is_among(texts: &[String], text: &str) -> bool
+    ensures { result ≡ list_any (λ s. bytes_eq text.now (string_bytes s)) texts.now }
+{
+    texts.iter().any(|one| text == one.as_str())
+}
+
+// ---- ids that are ignored in vain
+
+// The ids of which no pair has the advisory.
+fn unmet_of<'i>(
+    alloc: Global,
+    pairs: &[Pair<'_, '_>],
+    ids: &'i [String],
+) -> Result<Vec<Unmet<'i>>, AllocError>
+    ensures { IfOk result (λ v. map id_of v.items
+        ≡ unmet (map pair_of pairs.now) (texts_of ids.now)) }
+{
+    let mut unmet = Vec::new(alloc);
+    for id in ids {
+        put_unmet(&mut unmet, pairs, id)?;
+    }
+    Ok(unmet)
+}
+
+// Adds the id if no pair has its advisory.
+fn put_unmet<'i>(
+    unmet: &mut Vec<Unmet<'i>>,
+    pairs: &[Pair<'_, '_>],
+    id: &'i String,
+) -> Result<(), AllocError>
+    ensures { OnOk result (map id_of unmet.new.items
+        ≡ map id_of unmet.old.items ++ unmet_if (map pair_of pairs.now) (string_bytes id.now)) }
+{
+    if !is_met(pairs, id) {
+        unmet.push(Unmet(id))?;
+    }
+    Ok(())
+}
+
+// Whether a pair has the advisory of this id.
+fn is_met(pairs: &[Pair<'_, '_>], id: &str) -> bool
+    ensures { result ≡ list_any (is_pair_with id.now) (map pair_of pairs.now) }
+{
+    is_with_one(pairs, id)
+}
+
+// The same, as a test of each pair.
+fn is_with_one(pairs: &[Pair<'_, '_>], id: &str) -> bool
+    ensures { result ≡ list_any (λ q. is_pair_with id.now (pair_of q)) pairs.now }
+{
+    pairs.iter().any(|pair| is_with(pair, id))
+}
+
+// Whether the pair has the advisory of this id.
+fn is_with(pair: &Pair<'_, '_>, id: &str) -> bool
+    ensures { result ≡ is_pair_with id.now (pair_of pair.now) }
+{
+    let advisory = pair.advisory;
+    advisory.id.as_str() == id
+}
+
+// ---- lines
+
+impl fmt::Display for Report<'_, '_, '_> {
+    ghost use Rattle.std.specs.Prelude.{Some, map};
+    ghost use Rattle.cargo_lock_audit.specs.Findings.{finding_of, id_of};
+    ghost use Rattle.cargo_lock_audit.specs.Lines.{report_text};
+
+    ghost output = { λ report. Some (report_text (map finding_of report.findings.items)
+        (map id_of report.unmet.items)) };
+
+    fn fmt<W: fmt::Write>(&self, f: &mut fmt::Formatter<W>) -> fmt::Result {
+        write_findings(&self.findings, f)?;
+        write_unmet(&self.unmet, f)
+    }
+}
+
+// Writes the line of each finding.
+fn write_findings<W: fmt::Write>(
+    findings: &[Finding<'_, '_>],
+    f: &mut fmt::Formatter<W>,
+) -> fmt::Result
+    ensures { DisplaysOnOk W.write_str_gives f.old result
+        (Some (findings_text (map finding_of findings.now))) f.new }
+{
+    for finding in findings {
+        write!(f, "{finding}\n")?;
+    }
+    Ok(())
+}
+
+// Writes the line of each id that was ignored in vain.
+fn write_unmet<W: fmt::Write>(all: &[Unmet<'_>], f: &mut fmt::Formatter<W>) -> fmt::Result
+    ensures { DisplaysOnOk W.write_str_gives f.old result
+        (Some (unmet_text (map id_of all.now))) f.new }
+{
+    for unmet in all {
+        write!(f, "{unmet}\n")?;
+    }
+    Ok(())
+}
