@@ -4,7 +4,7 @@ _cargo_lock() {
     local current=${COMP_WORDS[COMP_CWORD]} previous=${COMP_WORDS[COMP_CWORD - 1]}
     COMPREPLY=()
     if [ "$COMP_CWORD" = 1 ]; then
-        _cargo_lock_offer 'list translate tree bom diff check why duplicates graph merge verify licenses help -h --help -V --version'
+        _cargo_lock_offer 'list translate tree bom diff check why duplicates graph merge verify licenses audit help -h --help -V --version'
         return
     fi
     if [ "$previous" = = ]; then
@@ -118,7 +118,16 @@ _cargo_lock() {
         *) _cargo_lock_offer '-f --file --any-size --cache --vendor --allow -h --help' ;;
         esac
         ;;
-    help) _cargo_lock_offer 'list translate tree bom diff check why duplicates graph merge verify licenses help' ;;
+    audit)
+        case $previous in
+        -f | --file) _cargo_lock_files ;;
+        --db) _cargo_lock_files ;;
+        --ignore) ;;
+        --deny) _cargo_lock_offer 'unmaintained unsound notice' ;;
+        *) _cargo_lock_offer '-f --file --any-size --db --ignore --deny -h --help' ;;
+        esac
+        ;;
+    help) _cargo_lock_offer 'list translate tree bom diff check why duplicates graph merge verify licenses audit help' ;;
     esac
 }
 

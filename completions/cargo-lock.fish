@@ -27,6 +27,7 @@ complete -c cargo-lock -n '__cargo_lock_runs ""' -a graph -d 'Writes a picture o
 complete -c cargo-lock -n '__cargo_lock_runs ""' -a merge -d 'Merges two lockfiles by packages, over their common ancestor'
 complete -c cargo-lock -n '__cargo_lock_runs ""' -a verify -d 'Compares archives, or vendored folders, with the checksums of a lockfile'
 complete -c cargo-lock -n '__cargo_lock_runs ""' -a licenses -d 'Prints the licences of packages, and which are not allowed'
+complete -c cargo-lock -n '__cargo_lock_runs ""' -a audit -d 'Prints the advisories that concern packages of a lockfile'
 complete -c cargo-lock -n '__cargo_lock_runs ""' -a help -d 'Print this message or the help of the given subcommand(s)'
 complete -c cargo-lock -n '__cargo_lock_runs ""' -s h -l help -d 'Print help'
 complete -c cargo-lock -n '__cargo_lock_runs ""' -s V -l version -d 'Print version'
@@ -114,4 +115,11 @@ complete -c cargo-lock -n '__cargo_lock_runs licenses' -l vendor -r -F -d 'The f
 complete -c cargo-lock -n '__cargo_lock_runs licenses' -l allow -r -d 'Allows this term, and others that are given so'
 complete -c cargo-lock -n '__cargo_lock_runs licenses' -s h -l help -d 'Print help'
 
-complete -c cargo-lock -n '__cargo_lock_runs help' -a 'list translate tree bom diff check why duplicates graph merge verify licenses help' -d COMMAND
+complete -c cargo-lock -n '__cargo_lock_runs audit' -s f -l file -r -F -d 'The lockfile, - for standard input'
+complete -c cargo-lock -n '__cargo_lock_runs audit' -l any-size -d 'Reads a lockfile of 256 MiB or more too'
+complete -c cargo-lock -n '__cargo_lock_runs audit' -l db -r -F -d 'The folder of the advisories'
+complete -c cargo-lock -n '__cargo_lock_runs audit' -l ignore -r -d 'Leaves out this advisory, and others that are given so'
+complete -c cargo-lock -n '__cargo_lock_runs audit' -l deny -r -a 'unmaintained unsound notice' -d 'Counts informational advisories of this kind as vulnerabilities'
+complete -c cargo-lock -n '__cargo_lock_runs audit' -s h -l help -d 'Print help'
+
+complete -c cargo-lock -n '__cargo_lock_runs help' -a 'list translate tree bom diff check why duplicates graph merge verify licenses audit help' -d COMMAND

@@ -17,6 +17,7 @@ _cargo-lock() {
         'merge:Merges two lockfiles by packages, over their common ancestor'
         'verify:Compares archives, or vendored folders, with the checksums of a lockfile'
         'licenses:Prints the licences of packages, and which are not allowed'
+        'audit:Prints the advisories that concern packages of a lockfile'
         'help:Print this message or the help of the given subcommand(s)'
     )
     _arguments -C \
@@ -137,6 +138,15 @@ _cargo-lock() {
             '--cache[The folder of unpacked archives, as registry/src of Cargo]:FOLDER:_files -/' \
             '--vendor[The folder that `cargo vendor` made]:FOLDER:_files -/' \
             '*--allow[Allows this term, and others that are given so]:TERM:' \
+            '(- *)'{-h,--help}'[Print help]'
+        ;;
+    audit)
+        _arguments -s \
+            '(-f --file)'{-f,--file}'[The lockfile, - for standard input]:PATH:_files' \
+            '--any-size[Reads a lockfile of 256 MiB or more too]' \
+            '--db[The folder of the advisories]:FOLDER:_files -/' \
+            '*--ignore[Leaves out this advisory, and others that are given so]:ID:' \
+            '*--deny[Counts informational advisories of this kind as vulnerabilities]:KIND:(unmaintained unsound notice)' \
             '(- *)'{-h,--help}'[Print help]'
         ;;
     help)

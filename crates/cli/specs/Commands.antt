@@ -5,9 +5,10 @@ use Rattle.clap.specs.Walk.{rows_of}
 use Rattle.clap.specs.declared.parser.matches.ArgMatches.{ArgMatches}
 use Rattle.clap.specs.declared.parser.matches.Found.{Found}
 use Rattle.cli.specs.declared.Chosen.{Chosen}
-use Rattle.cli.specs.declared.Chosen.TheVariants.{Bom, Check, Diff, Duplicates, Graph}
+use Rattle.cli.specs.declared.Chosen.TheVariants.{Audit, Bom, Check, Diff, Duplicates, Graph}
 use Rattle.cli.specs.declared.Chosen.TheVariants.{Licenses, List as Listing, Merge}
 use Rattle.cli.specs.declared.Chosen.TheVariants.{Translate, Tree, Verify, Why}
+use Rattle.cli.specs.Audit.{PrintsAudit}
 use Rattle.cli.specs.Bom.{PrintsBill}
 use Rattle.cli.specs.Check.{PrintsCheck}
 use Rattle.cli.specs.Diff.{PrintsDifference}
@@ -23,6 +24,7 @@ use Rattle.cli.specs.Why.{PrintsWhy}
 
 -- the name of a command
 abbrev pub name_of : Chosen → List ℕ
+name_of Audit = codes "audit"
 name_of Bom = codes "bom"
 name_of Check = codes "check"
 name_of Diff = codes "diff"
@@ -36,10 +38,11 @@ name_of Tree = codes "tree"
 name_of Verify = codes "verify"
 name_of Why = codes "why"
 
--- what a command leaves with the options that were found, and its status: `check`, `diff`,
+-- what a command leaves with the options that were found, and its status: `audit`, `check`, `diff`,
 -- `duplicates`, `licenses`, `merge` and `verify` may end with failure if they found something, and
 -- each other one ends with success
 abbrev pub Follows : Chosen → Found → Option (List ℕ) → Option (List ℕ) → Type 0 → Type 0 → Type 0
+Follows Audit found old new failure success = PrintsAudit found old new failure success
 Follows Bom found old new failure success = PrintsBill found old new × success
 Follows Check found old new failure success = PrintsCheck found old new failure success
 Follows Diff found old new failure success = PrintsDifference found old new failure success

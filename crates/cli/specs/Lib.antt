@@ -1,3 +1,4 @@
+pub mod Audit
 pub mod Bom
 pub mod Json
 pub mod Check

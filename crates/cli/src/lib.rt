@@ -2,12 +2,12 @@
 //! format, draws its trees, writes its bill of materials, reports what differs between two and what
 //! is wrong with one, says why a package is there and which names several packages have, writes a
 //! picture of the packages, merges two lockfiles over a third, compares archives of packages with
-//! their checksums, and prints the licences of packages.
+//! their checksums, and prints their licences and the advisories that concern them.
 //!
 //! An error is reported in one message on standard error that begins with `*** error: `. The status
 //! is then 1 for `list`, `translate` and `tree`, and 2 for the others, which the original does not
-//! have. Without an error it is 0, and all of the output was written and flushed; what `check`,
-//! `diff`, `duplicates`, `licenses`, `merge` or `verify` found may make it 1.
+//! have. Without an error it is 0, and all of the output was written and flushed; what `audit`,
+//! `check`, `diff`, `duplicates`, `licenses`, `merge` or `verify` found may make it 1.
 #![tactic(auto)]
 
 ghost use Rattle.std.specs.Prelude.{◌≡◌, ◌⊎◌, IfErr, IfOk, IfSome, codes, map};
@@ -16,6 +16,7 @@ ghost use Rattle.clap.specs.Matches.{found_of};
 ghost use Rattle.cli_support.specs.Status.{IsFaultStatus, IsNamed};
 ghost use Rattle.cli.specs.Commands.{Follows, FollowsMatches, name_of};
 
+mod audit;
 mod bom;
 mod check;
 mod diff;
@@ -148,12 +149,14 @@ fn parser<'a>(alloc: Global) -> Result<Command<'a>, AllocError> {
         .subcommand(graph::command(alloc)?)?
         .subcommand(merge::command(alloc)?)?
         .subcommand(verify::command(alloc)?)?
-        .subcommand(licenses::command(alloc)?)
+        .subcommand(licenses::command(alloc)?)?
+        .subcommand(audit::command(alloc)?)
 }
 
 /// A command.
 #[derive(Clone, Copy)]
 enum Chosen {
+    Audit,
     Bom,
     Check,
     Diff,
@@ -173,6 +176,7 @@ fn command_named(name: &str) -> Option<Chosen>
     ensures { IfSome result (λ command. name.now ≡ name_of command) }
 {
     match name {
+        "audit" => Some(Chosen::Audit),
         "bom" => Some(Chosen::Bom),
         "check" => Some(Chosen::Check),
         "diff" => Some(Chosen::Diff),
@@ -220,6 +224,13 @@ fn follow<R: Files + Env + Clock + AllocGlobal, W: Write>(
         (ended.status ≡ ExitCode.FAILURE) (ended.status ≡ ExitCode.SUCCESS)) }
 {
     match command {
+        Chosen::Audit => {
+            let status = audit::run(rt, options, out)?;
+            Ok(Ended {
+                status,
+                lines: None,
+            })
+        }
         Chosen::Bom => {
             bom::run(rt, options, out)?;
             Ok(Ended::silent(ExitCode::SUCCESS))

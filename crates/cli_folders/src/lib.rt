@@ -1,14 +1,16 @@
 //! The folders that the program `cargo-lock` reads: archives and their folders as Cargo keeps them,
-//! and folders that `cargo vendor` made.
+//! folders that `cargo vendor` made, and databases of advisories.
 //!
 //! What is found in them is for the crates above to say. No path is made of a name of a lockfile,
 //! and no link in a vendored folder is followed.
 #![tactic(auto)]
 
+mod advisories;
 mod entries;
 mod files;
 mod manifest;
 mod vendor;
 
+pub use crate::advisories::{advisory_files, database_fault};
 pub use crate::entries::Entries;
 pub use crate::vendor::Vendor;

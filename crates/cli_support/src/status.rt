@@ -22,7 +22,8 @@ pub fn of_fault<S: AsStr>(words: &[S]) -> ExitCode
 fn is_own(word: &str) -> bool
     ensures { result ≡ list_any (bytes_eq word.now) own_commands }
 {
-    word == "bom"
+    word == "audit"
+        || word == "bom"
         || word == "check"
         || word == "diff"
         || word == "duplicates"

@@ -1,7 +1,8 @@
-//! Small programs over the crate for licence checkers, each in a file of its own, run over the
-//! lockfile in `data/`.
+//! Small programs over the crates for audit tools and licence checkers, each in a file of its own,
+//! run over the lockfile in `data/`.
 #![tactic(auto)]
 
+mod advisories;
 mod licenses;
 
 use cargo_lock::{Error, Lockfile};
@@ -22,5 +23,8 @@ fn run(rt: &HostRuntime) -> Result<(), Error> {
     let lockfile = Lockfile::load(rt, rt.alloc(), Path::new("Cargo.lock"))?;
     licenses::print_expression(rt)?;
     licenses::print_verdicts(rt, &lockfile)?;
-    licenses::print_report(rt, &lockfile)
+    licenses::print_report(rt, &lockfile)?;
+    advisories::print_requirement(rt, &lockfile)?;
+    advisories::print_advisory(rt, &lockfile)?;
+    advisories::print_findings(rt, &lockfile)
 }

@@ -1,0 +1,41 @@
+-- What `audit` prints, and its status.
+use Rattle.std.specs.Prelude.{◌≡◌, ℕ, List, Option, codes, false, true}
+use Rattle.std.specs.List.{list_any}
+use Rattle.std.specs.Io.KnownBytes.{Appends}
+use Rattle.clap.specs.declared.parser.matches.Found.{Found}
+use Rattle.cargo_lock.specs.Loads.{IsMeant}
+use Rattle.cargo_lock_audit.specs.Advisory.{AdvisoryData}
+use Rattle.cargo_lock_audit.specs.Database.{AreInOrder}
+use Rattle.cargo_lock_audit.specs.Findings.{FindingData, findings, unmet}
+use Rattle.cargo_lock_audit.specs.Lines.{report_text}
+use Rattle.cargo_lock_audit.specs.Pairs.{pairs}
+use Rattle.cargo_lock_encoding.specs.Lockfiles.{LockfileData}
+use Rattle.cargo_lock_parts.specs.Identity.{PackageData}
+use Rattle.cli.specs.Texts.{given_texts}
+
+-- the lines of findings are printed, and of the ids that are ignored in vain, with the status of
+-- these findings
+pub record PrintsAdvisories (found : List FindingData) (ids : List (List ℕ))
+    (old new : Option (List ℕ)) (failure success : Type 0) : Type 0 where
+  pub text : Appends old new (report_text found ids)
+  pub some : list_any (λ f. f.is_denied) found ≡ true → failure
+  pub none : list_any (λ f. f.is_denied) found ≡ false → success
+
+-- what is found of the packages by these advisories is printed, as the arguments ask for
+abbrev pub PrintsAuditReport : Found → List PackageData → List AdvisoryData → Option (List ℕ)
+    → Option (List ℕ) → Type 0 → Type 0 → Type 0
+PrintsAuditReport found packages advisories = PrintsAdvisories
+    (findings packages advisories (given_texts found (codes "ignore"))
+    (given_texts found (codes "deny")))
+    (unmet (pairs packages advisories) (given_texts found (codes "ignore")))
+
+-- the same by some advisories, in the order of their ids
+abbrev pub PrintsAuditOf : Found → List PackageData → Option (List ℕ) → Option (List ℕ) → Type 0
+    → Type 0 → Type 0
+PrintsAuditOf found packages old new failure success = (advisories : List AdvisoryData)
+    × AreInOrder advisories × PrintsAuditReport found packages advisories old new failure success
+
+-- the same of the packages of a lockfile that some text means
+abbrev pub PrintsAudit : Found → Option (List ℕ) → Option (List ℕ) → Type 0 → Type 0 → Type 0
+PrintsAudit found old new failure success = (l : LockfileData) × IsMeant l
+    × PrintsAuditOf found l.packages old new failure success
