@@ -8,3 +8,5 @@ pub mod Patching
 pub mod Referred
 pub mod MetadataMerging
 pub mod LockfileMerging
+pub mod ByPlaces
+pub mod Once

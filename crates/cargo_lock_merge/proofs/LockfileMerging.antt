@@ -19,6 +19,7 @@ use Rattle.cargo_lock_encoding.specs.Lockfiles.{LockfileData}
 use Rattle.cargo_lock_encoding.specs.Means.{TextMeans}
 use Rattle.cargo_lock_merging.specs.Commits.{Lockfiles}
 use Rattle.cargo_lock_merge.specs.MergedLockfiles.{AreConflictingPackages, HaveNoRoots, IsMergedLockfile, IsMetadataMergeOf, IsRestOf, IsSameLockfile, IsUnread, LockfileTriple, TextIsOf, is_same_but_metadata, lockfile_of, packages_of}
+use Rattle.cargo_lock_merge.proofs.Once.{referring-once}
 use Rattle.cargo_lock_merge.proofs.Sorting.{referring-in-order}
 use Rattle.cargo_lock_merge.specs.Outcome as InConflict
 use Rattle.cargo_lock_merge.specs.Outcome.{IsFound}
@@ -197,6 +198,7 @@ merged-lockfile s r merged packages rs roots found refers none rest = record {
   root = refl;
   metadata = metadata-agreed s r.metadata none rest.metadata;
   patch = rest.patch;
+  once = referring-once merged packages refers found.once;
 }
 
 -- there is at least one conflict of the packages

@@ -22,6 +22,7 @@ use Rattle.cargo_lock_merge.specs.declared.outcome.Outcome.{Outcome}
 use Rattle.cargo_lock_merge.specs.declared.outcome.Outcome.TheVariants.{Conflicts, Merged}
 use Rattle.cargo_lock_merge.specs.Conflict.{AreConflictsOf, subject_of}
 use Rattle.cargo_lock_merge.specs.Outcome.{AreReady, Finds, IsIdentityIn, IsMergedOf, IsOutcomeOf, RefersInFull}
+use Rattle.cargo_lock_merge.proofs.Once.{all-once}
 
 -- the lists by numbers are ready to be merged
 pub ready : (all : Lockfiles) (s : Triple ℕ) → AreSidesOf all s → AreReady s
@@ -76,7 +77,7 @@ module _ (m xs : List (PlacedData ℕ)) (ps : List PackageData) (perm : IsPermut
 
 -- what is found by numbers is found
 pub finds : (all : Lockfiles) (s : Triple ℕ) (o : Outcome) → AreSidesOf all s → IsOutcomeOf s o → Finds all o
-finds all s (Merged packages moved) (places, are) (m, merge, ((xs, perm, zip), order, references)) = record {
+finds all s (Merged packages moved) (places, are) (m, merge, ((xs, perm, zip), order, references, apart)) = record {
   commits = record { base = are.base_commits; ours = are.our_commits; theirs = are.their_commits };
   merge = assembled-merge all places s m packages.items are merge (xs, perm, zip);
   order = order;
@@ -88,6 +89,7 @@ finds all s (Merged packages moved) (places, are) (m, merge, ((xs, perm, zip), o
   merged = merge;
   assembled = (xs, perm, zip);
   moved = references;
+  once = all-once all places s are m merge packages.items apart;
 }
 finds all s (Conflicts conflicts) (places, are) (none, listed, some) = record {
   places = places;

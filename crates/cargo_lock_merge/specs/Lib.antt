@@ -9,3 +9,5 @@ pub mod Patches
 pub mod OwnMetadata
 pub mod Referring
 pub mod MergedLockfiles
+pub mod ByPlaces
+pub mod Once

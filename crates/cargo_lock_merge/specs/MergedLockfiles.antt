@@ -1,5 +1,5 @@
 -- The merge of lockfiles.
-use Rattle.std.specs.Prelude.{◌≡◌, ◌≢◌, ◌⊎◌, ℕ, Bool, IsSome, List, [], ◌∷◌, Option, Some, None}
+use Rattle.std.specs.Prelude.{◌≡◌, ◌≢◌, ◌⊎◌, ℕ, All, Bool, IsSome, List, [], ◌∷◌, Option, Some, None}
 use Rattle.std.specs.Prelude.{nat_eq, string_bytes}
 use Rattle.std.specs.Cmp.Lexicographic.{pointwise}
 use Rattle.std.specs.List.{AllZip}
@@ -11,6 +11,7 @@ use Rattle.cargo_lock_encoding.specs.Means.{TextMeans}
 use Rattle.cargo_lock_encoding.specs.Survives.{HasSamePackages}
 use Rattle.cargo_lock_encoding.specs.Text.{join_lines, lines_of}
 use Rattle.cargo_lock_merge.specs.Formats.{IsLaterFormat}
+use Rattle.cargo_lock_merge.specs.Once.{HasEachOnce}
 use Rattle.cargo_lock_merge.specs.Order.{AreInOrder}
 use Rattle.cargo_lock_merge.specs.Outcome.{IsFound, IsInConflict, three}
 use Rattle.cargo_lock_merge.specs.OwnMetadata.{AreMetadataConflicts, AreMetadataOf, IsMergedAt}
@@ -86,7 +87,7 @@ AreMergedPackages all packages moved = (merged : List PackageData) × IsFound al
 -- The lockfile is the merge of two sides over a base: it has the later format of both sides, the
 -- merged packages in the order in which Cargo writes them, no root apart from them, the metadata on
 -- which the three agree, and the unused patches that both sides have, or one side has and the base
--- has not. Beside it are the references that moved.
+-- has not; no dependency is twice in a package. Beside it are the references that moved.
 pub record IsMergedLockfile (s : LockfileTriple) (l : LockfileData) (rs : List Moved) : Type 0
   where
     pub roots : HaveNoRoots s
@@ -96,6 +97,7 @@ pub record IsMergedLockfile (s : LockfileTriple) (l : LockfileData) (rs : List M
     pub root : l.root ≡ None
     pub metadata : AreMetadataOf s.base s.ours s.theirs l.metadata
     pub patch : ArePatchesOf s.base.patch s.ours.patch s.theirs.patch l.patch
+    pub once : All HasEachOnce l.packages
 
 -- two lockfiles have the same format, and equal packages, roots and unused patches
 pub record IsSameLockfile (x l : LockfileData) : Type 0 where

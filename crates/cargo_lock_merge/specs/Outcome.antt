@@ -1,5 +1,5 @@
 -- The merge of three lists of packages.
-use Rattle.std.specs.Prelude.{◌≡◌, ◌≢◌, ◌⊎◌, ℕ, List, [], Some}
+use Rattle.std.specs.Prelude.{◌≡◌, ◌≢◌, ◌⊎◌, ℕ, All, List, [], Some}
 use Rattle.std.specs.List.{Contains}
 use Rattle.cargo_lock_parts.specs.Identity.{Identity, PackageData, identity_of}
 use Rattle.cargo_lock_merging.specs.declared.triple.Sides.{Sides}
@@ -17,6 +17,7 @@ use Rattle.cargo_lock_merge.specs.declared.outcome.Outcome.{Outcome}
 use Rattle.cargo_lock_merge.specs.declared.outcome.Outcome.TheVariants.{Conflicts, Merged}
 use Rattle.cargo_lock_merge.specs.Conflict.{AreConflictsOf}
 use Rattle.cargo_lock_merge.specs.Moved.{AreMovedReferences}
+use Rattle.cargo_lock_merge.specs.Once.{DependsApart, HasEachOnce}
 use Rattle.cargo_lock_merge.specs.Order.{AreInOrder}
 
 -- the base, ours and theirs
@@ -33,7 +34,8 @@ RefersInFull packages = (p : PackageData) (i : Identity) → Contains packages p
     → Contains p.dependencies i ⊎ (p.replace ≡ Some i) → IsIdentityIn packages i
 
 -- The packages are the merge of the three lists, each of which has each git source at one commit,
--- in the order in which Cargo writes them. Beside them are the references that moved.
+-- in the order in which Cargo writes them; no dependency is twice in a package. Beside them are the
+-- references that moved.
 pub record IsFound (all : Lockfiles) (ps : List PackageData) (rs : List Moved) : Type 0 where
   pub commits : HaveOneCommitEach all
   pub merge : IsMergeOf all ps
@@ -46,6 +48,7 @@ pub record IsFound (all : Lockfiles) (ps : List PackageData) (rs : List Moved) :
   pub merged : IsMerge triple numbered
   pub assembled : AreAssembled numbered ps
   pub moved : AreMovedReferences triple.ours triple.theirs numbered ps rs
+  pub once : All HasEachOnce ps
 
 -- There is no merge of the three lists, by the numbers of their places, since the sides are in
 -- conflict about these, of which there is at least one.
@@ -69,6 +72,7 @@ abbrev pub IsMergedOf : List (PlacedData ℕ) → List (PlacedData ℕ) → List
     → Type 0
 IsMergedOf o t m (Merged packages moved) = AreAssembled m packages.items
     × AreInOrder packages.items × AreMovedReferences o t m packages.items moved.items
+    × All (DependsApart m) packages.items
 IsMergedOf o t m (Conflicts conflicts) = ⊥
 
 -- the outcome is a merge by numbers, or there is none

@@ -9,8 +9,9 @@ ghost use Rattle.cargo_lock_merging.specs.Assembled.{AreAssembled, IsAssembled, 
 ghost use Rattle.cargo_lock_merging.specs.Assembled.{IsIdentityAtIf};
 ghost use Rattle.cargo_lock_merging.specs.Merged.{merged_data};
 ghost use Rattle.cargo_lock_merging.specs.Placed.{HasAt, PlacedData};
-ghost use Rattle.cargo_lock_merging.specs.Kept.{merged_places};
+ghost use Rattle.cargo_lock_merging.specs.Kept.{AreInPlace, merged_places};
 ghost use Rattle.cargo_lock_check.specs.Order.{dependency_order};
+ghost use Rattle.cargo_lock_merge.specs.Once.{AreApart, DependsApart};
 ghost use Rattle.cargo_lock_merge.specs.Order.{AreInOrder, HasSortedDependencies};
 
 use crate::order::put_in_order;
@@ -30,6 +31,8 @@ pub(crate) fn assemble(alloc: Global, merged: &[Merged<'_>]) -> Result<Vec<Packa
         (λ packages. AreAssembled (map merged_data merged.now) packages.items) }
     ensures order { IfOk result (λ packages. AreInOrder packages.items) }
     ensures err { IsOkUnless result Memory }
+    ensures once { IfOk result (λ packages. AreInPlace merged.now
+        → All (DependsApart (map merged_data merged.now)) packages.items) }
 {
     let places = places_of_merged(alloc, merged)?;
     let mut packages = packages(alloc, merged, &places)?;
@@ -45,6 +48,8 @@ fn packages(alloc: Global, merged: &[Merged<'_>], places: &[usize]) -> Result<Ve
         (map merged_data merged.now) packages.items) }
     ensures order { IfOk result (λ packages. All HasSortedDependencies packages.items) }
     ensures err { IsOkUnless result Memory }
+    ensures once { IfOk result (λ packages. AreInPlace merged.now
+        → All (DependsApart (map merged_data merged.now)) packages.items) }
 {
     let mut packages = Vec::with_capacity(alloc, merged.len())?;
     for one in merged {
@@ -66,6 +71,8 @@ fn package(
     ensures ok { IfOk result (IsAssembled (map merged_data merged.now) (merged_data one.now)) }
     ensures order { IfOk result HasSortedDependencies }
     ensures err { IsOkUnless result Memory }
+    ensures once { IfOk result (λ found. IsStrictlyIncreasing one.now.dependencies.items
+        → DependsApart (map merged_data merged.now) found) }
 {
     let dependencies = dependencies(alloc, merged, places, &one.dependencies)?;
     let replace = replacement(merged, places, one.replacement)?;
@@ -97,6 +104,8 @@ fn dependencies(
         ↔ ((n : ℕ) × Contains at.now n × IsIdentityAt (map merged_data merged.now) n i)) }
     ensures order { IfOk result (λ all. IsSorted dependency_order all.items) }
     ensures err { IsOkUnless result Memory }
+    ensures once { IfOk result (λ all. IsStrictlyIncreasing at.now
+        → AreApart (map merged_data merged.now) all.items) }
 {
     let mut all = Vec::with_capacity(alloc, at.len())?;
     for place in at {

@@ -1,5 +1,6 @@
-//! Laws of the lines, each the contract of a function without a body.
+//! Laws of merges and of their lines, each the contract of a function without a body.
 
+ghost use Rattle.cargo_lock_merge.specs.ByPlaces.{MergesAreByPlaces, OutcomesAreByPlaces};
 ghost use Rattle.cargo_lock_merge.specs.Lines.{ConflictsAreLines, MovedAreLines, RefusalsAreLines};
 
 /// Each conflict is exactly one line, whatever its names, versions, sources and checksums hold.
@@ -15,4 +16,15 @@ pub fn moved_are_lines()
 /// Each refusal is exactly one line.
 pub fn refusals_are_lines()
     ensures { RefusalsAreLines }
+{}
+
+/// What `merge` returns is so by places: the conflicts are exactly those at the places of the three
+/// lists, each once, and so are the moved references of the merge.
+pub fn outcomes_are_by_places()
+    ensures { OutcomesAreByPlaces }
+{}
+
+/// The same of what `merge_lockfiles` returns.
+pub fn merges_are_by_places()
+    ensures { MergesAreByPlaces }
 {}

@@ -3,6 +3,7 @@
 ghost use Rattle.std.specs.Prelude.{◌≡◌, IfErr, IfOk, IsOkUnless, OnOk};
 ghost use Rattle.std.specs.Bool.{Decides};
 ghost use Rattle.cargo_lock.specs.CargoChecksums.{with_cargo_checksums_in};
+ghost use Rattle.cargo_lock_merge.specs.ByPlaces.{MergesByPlaces};
 ghost use Rattle.cargo_lock_merge.specs.MergedLockfiles.{HaveNoRoots, IsMergeError, IsMergedLockfile};
 ghost use Rattle.cargo_lock_merge.specs.MergedLockfiles.{IsMetadataMergeOf, IsRestOf, IsSameLockfile};
 ghost use Rattle.cargo_lock_merge.specs.MergedLockfiles.{IsUnread, LockfileTriple, MergesTo, TextIsOf};
@@ -110,6 +111,7 @@ pub fn merge_lockfiles<'a>(
 ) -> Result<LockfileMerge<'a>, MergeError<'a>>
     ensures ok { IfOk result (MergesTo (triple_of base.now ours.now theirs.now)) }
     ensures err { IfErr result (IsMergeError (triple_of base.now ours.now theirs.now)) }
+    ensures by_places { IfOk result (MergesByPlaces (triple_of base.now ours.now theirs.now)) }
 {
     refuse_roots(base, ours, theirs)?;
     let outcome = merged_packages(alloc, base, ours, theirs)?;

@@ -9,6 +9,7 @@ ghost use Rattle.cargo_lock_merging.specs.Moved.{AreListed};
 ghost use Rattle.cargo_lock_merging.specs.Numbered.{all_data};
 ghost use Rattle.cargo_lock_merging.specs.Plans.{triple_of};
 ghost use Rattle.cargo_lock_merging.specs.Triples.{AreSidesOf, IsStop, triple_in};
+ghost use Rattle.cargo_lock_merge.specs.ByPlaces.{FindsByPlaces};
 ghost use Rattle.cargo_lock_merge.specs.Outcome.{AreReady, Finds, IsMergedOf, IsOutcomeOf};
 ghost use Rattle.cargo_lock_merge.specs.Outcome.{IsTriple, three};
 
@@ -53,6 +54,8 @@ pub fn merge<'a>(
 ) -> Result<Outcome<'a>, Stop<'a>>
     ensures ok { IfOk result (Finds (three base.now.items ours.now.items theirs.now.items)) }
     ensures err { IfErr result (IsStop (three base.now.items ours.now.items theirs.now.items)) }
+    ensures by_places { IfOk result
+        (FindsByPlaces (three base.now.items ours.now.items theirs.now.items)) }
 {
     let sides = Sides::of(alloc, base, ours, theirs)?;
     Ok(merge_sides(alloc, &sides)?)

@@ -6,7 +6,7 @@ use Rattle.std.proofs.lemmas.List.Elements.{Contains-get_or}
 use Rattle.std.proofs.lemmas.List.Sorted.{Contains-permutation, IsPermutation-sym}
 use Rattle.std.proofs.lemmas.List.{get_or-map, length-map}
 use Rattle.cargo_lock_parts.specs.Identity.{Identity, PackageData, identity_key, identity_of}
-use Rattle.cargo_lock_merging.specs.Assembled.{AreSides, AssembledAreMerge, IsAssembled, IsIdentityAt, IsIdentityAtIf}
+use Rattle.cargo_lock_merging.specs.Assembled.{AreAssembled, AreSides, AssembledAreMerge, IsAssembled, IsIdentityAt, IsIdentityAtIf}
 use Rattle.cargo_lock_merging.specs.Choices.{IsChecksum, IsOfSide, IsReplacement}
 use Rattle.cargo_lock_merging.specs.Commits.{HasCommit, HasOneCommitEach, Lockfiles, key_without_commit}
 use Rattle.cargo_lock_merging.specs.Linked.{IsStatedAt}
@@ -21,6 +21,21 @@ use Rattle.cargo_lock_merging.proofs.Members.{contains-cases, first-in, got-in, 
 use Rattle.cargo_lock_merging.proofs.Renamed.{merge-renamed}
 use Rattle.cargo_lock_merging.proofs.Sides.{chain-more}
 use Rattle.cargo_lock_merging.proofs.Slotting.{numbers-one, place-of-key}
+
+-- ---- the packages of a merge at their places
+
+-- z is the merged package x at its place, perhaps with another package of the same identity
+pub record IsPut (places : List Place) (x : PlacedData ℕ) (z : PlacedData Place) : Type 0 where
+  pub place : z.place ≡ place_at places x.place
+  pub identity : identity_of z.content ≡ identity_of x.content
+  pub dependencies : z.dependencies ≡ map (place_at places) x.dependencies
+
+-- the merge of lists of packages that is assembled of one by numbers, package by package
+pub record IsAssembledMerge (all : Lockfiles) (places : List Place) (s : Triple ℕ) (m : List (PlacedData ℕ)) (ps : List PackageData) : Type 0 where
+  pub merge : IsMergeOf all ps
+  pub placed : merge.placed ≡ rename_triple (place_at places) s
+  pub from : (z : PlacedData Place) → Contains merge.merged z → (x : PlacedData ℕ) × Contains m x × IsPut places x z
+  pub into : (x : PlacedData ℕ) → Contains m x → (z : PlacedData Place) × Contains merge.merged z × IsPut places x z
 
 -- ---- a list at numbered places
 
@@ -53,10 +68,21 @@ module _ (all : Lockfiles) (places : List Place) (packages : List PackageData) (
       by None e = absurd cc
       by (Some i) (k, q, stated, at, is) = number-of q d (got-in packages k q at) (are.numbers d (x, among, inr (inr replaced))) is
 
+  -- the packages of a list are those at its places
+  pub content-from : (q : PackageData) → Contains packages q → Contains (contents_of xs) q
+  content-from q among =
+      let (y', there, placed) = are.placed.all_there q among in
+      let (y, in-list, same) = map-in (rename (place_at places)) xs y' there in
+      subst (Contains (contents_of xs)) (ap (λ (z : PlacedData Place). z.content) same ∙ placed.content) (in-map (λ (z : PlacedData ℕ). z.content) xs y in-list)
+
+  pub content-to : (q : PackageData) → Contains (contents_of xs) q → Contains packages q
+  content-to q among =
+      let (x, there, is) = map-in (λ (z : PlacedData ℕ). z.content) xs q among in
+      subst (Contains packages) is (content-in x there).0
+
   commit-in-list : (g : _) (c : _) → HasCommit (contents_of xs) g c → HasCommit packages g c
   commit-in-list g c (p, among, at) =
-      let (x, there, is) = map-in (λ (z : PlacedData ℕ). z.content) xs p among in
-      (p, subst (Contains packages) is (content-in x there).0, at)
+      (p, content-to p among, at)
 
   pub list-commits : HasOneCommitEach packages → HasOneCommitEach (contents_of xs)
   list-commits one g c d a b = one g c d (commit-in-list g c a) (commit-in-list g d b)
@@ -65,7 +91,7 @@ module _ (all : Lockfiles) (places : List Place) (packages : List PackageData) (
   list-numbered one = record { order = are.order; each = are.each; commits = list-commits one }
 
 module _ (all : Lockfiles) (places : List Place) (s : Triple ℕ) (sides : AreSides all places s) where
-  used-number : (n : ℕ) → IsUsed s n → IsNumber places n
+  pub used-number : (n : ℕ) → IsUsed s n → IsNumber places n
   used-number n (inl h) = sides.base.numbers n h
   used-number n (inr (inl h)) = sides.ours.numbers n h
   used-number n (inr (inr h)) = sides.theirs.numbers n h
@@ -83,7 +109,7 @@ module _ (all : Lockfiles) (places : List Place) (s : Triple ℕ) (sides : AreSi
     chosen-place n b o t c at at' (inr e) = side-place all.theirs s.theirs sides.theirs n c (subst (IsAt s.theirs n) e at')
 
     -- a merged package is at the place of its identity
-    merged-place : (x : PlacedData ℕ) (p : PackageData) → Contains m x → identity_of p ≡ identity_of x.content → place_at places x.place ≡ place_of all p
+    pub merged-place : (x : PlacedData ℕ) (p : PackageData) → Contains m x → identity_of p ≡ identity_of x.content → place_at places x.place ≡ place_of all p
     merged-place x p among is =
         let (b, o, t, c, from) = h.each x among in
         chosen-place x.place b o t c from.at.ours from.at.theirs from.chosen.0
@@ -95,7 +121,7 @@ module _ (all : Lockfiles) (places : List Place) (s : Triple ℕ) (sides : AreSi
         let r = (h.holds x.place).0 (x, (among, refl)) in
         (h.holds d).1 (r.0, r.1 ++ d ∷ [], r.2, chain-more (LeadsTo s) r.0 r.1 x.place d r.3 leads)
 
-    depends-merged : (x : PlacedData ℕ) (d : ℕ) → Contains m x → Contains x.dependencies d → (y : PlacedData ℕ) × HasAt m d y
+    pub depends-merged : (x : PlacedData ℕ) (d : ℕ) → Contains m x → Contains x.dependencies d → (y : PlacedData ℕ) × HasAt m d y
     depends-merged x d among depends =
         let f = h.each x among in
         leads-merged x d among (f.0, f.1, f.2, f.4.at, inl (inl (f.3, f.4.chosen, (f.4.dependencies d).0 depends)))
@@ -351,6 +377,23 @@ module _ (all : Lockfiles) (places : List Place) (s : Triple ℕ) (sides : AreSi
         packages = are-placed;
         merge = is-merge;
       }
+
+      is-assembled : IsAssembledMerge all places s m ps
+      unfolding is-merge-of put
+      is-assembled = record {
+        merge = is-merge-of;
+        placed = refl;
+        from = λ z k.
+            let (x, p, there, listed, is, same) = made-of xs ps zip z k in
+            (x, to-m x there, subst (IsPut places x) same (record { place = refl; identity = is.identity; dependencies = refl }));
+        into = λ x among.
+            let (p, listed, is, k) = made-from xs ps zip x (to-xs x among) in
+            (put x p, k, record { place = refl; identity = is.identity; dependencies = refl });
+      }
+
+pub assembled-at : (all : Lockfiles) (places : List Place) (s : Triple ℕ) (m : List (PlacedData ℕ)) (ps : List PackageData) → AreSides all places s → IsMerge s m → AreAssembled m ps
+    → IsAssembledMerge all places s m ps
+assembled-at all places s m ps sides h (xs, perm, zip) = is-assembled all places s sides m h ps xs perm zip
 
 pub assembled-merge : AssembledAreMerge
 assembled-merge all places s m ps sides h (xs, perm, zip) = is-merge-of all places s sides m h ps xs perm zip

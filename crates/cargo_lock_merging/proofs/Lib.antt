@@ -44,3 +44,7 @@ pub mod Moving
 pub mod Disputing
 pub mod Permuting
 pub mod Counted
+pub mod Backwards
+pub mod ByPlaces
+pub mod Listings
+pub mod Origins

@@ -90,7 +90,7 @@ module _ (all all' : Lockfiles) (same : (p : PackageData) → place_of all p ≡
     replacement = replaced packages p.replace x.replacement h.replacement;
   }
 
-  are-placed : (packages : List PackageData) (xs : List (PlacedData Place)) → ArePlaced all packages xs → ArePlaced all' packages xs
+  pub are-placed : (packages : List PackageData) (xs : List (PlacedData Place)) → ArePlaced all packages xs → ArePlaced all' packages xs
   are-placed packages xs h = record {
     distinct = λ i j d less low e. h.distinct i j d less low (same (get_or packages i d) ∙ e ∙ sym (same (get_or packages j d)));
     one = h.one;

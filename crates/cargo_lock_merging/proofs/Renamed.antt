@@ -6,15 +6,15 @@ use Rattle.std.proofs.lemmas.List.Elements.{Contains-get_or}
 use Rattle.std.proofs.lemmas.Option.{same_Some}
 use Rattle.cargo_lock_parts.specs.Identity.{PackageData, identity_of}
 use Rattle.cargo_lock_parts.specs.IdentityOrder.{is_same_identity}
-use Rattle.cargo_lock_merging.specs.Choices.{Counts, DependsOn, IsChecksum, IsChosen, IsDependency, IsDependencyOf, IsOfSide, IsReplacement, checksum_if, if_same, replacement_if}
-use Rattle.cargo_lock_merging.specs.Commits.{Lockfiles}
-use Rattle.cargo_lock_merging.specs.Merge.{HaveAt, IsChain, IsMerge, IsMergedPackage, IsReached, IsRoot, LeadsTo, Triple, lockfiles_of}
+use Rattle.cargo_lock_merging.specs.Choices.{Counts, DependsOn, IsChecksum, IsChecksumConflict, IsChosen, IsClash, IsDependency, IsDependencyOf, IsOfSide, IsReplacement, IsReplacementConflict, checksum_if, if_same, replacement_if}
+use Rattle.cargo_lock_merging.specs.Commits.{IsSourceConflict, Lockfiles, git_in}
+use Rattle.cargo_lock_merging.specs.Merge.{ConflictData, HasReference, HaveAt, IsChain, IsConflict, IsMerge, IsMergedPackage, IsReached, IsRoot, LeadsTo, OfChecksum, OfPackage, OfReplacement, OfSource, Triple, lockfiles_of}
 use Rattle.cargo_lock_merging.specs.Placed.{HasAt, HasMember, HasOneAtEach, IsAt, PlacedData, contents_of}
-use Rattle.cargo_lock_merging.specs.Renaming.{Has, IsOneToOne, IsUsed, rename, rename_all, rename_triple}
-use Rattle.cargo_lock_merging.specs.Rule3.{IsKept, IsMergedValue}
+use Rattle.cargo_lock_merging.specs.Renaming.{Has, IsOneToOne, IsUsed, rename, rename_all, rename_conflict, rename_triple}
+use Rattle.cargo_lock_merging.specs.Rule3.{IsDisputed, IsKept, IsMergedValue}
 use Rattle.cargo_lock_merging.proofs.Once.{kept-iff}
 use Rattle.cargo_lock_merging.proofs.Planning.{image-in}
-use Rattle.cargo_lock_merging.proofs.Renaming.{chosen-of, chosen-to, clash-same, key-same}
+use Rattle.cargo_lock_merging.proofs.Renaming.{chosen-of, chosen-to, clash-same, key-same, side-of, side-to}
 
 pub map-in : {X Y : Type 0} (g : X → Y) (xs : List X) (x : X) → Contains xs x → Contains (map g xs) (g x)
 map-in g xs x (k, low, is) = (k, omega (arith, low, length-map xs g), get_or-map g xs k x (g x) low ∙ ap g is)
@@ -23,7 +23,7 @@ contents-same : {P Q : Type 0} (f : P → Q) (xs : List (PlacedData P)) → cont
 contents-same f [] = refl
 contents-same f (x ∷ xs) = ap (λ (ps : List PackageData). x.content ∷ ps) (contents-same f xs)
 
-lockfiles-same : {P Q : Type 0} (f : P → Q) (s : Triple P) → lockfiles_of (rename_triple f s) ≡ lockfiles_of s
+pub lockfiles-same : {P Q : Type 0} (f : P → Q) (s : Triple P) → lockfiles_of (rename_triple f s) ≡ lockfiles_of s
 lockfiles-same f s = λ i. record { base = contents-same f s.base i; ours = contents-same f s.ours i; theirs = contents-same f s.theirs i }
 
 kept-of : {b o t : Type 0} → IsKept b o t → o ⊎ t
@@ -367,11 +367,11 @@ module _ {P Q : Type 0} (f : P → Q) (s : Triple P) (inj : IsOneToOne s f) wher
     by-side d (inl (inr h)) = (h.0.one, h.0.of_side)
     by-side d (inr h) = (h.0, h.1.0)
 
-  side-used : (p : P) (y z : Option (PlacedData P)) (x : PlacedData P) → IsAt s.ours p y → IsAt s.theirs p z → IsOfSide y z x → IsUsed s p
+  pub side-used : (p : P) (y z : Option (PlacedData P)) (x : PlacedData P) → IsAt s.ours p y → IsAt s.theirs p z → IsOfSide y z x → IsUsed s p
   side-used p y z x at at' (inl e) = let h : HasAt s.ours p x = subst (IsAt s.ours p) e at in subst (IsUsed s) h.1 (place-used s.ours our-list x h.0)
   side-used p y z x at at' (inr e) = let h : HasAt s.theirs p x = subst (IsAt s.theirs p) e at' in subst (IsUsed s) h.1 (place-used s.theirs their-list x h.0)
 
-  have-to : (p : P) → IsUsed s p → (x y z : Option (PlacedData P)) → HaveAt s p x y z
+  pub have-to : (p : P) → IsUsed s p → (x y z : Option (PlacedData P)) → HaveAt s p x y z
       → HaveAt (rename_triple f s) (f p) (option_map (rename f) x) (option_map (rename f) y) (option_map (rename f) z)
   have-to p u x y z at = record {
     base = at-to s.base base-list p u x at.base;
@@ -492,3 +492,114 @@ module _ {P Q : Type 0} (f : P → Q) (s : Triple P) (inj : IsOneToOne s f) wher
     );
     each = λ y k. let x = image-in (rename f) ms y k in subst (IsMergedPackage (rename_triple f s)) x.2 (merged-to x.0 (h.each x.0 x.1));
   }
+
+  -- ---- conflicts
+
+  disputed-cast : {X : Type 0} (a a' : X) (b b' c c' : Option X) → a ≡ a' → b ≡ b' → c ≡ c' → IsDisputed a b c → IsDisputed a' b' c'
+  disputed-cast {X = X} a a' b b' c c' ea eb ec h =
+      subst (λ (w : Option X). IsDisputed a' b' w) ec (subst (λ (w : Option X). IsDisputed a' w c) eb (subst (λ (w : X). IsDisputed w b c) ea h))
+
+  checksum-disputed : (b o t : Option (PlacedData P)) (x : PlacedData P) → IsChecksumConflict b o t x
+      → IsChecksumConflict (option_map (rename f) b) (option_map (rename f) o) (option_map (rename f) t) (rename f x)
+  checksum-disputed b o t x h =
+      let g = λ (y : PlacedData Q). y.content.checksum in
+      disputed-cast _ _ _ _ _ _
+      (checksum-if-map (if_same x b) ∙ ap checksum_if (sym (if-same-map x b)))
+      (checksum-map (if_same x o) ∙ ap (option_map g) (sym (if-same-map x o)))
+      (checksum-map (if_same x t) ∙ ap (option_map g) (sym (if-same-map x t))) h
+
+  disputed-map : (b : Option P) (o t : Option (Option P)) → IsUsedIf b → IsUsedBoth o → IsUsedBoth t → IsDisputed b o t → IsDisputed (option_map f b) (option_map (option_map f) o) (option_map (option_map f) t)
+  unfolding IsUsedBoth
+  disputed-map b None None ub uo ut h = absurd h
+  disputed-map b None (Some t) ub uo ut h = absurd h
+  disputed-map b (Some o) None ub uo ut h = absurd h
+  disputed-map b (Some o) (Some t) ub uo ut h = record {
+    apart = λ e. h.apart (used-once o t (uo o refl) (ut t refl) e);
+    ours = λ e. h.ours (used-once o b (uo o refl) ub e);
+    theirs = λ e. h.theirs (used-once t b (ut t refl) ub e);
+  }
+
+  replacement-disputed : (b o t : Option (PlacedData P)) → IsOf s.base b → IsOf s.ours o → IsOf s.theirs t → (x : PlacedData P) → IsReplacementConflict b o t x
+      → IsReplacementConflict (option_map (rename f) b) (option_map (rename f) o) (option_map (rename f) t) (rename f x)
+  replacement-disputed b o t ob oo ot x h =
+      let g = λ (y : PlacedData Q). y.replacement in
+      let g' = λ (y : PlacedData P). y.replacement in
+      disputed-cast _ _ _ _ _ _
+      (replaced-if-map (if_same x b) ∙ ap replacement_if (sym (if-same-map x b)))
+      (replaced-map (if_same x o) ∙ ap (option_map g) (sym (if-same-map x o)))
+      (replaced-map (if_same x t) ∙ ap (option_map g) (sym (if-same-map x t)))
+      (disputed-map (replacement_if (if_same x b)) (option_map g' (if_same x o)) (option_map g' (if_same x t))
+      (used-if s.base base-list x b ob) (used-both s.ours our-list x o oo) (used-both s.theirs their-list x t ot) h)
+
+  -- a conflict is one at the renamed place
+  pub conflict-renamed : (c : ConflictData P) → IsConflict s c → IsConflict (rename_triple f s) (rename_conflict f c)
+  conflict-renamed (OfPackage p) (r, (x, y, z, at, (clash, none))) = (
+    reached-to p r,
+    (
+      option_map (rename f) x,
+      option_map (rename f) y,
+      option_map (rename f) z,
+      have-to p (side-used p y z clash.one at.ours at.theirs clash.of_side) x y z at,
+      (
+        subst (λ (all : Lockfiles). IsClash all (option_map (rename f) x) (option_map (rename f) y) (option_map (rename f) z)) (sym (lockfiles-same f s))
+            ((clash-same f (lockfiles_of s) x y z).0 clash),
+        λ w g side is dispute.
+            let k = side-of f y z w side in
+            none k.0 g k.1 (ap (λ (v : PlacedData Q). git_in v.content.source) k.2 ∙ is) (subst (λ (all : Lockfiles). IsSourceConflict all g) (lockfiles-same f s) dispute),
+      ),
+    ),
+  )
+  conflict-renamed (OfChecksum p) (r, (x, y, z, c, at, chosen, dispute)) = (
+    reached-to p r,
+    (
+      option_map (rename f) x,
+      option_map (rename f) y,
+      option_map (rename f) z,
+      rename f c,
+      have-to p (side-used p y z c at.ours at.theirs chosen.0) x y z at,
+      subst (λ (all : Lockfiles). IsChosen all (option_map (rename f) x) (option_map (rename f) y) (option_map (rename f) z) (rename f c)) (sym (lockfiles-same f s))
+          (chosen-to f (lockfiles_of s) x y z c chosen),
+      checksum-disputed x y z c dispute,
+    ),
+  )
+  conflict-renamed (OfReplacement p) (r, (x, y, z, c, at, chosen, dispute)) = (
+    reached-to p r,
+    (
+      option_map (rename f) x,
+      option_map (rename f) y,
+      option_map (rename f) z,
+      rename f c,
+      have-to p (side-used p y z c at.ours at.theirs chosen.0) x y z at,
+      subst (λ (all : Lockfiles). IsChosen all (option_map (rename f) x) (option_map (rename f) y) (option_map (rename f) z) (rename f c)) (sym (lockfiles-same f s))
+          (chosen-to f (lockfiles_of s) x y z c chosen),
+      replacement-disputed x y z (is-of s.base p x at.base) (is-of s.ours p y at.ours) (is-of s.theirs p z at.theirs) c dispute,
+    ),
+  )
+  conflict-renamed (OfSource g) ((p, r, (x, y, z, c, at, side, is)), dispute) = (
+    (
+      f p,
+      reached-to p r,
+      (
+        option_map (rename f) x,
+        option_map (rename f) y,
+        option_map (rename f) z,
+        rename f c,
+        have-to p (side-used p y z c at.ours at.theirs side) x y z at,
+        side-to f y z c side,
+        is,
+      ),
+    ),
+    subst (λ (all : Lockfiles). IsSourceConflict all g) (sym (lockfiles-same f s)) dispute,
+  )
+
+-- a reference is one between the renamed places
+pub reference-renamed : {P Q : Type 0} (f : P → Q) (side : List (PlacedData P)) (x y : PlacedData P) → HasReference side x y → HasReference (rename_all f side) (rename f x) (rename f y)
+reference-renamed f side x y h = record {
+  from = rename f h.from;
+  from_at = (map-in (rename f) side h.from h.from_at.0, ap f h.from_at.1);
+  same = h.same;
+  depends = map-in f h.from.dependencies y.place h.depends;
+  to = rename f h.to;
+  to_at = (map-in (rename f) side h.to h.to_at.0, ap f h.to_at.1);
+  target = h.target;
+}

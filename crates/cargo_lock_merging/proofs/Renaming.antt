@@ -13,11 +13,11 @@ module _ {P Q : Type 0} (f : P → Q) where
   some-of None x e = absurd cc
   some-of (Some y) x e = (y, refl, same_Some (rename f y) x e)
 
-  side-of : (o t : Option (PlacedData P)) (x : PlacedData Q) → IsOfSide (option_map (rename f) o) (option_map (rename f) t) x → (y : PlacedData P) × IsOfSide o t y × (rename f y ≡ x)
+  pub side-of : (o t : Option (PlacedData P)) (x : PlacedData Q) → IsOfSide (option_map (rename f) o) (option_map (rename f) t) x → (y : PlacedData P) × IsOfSide o t y × (rename f y ≡ x)
   side-of o t x (inl e) = let k = some-of o x e in (k.0, inl k.1, k.2)
   side-of o t x (inr e) = let k = some-of t x e in (k.0, inr k.1, k.2)
 
-  side-to : (o t : Option (PlacedData P)) (y : PlacedData P) → IsOfSide o t y → IsOfSide (option_map (rename f) o) (option_map (rename f) t) (rename f y)
+  pub side-to : (o t : Option (PlacedData P)) (y : PlacedData P) → IsOfSide o t y → IsOfSide (option_map (rename f) o) (option_map (rename f) t) (rename f y)
   side-to o t y (inl e) = inl (ap (option_map (rename f)) e)
   side-to o t y (inr e) = inr (ap (option_map (rename f)) e)
 

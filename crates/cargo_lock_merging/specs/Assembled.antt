@@ -46,10 +46,3 @@ abbrev pub AssembledAreMerge : Type 0
 AssembledAreMerge = (all : Lockfiles) (places : List Place) (s : Triple ℕ) (m : List (PlacedData ℕ))
     (ps : List PackageData) → AreSides all places s → IsMerge s m → AreAssembled m ps
     → IsMergeOf all ps
-
--- The three lists have no merge, by numbers of their places.
-pub record HasNoMerge (all : Lockfiles) : Type 0 where
-  pub places : List Place
-  pub triple : Triple ℕ
-  pub sides : AreSides all places triple
-  pub none : (m : List (PlacedData ℕ)) → ¬ IsMerge triple m

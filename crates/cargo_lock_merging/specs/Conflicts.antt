@@ -24,7 +24,7 @@ use Rattle.cargo_lock_merging.specs.Placed.{PlacedData}
 use Rattle.cargo_lock_merging.specs.Reach.{IsMarked}
 
 -- the conflict about this at a place
-abbrev pub conflict_of : Kind → ℕ → ConflictData ℕ
+abbrev pub conflict_of : {P : Type 0} → Kind → P → ConflictData P
 conflict_of Package p = OfPackage p
 conflict_of Checksum p = OfChecksum p
 conflict_of Replacement p = OfReplacement p
@@ -38,14 +38,14 @@ abbrev pub now_if : Option (Bor PackageData) → Option PackageData
 now_if = option_map (λ p. p.now)
 
 -- the package that a list has at a place, if it has one
-abbrev pub content_if : Option (PlacedData ℕ) → Option PackageData
+abbrev pub content_if : {P : Type 0} → Option (PlacedData P) → Option PackageData
 content_if = option_map (λ x. x.content)
 
 -- a package of a side is chosen of what is at a place, or none is
-abbrev pub IsChosenIf : Lockfiles → Option (PlacedData ℕ) → Option (PlacedData ℕ)
-    → Option (PlacedData ℕ) → Option PackageData → Type 0
-IsChosenIf all x y z None = (c : PlacedData ℕ) → ¬ IsChosen all x y z c
-IsChosenIf all x y z (Some p) = (c : PlacedData ℕ) × IsChosen all x y z c × (p ≡ c.content)
+abbrev pub IsChosenIf : {P : Type 0} → Lockfiles → Option (PlacedData P) → Option (PlacedData P)
+    → Option (PlacedData P) → Option PackageData → Type 0
+IsChosenIf {P = P} all x y z None = (c : PlacedData P) → ¬ IsChosen all x y z c
+IsChosenIf {P = P} all x y z (Some p) = (c : PlacedData P) × IsChosen all x y z c × (p ≡ c.content)
 
 -- the git source of the first package, or of the second if there is no first, with its commits
 abbrev pub IsSourceOfEither : Lockfiles → Option PackageData → Option PackageData

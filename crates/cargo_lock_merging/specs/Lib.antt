@@ -27,3 +27,6 @@ pub mod Triples
 pub mod Numbers
 pub mod Disputes
 pub mod Conflicts
+pub mod ByPlaces
+pub mod Listings
+pub mod Origins

@@ -1,7 +1,7 @@
 -- Places that are renamed.
 use Rattle.std.specs.Prelude.{◌≡◌, ◌⊎◌, List, Some, map, option_map}
 use Rattle.std.specs.List.{Contains}
-use Rattle.cargo_lock_merging.specs.Merge.{Triple}
+use Rattle.cargo_lock_merging.specs.Merge.{ConflictData, OfChecksum, OfPackage, OfReplacement, OfSource, Triple}
 use Rattle.cargo_lock_merging.specs.Placed.{PlacedData}
 
 -- the package with its places renamed
@@ -24,6 +24,13 @@ rename_triple f s = record {
   ours = rename_all f s.ours;
   theirs = rename_all f s.theirs;
 }
+
+-- the conflict with its place renamed
+abbrev pub rename_conflict : {P Q : Type 0} → (P → Q) → ConflictData P → ConflictData Q
+rename_conflict f (OfPackage p) = OfPackage (f p)
+rename_conflict f (OfChecksum p) = OfChecksum (f p)
+rename_conflict f (OfReplacement p) = OfReplacement (f p)
+rename_conflict f (OfSource g) = OfSource g
 
 -- the place is that of a package of the list, or a package refers to it
 abbrev pub Has : {P : Type 0} → List (PlacedData P) → P → Type 0

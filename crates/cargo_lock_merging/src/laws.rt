@@ -6,12 +6,17 @@ ghost use Rattle.cargo_lock_merging.specs.Laws.{MergeIsSymmetric, NumbersOfPlace
 ghost use Rattle.cargo_lock_merging.specs.Laws.{BothStay, MergeHasNoConflict, PackagesAreOfSides};
 ghost use Rattle.cargo_lock_merging.specs.Laws.{ConflictsAreSymmetric, MovedReferencesAreSymmetric};
 ghost use Rattle.cargo_lock_merging.specs.Laws.{TakenAwayIsGone};
+ghost use Rattle.cargo_lock_merging.specs.Listings.{ListingsHaveOneConflict, ListingsHaveOneMerge};
+ghost use Rattle.cargo_lock_merging.specs.Listings.{ListingsAreSymmetric, ListingsHaveOneMoved};
+ghost use Rattle.cargo_lock_merging.specs.Listings.{MergeOfListsIsSymmetric, MergeOfListsIsUnique};
 ghost use Rattle.cargo_lock_merging.specs.LawsOfMerges.{IdentityOfBothStays, MergeIsSound};
 ghost use Rattle.cargo_lock_merging.specs.LawsOfMerges.{MergeExcludesConflicts, MergeIsStable};
 ghost use Rattle.cargo_lock_merging.specs.LawsOfMerges.{MergeIsUnique, MergeOfListsIsSound};
 ghost use Rattle.cargo_lock_merging.specs.LawsOfMerges.{MergeOfListsIsStable, MergeWithBase};
 ghost use Rattle.cargo_lock_merging.specs.LawsOfMerges.{MergeWithBaseAgrees, MergeWithItself};
 ghost use Rattle.cargo_lock_merging.specs.LawsOfMerges.{PlacedAreLockfile, UnmovedAreOfSides};
+ghost use Rattle.cargo_lock_merging.specs.Origins.{ChecksumsAreOfSides, MergeOfListsWithBase};
+ghost use Rattle.cargo_lock_merging.specs.Origins.{MergeOfListsWithItself};
 
 /// A merge by numbers of places is a merge by the places, where no two places have one number.
 pub fn numbers_are_of_places()
@@ -126,4 +131,50 @@ pub fn merge_is_stable()
 /// The same of lists of packages, where none has two packages of one name without source.
 pub fn merge_of_lists_is_stable()
     ensures { MergeOfListsIsStable }
+{}
+
+/// Where the packages of three lists are at their places, their order and that of the dependencies
+/// do not matter: each such listing has the same merges.
+pub fn listings_have_one_merge()
+    ensures { ListingsHaveOneMerge }
+{}
+
+/// Each such listing has the same conflicts.
+pub fn listings_have_one_conflict()
+    ensures { ListingsHaveOneConflict }
+{}
+
+/// Each such listing has the same moved references of a merge.
+pub fn listings_have_one_moved()
+    ensures { ListingsHaveOneMoved }
+{}
+
+/// Two merges of the same lists of packages have the same packages.
+pub fn merge_of_lists_is_unique()
+    ensures { MergeOfListsIsUnique }
+{}
+
+/// The sides of a merge of lists of packages may be exchanged.
+pub fn merge_of_lists_is_symmetric()
+    ensures { MergeOfListsIsSymmetric }
+{}
+
+/// Lists of packages at their places are so where the sides are exchanged.
+pub fn listings_are_symmetric()
+    ensures { ListingsAreSymmetric }
+{}
+
+/// Each merged checksum is that of a side's package of the same identity.
+pub fn checksums_are_of_sides()
+    ensures { ChecksumsAreOfSides }
+{}
+
+/// The same as `merge_with_base`, of lists of packages.
+pub fn merge_of_lists_with_base()
+    ensures { MergeOfListsWithBase }
+{}
+
+/// The same as `merge_with_itself`, of lists of packages.
+pub fn merge_of_lists_with_itself()
+    ensures { MergeOfListsWithItself }
 {}

@@ -7,6 +7,7 @@ use Rattle.cargo_lock_merging.specs.Assembled.{IsIdentityAt}
 use Rattle.cargo_lock_merging.specs.Merged.{merged_data}
 use Rattle.cargo_lock_merging.specs.Placed.{PlacedData}
 use Rattle.cargo_lock_merge.proofs.Assembling.{looked-up, only-at, passed-by}
+use Rattle.cargo_lock_merge.proofs.Once.{apart-at-end, more-so-far, passed-so-far}
 use Rattle.cargo_lock_merge.proofs.assemble.dependencies.Goals as goal
 use Rattle.cargo_lock_merge.proofs.assemble.dependencies.Goals.{in-Some+in_ok-of+in_ok-push, in_default}
 
@@ -21,11 +22,15 @@ loop-place-preserved c =
     elim c.match-package_at.branch [
       | in-Some+in_ok-of+in_ok-push w ↦
           let d : Identity = w.in_ok-of.field-0 in
-          let found : IsIdentityAt m n d = (w.in-Some.ensures.0, w.in-Some.ensures.1, w.in_ok-of.ensures.ok ∙ w.in-Some.ensures.2) in
-          looked-up m ns k n old c.match-package_at.all.items d low (get_or_default ns k 0 n low) c.loop-place.invariant (λ i other. only-at c.args.merged.now n i d c.requires.ascending other found) found (ap (λ v. v.items) w.all-is ∙ w.in_ok-push.ensures.items)
-      | in_default w ↦
-          subst (λ (is : List Identity). (i : Identity) → Contains is i ↔ ((j : ℕ) × Contains (take (k + 1) ns) j × IsIdentityAt m j i)) (sym (ap (λ v. v.items) w.all-is))
-          (passed-by m ns k n old low (get_or_default ns k 0 n low) c.loop-place.invariant w.in_default.ensures)
+          let found : IsIdentityAt m n d = (w.in-Some.ensures.0, w.in-Some.ensures.1, w.in_ok-of.ensures.ok ∙ w.in-Some.ensures.2) in record {
+          listed = looked-up m ns k n old c.match-package_at.all.items d low (get_or_default ns k 0 n low) c.loop-place.invariant.listed (λ i other. only-at c.args.merged.now n i d c.requires.ascending other found) found (ap (λ v. v.items) w.all-is ∙ w.in_ok-push.ensures.items);
+          once = λ up. more-so-far m ns k old c.match-package_at.all.items d up low (c.loop-place.invariant.once up) found (ap (λ v. v.items) w.all-is ∙ w.in_ok-push.ensures.items);
+          }
+      | in_default w ↦ record {
+          listed = subst (λ (is : List Identity). (i : Identity) → Contains is i ↔ ((j : ℕ) × Contains (take (k + 1) ns) j × IsIdentityAt m j i)) (sym (ap (λ v. v.items) w.all-is))
+          (passed-by m ns k n old low (get_or_default ns k 0 n low) c.loop-place.invariant.listed w.in_default.ensures);
+          once = λ up. passed-so-far m ns k old c.match-package_at.all.items up low (c.loop-place.invariant.once up) w.in_default.ensures (ap (λ v. v.items) w.all-is);
+          }
     ]
 
 pub returns-clause-ok : goal.returns-clause-ok
@@ -34,6 +39,10 @@ returns-clause-ok c = λ i.
     let ns : List ℕ = c.args.at.now in
     let end = c.loop-place-test.false in
     let all : (j : Identity) → Contains c.loop-place.all.items j ↔ ((n : ℕ) × Contains ns n × IsIdentityAt m n j) =
-    subst (λ (xs : List ℕ). (j : Identity) → Contains c.loop-place.all.items j ↔ ((n : ℕ) × Contains xs n × IsIdentityAt m n j)) (take_all c.loop-place.place-index ns (omega (arith, end))) c.loop-place.invariant in
+    subst (λ (xs : List ℕ). (j : Identity) → Contains c.loop-place.all.items j ↔ ((n : ℕ) × Contains xs n × IsIdentityAt m n j)) (take_all c.loop-place.place-index ns (omega (arith, end))) c.loop-place.invariant.listed in
     let moved = c.in_ok-put_in_order.ensures.permutation in
     (λ h. (all i).0 (Contains-permutation _ _ i (IsPermutation-sym _ _ moved) h), λ h. Contains-permutation _ _ i moved ((all i).1 h))
+
+pub returns-clause-once : goal.returns-clause-once
+returns-clause-once c = λ up.
+    apart-at-end (map merged_data c.args.merged.now) c.args.at.now c.loop-place.place-index c.loop-place.all.items _ (c.loop-place.invariant.once up) c.in_ok-put_in_order.ensures.permutation

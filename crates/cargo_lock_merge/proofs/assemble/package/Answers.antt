@@ -1,5 +1,6 @@
-use Rattle.std.proofs.Common.{◌∙◌, ◌↔◌, ℕ, List, map, refl, subst}
+use Rattle.std.proofs.Common.{◌∙◌, ◌↔◌, ℕ, List, map, refl, subst, sym}
 use Rattle.std.specs.List.{Contains}
+use Rattle.std.specs.List.Sorted.{IsStrictlyIncreasing}
 use Rattle.cargo_lock_merging.specs.Assembled.{IsIdentityAt}
 use Rattle.cargo_lock_merging.specs.Merged.{merged_data}
 use Rattle.cargo_lock_merging.specs.Placed.{PlacedData}
@@ -14,3 +15,6 @@ returns-clause-ok c =
       dependencies = λ i. subst (λ (ns : List ℕ). Contains c.in_ok-dependencies.dependencies.items i ↔ ((n : ℕ) × Contains ns n × IsIdentityAt m n i)) c.deref.ensures.value (c.in_ok-dependencies.ensures.ok i);
       replacement = c.in_ok-replace.ensures.ok;
     }
+
+pub returns-clause-once : goal.returns-clause-once
+returns-clause-once c = λ up. c.in_ok-dependencies.ensures.once (subst IsStrictlyIncreasing (sym c.deref.ensures.value) up)

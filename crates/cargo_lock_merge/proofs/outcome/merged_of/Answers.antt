@@ -10,4 +10,5 @@ returns-clause-ok c = (
   c.in_ok-packages.ensures.ok,
   c.in_ok-packages.ensures.order,
   subst (λ (ps : List PackageData). AreMovedReferences (all_data c.args.ours.now) (all_data c.args.theirs.now) (map merged_data c.args.merged.now) ps c.in_ok-moved.moved.items) c.deref.ensures.value c.in_ok-moved.ensures.ok,
+  c.in_ok-packages.ensures.once c.requires.merged,
 )
