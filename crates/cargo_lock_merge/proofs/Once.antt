@@ -13,10 +13,10 @@ use Rattle.cargo_lock_merging.specs.Commits.{Lockfiles, key_without_commit}
 use Rattle.cargo_lock_merging.specs.Lists.{place_at}
 use Rattle.cargo_lock_merging.specs.Merge.{IsMerge, Triple}
 use Rattle.cargo_lock_merging.specs.Placed.{HasAt, PlacedData}
-use Rattle.cargo_lock_merging.specs.Places.{place_of}
+use Rattle.cargo_lock_merging.specs.Places.{Place, place_of}
 use Rattle.cargo_lock_merging.proofs.Assembling.{merged-place}
 use Rattle.cargo_lock_merging.proofs.ByPlaces.{merged-number}
-use Rattle.cargo_lock_merging.proofs.Kept.{AreKept, kept-pass, kept-push}
+use Rattle.cargo_lock_merging.proofs.Kept.{AreKept, kept-pass, kept-push, kept-start}
 use Rattle.cargo_lock_merging.proofs.Permuting.{pairs-permuted}
 use Rattle.cargo_lock_merging.proofs.Slotting.{numbers-one, place-stated}
 use Rattle.cargo_lock_merging.proofs.Zipping.{zip-push}
@@ -33,6 +33,10 @@ HasSome m n = (y : PlacedData ℕ) × HasAt m n y
 -- the identities so far are those at the numbers so far at which packages are
 abbrev pub AreSoFar : List (PlacedData ℕ) → List ℕ → ℕ → List Identity → Type 0
 AreSoFar m at k is = (ns : List ℕ) × AreKept (HasSome m) at k ns × AllZip (IsIdentityAt m) ns is
+
+-- none before the first
+pub none-so-far : (m : List (PlacedData ℕ)) (at : List ℕ) → AreSoFar m at 0 []
+none-so-far m at = ([], kept-start (HasSome m) at, tt)
 
 -- one more number, at which a package is
 pub more-so-far : (m : List (PlacedData ℕ)) (at : List ℕ) (k : ℕ) (old new : List Identity) (d : Identity) → IsStrictlyIncreasing at → k < length at → AreSoFar m at k old → IsIdentityAt m (get_or at k 0) d

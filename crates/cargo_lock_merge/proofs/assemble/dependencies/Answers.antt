@@ -1,4 +1,4 @@
-use Rattle.std.proofs.Common.{◌∙◌, ◌+◌, ◌↔◌, ℕ, List, ap, arith, get_or, map, subst, sym, take}
+use Rattle.std.proofs.Common.{◌≡◌, ◌∙◌, ◌+◌, ◌↔◌, [], ℕ, List, ap, arith, get_or, map, subst, sym, take}
 use Rattle.std.specs.List.{Contains}
 use Rattle.std.proofs.lemmas.List.{get_or_default, take_all}
 use Rattle.std.proofs.lemmas.List.Sorted.{Contains-permutation, IsPermutation-sym}
@@ -6,10 +6,21 @@ use Rattle.cargo_lock_parts.specs.Identity.{Identity}
 use Rattle.cargo_lock_merging.specs.Assembled.{IsIdentityAt}
 use Rattle.cargo_lock_merging.specs.Merged.{merged_data}
 use Rattle.cargo_lock_merging.specs.Placed.{PlacedData}
+use Rattle.cargo_lock_merging.proofs.Members.{none-in}
 use Rattle.cargo_lock_merge.proofs.Assembling.{looked-up, only-at, passed-by}
-use Rattle.cargo_lock_merge.proofs.Once.{apart-at-end, more-so-far, passed-so-far}
+use Rattle.cargo_lock_merge.proofs.Once.{AreSoFar, apart-at-end, more-so-far, none-so-far, passed-so-far}
 use Rattle.cargo_lock_merge.proofs.assemble.dependencies.Goals as goal
 use Rattle.cargo_lock_merge.proofs.assemble.dependencies.Goals.{in-Some+in_ok-of+in_ok-push, in_default}
+
+pub loop-place-init : goal.loop-place-init
+loop-place-init c =
+    let m : List (PlacedData ℕ) = map merged_data c.args.merged.now in
+    let empty : c.in_ok-all.all.items ≡ [] = c.in_ok-all.ensures.items in
+    record {
+      listed = λ i. subst (λ (is : List Identity). Contains is i ↔ ((n : ℕ) × Contains {X = ℕ} [] n × IsIdentityAt m n i)) (sym empty)
+          (λ h. absurd (none-in i h), λ h. absurd (none-in h.0 h.1));
+      once = λ up. subst (AreSoFar m c.args.at.now 0) (sym empty) (none-so-far m c.args.at.now);
+    }
 
 pub loop-place-preserved : goal.loop-place-preserved
 loop-place-preserved c =
@@ -23,14 +34,14 @@ loop-place-preserved c =
       | in-Some+in_ok-of+in_ok-push w ↦
           let d : Identity = w.in_ok-of.field-0 in
           let found : IsIdentityAt m n d = (w.in-Some.ensures.0, w.in-Some.ensures.1, w.in_ok-of.ensures.ok ∙ w.in-Some.ensures.2) in record {
-          listed = looked-up m ns k n old c.match-package_at.all.items d low (get_or_default ns k 0 n low) c.loop-place.invariant.listed (λ i other. only-at c.args.merged.now n i d c.requires.ascending other found) found (ap (λ v. v.items) w.all-is ∙ w.in_ok-push.ensures.items);
-          once = λ up. more-so-far m ns k old c.match-package_at.all.items d up low (c.loop-place.invariant.once up) found (ap (λ v. v.items) w.all-is ∙ w.in_ok-push.ensures.items);
+            listed = looked-up m ns k n old c.match-package_at.all.items d low (get_or_default ns k 0 n low) c.loop-place.invariant.listed (λ i other. only-at c.args.merged.now n i d c.requires.ascending other found) found (ap (λ v. v.items) w.all-is ∙ w.in_ok-push.ensures.items);
+            once = λ up. more-so-far m ns k old c.match-package_at.all.items d up low (c.loop-place.invariant.once up) found (ap (λ v. v.items) w.all-is ∙ w.in_ok-push.ensures.items);
           }
       | in_default w ↦ record {
-          listed = subst (λ (is : List Identity). (i : Identity) → Contains is i ↔ ((j : ℕ) × Contains (take (k + 1) ns) j × IsIdentityAt m j i)) (sym (ap (λ v. v.items) w.all-is))
-          (passed-by m ns k n old low (get_or_default ns k 0 n low) c.loop-place.invariant.listed w.in_default.ensures);
-          once = λ up. passed-so-far m ns k old c.match-package_at.all.items up low (c.loop-place.invariant.once up) w.in_default.ensures (ap (λ v. v.items) w.all-is);
-          }
+        listed = subst (λ (is : List Identity). (i : Identity) → Contains is i ↔ ((j : ℕ) × Contains (take (k + 1) ns) j × IsIdentityAt m j i)) (sym (ap (λ v. v.items) w.all-is))
+            (passed-by m ns k n old low (get_or_default ns k 0 n low) c.loop-place.invariant.listed w.in_default.ensures);
+        once = λ up. passed-so-far m ns k old c.match-package_at.all.items up low (c.loop-place.invariant.once up) w.in_default.ensures (ap (λ v. v.items) w.all-is);
+      }
     ]
 
 pub returns-clause-ok : goal.returns-clause-ok
