@@ -14,7 +14,7 @@ use Rattle.cargo_lock_diff.proofs.OneLine.{package-prints}
 use Rattle.cargo_lock_audit.specs.declared.database.DatabaseFault.TheVariants as fault
 use Rattle.cargo_lock_audit.specs.Advisory.{AdvisoryData}
 use Rattle.cargo_lock_audit.specs.Findings.{FindingData}
-use Rattle.cargo_lock_audit.specs.Lines.{EachIsOneLine, FaultsArePrintable, LinesArePrintable, advisory_text, file_line, finding_line, or_text, patched_text, report_text, said, text_of_lines, title_char, title_text, unmet_line, unmet_text}
+use Rattle.cargo_lock_audit.specs.Lines.{EachIsOneLine, FaultsArePrintable, LinesArePrintable, file_line, finding_line, or_text, patched_text, report_text, said, text_of_lines, title_char, title_text, unmet_line, unmet_text}
 use Rattle.cargo_lock_audit.specs.Requirement.{RequirementData}
 
 patched-prints : (rs : List RequirementData) → Prints (patched_text rs)

@@ -1,9 +1,8 @@
 -- What an advisory says, and which packages it concerns.
 use Rattle.std.specs.Prelude.{◌≡◌, ◌⊎◌, ◌↔◌, ◌&&◌, ◌||◌, ℕ, Bool, false, true, List, Option, None}
 use Rattle.std.specs.Prelude.{Some}
-use Rattle.std.specs.Prelude.{String, bytes_eq, codes, is_none, not, option_map, string_bytes}
+use Rattle.std.specs.Prelude.{bytes_eq, codes, is_none, not}
 use Rattle.std.specs.List.{Contains, list_any}
-use Rattle.std.specs.declared.alloc.Global.{Global}
 use Rattle.semver.specs.Parse.{Parts}
 use Rattle.cargo_lock_parts.specs.Identity.{PackageData}
 use Rattle.cargo_lock_parts.specs.Source.{Source}

@@ -1,5 +1,5 @@
 -- What is found: the packages that advisories concern, but for ignored advisories.
-use Rattle.std.specs.Prelude.{◌≡◌, ◌≢◌, ◌↔◌, ◌++◌, [], ◌∷◌, ℕ, Bool, false, true, List, Option}
+use Rattle.std.specs.Prelude.{◌≡◌, ◌↔◌, ◌++◌, [], ◌∷◌, ℕ, Bool, false, true, List, Option}
 use Rattle.std.specs.Prelude.{None, Some}
 use Rattle.std.specs.Prelude.{bytes_eq, filter, if◌then◌else◌, not, string_bytes}
 use Rattle.std.specs.List.{Contains, flat_map, list_any}

@@ -2,7 +2,7 @@
 -- left out is 0. `^` and `~` are the only comparator of a requirement: they begin at their version,
 -- and end before the lowest pre-release of the next version, as in `>=1.2.3, <2.0.0-0` for
 -- `^1.2.3`. A text with `*` is no requirement.
-use Rattle.std.specs.Prelude.{◌+◌, ◌^◌, [], ◌∷◌, ℕ, List, Option, None, Some, Result, Ok, Err}
+use Rattle.std.specs.Prelude.{◌+◌, ◌^◌, [], ◌∷◌, ℕ, List, Option, None, Some}
 use Rattle.std.specs.Prelude.{codes}
 use Rattle.std.specs.Prelude.{if◌then◌else◌, nat_lt, option_map, unwrap_or}
 use Rattle.std.specs.Option.{option_and_then}
