@@ -51,7 +51,7 @@ digest_in (OtherFile p f path digest listed) = Some digest
 digest_in (Unlisted p f path) = digest_at f.files path
 digest_in (Link p f path) = None
 
--- the digest that was expected: that of the archive in the lockfile, or that of the file in the list
+-- the digest that was expected: that of the archive in the lockfile, or of the file in the list
 abbrev pub expected_in : FindingData → Option (List ℕ)
 expected_in (NoFolder p) = p.checksum
 expected_in (OtherArchive p f) = p.checksum

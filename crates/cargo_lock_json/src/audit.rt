@@ -20,7 +20,7 @@ use std::alloc::{AllocError, Global};
 /// Fails when out of memory.
 ///
 /// ```
-/// let text = advisories_json(rt.alloc(), &file, &report)?;
+/// let text = advisories_json(rt.alloc(), &file, report)?;
 /// ```
 pub fn advisories_json(
     alloc: Global,

@@ -22,11 +22,11 @@ use cargo_lock_verify::{Folder, FolderFinding, VendorReport};
 use std::alloc::{AllocError, Global};
 use std::collections::BTreeMap;
 
-/// The document of what is found of folders, in one line, as `archives_json` returns it of archives.
-/// Fails when out of memory.
+/// The document of what is found of folders, in one line, as `archives_json` returns it of
+/// archives. Fails when out of memory.
 ///
 /// ```
-/// let text = folders_json(rt.alloc(), &file, &report)?;
+/// let text = folders_json(rt.alloc(), &file, report)?;
 /// ```
 pub fn folders_json(
     alloc: Global,
@@ -119,7 +119,11 @@ fn package<'p>(finding: &FolderFinding<'p, '_>) -> &'p Package
 }
 
 // Writes the member with the path of the folder, or of the file or the link in it.
-fn put_path(out: &mut Text, alloc: Global, finding: &FolderFinding<'_, '_>) -> Result<(), AllocError>
+fn put_path(
+    out: &mut Text,
+    alloc: Global,
+    finding: &FolderFinding<'_, '_>,
+) -> Result<(), AllocError>
     ensures { Adds result out.old out.new (key (codes "path")
         ∷ json_tokens (text_or_null (path_of (finding_of finding.now)))) }
 {

@@ -1,7 +1,7 @@
 //! What the commands print with `--json`: a difference, what is wrong with a lockfile, why packages
 //! are there, the names that several packages have, and what is found of archives and folders, of
-//! licences and by advisories, each as one line of JSON whose keys are in a fixed order. Texts are as
-//! lockfiles, manifests and advisories have them, and JSON escapes them.
+//! licences and by advisories, each as one line of JSON whose keys are in a fixed order. Texts are
+//! as lockfiles, manifests and advisories have them, and JSON escapes them.
 //!
 //! `docs/JSON.md` has the documents.
 #![tactic(auto)]

@@ -4,7 +4,8 @@ ghost use Rattle.std.specs.Prelude.{◌≡◌, IfOk, map, option_map, string_byt
 ghost use Rattle.json.specs.Json.{array};
 ghost use Rattle.json.specs.Tree.{json_tokens};
 ghost use Rattle.cargo_lock_licenses.specs.Verdicts.{verdict_of};
-ghost use Rattle.cargo_lock_json.specs.Licenses.{expression_of, kind_text, package_of, verdict_json};
+ghost use Rattle.cargo_lock_json.specs.Licenses.{expression_of, kind_text, package_of};
+ghost use Rattle.cargo_lock_json.specs.Licenses.{verdict_json};
 ghost use Rattle.cargo_lock_json.specs.Licenses as spec;
 ghost use Rattle.cargo_lock_json.specs.Text.{Adds, IsJsonText, items_of};
 
@@ -109,9 +110,8 @@ fn expression<'a>(verdict: &Verdict<'_, 'a>) -> Option<&'a str>
     ensures { option_map (λ t. t.now) result ≡ expression_of (verdict_of verdict.now) }
 {
     match *verdict {
-        Verdict::Allowed(_, text)
-        | Verdict::NotAllowed(_, text)
-        | Verdict::NoExpression(_, text) => Some(text.as_str()),
+        Verdict::Allowed(_, text) | Verdict::NotAllowed(_, text) | Verdict::NoExpression(_, text) =>
+            Some(text.as_str()),
         _ => None,
     }
 }

@@ -23,8 +23,8 @@ use Rattle.cli.specs.Json.{IsAsked, IsFlag, IsUnasked, PrintsLine, file_of}
 abbrev pub AreSubjectsOf : List PackageData → List SubjectData → Type 0
 AreSubjectsOf packages subjects = map (λ s. s.content) subjects ≡ packages
 
--- what is printed of archives: the document of findings and of how many packages are verified, if the
--- arguments ask for JSON, and otherwise their lines
+-- what is printed of archives: the document of findings and of how many packages are verified, if
+-- the arguments ask for JSON, and otherwise their lines
 pub record PrintsArchives (found : Found) (file : FileData) (told : List FindingData)
     (verified : ℕ) (old new : Option (List ℕ)) : Type 0 where
   pub asked : IsAsked found (codes "json")
@@ -57,8 +57,8 @@ PrintsArchivesOf found file packages old new failure success = (subjects : List 
 abbrev pub AreVendoredOf : List PackageData → List VendoredData → Type 0
 AreVendoredOf packages vendored = map (λ v. v.content) vendored ≡ packages
 
--- what is printed of folders: the document of findings and of how many packages are verified, if the
--- arguments ask for JSON, and otherwise their lines
+-- what is printed of folders: the document of findings and of how many packages are verified, if
+-- the arguments ask for JSON, and otherwise their lines
 pub record PrintsFolders (found : Found) (file : FileData) (told : List FolderFinding)
     (verified : ℕ) (old new : Option (List ℕ)) : Type 0 where
   pub asked : IsAsked found (codes "json")

@@ -71,9 +71,10 @@ fn database_option<'a>(alloc: Global) -> Arg<'a> {
 }
 
 /// Prints which advisories concern packages of the lockfile, a line for each, or, if the arguments
-/// ask for it, all as one line of JSON. The status is 1 if one of them is a vulnerability or of a kind
-/// that is denied, and otherwise 0. Fails if the lockfile, a folder or an advisory is not read, or if
-/// `out` fails; a prefix of the text was then written in the last case, and nothing in the others.
+/// ask for it, all as one line of JSON. The status is 1 if one of them is a vulnerability or of a
+/// kind that is denied, and otherwise 0. Fails if the lockfile, a folder or an advisory is not read,
+/// or if `out` fails; a prefix of the text was then written in the last case, and nothing in the
+/// others.
 pub(crate) fn run<R: Files + AllocGlobal, W: Write>(
     rt: &R,
     options: &ArgMatches<'_>,

@@ -69,11 +69,10 @@ pub(crate) fn command<'a>(alloc: Global) -> Result<Command<'a>, AllocError> {
         .arg(json(alloc))
 }
 
-/// Prints what is found of the licences of the packages of the lockfile, a line for each, or, if the
-/// arguments ask for it, all as one line of JSON. The status is 1 if one is not allowed or not known,
-/// and otherwise 0. Fails if the lockfile, a folder or a manifest is not
-/// read, or if `out` fails; a prefix of the text was then written in the last case, and nothing in
-/// the others.
+/// Prints what is found of the licences of the packages of the lockfile, a line for each, or, if
+/// the arguments ask for it, all as one line of JSON. The status is 1 if one is not allowed or not
+/// known, and otherwise 0. Fails if the lockfile, a folder or a manifest is not read, or if `out`
+/// fails; a prefix of the text was then written in the last case, and nothing in the others.
 pub(crate) fn run<R: Files + AllocGlobal, W: Write>(
     rt: &R,
     options: &ArgMatches<'_>,

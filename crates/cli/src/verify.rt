@@ -77,9 +77,10 @@ fn all<'a>(alloc: Global) -> Result<Arg<'a>, AllocError> {
 }
 
 /// Prints which packages of the lockfile have no archive with their checksum, or no folder that is
-/// as its list says, and how many have one, or, if the arguments ask for it, all as one line of JSON.
-/// The status is 1 if something is found of a package, and otherwise 0. Fails if the lockfile, a folder or a file is not read, or if `out` fails; a prefix of
-/// the text was then written in the last case, and nothing in the others.
+/// as its list says, and how many have one, or, if the arguments ask for it, all as one line of
+/// JSON. The status is 1 if something is found of a package, and otherwise 0. Fails if the lockfile,
+/// a folder or a file is not read, or if `out` fails; a prefix of the text was then written in the
+/// last case, and nothing in the others.
 pub(crate) fn run<R: Files + AllocGlobal, W: Write>(
     rt: &R,
     options: &ArgMatches<'_>,
