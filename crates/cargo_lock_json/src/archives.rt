@@ -69,15 +69,14 @@ fn put_array(out: &mut Text, alloc: Global, findings: &[Finding<'_, '_>]) -> Res
 fn put_finding(out: &mut Text, alloc: Global, finding: &Finding<'_, '_>) -> Result<(), AllocError>
     ensures { Adds result out.old out.new (json_tokens (finding_json (finding_of finding.now))) }
 {
-    let package = package(finding);
     out.begin_object()?;
     out.string_member("kind", kind(finding))?;
     out.displayed_member(alloc, "message", finding)?;
     out.key("package")?;
-    put_package(out, alloc, package)?;
+    put_package(out, alloc, package(finding))?;
     put_text_or_null(out, "path", path(finding))?;
     put_digest_or_null(out, alloc, "digest", &digest(finding))?;
-    put_digest_or_null(out, alloc, "expected", &package.checksum)?;
+    put_digest_or_null(out, alloc, "expected", &expected(finding))?;
     out.end_object()
 }
 
@@ -118,4 +117,12 @@ fn digest(finding: &Finding<'_, '_>) -> Option<Checksum>
         Finding::Changed(_, archive) => Some(archive.digest),
         Finding::Missing(_) => None,
     }
+}
+
+// The digest that was expected: that of the lockfile.
+fn expected(finding: &Finding<'_, '_>) -> Option<Checksum>
+    ensures { option_map digest_of result ≡ (package_of (finding_of finding.now)).checksum }
+{
+    let package = package(finding);
+    package.checksum
 }
