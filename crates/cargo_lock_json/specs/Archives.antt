@@ -27,7 +27,12 @@ abbrev pub digest_in : FindingData → Option (List ℕ)
 digest_in (Changed p a) = Some a.digest
 digest_in (Missing p) = None
 
--- what the document says of a finding; the checksum of the lockfile is expected
+-- the digest that was expected: that of the archive in the lockfile
+abbrev pub expected_in : FindingData → Option (List ℕ)
+expected_in (Changed p a) = p.checksum
+expected_in (Missing p) = p.checksum
+
+-- what the document says of a finding
 abbrev pub found_of : FindingData → FoundData
 found_of f = record {
   kind = kind_text f;
@@ -35,7 +40,7 @@ found_of f = record {
   content = package_of f;
   path = path_of f;
   digest = digest_in f;
-  expected = (package_of f).checksum;
+  expected = expected_in f;
 }
 
 -- the JSON of a finding

@@ -6,8 +6,8 @@ ghost use Rattle.json.specs.Token.{key};
 ghost use Rattle.json.specs.Tree.{json_tokens};
 ghost use Rattle.cargo_lock_parts.specs.Checksum.{digest_of};
 ghost use Rattle.cargo_lock_verify.specs.Archives.{finding_of};
-ghost use Rattle.cargo_lock_json.specs.Archives.{digest_in, finding_json, kind_text, package_of};
-ghost use Rattle.cargo_lock_json.specs.Archives.{path_of};
+ghost use Rattle.cargo_lock_json.specs.Archives.{digest_in, expected_in, finding_json};
+ghost use Rattle.cargo_lock_json.specs.Archives.{kind_text, package_of, path_of};
 ghost use Rattle.cargo_lock_json.specs.Archives as spec;
 ghost use Rattle.cargo_lock_json.specs.Text.{Adds, IsJsonText, items_of};
 
@@ -121,8 +121,9 @@ fn digest(finding: &Finding<'_, '_>) -> Option<Checksum>
 
 // The digest that was expected: that of the lockfile.
 fn expected(finding: &Finding<'_, '_>) -> Option<Checksum>
-    ensures { option_map digest_of result ≡ (package_of (finding_of finding.now)).checksum }
+    ensures { option_map digest_of result ≡ expected_in (finding_of finding.now) }
 {
-    let package = package(finding);
-    package.checksum
+    match *finding {
+        Finding::Changed(package, _) | Finding::Missing(package) => package.checksum,
+    }
 }
