@@ -7,4 +7,4 @@ use Rattle.cargo_lock_json.proofs.audit.put_requirements.Given as goal
 
 abbrev pub invariant-loop-requirement : goal.invariant-loop-requirement
 invariant-loop-requirement l = l.out ≡ l.fn.out ++ begin_array
-    ∷ flat_map (λ requirement. json_tokens (string ((λ (r : RequirementData). r.text) requirement))) (take l.requirement-index l.requirements)
+    ∷ flat_map (λ requirement. json_tokens (string requirement.text)) (take l.requirement-index l.requirements)
