@@ -1,6 +1,6 @@
 -- What is found is exactly what the relations say.
 use Rattle.std.proofs.Common.{◌≡◌, ◌⊎◌, ◌&&◌, ◌||◌, ◌++◌, ℕ, Bool, true, false, true≢false, cond, filter, List, [], ◌∷◌, Option, None, Some, is_none, is_some, not, refl, ap, sym, ◌∙◌, inl, inr, subst, if◌then◌else◌, bytes_eq, codes}
-use Rattle.std.specs.List.{Contains, flat_map, list_any}
+use Rattle.std.specs.List.{Contains, list_any}
 use Rattle.std.proofs.lemmas.Slice.Eq.{bytes_eq-Decides}
 use Rattle.std.proofs.lemmas.Option.{same_Some}
 use Rattle.std.proofs.lemmas.List.Elements.{filter-append}

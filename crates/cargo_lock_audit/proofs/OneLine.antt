@@ -1,5 +1,5 @@
 -- Each line of a report is one line: each part of it is printable.
-use Rattle.std.proofs.Common.{◌≡◌, ◌==◌, encode_utf8, ◌++◌, ◌∙◌, [], ◌∷◌, ℕ, List, Option, None, Some, ap, codes, map, refl, sym}
+use Rattle.std.proofs.Common.{◌≡◌, ◌==◌, encode_utf8, ◌++◌, ◌∙◌, [], ◌∷◌, ℕ, List, Option, None, Some, ap, codes, map, refl, string_bytes, sym}
 use Rattle.std.specs.List.{All, flat_map}
 use Rattle.std.specs.Str.{chars}
 use Rattle.std.specs.Str.Lines.{lines}
@@ -11,9 +11,10 @@ use Rattle.shown.specs.declared.form.Form.TheVariants.{Plain, Quoted}
 use Rattle.shown.proofs.LinesOf.{printable-lines}
 use Rattle.shown.proofs.Printable.{Prints, either_text, join, join_each, literal, shown-prints, words}
 use Rattle.cargo_lock_diff.proofs.OneLine.{package-prints}
+use Rattle.cargo_lock_audit.specs.declared.database.DatabaseFault.TheVariants as fault
 use Rattle.cargo_lock_audit.specs.Advisory.{AdvisoryData}
 use Rattle.cargo_lock_audit.specs.Findings.{FindingData}
-use Rattle.cargo_lock_audit.specs.Lines.{EachIsOneLine, LinesArePrintable, advisory_text, finding_line, or_text, patched_text, report_text, said, text_of_lines, title_char, title_text, unmet_line, unmet_text}
+use Rattle.cargo_lock_audit.specs.Lines.{EachIsOneLine, FaultsArePrintable, LinesArePrintable, file_line, finding_line, or_text, patched_text, report_text, said, text_of_lines, title_char, title_text, unmet_line, unmet_text}
 use Rattle.cargo_lock_audit.specs.Requirement.{RequirementData}
 
 patched-prints : (rs : List RequirementData) → Prints (patched_text rs)
@@ -60,3 +61,17 @@ each-is-one-line found ids = ap lines (together found ids)
     ∙ printable-lines (map finding_line found ++ map unmet_line ids)
     (All-append IsPrintable (map finding_line found) (map unmet_line ids)
     (all-print finding_line line-prints found) (all-print unmet_line unmet-prints ids))
+
+-- ---- why a database is refused
+
+file-prints : (path text : List ℕ) → Prints text → Prints (file_line path text)
+file-prints path text h = words (codes "advisory ") refl (join (shown-prints Quoted path) (words (codes ": ") refl h))
+
+pub faults-are-printable : FaultsArePrintable
+faults-are-printable (fault.Unread path e) = tt
+faults-are-printable (fault.OtherPackage f) = (file-prints (string_bytes f.path) _ (words (codes "about `") refl
+    (join (shown-prints Quoted f.advisory.name) (words (codes "`, in the folder of `") refl
+    (join (shown-prints Quoted (string_bytes f.folder)) (literal (codes "`") refl)))))).all
+faults-are-printable (fault.Twice f) = (file-prints (string_bytes f.path) _ (words (codes "another one is ") refl
+    (join (shown-prints Plain f.advisory.id) (literal (codes " too") refl)))).all
+faults-are-printable fault.Memory = (literal (codes "out of memory") refl).all

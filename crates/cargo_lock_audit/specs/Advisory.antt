@@ -1,8 +1,8 @@
 -- What an advisory says, and which packages it concerns.
-use Rattle.std.specs.Prelude.{◌≡◌, ◌⊎◌, ◌↔◌, ◌&&◌, ◌||◌, ℕ, Bool, false, true, List, Option, None, Some}
-use Rattle.std.specs.Prelude.{String, bytes_eq, codes, is_none, not, option_map, string_bytes}
+use Rattle.std.specs.Prelude.{◌≡◌, ◌⊎◌, ◌↔◌, ◌&&◌, ◌||◌, ℕ, Bool, false, true, List, Option, None}
+use Rattle.std.specs.Prelude.{Some}
+use Rattle.std.specs.Prelude.{bytes_eq, codes, is_none, not}
 use Rattle.std.specs.List.{Contains, list_any}
-use Rattle.std.specs.declared.alloc.Global.{Global}
 use Rattle.semver.specs.Parse.{Parts}
 use Rattle.cargo_lock_parts.specs.Identity.{PackageData}
 use Rattle.cargo_lock_parts.specs.Source.{Source}
@@ -52,8 +52,8 @@ concerns a p = is_crates_io p.source && bytes_eq a.name p.name && is_about_crate
 abbrev pub LiesIn : Parts → RequirementData → Type 0
 LiesIn v r = (b : BoundData) → Contains r.bounds b → meets v b ≡ true
 
--- the package is of crates.io, and the advisory is about it: it has the name, it names no other source
--- and no other collection, it was not withdrawn, and the version lies in no requirement
+-- the package is of crates.io, and the advisory is about it: it has the name, it names no other
+-- source and no other collection, it was not withdrawn, and the version lies in no requirement
 pub record Concerns (a : AdvisoryData) (p : PackageData) : Type 0 where
   pub registry : is_crates_io p.source ≡ true
   pub name : a.name ≡ p.name

@@ -1,5 +1,6 @@
 -- A database of advisories, from the files in the folders of packages.
-use Rattle.std.specs.Prelude.{◌≡◌, ◌≢◌, ◌-◌, ◌<◌, [], ◌∷◌, ℕ, Bool, false, true, List, bytes_eq, count_by, length, map, not}
+use Rattle.std.specs.Prelude.{◌≡◌, ◌≢◌, ◌-◌, ◌<◌, [], ◌∷◌, ℕ, Bool, false, true, List, bytes_eq}
+use Rattle.std.specs.Prelude.{count_by, length, map, not}
 use Rattle.std.specs.Prelude.{string_bytes}
 use Rattle.std.specs.Cmp.Lexicographic.{slice_cmp}
 use Rattle.std.specs.List.{All, Contains, HoldsAt, slice_index_or}
@@ -45,11 +46,12 @@ pub record IsDatabase (files : List AdvisoryFile) (all : List AdvisoryData) : Ty
   pub same : IsPermutation (advisories_of files) all
   pub in_order : AreInOrder all
 
--- why files are no database: a file is in the folder of another package, or two have an id; memory may
--- run out at any time
+-- why files are no database: one of them is in the folder of another package, or has an id that
+-- another one has; memory may run out at any time
 abbrev pub IsRefused : List AdvisoryFile → DatabaseFault → Type 0
 IsRefused files (fault.OtherPackage f) = Contains files f × (is_misplaced f ≡ true)
-IsRefused files (fault.Twice f) = 1 < count_by (has_id f.advisory.id) (advisories_of files)
+IsRefused files (fault.Twice f) =
+    Contains files f × (1 < count_by (has_id f.advisory.id) (advisories_of files))
 IsRefused files (fault.Unread path e) = ⊥
 IsRefused files fault.Memory = Unit {0}
 

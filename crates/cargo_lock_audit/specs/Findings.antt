@@ -1,5 +1,6 @@
 -- What is found: the packages that advisories concern, but for ignored advisories.
-use Rattle.std.specs.Prelude.{◌≡◌, ◌≢◌, ◌↔◌, ◌++◌, [], ◌∷◌, ℕ, Bool, false, true, List, Option, None, Some}
+use Rattle.std.specs.Prelude.{◌≡◌, ◌↔◌, ◌++◌, [], ◌∷◌, ℕ, Bool, false, true, List, Option}
+use Rattle.std.specs.Prelude.{None, Some}
 use Rattle.std.specs.Prelude.{bytes_eq, filter, if◌then◌else◌, not, string_bytes}
 use Rattle.std.specs.List.{Contains, flat_map, list_any}
 use Rattle.cargo_lock_parts.specs.Identity.{PackageData}
@@ -16,7 +17,11 @@ pub record FindingData : Type 0 where
 
 -- the data of a finding of the program
 abbrev pub finding_of : Finding → FindingData
-finding_of f = record { content = f.«package».now; advisory = f.advisory.now; is_denied = f.is_denied }
+finding_of f = record {
+  content = f.«package».now;
+  advisory = f.advisory.now;
+  is_denied = f.is_denied;
+}
 
 -- the text is one of the list
 abbrev pub is_listed : List (List ℕ) → List ℕ → Bool
@@ -69,8 +74,8 @@ unmet all = flat_map (unmet_if all)
 
 -- ---- laws
 
--- what is found is exactly each package with each advisory that concerns it and is not ignored; it is
--- denied by the kind of the advisory
+-- what is found is exactly each package with each advisory that concerns it and is not ignored; it
+-- is denied by the kind of the advisory
 abbrev pub FindingsAreExact : Type 0
 FindingsAreExact = (packages : List PackageData) (advisories : List AdvisoryData)
     (ignored denied : List (List ℕ)) (f : FindingData)

@@ -1,7 +1,8 @@
 -- The file of an advisory as lines. White space before the first line is dropped. The first line is
 -- "```toml". Then comes the front matter, up to the next line that begins with "```", and the first
 -- line after that which is not empty is `# TITLE`.
-use Rattle.std.specs.Prelude.{◌==◌, ◌++◌, [], ◌∷◌, ℕ, Bool, List, Option, None, Some, bytes_eq, codes}
+use Rattle.std.specs.Prelude.{◌==◌, ◌++◌, [], ◌∷◌, ℕ, Bool, List, Option, None, Some, bytes_eq}
+use Rattle.std.specs.Prelude.{codes}
 use Rattle.std.specs.Prelude.{drop, if◌then◌else◌, length, map, nat_eq, position}
 use Rattle.std.specs.Borrow.{Bor}
 use Rattle.std.specs.List.{flat_map, starts_with}

@@ -1,5 +1,6 @@
--- The lines of what is found.
-use Rattle.std.specs.Prelude.{◌≡◌, ◌==◌, ◌++◌, [], ◌∷◌, ℕ, Bool, List, Option, None, Some, codes, encode_utf8, if◌then◌else◌, map}
+-- The lines of what is found, and of why a database is refused.
+use Rattle.std.specs.Prelude.{◌≡◌, ◌==◌, ◌++◌, [], ◌∷◌, ℕ, Bool, List, Option, None, Some, codes}
+use Rattle.std.specs.Prelude.{IfSome, encode_utf8, if◌then◌else◌, map, string_bytes}
 use Rattle.std.specs.List.{flat_map}
 use Rattle.std.specs.Str.{chars}
 use Rattle.std.specs.Str.Lines.{lines}
@@ -8,6 +9,9 @@ use Rattle.shown.specs.Shown.{backquote, shown}
 use Rattle.shown.specs.declared.form.Form.TheVariants.{Plain, Quoted}
 use Rattle.cargo_lock_parts.specs.Ascii.{newline}
 use Rattle.cargo_lock_diff.specs.Change.{package_text}
+use Rattle.cargo_lock_audit.specs.declared.database.AdvisoryFile.{AdvisoryFile}
+use Rattle.cargo_lock_audit.specs.declared.database.DatabaseFault.{DatabaseFault}
+use Rattle.cargo_lock_audit.specs.declared.database.DatabaseFault.TheVariants as fault
 use Rattle.cargo_lock_audit.specs.Advisory.{AdvisoryData}
 use Rattle.cargo_lock_audit.specs.Findings.{FindingData}
 use Rattle.cargo_lock_audit.specs.Requirement.{RequirementData}
@@ -81,3 +85,32 @@ EachIsOneLine = (found : List FindingData) (ids : List (List ℕ))
 abbrev pub LinesArePrintable : Type 0
 LinesArePrintable = ((f : FindingData) → IsPrintable (finding_line f))
     × ((id : List ℕ) → IsPrintable (unmet_line id))
+
+-- ---- why a database is refused
+
+-- a line about the advisory at a path
+abbrev pub file_line : List ℕ → List ℕ → List ℕ
+file_line path text = codes "advisory " ++ (shown Quoted path ++ (codes ": " ++ text))
+
+-- the line of an advisory about another package than the folder it is in
+abbrev pub other_package_line : AdvisoryFile → List ℕ
+other_package_line f = file_line (string_bytes f.path) (codes "about `"
+    ++ (shown Quoted f.advisory.name ++ (codes "`, in the folder of `"
+    ++ (shown Quoted (string_bytes f.folder) ++ codes "`"))))
+
+-- the line of an advisory whose id another one has
+abbrev pub twice_line : AdvisoryFile → List ℕ
+twice_line f = file_line (string_bytes f.path)
+    (codes "another one is " ++ (shown Plain f.advisory.id ++ codes " too"))
+
+-- the line of why a database is refused; the words for an advisory that does not read are in no
+-- clause
+abbrev pub fault_line : DatabaseFault → Option (List ℕ)
+fault_line (fault.Unread path e) = None
+fault_line (fault.OtherPackage f) = Some (other_package_line f)
+fault_line (fault.Twice f) = Some (twice_line f)
+fault_line fault.Memory = Some (codes "out of memory")
+
+-- and each such line that a clause says is printable ASCII, whatever names, paths and ids hold
+abbrev pub FaultsArePrintable : Type 0
+FaultsArePrintable = (e : DatabaseFault) → IfSome (fault_line e) IsPrintable

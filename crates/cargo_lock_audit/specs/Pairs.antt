@@ -1,5 +1,5 @@
 -- Packages, each with the advisories that concern it.
-use Rattle.std.specs.Prelude.{◌≡◌, [], ◌∷◌, List, if◌then◌else◌}
+use Rattle.std.specs.Prelude.{[], ◌∷◌, List, if◌then◌else◌}
 use Rattle.std.specs.List.{flat_map}
 use Rattle.cargo_lock_parts.specs.Identity.{PackageData}
 use Rattle.cargo_lock_audit.specs.declared.pair.Pair.{Pair}

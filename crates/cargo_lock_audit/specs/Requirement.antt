@@ -6,7 +6,9 @@ use Rattle.std.specs.Ordering.{is_gt, is_lt}
 use Rattle.semver.specs.Parse.{Parts}
 use Rattle.cargo_lock_diff.specs.Change.{precedence_cmp}
 use Rattle.cargo_lock_audit.specs.declared.requirement.Relation.{Relation}
-use Rattle.cargo_lock_audit.specs.declared.requirement.Relation.TheVariants.{Exact, Greater, GreaterEq, Less, LessEq}
+use Rattle.cargo_lock_audit.specs.declared.requirement.Relation.TheVariants.{Exact, Greater}
+use Rattle.cargo_lock_audit.specs.declared.requirement.Relation.TheVariants.{GreaterEq, Less}
+use Rattle.cargo_lock_audit.specs.declared.requirement.Relation.TheVariants.{LessEq}
 
 -- a bound: how versions that meet it relate to its version
 pub record BoundData : Type 0 where

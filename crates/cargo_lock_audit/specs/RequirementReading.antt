@@ -1,8 +1,9 @@
--- The requirement that a text is. The comparators are those that `semver` reads. A number that is left
--- out is 0. `^` and `~` are the only comparator of a requirement: they begin at their version, and end
--- before the lowest pre-release of the next version, as in `>=1.2.3, <2.0.0-0` for `^1.2.3`. A text with
--- `*` is no requirement.
-use Rattle.std.specs.Prelude.{◌+◌, ◌^◌, [], ◌∷◌, ℕ, List, Option, None, Some, Result, Ok, Err, codes}
+-- The requirement that a text is. The comparators are those that `semver` reads. A number that is
+-- left out is 0. `^` and `~` are the only comparator of a requirement: they begin at their version,
+-- and end before the lowest pre-release of the next version, as in `>=1.2.3, <2.0.0-0` for
+-- `^1.2.3`. A text with `*` is no requirement.
+use Rattle.std.specs.Prelude.{◌+◌, ◌^◌, [], ◌∷◌, ℕ, List, Option, None, Some}
+use Rattle.std.specs.Prelude.{codes}
 use Rattle.std.specs.Prelude.{if◌then◌else◌, nat_lt, option_map, unwrap_or}
 use Rattle.std.specs.Option.{option_and_then}
 use Rattle.std.specs.Result.{result_ok}
@@ -10,7 +11,9 @@ use Rattle.semver.specs.Parse.{Held, Parts, req_of}
 use Rattle.semver.specs.declared.Op.{Op}
 use Rattle.semver.specs.declared.Op.TheVariants as op
 use Rattle.cargo_lock_audit.specs.declared.requirement.Relation.{Relation}
-use Rattle.cargo_lock_audit.specs.declared.requirement.Relation.TheVariants.{Exact, Greater, GreaterEq, Less, LessEq}
+use Rattle.cargo_lock_audit.specs.declared.requirement.Relation.TheVariants.{Exact, Greater}
+use Rattle.cargo_lock_audit.specs.declared.requirement.Relation.TheVariants.{GreaterEq, Less}
+use Rattle.cargo_lock_audit.specs.declared.requirement.Relation.TheVariants.{LessEq}
 use Rattle.cargo_lock_audit.specs.Requirement.{BoundData, RequirementData}
 
 -- the version of a comparator

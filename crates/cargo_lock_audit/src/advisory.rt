@@ -64,8 +64,8 @@ impl Model for Advisory {
 }
 
 impl Advisory {
-    /// Whether the advisory concerns the package: both are about a crate of crates.io with one name,
-    /// the advisory was not withdrawn, and the version lies in none of its requirements.
+    /// Whether the advisory concerns the package: both are about a crate of crates.io with one
+    /// name, the advisory was not withdrawn, and the version lies in none of its requirements.
     ///
     /// ```
     /// let concerned = packages.iter().any(|package| advisory.concerns(package));

@@ -29,13 +29,13 @@ impl Advisory {
     /// The advisory that a file is. White space before the first line is dropped. The first line is
     /// "```toml"; the front matter follows, a table of TOML, up to the next line that begins with
     /// "```"; and the first line after that which is not empty is `# TITLE`. In the table,
-    /// `advisory` is a table with the texts `id`, `package` and `date`, and perhaps `informational`,
-    /// `source`, `collection` and `withdrawn`; `versions` may be a table with the lists `patched` and
-    /// `unaffected`, of requirements. Other keys count for nothing.
+    /// `advisory` is a table with the texts `id`, `package` and `date`, and perhaps
+    /// `informational`, `source`, `collection` and `withdrawn`; `versions` may be a table with the
+    /// lists `patched` and `unaffected`, of requirements. Other keys count for nothing.
     ///
-    /// `Parse` says what is wrong: a line that is missing, text that is no TOML, a key that is missing
-    /// or of another type, a source or a requirement that does not read. It also comes for a URL of
-    /// 4 GB or more. The other error is `Memory`.
+    /// `Parse` says what is wrong: a line that is missing, text that is no TOML, a key that is
+    /// missing or of another type, a source or a requirement that does not read. It also comes for
+    /// a URL of 4 GB or more. The other error is `Memory`.
     ///
     /// ```
     /// let advisory = Advisory::parse(alloc, &text)?;

@@ -1,9 +1,11 @@
 //! A database of advisories: the files in the folders of packages.
 
-ghost use Rattle.std.specs.Prelude.{◌≡◌, IfErr, IfOk, IsPermutation, IsSorted, MatchOption};
+ghost use Rattle.std.specs.Prelude.{◌≡◌, IfErr, IfOk, IsPermutation, IsSorted, MatchOption, Some};
+ghost use Rattle.std.specs.Fmt.{DisplaysOnOk};
 ghost use Rattle.cargo_lock_audit.specs.Database.{AllPlaced, AreInOrder, IsDatabase, IsMisplacedAt};
 ghost use Rattle.cargo_lock_audit.specs.Database.{IsRefused, IsTwiceAt, advisories_of, file_cmp};
 ghost use Rattle.cargo_lock_audit.specs.Database.{is_misplaced};
+ghost use Rattle.cargo_lock_audit.specs.Lines.{other_package_line, twice_line};
 
 use crate::advisory::Advisory;
 use cargo_lock_parts::error::Error;
@@ -54,6 +56,10 @@ impl From<AllocError> for DatabaseFault {
 }
 
 impl fmt::Display for DatabaseFault {
+    ghost use Rattle.cargo_lock_audit.specs.Lines.{fault_line};
+
+    ghost output = { fault_line };
+
     fn fmt<W: fmt::Write>(&self, f: &mut fmt::Formatter<W>) -> fmt::Result {
         match self {
             DatabaseFault::Unread(path, fault) => {
@@ -68,10 +74,10 @@ impl fmt::Display for DatabaseFault {
     }
 }
 
-fn write_other_package<W: fmt::Write>(
-    file: &AdvisoryFile,
-    f: &mut fmt::Formatter<W>,
-) -> fmt::Result {
+fn write_other_package<W: fmt::Write>(file: &AdvisoryFile, f: &mut fmt::Formatter<W>) -> fmt::Result
+    ensures { DisplaysOnOk W.write_str_gives f.old result
+        (Some (other_package_line file.now)) f.new }
+{
     let path = Quoted(&file.path);
     let folder = Quoted(&file.folder);
     let advisory = &file.advisory;
@@ -82,7 +88,9 @@ fn write_other_package<W: fmt::Write>(
     )
 }
 
-fn write_twice<W: fmt::Write>(file: &AdvisoryFile, f: &mut fmt::Formatter<W>) -> fmt::Result {
+fn write_twice<W: fmt::Write>(file: &AdvisoryFile, f: &mut fmt::Formatter<W>) -> fmt::Result
+    ensures { DisplaysOnOk W.write_str_gives f.old result (Some (twice_line file.now)) f.new }
+{
     let path = Quoted(&file.path);
     let advisory = &file.advisory;
     let id = Shown(&advisory.id);
@@ -90,7 +98,8 @@ fn write_twice<W: fmt::Write>(file: &AdvisoryFile, f: &mut fmt::Formatter<W>) ->
 }
 
 /// The advisories of a database, in the order of their ids. Refused is an advisory about another
-/// package than the folder it is in, and an id of two advisories. `Memory` comes when out of memory.
+/// package than the folder it is in, and an id of two advisories. `Memory` comes when out of
+/// memory.
 ///
 /// ```
 /// let advisories = database_of(alloc, files)?;

@@ -12,10 +12,10 @@ use shown::{Quoted, Shown};
 use std::fmt;
 
 /// A package that an advisory concerns. `Display` writes a line without a newline:
-/// `! NAME VERSION: ID: TITLE; patched REQUIREMENT or REQUIREMENT`, or `; no patched version`, for a
-/// vulnerability, and `? NAME VERSION: ID: KIND: TITLE` for an informational advisory, with `!` if its
-/// kind is denied. Texts of a stranger are shown as the crate `shown` does; in a title the backquote is
-/// kept.
+/// `! NAME VERSION: ID: TITLE; patched REQUIREMENT or REQUIREMENT`, or `; no patched version`, for
+/// a vulnerability, and `? NAME VERSION: ID: KIND: TITLE` for an informational advisory, with `!`
+/// if its kind is denied. Texts of a stranger are shown as the crate `shown` does; in a title the
+/// backquote is kept.
 #[derive(Clone, Copy)]
 pub struct Finding<'p, 'a> {
     /// The package.

@@ -3,7 +3,8 @@
 ghost use Rattle.cargo_lock_audit.specs.Advisory.{ConcernIsExact};
 ghost use Rattle.cargo_lock_audit.specs.Findings.{FindingsAreExact, IgnoringLeavesOut};
 ghost use Rattle.cargo_lock_audit.specs.Findings.{NoneIfUnconcerned, NoneWithoutCratesIo};
-ghost use Rattle.cargo_lock_audit.specs.Lines.{EachIsOneLine, LinesArePrintable};
+ghost use Rattle.cargo_lock_audit.specs.Lines.{EachIsOneLine, FaultsArePrintable};
+ghost use Rattle.cargo_lock_audit.specs.Lines.{LinesArePrintable};
 
 /// An advisory concerns a package exactly if both are about a crate of crates.io with one name, the
 /// advisory was not withdrawn, and the version lies in none of its requirements.
@@ -31,8 +32,8 @@ pub fn ignoring_leaves_out()
     ensures { IgnoringLeavesOut }
 {}
 
-/// A report is a line for each finding and for each id that was ignored in vain, whatever names, ids,
-/// titles and requirements hold.
+/// A report is a line for each finding and for each id that was ignored in vain, whatever names,
+/// ids, titles and requirements hold.
 pub fn each_is_one_line()
     ensures { EachIsOneLine }
 {}
@@ -40,4 +41,9 @@ pub fn each_is_one_line()
 /// Each of these lines is printable ASCII.
 pub fn lines_are_printable()
     ensures { LinesArePrintable }
+{}
+
+/// So is the line of why a database is refused, where a clause says that line.
+pub fn faults_are_printable()
+    ensures { FaultsArePrintable }
 {}

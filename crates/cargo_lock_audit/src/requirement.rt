@@ -47,8 +47,8 @@ impl Model for Bound {
 }
 
 impl Bound {
-    /// Whether the version meets the bound. Pre-releases are versions like others, and build metadata
-    /// counts for nothing.
+    /// Whether the version meets the bound. Pre-releases are versions like others, and build
+    /// metadata counts for nothing.
     pub fn is_met_by(&self, version: &Version) -> bool
         ensures { result ≡ meets (parts_of version.now) self.now }
     {
@@ -63,8 +63,8 @@ impl Bound {
     }
 }
 
-/// A requirement on versions: the bounds that versions in it meet. Unlike in Cargo, a pre-release is
-/// a version like others, and a number that is left out is 0.
+/// A requirement on versions: the bounds that versions in it meet. Unlike in Cargo, a pre-release
+/// is a version like others, and a number that is left out is 0.
 #[derive(Drop)]
 pub struct Requirement {
     /// Its text.

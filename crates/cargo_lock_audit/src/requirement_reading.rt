@@ -21,9 +21,9 @@ use std::alloc::{AllocError, Global};
 impl Requirement {
     /// The requirement that a text is, as `>= 1.2.3, < 2.0.0`. A number that is left out is 0, and
     /// `^1.2.3` and `~1.2.3` are ranges that end before the lowest pre-release of the next version,
-    /// `2.0.0-0` or `1.3.0-0`. `Parse` says that the text is none: `semver` does not read it, it has
-    /// `*`, it has `^` or `~` beside another comparator, or the next number does not fit 64 bits. The
-    /// other error is `Memory`.
+    /// `2.0.0-0` or `1.3.0-0`. `Parse` says that the text is none: `semver` does not read it, it
+    /// has `*`, it has `^` or `~` beside another comparator, or the next number does not fit 64
+    /// bits. The other error is `Memory`.
     ///
     /// ```
     /// let requirement = Requirement::parse(alloc, ">= 0.6.14, < 1.0.0")?;
