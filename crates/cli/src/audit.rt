@@ -1,6 +1,7 @@
 //! The command `audit`: which packages of a lockfile have a known vulnerability, by a folder of
 //! advisories.
 ghost use Rattle.std.specs.Prelude.{◌≡◌, IfOk, OnOk, codes, map};
+ghost use Rattle.std.specs.List.{list_any};
 ghost use Rattle.clap.specs.Matches.{found_of};
 ghost use Rattle.cargo_lock_audit.specs.Database.{AreInOrder};
 ghost use Rattle.cargo_lock_audit.specs.Findings.{finding_of, id_of};
@@ -145,7 +146,14 @@ fn print_report<W: Write>(
     let denied = texts::given(alloc, options, "deny")?;
     let report = Report::of(alloc, packages, advisories, &ignored, &denied)?;
     print_advisories(alloc, options, file, &report, out)?;
-    Ok(status_of(!report.is_denied()))
+    Ok(status_of(!is_denied(&report)))
+}
+
+/// Whether a finding is denied.
+fn is_denied(report: &Report<'_, '_, '_>) -> bool
+    ensures { result ≡ list_any (λ f. f.is_denied) (map finding_of report.now.findings.items) }
+{
+    report.is_denied()
 }
 
 /// Prints what is found by advisories as the arguments ask for it: in JSON, or as lines.

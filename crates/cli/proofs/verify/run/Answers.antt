@@ -1,10 +1,8 @@
-use Rattle.std.proofs.Common.{subst}
+use Rattle.std.proofs.Common.{sym}
 use Rattle.std.proofs.lemmas.Result.{IfOk-weaker}
-use Rattle.cargo_lock_json.specs.File.{FileData}
-use Rattle.cli.specs.Verify.{PrintsVerifiedOf}
 use Rattle.cli.proofs.verify.run.Goals as goal
 
 pub returns : goal.returns
 returns g c = IfOk-weaker c.print_verified.result _ _
-    (λ status h. (c.in_ok-lockfile.lockfile, c.in_ok-lockfile.ensures, subst (λ (file : FileData). PrintsVerifiedOf _ file _ _ _ _ _) c.file-file.ensures h))
+    (λ status h. (c.in_ok-lockfile.lockfile, c.in_ok-lockfile.ensures, rw (sym c.file-file.ensures) h))
     c.print_verified.ensures
