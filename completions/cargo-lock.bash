@@ -107,7 +107,7 @@ _cargo_lock() {
         case $previous in
         -f | --file) _cargo_lock_files ;;
         --cache | --vendor) _cargo_lock_files ;;
-        *) _cargo_lock_offer '-f --file --any-size --cache --vendor --all -h --help' ;;
+        *) _cargo_lock_offer '-f --file --any-size --cache --vendor --all --json -h --help' ;;
         esac
         ;;
     licenses)
@@ -115,7 +115,7 @@ _cargo_lock() {
         -f | --file) _cargo_lock_files ;;
         --cache | --vendor) _cargo_lock_files ;;
         --allow) ;;
-        *) _cargo_lock_offer '-f --file --any-size --cache --vendor --allow -h --help' ;;
+        *) _cargo_lock_offer '-f --file --any-size --cache --vendor --allow --json -h --help' ;;
         esac
         ;;
     audit)
@@ -124,7 +124,7 @@ _cargo_lock() {
         --db) _cargo_lock_files ;;
         --ignore) ;;
         --deny) _cargo_lock_offer 'unmaintained unsound notice' ;;
-        *) _cargo_lock_offer '-f --file --any-size --db --ignore --deny -h --help' ;;
+        *) _cargo_lock_offer '-f --file --any-size --db --ignore --deny --json -h --help' ;;
         esac
         ;;
     help) _cargo_lock_offer 'list translate tree bom diff check why duplicates graph merge verify licenses audit help' ;;

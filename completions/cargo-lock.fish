@@ -106,6 +106,7 @@ complete -c cargo-lock -n '__cargo_lock_runs verify' -l any-size -d 'Reads a loc
 complete -c cargo-lock -n '__cargo_lock_runs verify' -l cache -r -F -d 'The folder of the archives, as registry/cache of Cargo'
 complete -c cargo-lock -n '__cargo_lock_runs verify' -l vendor -r -F -d 'The folder that `cargo vendor` made'
 complete -c cargo-lock -n '__cargo_lock_runs verify' -l all -d 'Reports packages without an archive too'
+complete -c cargo-lock -n '__cargo_lock_runs verify' -l json -d 'Prints one line of JSON'
 complete -c cargo-lock -n '__cargo_lock_runs verify' -s h -l help -d 'Print help'
 
 complete -c cargo-lock -n '__cargo_lock_runs licenses' -s f -l file -r -F -d 'The lockfile, - for standard input'
@@ -113,6 +114,7 @@ complete -c cargo-lock -n '__cargo_lock_runs licenses' -l any-size -d 'Reads a l
 complete -c cargo-lock -n '__cargo_lock_runs licenses' -l cache -r -F -d 'The folder of unpacked archives, as registry/src of Cargo'
 complete -c cargo-lock -n '__cargo_lock_runs licenses' -l vendor -r -F -d 'The folder that `cargo vendor` made'
 complete -c cargo-lock -n '__cargo_lock_runs licenses' -l allow -r -d 'Allows this term, and others that are given so'
+complete -c cargo-lock -n '__cargo_lock_runs licenses' -l json -d 'Prints one line of JSON'
 complete -c cargo-lock -n '__cargo_lock_runs licenses' -s h -l help -d 'Print help'
 
 complete -c cargo-lock -n '__cargo_lock_runs audit' -s f -l file -r -F -d 'The lockfile, - for standard input'
@@ -120,6 +122,7 @@ complete -c cargo-lock -n '__cargo_lock_runs audit' -l any-size -d 'Reads a lock
 complete -c cargo-lock -n '__cargo_lock_runs audit' -l db -r -F -d 'The folder of the advisories'
 complete -c cargo-lock -n '__cargo_lock_runs audit' -l ignore -r -d 'Leaves out this advisory, and others that are given so'
 complete -c cargo-lock -n '__cargo_lock_runs audit' -l deny -r -a 'unmaintained unsound notice' -d 'Counts informational advisories of this kind as vulnerabilities'
+complete -c cargo-lock -n '__cargo_lock_runs audit' -l json -d 'Prints one line of JSON'
 complete -c cargo-lock -n '__cargo_lock_runs audit' -s h -l help -d 'Print help'
 
 complete -c cargo-lock -n '__cargo_lock_runs help' -a 'list translate tree bom diff check why duplicates graph merge verify licenses audit help' -d COMMAND

@@ -129,6 +129,7 @@ _cargo-lock() {
             '--cache[The folder of the archives, as registry/cache of Cargo]:FOLDER:_files -/' \
             '--vendor[The folder that `cargo vendor` made]:FOLDER:_files -/' \
             '--all[Reports packages without an archive too]' \
+            '--json[Prints one line of JSON]' \
             '(- *)'{-h,--help}'[Print help]'
         ;;
     licenses)
@@ -138,6 +139,7 @@ _cargo-lock() {
             '--cache[The folder of unpacked archives, as registry/src of Cargo]:FOLDER:_files -/' \
             '--vendor[The folder that `cargo vendor` made]:FOLDER:_files -/' \
             '*--allow[Allows this term, and others that are given so]:TERM:' \
+            '--json[Prints one line of JSON]' \
             '(- *)'{-h,--help}'[Print help]'
         ;;
     audit)
@@ -147,6 +149,7 @@ _cargo-lock() {
             '--db[The folder of the advisories]:FOLDER:_files -/' \
             '*--ignore[Leaves out this advisory, and others that are given so]:ID:' \
             '*--deny[Counts informational advisories of this kind as vulnerabilities]:KIND:(unmaintained unsound notice)' \
+            '--json[Prints one line of JSON]' \
             '(- *)'{-h,--help}'[Print help]'
         ;;
     help)

@@ -1,5 +1,5 @@
 -- The depth of the documents of answers and of names.
-use Rattle.std.proofs.Common.{◌≤◌, List, None, Option, Some, arith, map, option_map}
+use Rattle.std.proofs.Common.{◌≤◌, List, arith, option_map}
 use Rattle.json.specs.Tree.{depth}
 use Rattle.cargo_lock_ask.specs.Lines.{AnswerData, Needed, Nothing}
 use Rattle.cargo_lock_ask.specs.Listing.{RowData, first_in}

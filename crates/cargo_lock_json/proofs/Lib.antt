@@ -7,3 +7,6 @@ pub mod Packages
 pub mod Differences
 pub mod Found
 pub mod Asked
+pub mod Verified
+pub mod Licensed
+pub mod Audited

@@ -1,5 +1,5 @@
 -- The names that several packages have, in JSON: the document that `duplicates --json` prints.
-use Rattle.std.specs.Prelude.{ℕ, List, codes, decimal, map, option_map}
+use Rattle.std.specs.Prelude.{List, codes, decimal, map, option_map}
 use Rattle.json.specs.Json.{Json, array, number, string, object, member, no_members}
 use Rattle.cargo_lock_ask.specs.Listing.{RowData, first_in}
 use Rattle.cargo_lock_ask.specs.Tally.{GroupData}

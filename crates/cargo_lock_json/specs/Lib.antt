@@ -5,3 +5,8 @@ pub mod Difference
 pub mod Findings
 pub mod Why
 pub mod Duplicates
+pub mod Verify
+pub mod Archives
+pub mod Folders
+pub mod Licenses
+pub mod Audit

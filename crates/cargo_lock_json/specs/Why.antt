@@ -1,5 +1,5 @@
 -- Why packages are in a lockfile, in JSON: the document that `why --json` prints.
-use Rattle.std.specs.Prelude.{ℕ, List, codes, decimal, map}
+use Rattle.std.specs.Prelude.{List, codes, decimal, map}
 use Rattle.json.specs.Json.{Json, array, null, number, string, object, member, no_members}
 use Rattle.cargo_lock_ask.specs.Lines.{AnswerData, Needed, Nothing}
 use Rattle.cargo_lock_parts.specs.Identity.{PackageData}

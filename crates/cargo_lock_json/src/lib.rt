@@ -1,21 +1,31 @@
 //! What the commands print with `--json`: a difference, what is wrong with a lockfile, why packages
-//! are there, and the names that several packages have, each as one line of JSON whose keys are in
-//! a fixed order. Texts are those of the lockfile, and JSON escapes them.
+//! are there, the names that several packages have, and what is found of archives and folders, of
+//! licences and by advisories, each as one line of JSON whose keys are in a fixed order. Texts are
+//! as lockfiles, manifests and advisories have them, and JSON escapes them.
 //!
 //! `docs/JSON.md` has the documents.
 #![tactic(auto)]
 
+pub mod archives;
+pub mod audit;
 mod change;
 pub mod difference;
 pub mod duplicates;
 pub mod file;
 pub mod findings;
+pub mod folders;
+pub mod licenses;
 mod package;
 mod text;
+mod verify;
 pub mod why;
 
+pub use crate::archives::archives_json;
+pub use crate::audit::advisories_json;
 pub use crate::difference::difference_json;
 pub use crate::duplicates::groups_json;
 pub use crate::file::File;
 pub use crate::findings::findings_json;
+pub use crate::folders::folders_json;
+pub use crate::licenses::verdicts_json;
 pub use crate::why::answers_json;

@@ -43,7 +43,7 @@ pub(crate) fn put_package(
     ensures { Adds result out.old out.new (json_tokens (package_json «package».now)) }
 {
     put_identity(out, alloc, &package.name, &package.version, &package.source)?;
-    put_checksum(out, alloc, &package.checksum)?;
+    put_digest_or_null(out, alloc, "checksum", &package.checksum)?;
     out.end_object()
 }
 
@@ -113,17 +113,33 @@ fn put_source(out: &mut Text, alloc: Global, source: &Option<SourceId>) -> Resul
     }
 }
 
-// Writes the member with a checksum.
-fn put_checksum(
+// Writes a member whose value is a digest, or null.
+pub(crate) fn put_digest_or_null(
     out: &mut Text,
     alloc: Global,
-    checksum: &Option<Checksum>,
+    name: &str,
+    digest: &Option<Checksum>,
 ) -> Result<(), AllocError>
-    ensures { Adds result out.old out.new (key (codes "checksum")
-        ∷ json_tokens (text_or_null (option_map digest_text (option_map digest_of checksum.now)))) }
+    ensures { Adds result out.old out.new (key name.now
+        ∷ json_tokens (text_or_null (option_map digest_text (option_map digest_of digest.now)))) }
 {
-    match checksum {
-        Some(checksum) => out.displayed_member(alloc, "checksum", checksum),
-        None => out.null_member("checksum"),
+    match digest {
+        Some(digest) => out.displayed_member(alloc, name, digest),
+        None => out.null_member(name),
+    }
+}
+
+// Writes a member whose value is a text, or null.
+pub(crate) fn put_text_or_null(
+    out: &mut Text,
+    name: &str,
+    text: Option<&str>,
+) -> Result<(), AllocError>
+    ensures { Adds result out.old out.new (key name.now
+        ∷ json_tokens (text_or_null (option_map (λ t. t.now) text.entry))) }
+{
+    match text {
+        Some(text) => out.string_member(name, text),
+        None => out.null_member(name),
     }
 }

@@ -1,23 +1,28 @@
 //! The command `licenses`: what the manifests of packages say of their licences, and which of them
 //! are not allowed.
-ghost use Rattle.std.specs.Prelude.{◌≡◌, IfOk, codes, map};
+ghost use Rattle.std.specs.Prelude.{◌≡◌, IfOk, OnOk, codes, map};
 ghost use Rattle.clap.specs.Matches.{found_of};
+ghost use Rattle.cargo_lock_json.specs.Licenses.{verdicts_json};
+ghost use Rattle.cargo_lock_json.specs.Text.{IsJsonText};
 ghost use Rattle.cargo_lock_licenses.specs.Subjects.{subject_of};
+ghost use Rattle.cargo_lock_licenses.specs.Verdicts.{verdict_of};
+ghost use Rattle.cli.specs.Json.{PrintsLine};
 ghost use Rattle.cli.specs.Licenses.{AreLicensed, PrintsLicenses, PrintsLicensesOf};
-ghost use Rattle.cli.specs.Licenses.{PrintsLicenseReport};
+ghost use Rattle.cli.specs.Licenses.{PrintsLicenseReport, PrintsVerdicts};
 ghost use Rattle.cli.specs.Texts.{given_texts};
 
 use crate::folders::{cache, vendor};
-use crate::load::named_lockfile;
+use crate::load::{file, named_lockfile};
 use crate::texts;
 use crate::verify::status_of;
 use cargo_lock::Lockfile;
 use cargo_lock::package::Package;
-use cargo_lock_licenses::{Report, Subject};
+use cargo_lock_json::{File, verdicts_json};
+use cargo_lock_licenses::{Report, Subject, Verdict};
 use clap::{ArgMatches, Command};
 use cli_folders::{Entries, Vendor};
 use cli_support::output::put;
-use cli_support::words::any_size;
+use cli_support::words::{any_size, json};
 use cli_support::{Fault, words};
 use std::alloc::{AllocError, Global};
 use std::io::Write;
@@ -60,13 +65,14 @@ pub(crate) fn command<'a>(alloc: Global) -> Result<Command<'a>, AllocError> {
         .arg(any_size(alloc))?
         .arg(cache(alloc, CACHE_HELP)?)?
         .arg(vendor(alloc)?)?
-        .arg(texts::option(alloc, "allow", "TERM").help(ALLOW_HELP))
+        .arg(texts::option(alloc, "allow", "TERM").help(ALLOW_HELP))?
+        .arg(json(alloc))
 }
 
-/// Prints what is found of the licences of the packages of the lockfile. The status is 1 if one is
-/// not allowed or not known, and otherwise 0. Fails if the lockfile, a folder or a manifest is not
-/// read, or if `out` fails; a prefix of the text was then written in the last case, and nothing in
-/// the others.
+/// Prints what is found of the licences of the packages of the lockfile, a line for each, or, if
+/// the arguments ask for it, all as one line of JSON. The status is 1 if one is not allowed or not
+/// known, and otherwise 0. Fails if the lockfile, a folder or a manifest is not read, or if `out`
+/// fails; a prefix of the text was then written in the last case, and nothing in the others.
 pub(crate) fn run<R: Files + AllocGlobal, W: Write>(
     rt: &R,
     options: &ArgMatches<'_>,
@@ -77,22 +83,24 @@ pub(crate) fn run<R: Files + AllocGlobal, W: Write>(
         (status ≡ ExitCode.FAILURE) (status ≡ ExitCode.SUCCESS)) }
 {
     let lockfile = named_lockfile(rt, options, "file")?;
-    print_licenses(rt, options, &lockfile, out)
+    let file = file(options, "file", &lockfile);
+    print_licenses(rt, options, &file, &lockfile, out)
 }
 
 /// Prints what is found of the licences of these packages. Returns the status.
 fn print_licenses<R: Files + AllocGlobal, W: Write>(
     rt: &R,
     options: &ArgMatches<'_>,
+    file: &File<'_>,
     lockfile: &Lockfile,
     out: &mut W,
 ) -> Result<ExitCode, Fault>
-    ensures { IfOk result (λ status. PrintsLicensesOf (found_of options.now)
+    ensures { IfOk result (λ status. PrintsLicensesOf (found_of options.now) file.now
         lockfile.now.packages (W.contents out.old) (W.contents out.new)
         (status ≡ ExitCode.FAILURE) (status ≡ ExitCode.SUCCESS)) }
 {
     let subjects = subjects_of(rt, options, &lockfile.packages)?;
-    print_report(rt.alloc(), options, &subjects, out)
+    print_report(rt.alloc(), options, file, &subjects, out)
 }
 
 /// The packages, each with what its manifests say.
@@ -170,15 +178,51 @@ fn cached_with<'a, R: Files + AllocGlobal>(
 fn print_report<W: Write>(
     alloc: Global,
     options: &ArgMatches<'_>,
+    file: &File<'_>,
     subjects: &[Subject<'_>],
     out: &mut W,
 ) -> Result<ExitCode, Fault>
-    ensures { IfOk result (λ status. PrintsLicenseReport (found_of options.now)
+    ensures { IfOk result (λ status. PrintsLicenseReport (found_of options.now) file.now
         (map subject_of subjects.now) (W.contents out.old) (W.contents out.new)
         (status ≡ ExitCode.FAILURE) (status ≡ ExitCode.SUCCESS)) }
 {
     let allowed = texts::given(alloc, options, "allow")?;
     let report = Report::of(alloc, subjects, &allowed)?;
-    put(out, format_args!("{report}"))?;
+    print_verdicts(alloc, options, file, &report, out)?;
     Ok(status_of(!report.has_finding()))
+}
+
+/// Prints what is said of packages as the arguments ask for it: in JSON, or as lines.
+fn print_verdicts<W: Write>(
+    alloc: Global,
+    options: &ArgMatches<'_>,
+    file: &File<'_>,
+    report: &Report<'_, '_>,
+    out: &mut W,
+) -> Result<(), Fault>
+    ensures { OnOk result (PrintsVerdicts (found_of options.now) file.now
+        (map verdict_of report.now.verdicts.items) (W.contents out.old) (W.contents out.new)) }
+{
+    if options.get_flag("json") {
+        print_document(alloc, file, &report.verdicts, out)
+    } else {
+        put(out, format_args!("{report}"))?;
+        Ok(())
+    }
+}
+
+/// Prints the document of what is said of packages, and a newline.
+fn print_document<W: Write>(
+    alloc: Global,
+    file: &File<'_>,
+    verdicts: &[Verdict<'_, '_>],
+    out: &mut W,
+) -> Result<(), Fault>
+    ensures { OnOk result (PrintsLine
+        (IsJsonText (verdicts_json file.now (map verdict_of verdicts.now)))
+        (W.contents out.old) (W.contents out.new)) }
+{
+    let text = verdicts_json(alloc, file, verdicts)?;
+    put(out, format_args!("{text}\n"))?;
+    Ok(())
 }

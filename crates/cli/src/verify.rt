@@ -1,21 +1,29 @@
 //! The command `verify`: whether the archives of packages are those that a lockfile names, or the
 //! folders that `cargo vendor` made are as their lists say.
-ghost use Rattle.std.specs.Prelude.{◌≡◌, IfOk, false, map, true};
+ghost use Rattle.std.specs.Prelude.{◌≡◌, IfOk, OnOk, false, map, true};
 ghost use Rattle.clap.specs.Matches.{found_of};
+ghost use Rattle.cargo_lock_json.specs.Archives.{archives_json};
+ghost use Rattle.cargo_lock_json.specs.Folders.{folders_json};
+ghost use Rattle.cargo_lock_json.specs.Text.{IsJsonText};
+ghost use Rattle.cargo_lock_verify.specs.Archives as archive;
 ghost use Rattle.cargo_lock_verify.specs.Archives.{subject_of};
 ghost use Rattle.cargo_lock_verify.specs.Vendored.{vendored_of};
-ghost use Rattle.cli.specs.Verify.{AreSubjectsOf, AreVendoredOf, PrintsReport};
-ghost use Rattle.cli.specs.Verify.{PrintsVendorReport, PrintsVerified, PrintsVerifiedOf};
+ghost use Rattle.cargo_lock_verify.specs.Vendored as folder;
+ghost use Rattle.cli.specs.Json.{PrintsLine};
+ghost use Rattle.cli.specs.Verify.{AreSubjectsOf, AreVendoredOf, PrintsArchives, PrintsFolders};
+ghost use Rattle.cli.specs.Verify.{PrintsReport, PrintsVendorReport, PrintsVerified};
+ghost use Rattle.cli.specs.Verify.{PrintsVerifiedOf};
 
 use crate::folders::{cache, vendor};
-use crate::load::compared_lockfile;
+use crate::load::{compared_lockfile, file};
 use cargo_lock::Lockfile;
 use cargo_lock::package::Package;
+use cargo_lock_json::{File, archives_json, folders_json};
 use cargo_lock_verify::{Report, Subject, VendorReport, Vendored};
 use clap::{Arg, ArgMatches, Command};
 use cli_folders::{Entries, Vendor};
 use cli_support::output::put;
-use cli_support::words::{any_size, long_flag};
+use cli_support::words::{any_size, json, long_flag};
 use cli_support::{Fault, words};
 use std::alloc::{AllocError, Global};
 use std::io::Write;
@@ -57,7 +65,8 @@ pub(crate) fn command<'a>(alloc: Global) -> Result<Command<'a>, AllocError> {
         .arg(any_size(alloc))?
         .arg(cache(alloc, CACHE_HELP)?)?
         .arg(vendor(alloc)?)?
-        .arg(all(alloc)?)
+        .arg(all(alloc)?)?
+        .arg(json(alloc))
 }
 
 /// The option to report packages without an archive.
@@ -68,9 +77,10 @@ fn all<'a>(alloc: Global) -> Result<Arg<'a>, AllocError> {
 }
 
 /// Prints which packages of the lockfile have no archive with their checksum, or no folder that is
-/// as its list says, and how many have one. The status is 1 if a line is printed for a package, and
-/// otherwise 0. Fails if the lockfile, a folder or a file is not read, or if `out` fails; a prefix of
-/// the text was then written in the last case, and nothing in the others.
+/// as its list says, and how many have one, or, if the arguments ask for it, all as one line of
+/// JSON. The status is 1 if something is found of a package, and otherwise 0. Fails if the lockfile,
+/// a folder or a file is not read, or if `out` fails; a prefix of the text was then written in the
+/// last case, and nothing in the others.
 pub(crate) fn run<R: Files + AllocGlobal, W: Write>(
     rt: &R,
     options: &ArgMatches<'_>,
@@ -81,28 +91,30 @@ pub(crate) fn run<R: Files + AllocGlobal, W: Write>(
         (status ≡ ExitCode.FAILURE) (status ≡ ExitCode.SUCCESS)) }
 {
     let lockfile = compared_lockfile(rt, options, "file")?;
-    print_verified(rt, options, &lockfile, out)
+    let file = file(options, "file", &lockfile);
+    print_verified(rt, options, &file, &lockfile, out)
 }
 
 /// Prints what is found of these packages. Returns the status.
 fn print_verified<R: Files + AllocGlobal, W: Write>(
     rt: &R,
     options: &ArgMatches<'_>,
+    file: &File<'_>,
     lockfile: &Lockfile,
     out: &mut W,
 ) -> Result<ExitCode, Fault>
-    ensures { IfOk result (λ status. PrintsVerifiedOf (found_of options.now) lockfile.now.packages
-        (W.contents out.old) (W.contents out.new)
+    ensures { IfOk result (λ status. PrintsVerifiedOf (found_of options.now) file.now
+        lockfile.now.packages (W.contents out.old) (W.contents out.new)
         (status ≡ ExitCode.FAILURE) (status ≡ ExitCode.SUCCESS)) }
 {
     match options.get_str("vendor") {
         Some(folder) => {
             let vendored = vendored_of(rt, folder, &lockfile.packages)?;
-            print_vendor_report(rt.alloc(), &vendored, out)
+            print_vendor_report(rt.alloc(), options, file, &vendored, out)
         }
         None => {
             let subjects = subjects_of(rt, options, &lockfile.packages)?;
-            print_report(rt.alloc(), options, &subjects, out)
+            print_report(rt.alloc(), options, file, &subjects, out)
         }
     }
 }
@@ -140,16 +152,55 @@ fn vendored_with<'a, R: Files + AllocGlobal>(
 /// Prints what is found of these folders. Returns the status.
 fn print_vendor_report<W: Write>(
     alloc: Global,
+    options: &ArgMatches<'_>,
+    file: &File<'_>,
     vendored: &[Vendored<'_>],
     out: &mut W,
 ) -> Result<ExitCode, Fault>
-    ensures { IfOk result (λ status. PrintsVendorReport (map vendored_of vendored.now)
-        (W.contents out.old) (W.contents out.new)
+    ensures { IfOk result (λ status. PrintsVendorReport (found_of options.now) file.now
+        (map vendored_of vendored.now) (W.contents out.old) (W.contents out.new)
         (status ≡ ExitCode.FAILURE) (status ≡ ExitCode.SUCCESS)) }
 {
     let report = VendorReport::of(alloc, vendored)?;
-    put(out, format_args!("{report}"))?;
+    print_folders(alloc, options, file, &report, out)?;
     Ok(status_of(report.findings.is_empty()))
+}
+
+/// Prints what is found of folders as the arguments ask for it: in JSON, or as lines.
+fn print_folders<W: Write>(
+    alloc: Global,
+    options: &ArgMatches<'_>,
+    file: &File<'_>,
+    report: &VendorReport<'_, '_>,
+    out: &mut W,
+) -> Result<(), Fault>
+    ensures { OnOk result (PrintsFolders (found_of options.now) file.now
+        (map folder.finding_of report.now.findings.items) report.now.verified
+        (W.contents out.old) (W.contents out.new)) }
+{
+    if options.get_flag("json") {
+        print_folders_document(alloc, file, report, out)
+    } else {
+        put(out, format_args!("{report}"))?;
+        Ok(())
+    }
+}
+
+/// Prints the document of what is found of folders, and a newline.
+fn print_folders_document<W: Write>(
+    alloc: Global,
+    file: &File<'_>,
+    report: &VendorReport<'_, '_>,
+    out: &mut W,
+) -> Result<(), Fault>
+    ensures { OnOk result (PrintsLine
+        (IsJsonText (folders_json file.now report.now.verified
+        (map folder.finding_of report.now.findings.items)))
+        (W.contents out.old) (W.contents out.new)) }
+{
+    let text = folders_json(alloc, file, report)?;
+    put(out, format_args!("{text}\n"))?;
+    Ok(())
 }
 
 /// The packages, each with its archives in the folder that the arguments name.
@@ -184,16 +235,54 @@ fn subjects_with<'a, R: Files + AllocGlobal>(
 fn print_report<W: Write>(
     alloc: Global,
     options: &ArgMatches<'_>,
+    file: &File<'_>,
     subjects: &[Subject<'_>],
     out: &mut W,
 ) -> Result<ExitCode, Fault>
-    ensures { IfOk result (λ status. PrintsReport (found_of options.now)
+    ensures { IfOk result (λ status. PrintsReport (found_of options.now) file.now
         (map subject_of subjects.now) (W.contents out.old) (W.contents out.new)
         (status ≡ ExitCode.FAILURE) (status ≡ ExitCode.SUCCESS)) }
 {
     let report = Report::of(alloc, subjects, options.get_flag("all"))?;
-    put(out, format_args!("{report}"))?;
+    print_archives(alloc, options, file, &report, out)?;
     Ok(status_of(report.findings.is_empty()))
+}
+
+/// Prints what is found of archives as the arguments ask for it: in JSON, or as lines.
+fn print_archives<W: Write>(
+    alloc: Global,
+    options: &ArgMatches<'_>,
+    file: &File<'_>,
+    report: &Report<'_, '_>,
+    out: &mut W,
+) -> Result<(), Fault>
+    ensures { OnOk result (PrintsArchives (found_of options.now) file.now
+        (map archive.finding_of report.now.findings.items) report.now.verified
+        (W.contents out.old) (W.contents out.new)) }
+{
+    if options.get_flag("json") {
+        print_archives_document(alloc, file, report, out)
+    } else {
+        put(out, format_args!("{report}"))?;
+        Ok(())
+    }
+}
+
+/// Prints the document of what is found of archives, and a newline.
+fn print_archives_document<W: Write>(
+    alloc: Global,
+    file: &File<'_>,
+    report: &Report<'_, '_>,
+    out: &mut W,
+) -> Result<(), Fault>
+    ensures { OnOk result (PrintsLine
+        (IsJsonText (archives_json file.now report.now.verified
+        (map archive.finding_of report.now.findings.items)))
+        (W.contents out.old) (W.contents out.new)) }
+{
+    let text = archives_json(alloc, file, report)?;
+    put(out, format_args!("{text}\n"))?;
+    Ok(())
 }
 
 /// The status where nothing is found, or something.

@@ -1,8 +1,9 @@
 //! Whether a file is the archive that a lockfile names, and whether folders are as their lists say.
 
 use cargo_lock::{Error, Lockfile, Package};
+use cargo_lock_json::{File, archives_json, folders_json};
 use cargo_lock_verify::{
-    Archive, Subject, VendorReport, Vendored, digest, findings, vendored_findings,
+    Archive, Report, Subject, VendorReport, Vendored, digest, findings, vendored_findings,
 };
 use std::fs::OpenOptions;
 use std::path::Path;
@@ -18,6 +19,22 @@ pub fn print_wrong(rt: &HostRuntime, lockfile: &Lockfile, path: &str) -> Result<
     for finding in &found {
         println!(rt; "{finding}")?;
     }
+    print_document(rt, lockfile, &subjects)
+}
+
+/// Prints the document of what is wrong with archives.
+fn print_document(
+    rt: &HostRuntime,
+    lockfile: &Lockfile,
+    subjects: &[Subject<'_>],
+) -> Result<(), Error> {
+    let file = File {
+        path: "Cargo.lock",
+        format: lockfile.version,
+    };
+    let report = Report::of(rt.alloc(), subjects, true)?;
+    let text = archives_json(rt.alloc(), &file, &report)?;
+    println!(rt; "{text}")?;
     Ok(())
 }
 
@@ -47,5 +64,20 @@ pub fn print_without_folders(rt: &HostRuntime, lockfile: &Lockfile) -> Result<()
     if found.len() == report.findings.len() {
         print!(rt; "{report}")?;
     }
+    print_document_of_folders(rt, lockfile, &report)
+}
+
+/// Prints the document of what is wrong with folders.
+fn print_document_of_folders(
+    rt: &HostRuntime,
+    lockfile: &Lockfile,
+    report: &VendorReport<'_, '_>,
+) -> Result<(), Error> {
+    let file = File {
+        path: "Cargo.lock",
+        format: lockfile.version,
+    };
+    let text = folders_json(rt.alloc(), &file, report)?;
+    println!(rt; "{text}")?;
     Ok(())
 }

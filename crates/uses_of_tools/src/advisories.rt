@@ -5,6 +5,7 @@ use cargo_lock::{Error, Lockfile};
 use cargo_lock_audit::{
     Advisory, AdvisoryFile, DatabaseFault, Report, Requirement, database_of, pairs,
 };
+use cargo_lock_json::{File, advisories_json};
 use std::alloc::Global;
 
 /// The file of an advisory.
@@ -88,7 +89,7 @@ fn advisories(alloc: Global, files: Vec<AdvisoryFile>) -> Result<Vec<Advisory>, 
     Ok(advisories)
 }
 
-/// Prints how many pairs there are, and the report on them.
+/// Prints how many pairs there are, the report on them, and its document.
 fn print_report(
     rt: &HostRuntime,
     lockfile: &Lockfile,
@@ -102,5 +103,19 @@ fn print_report(
     let count = pairs.len();
     println!(rt; "pairs: {count}")?;
     print!(rt; "{report}")?;
+    print_document(rt, lockfile, &report)
+}
+
+fn print_document(
+    rt: &HostRuntime,
+    lockfile: &Lockfile,
+    report: &Report<'_, '_, '_>,
+) -> Result<(), Error> {
+    let file = File {
+        path: "Cargo.lock",
+        format: lockfile.version,
+    };
+    let text = advisories_json(rt.alloc(), &file, report)?;
+    println!(rt; "{text}")?;
     Ok(())
 }

@@ -1,6 +1,7 @@
 //! Licences of packages, by what their manifests say.
 
 use cargo_lock::{Error, Lockfile, Package};
+use cargo_lock_json::{File, verdicts_json};
 use cargo_lock_licenses::{Expression, Manifest, Report, Subject, Verdict};
 use std::alloc::{AllocError, Global};
 
@@ -50,7 +51,7 @@ fn subject<'a>(alloc: Global, package: &'a Package) -> Result<Subject<'a>, Error
     Ok(Subject { package, manifests })
 }
 
-/// Prints the report on the packages.
+/// Prints the report on the packages, and its document.
 pub fn print_report(rt: &HostRuntime, lockfile: &Lockfile) -> Result<(), Error> {
     let alloc = rt.alloc();
     let allowed = terms(alloc)?;
@@ -60,5 +61,19 @@ pub fn print_report(rt: &HostRuntime, lockfile: &Lockfile) -> Result<(), Error> 
     }
     let report = Report::of(alloc, &subjects, &allowed)?;
     print!(rt; "{report}")?;
+    print_document(rt, lockfile, &report)
+}
+
+fn print_document(
+    rt: &HostRuntime,
+    lockfile: &Lockfile,
+    report: &Report<'_, '_>,
+) -> Result<(), Error> {
+    let file = File {
+        path: "Cargo.lock",
+        format: lockfile.version,
+    };
+    let text = verdicts_json(rt.alloc(), &file, &report.verdicts)?;
+    println!(rt; "{text}")?;
     Ok(())
 }

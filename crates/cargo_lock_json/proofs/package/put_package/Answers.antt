@@ -6,4 +6,4 @@ use Rattle.cargo_lock_json.proofs.package.put_package.Goals as goal
 pub returns : goal.returns
 unfolding identity_json
 returns c = rw (sym c.package.view_is) (then c.in_ok-put_identity.ensures
-    (then c.in_ok-put_checksum.ensures c.end_object.ensures))
+    (then c.in_ok-put_digest_or_null.ensures c.end_object.ensures))

@@ -1,0 +1,29 @@
+//! What the documents of `verify` have in common.
+
+ghost use Rattle.std.specs.Prelude.{◌∷◌, [], codes, decimal, option_map};
+ghost use Rattle.json.specs.Token.{begin_object, key, number, string};
+ghost use Rattle.json.specs.Tree.{json_tokens};
+ghost use Rattle.cargo_lock_json.specs.Text.{Adds};
+ghost use Rattle.cargo_lock_references.specs.Format.{number_of};
+
+use crate::file::{File, begin_document};
+use crate::text::Text;
+use std::alloc::AllocError;
+
+// Opens a document up to its findings: the lockfile, and how many packages are verified.
+pub(crate) fn begin_verified(
+    out: &mut Text,
+    file: &File<'_>,
+    verified: usize,
+) -> Result<(), AllocError>
+    ensures { Adds result out.old out.new (begin_object
+        ∷ key (codes "schema") ∷ string (codes "cargo-lock-verify/1")
+        ∷ key (codes "path") ∷ string file.now.path
+        ∷ key (codes "format") ∷ number (decimal (number_of file.now.format))
+        ∷ key (codes "verified") ∷ number (decimal verified)
+        ∷ key (codes "findings") ∷ []) }
+{
+    begin_document(out, "cargo-lock-verify/1", file)?;
+    out.number_member("verified", verified as u64)?;
+    out.key("findings")
+}
