@@ -31,12 +31,13 @@ IsReadable (NoLicense p) = Unit {0}
 IsReadable (NoManifest p) = Unit {0}
 IsReadable (Differ p) = Unit {0}
 
--- the licence expression that a bill has of a subject: that of its verdict where each expression is
--- allowed, if its package has a source
+-- the licence expression of a subject whose package has a source, or not: that of its verdict where
+-- each expression is allowed, or none
 abbrev pub IsLicenseIf : Bool → SubjectData → Option (List ℕ) → Type 0
 IsLicenseIf false s license = license ≡ None
 IsLicenseIf true s license = (v : VerdictData) × IsVerdict [] s v × (license ≡ expression_in v)
 
+-- the licence expression that a bill has of a subject
 abbrev pub IsLicense : SubjectData → Option (List ℕ) → Type 0
 IsLicense s = IsLicenseIf (has_source s) s
 
