@@ -172,7 +172,7 @@ fn only_fitting(alloc: Global, packages: &[Package], spec: &str) -> Result<NodeI
 /// The options of a bill that the arguments ask for, with this root and this time, if they are
 /// given, and with these licence expressions.
 fn said_of_bill<'a>(
-    options: &ArgMatches<'a>,
+    options: &'a ArgMatches<'_>,
     given: Option<NodeIndex>,
     time: Option<u64>,
     licenses: &'a [Option<String>],
