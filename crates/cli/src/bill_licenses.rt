@@ -90,17 +90,20 @@ fn subjects_with<'a, R: Files + AllocGlobal>(
     Ok(subjects)
 }
 
-/// What the manifests of a package say that are found in one of the two ways.
+/// What the manifests of a package say: of a folder in which folders have manifests, as `cargo
+/// vendor` makes it, the one with the name and version of the package, and of another folder those of
+/// the folders that have the name of its unpacked archive.
 fn manifests_of<R: Files + AllocGlobal>(
     rt: &R,
     vendor: &Vendor,
     entries: &Entries,
     package: &Package,
 ) -> Result<Vec<Manifest>, Fault> {
-    let mut manifests = vendor.manifests_of(rt, package)?;
-    let mut unpacked = entries.manifests_of(rt, package)?;
-    manifests.append(&mut unpacked)?;
-    Ok(manifests)
+    if vendor.is_empty() {
+        entries.manifests_of(rt, package)
+    } else {
+        vendor.manifests_of(rt, package)
+    }
 }
 
 /// The licence expressions of these subjects, in their order.
