@@ -42,9 +42,10 @@ _cargo_lock() {
     bom)
         case $previous in
         -f | --file | -o | --output) _cargo_lock_files ;;
+        --licenses) _cargo_lock_files ;;
         --root) _cargo_lock_packages ;;
         --author) ;;
-        *) _cargo_lock_offer '-f --file --any-size -o --output --root --author --timestamp --serial --compact -h --help' ;;
+        *) _cargo_lock_offer '-f --file --any-size -o --output --root --author --timestamp --serial --licenses --compact -h --help' ;;
         esac
         ;;
     diff)

@@ -61,6 +61,7 @@ complete -c cargo-lock -n '__cargo_lock_runs bom' -l root -x -a '(__cargo_lock_p
 complete -c cargo-lock -n '__cargo_lock_runs bom' -l author -x -d 'Who writes the bill'
 complete -c cargo-lock -n '__cargo_lock_runs bom' -l timestamp -d 'Adds the time: of SOURCE_DATE_EPOCH, or else of the clock'
 complete -c cargo-lock -n '__cargo_lock_runs bom' -l serial -d 'Adds a serial number, equal for equal bills'
+complete -c cargo-lock -n '__cargo_lock_runs bom' -l licenses -r -F -d 'Adds licences, by a folder of `cargo vendor` or of unpacked archives'
 complete -c cargo-lock -n '__cargo_lock_runs bom' -l compact -d 'Writes one line, without spaces'
 complete -c cargo-lock -n '__cargo_lock_runs bom' -s h -l help -d 'Print help'
 

@@ -67,6 +67,7 @@ _cargo-lock() {
             '--author[Who writes the bill]:NAME:' \
             '--timestamp[Adds the time: of SOURCE_DATE_EPOCH, or else of the clock]' \
             '--serial[Adds a serial number, equal for equal bills]' \
+            '--licenses[Adds licences, by a folder of `cargo vendor` or of unpacked archives]:FOLDER:_files -/' \
             '--compact[Writes one line, without spaces]' \
             '(- *)'{-h,--help}'[Print help]'
         ;;

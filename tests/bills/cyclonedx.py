@@ -1,9 +1,10 @@
 """What CycloneDX 1.6 says of a bill of materials in JSON, as far as a bill of a lockfile goes.
 
 Written from the JSON schema of CycloneDX 1.6 (ECMA-424), the specification of package URLs
-(ECMA-427) with its type `cargo`, RFC 3339 for times, and RFC 3987 for references. It is no reader of
-the schema's file: each rule stands here by itself. A member that the schema has and no bill of ours
-needs, as `licenses`, is refused like an unknown one.
+(ECMA-427) with its type `cargo`, RFC 3339 for times, RFC 3987 for references, and annex D of SPDX
+2.3 for licence expressions, without its lists of names. It is no reader of the schema's file: each
+rule stands here by itself. A member that the schema has and no bill of ours needs, as `copyright`,
+is refused like an unknown one.
 """
 import datetime
 import json
@@ -41,6 +42,12 @@ IRI = (rf"(?:[A-Za-z][A-Za-z0-9+.-]*:)?(?:{AUTHORITY}(?:/(?:{CHARACTER}|/)*)?|(?
 SEGMENT = r"(?:[A-Za-z0-9\-._~:]|%[0-9A-F]{2})+"
 VALUE = r"(?:[A-Za-z0-9\-._~:/]|%[0-9A-F]{2})+"
 PURL = rf"pkg:([a-z][a-z0-9.+-]*)/({SEGMENT})@({SEGMENT})(?:\?(.+))?"
+
+# a licence expression in its one form: a term, and terms that operators join. What is in brackets is
+# one term, for which there is a mark once it is read
+LICENCE = r"(?!(?:AND|OR|WITH)(?![A-Za-z0-9\-.+:]))[A-Za-z0-9\-.+:]+"
+TERM = rf"(?:\0|{LICENCE}(?: WITH {LICENCE})?)"
+TERMS = rf"{TERM}(?: (?:AND|OR) {TERM})*"
 
 
 class Invalid(Exception):
@@ -118,6 +125,19 @@ def digest(value, where):
     ask(len(value["content"]) == DIGITS[value["alg"]], f"{where} has no digest of its length")
 
 
+def expression(value, where):
+    ask(isinstance(value, str) and "\0" not in value, f"{where}: {value!r}")
+    left, count = value, 1
+    while count:
+        left, count = re.subn(rf"\(({TERMS})\)", "\0", left)
+    ask(re.fullmatch(TERMS, left), f"{where}: {value!r}")
+
+
+def licenses(value, where):
+    ask(isinstance(value, list) and len(value) == 1, f"{where} is no list of one expression")
+    fields(value[0], f"{where}[0]", {"expression": expression}, ("expression",))
+
+
 def external(value, where):
     known = {"type": one_of(REFERENCES), "url": matches(IRI), "comment": text}
     fields(value, where, known, ("type", "url"))
@@ -161,6 +181,7 @@ def component(value, where):
     fields(value, where, {
         "type": one_of(TYPES), "bom-ref": some_text, "name": text, "version": version,
         "purl": purl, "hashes": each(digest, False), "externalReferences": each(external, False),
+        "licenses": licenses,
     }, ("type", "name"))
     if "purl" in value:
         _, name, number, _ = purl_parts(value["purl"], where)

@@ -15,7 +15,7 @@ use Rattle.cargo_lock_parts.specs.Source.{Kind, Source, Git, Path, Registry, Spa
 use Rattle.cargo_lock_graph.specs.Edges.{GraphData}
 use Rattle.cargo_lock_bom.specs.declared.root.Root.{Root}
 use Rattle.cargo_lock_bom.specs.declared.root.Root.TheVariants.{Package, Workspace, Nothing}
-use Rattle.cargo_lock_bom.specs.Component.{AreComponents, base_members, component_at, component_if, component_of, hashes_of, put_some, repositories_by, repositories_if, repositories_of, root_component}
+use Rattle.cargo_lock_bom.specs.Component.{AreComponents, base_members, component_at, component_if, component_of, hashes_of, license_at, licenses_of, put_some, repositories_by, repositories_if, repositories_of, root_component}
 use Rattle.cargo_lock_bom.specs.Dependencies.{AreEntries, AreOwnEntries, IsEntry, entry_with, node_reference}
 use Rattle.cargo_lock_bom.specs.Document.{IsAbout, IsBill, document_of}
 use Rattle.cargo_lock_bom.specs.Iri.{iri_text}
@@ -106,25 +106,26 @@ repositories_low (Some s) = kind_low s.kind (iri_text (without_user_info s.url))
 base_low : (application : Bool) (p : PackageData) → members_depth (base_members application p) ≤ 2
 base_low application p = lit≤ tt
 
-component_low : (application : Bool) (p : PackageData) → depth (component_of application p) ≤ 3
+component_low : (application : Bool) (license : Option (List ℕ)) (p : PackageData) → depth (component_of application license p) ≤ 3
 unfolding component_of
-component_low application p =
+component_low application license p =
     suc_low _ 2
     (put_some_low (codes "externalReferences") (repositories_if p.source) _ 2 (repositories_low p.source)
     (put_some_low (codes "hashes") (option_map hashes_of p.checksum) _ 2 (map_low hashes_of p.checksum 2 (λ d. lit≤ tt))
+    (put_some_low (codes "licenses") (option_map licenses_of license) _ 2 (map_low licenses_of license 2 (λ t. lit≤ tt))
     (put_some_low (codes "purl") (option_map string (purl_of (identity_of p))) _ 2 (map_low string (purl_of (identity_of p)) 2 (λ t. lit≤ tt))
-    (base_low application p))))
+    (base_low application p)))))
 
-if_low : (application : Bool) (o : Option PackageData) → depth (component_if application o) ≤ 3
-if_low application None = omega arith
-if_low application (Some p) = component_low application p
+if_low : (application : Bool) (license : Option (List ℕ)) (o : Option PackageData) → depth (component_if application license o) ≤ 3
+if_low application license None = omega arith
+if_low application license (Some p) = component_low application license p
 
-component_at_low : (graph : GraphData) (node : ℕ) → depth (component_at graph node) ≤ 3
-component_at_low graph node = if_low (is_application graph node) (slice_get graph.packages node)
+component_at_low : (graph : GraphData) (licenses : List (Option (List ℕ))) (node : ℕ) → depth (component_at graph licenses node) ≤ 3
+component_at_low graph licenses node = if_low (is_application graph node) (license_at licenses node) (slice_get graph.packages node)
 
-components_low : (graph : GraphData) (root : Root) (components : List Data) → AreComponents graph root components → items_depth (items_of components) ≤ 3
-components_low graph root components are =
-    rw are.are (items_depth-map (component_at graph) 3 (component_at_low graph) are.nodes)
+components_low : (graph : GraphData) (licenses : List (Option (List ℕ))) (root : Root) (components : List Data) → AreComponents graph licenses root components → items_depth (items_of components) ≤ 3
+components_low graph licenses root components are =
+    rw are.are (items_depth-map (component_at graph licenses) 3 (component_at_low graph licenses) are.nodes)
 
 with_low : (packages : List PackageData) (own : List ℕ) (targets : List ℕ) → depth (entry_with packages own targets) ≤ 2
 unfolding entry_with
@@ -155,17 +156,17 @@ entries_low graph root entries are =
 
 -- ---- the metadata
 
-root_low : (graph : GraphData) (root : Root) → IfLow (root_component graph root) 3
-root_low graph (Package node) = component_at_low graph node
-root_low graph Workspace = lit≤ tt
-root_low graph Nothing = tt
+root_low : (graph : GraphData) (licenses : List (Option (List ℕ))) (root : Root) → IfLow (root_component graph licenses root) 3
+root_low graph licenses (Package node) = component_at_low graph licenses node
+root_low graph licenses Workspace = lit≤ tt
+root_low graph licenses Nothing = tt
 
 metadata_low : (graph : GraphData) (root : Root) (options : OptionsData) (d : Data) → IsMetadata graph root options d → depth d ≤ 4
 unfolding metadata_of
 metadata_low graph root options d is =
     rw is.is (suc_low _ 3
     (put_some_low (codes "timestamp") (option_map string is.time) _ 3 (map_low string is.time 3 (λ t. lit≤ tt))
-    (put_some_low (codes "component") (root_component graph root) _ 3 (root_low graph root)
+    (put_some_low (codes "component") (root_component graph options.licenses root) _ 3 (root_low graph options.licenses root)
     (put_some_low (codes "authors") (option_map authors_of options.author) _ 3 (map_low authors_of options.author 3 (λ t. lit≤ tt))
     (let own : members_depth (own_members options.tool_version) ≤ 3 = lit≤ tt in own)))))
 
@@ -173,7 +174,7 @@ metadata_low graph root options d is =
 about_low : (graph : GraphData) (root : Root) (options : OptionsData) (d : Data) → IsAbout graph root options d → depth d ≤ 126
 unfolding document_of
 about_low graph root options d about =
-    let components = components_low graph root about.components about.are_components in
+    let components = components_low graph options.licenses root about.components about.are_components in
     let entries = entries_low graph root about.entries about.are_entries in
     let metadata = metadata_low graph root options about.metadata about.is_metadata in
     let components_list : suc (items_depth (items_of about.components)) ≤ 125 = omega (arith, components) in

@@ -13,7 +13,7 @@ use Rattle.cargo_lock_parts.specs.Source.{Kind, Source, Git, Path, Registry, Spa
 use Rattle.cargo_lock_graph.specs.Edges.{GraphData}
 use Rattle.cargo_lock_bom.specs.declared.root.Root.{Root}
 use Rattle.cargo_lock_bom.specs.declared.root.Root.TheVariants.{Package, Workspace, Nothing}
-use Rattle.cargo_lock_bom.specs.Component.{AreComponents, base_members, component_at, component_if, component_of, hashes_of, put_some, repositories_by, repositories_if, repositories_of, root_component}
+use Rattle.cargo_lock_bom.specs.Component.{AreComponents, base_members, component_at, component_if, component_of, hashes_of, license_at, licenses_of, put_some, repositories_by, repositories_if, repositories_of, root_component}
 use Rattle.cargo_lock_bom.specs.Dependencies.{AreEntries, AreOwnEntries, IsEntry, entry_with, node_reference}
 use Rattle.cargo_lock_bom.specs.Document.{IsAbout, document_of}
 use Rattle.cargo_lock_bom.specs.Iri.{iri_text}
@@ -99,23 +99,25 @@ repositories_whole : (source : Option Source) → IfWhole (repositories_if sourc
 repositories_whole None = tt
 repositories_whole (Some s) = kind_whole s.kind (iri_text (without_user_info s.url)) s.precise
 
-component_whole : (application : Bool) (p : PackageData) → has_float (component_of application p) ≡ false
+component_whole : (application : Bool) (license : Option (List ℕ)) (p : PackageData) → has_float (component_of application license p) ≡ false
 unfolding component_of
-component_whole application p =
+component_whole application license p =
     put_some_whole (codes "externalReferences") (repositories_if p.source) _ (repositories_whole p.source)
     (put_some_whole (codes "hashes") (option_map hashes_of p.checksum) _ (map_whole hashes_of p.checksum (λ d. refl))
+    (put_some_whole (codes "licenses") (option_map licenses_of license) _ (map_whole licenses_of license (λ t. refl))
     (put_some_whole (codes "purl") (option_map string (purl_of (identity_of p))) _ (map_whole string (purl_of (identity_of p)) (λ t. refl))
-    (let base : members_have_float (base_members application p) ≡ false = refl in base)))
+    (let base : members_have_float (base_members application p) ≡ false = refl in base))))
 
-if_whole : (application : Bool) (o : Option PackageData) → has_float (component_if application o) ≡ false
-if_whole application None = refl
-if_whole application (Some p) = component_whole application p
+if_whole : (application : Bool) (license : Option (List ℕ)) (o : Option PackageData) → has_float (component_if application license o) ≡ false
+if_whole application license None = refl
+if_whole application license (Some p) = component_whole application license p
 
-component_at_whole : (graph : GraphData) (node : ℕ) → has_float (component_at graph node) ≡ false
-component_at_whole graph node = if_whole (is_application graph node) (slice_get graph.packages node)
+component_at_whole : (graph : GraphData) (licenses : List (Option (List ℕ))) (node : ℕ) → has_float (component_at graph licenses node) ≡ false
+component_at_whole graph licenses node = if_whole (is_application graph node) (license_at licenses node) (slice_get graph.packages node)
 
-components_whole : (graph : GraphData) (root : Root) (components : List Data) → AreComponents graph root components → items_have_float (items_of components) ≡ false
-components_whole graph root components are = rw are.are (items-map (component_at graph) (component_at_whole graph) are.nodes)
+components_whole : (graph : GraphData) (licenses : List (Option (List ℕ))) (root : Root) (components : List Data)
+    → AreComponents graph licenses root components → items_have_float (items_of components) ≡ false
+components_whole graph licenses root components are = rw are.are (items-map (component_at graph licenses) (component_at_whole graph licenses) are.nodes)
 
 -- ---- entries
 
@@ -143,24 +145,24 @@ entries_whole graph root entries are =
 
 -- ---- the metadata
 
-root_whole : (graph : GraphData) (root : Root) → IfWhole (root_component graph root)
-root_whole graph (Package node) = component_at_whole graph node
-root_whole graph Workspace = refl
-root_whole graph Nothing = tt
+root_whole : (graph : GraphData) (licenses : List (Option (List ℕ))) (root : Root) → IfWhole (root_component graph licenses root)
+root_whole graph licenses (Package node) = component_at_whole graph licenses node
+root_whole graph licenses Workspace = refl
+root_whole graph licenses Nothing = tt
 
 metadata_whole : (graph : GraphData) (root : Root) (options : OptionsData) (d : Data) → IsMetadata graph root options d → has_float d ≡ false
 unfolding metadata_of
 metadata_whole graph root options d is =
     rw is.is
     (put_some_whole (codes "timestamp") (option_map string is.time) _ (map_whole string is.time (λ t. refl))
-    (put_some_whole (codes "component") (root_component graph root) _ (root_whole graph root)
+    (put_some_whole (codes "component") (root_component graph options.licenses root) _ (root_whole graph options.licenses root)
     (put_some_whole (codes "authors") (option_map authors_of options.author) _ (map_whole authors_of options.author (λ t. refl))
     (let own : members_have_float (own_members options.tool_version) ≡ false = refl in own))))
 
 pub about_whole : (graph : GraphData) (root : Root) (options : OptionsData) (d : Data) → IsAbout graph root options d → has_float d ≡ false
 unfolding document_of
 about_whole graph root options d about =
-    let components = components_whole graph root about.components about.are_components in
+    let components = components_whole graph options.licenses root about.components about.are_components in
     let entries = entries_whole graph root about.entries about.are_entries in
     let metadata = metadata_whole graph root options about.metadata about.is_metadata in
     rw about.is (both (items_have_float (items_of about.components)) (items_have_float (items_of about.entries) || (has_float about.metadata || false)) components

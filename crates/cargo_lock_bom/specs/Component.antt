@@ -2,7 +2,7 @@
 -- the root.
 -- The members are those of `component` in the JSON schema of CycloneDX 1.6.
 use Rattle.std.specs.Prelude.{◌≡◌, ℕ, Bool, true, false, List, codes, map, length, slice_get}
-use Rattle.std.specs.Prelude.{Option, Some, None, option_map}
+use Rattle.std.specs.Prelude.{Option, Some, None, option_and_then, option_map}
 use Rattle.semver.specs.Identifiers.{parts_text}
 use Rattle.serde_json.specs.Data.{Data, Members, null, string, array, object, item, no_items}
 use Rattle.serde_json.specs.Data.{member, no_members, put}
@@ -61,30 +61,44 @@ abbrev pub repositories_if : Option Source → Option Data
 repositories_if None = None
 repositories_if (Some s) = repositories_by s.kind (iri_text (without_user_info s.url)) s.precise
 
--- the component of a package: `purl` if it has a package URL, `hashes` if it has a checksum, and
--- `externalReferences` if it comes from a repository
-unfoldable pub component_of : Bool → PackageData → Data
-component_of application p = object
+-- the list with the one licence expression of a package
+abbrev pub licenses_of : List ℕ → Data
+licenses_of expression = array
+    (item (object (member (codes "expression") (string expression) no_members)) no_items)
+
+-- the licence expression of the package of a node, among those of packages by their place, if it
+-- is there
+abbrev pub license_at : List (Option (List ℕ)) → ℕ → Option (List ℕ)
+license_at licenses node = option_and_then (λ license. license) (slice_get licenses node)
+
+-- the component of a package: `purl` if it has a package URL, `licenses` if it has this licence
+-- expression, `hashes` if it has a checksum, and `externalReferences` if it comes from a repository
+unfoldable pub component_of : Bool → Option (List ℕ) → PackageData → Data
+component_of application license p = object
     (put_some (codes "externalReferences") (repositories_if p.source)
     (put_some (codes "hashes") (option_map hashes_of p.checksum)
+    (put_some (codes "licenses") (option_map licenses_of license)
     (put_some (codes "purl") (option_map string (purl_of (identity_of p)))
-    (base_members application p))))
+    (base_members application p)))))
 
 -- the component of a package, if there is one
-abbrev pub component_if : Bool → Option PackageData → Data
-component_if application None = null
-component_if application (Some p) = component_of application p
+abbrev pub component_if : Bool → Option (List ℕ) → Option PackageData → Data
+component_if application license None = null
+component_if application license (Some p) = component_of application license p
 
--- the component of the package of a node: an application if the package has no source and no other
--- package needs it
-abbrev pub component_at : GraphData → ℕ → Data
-component_at graph node = component_if (is_application graph node) (slice_get graph.packages node)
+-- the component of the package of a node, with its licence expression among those of the packages:
+-- an application if the package has no source and no other package needs it
+abbrev pub component_at : GraphData → List (Option (List ℕ)) → ℕ → Data
+component_at graph licenses node = component_if (is_application graph node)
+    (license_at licenses node) (slice_get graph.packages node)
 
--- the components of the packages that are not the root, in order, each listed once
-pub record AreComponents (graph : GraphData) (root : Root) (components : List Data) : Type 0 where
+-- the components of the packages that are not the root, in order, each listed once, with these
+-- licence expressions of the packages
+pub record AreComponents (graph : GraphData) (licenses : List (Option (List ℕ))) (root : Root)
+    (components : List Data) : Type 0 where
   pub nodes : List ℕ
   pub are_others : IsPlaces (λ k. ¬ (root ≡ Package k)) (length graph.packages) nodes
-  pub are : components ≡ map (component_at graph) nodes
+  pub are : components ≡ map (component_at graph licenses) nodes
 
 -- the component of the workspace
 abbrev pub workspace_component : Data
@@ -92,8 +106,8 @@ workspace_component = object (member (codes "bom-ref") (string workspace_referen
     (member (codes "name") (string (codes "workspace"))
     (member (codes "type") (string (codes "application")) no_members)))
 
--- the component of the root, if there is one
-abbrev pub root_component : GraphData → Root → Option Data
-root_component graph (Package node) = Some (component_at graph node)
-root_component graph Workspace = Some workspace_component
-root_component graph Nothing = None
+-- the component of the root, if there is one, with these licence expressions of the packages
+abbrev pub root_component : GraphData → List (Option (List ℕ)) → Root → Option Data
+root_component graph licenses (Package node) = Some (component_at graph licenses node)
+root_component graph licenses Workspace = Some workspace_component
+root_component graph licenses Nothing = None

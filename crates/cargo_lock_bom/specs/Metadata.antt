@@ -64,4 +64,5 @@ pub record IsMetadata (graph : GraphData) (root : Root) (options : OptionsData) 
     : Type 0 where
   pub time : Option (List ℕ)
   pub is_time : IsTimeTextIf options.timestamp time
-  pub is : d ≡ metadata_of options.tool_version options.author (root_component graph root) time
+  pub is : d ≡ metadata_of options.tool_version options.author
+      (root_component graph options.licenses root) time

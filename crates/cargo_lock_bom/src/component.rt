@@ -8,8 +8,8 @@ ghost use Rattle.serde_json.specs.View.{members_view, view};
 ghost use Rattle.cargo_lock_parts.specs.Checksum.{digest_of};
 ghost use Rattle.cargo_lock_parts.specs.Identity.{identity_of};
 ghost use Rattle.cargo_lock_bom.specs.Component.{AreComponents, base_members, component_at};
-ghost use Rattle.cargo_lock_bom.specs.Component.{component_of, hashes_of, repositories_if};
-ghost use Rattle.cargo_lock_bom.specs.Component.{repositories_of, type_text};
+ghost use Rattle.cargo_lock_bom.specs.Component.{component_of, hashes_of, license_at, licenses_of};
+ghost use Rattle.cargo_lock_bom.specs.Component.{repositories_if, repositories_of, type_text};
 ghost use Rattle.cargo_lock_bom.specs.Component.{workspace_component};
 ghost use Rattle.cargo_lock_bom.specs.Component as spec;
 ghost use Rattle.cargo_lock_bom.specs.Purl.{purl_of};
@@ -24,42 +24,54 @@ use cargo_lock_parts::package::{Checksum, Package, SourceId, SourceKind};
 use serde_json::{Map, Value, json, put};
 use std::alloc::{AllocError, Global};
 
-/// The components of the packages of a graph that are not its root. Fails when out of memory.
+/// The components of the packages of a graph that are not its root, with these licence expressions
+/// of the packages. Fails when out of memory.
 pub(crate) fn components(
     alloc: Global,
     graph: &Graph,
+    licenses: &[Option<String>],
     root: &Root,
 ) -> Result<Vec<Value>, AllocError>
-    ensures { IfOk result (λ made. AreComponents graph.now root.now (map view made.items)) }
+    ensures { IfOk result (λ made. AreComponents graph.now
+        (map (option_map string_bytes) licenses.now) root.now (map view made.items)) }
 {
     let nodes = others(alloc, graph, root)?;
-    let made = components_of(alloc, graph, &nodes)?;
+    let made = components_of(alloc, graph, licenses, &nodes)?;
     Ok(made)
 }
 
 // The components of the packages of some nodes.
-fn components_of(alloc: Global, graph: &Graph, nodes: &[usize]) -> Result<Vec<Value>, AllocError>
+fn components_of(
+    alloc: Global,
+    graph: &Graph,
+    licenses: &[Option<String>],
+    nodes: &[usize],
+) -> Result<Vec<Value>, AllocError>
     requires { All (λ k. k < length graph.now.packages) nodes.now }
-    ensures { IfOk result (λ made. map view made.items ≡ map (component_at graph.now) nodes.now) }
+    ensures { IfOk result (λ made. map view made.items
+        ≡ map (component_at graph.now (map (option_map string_bytes) licenses.now)) nodes.now) }
 {
     let mut made = Vec::with_capacity(alloc, nodes.len())?;
     for node in nodes {
-        made.push(component(alloc, graph, NodeIndex::new(*node))?)?;
+        made.push(component(alloc, graph, licenses, NodeIndex::new(*node))?)?;
     }
     Ok(made)
 }
 
-/// The component of the root, if there is one. Fails when out of memory.
+/// The component of the root, if there is one, with these licence expressions of the packages. Fails
+/// when out of memory.
 pub(crate) fn root_component(
     alloc: Global,
     graph: &Graph,
+    licenses: &[Option<String>],
     root: &Root,
 ) -> Result<Option<Value>, AllocError>
     requires { IsWithin graph.now.packages root.now }
-    ensures { IfOk result (λ made. option_map view made ≡ spec.root_component graph.now root.now) }
+    ensures { IfOk result (λ made. option_map view made ≡ spec.root_component graph.now
+        (map (option_map string_bytes) licenses.now) root.now) }
 {
     match root {
-        Root::Package(node) => Ok(Some(component(alloc, graph, *node)?)),
+        Root::Package(node) => Ok(Some(component(alloc, graph, licenses, *node)?)),
         Root::Workspace => Ok(Some(workspace(alloc)?)),
         Root::Nothing => Ok(None),
     }
@@ -72,23 +84,49 @@ fn workspace(alloc: Global) -> Result<Value, AllocError>
     json!(in alloc; {"bom-ref": "workspace", "name": "workspace", "type": "application"})
 }
 
-fn component(alloc: Global, graph: &Graph, node: NodeIndex) -> Result<Value, AllocError>
+fn component(
+    alloc: Global,
+    graph: &Graph,
+    licenses: &[Option<String>],
+    node: NodeIndex,
+) -> Result<Value, AllocError>
     requires { node < length graph.now.packages }
-    ensures { IfOk result (λ v. view v ≡ component_at graph.now node) }
+    ensures { IfOk result (λ v. view v
+        ≡ component_at graph.now (map (option_map string_bytes) licenses.now) node) }
 {
     let application = is_application(alloc, graph, node)?;
-    let made = component_of(alloc, application, &graph[node])?;
+    let license = license_at(licenses, node);
+    let made = component_of(alloc, application, license, &graph[node])?;
     Ok(made)
 }
 
-// The component of a package, as an application or as a library.
+// The licence expression of the package of a node, if it is there.
+fn license_at(licenses: &[Option<String>], node: NodeIndex) -> Option<&str>
+    ensures { option_copied result ≡ license_at (map (option_map string_bytes) licenses.now) node }
+{
+    match licenses.get(node.index()) {
+        Some(Some(license)) => Some(license.as_str()),
+        _ => None,
+    }
+}
+
+// The component of a package, as an application or as a library, with this licence expression, if
+// it is there.
 #[tactic(auto, unfolding(crate::specs::Component::component_of))]
-fn component_of(alloc: Global, application: bool, package: &Package) -> Result<Value, AllocError>
-    ensures { IfOk result (λ v. view v ≡ component_of application «package».now) }
+fn component_of(
+    alloc: Global,
+    application: bool,
+    license: Option<&str>,
+    package: &Package,
+) -> Result<Value, AllocError>
+    ensures { IfOk result
+        (λ v. view v ≡ component_of application (option_copied license.entry) «package».now) }
 {
     let mut members = base(alloc, application, package)?;
     let purl = purl_value(alloc, package)?;
     put_some(&mut members, alloc, "purl", purl)?;
+    let licenses = licenses(alloc, license)?;
+    put_some(&mut members, alloc, "licenses", licenses)?;
     let hashes = hashes(alloc, &package.checksum)?;
     put_some(&mut members, alloc, "hashes", hashes)?;
     let repositories = repositories(alloc, &package.source)?;
@@ -153,6 +191,25 @@ fn purl_value(alloc: Global, package: &Package) -> Result<Option<Value>, AllocEr
         Some(text) => Ok(Some(Value::String(text))),
         None => Ok(None),
     }
+}
+
+// The list with the one licence expression of a package, if it is there.
+fn licenses(alloc: Global, license: Option<&str>) -> Result<Option<Value>, AllocError>
+    ensures { IfOk result (λ v.
+        option_map view v ≡ option_map licenses_of (option_copied license.entry)) }
+{
+    match license {
+        Some(license) => Ok(Some(licenses_of(alloc, license)?)),
+        None => Ok(None),
+    }
+}
+
+// The list with this licence expression.
+fn licenses_of(alloc: Global, license: &str) -> Result<Value, AllocError>
+    ensures { IfOk result (λ v. view v ≡ licenses_of license.now) }
+{
+    let expression = String::from_str(alloc, license)?;
+    json!(in alloc; [{"expression": expression}])
 }
 
 // The list with the one hash of a package, if it has a checksum.

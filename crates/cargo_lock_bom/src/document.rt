@@ -30,9 +30,10 @@ use std::alloc::{AllocError, Global};
 /// "SHA-256", "content": "7253ab.."}], "name": "serde", "purl": "pkg:cargo/serde@1.0.203", "type":
 /// "library", "version": "1.0.203"}`, without `hashes` if there is no checksum, and without `purl`
 /// if there is no source. A package of a repository also has `"externalReferences": [{"comment":
-/// COMMIT, "type": "vcs", "url": URL}]`. The `type` is `application` if the package has no source
-/// and no other package needs it. The member `dependencies` has, for each component, `{"dependsOn":
-/// [..], "ref": ".."}`, by their `bom-ref`.
+/// COMMIT, "type": "vcs", "url": URL}]`, and one for which the options have a licence expression
+/// `"licenses": [{"expression": "MIT OR Apache-2.0"}]`. The `type` is `application` if the package
+/// has no source and no other package needs it. The member `dependencies` has, for each component,
+/// `{"dependsOn": [..], "ref": ".."}`, by their `bom-ref`.
 ///
 /// The member `metadata` has the component of the root, which `root_of` chooses. If the root is a
 /// package, it is in `metadata` in place of `components`; if it is the workspace, it is
@@ -98,7 +99,7 @@ fn bill_about(
     requires time { IfSome «options».now.timestamp (λ seconds. seconds < 253_402_300_800) }
     ensures { IfOk result (λ v. IsAbout graph.now root.now «options».now (view v)) }
 {
-    let components = components(alloc, graph, root)?;
+    let components = components(alloc, graph, options.licenses, root)?;
     let entries = entries(alloc, graph, root)?;
     let metadata = metadata(alloc, graph, root, options)?;
     let bill = document_of(alloc, components, entries, metadata)?;

@@ -2,9 +2,9 @@
 //! package, and an entry for each that says what it depends on.
 //!
 //! A lockfile has neither licences nor descriptions, and does not say whether a dependency is one
-//! of tests or of builds, of some target or of some feature. So the bill does not say these things.
-//! It has a time and an author only if the caller gives them. So equal lockfiles have equal bills
-//! if the caller gives the same options.
+//! of tests or of builds, of some target or of some feature. So the bill does not say these things,
+//! but for licences, which it has where the caller gives them. It has a time and an author only if
+//! the caller gives them. So equal lockfiles have equal bills if the caller gives the same options.
 #![tactic(auto)]
 
 mod component;

@@ -29,7 +29,7 @@ pub(crate) fn metadata(
     requires time { IfSome «options».now.timestamp (λ seconds. seconds < 253_402_300_800) }
     ensures { IfOk result (λ v. IsMetadata graph.now root.now «options».now (view v)) }
 {
-    let component = root_component(alloc, graph, root)?;
+    let component = root_component(alloc, graph, options.licenses, root)?;
     let time = time(alloc, options.timestamp)?;
     let made = metadata_of(alloc, options.tool_version, options.author, component, time)?;
     Ok(made)

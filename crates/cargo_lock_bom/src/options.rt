@@ -30,10 +30,15 @@ pub struct Options<'a> {
 
     /// Whether the bill has a serial number.
     pub has_serial: bool,
+
+    /// The licence expressions of packages, such as `MIT OR Apache-2.0`, each at the place of its
+    /// package, with `None` for a package without one. An empty list means that no package has one,
+    /// and what is beyond the packages is ignored. The bill has the texts as they are given.
+    pub licenses: &'a [Option<String>],
 }
 
 impl<'a> Model for Options<'a> {
-    ghost use Rattle.std.specs.Prelude.{option_copied};
+    ghost use Rattle.std.specs.Prelude.{map, option_copied, option_map, string_bytes};
     ghost use Rattle.cargo_lock_bom.specs.Options.{OptionsData};
 
     ghost Value = { OptionsData };
@@ -44,6 +49,7 @@ impl<'a> Model for Options<'a> {
       timestamp = o.timestamp;
       author = option_copied o.author;
       has_serial = o.has_serial;
+      licenses = map (option_map string_bytes) o.licenses.now;
     } };
 }
 
@@ -63,6 +69,7 @@ impl<'a> Options<'a> {
             timestamp: time_below(self.timestamp, YEAR_10000),
             author: self.author,
             has_serial: self.has_serial,
+            licenses: self.licenses,
         }
     }
 }

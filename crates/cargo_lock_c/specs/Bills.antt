@@ -1,5 +1,5 @@
 -- The bill of materials of a lockfile, as callers get it.
-use Rattle.std.specs.Prelude.{ℕ, Bool, false, List, Option, None}
+use Rattle.std.specs.Prelude.{[], ℕ, Bool, false, List, Option, None}
 use Rattle.cargo_lock_parts.specs.Identity.{Identity, PackageData}
 use Rattle.cargo_lock_graph.specs.Targets.{IsFirstLost, links}
 use Rattle.cargo_lock_bom.specs.declared.options.TheConstants.{VERSION}
@@ -21,6 +21,7 @@ own_options own = record {
   timestamp = None;
   author = None;
   has_serial = false;
+  licenses = [];
 }
 
 -- the packages in the bill of a lockfile, with the checksums that Cargo reads

@@ -97,5 +97,6 @@ fn options_of(own: Option<NodeIndex>) -> Options<'static>
         timestamp: None,
         author: None,
         has_serial: false,
+        licenses: &[],
     }
 }

@@ -9,6 +9,7 @@ use Rattle.cargo_lock_encoding.specs.Lockfiles.{LockfileData}
 use Rattle.cargo_lock.specs.CargoChecksums.{with_cargo_checksums_in}
 use Rattle.cargo_lock.specs.Loads.{IsMeant}
 use Rattle.cli_support.specs.Destination.{TakesOutput}
+use Rattle.cli.specs.BillLicenses.{AreLicensesBy}
 use Rattle.cli.specs.Json.{IsAsked, IsFlag, IsUnasked}
 
 -- there is a time exactly if the arguments ask for one
@@ -16,25 +17,33 @@ pub record IsTimeAsked (found : Found) (time : Option ℕ) : Type 0 where
   pub asked : IsAsked found (codes "timestamp") → IsSome time
   pub unasked : IsUnasked found (codes "timestamp") → time ≡ None
 
--- The options that the arguments give for the bill of a lockfile: the root is that of the lockfile,
--- unless they name one of its packages, the author is theirs, the time is this one, if there is
--- one, and there is a serial number exactly if they ask for one.
-pub record IsSaid (found : Found) (time : Option ℕ) (l : LockfileData) (o : OptionsData) : Type 0
-  where
-    pub own : first_value found (codes "root") ≡ None → o.root ≡ own_root l.packages l.root
-    pub author : o.author ≡ first_value found (codes "author")
-    pub timestamp : o.timestamp ≡ time
-    pub serial : IsFlag found (codes "serial") o.has_serial
+-- The options that the arguments give for the bill of packages: the root is the own one of the
+-- lockfile, if it has one, unless they name one of the packages, the author is theirs, the time is
+-- this one, if there is one, there is a serial number exactly if they ask for one, and there are
+-- licence expressions of the packages only if they have a folder of manifests.
+pub record IsSaid (found : Found) (time : Option ℕ) (packages : List PackageData)
+    (own : Option ℕ) (o : OptionsData) : Type 0 where
+  pub root : first_value found (codes "root") ≡ None → o.root ≡ own
+  pub author : o.author ≡ first_value found (codes "author")
+  pub timestamp : o.timestamp ≡ time
+  pub serial : IsFlag found (codes "serial") o.has_serial
+  pub licenses : AreLicensesBy (first_value found (codes "licenses")) packages o.licenses
 
 -- the line is the bill of some packages, compact exactly if the arguments ask for that
 abbrev pub IsAskedLine : Found → List PackageData → OptionsData → List ℕ → Type 0
 IsAskedLine found packages o line = (compact : Bool) × IsFlag found (codes "compact") compact
     × IsPrintedBill packages o compact line
 
+-- the line is that of the packages of a bill, with this time, and with this own root of the
+-- lockfile, if there are these
+abbrev pub IsBillWith : Found → Option ℕ → List PackageData → Option ℕ → List ℕ → Type 0
+IsBillWith found time packages own line = (o : OptionsData) × IsSaid found time packages own o
+    × IsAskedLine found packages o line
+
 -- the line is that of the packages of a lockfile, with this time, if there is one
 abbrev pub IsBillOf : Found → Option ℕ → LockfileData → List ℕ → Type 0
-IsBillOf found time l line = (o : OptionsData) × IsSaid found time l o
-    × IsAskedLine found (bill_packages l.packages l.root) o line
+IsBillOf found time l line = IsBillWith found time (bill_packages l.packages l.root)
+    (own_root l.packages l.root) line
 
 -- the line is that of a lockfile with the checksums that Cargo reads
 abbrev pub IsAskedBill : Found → Option ℕ → LockfileData → List ℕ → Type 0

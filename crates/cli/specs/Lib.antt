@@ -1,4 +1,5 @@
 pub mod Audit
+pub mod BillLicenses
 pub mod Bom
 pub mod Json
 pub mod Check

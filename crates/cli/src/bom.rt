@@ -1,9 +1,11 @@
 //! The command `bom`: the bill of materials of a lockfile.
-ghost use Rattle.std.specs.Prelude.{◌≡◌, None, IfOk, OnOk, codes, string_bytes};
+ghost use Rattle.std.specs.Prelude.{◌≡◌, None, IfOk, OnOk, codes, map, option_map, string_bytes};
 ghost use Rattle.clap.specs.Matches.{first_value, found_of};
-ghost use Rattle.cli.specs.Bom.{IsAskedBill, IsAskedLine, IsBillOf, IsTimeAsked, PrintsBill};
+ghost use Rattle.cli.specs.Bom.{IsAskedBill, IsAskedLine, IsBillOf, IsBillWith, IsTimeAsked};
+ghost use Rattle.cli.specs.Bom.{PrintsBill};
 ghost use Rattle.cli.specs.Json.{IsFlag};
 
+use crate::bill_licenses;
 use crate::load::named_lockfile;
 use cargo_lock::dependency::graph::NodeIndex;
 use cargo_lock::{Lockfile, Package};
@@ -24,7 +26,10 @@ use std::time::Clock;
 const BOM_HELP: &str =
     "A lockfile says neither licences nor descriptions, and not whether a dependency is one of \
 tests or of builds, of some target or of some feature, so the bill says nothing of them. A package \
-without a source has no purl: pkg:cargo/NAME@VERSION would be the package of crates.io";
+without a source has no purl: pkg:cargo/NAME@VERSION would be the package of crates.io
+
+With --licenses, a package with a source has the expression that its manifests in FOLDER have in \
+`license`, if they say the same one: what their author wrote, with OR for `/`, and no judgement";
 
 /// The package that a bill is about, as help shows it.
 const ROOT_HELP: &str = "The package that the bill is about, as for tree; only one may fit";
@@ -44,6 +49,7 @@ pub(crate) fn command<'a>(alloc: Global) -> Result<Command<'a>, AllocError> {
         .arg(named(alloc, "author", "NAME").help("Who writes the bill"))?
         .arg(long_flag(alloc, "timestamp").help(TIME_HELP))?
         .arg(long_flag(alloc, "serial").help("Adds a serial number, equal for equal bills"))?
+        .arg(bill_licenses::option(alloc))?
         .arg(long_flag(alloc, "compact").help("Writes one line, without spaces"))
 }
 
@@ -57,8 +63,9 @@ fn named<'a>(alloc: Global, name: &'a str, shown: &'a str) -> Arg<'a> {
 
 /// Writes the bill of materials of the lockfile and a newline: into the output file, or to `out`.
 /// Fails if the time is not known, if the lockfile is not read or has no tree, if not exactly one
-/// package matches the root that the arguments name, if the same text would refer to two of its
-/// packages, and if the output fails.
+/// package matches the root that the arguments name, if the folder of manifests that they name or a
+/// manifest is not read, if the same text would refer to two of its packages, and if the output
+/// fails.
 pub(crate) fn run<R: Files + Env + Clock + AllocGlobal, W: Write>(
     rt: &R,
     options: &ArgMatches<'_>,
@@ -69,7 +76,7 @@ pub(crate) fn run<R: Files + Env + Clock + AllocGlobal, W: Write>(
 {
     let time = asked_time(rt, options)?;
     let lockfile = named_lockfile(rt, options, "file")?;
-    let text = text_about(rt.alloc(), options, time, lockfile)?;
+    let text = text_about(rt, options, time, lockfile)?;
     put_out(rt, options, text.as_str(), "", out)
 }
 
@@ -89,8 +96,8 @@ fn asked_time<R: Env + Clock + AllocGlobal>(
 }
 
 /// The text of the bill of materials of a lockfile that the arguments ask for, and a newline.
-fn text_about(
-    alloc: Global,
+fn text_about<R: Files + AllocGlobal>(
+    rt: &R,
     options: &ArgMatches<'_>,
     time: Option<u64>,
     lockfile: Lockfile,
@@ -98,13 +105,13 @@ fn text_about(
     ensures { IfOk result (λ text. IsAskedBill (found_of options.now) time lockfile
         (string_bytes text)) }
 {
-    let lockfile = lockfile.with_cargo_checksums(alloc)?;
-    text_of_lockfile(alloc, options, time, lockfile)
+    let lockfile = lockfile.with_cargo_checksums(rt.alloc())?;
+    text_of_lockfile(rt, options, time, lockfile)
 }
 
 /// The same for a lockfile with the checksums that Cargo reads.
-fn text_of_lockfile(
-    alloc: Global,
+fn text_of_lockfile<R: Files + AllocGlobal>(
+    rt: &R,
     options: &ArgMatches<'_>,
     time: Option<u64>,
     lockfile: Lockfile,
@@ -113,9 +120,24 @@ fn text_of_lockfile(
         (string_bytes text)) }
 {
     let (packages, own) = with_root(lockfile.packages, lockfile.root)?;
-    let given = given_root(alloc, options, &packages, own)?;
-    let said = said_of_bill(options, given, time);
-    asked_line(alloc, options, &packages, &said)
+    text_of_packages(rt, options, time, &packages, own)
+}
+
+/// The same for the packages of a bill, where the lockfile's own root is this one.
+fn text_of_packages<R: Files + AllocGlobal>(
+    rt: &R,
+    options: &ArgMatches<'_>,
+    time: Option<u64>,
+    packages: &Vec<Package>,
+    own: Option<NodeIndex>,
+) -> Result<String, Fault>
+    ensures { IfOk result (λ text. IsBillWith (found_of options.now) time packages.now.items own
+        (string_bytes text)) }
+{
+    let given = given_root(rt.alloc(), options, packages, own)?;
+    let licenses = bill_licenses::asked(rt, options, packages)?;
+    let said = said_of_bill(options, given, time, &licenses);
+    asked_line(rt.alloc(), options, packages, &said)
 }
 
 /// The root that the arguments name, or else the lockfile's own one. Fails if no package matches
@@ -148,16 +170,18 @@ fn only_fitting(alloc: Global, packages: &[Package], spec: &str) -> Result<NodeI
 }
 
 /// The options of a bill that the arguments ask for, with this root and this time, if they are
-/// given.
+/// given, and with these licence expressions.
 fn said_of_bill<'a>(
-    options: &ArgMatches<'a>,
+    options: &'a ArgMatches<'_>,
     given: Option<NodeIndex>,
     time: Option<u64>,
+    licenses: &'a [Option<String>],
 ) -> Options<'a>
     ensures root { «result».root ≡ given }
     ensures timestamp { «result».timestamp ≡ time }
     ensures author { «result».author ≡ first_value (found_of options.now) (codes "author") }
     ensures serial { IsFlag (found_of options.now) (codes "serial") «result».has_serial }
+    ensures licenses { «result».licenses ≡ map (option_map string_bytes) licenses.now }
 {
     Options {
         root: given,
@@ -165,6 +189,7 @@ fn said_of_bill<'a>(
         timestamp: time,
         author: options.get_str("author"),
         has_serial: options.get_flag("serial"),
+        licenses,
     }
 }
 

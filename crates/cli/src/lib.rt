@@ -17,6 +17,7 @@ ghost use Rattle.cli_support.specs.Status.{IsFaultStatus, IsNamed};
 ghost use Rattle.cli.specs.Commands.{Follows, FollowsMatches, name_of};
 
 mod audit;
+mod bill_licenses;
 mod bom;
 mod check;
 mod diff;

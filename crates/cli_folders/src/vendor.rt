@@ -69,6 +69,11 @@ impl Vendor {
         Ok(())
     }
 
+    /// Whether no folder has a manifest.
+    pub fn is_empty(&self) -> bool {
+        self.folders.is_empty()
+    }
+
     /// The folders of a package with a source. Fails if one is not read.
     pub fn folders_of<R: Files + AllocGlobal>(
         &self,

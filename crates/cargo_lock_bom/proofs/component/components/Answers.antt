@@ -1,4 +1,4 @@
-use Rattle.std.proofs.Common.{◌≡◌, ◌<◌, ◌∙◌, All, List, ℕ, ap, length, map, subst, sym}
+use Rattle.std.proofs.Common.{◌≡◌, ◌<◌, ◌∙◌, All, List, ℕ, ap, length, map, option_map, string_bytes, subst, sym}
 use Rattle.cargo_lock_bom.specs.declared.root.Root.TheVariants.{Package}
 use Rattle.cargo_lock_bom.specs.Component.{component_at}
 use Rattle.cargo_lock_bom.proofs.Chosen.{places-within}
@@ -14,5 +14,5 @@ pub returns : goal.returns
 returns c = record {
   nodes = c.in_ok-nodes.nodes.items;
   are_others = c.in_ok-nodes.ensures;
-  are = c.in_ok-made.ensures ∙ ap (map (component_at c.args.graph.now)) c.deref.ensures.value;
+  are = c.in_ok-made.ensures ∙ ap (map (component_at c.args.graph.now (map (option_map string_bytes) c.args.licenses.now))) c.deref.ensures.value;
 }
