@@ -1,5 +1,1 @@
-pub mod Flags
-pub mod Pieces
 pub mod Subcommand
-pub mod Fitting
-pub mod Expressions

@@ -8,19 +8,19 @@ use Rattle.cli.specs.declared.Chosen.{Chosen}
 use Rattle.cli.specs.declared.Chosen.TheVariants.{Audit, Bom, Check, Diff, Duplicates, Graph}
 use Rattle.cli.specs.declared.Chosen.TheVariants.{Licenses, List as Listing, Merge}
 use Rattle.cli.specs.declared.Chosen.TheVariants.{Translate, Tree, Verify, Why}
-use Rattle.cli.specs.Audit.{PrintsAudit}
-use Rattle.cli.specs.Bom.{PrintsBill}
+use Rattle.cli_tools.specs.Audit.{PrintsAudit}
+use Rattle.cli_tools.specs.Bom.{PrintsBill}
 use Rattle.cli.specs.Check.{PrintsCheck}
-use Rattle.cli.specs.Diff.{PrintsDifference}
-use Rattle.cli.specs.Duplicates.{PrintsDuplicates}
-use Rattle.cli.specs.Graph.{DrawsGraph}
-use Rattle.cli.specs.Licenses.{PrintsLicenses}
-use Rattle.cli.specs.List.{PrintsList}
+use Rattle.cli_views.specs.Diff.{PrintsDifference}
+use Rattle.cli_views.specs.Duplicates.{PrintsDuplicates}
+use Rattle.cli_views.specs.Graph.{DrawsGraph}
+use Rattle.cli_tools.specs.Licenses.{PrintsLicenses}
+use Rattle.cli_views.specs.List.{PrintsList}
 use Rattle.cli.specs.Merge.{PrintsMerge}
-use Rattle.cli.specs.Translate.{PrintsTranslation}
-use Rattle.cli.specs.Tree.{PrintsTrees}
-use Rattle.cli.specs.Verify.{PrintsVerified}
-use Rattle.cli.specs.Why.{PrintsWhy}
+use Rattle.cli_views.specs.Translate.{PrintsTranslation}
+use Rattle.cli_views.specs.Tree.{PrintsTrees}
+use Rattle.cli_tools.specs.Verify.{PrintsVerified}
+use Rattle.cli_views.specs.Why.{PrintsWhy}
 
 -- the name of a command
 abbrev pub name_of : Chosen → List ℕ

@@ -7,13 +7,13 @@ ghost use Rattle.cargo_lock_json.specs.Findings.{findings_json};
 ghost use Rattle.cargo_lock_json.specs.Text.{IsJsonText};
 ghost use Rattle.cli.specs.Check.{IsFindingsStatus, PrintsFound, PrintsCheck, PrintsFindings};
 ghost use Rattle.cli.specs.Check.{PrintsFindingsOf};
-ghost use Rattle.cli.specs.Json.{PrintsLine};
+ghost use Rattle.cli_lockfiles.specs.Json.{PrintsLine};
 
-use crate::load::{file, named_lockfile_of, named_text};
 use cargo_lock::Lockfile;
 use cargo_lock_check::{Finding, Findings};
 use cargo_lock_json::{File, findings_json};
 use clap::{ArgMatches, Command};
+use cli_lockfiles::load::{file, named_lockfile_of, named_text};
 use cli_support::output::put;
 use cli_support::{Fault, words};
 use std::alloc::{AllocError, Global};

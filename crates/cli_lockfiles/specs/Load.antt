@@ -1,0 +1,24 @@
+-- Lockfiles that are read, their graphs, and why a lockfile is not read.
+use Rattle.std.specs.Prelude.{◌≡◌}
+use Rattle.cargo_lock.specs.CargoChecksums.{with_cargo_checksums_in}
+use Rattle.cargo_lock.specs.Loads.{IsMeant, IsOfFile}
+use Rattle.cargo_lock_encoding.specs.Lockfiles.{LockfileData}
+use Rattle.cargo_lock_graph.specs.Edges.{GraphData}
+use Rattle.cargo_lock_graph.specs.Targets.{AreEdgesOf}
+use Rattle.cli_support.specs.declared.fault.Fault.{Fault}
+use Rattle.cli_support.specs.declared.fault.Fault.TheVariants.{Library, TooLarge}
+
+-- the file is too long, the system does not read it, it is not a lockfile, or memory ran out
+abbrev pub IsOfLockfile : Fault → Type 0
+IsOfLockfile TooLarge = Unit {0}
+IsOfLockfile (Library error) = IsOfFile error
+IsOfLockfile other = ⊥
+
+-- the lockfile is one that some text means, with the checksums that Cargo reads
+abbrev pub IsCompared : LockfileData → Type 0
+IsCompared x = (l : LockfileData) × IsMeant l × (x ≡ with_cargo_checksums_in l)
+
+-- the graph is that of the packages of a lockfile
+pub record IsGraphOf (l : LockfileData) (graph : GraphData) : Type 0 where
+  pub packages : graph.packages ≡ l.packages
+  pub edges : AreEdgesOf l.packages graph.edges

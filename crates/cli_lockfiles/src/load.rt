@@ -1,0 +1,151 @@
+//! The lockfiles that the arguments name.
+ghost use Rattle.std.specs.Prelude.{◌≡◌, IfErr, IfOk};
+ghost use Rattle.clap.specs.Matches.{found_of};
+ghost use Rattle.cargo_lock.specs.Loads.{IsMeant};
+ghost use Rattle.cargo_lock_encoding.specs.Means.{TextMeans};
+ghost use Rattle.cli_lockfiles.specs.Json.{file_of};
+ghost use Rattle.cli_lockfiles.specs.Load.{IsCompared};
+ghost use Rattle.cli_lockfiles.specs.Load.{IsOfLockfile};
+ghost use Rattle.cli_lockfiles.specs.Load.{IsGraphOf};
+
+use cargo_lock::dependency::Tree;
+use cargo_lock::{Error, Lockfile};
+use cargo_lock_json::File;
+use clap::ArgMatches;
+use cli_support::fault::path_shown;
+use cli_support::{Fault, words};
+use std::alloc::Global;
+use std::rt::Files;
+
+/// The lockfile at the path of the option `name`. Fails if it is not read.
+pub fn lockfile<R: Files + AllocGlobal>(
+    rt: &R,
+    options: &ArgMatches<'_>,
+    name: &str,
+) -> Result<Lockfile, Fault>
+    ensures ok { IfOk result IsMeant }
+    ensures err { IfErr result IsOfLockfile }
+{
+    let text = words::text(rt, options, name)?;
+    let lockfile = lockfile_of(rt.alloc(), text.as_str())?;
+    Ok(lockfile)
+}
+
+fn lockfile_of(alloc: Global, text: &str) -> Result<Lockfile, Fault>
+    ensures ok { IfOk result (TextMeans text.now) }
+    ensures err { IfErr result IsOfLockfile }
+{
+    match Lockfile::from_str(alloc, text) {
+        Ok(lockfile) => Ok(lockfile),
+        Err(error) => Err(Fault::Library(error)),
+    }
+}
+
+/// The lockfile at the path of the option or argument `name`. Fails if it is not read, with the
+/// path in the error.
+pub fn named_lockfile<R: Files + AllocGlobal>(
+    rt: &R,
+    options: &ArgMatches<'_>,
+    name: &str,
+) -> Result<Lockfile, Fault>
+    ensures { IfOk result IsMeant }
+{
+    match lockfile(rt, options, name) {
+        Ok(lockfile) => Ok(lockfile),
+        Err(fault) => Err(named(rt.alloc(), options, name, fault)),
+    }
+}
+
+/// The lockfile whose path the argument `name` has, with the checksums that Cargo reads. Fails if it
+/// is not read, with the path in the error.
+pub fn compared_lockfile<R: Files + AllocGlobal>(
+    rt: &R,
+    options: &ArgMatches<'_>,
+    name: &str,
+) -> Result<Lockfile, Fault>
+    ensures { IfOk result IsCompared }
+{
+    let lockfile = named_lockfile(rt, options, name)?;
+    let compared = lockfile.with_cargo_checksums(rt.alloc())?;
+    Ok(compared)
+}
+
+/// The lockfile of an empty text, which has no packages.
+pub fn lockfile_without_packages(alloc: Global) -> Result<Lockfile, Fault>
+    ensures { IfOk result IsCompared }
+{
+    let lockfile = lockfile_of(alloc, "")?;
+    let compared = lockfile.with_cargo_checksums(alloc)?;
+    Ok(compared)
+}
+
+/// The lockfile at the path of the option `file`, and its tree. Fails if it is not read, with the
+/// path in the error, or if no package matches a dependency.
+pub fn named_tree<R: Files + AllocGlobal>(
+    rt: &R,
+    options: &ArgMatches<'_>,
+) -> Result<(Lockfile, Tree), Fault>
+    ensures { IfOk result (λ read. IsMeant read.0 × IsGraphOf read.0 read.1.graph) }
+{
+    let lockfile = named_lockfile(rt, options, "file")?;
+    let tree = tree_of(rt.alloc(), &lockfile)?;
+    Ok((lockfile, tree))
+}
+
+/// The tree of the lockfile. Fails if no package matches a dependency.
+pub fn tree_of(alloc: Global, lockfile: &Lockfile) -> Result<Tree, Error>
+    ensures { IfOk result (λ tree. IsGraphOf lockfile.now tree.graph) }
+{
+    lockfile.dependency_tree(alloc)
+}
+
+/// The text of the lockfile at the path of the option `name`. Fails if it is not read, with the
+/// path in the error.
+pub fn named_text<R: Files + AllocGlobal>(
+    rt: &R,
+    options: &ArgMatches<'_>,
+    name: &str,
+) -> Result<String, Fault> {
+    match words::text(rt, options, name) {
+        Ok(text) => Ok(text),
+        Err(fault) => Err(named(rt.alloc(), options, name, fault)),
+    }
+}
+
+/// The lockfile of the text that was read for the option `name`. Fails if the text is not a
+/// lockfile, with the path in the error.
+pub fn named_lockfile_of(
+    alloc: Global,
+    options: &ArgMatches<'_>,
+    name: &str,
+    text: &str,
+) -> Result<Lockfile, Fault>
+    ensures { IfOk result (TextMeans text.now) }
+{
+    match lockfile_of(alloc, text) {
+        Ok(lockfile) => Ok(lockfile),
+        Err(fault) => Err(named(alloc, options, name, fault)),
+    }
+}
+
+/// The lockfile at the path of the option or argument `name`, as a document has it.
+pub fn file<'a>(options: &ArgMatches<'a>, name: &str, lockfile: &Lockfile) -> File<'a>
+    ensures { result ≡ file_of (found_of options.now) name.now lockfile.now }
+{
+    File {
+        path: words::given_path(options, name),
+        format: lockfile.version,
+    }
+}
+
+/// The error with the path of the option or argument `name`, if it is an error of a file.
+fn named(alloc: Global, options: &ArgMatches<'_>, name: &str, fault: Fault) -> Fault {
+    match fault {
+        Fault::Library(Error::Memory) => fault,
+        Fault::Library(error) => match path_shown(alloc, words::path_of(options, name)) {
+            Ok(path) => Fault::File(path, error),
+            Err(refused) => Fault::from(refused),
+        },
+        fault => fault,
+    }
+}

@@ -1,0 +1,6 @@
+pub mod Audit
+pub mod BillLicenses
+pub mod Bom
+pub mod Texts
+pub mod Licenses
+pub mod Verify
