@@ -7,13 +7,15 @@ ghost use Rattle.cargo_lock_audit.specs.Database.{AreInOrder};
 ghost use Rattle.cargo_lock_audit.specs.Findings.{finding_of, id_of};
 ghost use Rattle.cargo_lock_json.specs.Audit.{advisories_json};
 ghost use Rattle.cargo_lock_json.specs.Text.{IsJsonText};
-ghost use Rattle.cli_tools.specs.Audit.{PrintsAdvisories, PrintsAudit, PrintsAuditOf, PrintsAuditReport};
+ghost use Rattle.cli_tools.specs.Audit.{PrintsAdvisories, PrintsAudit, PrintsAuditOf};
+ghost use Rattle.cli_tools.specs.Audit.{PrintsAuditReport};
 ghost use Rattle.cli_lockfiles.specs.Json.{PrintsLine};
 ghost use Rattle.cli_tools.specs.Texts.{given_texts};
 
 use crate::folders::folder;
 use crate::texts;
 use crate::verify::status_of;
+use cargo_lock::Lockfile;
 use cargo_lock::package::Package;
 use cargo_lock_audit::{Advisory, AdvisoryFile, Report, database_of};
 use cargo_lock_json::{File, advisories_json};
@@ -87,21 +89,22 @@ pub fn run<R: Files + AllocGlobal, W: Write>(
 {
     let lockfile = named_lockfile(rt, options, "file")?;
     let file = file(options, "file", &lockfile);
-    print_audit(rt, options, &file, &lockfile.packages, out)
+    print_audit(rt, options, &file, &lockfile, out)
 }
 
-/// Prints which advisories concern these packages. Returns the status.
+/// Prints which advisories concern packages of this lockfile. Returns the status.
 fn print_audit<R: Files + AllocGlobal, W: Write>(
     rt: &R,
     options: &ArgMatches<'_>,
     file: &File<'_>,
-    packages: &[Package],
+    lockfile: &Lockfile,
     out: &mut W,
 ) -> Result<ExitCode, Fault>
-    ensures { IfOk result (λ status. PrintsAuditOf (found_of options.now) file.now packages.now
-        (W.contents out.old) (W.contents out.new)
+    ensures { IfOk result (λ status. PrintsAuditOf (found_of options.now) file.now
+        lockfile.now.packages (W.contents out.old) (W.contents out.new)
         (status ≡ ExitCode.FAILURE) (status ≡ ExitCode.SUCCESS)) }
 {
+    let packages = lockfile.packages.as_slice();
     let advisories = advisories_about(rt, options.get_str("db").unwrap_or(""), packages)?;
     print_report(rt.alloc(), options, file, packages, &advisories, out)
 }

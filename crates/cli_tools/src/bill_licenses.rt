@@ -7,7 +7,8 @@ ghost use Rattle.cargo_lock_licenses.specs.Printed.{printed};
 ghost use Rattle.cargo_lock_licenses.specs.Subjects.{subject_of};
 ghost use Rattle.cargo_lock_licenses.specs.Tokens.{tokens};
 ghost use Rattle.cargo_lock_licenses.specs.Verdicts.{verdict_of};
-ghost use Rattle.cli_tools.specs.BillLicenses.{AreLicensesBy, AreLicensesOf, IsLicense, IsLicenseIf};
+ghost use Rattle.cli_tools.specs.BillLicenses.{AreLicensesBy, AreLicensesOf, IsLicense};
+ghost use Rattle.cli_tools.specs.BillLicenses.{IsLicenseIf};
 ghost use Rattle.cli_tools.specs.BillLicenses.{IsReadable};
 ghost use Rattle.cli_tools.specs.BillLicenses as spec;
 ghost use Rattle.cli_tools.specs.Licenses.{AreLicensed};
@@ -90,9 +91,8 @@ fn subjects_with<'a, R: Files + AllocGlobal>(
     Ok(subjects)
 }
 
-/// What the manifests of a package say: of a folder in which folders have manifests, as `cargo
-/// vendor` makes it, the one with the name and version of the package, and of another folder those of
-/// the folders that have the name of its unpacked archive.
+/// What the manifests of a package say. Where folders in the folder have manifests, as `cargo vendor`
+/// leaves them, they are found by name and version, and otherwise by the name of the unpacked archive.
 fn manifests_of<R: Files + AllocGlobal>(
     rt: &R,
     vendor: &Vendor,

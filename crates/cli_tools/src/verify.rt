@@ -10,7 +10,8 @@ ghost use Rattle.cargo_lock_verify.specs.Archives.{subject_of};
 ghost use Rattle.cargo_lock_verify.specs.Vendored.{vendored_of};
 ghost use Rattle.cargo_lock_verify.specs.Vendored as folder;
 ghost use Rattle.cli_lockfiles.specs.Json.{PrintsLine};
-ghost use Rattle.cli_tools.specs.Verify.{AreSubjectsOf, AreVendoredOf, PrintsArchives, PrintsFolders};
+ghost use Rattle.cli_tools.specs.Verify.{AreSubjectsOf, AreVendoredOf, PrintsArchives};
+ghost use Rattle.cli_tools.specs.Verify.{PrintsFolders};
 ghost use Rattle.cli_tools.specs.Verify.{PrintsReport, PrintsVendorReport, PrintsVerified};
 ghost use Rattle.cli_tools.specs.Verify.{PrintsVerifiedOf};
 
