@@ -4,8 +4,7 @@ ghost use Rattle.clap.specs.Matches.{found_of};
 ghost use Rattle.cargo_lock_ask.specs.Tally.{group_of};
 ghost use Rattle.cargo_lock_json.specs.Duplicates.{groups_json};
 ghost use Rattle.cargo_lock_json.specs.Text.{IsJsonText};
-ghost use Rattle.cli_views.specs.Duplicates.{IsGroupsStatus, PrintsDuplicates, PrintsGroups};
-ghost use Rattle.cli_views.specs.Duplicates.{PrintsNames};
+ghost use Rattle.cli_views.specs.Duplicates.{IsGroupsStatus, PrintsDuplicates, PrintsGroups, PrintsNames};
 ghost use Rattle.cli_lockfiles.specs.Json.{PrintsLine};
 
 use cargo_lock::dependency::graph::Graph;
