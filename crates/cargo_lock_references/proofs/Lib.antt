@@ -2,7 +2,7 @@ pub mod ChecksumKeys
 pub mod WrittenReferenceLemmas
 pub mod DenseWords
 pub mod LeastKeys
-pub mod Occurrences
+pub mod IndexPlaces
 pub mod ReadBackLemmas
 pub mod ReadKeys
 pub mod ResolvesToLemmas
