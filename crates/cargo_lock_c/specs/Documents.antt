@@ -13,7 +13,7 @@ use Rattle.cargo_lock_encoding.specs.Lockfiles.{LockfileData}
 use Rattle.cargo_lock_encoding.specs.Means.{TextMeans}
 use Rattle.cargo_lock_json.specs.Duplicates.{groups_json}
 use Rattle.cargo_lock_json.specs.File.{FileData}
-use Rattle.cargo_lock_json.specs.Text.{IsJsonText}
+use Rattle.json_line.specs.Text.{IsJsonText}
 use Rattle.cargo_lock_json.specs.Why.{answers_json}
 
 -- the lockfile as a document has it: its path is that of standard input

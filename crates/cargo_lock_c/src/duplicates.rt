@@ -3,7 +3,7 @@
 ghost use Rattle.std.specs.Prelude.{◌≡◌, ◌≤◌, ◌⊎◌, IfErr, IfOk, map, string_bytes};
 ghost use Rattle.cargo_lock_ask.specs.Tally.{group_of};
 ghost use Rattle.cargo_lock_json.specs.Duplicates.{groups_json};
-ghost use Rattle.cargo_lock_json.specs.Text.{IsJsonText};
+ghost use Rattle.json_line.specs.Text.{IsJsonText};
 ghost use Rattle.cargo_lock_c.specs.declared.refusal.Refusal.TheVariants.{NoMemory};
 ghost use Rattle.cargo_lock_c.specs.Answers.{IsHandedOut};
 ghost use Rattle.cargo_lock_c.specs.Documents.{IsDuplicatesOf, IsDuplicatesText, IsLine, file_of};

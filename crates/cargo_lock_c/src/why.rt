@@ -4,7 +4,7 @@ ghost use Rattle.std.specs.Prelude.{◌≡◌, ◌≤◌, ◌↔◌, ◌⊎◌, 
 ghost use Rattle.std.specs.Str.{IsUtf8};
 ghost use Rattle.cargo_lock_ask.specs.Lines.{answer_of};
 ghost use Rattle.cargo_lock_ask.specs.Spec.{Fits};
-ghost use Rattle.cargo_lock_json.specs.Text.{IsJsonText};
+ghost use Rattle.json_line.specs.Text.{IsJsonText};
 ghost use Rattle.cargo_lock_json.specs.Why.{answers_json};
 ghost use Rattle.cargo_lock_c.specs.declared.refusal.Refusal.TheVariants.{NoMemory, NothingFits};
 ghost use Rattle.cargo_lock_c.specs.Answers.{IsHandedOut};

@@ -9,7 +9,8 @@ use Rattle.cargo_lock_json.specs.Duplicates.{group_json, groups_json, row_json}
 use Rattle.cargo_lock_json.specs.File.{FileData}
 use Rattle.cargo_lock_json.specs.Package.{package_json, packages_json}
 use Rattle.cargo_lock_json.specs.Why.{answer_json, answers_json, needed_by_json, package_in}
-use Rattle.cargo_lock_json.proofs.Packages.{array-depth, identity-depth, text-depth}
+use Rattle.cargo_lock_json.proofs.Packages.{identity-depth}
+use Rattle.json_line.proofs.Depth.{array-depth, text-depth}
 
 one-depth : (p : PackageData) → depth (package_json p) ≤ 1
 one-depth p = identity-depth (identity_of p) p.checksum

@@ -7,7 +7,8 @@ use Rattle.cargo_lock_audit.specs.Requirement.{RequirementData}
 use Rattle.cargo_lock_parts.specs.Identity.{identity_of}
 use Rattle.cargo_lock_json.specs.Audit.{advisories_json, finding_json, texts_json}
 use Rattle.cargo_lock_json.specs.File.{FileData}
-use Rattle.cargo_lock_json.proofs.Packages.{array-depth, identity-depth}
+use Rattle.cargo_lock_json.proofs.Packages.{identity-depth}
+use Rattle.json_line.proofs.Depth.{array-depth}
 
 texts-depth : (texts : List (List ℕ)) → depth (texts_json texts) ≤ 1
 texts-depth = array-depth 0 string (λ (text : List ℕ). omega arith)

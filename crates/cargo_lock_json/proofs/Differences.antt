@@ -5,7 +5,8 @@ use Rattle.cargo_lock_diff.specs.Change.{ChangeData}
 use Rattle.cargo_lock_diff.specs.declared.summary.Summary.{Summary}
 use Rattle.cargo_lock_json.specs.Difference.{added_of, change_json, counts_json, document_of, new_of, old_of, removed_of}
 use Rattle.cargo_lock_json.specs.File.{FileData}
-use Rattle.cargo_lock_json.proofs.Packages.{array-depth, dependencies-depth, file-depth, package-depth}
+use Rattle.cargo_lock_json.proofs.Packages.{dependencies-depth, file-depth, package-depth}
+use Rattle.json_line.proofs.Depth.{array-depth}
 
 counts-depth : (s : Summary) → depth (counts_json s) ≤ 1
 unfolding counts_json

@@ -5,7 +5,8 @@ use Rattle.cargo_lock_check.specs.Finding.{Alike, BadName, FindingData, LookAlik
 use Rattle.cargo_lock_parts.specs.Identity.{identity_of}
 use Rattle.cargo_lock_json.specs.File.{FileData}
 use Rattle.cargo_lock_json.specs.Findings.{finding_json, findings_json, line_json, other_json, package_of}
-use Rattle.cargo_lock_json.proofs.Packages.{array-depth, identity-depth, package-depth}
+use Rattle.cargo_lock_json.proofs.Packages.{identity-depth, package-depth}
+use Rattle.json_line.proofs.Depth.{array-depth}
 
 line-depth : (f : FindingData) → depth (line_json f) ≤ 0
 line-depth (OtherLine line) = omega arith

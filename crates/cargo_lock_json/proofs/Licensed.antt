@@ -5,7 +5,8 @@ use Rattle.cargo_lock_licenses.specs.Verdicts.{VerdictData}
 use Rattle.cargo_lock_parts.specs.Identity.{identity_of}
 use Rattle.cargo_lock_json.specs.File.{FileData}
 use Rattle.cargo_lock_json.specs.Licenses.{expression_of, package_of, verdict_json, verdicts_json}
-use Rattle.cargo_lock_json.proofs.Packages.{array-depth, identity-depth, text-depth}
+use Rattle.cargo_lock_json.proofs.Packages.{identity-depth}
+use Rattle.json_line.proofs.Depth.{array-depth, text-depth}
 
 verdict-depth : (v : VerdictData) → depth (verdict_json v) ≤ 2
 unfolding verdict_json

@@ -6,16 +6,14 @@ use Rattle.cargo_lock_parts.specs.Checksum.{digest_text}
 use Rattle.cargo_lock_parts.specs.Identity.{Identity, PackageData, identity_of}
 use Rattle.cargo_lock_parts.specs.SourceText.{text_of}
 use Rattle.cargo_lock_json.specs.File.{FileData, file_json}
-use Rattle.cargo_lock_json.specs.Package.{dependency_json, identity_json, package_or_null, text_or_null}
-use Rattle.cargo_lock_json.specs.Text.{items_of}
+use Rattle.cargo_lock_json.specs.Package.{dependency_json, identity_json, package_or_null}
+use Rattle.json_line.specs.Value.{text_or_null}
+use Rattle.json_line.proofs.Depth.{array-depth, text-depth}
+use Rattle.json_line.specs.Text.{items_of}
 
 pub file-depth : (f : FileData) → depth (file_json f) ≤ 1
 unfolding file_json
 file-depth f = omega arith
-
-pub text-depth : (text : Option (List ℕ)) → depth (text_or_null text) ≤ 0
-text-depth None = omega arith
-text-depth (Some text) = omega arith
 
 pub identity-depth : (i : Identity) (checksum : Option (List ℕ))
     → depth (identity_json i checksum) ≤ 1
@@ -29,16 +27,6 @@ identity-depth i checksum = omega (
 pub package-depth : (p : Option PackageData) → depth (package_or_null p) ≤ 1
 package-depth None = omega arith
 package-depth (Some p) = identity-depth (identity_of p) p.checksum
-
--- a list nests as deep as its items
-items-depth : {A : Type 0} (deep : ℕ) (f : A → Json) → ((x : A) → depth (f x) ≤ deep) → (xs : List A)
-    → items_depth (items_of (map f xs)) ≤ deep
-items-depth deep f each [] = omega arith
-items-depth deep f each (x ∷ xs) = omega (arith, each x, items-depth deep f each xs)
-
-pub array-depth : {A : Type 0} (deep : ℕ) (f : A → Json) → ((x : A) → depth (f x) ≤ deep) → (xs : List A)
-    → depth (array (items_of (map f xs))) ≤ deep + 1
-array-depth deep f each xs = omega (arith, items-depth deep f each xs)
 
 pub dependencies-depth : (ds : List Identity) → depth (array (items_of (map dependency_json ds))) ≤ 2
 dependencies-depth = array-depth 1 dependency_json (λ d. identity-depth d None)

@@ -6,7 +6,8 @@ use Rattle.cargo_lock_parts.specs.Checksum.{digest_text}
 use Rattle.cargo_lock_parts.specs.Identity.{identity_of}
 use Rattle.cargo_lock_json.specs.File.{FileData}
 use Rattle.cargo_lock_json.specs.Verify.{FoundData, found_json, verified_json}
-use Rattle.cargo_lock_json.proofs.Packages.{array-depth, identity-depth, text-depth}
+use Rattle.cargo_lock_json.proofs.Packages.{identity-depth}
+use Rattle.json_line.proofs.Depth.{array-depth, text-depth}
 
 pub found-depth : (f : FoundData) → depth (found_json f) ≤ 2
 unfolding found_json

@@ -7,7 +7,7 @@ use Rattle.cargo_lock_audit.specs.Lines.{finding_line}
 use Rattle.cargo_lock_references.specs.Format.{number_of}
 use Rattle.cargo_lock_json.specs.File.{FileData}
 use Rattle.cargo_lock_json.specs.Package.{package_json}
-use Rattle.cargo_lock_json.specs.Text.{items_of}
+use Rattle.json_line.specs.Text.{items_of}
 
 -- the kind of an advisory: that of an informational one, or else a vulnerability
 abbrev pub kind_text : AdvisoryData → List ℕ

@@ -9,7 +9,7 @@ use Rattle.cargo_lock_diff.specs.Summary.{summary_of}
 use Rattle.cargo_lock_diff.specs.declared.summary.Summary.{Summary}
 use Rattle.cargo_lock_json.specs.File.{FileData, file_json}
 use Rattle.cargo_lock_json.specs.Package.{dependency_json, package_or_null}
-use Rattle.cargo_lock_json.specs.Text.{items_of}
+use Rattle.json_line.specs.Text.{items_of}
 
 -- ---- changes
 

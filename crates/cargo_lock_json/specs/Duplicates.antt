@@ -5,8 +5,9 @@ use Rattle.cargo_lock_ask.specs.Listing.{RowData, first_in}
 use Rattle.cargo_lock_ask.specs.Tally.{GroupData}
 use Rattle.cargo_lock_references.specs.Format.{number_of}
 use Rattle.cargo_lock_json.specs.File.{FileData}
-use Rattle.cargo_lock_json.specs.Package.{package_json, packages_json, text_or_null}
-use Rattle.cargo_lock_json.specs.Text.{items_of}
+use Rattle.cargo_lock_json.specs.Package.{package_json, packages_json}
+use Rattle.json_line.specs.Value.{text_or_null}
+use Rattle.json_line.specs.Text.{items_of}
 
 -- a package, and those that depend on it
 unfoldable pub row_json : RowData → Json

@@ -10,7 +10,7 @@ use Rattle.cargo_lock_check.specs.Finding.{MisplacedDependency, LossySource, Not
 use Rattle.cargo_lock_check.specs.Finding.{finding_line}
 use Rattle.cargo_lock_json.specs.File.{FileData}
 use Rattle.cargo_lock_json.specs.Package.{dependency_json, package_json, package_or_null}
-use Rattle.cargo_lock_json.specs.Text.{items_of}
+use Rattle.json_line.specs.Text.{items_of}
 
 -- the kind of a finding
 abbrev pub kind_text : FindingData → List ℕ

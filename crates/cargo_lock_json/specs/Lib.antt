@@ -1,4 +1,3 @@
-pub mod Text
 pub mod File
 pub mod Package
 pub mod Difference

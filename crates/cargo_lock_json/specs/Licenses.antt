@@ -7,8 +7,9 @@ use Rattle.cargo_lock_licenses.specs.Verdicts.{NoLicense, NoManifest, NotAllowed
 use Rattle.cargo_lock_parts.specs.Identity.{PackageData}
 use Rattle.cargo_lock_references.specs.Format.{number_of}
 use Rattle.cargo_lock_json.specs.File.{FileData}
-use Rattle.cargo_lock_json.specs.Package.{package_json, text_or_null}
-use Rattle.cargo_lock_json.specs.Text.{items_of}
+use Rattle.cargo_lock_json.specs.Package.{package_json}
+use Rattle.json_line.specs.Value.{text_or_null}
+use Rattle.json_line.specs.Text.{items_of}
 
 -- the kind of a verdict
 abbrev pub kind_text : VerdictData → List ℕ

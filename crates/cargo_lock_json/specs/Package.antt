@@ -5,12 +5,8 @@ use Rattle.json.specs.Json.{Json, array, null, string, object, member, no_member
 use Rattle.cargo_lock_parts.specs.Checksum.{digest_text}
 use Rattle.cargo_lock_parts.specs.Identity.{Identity, PackageData, identity_of}
 use Rattle.cargo_lock_parts.specs.SourceText.{text_of}
-use Rattle.cargo_lock_json.specs.Text.{items_of}
-
--- a text, or null if there is none
-abbrev pub text_or_null : Option (List ℕ) → Json
-text_or_null None = null
-text_or_null (Some text) = string text
+use Rattle.json_line.specs.Text.{items_of}
+use Rattle.json_line.specs.Value.{text_or_null}
 
 -- a name, a version, a source as a V4 lockfile has it, and a checksum; the last two may be null
 unfoldable pub identity_json : Identity → Option (List ℕ) → Json

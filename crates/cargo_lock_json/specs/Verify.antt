@@ -5,8 +5,9 @@ use Rattle.cargo_lock_parts.specs.Checksum.{digest_text}
 use Rattle.cargo_lock_parts.specs.Identity.{PackageData}
 use Rattle.cargo_lock_references.specs.Format.{number_of}
 use Rattle.cargo_lock_json.specs.File.{FileData}
-use Rattle.cargo_lock_json.specs.Package.{package_json, text_or_null}
-use Rattle.cargo_lock_json.specs.Text.{items_of}
+use Rattle.cargo_lock_json.specs.Package.{package_json}
+use Rattle.json_line.specs.Value.{text_or_null}
+use Rattle.json_line.specs.Text.{items_of}
 
 -- what the document says of a finding: its kind, its line, its package, the path of what it is
 -- about, the digest that was found, and the one that was expected; there may be none of the last

@@ -6,7 +6,7 @@ use Rattle.cargo_lock_parts.specs.Identity.{PackageData}
 use Rattle.cargo_lock_references.specs.Format.{number_of}
 use Rattle.cargo_lock_json.specs.File.{FileData}
 use Rattle.cargo_lock_json.specs.Package.{package_json, packages_json}
-use Rattle.cargo_lock_json.specs.Text.{items_of}
+use Rattle.json_line.specs.Text.{items_of}
 
 -- the package that an answer is about
 abbrev pub package_in : AnswerData → PackageData

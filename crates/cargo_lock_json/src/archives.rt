@@ -9,11 +9,11 @@ ghost use Rattle.cargo_lock_verify.specs.Archives.{finding_of};
 ghost use Rattle.cargo_lock_json.specs.Archives.{digest_in, expected_in, finding_json};
 ghost use Rattle.cargo_lock_json.specs.Archives.{kind_text, package_of, path_of};
 ghost use Rattle.cargo_lock_json.specs.Archives as spec;
-ghost use Rattle.cargo_lock_json.specs.Text.{Adds, IsJsonText, items_of};
+ghost use Rattle.json_line.specs.Text.{Adds, IsJsonText, items_of};
 
 use crate::file::File;
-use crate::package::{put_digest_or_null, put_package, put_text_or_null};
-use crate::text::Text;
+use crate::package::put_package;
+use json_line::{Text, put_digest_or_null, put_text_or_null};
 use crate::verify::begin_verified;
 use cargo_lock_parts::package::{Checksum, Package};
 use cargo_lock_verify::{Finding, Report};

@@ -7,11 +7,11 @@ ghost use Rattle.json.specs.Tree.{json_tokens};
 ghost use Rattle.cargo_lock_audit.specs.Findings.{finding_of, id_of};
 ghost use Rattle.cargo_lock_json.specs.Audit.{finding_json, kind_text, texts_json};
 ghost use Rattle.cargo_lock_json.specs.Audit as spec;
-ghost use Rattle.cargo_lock_json.specs.Text.{Adds, IsJsonText, items_of};
+ghost use Rattle.json_line.specs.Text.{Adds, IsJsonText, items_of};
 
 use crate::file::{File, begin_document};
 use crate::package::put_package;
-use crate::text::Text;
+use json_line::Text;
 use cargo_lock_audit::{Advisory, Finding, Report, Requirement, Unmet};
 use std::alloc::{AllocError, Global};
 

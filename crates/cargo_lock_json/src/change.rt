@@ -9,10 +9,10 @@ ghost use Rattle.cargo_lock_json.specs.Difference.{added_of, change_json};
 ghost use Rattle.cargo_lock_json.specs.Difference.{dependencies_json, kind_text, new_of, old_of};
 ghost use Rattle.cargo_lock_json.specs.Difference.{removed_of};
 ghost use Rattle.cargo_lock_json.specs.Difference as spec;
-ghost use Rattle.cargo_lock_json.specs.Text.{Adds};
+ghost use Rattle.json_line.specs.Text.{Adds};
 
 use crate::package::{put_dependency, put_package_or_null};
-use crate::text::Text;
+use json_line::Text;
 use cargo_lock_diff::{Change, Kind};
 use cargo_lock_parts::dependency::Dependency;
 use cargo_lock_parts::package::Package;

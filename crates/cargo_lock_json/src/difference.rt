@@ -7,11 +7,11 @@ ghost use Rattle.json.specs.Tree.{json_tokens};
 ghost use Rattle.cargo_lock_diff.specs.Change.{change_of};
 ghost use Rattle.cargo_lock_json.specs.Difference.{change_json, counts_json, document_of};
 ghost use Rattle.cargo_lock_json.specs.Difference as spec;
-ghost use Rattle.cargo_lock_json.specs.Text.{Adds, IsJsonText, items_of};
+ghost use Rattle.json_line.specs.Text.{Adds, IsJsonText, items_of};
 
 use crate::change::put_change;
 use crate::file::{File, put_file};
-use crate::text::Text;
+use json_line::Text;
 use cargo_lock_diff::{Change, Summary};
 use std::alloc::{AllocError, Global};
 

@@ -8,12 +8,12 @@ ghost use Rattle.cargo_lock_ask.specs.Listing.{first_in, row_of};
 ghost use Rattle.cargo_lock_ask.specs.Tally.{group_of};
 ghost use Rattle.cargo_lock_json.specs.Duplicates.{group_json, row_json};
 ghost use Rattle.cargo_lock_json.specs.Duplicates as spec;
-ghost use Rattle.cargo_lock_json.specs.Package.{text_or_null};
-ghost use Rattle.cargo_lock_json.specs.Text.{Adds, IsJsonText, items_of};
+ghost use Rattle.json_line.specs.Value.{text_or_null};
+ghost use Rattle.json_line.specs.Text.{Adds, IsJsonText, items_of};
 
 use crate::file::{File, begin_document};
 use crate::package::{put_package, put_packages};
-use crate::text::Text;
+use json_line::Text;
 use cargo_lock_ask::{Row, Rows};
 use std::alloc::{AllocError, Global};
 

@@ -3,11 +3,11 @@
 ghost use Rattle.std.specs.Prelude.{◌∷◌, [], codes, decimal};
 ghost use Rattle.json.specs.Token.{begin_object, key, number, string};
 ghost use Rattle.json.specs.Tree.{json_tokens};
-ghost use Rattle.cargo_lock_json.specs.Text.{Adds};
+ghost use Rattle.json_line.specs.Text.{Adds};
 ghost use Rattle.cargo_lock_json.specs.File.{file_json};
 ghost use Rattle.cargo_lock_references.specs.Format.{number_of};
 
-use crate::text::Text;
+use json_line::Text;
 use cargo_lock_references::ResolveVersion;
 use std::alloc::AllocError;
 use std::marker::Model;

@@ -9,11 +9,11 @@ ghost use Rattle.cargo_lock_references.specs.Format.{number_of};
 ghost use Rattle.cargo_lock_json.specs.Findings.{finding_json, kind_text, line_json, other_json};
 ghost use Rattle.cargo_lock_json.specs.Findings.{package_of};
 ghost use Rattle.cargo_lock_json.specs.Findings as spec;
-ghost use Rattle.cargo_lock_json.specs.Text.{Adds, IsJsonText, items_of};
+ghost use Rattle.json_line.specs.Text.{Adds, IsJsonText, items_of};
 
 use crate::file::{File, begin_document};
 use crate::package::{put_dependency, put_package, put_package_or_null};
-use crate::text::Text;
+use json_line::Text;
 use cargo_lock_check::Finding;
 use cargo_lock_parts::package::Package;
 use std::alloc::{AllocError, Global};

@@ -10,12 +10,12 @@ ghost use Rattle.cargo_lock_verify.specs.Vendored as vendored;
 ghost use Rattle.cargo_lock_json.specs.Folders.{digest_in, expected_in, file_path, finding_json};
 ghost use Rattle.cargo_lock_json.specs.Folders.{kind_text, package_of, path_of};
 ghost use Rattle.cargo_lock_json.specs.Folders as spec;
-ghost use Rattle.cargo_lock_json.specs.Package.{text_or_null};
-ghost use Rattle.cargo_lock_json.specs.Text.{Adds, IsJsonText, items_of};
+ghost use Rattle.json_line.specs.Value.{text_or_null};
+ghost use Rattle.json_line.specs.Text.{Adds, IsJsonText, items_of};
 
 use crate::file::File;
-use crate::package::{put_digest_or_null, put_package};
-use crate::text::Text;
+use crate::package::put_package;
+use json_line::{Text, put_digest_or_null};
 use crate::verify::begin_verified;
 use cargo_lock_parts::package::{Checksum, Package};
 use cargo_lock_verify::{Folder, FolderFinding, VendorReport};

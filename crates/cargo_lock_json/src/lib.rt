@@ -16,7 +16,6 @@ pub mod findings;
 pub mod folders;
 pub mod licenses;
 mod package;
-mod text;
 mod verify;
 pub mod why;
 

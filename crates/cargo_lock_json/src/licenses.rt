@@ -7,11 +7,11 @@ ghost use Rattle.cargo_lock_licenses.specs.Verdicts.{verdict_of};
 ghost use Rattle.cargo_lock_json.specs.Licenses.{expression_of, kind_text, package_of};
 ghost use Rattle.cargo_lock_json.specs.Licenses.{verdict_json};
 ghost use Rattle.cargo_lock_json.specs.Licenses as spec;
-ghost use Rattle.cargo_lock_json.specs.Text.{Adds, IsJsonText, items_of};
+ghost use Rattle.json_line.specs.Text.{Adds, IsJsonText, items_of};
 
 use crate::file::{File, begin_document};
-use crate::package::{put_package, put_text_or_null};
-use crate::text::Text;
+use crate::package::put_package;
+use json_line::{Text, put_text_or_null};
 use cargo_lock_licenses::Verdict;
 use cargo_lock_parts::package::Package;
 use std::alloc::{AllocError, Global};

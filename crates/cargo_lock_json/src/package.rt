@@ -4,15 +4,15 @@ ghost use Rattle.std.specs.Prelude.{◌≡◌, ◌∷◌, codes, map, option_map
 ghost use Rattle.semver.specs.Identifiers.{parts_of, parts_text};
 ghost use Rattle.json.specs.Token.{begin_object, key, string};
 ghost use Rattle.json.specs.Tree.{json_tokens};
-ghost use Rattle.cargo_lock_json.specs.Text.{Adds};
-ghost use Rattle.cargo_lock_parts.specs.Checksum.{digest_of, digest_text};
+ghost use Rattle.json_line.specs.Text.{Adds};
 ghost use Rattle.cargo_lock_parts.specs.SourceText.{text_of};
 ghost use Rattle.cargo_lock_json.specs.Package.{dependency_json, package_json, package_or_null};
-ghost use Rattle.cargo_lock_json.specs.Package.{packages_json, text_or_null};
+ghost use Rattle.cargo_lock_json.specs.Package.{packages_json};
+ghost use Rattle.json_line.specs.Value.{text_or_null};
 
-use crate::text::Text;
+use json_line::{Text, put_digest_or_null};
 use cargo_lock_parts::dependency::Dependency;
-use cargo_lock_parts::package::{Checksum, Name, Package, SourceId, Version};
+use cargo_lock_parts::package::{Name, Package, SourceId, Version};
 use std::alloc::{AllocError, Global};
 
 // Writes a member whose value is a package, or null.
@@ -110,36 +110,5 @@ fn put_source(out: &mut Text, alloc: Global, source: &Option<SourceId>) -> Resul
     match source {
         Some(source) => out.displayed_member(alloc, "source", &source.as_url(true)),
         None => out.null_member("source"),
-    }
-}
-
-// Writes a member whose value is a digest, or null.
-pub(crate) fn put_digest_or_null(
-    out: &mut Text,
-    alloc: Global,
-    name: &str,
-    digest: &Option<Checksum>,
-) -> Result<(), AllocError>
-    ensures { Adds result out.old out.new (key name.now
-        ∷ json_tokens (text_or_null (option_map digest_text (option_map digest_of digest.now)))) }
-{
-    match digest {
-        Some(digest) => out.displayed_member(alloc, name, digest),
-        None => out.null_member(name),
-    }
-}
-
-// Writes a member whose value is a text, or null.
-pub(crate) fn put_text_or_null(
-    out: &mut Text,
-    name: &str,
-    text: Option<&str>,
-) -> Result<(), AllocError>
-    ensures { Adds result out.old out.new (key name.now
-        ∷ json_tokens (text_or_null (option_map (λ t. t.now) text.entry))) }
-{
-    match text {
-        Some(text) => out.string_member(name, text),
-        None => out.null_member(name),
     }
 }

@@ -3,11 +3,11 @@
 ghost use Rattle.std.specs.Prelude.{◌∷◌, [], codes, decimal, option_map};
 ghost use Rattle.json.specs.Token.{begin_object, key, number, string};
 ghost use Rattle.json.specs.Tree.{json_tokens};
-ghost use Rattle.cargo_lock_json.specs.Text.{Adds};
+ghost use Rattle.json_line.specs.Text.{Adds};
 ghost use Rattle.cargo_lock_references.specs.Format.{number_of};
 
 use crate::file::{File, begin_document};
-use crate::text::Text;
+use json_line::Text;
 use std::alloc::AllocError;
 
 // Opens a document up to its findings: the lockfile, and how many packages are verified.

@@ -5,13 +5,13 @@ ghost use Rattle.json.specs.Json.{array};
 ghost use Rattle.json.specs.Token.{key};
 ghost use Rattle.json.specs.Tree.{json_tokens};
 ghost use Rattle.cargo_lock_ask.specs.Lines.{answer_of};
-ghost use Rattle.cargo_lock_json.specs.Text.{Adds, IsJsonText, items_of};
+ghost use Rattle.json_line.specs.Text.{Adds, IsJsonText, items_of};
 ghost use Rattle.cargo_lock_json.specs.Why.{answer_json, needed_by_json, package_in};
 ghost use Rattle.cargo_lock_json.specs.Why as spec;
 
 use crate::file::{File, begin_document};
 use crate::package::{put_package, put_packages};
-use crate::text::Text;
+use json_line::Text;
 use cargo_lock_ask::Answer;
 use cargo_lock_parts::package::Package;
 use std::alloc::{AllocError, Global};

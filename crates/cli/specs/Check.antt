@@ -8,7 +8,7 @@ use Rattle.cargo_lock_encoding.specs.Lockfiles.{LockfileData}
 use Rattle.cargo_lock_encoding.specs.Means.{TextMeans}
 use Rattle.cargo_lock_json.specs.File.{FileData}
 use Rattle.cargo_lock_json.specs.Findings.{findings_json}
-use Rattle.cargo_lock_json.specs.Text.{IsJsonText}
+use Rattle.json_line.specs.Text.{IsJsonText}
 use Rattle.cli_lockfiles.specs.Json.{IsAsked, IsUnasked, PrintsLine, file_of}
 
 -- the status is a failure exactly if there is a finding, and otherwise a success

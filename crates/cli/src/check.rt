@@ -4,7 +4,7 @@ ghost use Rattle.std.specs.Io.KnownBytes.{Appends};
 ghost use Rattle.clap.specs.Matches.{found_of};
 ghost use Rattle.cargo_lock_check.specs.Finding.{finding_of, findings_text};
 ghost use Rattle.cargo_lock_json.specs.Findings.{findings_json};
-ghost use Rattle.cargo_lock_json.specs.Text.{IsJsonText};
+ghost use Rattle.json_line.specs.Text.{IsJsonText};
 ghost use Rattle.cli.specs.Check.{IsFindingsStatus, PrintsFound, PrintsCheck, PrintsFindings};
 ghost use Rattle.cli.specs.Check.{PrintsFindingsOf};
 ghost use Rattle.cli_lockfiles.specs.Json.{PrintsLine};

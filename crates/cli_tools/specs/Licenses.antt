@@ -6,7 +6,7 @@ use Rattle.clap.specs.declared.parser.matches.Found.{Found}
 use Rattle.cargo_lock_encoding.specs.Lockfiles.{LockfileData}
 use Rattle.cargo_lock_json.specs.File.{FileData}
 use Rattle.cargo_lock_json.specs.Licenses.{verdicts_json}
-use Rattle.cargo_lock_json.specs.Text.{IsJsonText}
+use Rattle.json_line.specs.Text.{IsJsonText}
 use Rattle.cargo_lock_licenses.specs.Lines.{report_text}
 use Rattle.cargo_lock_licenses.specs.Report.{AreVerdicts}
 use Rattle.cargo_lock_licenses.specs.Subjects.{SubjectData}

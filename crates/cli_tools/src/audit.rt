@@ -6,7 +6,7 @@ ghost use Rattle.clap.specs.Matches.{found_of};
 ghost use Rattle.cargo_lock_audit.specs.Database.{AreInOrder};
 ghost use Rattle.cargo_lock_audit.specs.Findings.{finding_of, id_of};
 ghost use Rattle.cargo_lock_json.specs.Audit.{advisories_json};
-ghost use Rattle.cargo_lock_json.specs.Text.{IsJsonText};
+ghost use Rattle.json_line.specs.Text.{IsJsonText};
 ghost use Rattle.cli_tools.specs.Audit.{PrintsAdvisories, PrintsAudit, PrintsAuditOf};
 ghost use Rattle.cli_tools.specs.Audit.{PrintsAuditReport};
 ghost use Rattle.cli_lockfiles.specs.Json.{PrintsLine};

@@ -3,7 +3,7 @@
 ghost use Rattle.std.specs.Prelude.{◌≡◌, IfOk, OnOk, codes, map};
 ghost use Rattle.clap.specs.Matches.{found_of};
 ghost use Rattle.cargo_lock_json.specs.Licenses.{verdicts_json};
-ghost use Rattle.cargo_lock_json.specs.Text.{IsJsonText};
+ghost use Rattle.json_line.specs.Text.{IsJsonText};
 ghost use Rattle.cargo_lock_licenses.specs.Subjects.{subject_of};
 ghost use Rattle.cargo_lock_licenses.specs.Verdicts.{verdict_of};
 ghost use Rattle.cli_lockfiles.specs.Json.{PrintsLine};

@@ -4,7 +4,7 @@ ghost use Rattle.std.specs.Prelude.{◌≡◌, IfOk, OnOk, false, map, true};
 ghost use Rattle.clap.specs.Matches.{found_of};
 ghost use Rattle.cargo_lock_json.specs.Archives.{archives_json};
 ghost use Rattle.cargo_lock_json.specs.Folders.{folders_json};
-ghost use Rattle.cargo_lock_json.specs.Text.{IsJsonText};
+ghost use Rattle.json_line.specs.Text.{IsJsonText};
 ghost use Rattle.cargo_lock_verify.specs.Archives as archive;
 ghost use Rattle.cargo_lock_verify.specs.Archives.{subject_of};
 ghost use Rattle.cargo_lock_verify.specs.Vendored.{vendored_of};

@@ -10,7 +10,7 @@ use Rattle.cargo_lock_diff.specs.Summary.{summary_of, summary_text}
 use Rattle.cargo_lock_encoding.specs.Lockfiles.{LockfileData}
 use Rattle.cargo_lock_json.specs.Difference.{difference_json}
 use Rattle.cargo_lock_json.specs.File.{FileData}
-use Rattle.cargo_lock_json.specs.Text.{IsJsonText}
+use Rattle.json_line.specs.Text.{IsJsonText}
 use Rattle.cli_lockfiles.specs.Json.{IsAsked, IsUnasked, PrintsLine, file_of}
 use Rattle.cli_lockfiles.specs.Load.{IsCompared}
 

@@ -8,7 +8,7 @@ use Rattle.cargo_lock_graph.specs.Edges.{GraphData}
 use Rattle.cargo_lock.specs.Loads.{IsMeant}
 use Rattle.cargo_lock_json.specs.Duplicates.{groups_json}
 use Rattle.cargo_lock_json.specs.File.{FileData}
-use Rattle.cargo_lock_json.specs.Text.{IsJsonText}
+use Rattle.json_line.specs.Text.{IsJsonText}
 use Rattle.cli_lockfiles.specs.Json.{IsAsked, IsUnasked, PrintsLine, file_of}
 use Rattle.cli_lockfiles.specs.Load.{IsGraphOf}
 

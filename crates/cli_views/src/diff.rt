@@ -4,7 +4,7 @@ ghost use Rattle.std.specs.Io.KnownBytes.{Appends};
 ghost use Rattle.clap.specs.Matches.{found_of};
 ghost use Rattle.cargo_lock_diff.specs.Change.{change_of, changes_text};
 ghost use Rattle.cargo_lock_json.specs.Difference.{difference_json};
-ghost use Rattle.cargo_lock_json.specs.Text.{IsJsonText};
+ghost use Rattle.json_line.specs.Text.{IsJsonText};
 ghost use Rattle.cli_views.specs.Diff.{IsStatus, IsTold, PrintsTold, PrintsChanges};
 ghost use Rattle.cli_views.specs.Diff.{PrintsDifference, PrintsDifferenceOf, last_line, told_text};
 ghost use Rattle.cli_lockfiles.specs.Json.{PrintsLine};

@@ -3,7 +3,7 @@ ghost use Rattle.std.specs.Prelude.{◌≡◌, IfOk, OnOk, map};
 ghost use Rattle.clap.specs.Matches.{found_of};
 ghost use Rattle.cargo_lock_ask.specs.Tally.{group_of};
 ghost use Rattle.cargo_lock_json.specs.Duplicates.{groups_json};
-ghost use Rattle.cargo_lock_json.specs.Text.{IsJsonText};
+ghost use Rattle.json_line.specs.Text.{IsJsonText};
 ghost use Rattle.cli_views.specs.Duplicates.{IsGroupsStatus, PrintsDuplicates, PrintsGroups, PrintsNames};
 ghost use Rattle.cli_lockfiles.specs.Json.{PrintsLine};
 

@@ -2,7 +2,7 @@
 ghost use Rattle.std.specs.Prelude.{◌≡◌, IfOk, OnOk, map};
 ghost use Rattle.clap.specs.Matches.{found_of};
 ghost use Rattle.cargo_lock_ask.specs.Lines.{answer_of};
-ghost use Rattle.cargo_lock_json.specs.Text.{IsJsonText};
+ghost use Rattle.json_line.specs.Text.{IsJsonText};
 ghost use Rattle.cargo_lock_json.specs.Why.{answers_json};
 ghost use Rattle.cli_lockfiles.specs.Json.{PrintsLine};
 ghost use Rattle.cli_views.specs.Why.{AreAsked, PrintsAnswers, PrintsAsked, PrintsWhy};

@@ -3,7 +3,7 @@ use Rattle.json.specs.Token.{Token}
 use Rattle.json.specs.Tree.{json_tokens}
 use Rattle.cargo_lock_verify.specs.Archives.{finding_of}
 use Rattle.cargo_lock_json.specs.Archives.{archives_json, finding_json, found_of}
-use Rattle.cargo_lock_json.proofs.Texts.{json_text}
+use Rattle.json_line.proofs.Texts.{json_text}
 use Rattle.cargo_lock_json.proofs.Verified.{found-depth, verified-depth}
 use Rattle.cargo_lock_json.proofs.archives.archives_json.Goals as goal
 

@@ -6,7 +6,7 @@ use Rattle.json.specs.Tree.{json_tokens}
 use Rattle.cargo_lock_verify.specs.declared.finding.Finding.{Finding}
 use Rattle.cargo_lock_verify.specs.Archives.{finding_of}
 use Rattle.cargo_lock_json.specs.Archives.{finding_json}
-use Rattle.cargo_lock_json.proofs.Arrays.{array_ends, items-flat_map}
+use Rattle.json_line.proofs.Arrays.{array_ends, items-flat_map}
 use Rattle.cargo_lock_json.proofs.archives.put_array.Goals as goal
 
 pub returns : goal.returns

@@ -4,7 +4,7 @@ use Rattle.json.specs.Tree.{json_tokens}
 use Rattle.cargo_lock_audit.specs.Findings.{finding_of, id_of}
 use Rattle.cargo_lock_json.specs.Audit.{advisories_json}
 use Rattle.cargo_lock_json.proofs.Audited.{advisories-depth}
-use Rattle.cargo_lock_json.proofs.Texts.{json_text}
+use Rattle.json_line.proofs.Texts.{json_text}
 use Rattle.cargo_lock_json.proofs.audit.advisories_json.Goals as goal
 
 pub returns : goal.returns

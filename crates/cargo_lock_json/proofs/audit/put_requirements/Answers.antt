@@ -5,7 +5,7 @@ use Rattle.json.specs.Token.{begin_array}
 use Rattle.json.specs.Tree.{json_tokens}
 use Rattle.cargo_lock_audit.specs.Requirement.{RequirementData}
 use Rattle.json.specs.Json.{string}
-use Rattle.cargo_lock_json.proofs.Arrays.{array_ends, items-flat_map}
+use Rattle.json_line.proofs.Arrays.{array_ends, items-flat_map}
 use Rattle.cargo_lock_json.proofs.audit.put_requirements.Goals as goal
 
 pub returns : goal.returns

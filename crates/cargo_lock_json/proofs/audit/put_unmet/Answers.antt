@@ -6,7 +6,7 @@ use Rattle.json.specs.Tree.{json_tokens}
 use Rattle.cargo_lock_audit.specs.declared.report.Unmet.{Unmet}
 use Rattle.cargo_lock_audit.specs.Findings.{id_of}
 use Rattle.json.specs.Json.{string}
-use Rattle.cargo_lock_json.proofs.Arrays.{array_ends, items-flat_map}
+use Rattle.json_line.proofs.Arrays.{array_ends, items-flat_map}
 use Rattle.cargo_lock_json.proofs.audit.put_unmet.Goals as goal
 
 pub returns : goal.returns

@@ -5,7 +5,7 @@ use Rattle.cargo_lock_diff.specs.Change.{change_of}
 use Rattle.cargo_lock_diff.specs.Summary.{summary_of}
 use Rattle.cargo_lock_json.specs.Difference.{document_of}
 use Rattle.cargo_lock_json.proofs.Differences.{difference-depth}
-use Rattle.cargo_lock_json.proofs.Texts.{json_text}
+use Rattle.json_line.proofs.Texts.{json_text}
 use Rattle.cargo_lock_json.proofs.difference.difference_json.Goals as goal
 
 pub returns : goal.returns

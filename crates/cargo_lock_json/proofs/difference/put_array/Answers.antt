@@ -6,7 +6,7 @@ use Rattle.json.specs.Tree.{json_tokens}
 use Rattle.cargo_lock_diff.specs.declared.change.Change.{Change}
 use Rattle.cargo_lock_diff.specs.Change.{change_of}
 use Rattle.cargo_lock_json.specs.Difference.{change_json}
-use Rattle.cargo_lock_json.proofs.Arrays.{array_ends, items-flat_map}
+use Rattle.json_line.proofs.Arrays.{array_ends, items-flat_map}
 use Rattle.cargo_lock_json.proofs.difference.put_array.Goals as goal
 
 pub returns : goal.returns

@@ -1,5 +1,5 @@
 use Rattle.cargo_lock_json.specs.Difference.{document_of}
-use Rattle.cargo_lock_json.proofs.Behind.{then}
+use Rattle.json_line.proofs.Behind.{then}
 use Rattle.cargo_lock_json.proofs.difference.put_difference.Goals as goal
 
 pub returns : goal.returns

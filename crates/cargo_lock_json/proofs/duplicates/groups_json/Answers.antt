@@ -4,7 +4,7 @@ use Rattle.json.specs.Tree.{json_tokens}
 use Rattle.cargo_lock_ask.specs.Tally.{group_of}
 use Rattle.cargo_lock_json.specs.Duplicates.{groups_json}
 use Rattle.cargo_lock_json.proofs.Asked.{groups-depth}
-use Rattle.cargo_lock_json.proofs.Texts.{json_text}
+use Rattle.json_line.proofs.Texts.{json_text}
 use Rattle.cargo_lock_json.proofs.duplicates.groups_json.Goals as goal
 
 pub returns : goal.returns

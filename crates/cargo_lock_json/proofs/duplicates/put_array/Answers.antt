@@ -6,7 +6,7 @@ use Rattle.json.specs.Tree.{json_tokens}
 use Rattle.cargo_lock_ask.specs.declared.listing.Rows.{Rows}
 use Rattle.cargo_lock_ask.specs.Tally.{group_of}
 use Rattle.cargo_lock_json.specs.Duplicates.{group_json}
-use Rattle.cargo_lock_json.proofs.Arrays.{array_ends, items-flat_map}
+use Rattle.json_line.proofs.Arrays.{array_ends, items-flat_map}
 use Rattle.cargo_lock_json.proofs.duplicates.put_array.Goals as goal
 
 pub returns : goal.returns

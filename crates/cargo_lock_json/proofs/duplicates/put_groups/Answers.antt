@@ -1,5 +1,5 @@
 use Rattle.cargo_lock_json.specs.Duplicates.{groups_json}
-use Rattle.cargo_lock_json.proofs.Behind.{then}
+use Rattle.json_line.proofs.Behind.{then}
 use Rattle.cargo_lock_json.proofs.duplicates.put_groups.Goals as goal
 
 pub returns : goal.returns

@@ -1,4 +1,4 @@
-use Rattle.cargo_lock_json.proofs.Behind.{then}
+use Rattle.json_line.proofs.Behind.{then}
 use Rattle.cargo_lock_json.proofs.file.begin_document.Goals as goal
 
 pub returns : goal.returns

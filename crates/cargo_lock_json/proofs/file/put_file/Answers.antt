@@ -1,5 +1,5 @@
 use Rattle.cargo_lock_json.specs.File.{file_json}
-use Rattle.cargo_lock_json.proofs.Behind.{then}
+use Rattle.json_line.proofs.Behind.{then}
 use Rattle.cargo_lock_json.proofs.file.put_file.Goals as goal
 
 pub returns : goal.returns

@@ -1,5 +1,5 @@
 use Rattle.std.proofs.Common.{sym}
-use Rattle.cargo_lock_json.proofs.Behind.{then}
+use Rattle.json_line.proofs.Behind.{then}
 use Rattle.cargo_lock_json.proofs.file.put_members.Goals as goal
 
 pub returns : goal.returns

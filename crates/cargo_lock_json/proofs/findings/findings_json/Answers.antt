@@ -4,7 +4,7 @@ use Rattle.json.specs.Tree.{json_tokens}
 use Rattle.cargo_lock_check.specs.Finding.{finding_of}
 use Rattle.cargo_lock_json.specs.Findings.{findings_json}
 use Rattle.cargo_lock_json.proofs.Found.{findings-depth}
-use Rattle.cargo_lock_json.proofs.Texts.{json_text}
+use Rattle.json_line.proofs.Texts.{json_text}
 use Rattle.cargo_lock_json.proofs.findings.findings_json.Goals as goal
 
 pub returns : goal.returns

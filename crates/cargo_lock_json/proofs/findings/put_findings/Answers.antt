@@ -1,5 +1,5 @@
 use Rattle.cargo_lock_json.specs.Findings.{findings_json}
-use Rattle.cargo_lock_json.proofs.Behind.{then}
+use Rattle.json_line.proofs.Behind.{then}
 use Rattle.cargo_lock_json.proofs.findings.put_findings.Goals as goal
 
 pub returns : goal.returns

@@ -6,7 +6,7 @@ use Rattle.json.specs.Tree.{json_tokens}
 use Rattle.cargo_lock_verify.specs.declared.folder.FolderFinding.{FolderFinding}
 use Rattle.cargo_lock_verify.specs.Vendored.{finding_of}
 use Rattle.cargo_lock_json.specs.Folders.{finding_json}
-use Rattle.cargo_lock_json.proofs.Arrays.{array_ends, items-flat_map}
+use Rattle.json_line.proofs.Arrays.{array_ends, items-flat_map}
 use Rattle.cargo_lock_json.proofs.folders.put_array.Goals as goal
 
 pub returns : goal.returns

@@ -6,7 +6,7 @@ use Rattle.json.specs.Tree.{json_tokens}
 use Rattle.cargo_lock_licenses.specs.declared.verdict.Verdict.{Verdict}
 use Rattle.cargo_lock_licenses.specs.Verdicts.{verdict_of}
 use Rattle.cargo_lock_json.specs.Licenses.{verdict_json}
-use Rattle.cargo_lock_json.proofs.Arrays.{array_ends, items-flat_map}
+use Rattle.json_line.proofs.Arrays.{array_ends, items-flat_map}
 use Rattle.cargo_lock_json.proofs.licenses.put_array.Goals as goal
 
 pub returns : goal.returns

@@ -1,6 +1,6 @@
 use Rattle.std.proofs.Common.{sym}
 use Rattle.cargo_lock_json.specs.Licenses.{verdict_json}
-use Rattle.cargo_lock_json.proofs.Behind.{then}
+use Rattle.json_line.proofs.Behind.{then}
 use Rattle.cargo_lock_json.proofs.licenses.put_verdict.Goals as goal
 
 pub returns : goal.returns

@@ -1,5 +1,5 @@
 use Rattle.cargo_lock_json.specs.Licenses.{verdicts_json}
-use Rattle.cargo_lock_json.proofs.Behind.{then}
+use Rattle.json_line.proofs.Behind.{then}
 use Rattle.cargo_lock_json.proofs.licenses.put_verdicts.Goals as goal
 
 pub returns : goal.returns

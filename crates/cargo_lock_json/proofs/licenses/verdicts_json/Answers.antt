@@ -4,7 +4,7 @@ use Rattle.json.specs.Tree.{json_tokens}
 use Rattle.cargo_lock_licenses.specs.Verdicts.{verdict_of}
 use Rattle.cargo_lock_json.specs.Licenses.{verdicts_json}
 use Rattle.cargo_lock_json.proofs.Licensed.{verdicts-depth}
-use Rattle.cargo_lock_json.proofs.Texts.{json_text}
+use Rattle.json_line.proofs.Texts.{json_text}
 use Rattle.cargo_lock_json.proofs.licenses.verdicts_json.Goals as goal
 
 pub returns : goal.returns

@@ -1,6 +1,6 @@
 use Rattle.std.proofs.Common.{sym}
 use Rattle.cargo_lock_json.specs.Package.{identity_json}
-use Rattle.cargo_lock_json.proofs.Behind.{then}
+use Rattle.json_line.proofs.Behind.{then}
 use Rattle.cargo_lock_json.proofs.package.put_dependency.Goals as goal
 
 pub returns : goal.returns

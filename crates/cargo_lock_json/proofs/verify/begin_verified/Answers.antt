@@ -1,4 +1,4 @@
-use Rattle.cargo_lock_json.proofs.Behind.{then}
+use Rattle.json_line.proofs.Behind.{then}
 use Rattle.cargo_lock_json.proofs.verify.begin_verified.Goals as goal
 
 pub returns : goal.returns

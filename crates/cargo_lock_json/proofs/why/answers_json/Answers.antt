@@ -4,7 +4,7 @@ use Rattle.json.specs.Tree.{json_tokens}
 use Rattle.cargo_lock_ask.specs.Lines.{answer_of}
 use Rattle.cargo_lock_json.specs.Why.{answers_json}
 use Rattle.cargo_lock_json.proofs.Asked.{answers-depth}
-use Rattle.cargo_lock_json.proofs.Texts.{json_text}
+use Rattle.json_line.proofs.Texts.{json_text}
 use Rattle.cargo_lock_json.proofs.why.answers_json.Goals as goal
 
 pub returns : goal.returns

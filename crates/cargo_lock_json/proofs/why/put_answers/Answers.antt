@@ -1,5 +1,5 @@
 use Rattle.cargo_lock_json.specs.Why.{answers_json}
-use Rattle.cargo_lock_json.proofs.Behind.{then}
+use Rattle.json_line.proofs.Behind.{then}
 use Rattle.cargo_lock_json.proofs.why.put_answers.Goals as goal
 
 pub returns : goal.returns

@@ -6,7 +6,7 @@ use Rattle.json.specs.Tree.{json_tokens}
 use Rattle.cargo_lock_ask.specs.declared.lines.Answer.{Answer}
 use Rattle.cargo_lock_ask.specs.Lines.{answer_of}
 use Rattle.cargo_lock_json.specs.Why.{answer_json}
-use Rattle.cargo_lock_json.proofs.Arrays.{array_ends, items-flat_map}
+use Rattle.json_line.proofs.Arrays.{array_ends, items-flat_map}
 use Rattle.cargo_lock_json.proofs.why.put_array.Goals as goal
 
 pub returns : goal.returns

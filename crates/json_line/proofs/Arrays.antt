@@ -4,7 +4,7 @@ use Rattle.std.specs.List.{flat_map}
 use Rattle.json.specs.Json.{Json, array}
 use Rattle.json.specs.Token.{Token, begin_array, end_array}
 use Rattle.json.specs.Tree.{items_tokens, json_tokens}
-use Rattle.cargo_lock_json.specs.Text.{Adds, items_of}
+use Rattle.json_line.specs.Text.{Adds, items_of}
 
 -- the array of all items is written
 pub array_ends : {E : Type 0} {r : Result (Unit {0}) E} {a b c : List Token} (js : List Json)

@@ -1,7 +1,7 @@
 -- What is added behind what was added.
 use Rattle.std.proofs.Common.{◌∙◌, List, ◌++◌, Result, Ok, Err, ap, append_assoc}
 use Rattle.json.specs.Token.{Token}
-use Rattle.cargo_lock_json.specs.Text.{Adds}
+use Rattle.json_line.specs.Text.{Adds}
 
 -- two pieces, one behind the other, where the call that adds the second may fail
 pub then : {E F : Type 0} {u : Unit {0}} {r : Result (Unit {0}) F} {a b c xs ys : List Token}

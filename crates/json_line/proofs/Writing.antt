@@ -4,7 +4,7 @@ use Rattle.std.proofs.lemmas.List.Elements.{All-append, All-from_get_or}
 use Rattle.std.specs.List.{All}
 use Rattle.json.specs.Token.{Token, number}
 use Rattle.json.specs.Written.{Writes, Written}
-use Rattle.cargo_lock_json.specs.Text.{HasDecimal, IsPlain}
+use Rattle.json_line.specs.Text.{HasDecimal, IsPlain}
 
 one-at : (t : Token) (i : ℕ) → HasDecimal t → i < 1 → HasDecimal (get_or (t ∷ []) i t)
 one-at t zero h l = h

@@ -12,8 +12,8 @@ use Rattle.json.proofs.Printed.Trees.{value-json_tokens}
 use Rattle.serde_json.specs.Data.{Data, Items, Members, array, boolean, item, no_items, null, number, object, put, string, unsigned}
 use Rattle.serde_json.specs.Read.{of_items, of_json, of_members, read}
 use Rattle.serde_json.proofs.Numbers.{number_of-decimal}
-use Rattle.cargo_lock_json.specs.Text.{HasDecimal, IsDecimal, IsJsonText}
-use Rattle.cargo_lock_json.proofs.OneLine.{AreLow, AreLow-append, decimal-line, printed_in_one_line}
+use Rattle.json_line.specs.Text.{HasDecimal, IsDecimal, IsJsonText}
+use Rattle.json_line.proofs.OneLine.{AreLow, AreLow-append, decimal-line, printed_in_one_line}
 
 -- each number of a document is one of 64 bits
 abbrev mutual

@@ -1,0 +1,11 @@
+//! A lockfile as one document of JSON, for programs in any language: its packages, and for each one
+//! the packages on which it depends, by their places, as the edges of its tree lead.
+//!
+//! `docs/JSON.md` has the document.
+#![tactic(auto)]
+
+pub mod document;
+pub mod leads;
+mod source;
+
+pub use crate::document::lockfile_json;
