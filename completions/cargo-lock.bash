@@ -4,7 +4,7 @@ _cargo_lock() {
     local current=${COMP_WORDS[COMP_CWORD]} previous=${COMP_WORDS[COMP_CWORD - 1]}
     COMPREPLY=()
     if [ "$COMP_CWORD" = 1 ]; then
-        _cargo_lock_offer 'list translate tree bom diff check why duplicates graph merge verify licenses audit help -h --help -V --version'
+        _cargo_lock_offer 'list translate tree bom json diff check why duplicates graph merge verify licenses audit help -h --help -V --version'
         return
     fi
     if [ "$previous" = = ]; then
@@ -46,6 +46,12 @@ _cargo_lock() {
         --root) _cargo_lock_packages ;;
         --author) ;;
         *) _cargo_lock_offer '-f --file --any-size -o --output --root --author --timestamp --serial --licenses --compact -h --help' ;;
+        esac
+        ;;
+    json)
+        case $previous in
+        -f | --file) _cargo_lock_files ;;
+        *) _cargo_lock_offer '-f --file --any-size -h --help' ;;
         esac
         ;;
     diff)
@@ -128,7 +134,7 @@ _cargo_lock() {
         *) _cargo_lock_offer '-f --file --any-size --db --ignore --deny --json -h --help' ;;
         esac
         ;;
-    help) _cargo_lock_offer 'list translate tree bom diff check why duplicates graph merge verify licenses audit help' ;;
+    help) _cargo_lock_offer 'list translate tree bom json diff check why duplicates graph merge verify licenses audit help' ;;
     esac
 }
 

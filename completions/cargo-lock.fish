@@ -19,6 +19,7 @@ complete -c cargo-lock -n '__cargo_lock_runs ""' -a list -d 'Lists the packages 
 complete -c cargo-lock -n '__cargo_lock_runs ""' -a translate -d 'Writes a lockfile in another format'
 complete -c cargo-lock -n '__cargo_lock_runs ""' -a tree -d 'Draws the trees of packages'
 complete -c cargo-lock -n '__cargo_lock_runs ""' -a bom -d 'Writes a bill of materials, as CycloneDX 1.6 has it in JSON'
+complete -c cargo-lock -n '__cargo_lock_runs ""' -a json -d 'Prints a lockfile as one line of JSON'
 complete -c cargo-lock -n '__cargo_lock_runs ""' -a diff -d 'Shows what differs between the packages of two lockfiles'
 complete -c cargo-lock -n '__cargo_lock_runs ""' -a check -d 'Prints what is wrong with a lockfile'
 complete -c cargo-lock -n '__cargo_lock_runs ""' -a why -d 'Shows why a package is in a lockfile'
@@ -64,6 +65,10 @@ complete -c cargo-lock -n '__cargo_lock_runs bom' -l serial -d 'Adds a serial nu
 complete -c cargo-lock -n '__cargo_lock_runs bom' -l licenses -r -F -d 'Adds licences, by a folder of `cargo vendor` or of unpacked archives'
 complete -c cargo-lock -n '__cargo_lock_runs bom' -l compact -d 'Writes one line, without spaces'
 complete -c cargo-lock -n '__cargo_lock_runs bom' -s h -l help -d 'Print help'
+
+complete -c cargo-lock -n '__cargo_lock_runs json' -s f -l file -r -F -d 'The lockfile, - for standard input'
+complete -c cargo-lock -n '__cargo_lock_runs json' -l any-size -d 'Reads a lockfile of 256 MiB or more too'
+complete -c cargo-lock -n '__cargo_lock_runs json' -s h -l help -d 'Print help'
 
 complete -c cargo-lock -n '__cargo_lock_runs diff' -l any-size -d 'Reads a lockfile of 256 MiB or more too'
 complete -c cargo-lock -n '__cargo_lock_runs diff' -s d -l dependencies -d 'Shows other dependencies of packages too'
@@ -126,4 +131,4 @@ complete -c cargo-lock -n '__cargo_lock_runs audit' -l deny -r -a 'unmaintained 
 complete -c cargo-lock -n '__cargo_lock_runs audit' -l json -d 'Prints one line of JSON'
 complete -c cargo-lock -n '__cargo_lock_runs audit' -s h -l help -d 'Print help'
 
-complete -c cargo-lock -n '__cargo_lock_runs help' -a 'list translate tree bom diff check why duplicates graph merge verify licenses audit help' -d COMMAND
+complete -c cargo-lock -n '__cargo_lock_runs help' -a 'list translate tree bom json diff check why duplicates graph merge verify licenses audit help' -d COMMAND

@@ -9,6 +9,7 @@ _cargo-lock() {
         'translate:Writes a lockfile in another format'
         'tree:Draws the trees of packages'
         'bom:Writes a bill of materials, as CycloneDX 1.6 has it in JSON'
+        'json:Prints a lockfile as one line of JSON'
         'diff:Shows what differs between the packages of two lockfiles'
         'check:Prints what is wrong with a lockfile'
         'why:Shows why a package is in a lockfile'
@@ -69,6 +70,12 @@ _cargo-lock() {
             '--serial[Adds a serial number, equal for equal bills]' \
             '--licenses[Adds licences, by a folder of `cargo vendor` or of unpacked archives]:FOLDER:_files -/' \
             '--compact[Writes one line, without spaces]' \
+            '(- *)'{-h,--help}'[Print help]'
+        ;;
+    json)
+        _arguments -s \
+            '(-f --file)'{-f,--file}'[The lockfile, - for standard input]:PATH:_files' \
+            '--any-size[Reads a lockfile of 256 MiB or more too]' \
             '(- *)'{-h,--help}'[Print help]'
         ;;
     diff)

@@ -9,6 +9,7 @@ use Rattle.cargo_lock_ask.specs.Tally.{AreGroupsOf, GroupData}
 use Rattle.cargo_lock_parts.specs.Ascii.{newline}
 use Rattle.cargo_lock_graph.specs.Edges.{GraphData}
 use Rattle.cargo_lock_graph.specs.Targets.{AreEdgesOf}
+use Rattle.cargo_lock_document.specs.Document.{IsDocumentOf}
 use Rattle.cargo_lock_encoding.specs.Lockfiles.{LockfileData}
 use Rattle.cargo_lock_encoding.specs.Means.{TextMeans}
 use Rattle.cargo_lock_json.specs.Duplicates.{groups_json}
@@ -63,3 +64,9 @@ IsDuplicatesOf l graph bytes = (groups : List GroupData) × AreGroupsOf graph gr
 abbrev pub IsDuplicatesText : List ℕ → List ℕ → Type 0
 IsDuplicatesText text bytes = (l : LockfileData) × (graph : GraphData) × TextMeans text l
     × IsGraphOf l graph × IsDuplicatesOf l graph bytes
+
+-- ---- lockfiles
+
+-- the text is that of a lockfile, and these bytes are its document
+abbrev pub IsLockfileText : List ℕ → List ℕ → Type 0
+IsLockfileText text bytes = (l : LockfileData) × TextMeans text l × IsLine (IsDocumentOf l) bytes

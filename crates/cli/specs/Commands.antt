@@ -6,7 +6,7 @@ use Rattle.clap.specs.declared.parser.matches.ArgMatches.{ArgMatches}
 use Rattle.clap.specs.declared.parser.matches.Found.{Found}
 use Rattle.cli.specs.declared.Chosen.{Chosen}
 use Rattle.cli.specs.declared.Chosen.TheVariants.{Audit, Bom, Check, Diff, Duplicates, Graph}
-use Rattle.cli.specs.declared.Chosen.TheVariants.{Licenses, List as Listing, Merge}
+use Rattle.cli.specs.declared.Chosen.TheVariants.{Json, Licenses, List as Listing, Merge}
 use Rattle.cli.specs.declared.Chosen.TheVariants.{Translate, Tree, Verify, Why}
 use Rattle.cli_tools.specs.Audit.{PrintsAudit}
 use Rattle.cli_tools.specs.Bom.{PrintsBill}
@@ -14,6 +14,7 @@ use Rattle.cli.specs.Check.{PrintsCheck}
 use Rattle.cli_views.specs.Diff.{PrintsDifference}
 use Rattle.cli_views.specs.Duplicates.{PrintsDuplicates}
 use Rattle.cli_views.specs.Graph.{DrawsGraph}
+use Rattle.cli_tools.specs.Json.{PrintsLockfile}
 use Rattle.cli_tools.specs.Licenses.{PrintsLicenses}
 use Rattle.cli_views.specs.List.{PrintsList}
 use Rattle.cli.specs.Merge.{PrintsMerge}
@@ -30,6 +31,7 @@ name_of Check = codes "check"
 name_of Diff = codes "diff"
 name_of Duplicates = codes "duplicates"
 name_of Graph = codes "graph"
+name_of Json = codes "json"
 name_of Licenses = codes "licenses"
 name_of Listing = codes "list"
 name_of Merge = codes "merge"
@@ -48,6 +50,7 @@ Follows Check found old new failure success = PrintsCheck found old new failure 
 Follows Diff found old new failure success = PrintsDifference found old new failure success
 Follows Duplicates found old new failure success = PrintsDuplicates found old new failure success
 Follows Graph found old new failure success = DrawsGraph found old new × success
+Follows Json found old new failure success = PrintsLockfile old new × success
 Follows Licenses found old new failure success = PrintsLicenses found old new failure success
 Follows Listing found old new failure success = PrintsList found old new × success
 Follows Merge found old new failure success = PrintsMerge found old new failure success

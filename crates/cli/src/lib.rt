@@ -26,7 +26,7 @@ use clap::{ArgMatches, Command};
 pub use cli_support::Fault;
 use cli_support::message::put_message;
 use cli_support::{output, status, words};
-use cli_tools::{audit, bom, licenses, verify};
+use cli_tools::{audit, bom, json, licenses, verify};
 use cli_views::{diff, duplicates, graph, list, translate, tree, why};
 use std::alloc::{AllocError, Global};
 use std::convert::AsStr;
@@ -129,6 +129,7 @@ fn parser<'a>(alloc: Global) -> Result<Command<'a>, AllocError> {
         .subcommand(translate::command(alloc)?)?
         .subcommand(tree::command(alloc)?)?
         .subcommand(bom::command(alloc)?)?
+        .subcommand(json::command(alloc)?)?
         .subcommand(diff::command(alloc)?)?
         .subcommand(check::command(alloc)?)?
         .subcommand(why::command(alloc)?)?
@@ -149,6 +150,7 @@ enum Chosen {
     Diff,
     Duplicates,
     Graph,
+    Json,
     Licenses,
     List,
     Merge,
@@ -169,6 +171,7 @@ fn command_named(name: &str) -> Option<Chosen>
         "diff" => Some(Chosen::Diff),
         "duplicates" => Some(Chosen::Duplicates),
         "graph" => Some(Chosen::Graph),
+        "json" => Some(Chosen::Json),
         "licenses" => Some(Chosen::Licenses),
         "list" => Some(Chosen::List),
         "merge" => Some(Chosen::Merge),
@@ -245,6 +248,10 @@ fn follow<R: Files + Env + Clock + AllocGlobal, W: Write>(
         }
         Chosen::Graph => {
             graph::run(rt, options, out)?;
+            Ok(Ended::silent(ExitCode::SUCCESS))
+        }
+        Chosen::Json => {
+            json::run(rt, options, out)?;
             Ok(Ended::silent(ExitCode::SUCCESS))
         }
         Chosen::Licenses => {

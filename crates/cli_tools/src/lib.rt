@@ -1,11 +1,12 @@
-//! The commands of the program `cargo-lock` for tools: bills of materials, archives, licences and
-//! advisories.
+//! The commands of the program `cargo-lock` for tools: documents and bills of materials of
+//! lockfiles, archives, licences and advisories.
 #![tactic(auto)]
 
 pub mod audit;
 mod bill_licenses;
 pub mod bom;
 mod folders;
+pub mod json;
 pub mod licenses;
 mod texts;
 pub mod verify;
