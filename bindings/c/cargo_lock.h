@@ -20,8 +20,9 @@
  * and control characters: do not print it unchanged on a terminal. Nor a bill: it has the names
  * too, and JSON escapes no control characters above U+001F. The lines of cargo_lock_diff,
  * cargo_lock_check and cargo_lock_merge_moved, and those of conflicts and of what is refused, have
- * printable characters of ASCII alone, and show any other as `\u{..}` with its number. The documents of cargo_lock_why and cargo_lock_duplicates are as a bill is: do not print
- * them unchanged on a terminal.
+ * printable characters of ASCII alone, and show any other as `\u{..}` with its number. The documents of
+ * cargo_lock_why, cargo_lock_duplicates and cargo_lock_json are as a bill is: do not print them
+ * unchanged on a terminal.
  */
 #ifndef CARGO_LOCK_H
 #define CARGO_LOCK_H
@@ -169,6 +170,12 @@ uint32_t cargo_lock_why(const uint8_t *text, size_t text_len, const uint8_t *spe
  * prints it: the path in it is `-`. DONE, NO_LOCKFILE, NO_TEXT, NO_MEMORY, NO_ROOM or UNRESOLVED. */
 uint32_t cargo_lock_duplicates(const uint8_t *text, size_t text_len, uint8_t *out, size_t out_len,
                                size_t *length);
+
+/* The lockfile in one line of JSON with a newline at the end, as `cargo-lock json -f -` prints it: its
+ * packages, and the places of the packages on which each depends. No lockfile is refused: a dependency
+ * that no package fits is in it too. DONE, NO_LOCKFILE, NO_TEXT, NO_MEMORY or NO_ROOM. */
+uint32_t cargo_lock_json(const uint8_t *text, size_t text_len, uint8_t *out, size_t out_len,
+                         size_t *length);
 
 /* The text of the merge of two lockfiles over their common ancestor, by packages, as `cargo-lock
  * merge` prints it. An empty base is a lockfile without packages. At CONFLICTS there is no merge, and

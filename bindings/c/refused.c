@@ -130,6 +130,11 @@ static uint32_t duplicates(void)
     return cargo_lock_duplicates(text, text_len, (uint8_t *)room, ROOM, &length);
 }
 
+static uint32_t json(void)
+{
+    return cargo_lock_json(text, text_len, (uint8_t *)room, ROOM, &length);
+}
+
 /* Over no base, so that the sides are in conflict where both have the package. */
 static uint32_t merge(void)
 {
@@ -149,8 +154,8 @@ static const struct {
 } calls[] = {{"format", format},       {"fault", fault}, {"survives", survives},
              {"translate", translate}, {"edges", edges}, {"packages", packages},
              {"tree", tree},           {"diff", diff},   {"check", check},
-             {"bill", bill},           {"why", why},   {"duplicates", duplicates},
-                             {"merge", merge},         {"moved", moved}};
+             {"bill", bill},           {"why", why},     {"duplicates", duplicates},
+             {"json", json},           {"merge", merge}, {"moved", moved}};
 
 /* ---- what is asked of each */
 

@@ -79,6 +79,8 @@ static uint32_t ask(void)
                               &length);
     if (strcmp(call, "duplicates") == 0)
         return cargo_lock_duplicates(bytes, text_len, out, ROOM, &length);
+    if (strcmp(call, "json") == 0)
+        return cargo_lock_json(bytes, text_len, out, ROOM, &length);
     if (strcmp(call, "merge") == 0)
         return cargo_lock_merge(bytes, text_len, bytes, text_len, bytes, text_len, out, ROOM,
                                 &length);

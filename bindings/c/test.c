@@ -168,6 +168,11 @@ static uint32_t names(text given, uint8_t *out, size_t out_len, size_t *length)
     return cargo_lock_duplicates(given.bytes, given.length, out, out_len, length);
 }
 
+static uint32_t json(text given, uint8_t *out, size_t out_len, size_t *length)
+{
+    return cargo_lock_json(given.bytes, given.length, out, out_len, length);
+}
+
 /* The lockfile that others are compared with. */
 static text other;
 
@@ -373,6 +378,22 @@ static const char names_of_cycle[] =
           "\"version\":\"1.0.0\",\"source\":\"" CRATES_IO "\",\"checksum\":null}]},"
           "{\"package\":" WITHOUT_SOURCE("left", "2.0.0") ",\"needed_by\":[]}]}");
 
+/* The documents of the lockfile of two packages, and of one whose dependency no package fits. */
+#define LOCKFILE(format, packages)                                                                \
+    "{\"schema\":\"cargo-lock-lockfile/1\",\"format\":" format ",\"packages\":[" packages        \
+    "],\"root\":null,\"metadata\":{},\"patch\":{\"unused\":[]}}\n"
+#define APP_NEEDS(places, lost)                                                                   \
+    "{\"name\":\"app\",\"version\":\"0.1.0\",\"source\":null,\"checksum\":null,"                   \
+    "\"dependencies\":[" places "],\"unresolved\":[" lost "],\"replace\":null}"
+static const char json_of_two[] =
+    LOCKFILE("3", APP_NEEDS("1", "") ",{\"name\":\"left\",\"version\":\"1.0.0\",\"source\":{"
+             "\"text\":\"" CRATES_IO "\",\"kind\":\"registry\","
+             "\"url\":\"https://github.com/rust-lang/crates.io-index\",\"reference\":null,"
+             "\"precise\":null,\"crates_io\":true},\"checksum\":\"" CHECKSUM "\","
+             "\"dependencies\":[],\"unresolved\":[],\"replace\":null}");
+static const char json_of_lost[] = LOCKFILE(
+    "3", APP_NEEDS("", "{\"name\":\"left\",\"version\":\"1.0.0\",\"source\":null}"));
+
 static void ask_documents(text third, text none)
 {
     text cycle = text_of(cyclic, ""), without = text_of(unresolved, "");
@@ -382,6 +403,9 @@ static void ask_documents(text third, text none)
     ANSWERS(cycle, why_left, why_of_cycle);
     ANSWERS(third, names, NAMES(""));
     ANSWERS(cycle, names, names_of_cycle);
+    ANSWERS(third, json, json_of_two);
+    ANSWERS(without, json, json_of_lost);
+    REFUSES(none, json, CARGO_LOCK_NO_LOCKFILE);
     REFUSES(third, why_none, CARGO_LOCK_NOTHING_FITS);
     REFUSES(third, why_part_of_name, CARGO_LOCK_NOTHING_FITS);
     REFUSES(third, why_empty, CARGO_LOCK_NOTHING_FITS);

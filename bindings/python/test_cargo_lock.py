@@ -9,7 +9,9 @@ import unittest
 from unittest import mock
 
 import cargo_lock
-from cargo_lock import Edge, Package
+from cargo_lock import (
+    Dependency, Edge, Finding, Lockfile, Package, PackageLine, Reference, Source,
+)
 
 CRATES_IO = "registry+https://github.com/rust-lang/crates.io-index"
 CHECKSUM = "0123456789abcdef" * 4
@@ -85,6 +87,8 @@ class Texts(unittest.TestCase):
         lambda text: cargo_lock.diff(LOCKFILE, text),
         cargo_lock.check,
         cargo_lock.bill,
+        cargo_lock.json,
+        Lockfile.parse,
     )
 
     def test_each_type_of_a_text(self):
@@ -123,7 +127,7 @@ class Loading(unittest.TestCase):
         with mock.patch.dict(os.environ, CARGO_LOCK_LIBRARY=path):
             with mock.patch.object(ctypes, "CDLL", return_value=library) as opened:
                 try:
-                    cargo_lock._load()
+                    cargo_lock._calls._load()
                 finally:
                     self.opened = [it.args for it in opened.call_args_list]
 
@@ -184,9 +188,9 @@ class Packages(unittest.TestCase):
         self.assertEqual(
             cargo_lock.packages(LOCKFILE),
             [
-                Package("app", "0.1.0", None, None),
-                Package("left", "1.0.0", CRATES_IO, CHECKSUM),
-                Package("right", "2.0.0+build", RIGHT, None),
+                PackageLine("app", "0.1.0", None, None),
+                PackageLine("left", "1.0.0", CRATES_IO, CHECKSUM),
+                PackageLine("right", "2.0.0+build", RIGHT, None),
             ],
         )
         self.assertEqual(cargo_lock.packages(""), [])
@@ -198,7 +202,7 @@ class Packages(unittest.TestCase):
 
     def test_a_character_beyond_ascii(self):
         text = '[[package]]\nname = "a\\u00e9\\u2027b"\nversion = "1.0.0"\n'
-        wanted = [Package("a\u00e9\u2027b", "1.0.0", None, None)]
+        wanted = [PackageLine("a\u00e9\u2027b", "1.0.0", None, None)]
         self.assertEqual(cargo_lock.packages(text), wanted)
 
 
@@ -370,6 +374,110 @@ class Documents(unittest.TestCase):
                 call("version = 5")
 
 
+class Lockfiles(unittest.TestCase):
+    REGISTRY = Source(
+        CRATES_IO, "registry", "https://github.com/rust-lang/crates.io-index", None, None, True
+    )
+    GIT = Source(
+        RIGHT, "git", "https://example.org/right", Reference("branch", "main"), "0123abc", False
+    )
+
+    def test_packages_and_what_each_depends_on(self):
+        lockfile = Lockfile.parse(LOCKFILE)
+        self.assertEqual(lockfile.format, 3)
+        self.assertEqual(lockfile.packages, (
+            Package(0, "app", "0.1.0", None, None, (1, 2), (), None),
+            Package(1, "left", "1.0.0", self.REGISTRY, CHECKSUM, (2,), (), None),
+            Package(2, "right", "2.0.0+build", self.GIT, None, (), (), None),
+        ))
+        self.assertIsNone(lockfile.root)
+        self.assertEqual((dict(lockfile.metadata), lockfile.patch), ({}, ()))
+
+    def test_the_edges_are_those_of_the_graph(self):
+        found = Lockfile.parse(LOCKFILE)
+        listed = {(it.index, to) for it in found.packages for to in it.dependencies}
+        self.assertEqual(listed, {(it.start, it.end) for it in cargo_lock.edges(LOCKFILE)})
+
+    def test_a_dependency_that_no_package_fits(self):
+        [app] = Lockfile.parse(UNRESOLVED).packages
+        self.assertEqual(app.dependencies, ())
+        self.assertEqual(app.unresolved, (Dependency("left", "1.0.0", None),))
+
+    def test_a_root_metadata_patches_and_a_replacement(self):
+        text = (
+            f'[root]\nname = "app"\nversion = "0.1.0"\ndependencies = ["left 1.0.0 ({CRATES_IO})"]\n'
+            f'[[package]]\nname = "left"\nversion = "1.0.0"\nsource = "{CRATES_IO}"\n'
+            f'replace = "left 1.0.1"\n'
+            f'[[patch.unused]]\nname = "right"\nversion = "2.0.0+build"\nsource = "{RIGHT}"\n'
+            f'[metadata]\n"checksum left 1.0.0 ({CRATES_IO})" = "{CHECKSUM}"\n'
+        )
+        lockfile = Lockfile.parse(text)
+        replacement = Dependency("left", "1.0.1", None)
+        left = Package(0, "left", "1.0.0", self.REGISTRY, CHECKSUM, (), (), replacement)
+        root = Package(1, "app", "0.1.0", None, None, (0,), (), None)
+        self.assertEqual((lockfile.packages, lockfile.root), ((left,), root))
+        self.assertEqual(lockfile.metadata, {f"checksum left 1.0.0 ({CRATES_IO})": CHECKSUM})
+        self.assertEqual(lockfile.patch, (Dependency("right", "2.0.0+build", self.GIT),))
+        self.assertEqual(lockfile.dependents(0), (root,))
+
+    def test_packages_are_found(self):
+        lockfile = Lockfile.parse(LOCKFILE)
+        app, left, right = lockfile.packages
+        self.assertEqual(lockfile.find("left"), (left,))
+        self.assertEqual(lockfile.find("left", "1.0.0"), (left,))
+        self.assertEqual(lockfile.find("left", "1.0.1"), ())
+        self.assertEqual(lockfile.find("lef"), ())
+        self.assertEqual(lockfile.dependents(right.index), (app, left))
+        self.assertEqual(lockfile.dependents(app.index), ())
+        for index in (-1, 3):
+            with self.assertRaises(cargo_lock.PackageError):
+                lockfile.dependents(index)
+
+    def test_methods_answer_as_the_functions(self):
+        lockfile = Lockfile.parse(LOCKFILE)
+        self.assertEqual(lockfile.tree(1), cargo_lock.tree(LOCKFILE, 1))
+        self.assertEqual(lockfile.tree(2, True, True), cargo_lock.tree(LOCKFILE, 2, True, True))
+        self.assertEqual(lockfile.translate(4), cargo_lock.translate(LOCKFILE, 4))
+        self.assertEqual([lockfile.survives(it) for it in (1, 2, 3, 4)], [True] * 4)
+        self.assertEqual(lockfile.bom(), cargo_lock.bill(LOCKFILE))
+        self.assertEqual(lockfile.bom(True), cargo_lock.bill(LOCKFILE, True))
+        other = Lockfile.parse(LOCKFILE.replace("0.1.0", "0.2.0"))
+        self.assertEqual(lockfile.diff(other), ("~ app 0.1.0 -> 0.2.0",))
+        self.assertEqual(lockfile.diff(lockfile), ())
+
+    def test_findings_have_kinds(self):
+        found = Lockfile.parse(UNRESOLVED).check()
+        lines = cargo_lock.check(UNRESOLVED)
+        self.assertEqual([it.line for it in found], lines)
+        self.assertEqual([it.kind for it in found], [line.split(": ")[0] for line in lines])
+        self.assertIn("reference", [it.kind for it in found])
+        self.assertIsInstance(found[0], Finding)
+
+    def test_lockfiles_are_equal_where_all_but_their_texts_is(self):
+        one = Lockfile.parse(LOCKFILE)
+        other = Lockfile.parse("# another text\n" + LOCKFILE)
+        self.assertEqual((one, hash(one)), (other, hash(other)))
+        self.assertNotEqual(one, Lockfile.parse(one.translate(4)))
+
+    def test_a_file_is_loaded(self):
+        path = os.path.join(os.path.dirname(__file__), "..", "three_packages.lock")
+        self.assertEqual(Lockfile.load(path), Lockfile.parse(LOCKFILE))
+        with self.assertRaises(OSError):
+            Lockfile.load("no such file")
+        with self.assertRaisesRegex(cargo_lock.NotALockfile, "format version: `5`"):
+            Lockfile.parse("version = 5")
+
+    def test_eight_threads_at_once(self):
+        found = []
+        threads = [
+            threading.Thread(target=lambda: found.append(Lockfile.parse(LOCKFILE))) for _ in range(8)
+        ]
+        for thread in threads:
+            thread.start()
+        for thread in threads:
+            thread.join()
+        self.assertEqual(found, [Lockfile.parse(LOCKFILE)] * 8)
+
 
 def with_left(version, right=False):
     """A lockfile with `left` in a version, and with `right`, which needs it, if that is asked."""
@@ -432,7 +540,7 @@ class Room(unittest.TestCase):
     def test_each_length_of_the_room(self):
         given = LOCKFILE.encode()
         wanted = cargo_lock.tree(given, 0).encode()
-        library = cargo_lock._library()
+        library = cargo_lock._calls._library()
         for size in range(len(wanted) + 2):
             room = ctypes.create_string_buffer(b"?" * (size + 1), size + 1)
             length = ctypes.c_size_t(7)
@@ -443,7 +551,7 @@ class Room(unittest.TestCase):
             self.assertEqual(room.raw, left + b"?" * (size + 1 - len(left)))
 
     def test_a_refusal_changes_nothing(self):
-        library = cargo_lock._library()
+        library = cargo_lock._calls._library()
         room = ctypes.create_string_buffer(b"?" * 64, 64)
         length = ctypes.c_size_t(7)
         self.assertEqual(library.cargo_lock_packages(b"[", 1, room, 64, length), 1)

@@ -117,13 +117,15 @@ def debian_package(built):
     return f"cargo-lock_{built.version}_amd64.deb", deb(control, files, built.epoch)
 
 
+MODULE = ("__init__.py", "_calls.py", "_lockfile.py", "py.typed")
+
+
 def python_wheel(built):
     major, minor = oldest_glibc(built.shared, (2, 17)).split(".")
     tag = f"py3-none-manylinux_{major}_{minor}_x86_64"
     info = f"proved_cargo_lock-{built.version}.dist-info"
     files = [
-        text("cargo_lock/__init__.py", own("bindings/python/cargo_lock.py")),
-        text("cargo_lock/py.typed", ""),
+        *(text(f"cargo_lock/{it}", own(f"bindings/python/cargo_lock/{it}")) for it in MODULE),
         File(f"cargo_lock/{SHARED}", 0o755, read(built.shared)),
         text(f"{info}/METADATA", METADATA.replace("VERSION", built.version).encode() + own("README.md")),
         text(f"{info}/WHEEL", WHEEL.replace("TAG", tag)),
@@ -133,10 +135,13 @@ def python_wheel(built):
     return name, wheel(info, files, built.epoch)
 
 
+SOURCES = ("lib.rs", "calls.rs", "json.rs", "lockfile.rs")
+
+
 def rust_crate(built):
     manifest = own("bindings/rust/Cargo.toml").decode().replace("publish = false\n", "")
     files = [text("Cargo.toml", manifest), text("build.rs", own("bindings/rust/build.rs"))]
-    files += [text(f"src/{it}", own(f"bindings/rust/src/{it}")) for it in ("lib.rs", "calls.rs")]
+    files += [text(f"src/{it}", own(f"bindings/rust/src/{it}")) for it in SOURCES]
     files += [text(f"native/{TARGET}/libcargo_lock.a", read(built.archive)), *licences(built)]
     name = f"proved-cargo-lock-{built.version}"
     return f"{name}.crate", tar_gz(below(name, files), built.epoch)

@@ -35,6 +35,7 @@ mod library {
     hands_out!(cargo_lock_bill, u8, compact: bool);
     hands_out!(cargo_lock_why, u8, spec: *const u8, spec_len: usize, all: bool);
     hands_out!(cargo_lock_duplicates, u8);
+    hands_out!(cargo_lock_json, u8);
     hands_out!(cargo_lock_edges, Edge);
     hands_out!(cargo_lock_tree, u8, package: usize, inverted: bool, exact: bool);
     hands_out!(cargo_lock_diff, u8, new: *const u8, new_len: usize, dependencies: bool);
@@ -139,6 +140,13 @@ pub(crate) fn duplicates(text: &[u8]) -> Result<String, Error> {
     words(text, |out, length| unsafe {
         let (at, room) = (out.as_mut_ptr(), out.len());
         library::cargo_lock_duplicates(text.as_ptr(), text.len(), at, room, length)
+    })
+}
+
+pub(crate) fn json(text: &[u8]) -> Result<String, Error> {
+    // SAFETY: as above.
+    words(text, |out, length| unsafe {
+        library::cargo_lock_json(text.as_ptr(), text.len(), out.as_mut_ptr(), out.len(), length)
     })
 }
 

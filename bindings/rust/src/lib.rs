@@ -15,6 +15,10 @@ use std::error;
 use std::fmt;
 
 mod calls;
+mod json;
+pub mod lockfile;
+
+pub use lockfile::Lockfile;
 
 /// A package of a lockfile.
 #[derive(Clone, Debug, PartialEq, Eq, Hash)]
@@ -309,6 +313,12 @@ pub fn why(text: impl AsRef<[u8]>, spec: &str, all: bool) -> Result<String, Erro
 /// `Unresolved` where a dependency has no package.
 pub fn duplicates(text: impl AsRef<[u8]>) -> Result<String, Error> {
     calls::duplicates(text.as_ref())
+}
+
+/// The lockfile in one line of JSON, as `cargo-lock json -f -` prints it: its packages, with the
+/// places of the packages on which each depends. `Lockfile` reads it.
+pub fn json(text: impl AsRef<[u8]>) -> Result<String, Error> {
+    calls::json(text.as_ref())
 }
 
 /// The merge of two lockfiles over their common ancestor, by packages, as `cargo-lock merge` prints

@@ -4,6 +4,7 @@ use proved_cargo_lock::{
     bill, check, diff, duplicates, edges, fault, format, merge, packages, survives, translate, tree,
     why, DiffError, Direction, Edge, Error, MergeError, Package, Side,
 };
+use proved_cargo_lock::lockfile::{Kind, Lockfile, Reference, Source};
 use std::thread;
 
 const CRATES_IO: &str = "registry+https://github.com/rust-lang/crates.io-index";
@@ -263,4 +264,98 @@ fn threads() {
             });
         }
     });
+}
+
+fn crates_io() -> Source {
+    Source {
+        text: CRATES_IO.to_owned(),
+        kind: Kind::Registry,
+        url: "https://github.com/rust-lang/crates.io-index".to_owned(),
+        reference: None,
+        precise: None,
+        crates_io: true,
+    }
+}
+
+#[test]
+fn packages_and_what_each_depends_on() {
+    let read = Lockfile::parse(lockfile()).unwrap();
+    let [app, left, right] = &read.packages[..] else {
+        panic!("three packages");
+    };
+    assert_eq!((read.format, &read.root, read.metadata.len()), (3, &None, 0));
+    assert_eq!((app.dependencies.clone(), &app.source), (vec![1, 2], &None));
+    assert_eq!((&left.source, &left.checksum), (&Some(crates_io()), &Some(checksum())));
+    let source = right.source.clone().unwrap();
+    assert_eq!(source.text, "git+https://example.org/right?branch=main#0123abc");
+    assert_eq!((source.kind, source.crates_io), (Kind::Git, false));
+    assert_eq!(source.reference, Some(Reference::Branch("main".to_owned())));
+    assert_eq!(source.precise.as_deref(), Some("0123abc"));
+    let listed = edges(lockfile()).unwrap();
+    for (from, package) in read.packages.iter().enumerate() {
+        for to in &package.dependencies {
+            assert!(listed.contains(&Edge { from, to: *to }));
+        }
+    }
+}
+
+#[test]
+fn packages_are_found() {
+    let read = Lockfile::parse(lockfile()).unwrap();
+    let found = |name, version| read.find(name, version).collect::<Vec<_>>();
+    assert_eq!(found("left", None), [1]);
+    assert_eq!(found("left", Some("1.0.0")), [1]);
+    assert_eq!(found("left", Some("1.0.1")), []);
+    assert_eq!(found("lef", None), []);
+    assert_eq!(read.dependents(2).collect::<Vec<_>>(), [0, 1]);
+    assert_eq!(read.dependents(0).count(), 0);
+}
+
+#[test]
+fn a_dependency_that_no_package_fits() {
+    let read = Lockfile::parse(UNRESOLVED).unwrap();
+    let [app] = &read.packages[..] else {
+        panic!("one package");
+    };
+    assert_eq!(app.dependencies, []);
+    let [lost] = &app.unresolved[..] else {
+        panic!("one dependency");
+    };
+    assert_eq!((lost.name.as_str(), lost.version.as_str(), &lost.source), ("left", "1.0.0", &None));
+    let kinds: Vec<_> = read.check().unwrap().into_iter().map(|found| found.kind).collect();
+    assert!(kinds.contains(&"reference".to_owned()), "{kinds:?}");
+}
+
+#[test]
+fn methods_answer_as_the_functions() {
+    let text = lockfile();
+    let read = Lockfile::parse(&text).unwrap();
+    let (to, of) = (Direction::Dependencies, Direction::Dependents);
+    assert_eq!(read.tree(1, to, false), tree(&text, 1, to, false));
+    assert_eq!(read.tree(2, of, true), tree(&text, 2, of, true));
+    assert_eq!(read.translate(4), translate(&text, 4));
+    assert_eq!(read.survives(3), Ok(true));
+    assert_eq!(read.bom(true), bill(&text, true));
+    let other = Lockfile::parse(text.replace("0.1.0", "0.2.0")).unwrap();
+    assert_eq!(read.diff(&other, false), Ok("~ app 0.1.0 -> 0.2.0\n".to_owned()));
+    assert!(Lockfile::parse("version = 5").is_err());
+}
+
+#[test]
+fn a_root_metadata_a_patch_and_a_replacement() {
+    let text = format!(
+        "[root]\nname = \"app\"\nversion = \"0.1.0\"\ndependencies = [\"left 1.0.0 ({CRATES_IO})\"]\n\
+         [[package]]\nname = \"left\"\nversion = \"1.0.0\"\nsource = \"{CRATES_IO}\"\n\
+         replace = \"left 1.0.1\"\n[[patch.unused]]\nname = \"p\"\nversion = \"2.0.0\"\n\
+         [metadata]\n\"checksum left 1.0.0 ({CRATES_IO})\" = \"{}\"\n",
+        checksum()
+    );
+    let read = Lockfile::parse(text).unwrap();
+    assert_eq!(read.format, 1);
+    assert_eq!(read.root.map(|root| root.dependencies), Some(vec![0]));
+    assert_eq!(read.packages[0].checksum, Some(checksum()));
+    assert_eq!(read.packages[0].replace.as_ref().map(|it| it.version.as_str()), Some("1.0.1"));
+    let key = format!("checksum left 1.0.0 ({CRATES_IO})");
+    assert_eq!(read.metadata.get(&key), Some(&checksum()));
+    assert_eq!(read.patch.len(), 1);
 }

@@ -1,58 +1,10 @@
-"""Reads a Cargo.lock of any format, V1 to V4, by the proved library `cargo_lock`.
-
-    import cargo_lock
-
-    text = open("Cargo.lock", "rb").read()
-    for package in cargo_lock.packages(text):
-        print(package.name, package.version)
-
-Each call takes the text of a lockfile, as `str` or as bytes, and keeps nothing, so any number of
-threads may call at once. A thread needs a stack of 2 MiB, which Python's threads have by default on
-Linux. A call that fails raises a subclass of `Error`, or `MemoryError`, and a text of another type
-is a `TypeError`.
-
-The library is `libcargo_lock.so.1`. It is looked for at the path that the variable
-`CARGO_LOCK_LIBRARY` of the environment names, which must be absolute, or else beside this file, or
-else where the system looks for libraries. The first call loads it, and raises `ImportError` where
-the path is not absolute or the library has another interface. `bindings/build` of the repository
-makes it.
-"""
+"""The calls of the library `cargo_lock`, as its header `cargo_lock.h` has them."""
 from __future__ import annotations
 
 import ctypes
 import dataclasses
 import os
 from typing import Any, Callable, NamedTuple, Optional, Union
-
-__all__ = [
-    "ConflictError",
-    "Edge",
-    "Error",
-    "FormatError",
-    "LineError",
-    "LostError",
-    "Merge",
-    "MergeRefused",
-    "NotALockfile",
-    "Package",
-    "PackageError",
-    "RepeatedError",
-    "SpecError",
-    "UnresolvedError",
-    "bill",
-    "check",
-    "diff",
-    "duplicates",
-    "edges",
-    "fault",
-    "format_of",
-    "merge",
-    "packages",
-    "survives",
-    "translate",
-    "tree",
-    "why",
-]
 
 Text = Union[str, bytes, bytearray, memoryview]
 
@@ -117,8 +69,8 @@ class Merge:
     moved: tuple[str, ...]
 
 
-class Package(NamedTuple):
-    """A package of a lockfile. Its source and its checksum, 64 hex digits, may be missing."""
+class PackageLine(NamedTuple):
+    """A package as `packages` returns it. Its source and its checksum, 64 hex digits, may be missing."""
 
     name: str
     version: str
@@ -172,12 +124,12 @@ def translate(text: Text, number: int) -> str:
     return _answer(_bytes(text), _library().cargo_lock_translate, _format(number)).decode()
 
 
-def packages(text: Text) -> list[Package]:
+def packages(text: Text) -> list[PackageLine]:
     """The packages in the lockfile's order. Raises `NotALockfile`, and `LineError` where a name or
     a source has a control character or a separator of lines."""
     lines = _answer(_bytes(text), _library().cargo_lock_packages).decode().split("\n")[:-1]
     rows = [line.split("\t") for line in lines]
-    return [Package(row[0], row[1], row[2] or None, row[3] or None) for row in rows]
+    return [PackageLine(row[0], row[1], row[2] or None, row[3] or None) for row in rows]
 
 
 def edges(text: Text) -> list[Edge]:
@@ -265,6 +217,12 @@ def duplicates(text: Text) -> str:
     return _answer(_bytes(text), _library().cargo_lock_duplicates).decode()
 
 
+def json(text: Text) -> str:
+    """The lockfile as one line of JSON, as `cargo-lock json -f -` prints it: its packages, with the
+    places of the packages on which each depends. `Lockfile` reads it. Raises `NotALockfile`."""
+    return _answer(_bytes(text), _library().cargo_lock_json).decode()
+
+
 # ---- how they are made
 
 _INTERFACE = 1
@@ -318,6 +276,7 @@ _CALLS: dict[str, list[Any]] = {
     "bill": [ctypes.c_bool, *_ROOM],
     "why": [ctypes.c_char_p, ctypes.c_size_t, ctypes.c_bool, *_ROOM],
     "duplicates": _ROOM,
+    "json": _ROOM,
     "merge": [ctypes.c_char_p, ctypes.c_size_t, ctypes.c_char_p, ctypes.c_size_t, *_ROOM],
     "merge_moved": [ctypes.c_char_p, ctypes.c_size_t, ctypes.c_char_p, ctypes.c_size_t, *_ROOM],
 }

@@ -1,0 +1,58 @@
+//! A lockfile as a document of JSON.
+
+ghost use Rattle.std.specs.Prelude.{◌≡◌, ◌≤◌, ◌⊎◌, IfErr, IfOk, string_bytes};
+ghost use Rattle.cargo_lock_document.specs.Document.{IsDocumentOf};
+ghost use Rattle.cargo_lock_c.specs.declared.refusal.Refusal.TheVariants.{NoMemory};
+ghost use Rattle.cargo_lock_c.specs.Answers.{IsHandedOut};
+ghost use Rattle.cargo_lock_c.specs.Documents.{IsLine, IsLockfileText};
+ghost use Rattle.cargo_lock_c.specs.Statuses.{status_of};
+ghost use Rattle.cargo_lock_c.specs.Texts.{RefusesText};
+
+use crate::document::line_of;
+use crate::handing::hand_out;
+use crate::reading::read;
+use crate::refusal::Refusal;
+use cargo_lock::Lockfile;
+use cargo_lock_document::lockfile_json;
+use std::alloc::Global;
+
+/// The lockfile of a text as a document, as `cargo-lock json -f -` prints it: its packages, and the
+/// places of the packages on which each depends. A dependency that no package fits is in the
+/// document too, so no lockfile is refused.
+#[unsafe(no_mangle)]
+pub extern "C" fn cargo_lock_json(
+    alloc: Global,
+    text: &[u8],
+    out: &mut [u8],
+    length: &mut usize,
+) -> u32
+    ensures document { IsHandedOut (IsLockfileText text.now) result out.old out.new
+        length.old length.new }
+    ensures refused { RefusesText text.now result }
+    ensures status { (result ≤ 3) ⊎ (result ≡ 5) }
+{
+    match document(alloc, text) {
+        Ok(document) => hand_out(document.as_bytes(), out, length),
+        Err(refusal) => refusal.status(),
+    }
+}
+
+/// The document of the lockfile of a text's bytes.
+fn document(alloc: Global, bytes: &[u8]) -> Result<String, Refusal>
+    ensures ok { IfOk result (λ document. IsLockfileText bytes.now (string_bytes document)) }
+    ensures refused { IfErr result (λ refusal. RefusesText bytes.now (status_of refusal)) }
+    ensures kind { IfErr result (λ refusal. status_of refusal ≤ 3) }
+{
+    let lockfile = read(alloc, bytes)?;
+    let line = line_about(alloc, &lockfile)?;
+    Ok(line)
+}
+
+/// The document of a lockfile.
+fn line_about(alloc: Global, lockfile: &Lockfile) -> Result<String, Refusal>
+    ensures ok { IfOk result (λ line. IsLine (IsDocumentOf lockfile.now) (string_bytes line)) }
+    ensures err { IfErr result (λ refusal. refusal ≡ NoMemory) }
+{
+    let document = lockfile_json(alloc, lockfile)?;
+    line_of(document)
+}
