@@ -1,3 +1,5 @@
 pub mod Source
+pub mod Linked
+pub mod Package
 pub mod Leads
 pub mod Document

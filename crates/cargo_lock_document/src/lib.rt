@@ -6,6 +6,8 @@
 
 pub mod document;
 pub mod leads;
+pub mod linked;
+mod package;
 mod source;
 
 pub use crate::document::lockfile_json;

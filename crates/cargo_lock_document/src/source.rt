@@ -1,11 +1,12 @@
 //! Sources and dependencies in JSON.
 
-ghost use Rattle.std.specs.Prelude.{◌≡◌, ◌∷◌, codes, option_copied, option_map};
+ghost use Rattle.std.specs.Prelude.{◌≡◌, ◌∷◌, [], codes, option_copied, true};
 ghost use Rattle.semver.specs.Identifiers.{parts_of, parts_text};
+ghost use Rattle.url.specs.Parts.{serialize};
 ghost use Rattle.json.specs.Token.{begin_object, key, string};
 ghost use Rattle.json.specs.Tree.{json_tokens};
-ghost use Rattle.cargo_lock_parts.specs.Source.{kind_of};
 ghost use Rattle.cargo_lock_parts.specs.SourceKey.{precise_if_git};
+ghost use Rattle.cargo_lock_parts.specs.SourceText.{text_of};
 ghost use Rattle.cargo_lock_document.specs.Source.{dependency_json, dependency_or_null};
 ghost use Rattle.cargo_lock_document.specs.Source.{kind_text, reference_json, reference_or_null};
 ghost use Rattle.cargo_lock_document.specs.Source.{source_json, source_or_null};
@@ -17,10 +18,10 @@ use json_line::{Text, put_text_or_null};
 use std::alloc::{AllocError, Global};
 
 // The kind of a source.
-fn kind_text(kind: &SourceKind) -> &'static str
-    ensures { result.now ≡ kind_text (kind_of kind.now) }
+fn kind(source: &SourceId) -> &'static str
+    ensures { result.now ≡ kind_text source.now.kind }
 {
-    match kind {
+    match source.kind() {
         SourceKind::Git(_) => "git",
         SourceKind::Path => "path",
         SourceKind::Registry => "registry",
@@ -28,6 +29,13 @@ fn kind_text(kind: &SourceKind) -> &'static str
         SourceKind::LocalRegistry => "local-registry",
         SourceKind::Directory => "directory",
     }
+}
+
+// The URL of a source.
+fn url(source: &SourceId) -> &str
+    ensures { result.now ≡ serialize source.now.url }
+{
+    source.url().as_str()
 }
 
 // The commit of a git source, if it names one.
@@ -51,16 +59,24 @@ fn put_reference(out: &mut Text, kind: &str, value: &str) -> Result<(), AllocErr
     out.end_object()
 }
 
-// Writes what a source of this kind asks for, or null.
-fn put_reference_or_null(out: &mut Text, kind: &SourceKind) -> Result<(), AllocError>
-    ensures { Adds result out.old out.new (json_tokens (reference_or_null (kind_of kind.now))) }
+// Writes what a source asks for, or null.
+fn put_reference_or_null(out: &mut Text, source: &SourceId) -> Result<(), AllocError>
+    ensures { Adds result out.old out.new (json_tokens (reference_or_null source.now.kind)) }
 {
-    match kind {
+    match source.kind() {
         SourceKind::Git(GitReference::Tag(value)) => put_reference(out, "tag", value.as_str()),
         SourceKind::Git(GitReference::Branch(value)) => put_reference(out, "branch", value.as_str()),
         SourceKind::Git(GitReference::Rev(value)) => put_reference(out, "rev", value.as_str()),
         _ => out.null(),
     }
+}
+
+// Writes the member with the text of a source.
+fn put_text(out: &mut Text, alloc: Global, source: &SourceId) -> Result<(), AllocError>
+    ensures { Adds result out.old out.new
+        (key (codes "text") ∷ string (text_of true source.now) ∷ []) }
+{
+    out.displayed_member(alloc, "text", &source.as_url(true))
 }
 
 // Writes a source.
@@ -69,11 +85,11 @@ fn put_source(out: &mut Text, alloc: Global, source: &SourceId) -> Result<(), Al
     ensures { Adds result out.old out.new (json_tokens (source_json source.now)) }
 {
     out.begin_object()?;
-    out.displayed_member(alloc, "text", &source.as_url(true))?;
-    out.string_member("kind", kind_text(source.kind()))?;
-    out.string_member("url", source.url().as_str())?;
+    put_text(out, alloc, source)?;
+    out.string_member("kind", kind(source))?;
+    out.string_member("url", url(source))?;
     out.key("reference")?;
-    put_reference_or_null(out, source.kind())?;
+    put_reference_or_null(out, source)?;
     put_text_or_null(out, "precise", precise(source))?;
     out.boolean_member("crates_io", source.is_default_registry())?;
     out.end_object()

@@ -21,3 +21,4 @@ pub mod SinkWrites
 pub mod TreeEdges
 pub mod WalkLevels
 pub mod WalkSteps
+pub mod Zipped

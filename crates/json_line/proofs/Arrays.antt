@@ -26,3 +26,11 @@ items-flat_map f g [] = refl
 items-flat_map f g (x ∷ xs) =
     ap (λ l. json_tokens (f (g x)) ++ l) (items-flat_map f g xs)
     ∙ sym (append_assoc (json_tokens (f (g x))) _ _)
+
+-- the items of a list, one behind another
+pub items-flat_map_of : {A : Type 0} (f : A → Json) (xs : List A)
+    → items_tokens (items_of (map f xs)) ≡ flat_map (λ x. json_tokens (f x)) xs ++ end_array ∷ []
+items-flat_map_of f [] = refl
+items-flat_map_of f (x ∷ xs) =
+    ap (λ l. json_tokens (f x) ++ l) (items-flat_map_of f xs)
+    ∙ sym (append_assoc (json_tokens (f x)) _ _)
