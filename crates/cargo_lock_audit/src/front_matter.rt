@@ -34,7 +34,7 @@ pub(crate) fn body_of<'b, 'a>(alloc: Global, lines: &'b [&'a str]) -> Result<&'b
 {
     match lines {
         [first, rest @ ..] if *first == "```toml" => Ok(rest),
-        _ => Err(fault(alloc, "no line \"```toml\" at the beginning")),
+        _ => Err(fault(alloc, "the front matter has no first line, three backquotes and toml")),
     }
 }
 
@@ -52,7 +52,7 @@ pub(crate) fn front_length(alloc: Global, body: &[&str]) -> Result<usize>
 {
     match first_fence(body) {
         Some(number) => Ok(number),
-        None => Err(fault(alloc, "no line \"```\" after the front matter")),
+        None => Err(fault(alloc, "the front matter has no last line, three backquotes")),
     }
 }
 
@@ -117,7 +117,7 @@ fn title_in<'a>(alloc: Global, lines: &[&'a str]) -> Result<&'a str>
 fn no_title(alloc: Global) -> Error
     ensures { IsParseOrMemory result }
 {
-    fault(alloc, "no line `# TITLE` after the front matter")
+    fault(alloc, "no title after the front matter, a line that begins with #")
 }
 
 // The title of a line.
