@@ -34,7 +34,10 @@ pub(crate) fn body_of<'b, 'a>(alloc: Global, lines: &'b [&'a str]) -> Result<&'b
 {
     match lines {
         [first, rest @ ..] if *first == "```toml" => Ok(rest),
-        _ => Err(fault(alloc, "the front matter has no first line, three backquotes and toml")),
+        _ => Err(fault(
+            alloc,
+            "the front matter has no first line, three backquotes and toml",
+        )),
     }
 }
 
@@ -117,7 +120,10 @@ fn title_in<'a>(alloc: Global, lines: &[&'a str]) -> Result<&'a str>
 fn no_title(alloc: Global) -> Error
     ensures { IsParseOrMemory result }
 {
-    fault(alloc, "no title after the front matter, a line that begins with #")
+    fault(
+        alloc,
+        "no title after the front matter, a line that begins with #",
+    )
 }
 
 // The title of a line.

@@ -47,4 +47,3 @@ unresolved-pieces (lead ∷ leads) =
     lost-first (is_none lead.place) lead (filter (λ (l : LeadData). is_none l.place) leads)
     ∙ ap (λ l. lost_tokens lead ++ l) (unresolved-pieces leads)
     ∙ sym (append_assoc (lost_tokens lead) _ _)
-

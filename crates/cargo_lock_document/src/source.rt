@@ -65,7 +65,11 @@ fn put_reference_or_null(out: &mut Text, source: &SourceId) -> Result<(), AllocE
 {
     match source.kind() {
         SourceKind::Git(GitReference::Tag(value)) => put_reference(out, "tag", value.as_str()),
-        SourceKind::Git(GitReference::Branch(value)) => put_reference(out, "branch", value.as_str()),
+        SourceKind::Git(GitReference::Branch(value)) => put_reference(
+            out,
+            "branch",
+            value.as_str(),
+        ),
         SourceKind::Git(GitReference::Rev(value)) => put_reference(out, "rev", value.as_str()),
         _ => out.null(),
     }
@@ -138,7 +142,13 @@ pub(crate) fn put_dependency(
 ) -> Result<(), AllocError>
     ensures { Adds result out.old out.new (json_tokens (dependency_json dependency.now)) }
 {
-    begin_identity(out, alloc, &dependency.name, &dependency.version, &dependency.source)?;
+    begin_identity(
+        out,
+        alloc,
+        &dependency.name,
+        &dependency.version,
+        &dependency.source,
+    )?;
     out.end_object()
 }
 

@@ -11,8 +11,8 @@ ghost use Rattle.json_line.specs.Text.{Adds, IsJsonText, items_of};
 
 use crate::file::{File, begin_document};
 use crate::package::put_package;
-use json_line::Text;
 use cargo_lock_audit::{Advisory, Finding, Report, Requirement, Unmet};
+use json_line::Text;
 use std::alloc::{AllocError, Global};
 
 /// The document of what is found of packages by advisories, in one line:

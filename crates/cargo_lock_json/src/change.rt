@@ -12,10 +12,10 @@ ghost use Rattle.cargo_lock_json.specs.Difference as spec;
 ghost use Rattle.json_line.specs.Text.{Adds};
 
 use crate::package::{put_dependency, put_package_or_null};
-use json_line::Text;
 use cargo_lock_diff::{Change, Kind};
 use cargo_lock_parts::dependency::Dependency;
 use cargo_lock_parts::package::Package;
+use json_line::Text;
 use std::alloc::{AllocError, Global};
 
 // Writes a change.

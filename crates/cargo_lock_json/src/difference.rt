@@ -11,8 +11,8 @@ ghost use Rattle.json_line.specs.Text.{Adds, IsJsonText, items_of};
 
 use crate::change::put_change;
 use crate::file::{File, put_file};
-use json_line::Text;
 use cargo_lock_diff::{Change, Summary};
+use json_line::Text;
 use std::alloc::{AllocError, Global};
 
 /// The document of the changes between two lockfiles, in one line:

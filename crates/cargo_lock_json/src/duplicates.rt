@@ -13,8 +13,8 @@ ghost use Rattle.json_line.specs.Text.{Adds, IsJsonText, items_of};
 
 use crate::file::{File, begin_document};
 use crate::package::{put_package, put_packages};
-use json_line::Text;
 use cargo_lock_ask::{Row, Rows};
+use json_line::Text;
 use std::alloc::{AllocError, Global};
 
 /// The document of the names that several packages have, in one line:

@@ -7,8 +7,8 @@ ghost use Rattle.json_line.specs.Text.{Adds};
 ghost use Rattle.cargo_lock_json.specs.File.{file_json};
 ghost use Rattle.cargo_lock_references.specs.Format.{number_of};
 
-use json_line::Text;
 use cargo_lock_references::ResolveVersion;
+use json_line::Text;
 use std::alloc::AllocError;
 use std::marker::Model;
 

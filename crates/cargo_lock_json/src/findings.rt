@@ -13,9 +13,9 @@ ghost use Rattle.json_line.specs.Text.{Adds, IsJsonText, items_of};
 
 use crate::file::{File, begin_document};
 use crate::package::{put_dependency, put_package, put_package_or_null};
-use json_line::Text;
 use cargo_lock_check::Finding;
 use cargo_lock_parts::package::Package;
+use json_line::Text;
 use std::alloc::{AllocError, Global};
 
 /// The document of what is wrong with a lockfile, in one line:

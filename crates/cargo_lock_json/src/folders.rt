@@ -15,10 +15,10 @@ ghost use Rattle.json_line.specs.Text.{Adds, IsJsonText, items_of};
 
 use crate::file::File;
 use crate::package::put_package;
-use json_line::{Text, put_digest_or_null};
 use crate::verify::begin_verified;
 use cargo_lock_parts::package::{Checksum, Package};
 use cargo_lock_verify::{Folder, FolderFinding, VendorReport};
+use json_line::{Text, put_digest_or_null};
 use std::alloc::{AllocError, Global};
 use std::collections::BTreeMap;
 

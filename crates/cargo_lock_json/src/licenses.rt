@@ -11,9 +11,9 @@ ghost use Rattle.json_line.specs.Text.{Adds, IsJsonText, items_of};
 
 use crate::file::{File, begin_document};
 use crate::package::put_package;
-use json_line::{Text, put_text_or_null};
 use cargo_lock_licenses::Verdict;
 use cargo_lock_parts::package::Package;
+use json_line::{Text, put_text_or_null};
 use std::alloc::{AllocError, Global};
 
 /// The document of what is said of the licences of packages, in one line:

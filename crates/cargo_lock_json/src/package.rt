@@ -10,9 +10,9 @@ ghost use Rattle.cargo_lock_json.specs.Package.{dependency_json, package_json, p
 ghost use Rattle.cargo_lock_json.specs.Package.{packages_json};
 ghost use Rattle.json_line.specs.Value.{text_or_null};
 
-use json_line::{Text, put_digest_or_null};
 use cargo_lock_parts::dependency::Dependency;
 use cargo_lock_parts::package::{Name, Package, SourceId, Version};
+use json_line::{Text, put_digest_or_null};
 use std::alloc::{AllocError, Global};
 
 // Writes a member whose value is a package, or null.

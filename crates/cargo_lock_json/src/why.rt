@@ -11,9 +11,9 @@ ghost use Rattle.cargo_lock_json.specs.Why as spec;
 
 use crate::file::{File, begin_document};
 use crate::package::{put_package, put_packages};
-use json_line::Text;
 use cargo_lock_ask::Answer;
 use cargo_lock_parts::package::Package;
+use json_line::Text;
 use std::alloc::{AllocError, Global};
 
 /// The document of why packages are in a lockfile, in one line:
