@@ -17,6 +17,6 @@ pub AllZip-pushed : {A B : Type 0} (R : A → B → Type 0) (xs : List A) (ys zs
     → AllZip R (take (i + 1) xs) zs
 AllZip-pushed {A} {B} R xs ys zs i x y low at h r pushed =
     let more : take (i + 1) xs ≡ take i xs ++ x ∷ [] = take_more xs i x low ∙ ap (λ (a : A). take i xs ++ a ∷ []) (sym at) in
-    subst (λ (as : List A). AllZip R as zs) (sym more)
-    (subst (λ (bs : List B). AllZip R (take i xs ++ x ∷ []) bs) (sym pushed)
+    subst (λ (rs : List A). AllZip R rs zs) (sym more)
+    (subst (λ (ss : List B). AllZip R (take i xs ++ x ∷ []) ss) (sym pushed)
     (AllZip-last R (take i xs) ys x y h r))
