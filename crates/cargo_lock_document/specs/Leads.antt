@@ -1,5 +1,5 @@
 -- Where the dependencies of a package lead.
-use Rattle.std.specs.Prelude.{◌≡◌, List, Option, None, Some, MatchOption, ⊥}
+use Rattle.std.specs.Prelude.{◌≡◌, List, Option, None, Some, MatchOption}
 use Rattle.std.specs.List.{AllZip}
 use Rattle.cargo_lock_parts.specs.Identity.{Identity, PackageData}
 use Rattle.cargo_lock_graph.specs.Targets.{IsLost, IsTarget}
