@@ -5,7 +5,7 @@ use Rattle.std.proofs.lemmas.Iterator.Consumers.{YieldsList-end}
 use Rattle.std.proofs.lemmas.List.{map-id}
 use Rattle.cargo_lock_encoding.specs.Text.{escape, escape_char}
 use Rattle.cargo_lock_encoding.proofs.Escapes.{escape-chars}
-use Rattle.cargo_lock_encoding.proofs.text.put_escaped.Goals as goal
+use Rattle.cargo_lock_encoding.proofs.text.put_each_char.Goals as goal
 
 pub returns : goal.returns
 unfolding escape
