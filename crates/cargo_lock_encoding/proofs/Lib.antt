@@ -8,7 +8,6 @@ pub mod PrintedQuotes
 pub mod PrintedTables
 pub mod PutAll
 pub mod Puts
-pub mod ReadSources
 pub mod SurvivalLemmas
 pub mod TableMetadata
 pub mod TextPuts

@@ -1,6 +1,5 @@
 pub mod Lockfiles
 pub mod TableReading
-pub mod ReadSources
 pub mod Means
 pub mod TableMetadata
 pub mod Meaning

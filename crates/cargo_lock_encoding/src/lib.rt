@@ -7,7 +7,6 @@
 mod encode;
 pub mod laws;
 mod meaning;
-mod read_sources;
 mod read_table;
 mod survival;
 mod table;

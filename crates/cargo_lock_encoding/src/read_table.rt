@@ -22,7 +22,6 @@ ghost use Rattle.cargo_lock_encoding.specs.TableReading.{unused_patch_in, patch_
 ghost use Rattle.cargo_lock_encoding.specs.TableReading.{required_list, required_text, source_in};
 ghost use Rattle.cargo_lock_encoding.specs.TableReading.{text_in, texts_in};
 
-use crate::read_sources::ReadSources;
 use crate::values::EncodableLockfile;
 use cargo_lock_parts::dependency::Dependency;
 use cargo_lock_parts::error::{Error, Result};
@@ -30,6 +29,7 @@ use cargo_lock_parts::package::{Checksum, Name, SourceId, Version};
 use cargo_lock_parts::patch::Patch;
 use cargo_lock_references::metadata::{Metadata, MetadataKey, MetadataValue};
 use cargo_lock_references::package_version::version_of;
+use cargo_lock_references::read_sources::ReadSources;
 use cargo_lock_references::written_metadata::set;
 use cargo_lock_references::{EncodableDependency, EncodablePackage, EncodableSourceId};
 use std::alloc::Global;
@@ -236,10 +236,10 @@ fn checksum_at(alloc: Global, table: &Table, key: &str) -> Result<Option<Checksu
 }
 
 // The reference that a text reads as.
-fn reference_of(alloc: Global, text: &str) -> Result<EncodableDependency>
+fn reference_of(alloc: Global, sources: &mut ReadSources, text: &str) -> Result<EncodableDependency>
     ensures { ReadsUrls (λ f. f) result (reference_of text.now) }
 {
-    match EncodableDependency::from_str(alloc, text) {
+    match EncodableDependency::from_str_by(alloc, sources, text) {
         Err(Error::Version(fault)) => {
             Err(Error::parse(format!(in alloc; "version error: {fault}")))
         }
@@ -248,31 +248,46 @@ fn reference_of(alloc: Global, text: &str) -> Result<EncodableDependency>
 }
 
 // The reference that a value reads as.
-fn reference_in(alloc: Global, value: &Value, key: &str) -> Result<EncodableDependency>
+fn reference_in(
+    alloc: Global,
+    sources: &mut ReadSources,
+    value: &Value,
+    key: &str,
+) -> Result<EncodableDependency>
     ensures { ReadsUrls (λ f. f) result (reference_in (view value.now)) }
 {
     let text = text_in(alloc, value, key)?;
-    let reference = reference_of(alloc, text)?;
+    let reference = reference_of(alloc, sources, text)?;
     Ok(reference)
 }
 
 // The reference at a key, if the key is present.
-fn reference_at_key(alloc: Global, table: &Table, key: &str) -> Result<Option<EncodableDependency>>
+fn reference_at_key(
+    alloc: Global,
+    sources: &mut ReadSources,
+    table: &Table,
+    key: &str,
+) -> Result<Option<EncodableDependency>>
     ensures { ReadsUrls
         (λ o. o) result (optional_by reference_in (get_member key.now (table_view table.now))) }
 {
     match value_at(table, key) {
-        Some(value) => Ok(Some(reference_in(alloc, value, key)?)),
+        Some(value) => Ok(Some(reference_in(alloc, sources, value, key)?)),
         None => Ok(None),
     }
 }
 
-fn references_of(alloc: Global, list: &[Value], key: &str) -> Result<Vec<EncodableDependency>>
+fn references_of(
+    alloc: Global,
+    sources: &mut ReadSources,
+    list: &[Value],
+    key: &str,
+) -> Result<Vec<EncodableDependency>>
     ensures { ReadsUrls (λ v. v.items) result (read_all reference_in (items_view list.now)) }
 {
     let mut references = Vec::with_capacity(alloc, list.len())?;
     for value in list {
-        let reference = reference_in(alloc, value, key)?;
+        let reference = reference_in(alloc, sources, value, key)?;
         references.push(reference)?;
     }
     Ok(references)
@@ -312,8 +327,8 @@ fn package_at_key(
     } = identity_at(alloc, sources, table)?;
     let checksum = checksum_at(alloc, table, "checksum")?;
     let dependencies = optional_list(alloc, table, "dependencies")?;
-    let dependencies = references_of(alloc, dependencies, "dependencies")?;
-    let replace = reference_at_key(alloc, table, "replace")?;
+    let dependencies = references_of(alloc, sources, dependencies, "dependencies")?;
+    let replace = reference_at_key(alloc, sources, table, "replace")?;
     Ok(EncodablePackage {
         name,
         version,

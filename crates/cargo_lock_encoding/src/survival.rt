@@ -1,8 +1,6 @@
 //! Whether a lockfile survives a format.
 
-ghost use Rattle.std.specs.Prelude.{◌≡◌, ◌↔◌, Any, Err, IfErr, IfOk, IfSome, IsOkUnless, IsTrue, Ok};
-ghost use Rattle.std.specs.Prelude.{MatchBool, false, map, option_map, true};
-ghost use Rattle.std.specs.Fn.{FnReturnsAt};
+ghost use Rattle.std.specs.Prelude.{◌≡◌, ◌↔◌, IfOk, IfSome, IsOkUnless, IsTrue, map, option_map};
 ghost use Rattle.std.specs.List.{AllByRecursion};
 ghost use Rattle.cargo_lock_parts.specs.declared.error.Error.TheVariants.{Memory};
 ghost use Rattle.cargo_lock_parts.specs.Checksum.{digest_of};
@@ -30,6 +28,7 @@ use cargo_lock_references::read_back::{
     reference_survives, reference_survives_alone, source_survives, version_survives,
 };
 use cargo_lock_references::read_keys::ReadMetadata;
+use cargo_lock_references::read_sources::ReadSources;
 use cargo_lock_references::written_metadata::metadata_of;
 use cargo_lock_references::{EncodableDependencyRef, ResolveVersion};
 use std::alloc::Global;
@@ -74,16 +73,27 @@ fn patches_survive(alloc: Global, format: ResolveVersion, patches: &[Dependency]
         ↔ AllByRecursion (PatchSurvives format) patches.now) }
     ensures err { IsOkUnless result Memory }
 {
-    all_survive(patches, |patch| patch_survives(alloc, format, patch))
+    let mut sources = ReadSources::new(alloc);
+    for patch in patches {
+        if !patch_survives(alloc, &mut sources, format, patch)? {
+            return Ok(false);
+        }
+    }
+    Ok(true)
 }
 
-fn patch_survives(alloc: Global, format: ResolveVersion, patch: &Dependency) -> Result<bool>
+fn patch_survives(
+    alloc: Global,
+    sources: &mut ReadSources,
+    format: ResolveVersion,
+    patch: &Dependency,
+) -> Result<bool>
     ensures ok { IfOk result (λ b. IsTrue b ↔ PatchSurvives format patch.now) }
     ensures err { IsOkUnless result Memory }
 {
     Ok(
         version_survives(alloc, &patch.version)?
-            && source_survives(alloc, is_escaped(format), &patch.source)?,
+            && source_survives(alloc, sources, is_escaped(format), &patch.source)?,
     )
 }
 
@@ -92,20 +102,28 @@ fn root_survives(alloc: Global, format: ResolveVersion, root: &Option<Package>) 
     ensures err { IsOkUnless result Memory }
 {
     match root {
-        Some(package) => one_root_survives(alloc, format, package),
+        Some(package) => {
+            let mut sources = ReadSources::new(alloc);
+            one_root_survives(alloc, &mut sources, format, package)
+        }
         None => Ok(true),
     }
 }
 
 // The references of the root are in full.
-fn one_root_survives(alloc: Global, format: ResolveVersion, package: &Package) -> Result<bool>
+fn one_root_survives(
+    alloc: Global,
+    sources: &mut ReadSources,
+    format: ResolveVersion,
+    package: &Package,
+) -> Result<bool>
     ensures ok { IfOk result (λ b. IsTrue b ↔ RootSurvives format «package».now) }
     ensures err { IsOkUnless result Memory }
 {
     digest_reads_back(&package.checksum);
     Ok(
-        own_parts_survive(alloc, format, package)?
-            && full_references_survive(alloc, format, package.dependencies.as_slice())?,
+        own_parts_survive(alloc, sources, format, package)?
+            && full_references_survive(alloc, sources, format, package.dependencies.as_slice())?,
     )
 }
 
@@ -124,8 +142,24 @@ fn packages_survive(
     let packages = Indexed::of(alloc, list)?;
     // Its keys are looked up only in V1. From V2 on only the keys of no package are left.
     let read = ReadMetadata::of(alloc, metadata)?;
+    each_survives(alloc, format, &read, &packages, list)
+}
+
+fn each_survives<'a>(
+    alloc: Global,
+    format: ResolveVersion,
+    metadata: &ReadMetadata<'_>,
+    packages: &Indexed<'a, Package>,
+    list: &'a [Package],
+) -> Result<bool>
+    ensures ok { IfOk result (λ b. IsTrue b
+        ↔ AllByRecursion
+        (ListedSurvives format (map identity_of packages.now) metadata.now) list.now) }
+    ensures err { IsOkUnless result Memory }
+{
+    let mut sources = ReadSources::new(alloc);
     for package in list {
-        if !package_survives(alloc, format, &read, &packages, package)? {
+        if !package_survives(alloc, &mut sources, format, metadata, packages, package)? {
             return Ok(false);
         }
     }
@@ -135,6 +169,7 @@ fn packages_survive(
 // Whether the parts of a package, its references and its checksum survive.
 fn package_survives<'a>(
     alloc: Global,
+    sources: &mut ReadSources,
     format: ResolveVersion,
     metadata: &ReadMetadata<'_>,
     packages: &Indexed<'a, Package>,
@@ -144,28 +179,35 @@ fn package_survives<'a>(
         ↔ ListedSurvives format (map identity_of packages.now) metadata.now «package».now) }
     ensures err { IsOkUnless result Memory }
 {
+    let dependencies = package.dependencies.as_slice();
     Ok(
-        own_parts_survive(alloc, format, package)?
-            && references_survive(alloc, format, packages, package.dependencies.as_slice())?
+        own_parts_survive(alloc, sources, format, package)?
+            && references_survive(alloc, sources, format, packages, dependencies)?
             && checksum_survives(format, metadata, package)?,
     )
 }
 
 // Whether the version, the source and the replacement survive.
-fn own_parts_survive(alloc: Global, format: ResolveVersion, package: &Package) -> Result<bool>
+fn own_parts_survive(
+    alloc: Global,
+    sources: &mut ReadSources,
+    format: ResolveVersion,
+    package: &Package,
+) -> Result<bool>
     ensures ok { IfOk result (λ b. IsTrue b ↔ OwnPartsSurvive format «package».now) }
     ensures err { IsOkUnless result Memory }
 {
     Ok(
         version_survives(alloc, &package.version)?
-            && source_survives(alloc, is_escaped(format), &package.source)?
-            && replace_survives(alloc, format, &package.replace)?,
+            && source_survives(alloc, sources, is_escaped(format), &package.source)?
+            && replace_survives(alloc, sources, format, &package.replace)?,
     )
 }
 
 // A replacement is in full, and resolved without a list.
 fn replace_survives(
     alloc: Global,
+    sources: &mut ReadSources,
     format: ResolveVersion,
     replace: &Option<Dependency>,
 ) -> Result<bool>
@@ -174,7 +216,7 @@ fn replace_survives(
     ensures err { IsOkUnless result Memory }
 {
     match replace {
-        Some(dependency) => full_reference_survives(alloc, format, dependency),
+        Some(dependency) => full_reference_survives(alloc, sources, format, dependency),
         None => Ok(true),
     }
 }
@@ -239,6 +281,7 @@ fn bytes_read_back(digest: &[u8; 32])
 
 fn references_survive<'a>(
     alloc: Global,
+    sources: &mut ReadSources,
     format: ResolveVersion,
     list: &Indexed<'a, Package>,
     dependencies: &'a [Dependency],
@@ -249,7 +292,7 @@ fn references_survive<'a>(
     ensures err { IsOkUnless result Memory }
 {
     for dependency in dependencies {
-        if !written_reference_survives(alloc, format, list, dependency)? {
+        if !written_reference_survives(alloc, sources, format, list, dependency)? {
             return Ok(false);
         }
     }
@@ -259,6 +302,7 @@ fn references_survive<'a>(
 // Whether a reference, as it is written, survives where it is resolved: in V1 without a list.
 fn written_reference_survives<'a>(
     alloc: Global,
+    sources: &mut ReadSources,
     format: ResolveVersion,
     list: &Indexed<'a, Package>,
     dependency: &'a Dependency,
@@ -269,9 +313,9 @@ fn written_reference_survives<'a>(
 {
     let reference = written_reference(format, list, dependency);
     let survives = match format {
-        ResolveVersion::V1 => reference_survives_alone(alloc, &reference, dependency)?,
+        ResolveVersion::V1 => reference_survives_alone(alloc, sources, &reference, dependency)?,
         ResolveVersion::V2 | ResolveVersion::V3 | ResolveVersion::V4 => {
-            reference_survives(alloc, &reference, list, dependency)?
+            reference_survives(alloc, sources, &reference, list, dependency)?
         }
     };
     Ok(survives)
@@ -279,6 +323,7 @@ fn written_reference_survives<'a>(
 
 fn full_references_survive(
     alloc: Global,
+    sources: &mut ReadSources,
     format: ResolveVersion,
     dependencies: &[Dependency],
 ) -> Result<bool>
@@ -286,14 +331,17 @@ fn full_references_survive(
         ↔ AllByRecursion (FullReferenceSurvives format) dependencies.now) }
     ensures err { IsOkUnless result Memory }
 {
-    all_survive(
-        dependencies,
-        |dependency| full_reference_survives(alloc, format, dependency),
-    )
+    for dependency in dependencies {
+        if !full_reference_survives(alloc, sources, format, dependency)? {
+            return Ok(false);
+        }
+    }
+    Ok(true)
 }
 
 fn full_reference_survives(
     alloc: Global,
+    sources: &mut ReadSources,
     format: ResolveVersion,
     dependency: &Dependency,
 ) -> Result<bool>
@@ -302,26 +350,6 @@ fn full_reference_survives(
     ensures err { IsOkUnless result Memory }
 {
     let reference = EncodableDependencyRef::from_dependency(dependency, format);
-    let survives = reference_survives_alone(alloc, &reference, dependency)?;
+    let survives = reference_survives_alone(alloc, sources, &reference, dependency)?;
     Ok(survives)
-}
-
-// ---- lists
-
-// Whether each of some items survives, by `survives`. Stops at the first that does not, and at the
-// first error.
-fn all_survive<'a, T, F: Fn(&'a T) -> Result<bool>>(items: &'a [T], survives: F) -> Result<bool>
-    requires { F.IsAlwaysCallable survives }
-    ensures ok { IfOk result (λ b. MatchBool b
-        (AllByRecursion (λ item. FnReturnsAt F.Fn survives item (Ok true)) items.now)
-        (Any (λ item. FnReturnsAt F.Fn survives item (Ok false)) items.now)) }
-    ensures err { IfErr result
-        (λ e. Any (λ item. FnReturnsAt F.Fn survives item (Err e)) items.now) }
-{
-    for item in items {
-        if !survives(item)? {
-            return Ok(false);
-        }
-    }
-    Ok(true)
 }

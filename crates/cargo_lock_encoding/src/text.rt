@@ -19,7 +19,8 @@ ghost use Rattle.cargo_lock_references.specs.Metadata.{metadata_of};
 ghost use Rattle.cargo_lock_encoding.specs.Text.{Adds, AddsLines, checksum_line, comment_lines};
 ghost use Rattle.cargo_lock_encoding.specs.Text.{dependency_line, encoded_lines, package_lines};
 ghost use Rattle.cargo_lock_encoding.specs.Text.{escape_char, escape, field, hex_digit};
-ghost use Rattle.cargo_lock_encoding.specs.Text.{is_bare_byte, is_bare_key, join_lines, key_text};
+ghost use Rattle.cargo_lock_encoding.specs.Text.{is_bare_byte, is_bare_key, is_plain_byte};
+ghost use Rattle.cargo_lock_encoding.specs.Text.{join_lines, key_text};
 ghost use Rattle.cargo_lock_encoding.specs.Text.{lines_of, metadata_lines, pair_line, patch_lines};
 ghost use Rattle.cargo_lock_encoding.specs.Text.{quote, reference_lines, replace_line};
 ghost use Rattle.cargo_lock_encoding.specs.Text.{short_escape, source_line, version_lines};
@@ -92,15 +93,39 @@ fn put_char(out: &mut String, c: char) -> Put
     out.push(c)
 }
 
-// The characters of a string.
+// Whether a byte of a string stands for itself, and needs no escape.
+fn is_plain_byte(byte: u8) -> bool
+    ensures { result ≡ is_plain_byte byte }
+{
+    byte >= b' ' && byte != b'"' && byte != b'\\' && byte != 0x7f
+}
+
+// Whether no character of a text needs an escape.
+fn is_plain(text: &str) -> bool
+    ensures { result ≡ list_all is_plain_byte text.now }
+{
+    text.as_bytes().iter().all(|byte| is_plain_byte(*byte))
+}
+
+// The characters of a string, one by one.
 #[tactic(auto, unfolding(crate::specs::Text::escape))]
-fn put_escaped(out: &mut String, text: &str) -> Put
+fn put_each_char(out: &mut String, text: &str) -> Put
     ensures { Adds result out.old out.new (escape text.now) }
 {
     for c in text.chars() {
         put_char(out, c)?;
     }
     Ok(())
+}
+
+// The characters of a string. A text that needs no escape is put whole.
+fn put_escaped(out: &mut String, text: &str) -> Put
+    ensures { Adds result out.old out.new (escape text.now) }
+{
+    if is_plain(text) {
+        return out.push_str(text);
+    }
+    put_each_char(out, text)
 }
 
 // A string in quotation marks.

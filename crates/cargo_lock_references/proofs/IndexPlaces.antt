@@ -1,11 +1,10 @@
 -- What is found by the places of names, and of names and versions.
-use Rattle.std.proofs.Common.{◌≡◌, inl, inr, ◌<◌, ◌+◌, ℕ, List, [], ◌∷◌, ◌++◌, Option, Some, None, Bool, true, false, ◌&&◌, ◌==◌, cond, if◌then◌else◌, map, take, get_or, length, slice_get, count_by, option_map, refl, ap, ◌∙◌, sym, arith, append_assoc}
+use Rattle.std.proofs.Common.{◌≡◌, inl, inr, ◌+◌, ℕ, List, [], ◌∷◌, ◌++◌, Option, Some, None, Bool, true, false, ◌&&◌, ◌==◌, cond, if◌then◌else◌, map, length, slice_get, count_by, refl, ap, ◌∙◌, sym, arith, append_assoc}
 use Rattle.std.proofs.lemmas.Grind.{common_steps}
 use Rattle.std.specs.List.{find}
 use Rattle.std.specs.Cmp.{eq_by_cmp_equiv}
 use Rattle.std.specs.BTreeMap.{is_at}
 use Rattle.std.proofs.lemmas.Bool.{cases_Bool, false≢true, and_parts}
-use Rattle.std.proofs.lemmas.List.{take_more}
 use Rattle.std.proofs.lemmas.List.Sums.{sum_by-cons}
 use Rattle.semver.specs.Parse.{Parts}
 use Rattle.cargo_lock_parts.specs.Identity.{Identity}
@@ -14,7 +13,7 @@ use Rattle.cargo_lock_index.specs.Near.{first_from, first_place, is_only}
 use Rattle.cargo_lock_references.specs.WrittenReference.{has_name_and_version, has_name, exactly_one}
 use Rattle.cargo_lock_references.specs.Index.{is_of, item_at, names_of, versions_of}
 use Rattle.cargo_lock_references.specs.Reference.{Reference}
-use Rattle.cargo_lock_references.specs.ResolutionSearch.{fits, has_version, same_parts, same_text}
+use Rattle.cargo_lock_references.specs.ResolutionSearch.{fits, same_parts, same_text}
 use Rattle.cargo_lock_references.proofs.ResolvesToLemmas.{same_parts-refl, same_parts-yes, same_text-refl, same_text-yes}
 
 -- ---- keys that tie

@@ -5,6 +5,7 @@ pub mod LeastKeys
 pub mod IndexPlaces
 pub mod ReadBackLemmas
 pub mod ReadKeys
+pub mod ReadSources
 pub mod ResolvesToLemmas
 pub mod Texts
 pub mod Walk

@@ -12,6 +12,7 @@ pub mod Finds
 pub mod Metadata
 pub mod LeastKey
 pub mod ReadKeys
+pub mod ReadSources
 pub mod WrittenMetadata
 pub mod Format
 pub mod ReadBack

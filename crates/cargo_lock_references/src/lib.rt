@@ -14,6 +14,7 @@ pub mod metadata;
 pub mod package_version;
 pub mod read_back;
 pub mod read_keys;
+pub mod read_sources;
 pub mod reference;
 pub mod resolution;
 mod serialization;

@@ -19,6 +19,7 @@ ghost use Rattle.cargo_lock_references.specs.Reference.{ReadsReference, ReadsRef
 ghost use Rattle.cargo_lock_references.specs.Metadata.{checksum_key, is_checksum, key_or_refusal};
 
 use crate::EncodableDependency;
+use crate::read_sources::ReadSources;
 use cargo_lock_parts::dependency::Dependency;
 use cargo_lock_parts::error::{Error, Result};
 use cargo_lock_parts::package::Checksum;
@@ -104,8 +105,21 @@ impl MetadataKey {
     /// ```
     /// let named = key.checksum_dependency(alloc)?;
     /// ```
-    #[tactic(auto, unfolding(crate::specs::Metadata::key_or_refusal))]
     pub fn checksum_dependency(&self, alloc: Global) -> Result<Dependency>
+        ensures read { ReadsReference result (key_or_refusal self.now) }
+        ensures short { IsShort self.now → ReadsReferenceExactly result (key_or_refusal self.now) }
+    {
+        let mut sources = ReadSources::new(alloc);
+        self.dependency_by(alloc, &mut sources)
+    }
+
+    // The same. The text of a source that was read before by `sources` is not read again.
+    #[tactic(auto, unfolding(crate::specs::Metadata::key_or_refusal))]
+    pub(crate) fn dependency_by(
+        &self,
+        alloc: Global,
+        sources: &mut ReadSources,
+    ) -> Result<Dependency>
         ensures read { ReadsReference result (key_or_refusal self.now) }
         ensures short { IsShort self.now → ReadsReferenceExactly result (key_or_refusal self.now) }
     {
@@ -116,7 +130,7 @@ impl MetadataKey {
             )?;
             return Err(Error::Parse(message));
         };
-        let reference = EncodableDependency::from_str(alloc, text)?;
+        let reference = EncodableDependency::from_str_by(alloc, sources, text)?;
         let dependency = reference.own_identity(alloc)?;
         Ok(dependency)
     }

@@ -1,6 +1,7 @@
 //! Which versions, sources and references read back from their texts.
 //!
-//! Each test writes the text and reads it. A URL of 4 GB or more is reported as out of memory.
+//! Each test writes the text and reads it, and takes the sources that were read before, so that no
+//! text of a source is read twice. A URL of 4 GB or more is reported as out of memory.
 
 ghost use Rattle.std.specs.Prelude.{◌≡◌, ◌↔◌, [], IfOk, IfSome, IsTrue, Some, map, option_map};
 ghost use Rattle.semver.specs.Identifiers.{parts_of, parts_text};
@@ -18,6 +19,7 @@ use crate::EncodableDependencyRef;
 use crate::borrowed::written_source;
 use crate::index::Indexed;
 use crate::package_version::{same_version, version_of};
+use crate::read_sources::ReadSources;
 use crate::resolution::dependency_among;
 use cargo_lock_parts::dependency::Dependency;
 use cargo_lock_parts::error::Error;
@@ -81,31 +83,41 @@ fn version_word_survives(alloc: Global, version: &Version) -> Result<bool, Alloc
 /// memory; a URL of 4 GB or more fails in this way too.
 pub fn source_survives(
     alloc: Global,
+    sources: &mut ReadSources,
     escaped: bool,
     source: &Option<SourceId>,
 ) -> Result<bool, AllocError>
     ensures { IfOk result (λ b. IsTrue b ↔ IfSome source.now (SourceSurvives escaped)) }
 {
     match written_source(escaped, source) {
-        Some(written) => text_reads_back(alloc, &written),
+        Some(written) => text_reads_back(alloc, sources, &written),
         None => Ok(source.is_none()),
     }
 }
 
 // Whether the text of the source, by its mark, reads as an equal source.
-fn text_reads_back(alloc: Global, source: &SourceIdAsUrl<'_>) -> Result<bool, AllocError>
+fn text_reads_back(
+    alloc: Global,
+    sources: &mut ReadSources,
+    source: &SourceIdAsUrl<'_>,
+) -> Result<bool, AllocError>
     ensures { IfOk result (λ b. IsTrue b ↔ SourceTextReadsBack source.now) }
 {
     let text = source.to_string(alloc)?;
-    source_reads_as(alloc, text.as_str(), source.source())
+    source_reads_as(alloc, sources, text.as_str(), source.source())
 }
 
 // Whether the text reads as a source that is equal to this one.
-fn source_reads_as(alloc: Global, text: &str, source: &SourceId) -> Result<bool, AllocError>
+fn source_reads_as(
+    alloc: Global,
+    sources: &mut ReadSources,
+    text: &str,
+    source: &SourceId,
+) -> Result<bool, AllocError>
     ensures { IfOk result
         (λ b. IsTrue b ↔ (option_map key_of (source_of text.now) ≡ Some (key_of source.now))) }
 {
-    match SourceId::from_url(alloc, text) {
+    match sources.read(alloc, text) {
         Ok(read) => Ok(read == *source),
         Err(Error::Memory) => Err(AllocError),
         Err(fault) if fault.is_too_long() => Err(AllocError),
@@ -114,12 +126,16 @@ fn source_reads_as(alloc: Global, text: &str, source: &SourceId) -> Result<bool,
 }
 
 // Whether the source is written without white space and reads back.
-fn source_word_survives(alloc: Global, source: &SourceIdAsUrl<'_>) -> Result<bool, AllocError>
+fn source_word_survives(
+    alloc: Global,
+    sources: &mut ReadSources,
+    source: &SourceIdAsUrl<'_>,
+) -> Result<bool, AllocError>
     ensures { IfOk result
         (λ b. IsTrue b ↔ (IsDense (marked_text source.now) × SourceTextReadsBack source.now)) }
 {
     let text = source.to_string(alloc)?;
-    Ok(is_dense(text.as_str()) && source_reads_as(alloc, text.as_str(), source.source())?)
+    Ok(is_dense(text.as_str()) && source_reads_as(alloc, sources, text.as_str(), source.source())?)
 }
 
 // ---- references
@@ -128,6 +144,7 @@ fn source_word_survives(alloc: Global, source: &SourceIdAsUrl<'_>) -> Result<boo
 /// out of memory; a URL of 4 GB or more fails in this way too.
 pub fn reference_survives<'a>(
     alloc: Global,
+    sources: &mut ReadSources,
     reference: &EncodableDependencyRef<'a>,
     list: &Indexed<'a, Package>,
     dependency: &Dependency,
@@ -136,26 +153,31 @@ pub fn reference_survives<'a>(
         (λ b. IsTrue b
         ↔ ReferenceSurvives reference.now (map identity_of list.now) dependency.now) }
 {
-    Ok(words_read_back(alloc, reference)? && resolves_to_equal(reference, list, dependency)?)
+    Ok(
+        words_read_back(alloc, sources, reference)?
+            && resolves_to_equal(reference, list, dependency)?,
+    )
 }
 
 /// Whether a reference reads back, and resolves to this dependency without any packages. Fails when
 /// out of memory; a URL of 4 GB or more fails in this way too.
 pub fn reference_survives_alone(
     alloc: Global,
+    sources: &mut ReadSources,
     reference: &EncodableDependencyRef<'_>,
     dependency: &Dependency,
 ) -> Result<bool, AllocError>
     ensures { IfOk result (λ b. IsTrue b ↔ ReferenceSurvives reference.now [] dependency.now) }
 {
     let empty = Indexed::empty(alloc);
-    let survives = reference_survives(alloc, reference, &empty, dependency)?;
+    let survives = reference_survives(alloc, sources, reference, &empty, dependency)?;
     Ok(survives)
 }
 
 // Whether each part of the reference is written without white space and reads back.
 fn words_read_back(
     alloc: Global,
+    sources: &mut ReadSources,
     reference: &EncodableDependencyRef<'_>,
 ) -> Result<bool, AllocError>
     ensures { IfOk result (λ b. IsTrue b ↔ WordsReadBack reference.now) }
@@ -163,7 +185,7 @@ fn words_read_back(
     Ok(
         is_word(reference.name.as_str())
             && written_version_survives(alloc, reference.version)?
-            && written_source_survives(alloc, &reference.source)?,
+            && written_source_survives(alloc, sources, &reference.source)?,
     )
 }
 
@@ -180,13 +202,14 @@ fn written_version_survives(alloc: Global, version: Option<&Version>) -> Result<
 
 fn written_source_survives(
     alloc: Global,
+    sources: &mut ReadSources,
     source: &Option<SourceIdAsUrl<'_>>,
 ) -> Result<bool, AllocError>
     ensures { IfOk result (λ b. IsTrue b
         ↔ IfSome source.now (λ m. IsDense (marked_text m) × SourceTextReadsBack m)) }
 {
     match source {
-        Some(source) => source_word_survives(alloc, source),
+        Some(source) => source_word_survives(alloc, sources, source),
         None => Ok(true),
     }
 }

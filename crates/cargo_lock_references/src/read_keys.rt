@@ -17,6 +17,7 @@ ghost use Rattle.cargo_lock_references.specs.Records.{texts_of};
 use crate::EncodableDependency;
 use crate::checksums::keys_ascend;
 use crate::metadata::{Metadata, MetadataKey, MetadataValue};
+use crate::read_sources::ReadSources;
 use cargo_lock_parts::dependency::Dependency;
 use cargo_lock_parts::error::Error;
 use cargo_lock_parts::package::{Checksum, Name, Version};
@@ -81,9 +82,20 @@ impl<'a> ReadMetadata<'a> {
 fn read_checksums(alloc: Global, metadata: &Metadata) -> Result<Checksums, AllocError>
     ensures { IfOk result (λ checksums. AreFirstValues metadata.now.entries checksums) }
 {
+    let mut sources = ReadSources::new(alloc);
+    read_each(alloc, &mut sources, metadata)
+}
+
+fn read_each(
+    alloc: Global,
+    sources: &mut ReadSources,
+    metadata: &Metadata,
+) -> Result<Checksums, AllocError>
+    ensures { IfOk result (λ checksums. AreFirstValues metadata.now.entries checksums) }
+{
     let mut checksums = BTreeMap::new(alloc);
     for (key, value) in metadata {
-        read_pair(alloc, &mut checksums, key, value)?;
+        read_pair(alloc, sources, &mut checksums, key, value)?;
     }
     Ok(checksums)
 }
@@ -91,6 +103,7 @@ fn read_checksums(alloc: Global, metadata: &Metadata) -> Result<Checksums, Alloc
 // Reads a key. Its value is used if no earlier key reads as the same name and version.
 fn read_pair(
     alloc: Global,
+    sources: &mut ReadSources,
     checksums: &mut Checksums,
     key: &MetadataKey,
     value: &MetadataValue,
@@ -99,7 +112,7 @@ fn read_pair(
         ≡ option_or (value_at checksums.old name version)
         (if reads_as name version key.now then Some (digest_in value.now) else None)) }
 {
-    match read_key(alloc, key)? {
+    match read_key(alloc, sources, key)? {
         Some(dependency) => put_first(alloc, checksums, dependency, value),
         None => Ok(()),
     }
@@ -107,10 +120,14 @@ fn read_pair(
 
 // What a key reads as. Out of memory is an error, and so is a URL of 4 GB or more, which is
 // reported as out of memory.
-fn read_key(alloc: Global, key: &MetadataKey) -> Result<Option<Dependency>, AllocError>
+fn read_key(
+    alloc: Global,
+    sources: &mut ReadSources,
+    key: &MetadataKey,
+) -> Result<Option<Dependency>, AllocError>
     ensures { IfOk result (λ d. d ≡ key_identity key.now) }
 {
-    match key.checksum_dependency(alloc) {
+    match key.dependency_by(alloc, sources) {
         Ok(dependency) => Ok(Some(dependency)),
         Err(Error::Memory) => Err(AllocError),
         Err(fault) if fault.is_too_long() => Err(AllocError),

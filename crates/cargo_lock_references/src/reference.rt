@@ -20,6 +20,7 @@ ghost use Rattle.cargo_lock_references.specs.WrittenReference.{in_full, exactly_
 use crate::borrowed::EncodableDependencyRef;
 use crate::index::Indexed;
 use crate::package_version::same_version;
+use crate::read_sources::ReadSources;
 use crate::resolution::{dependency_by_first, own_dependency, require};
 use crate::version::ResolveVersion;
 use crate::{EncodablePackage, EncodableSourceId};
@@ -80,11 +81,26 @@ impl EncodableDependency {
         ensures short { IsShort text.now → ReadsReferenceExactly
             result (reference_or_refusal text.now) }
     {
-        EncodableDependency::read(alloc, text)
+        let mut sources = ReadSources::new(alloc);
+        EncodableDependency::from_str_by(alloc, &mut sources, text)
+    }
+
+    /// Reads a text as `from_str` does, with the same errors. The text of a source that was read
+    /// before by `sources` is not read again.
+    pub fn from_str_by(
+        alloc: Global,
+        sources: &mut ReadSources,
+        text: &str,
+    ) -> Result<EncodableDependency>
+        ensures read { ReadsReference result (reference_or_refusal text.now) }
+        ensures short { IsShort text.now → ReadsReferenceExactly
+            result (reference_or_refusal text.now) }
+    {
+        EncodableDependency::read(alloc, sources, text)
     }
 
     // Reads a reference part by part.
-    fn read(alloc: Global, text: &str) -> Result<EncodableDependency>
+    fn read(alloc: Global, sources: &mut ReadSources, text: &str) -> Result<EncodableDependency>
         ensures read { ReadsReference result (reference_of_words (text_words text.now)) }
         ensures short { IsShort text.now
             → ReadsReferenceExactly result (reference_of_words (text_words text.now)) }
@@ -109,7 +125,7 @@ impl EncodableDependency {
                 source: None,
             });
         };
-        let source = bracketed_source(alloc, source)?;
+        let source = bracketed_source(alloc, sources, source)?;
         if let Some(_) = next_word(&mut words) {
             return Err(Error::parse(format!(in alloc; "malformed dependency: {text}")));
         }
@@ -144,7 +160,7 @@ fn next_word<'a>(rest: &mut SplitWhitespace<'a>) -> Option<&'a str>
 
 // The source in round brackets.
 #[tactic(auto, unfolding(crate::specs::Reference::bracketed_source))]
-fn bracketed_source(alloc: Global, word: &str) -> Result<SourceId>
+fn bracketed_source(alloc: Global, sources: &mut ReadSources, word: &str) -> Result<SourceId>
     ensures read { ReadsUrls (λ source. source) result (spec.bracketed_source word.now) }
     ensures short { IsShort word.now → Reads
         (λ source. source) result (spec.bracketed_source word.now) }
@@ -154,7 +170,7 @@ fn bracketed_source(alloc: Global, word: &str) -> Result<SourceId>
     if length < 2 || bytes[0] != b'(' || bytes[length - 1] != b')' {
         return Err(Error::parse(format!(in alloc; "malformed source in dependency: {word}")));
     }
-    let source = SourceId::from_url(alloc, &word[1..length - 1])?;
+    let source = sources.read(alloc, &word[1..length - 1])?;
     Ok(source)
 }
 

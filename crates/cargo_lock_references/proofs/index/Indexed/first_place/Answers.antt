@@ -1,4 +1,4 @@
-use Rattle.std.proofs.Common.{◌≡◌, List, Some, None, option_map, subst}
+use Rattle.std.proofs.Common.{List, option_map, subst}
 use Rattle.semver.specs.Identifiers.{parts_of}
 use Rattle.cargo_lock_index.specs.Near.{IsIndexOf}
 use Rattle.cargo_lock_references.specs.Index.{names_of, versions_of}

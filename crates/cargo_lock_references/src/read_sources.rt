@@ -1,9 +1,9 @@
 //! The sources of texts, with each text read once.
 
 ghost use Rattle.std.specs.Prelude.{◌≡◌, Some, IfOk, IfSome, string_bytes};
-ghost use Rattle.cargo_lock_parts.specs.Error.{ReadsUrls};
+ghost use Rattle.cargo_lock_parts.specs.Error.{IsShort, Reads, ReadsUrls};
 ghost use Rattle.cargo_lock_parts.specs.SourceReading.{source_of};
-ghost use Rattle.cargo_lock_encoding.specs.ReadSources.{AreRead};
+ghost use Rattle.cargo_lock_references.specs.ReadSources.{AreRead};
 
 use cargo_lock_parts::error::Result;
 use cargo_lock_parts::package::SourceId;
@@ -16,12 +16,12 @@ type Sources = BTreeMap<String, SourceId>;
 
 /// The sources of the texts that were read so far. If a text is read again, its source is shared.
 #[derive(Drop)]
-pub(crate) struct ReadSources {
+pub struct ReadSources {
     sources: Sources,
 }
 
 impl Model for ReadSources {
-    ghost use Rattle.cargo_lock_encoding.specs.ReadSources.{AreRead};
+    ghost use Rattle.cargo_lock_references.specs.ReadSources.{AreRead};
 
     ghost Value = { Unit {0} };
 
@@ -32,15 +32,17 @@ impl Model for ReadSources {
 
 impl ReadSources {
     /// No text was read so far.
-    pub(crate) fn new(alloc: Global) -> ReadSources {
+    pub fn new(alloc: Global) -> ReadSources {
         ReadSources {
             sources: no_sources(alloc),
         }
     }
 
-    /// The source that a text reads as, from `SourceId::from_url` if the text is new.
-    pub(crate) fn read(&mut self, alloc: Global, text: &str) -> Result<SourceId>
-        ensures { ReadsUrls (λ source. source) result (source_of text.now) }
+    /// The source that a text reads as, from `SourceId::from_url` if the text is new, with the same
+    /// errors.
+    pub fn read(&mut self, alloc: Global, text: &str) -> Result<SourceId>
+        ensures read { ReadsUrls (λ source. source) result (source_of text.now) }
+        ensures short { IsShort text.now → Reads (λ source. source) result (source_of text.now) }
     {
         if let Some(source) = known_source(&self.sources, text)? {
             return Ok(source);

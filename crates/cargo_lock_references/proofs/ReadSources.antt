@@ -5,7 +5,7 @@ use Rattle.std.specs.Map.{update}
 use Rattle.std.proofs.lemmas.Slice.Eq.{bytes_eq-Decides}
 use Rattle.cargo_lock_parts.specs.Source.{Source}
 use Rattle.cargo_lock_parts.specs.SourceReading.{source_of}
-use Rattle.cargo_lock_encoding.specs.ReadSources.{AreRead}
+use Rattle.cargo_lock_references.specs.ReadSources.{AreRead}
 
 pub put-read : {Y : Type 0} (m n : BTreeMap (String Y) Source) (bs : List ℕ) (s : Source) → source_of bs ≡ Some s
     → ((cs : List ℕ) → get_by_text n cs ≡ update bytes_eq (get_by_text m) bs (Some s) cs)

@@ -2,7 +2,7 @@ use Rattle.std.proofs.Common.{◌≡◌, ℕ, List}
 use Rattle.std.specs.Option.{option_or}
 use Rattle.semver.specs.Parse.{Parts}
 use Rattle.cargo_lock_references.specs.ReadKeys.{first_value, value_at}
-use Rattle.cargo_lock_references.proofs.read_keys.read_checksums.Given as goal
+use Rattle.cargo_lock_references.proofs.read_keys.read_each.Given as goal
 
 -- the first value among all keys is that among those read, or else that among the rest
 abbrev pub invariant-loop-key : goal.invariant-loop-key

@@ -1,5 +1,5 @@
 use Rattle.std.proofs.Common.{ap, sym, ◌∙◌, Some}
-use Rattle.cargo_lock_encoding.proofs.read_sources.known_source.Goals as goal
+use Rattle.cargo_lock_references.proofs.read_sources.known_source.Goals as goal
 
 pub returns-in_ok-clone-in-Some : goal.returns-in_ok-clone-in-Some
 returns-in_ok-clone-in-Some c = λ read.

@@ -1,8 +1,8 @@
 use Rattle.std.proofs.Common.{ap, sym, ◌∙◌, Some, string_bytes}
 use Rattle.std.proofs.lemmas.Map.Text.{btree_map_updates_text}
 use Rattle.cargo_lock_parts.specs.SourceReading.{source_of}
-use Rattle.cargo_lock_encoding.proofs.ReadSources.{put-read}
-use Rattle.cargo_lock_encoding.proofs.read_sources.put.Goals as goal
+use Rattle.cargo_lock_references.proofs.ReadSources.{put-read}
+use Rattle.cargo_lock_references.proofs.read_sources.put.Goals as goal
 
 pub returns : goal.returns
 returns c = λ is before.

@@ -1,6 +1,6 @@
 use Rattle.std.proofs.Common.{inl, rules}
 use Rattle.cargo_lock_references.specs.Metadata.{key_or_refusal}
-use Rattle.cargo_lock_references.proofs.metadata.MetadataKey.checksum_dependency.Goals as goal
+use Rattle.cargo_lock_references.proofs.metadata.MetadataKey.dependency_by.Goals as goal
 
 pub returns-in_default-clause-read : goal.returns-in_default-clause-read
 unfolding key_or_refusal
