@@ -1,5 +1,5 @@
 -- How the package of a dependency is found among the packages of its name and version.
-use Rattle.std.proofs.Common.{◌≡◌, ◌<◌, ◌≤◌, ◌+◌, ◌⊎◌, inl, inr, ℕ, suc, Bool, true, false, cond, nat_lt, List, [], ◌∷◌, ◌++◌, length, get_or, slice_get, unwrap_or, Option, Some, None, IsSome, IfSome, ◌↔◌, option_map, MatchOption, refl, sym, ap, subst, ◌∙◌, arith, length-append}
+use Rattle.std.proofs.Common.{◌≡◌, ◌<◌, ◌≤◌, ◌+◌, ◌⊎◌, inl, inr, ℕ, Bool, true, false, cond, nat_lt, List, [], ◌∷◌, ◌++◌, length, get_or, slice_get, Option, Some, None, ◌↔◌, option_map, refl, sym, ap, subst, ◌∙◌, arith, length-append}
 use Rattle.std.specs.Bool.{Decides}
 use Rattle.std.specs.BTreeMap.{BTreeMap, get, is_at}
 use Rattle.std.proofs.lemmas.Bool.{cases_Bool, false≢true, ltb-true, ltb-false}
@@ -10,9 +10,8 @@ use Rattle.cargo_lock_parts.specs.Rank.{has_rank_1, has_rank_2, has_rank_3, has_
 use Rattle.cargo_lock_parts.specs.Source.{Source}
 use Rattle.cargo_lock_parts.specs.SourceKey.{key_of}
 use Rattle.cargo_lock_parts.proofs.RankLemmas.{rank_one_is_equal_keys}
-use Rattle.cargo_lock_graph.specs.declared.targets.Best.{Best}
-use Rattle.cargo_lock_graph.specs.Candidates.{AreLastPlaces, AreVersions, BestFrom, better_candidate, identity_as_key}
-use Rattle.cargo_lock_graph.specs.Targets.{Matches, MatchesAt, HasIdentity, HoldsOf, IsLastBelow, IsLastWith, IsLost, IsTarget, rank_between}
+use Rattle.cargo_lock_graph.specs.Candidates.{AreLastPlaces, AreVersions, identity_as_key}
+use Rattle.cargo_lock_graph.specs.Targets.{Matches, HasIdentity, HoldsOf, IsLastBelow, IsLastWith, IsTarget, rank_between}
 use Rattle.cargo_lock_graph.proofs.MadeChains.{in_or_last}
 
 -- ---- the last place
@@ -59,7 +58,7 @@ last-alike P Q bound (Some place) to from h = (h.0, to place h.1, λ k after low
 partial_of_key : IdentityKey → PartialKey
 partial_of_key k = record { name = k.name; version = Some k.version; source = k.source }
 
-same-identity : (a b : Identity) → Decides (is_at (partial_identity_cmp (identity_as_key a)) (identity_as_key b)) (identity_key a ≡ identity_key b)
+pub same-identity : (a b : Identity) → Decides (is_at (partial_identity_cmp (identity_as_key a)) (identity_as_key b)) (identity_key a ≡ identity_key b)
 unfolding partial_of_key
 same-identity a b =
     let tells = is_same_partial_identity-Decides (identity_as_key a) (identity_as_key b) in (
@@ -82,27 +81,6 @@ places-step packages place places grown p low is grows so_far i =
     subst (λ o. IsLastBelow (HoldsOf (HasIdentity i) packages) (place + 1) o) (sym (grows key))
     (last-step (HasIdentity i) packages place p (is_at (partial_identity_cmp (identity_as_key (identity_of p))) key) (get partial_identity_cmp places key)
     (slice_get_read packages (length packages) place p refl low is) (same-identity (identity_of p) i) (so_far i))
-
-some-place : (P : ℕ → Type 0) (count k : ℕ) (o : Option ℕ) → k < count → P k → IsLastBelow P count o → IsSome o
-some-place P count k None low here none = absurd (none k low here)
-some-place P count k (Some place) low here last = refl
-
--- each package of the list has a last place
-pub place-there : (packages : List PackageData) (places : BTreeMap PartialIdentity ℕ) (k : ℕ) (p : PackageData)
-    → AreLastPlaces packages (length packages) places → k < length packages → p ≡ get_or packages k p
-    → IsSome (get partial_identity_cmp places (identity_as_key (identity_of p)))
-place-there packages places k p are low is =
-    let i = identity_of p in
-    some-place (HoldsOf (HasIdentity i) packages) (length packages) k (get partial_identity_cmp places (identity_as_key i)) low
-    (p, slice_get_read packages (length packages) k p refl low is, refl) (are i)
-
-pub place-told : (packages : List PackageData) (places : BTreeMap PartialIdentity ℕ) (k : ℕ) (p : PackageData) (place : ℕ)
-    → AreLastPlaces packages (length packages) places → k < length packages → p ≡ get_or packages k p
-    → get partial_identity_cmp places (identity_as_key (identity_of p)) ≡ Some place
-    → IfSome (slice_get packages k) (λ q. IsLastWith packages (identity_of q) (Some place))
-place-told packages places k p place are low is found =
-    subst (λ o. IfSome o (λ q. IsLastWith packages (identity_of q) (Some place))) (sym (slice_get_read packages (length packages) k p refl low is))
-    (subst (λ o. IsLastWith packages (identity_of p) o) found (are (identity_of p)))
 
 -- ---- the last package with the identity is the target
 
@@ -196,120 +174,6 @@ versions-more packages bound last grown earlier pushed p o here is more grows so
       ];
     }
 
--- ---- the best so far
-
-pub fits-named : (packages : List PackageData) (d : Identity) (k rank : ℕ) → MatchesAt packages d k rank → HoldsOf (HasNameAndVersion d) packages k
-fits-named packages d k rank h = (h.0, h.1, h.2.named)
-
-fits-same : (packages : List PackageData) (d : Identity) (k rank other : ℕ) → MatchesAt packages d k rank → MatchesAt packages d k other → rank ≡ other
-fits-same packages d k rank other f g =
-    let same : f.0 ≡ g.0 = same_Some f.0 g.0 (sym f.1 ∙ g.1) in
-    let e = subst (λ (p : PackageData). Matches d rank p) same f.2 in
-    same_Some rank other (sym e.ranked ∙ g.2.ranked)
-
-pub fits-of : (packages : List PackageData) (d : Identity) (k rank : ℕ) (p : PackageData) → slice_get packages k ≡ Some p → MatchesAt packages d k rank → Matches d rank p
-fits-of packages d k rank p at f = subst (λ (q : PackageData). Matches d rank q) (same_Some f.0 p (sym f.1 ∙ at)) f.2
-
-pub best-start : (packages : List PackageData) (d : Identity) → BestFrom packages d (length packages) None
-best-start packages d k rank past f = let low = slice_get_within packages k f.0 f.1 in absurd (omega (arith, past, low))
-
-pub here-or-past : (packages : List PackageData) (d : Identity) (bound place : ℕ) → IsLastBelow (HoldsOf (HasNameAndVersion d) packages) bound (Some place)
-    → (k rank : ℕ) → place ≤ k → MatchesAt packages d k rank → (k ≡ place) ⊎ (bound ≤ k)
-here-or-past packages d bound place is k rank from f = elim (cases_Bool (nat_lt place k)) [
-  | inl after ↦ elim (cases_Bool (nat_lt k bound)) [
-    | inl below ↦ absurd (is.2 k (ltb-true place k after) (ltb-true k bound below) (fits-named packages d k rank f))
-    | inr past ↦ inr (ltb-false k bound past)
-  ]
-  | inr miss ↦ let h = ltb-false place k miss in inl (omega (arith, h, from))
-]
-
-best-kept : (packages : List PackageData) (d : Identity) (bound place : ℕ) (p : PackageData) (best : Option Best)
-    → IsLastBelow (HoldsOf (HasNameAndVersion d) packages) bound (Some place) → slice_get packages place ≡ Some p
-    → ((rank : ℕ) → ¬ Matches d rank p) → BestFrom packages d bound best → BestFrom packages d place best
-best-kept packages d bound place p None is at miss so_far = λ k rank from f. elim (here-or-past packages d bound place is k rank from f) [
-  | inl same ↦ miss rank (fits-of packages d k rank p (ap (slice_get packages) same ∙ at) f)
-  | inr past ↦ so_far k rank past f
-]
-best-kept packages d bound place p (Some best) is at miss so_far =
-    let low = is.0 in
-    let from = so_far.0 in (
-      omega (arith, low, from),
-      so_far.1,
-      λ k rank from f. elim (here-or-past packages d bound place is k rank from f) [
-        | inl same ↦ absurd (miss rank (fits-of packages d k rank p (ap (slice_get packages) same ∙ at) f))
-        | inr past ↦ so_far.2 k rank past f
-      ],
-    )
-
-best-new : (packages : List PackageData) (d : Identity) (bound place rank : ℕ)
-    → IsLastBelow (HoldsOf (HasNameAndVersion d) packages) bound (Some place) → MatchesAt packages d place rank
-    → ((k other : ℕ) → bound ≤ k → MatchesAt packages d k other → rank < other)
-    → BestFrom packages d place (Some record { rank = rank; place = place })
-best-new packages d bound place rank is fits less = (
-  omega arith,
-  fits,
-  λ k other from f. elim (here-or-past packages d bound place is k other from f) [
-    | inl same ↦
-        let equal = fits-same packages d place rank other fits (subst (λ n. MatchesAt packages d n other) same f) in
-        (omega (arith, equal), λ after. absurd (omega (arith, after, same)))
-    | inr past ↦ let h = less k other past f in (omega (arith, h), λ _. h)
-  ],
-)
-
-best-better_candidate : (packages : List PackageData) (d : Identity) (bound place rank : ℕ) (best : Best)
-    → IsLastBelow (HoldsOf (HasNameAndVersion d) packages) bound (Some place) → MatchesAt packages d place rank
-    → BestFrom packages d bound (Some best) → (b : Bool) → nat_lt rank best.rank ≡ b
-    → BestFrom packages d place (cond b (Some record { rank = rank; place = place }) (Some best))
-best-better_candidate packages d bound place rank best is fits so_far true less =
-    let low = ltb-true rank best.rank less in
-    best-new packages d bound place rank is fits (λ k other past f. let h = (so_far.2 k other past f).0 in omega (arith, h, low))
-best-better_candidate packages d bound place rank best is fits so_far false more =
-    let high = ltb-false rank best.rank more in
-    let low = is.0 in
-    let from = so_far.0 in (
-      omega (arith, low, from),
-      so_far.1,
-      λ k other from2 f. elim (here-or-past packages d bound place is k other from2 f) [
-        | inl same ↦
-            let equal = fits-same packages d place rank other fits (subst (λ n. MatchesAt packages d n other) same f) in
-            (omega (arith, equal, high), λ after. absurd (omega (arith, after, same, low, from)))
-        | inr past ↦ so_far.2 k other past f
-      ],
-    )
-
-pub best-step : (packages : List PackageData) (d : Identity) (bound place : ℕ) (p : PackageData) (best : Option Best) (rank : Option ℕ)
-    → IsLastBelow (HoldsOf (HasNameAndVersion d) packages) bound (Some place) → slice_get packages place ≡ Some p
-    → MatchOption rank ((r : ℕ) → ¬ Matches d r p) (λ r. Matches d r p)
-    → BestFrom packages d bound best → BestFrom packages d place (better_candidate best rank place)
-best-step packages d bound place p best None is at miss so_far = best-kept packages d bound place p best is at miss so_far
-best-step packages d bound place p None (Some rank) is at fits so_far =
-    best-new packages d bound place rank is (p, at, fits) (λ k other past f. absurd (so_far k other past f))
-best-step packages d bound place p (Some best) (Some rank) is at fits so_far =
-    best-better_candidate packages d bound place rank best is (p, at, fits) so_far (nat_lt rank best.rank) refl
-
-pub best-end : (packages : List PackageData) (d : Identity) (bound : ℕ) (best : Option Best)
-    → IsLastBelow (HoldsOf (HasNameAndVersion d) packages) bound None → BestFrom packages d bound best
-    → MatchOption (option_map (λ (b : Best). b.place) best) (IsLost packages d) (λ place. IsTarget packages d place)
-best-end packages d bound None none so_far = λ place rank f. elim (cases_Bool (nat_lt place bound)) [
-  | inl below ↦ none place (ltb-true place bound below) (fits-named packages d place rank f)
-  | inr past ↦ so_far place rank (ltb-false place bound past) f
-]
-best-end packages d bound (Some best) none so_far =
-    let from = so_far.0 in
-    let past : (k rank : ℕ) → MatchesAt packages d k rank → bound ≤ k = λ k rank f. elim (cases_Bool (nat_lt k bound)) [
-      | inl below ↦ absurd (none k (ltb-true k bound below) (fits-named packages d k rank f))
-      | inr past ↦ ltb-false k bound past
-    ] in
-    record {
-      rank = best.rank;
-      fits = so_far.1;
-      least = λ k other f. (so_far.2 k other (past k other f) f).0;
-      last = λ k f. elim (cases_Bool (nat_lt best.place k)) [
-        | inl after ↦ let h = (so_far.2 k best.rank (past k best.rank f) f).1 (ltb-true best.place k after) in absurd (omega (arith, h))
-        | inr miss ↦ ltb-false best.place k miss
-      ];
-    }
-
 -- ---- the steps of the search
 
 pub find-start : (packages : List PackageData) (d : Identity) (last : BTreeMap PartialIdentity ℕ) (earlier : List (Option ℕ)) (next : Option ℕ)
@@ -325,34 +189,6 @@ find-next packages d p place next named =
     last-alike (HoldsOf (HasNameAndVersion (identity_of p)) packages) (HoldsOf (HasNameAndVersion d) packages) place next
     (λ k h. (h.0, h.1, record { name = named.name ∙ h.2.name; version = named.version ∙ h.2.version }))
     (λ k h. (h.0, h.1, record { name = sym named.name ∙ h.2.name; version = sym named.version ∙ h.2.version }))
-
--- a package with the dependency's name and version fits with the rank of the sources
-ranked-one : (d : Identity) (p : PackageData) (rank : Option ℕ) → HasNameAndVersion d p → rank ≡ rank_between d.source p.source
-    → MatchOption rank ((r : ℕ) → ¬ Matches d r p) (λ r. Matches d r p)
-ranked-one d p None named is = λ r f. let e = f.ranked in cc
-ranked-one d p (Some rank) named is = record { named = named; ranked = sym is }
-
-pub find-better_candidate : (packages : List PackageData) (d : Identity) (bound place : ℕ) (p : PackageData) (best grown : Option Best) (rank : Option ℕ)
-    → IsLastBelow (HoldsOf (HasNameAndVersion d) packages) bound (Some place) → slice_get packages place ≡ Some p → HasNameAndVersion d p
-    → BestFrom packages d bound best → rank ≡ rank_between d.source p.source → grown ≡ better_candidate best rank place
-    → BestFrom packages d place grown
-find-better_candidate packages d bound place p best grown rank is at named so_far ranks grows =
-    subst (λ b. BestFrom packages d place b) (sym grows) (best-step packages d bound place p best rank is at (ranked-one d p rank named ranks) so_far)
-
-pub find-smaller : (P : ℕ → Type 0) (place : ℕ) (next after : Option ℕ) → next ≡ Some place → IsLastBelow P place after
-    → unwrap_or (option_map suc after) 0 < unwrap_or (option_map suc next) 0
-find-smaller P place next None is h = subst (λ o. 0 < unwrap_or (option_map suc o) 0) (sym is) (omega arith)
-find-smaller P place next (Some k) is h =
-    let low = h.0 in
-    subst (λ o. suc k < unwrap_or (option_map suc o) 0) (sym is) (omega (arith, low))
-
-pub find-end : (packages : List PackageData) (d : Identity) (bound : ℕ) (best : Option Best) (next found : Option ℕ)
-    → next ≡ None → IsLastBelow (HoldsOf (HasNameAndVersion d) packages) bound next → BestFrom packages d bound best
-    → found ≡ option_map (λ (b : Best). b.place) best
-    → MatchOption found (IsLost packages d) (λ place. IsTarget packages d place)
-find-end packages d bound best next found none is so_far found_is =
-    subst (λ o. MatchOption o (IsLost packages d) (λ place. IsTarget packages d place)) (sym found_is)
-    (best-end packages d bound best (subst (λ o. IsLastBelow (HoldsOf (HasNameAndVersion d) packages) bound o) none is) so_far)
 
 pub versions-step : (packages : List PackageData) (place : ℕ) (last grown : BTreeMap PartialIdentity ℕ) (earlier pushed : List (Option ℕ)) (p : PackageData) (o : Option ℕ)
     → place < length packages → p ≡ get_or packages place p → o ≡ get partial_identity_cmp last (name_and_version p.name p.version) → pushed ≡ earlier ++ o ∷ []

@@ -1,3 +1,4 @@
+pub mod BestAlike
 pub mod BestCandidates
 pub mod DrawingCount
 pub mod DrawingFirst

@@ -7,5 +7,5 @@ pub mod building;
 pub mod drawing;
 pub mod graph;
 pub mod laws;
-mod targets;
+pub mod targets;
 pub mod versions;

@@ -90,9 +90,18 @@ impl<'a> Versions<'a> {
             → result ≡ rank_between dependency.now.source p.source }
         ensures beyond { slice_get self.now place ≡ None → result ≡ None }
     {
-        let package = self.packages.get(place)?;
-        rank_between(&dependency.source, &package.source)
+        rank_at(self.packages, dependency, place)
     }
+}
+
+// How well the source of the package at a place matches that of a dependency.
+pub(crate) fn rank_at(packages: &[Package], dependency: &Dependency, place: usize) -> Option<u8>
+    ensures here { (p : PackageData) → slice_get packages.now place ≡ Some p
+        → result ≡ rank_between dependency.now.source p.source }
+    ensures beyond { slice_get packages.now place ≡ None → result ≡ None }
+{
+    let package = packages.get(place)?;
+    rank_between(&dependency.source, &package.source)
 }
 
 // The rank of two sources that may be absent.

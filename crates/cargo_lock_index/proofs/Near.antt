@@ -1,12 +1,11 @@
 -- What is found in entries in order, and that it is what the list has.
-use Rattle.std.proofs.Common.{◌≡◌, inl, inr, ◌<◌, ◌≤◌, ◌+◌, ℕ, List, [], ◌∷◌, ◌++◌, suc, zero, Option, Some, None, Bool, true, false, ◌&&◌, not, cond, if◌then◌else◌, map, take, drop, get_or, length, slice_get, nat_eq, refl, ap, ◌∙◌, sym, subst, arith}
-use Rattle.std.proofs.lemmas.Grind.{common_steps}
+use Rattle.std.proofs.Common.{◌≡◌, inl, inr, ◌<◌, ◌≤◌, ◌+◌, ℕ, List, [], ◌∷◌, ◌++◌, suc, zero, Option, Some, None, Bool, true, false, ◌&&◌, not, cond, if◌then◌else◌, map, take, drop, get_or, length, slice_get, nat_eq, refl, ap, ◌∙◌, sym, arith}
 use Rattle.std.specs.List.{AllWithin, All, filter, count_by}
 use Rattle.std.specs.List.Sorted.{IsSorted, IsStable, ties}
 use Rattle.std.specs.Ordering.{is_lt, is_eq, nat_cmp, ordering_reverse, ordering_then}
 use Rattle.std.specs.declared.cmp.Ordering.{Ordering}
 use Rattle.std.specs.declared.cmp.Ordering.TheVariants.{Less, Equal, Greater}
-use Rattle.std.specs.Cmp.{IsTotalOrder, IsStrictWeakOrder, Equal-is, nat_cmp_total, tied_itself}
+use Rattle.std.specs.Cmp.{IsStrictWeakOrder, Equal-is, nat_cmp_total, tied_itself}
 use Rattle.std.proofs.lemmas.Bool.{cases_Bool, false≢true}
 use Rattle.std.proofs.lemmas.Bool.Decides.{nat_tests}
 use Rattle.std.specs.Option.{option_or}
@@ -15,7 +14,7 @@ use Rattle.std.proofs.lemmas.List.{take_more, get_or-drop, get_or-take, take-app
 use Rattle.std.proofs.lemmas.List.Elements.{All-head, All-tail, at_read, filter-append}
 use Rattle.std.proofs.lemmas.List.Sorted.{ranks_by, sorted_far}
 use Rattle.std.proofs.lemmas.List.Sums.{length-filter, sum_by-cons}
-use Rattle.cargo_lock_parts.specs.PartialIdentity.{PartialIdentity, PartialKey, partial_identity_cmp, partial_key, is_same_partial_identity, is_same_partial_identity-Decides}
+use Rattle.cargo_lock_parts.specs.PartialIdentity.{PartialIdentity, PartialKey, partial_identity_cmp, is_same_partial_identity, is_same_partial_identity-Decides}
 use Rattle.cargo_lock_index.specs.Near.{Placed, IsIndexOf, beginning, near_cmp, near_total, entry_cmp, entry_total, is_same_entry, has_key, placed_from, first_from, first_place, last_from, last_place, is_only, passes, place_before, place_if}
 
 -- ---- the order
@@ -75,13 +74,13 @@ below-other q e h = less-other (entry_cmp q e) (entry_cmp e q) (entry_total.anti
 
 -- ---- what is filtered
 
-filter-none : (p : Placed → Bool) (es : List Placed) → All (λ e. p e ≡ false) es → filter p es ≡ []
+pub filter-none : (p : Placed → Bool) (es : List Placed) → All (λ e. p e ≡ false) es → filter p es ≡ []
 filter-none p [] h = refl
 filter-none p (e ∷ es) h =
     ap (λ b. cond b (e ∷ filter p es) (filter p es)) (All-head (λ x. p x ≡ false) e es h)
     ∙ filter-none p es (All-tail (λ x. p x ≡ false) e es h)
 
-filter-drop : (p : Placed → Bool) (es : List Placed) (n : ℕ) → n ≤ length es → AllWithin (λ e. p e ≡ false) es 0 n
+pub filter-drop : (p : Placed → Bool) (es : List Placed) (n : ℕ) → n ≤ length es → AllWithin (λ e. p e ≡ false) es 0 n
     → filter p es ≡ filter p (drop n es)
 filter-drop p es n h none =
     let front : All (λ (e : Placed). p e ≡ false) (take n es) = λ k d below.
@@ -173,7 +172,7 @@ then-other Less r h = refl
 then-other Equal r h = h
 then-other Greater r h = refl
 
-near-same : (k j : PartialIdentity) → is_eq (near_cmp k j) ≡ is_same_partial_identity k j
+pub near-same : (k j : PartialIdentity) → is_eq (near_cmp k j) ≡ is_same_partial_identity k j
 near-same k j = elim (cases_Bool (is_same_partial_identity k j)) [
   | inl t ↦
       let names : k.name ≡ j.name = ap (λ (p : PartialKey). p.name) ((is_same_partial_identity-Decides k j).0 t) in
@@ -329,7 +328,7 @@ last-tail p i [] = refl
 last-tail p i (k ∷ keys) =
     one-tail (p k) (record { key = k; place = i }) (filter (λ e. p e.key) (placed_from (i + 1) keys)) (last_from p (i + 1) keys) (last-tail p (i + 1) keys)
 
-filter-take : (p : Placed → Bool) (es : List Placed) (n : ℕ) → n ≤ length es → AllWithin (λ e. p e ≡ false) es n (length es)
+pub filter-take : (p : Placed → Bool) (es : List Placed) (n : ℕ) → n ≤ length es → AllWithin (λ e. p e ≡ false) es n (length es)
     → filter p es ≡ filter p (take n es)
 filter-take p es n h none =
     let back : All (λ (e : Placed). p e ≡ false) (drop n es) = λ k d below. rw get_or-drop (none (n + k) d (omega arith) (omega (arith, below, length-drop n es))) in

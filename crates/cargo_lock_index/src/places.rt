@@ -2,14 +2,16 @@
 //! reads the name of a key only where the first eight bytes are equal.
 
 ghost use Rattle.std.specs.Prelude.{◌≡◌, ◌++◌, ◌∷◌, [], ◌+◌, ◌<◌, ◌≤◌, ℕ, List, IfOk, OnOk, length};
-ghost use Rattle.std.specs.Prelude.{slice_index, slice_get, true, false, ◌&&◌, not};
-ghost use Rattle.std.specs.Ordering.{is_lt};
-ghost use Rattle.std.specs.List.{AllWithin};
+ghost use Rattle.std.specs.Prelude.{slice_index, slice_get, true, false, ◌&&◌, not, option_map};
+ghost use Rattle.std.specs.Ordering.{is_eq, is_lt};
+ghost use Rattle.std.specs.List.{AllWithin, filter};
+ghost use Rattle.std.specs.List.Sorted.{IsSorted};
 ghost use Rattle.cargo_lock_parts.specs.PartialIdentity.{PartialIdentity};
+ghost use Rattle.cargo_lock_index.specs.Alike.{AreAllAlike, alike_cmp, url_cmp, without_source};
 ghost use Rattle.cargo_lock_index.specs.Near as spec;
 ghost use Rattle.cargo_lock_index.specs.Near.{IsIndexOf, entry_cmp, passes, place_before, place_if};
 
-use cargo_lock_parts::package::{Name, PartialIdentity};
+use cargo_lock_parts::package::{Name, PartialIdentity, SourceId};
 use std::alloc::{AllocError, Global};
 use std::cmp::Ordering;
 use std::marker::Model;
@@ -41,9 +43,33 @@ fn beginning(name: &Name) -> u64
     ])
 }
 
-// A key with the number of its name, and its place in the list.
+// A key without its source.
+fn without_source<'a>(key: &PartialIdentity<'a>) -> PartialIdentity<'a>
+    ensures { result ≡ without_source key.now }
+{
+    PartialIdentity {
+        name: key.name,
+        version: key.version,
+        source: None,
+    }
+}
+
+// Compares the URLs of two sources. An absent source is before a present one.
+fn cmp_urls(a: Option<&SourceId>, b: Option<&SourceId>) -> Ordering
+    ensures { result ≡ url_cmp (option_map (λ s. s.now) a.entry) (option_map (λ s. s.now) b.entry) }
+{
+    match (a, b) {
+        (None, None) => Ordering::Equal,
+        (None, Some(_)) => Ordering::Less,
+        (Some(_), None) => Ordering::Greater,
+        (Some(a), Some(b)) => a.url().cmp(b.url()),
+    }
+}
+
+/// A key of a list, and its place in the list.
 #[derive(Drop)]
-struct Entry<'a> {
+pub struct Entry<'a> {
+    // The number of the name.
     beginning: u64,
     place: usize,
     key: PartialIdentity<'a>,
@@ -70,6 +96,24 @@ impl<'a> Entry<'a> {
             place,
             key,
         }
+    }
+
+    /// The place of the key in the list.
+    pub fn place(&self) -> usize
+        ensures { result ≡ self.now.place }
+    {
+        self.place
+    }
+
+    // Compares the names, the versions and the URLs of the sources.
+    fn cmp_alike(&self, other: &Entry<'a>) -> Ordering
+        ensures { result ≡ alike_cmp self.now.key other.now.key }
+    {
+        let order = match self.beginning.cmp(&other.beginning) {
+            Ordering::Equal => without_source(&self.key).cmp(&without_source(&other.key)),
+            order => order,
+        };
+        order.then(cmp_urls(self.key.source, other.key.source))
     }
 
     // Whether the entry is before another one.
@@ -140,6 +184,17 @@ impl<'a> Ord for Entry<'a> {
             Ordering::Greater => Ordering::Greater,
         }
     }
+}
+
+// The entries whose keys have the name, the version and the URL of another entry's key.
+fn alike_among<'e, 'a>(entries: &'e [Entry<'a>], sought: &Entry<'a>) -> &'e [Entry<'a>]
+    requires { IsSorted entry_cmp entries.now }
+    ensures { result.now ≡ filter (λ e. is_eq (alike_cmp e.key sought.now.key)) entries.now }
+{
+    let start = entries.partition_point(|entry| entry.cmp_alike(sought).is_lt());
+    let rest = &entries[start..];
+    let count = rest.partition_point(|entry| entry.cmp_alike(sought).is_eq());
+    &rest[..count]
 }
 
 /// The keys of a list so far, in the list's order.
@@ -297,6 +352,15 @@ impl<'a> Places<'a> {
         let sought = Entry::of(key, 0);
         let end = self.end(&sought);
         self.found_before(end, &sought)
+    }
+
+    /// The entries of the keys with the name, the version and the URL of this key, whatever else
+    /// their sources have. The entries are neighbours, so no other is visited.
+    pub fn alike(&self, key: PartialIdentity<'a>) -> &[Entry<'a>]
+        ensures { (keys : List PartialIdentity) → IsIndexOf keys self.now
+            → AreAllAlike key.entry keys result.now }
+    {
+        alike_among(&self.entries, &Entry::of(key, 0))
     }
 
     // The place of the entry before a position of the order, if there is one and it has the key.

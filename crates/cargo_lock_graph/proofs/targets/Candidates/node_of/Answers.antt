@@ -1,32 +1,18 @@
-use Rattle.std.proofs.Common.{◌≡◌, ◌<◌, ◌∙◌, ℕ, IfSome, IsSome, List, Some, length, slice_get, sym, ap, subst}
-use Rattle.std.specs.BTreeMap.{get}
+use Rattle.std.proofs.Common.{◌≡◌, ◌∙◌, IfSome, List, Some, ap, get_or, length, refl, slice_get, subst, sym, unwrap_or}
+use Rattle.std.proofs.lemmas.Option.{slice_get_read}
 use Rattle.cargo_lock_parts.specs.Identity.{PackageData, identity_of}
-use Rattle.cargo_lock_parts.specs.PartialIdentity.{partial_identity_cmp}
-use Rattle.cargo_lock_graph.specs.Candidates.{identity_as_key}
 use Rattle.cargo_lock_graph.specs.Targets.{IsLastWith}
-use Rattle.cargo_lock_graph.proofs.BestCandidates.{place-there, place-told}
+use Rattle.cargo_lock_graph.proofs.BestAlike.{last-there}
 use Rattle.cargo_lock_graph.proofs.targets.Candidates.node_of.Goals as goal
-
-pub index-requires : goal.index-requires
-index-requires c =
-    let p : PackageData = c.index-packages-place.result in
-    let packages : List PackageData = c.self.inside.packages.now in
-    let key : c.identity.result ≡ identity_as_key (identity_of p) =
-    c.identity.ensures ∙ ap (λ (q : PackageData). identity_as_key (identity_of q)) c.«package».view_is in
-    let low : c.args.place < length packages = subst (λ (ps : List PackageData). c.args.place < length ps) (sym c.self.view_is) c.requires in
-    subst (λ k. IsSome (get partial_identity_cmp c.self.inside.last k)) (sym key)
-    (place-there packages c.self.inside.last c.args.place p c.self.invariant.0 low c.index-packages-place.is)
 
 pub returns : goal.returns
 returns c =
+    let packages : List PackageData = c.args.self.now in
     let p : PackageData = c.index-packages-place.result in
-    let packages : List PackageData = c.self.inside.packages.now in
-    let places = c.self.inside.last in
-    let k = c.args.place in
-    let found : get partial_identity_cmp places c.identity.result ≡ Some c.index.result.now = c.index.ensures in
-    let key : c.identity.result ≡ identity_as_key (identity_of p) =
-    c.identity.ensures ∙ ap (λ (q : PackageData). identity_as_key (identity_of q)) c.«package».view_is in
-    let low : k < length packages = subst (λ (ps : List PackageData). k < length ps) (sym c.self.view_is) c.requires in
-    let told = place-told packages places k p c.index.result.now c.self.invariant.0 low c.index-packages-place.is (ap (λ i. get partial_identity_cmp places i) (sym key) ∙ found) in
-    subst (λ (n : ℕ). IfSome (slice_get c.args.self.now k) (λ q. IsLastWith c.args.self.now (identity_of q) (Some n))) (sym c.new.ensures)
-    (subst (λ (ps : List PackageData). IfSome (slice_get ps k) (λ q. IsLastWith ps (identity_of q) (Some c.index.result.now))) c.self.view_is told)
+    let place = c.args.place in
+    let is : p ≡ get_or packages place p = c.index-packages-place.is ∙ ap (λ (ps : List PackageData). get_or ps place p) c.self.view_is in
+    let here : slice_get packages place ≡ Some p = slice_get_read packages (length packages) place p refl c.requires is in
+    let last : IsLastWith packages (identity_of p) c.last_with-last.result = subst (λ (q : PackageData). IsLastWith packages (identity_of q) c.last_with-last.result) c.«package».view_is c.last_with-last.ensures in
+    let told : IsLastWith packages (identity_of p) (Some (unwrap_or c.last_with-last.result place)) = last-there packages (identity_of p) place c.last_with-last.result (p, here, refl) last in
+    subst (λ o. IfSome o (λ q. IsLastWith packages (identity_of q) (Some c.new.result))) (sym here)
+    (subst (λ n. IsLastWith packages (identity_of p) (Some n)) (sym (c.new.ensures ∙ c.unwrap_or.ensures)) told)

@@ -1,0 +1,221 @@
+-- The entries whose keys are alike are neighbours, and they are those of the list.
+use Rattle.std.proofs.Common.{◌≡◌, ◌<◌, ◌≤◌, ◌+◌, ◌↔◌, ℕ, List, [], ◌∷◌, suc, zero, Option, Some, None, Bool, true, false, cond, take, drop, get_or, length, slice_get, option_map, refl, ap, ◌∙◌, sym, subst, arith, inl, inr}
+use Rattle.std.specs.Cmp.{IsTotalOrder, Equal-is, on_total, then_total, tied_itself}
+use Rattle.std.specs.Cmp.Lexicographic.{nat_list_cmp_total, options_total}
+use Rattle.std.specs.List.{All, AllWithin, Contains, filter}
+use Rattle.std.specs.List.Sorted.{IsNonDecreasingBy, IsPartitionedBy, IsPartitionPoint, IsSorted}
+use Rattle.std.specs.Option.{option_cmp}
+use Rattle.std.specs.Ordering.{is_eq, is_lt, nat_cmp, on, ordering_index, ordering_then}
+use Rattle.std.specs.declared.cmp.Ordering.{Ordering}
+use Rattle.std.specs.declared.cmp.Ordering.TheVariants.{Less, Equal, Greater}
+use Rattle.std.proofs.lemmas.Bool.{cases_Bool, false≢true}
+use Rattle.std.proofs.lemmas.List.{length-drop, length-take, get_or-drop, get_or-take}
+use Rattle.std.proofs.lemmas.List.Elements.{All-cons, All-contains, All-contains_itself, All-filter, All-head, All-nil, All-tail, All-weaker, Contains-append_right, filter_passes}
+use Rattle.std.proofs.lemmas.Option.{same_Some}
+use Rattle.std.proofs.lemmas.List.Sorted.{searchable_from_sorted}
+use Rattle.cargo_lock_parts.specs.IdentityLaws.{option_cmp-anti, option_cmp-by, text_cmp-anti, tied-first, tied-second}
+use Rattle.cargo_lock_parts.specs.PartialIdentity.{PartialIdentity, PartialKey, partial_key, is_same_partial_identity-Decides}
+use Rattle.cargo_lock_parts.specs.Source.{Source}
+use Rattle.cargo_lock_parts.specs.SourceKey.{git_reference_text, kind_number, precise_if_git, source_cmp, text_cmp}
+use Rattle.cargo_lock_index.specs.Alike.{AreAlike, AreAllAlike, IsEntryOf, alike_cmp, url_cmp, url_of, without_source}
+use Rattle.cargo_lock_index.specs.Near.{IsIndexOf, Placed, entry_cmp, has_key, near_cmp, near_total, placed_from}
+use Rattle.cargo_lock_index.proofs.Near.{filter-drop, filter-take, near-same}
+
+-- ---- the order
+
+alike_total : IsTotalOrder alike_cmp
+alike_total = then_total (on_total without_source near_total)
+    (on_total (λ (k : PartialIdentity). k.source) (options_total (on_total url_of nat_list_cmp_total)))
+
+then-less : (r s : Ordering) → is_lt r ≡ true → is_lt (ordering_then r s) ≡ true
+then-less Less s h = refl
+then-less Equal s h = absurd (false≢true h)
+then-less Greater s h = absurd (false≢true h)
+
+sources-less : (a b : Option Source) → is_lt (url_cmp a b) ≡ true → is_lt (option_cmp source_cmp a b) ≡ true
+sources-less None None h = absurd (false≢true h)
+sources-less None (Some b) h = refl
+sources-less (Some a) None h = absurd (false≢true h)
+sources-less (Some a) (Some b) h =
+    then-less _ (option_cmp text_cmp (precise_if_git a.kind a.precise) (precise_if_git b.kind b.precise))
+    (then-less _ (text_cmp (git_reference_text a.kind) (git_reference_text b.kind))
+    (then-less _ (nat_cmp (kind_number a.kind) (kind_number b.kind))
+    (then-less _ (option_cmp text_cmp a.name b.name) h)))
+
+-- what is less by its beginning is less by all of it
+beginning-less : (b n u s : Ordering) → (is_lt u ≡ true → is_lt s ≡ true)
+    → is_lt (ordering_then (ordering_then b (ordering_then n Equal)) u) ≡ true → is_lt (ordering_then b (ordering_then n s)) ≡ true
+beginning-less Less n u s f h = refl
+beginning-less Greater n u s f h = absurd (false≢true h)
+beginning-less Equal Less u s f h = refl
+beginning-less Equal Greater u s f h = absurd (false≢true h)
+beginning-less Equal Equal u s f h = f h
+
+alike-less : (k j : PartialIdentity) → is_lt (alike_cmp k j) ≡ true → is_lt (near_cmp k j) ≡ true
+alike-less k j h = beginning-less _ _ _ _ (sources-less k.source j.source) h
+
+sorted-alike : (es : List Placed) → IsSorted entry_cmp es → IsSorted (on (λ (e : Placed). e.key) alike_cmp) es
+sorted-alike es up k d low high = elim (cases_Bool (is_lt (alike_cmp (get_or es (k + 1) d).key (get_or es k d).key))) [
+  | inl t ↦ absurd (false≢true (sym (up k d low high) ∙ alike-less (get_or es (k + 1) d).key (get_or es k d).key t))
+  | inr f ↦ f
+]
+
+-- ---- the neighbours
+
+abbrev level : Placed → Placed → ℕ
+level q e = ordering_index (alike_cmp e.key q.key)
+
+pub levels-rise : (es : List Placed) (q : Placed) → IsSorted entry_cmp es → IsNonDecreasingBy (level q) es
+levels-rise es q up = searchable_from_sorted alike_total (λ (e : Placed). e.key) es q.key (sorted-alike es up)
+
+lower-less : (r s : Ordering) → ordering_index r ≤ ordering_index s → is_lt s ≡ true → is_lt r ≡ true
+lower-less Less s le h = refl
+lower-less Equal Less le h = absurd (omega (arith, le))
+lower-less Equal Equal le h = absurd (false≢true h)
+lower-less Equal Greater le h = absurd (false≢true h)
+lower-less Greater Less le h = absurd (omega (arith, le))
+lower-less Greater Equal le h = absurd (false≢true h)
+lower-less Greater Greater le h = absurd (false≢true h)
+
+lower-tied : (r s : Ordering) → ordering_index r ≤ ordering_index s → is_lt r ≡ false → is_eq s ≡ true → is_eq r ≡ true
+lower-tied Less s le above h = absurd (false≢true (sym above))
+lower-tied Equal s le above h = refl
+lower-tied Greater Less le above h = absurd (false≢true h)
+lower-tied Greater Equal le above h = absurd (omega (arith, le))
+lower-tied Greater Greater le above h = absurd (false≢true h)
+
+less-untied : (r : Ordering) → is_lt r ≡ true → is_eq r ≡ false
+less-untied Less h = refl
+less-untied Equal h = absurd (false≢true h)
+less-untied Greater h = absurd (false≢true h)
+
+pub parted-less : (es : List Placed) (q : Placed) → IsSorted entry_cmp es → IsPartitionedBy (λ e. is_lt (alike_cmp e.key q.key)) es
+parted-less es q up i j d le below h =
+    lower-less (alike_cmp (get_or es i d).key q.key) (alike_cmp (get_or es j d).key q.key) (levels-rise es q up i j d le below) h
+
+pub parted-tied : (es : List Placed) (q : Placed) (start : ℕ) → IsSorted entry_cmp es → start ≤ length es
+    → AllWithin (λ e. is_lt (alike_cmp e.key q.key) ≡ false) es start (length es)
+    → IsPartitionedBy (λ e. is_eq (alike_cmp e.key q.key)) (drop start es)
+parted-tied es q start up within after i j d le below h =
+    let under : start + j < length es = omega (arith, below, length-drop start es) in
+    let tied : is_eq (alike_cmp (get_or es (start + j) d).key q.key) ≡ true = rw (sym (get_or-drop start es j d)) h in
+    rw get_or-drop
+    (lower-tied (alike_cmp (get_or es (start + i) d).key q.key) (alike_cmp (get_or es (start + j) d).key q.key)
+    (levels-rise es q up (start + i) (start + j) d (omega (arith, le)) under) (after (start + i) d (omega arith) (omega (arith, le, under))) tied)
+
+filter-every : (p : Placed → Bool) (es : List Placed) → All (λ e. p e ≡ true) es → filter p es ≡ es
+filter-every p [] h = refl
+filter-every p (e ∷ es) h =
+    ap (λ b. cond b (e ∷ filter p es) (filter p es)) (All-head (λ x. p x ≡ true) e es h)
+    ∙ ap (λ l. e ∷ l) (filter-every p es (All-tail (λ x. p x ≡ true) e es h))
+
+pub cut-alike : (es : List Placed) (q : Placed) (start count : ℕ) → start ≤ length es → count ≤ length (drop start es)
+    → IsPartitionPoint (λ e. is_lt (alike_cmp e.key q.key) ≡ true) (λ e. is_lt (alike_cmp e.key q.key) ≡ false) es start
+    → IsPartitionPoint (λ e. is_eq (alike_cmp e.key q.key) ≡ true) (λ e. is_eq (alike_cmp e.key q.key) ≡ false) (drop start es) count
+    → take count (drop start es) ≡ filter (λ e. is_eq (alike_cmp e.key q.key)) es
+cut-alike es q start count within inside first last =
+    let test : Placed → Bool = λ e. is_eq (alike_cmp e.key q.key) in
+    let every : All (λ (e : Placed). is_eq (alike_cmp e.key q.key) ≡ true) (take count (drop start es)) = λ k d below.
+    let under : k < count = omega (arith, length-take count (drop start es), below) in
+    rw get_or-take (last.0 k d (omega arith) under) in
+    sym (filter-drop test es start within (λ k d low high. less-untied (alike_cmp (get_or es k d).key q.key) (first.0 k d low high))
+    ∙ filter-take test (drop start es) count inside last.1
+    ∙ filter-every test (take count (drop start es)) every)
+
+-- ---- keys that tie are alike
+
+tied-alike : (a b : PartialIdentity) → is_eq (alike_cmp b a) ≡ true → AreAlike a b
+tied-alike a b h =
+    let tied = (Equal-is (alike_cmp b a)).0 h in
+    let same = sym (near-same (without_source b) (without_source a)) ∙ ap is_eq (tied-first _ _ tied) in
+    let key = (is_same_partial_identity-Decides (without_source b) (without_source a)).0 same in
+    let urls = sym (option_cmp-by url_of (on url_of text_cmp) text_cmp (λ x y. refl) b.source a.source) ∙ tied-second _ _ tied in
+    record {
+      name = sym (ap (λ (k : PartialKey). k.name) key);
+      version = sym (ap (λ (k : PartialKey). k.version) key);
+      url = sym (option_cmp-anti text_cmp-anti (option_map url_of b.source) (option_map url_of a.source) urls);
+    }
+
+alike-tied : (a b : PartialIdentity) → AreAlike a b → is_eq (alike_cmp b a) ≡ true
+alike-tied a b h =
+    let key : partial_key (without_source b) ≡ partial_key (without_source a) = λ i. record { name = sym h.name i; version = sym h.version i; source = None } in
+    let same = (is_same_partial_identity-Decides (without_source b) (without_source a)).1 key in
+    let near = (Equal-is (near_cmp (without_source b) (without_source a))).0 (near-same (without_source b) (without_source a) ∙ same) in
+    let urls : url_cmp b.source a.source ≡ Equal =
+    option_cmp-by url_of (on url_of text_cmp) text_cmp (λ x y. refl) b.source a.source
+    ∙ subst (λ u. option_cmp text_cmp (option_map url_of b.source) u ≡ Equal) (sym h.url)
+    (tied_itself (options_total nat_list_cmp_total) (option_map url_of b.source)) in
+    ap (λ o. is_eq (ordering_then o (url_cmp b.source a.source))) near ∙ ap is_eq urls
+
+-- ---- the entries of an index
+
+contains-more : (b : Bool) (x : Placed) (xs : List Placed) (e : Placed) → Contains xs e → Contains (cond b (x ∷ xs) xs) e
+contains-more true x xs e h = Contains-append_right (x ∷ []) xs e h
+contains-more false x xs e h = h
+
+kept-each : (p : Placed → Bool) (xs : List Placed) → All (λ e. p e ≡ true → Contains (filter p xs) e) xs
+kept-each p [] = All-nil (λ e. p e ≡ true → Contains [] e)
+kept-each p (x ∷ xs) =
+    All-cons (λ e. p e ≡ true → Contains (filter p (x ∷ xs)) e) x xs
+    (λ h. subst (λ b. Contains (cond b (x ∷ filter p xs) (filter p xs)) x) (sym h) (0, omega arith, refl))
+    (All-weaker (λ e. p e ≡ true → Contains (filter p xs) e) (λ e. p e ≡ true → Contains (filter p (x ∷ xs)) e)
+    (λ e f h. contains-more (p x) x (filter p xs) e (f h)) xs (kept-each p xs))
+
+kept : (p : Placed → Bool) (xs : List Placed) (e : Placed) → Contains xs e → p e ≡ true → Contains (filter p xs) e
+kept p xs e inside = All-contains (λ f. p f ≡ true → Contains (filter p xs) f) xs e (kept-each p xs) inside
+
+kept-of : (p : Placed → Bool) (xs : List Placed) (e : Placed) → Contains (filter p xs) e → Contains xs e
+kept-of p xs e inside =
+    All-contains (Contains xs) (filter p xs) e (All-filter p (Contains xs) xs (All-contains_itself xs)) inside
+
+kept-passes : (p : Placed → Bool) (xs : List Placed) (e : Placed) → Contains (filter p xs) e → p e ≡ true
+kept-passes p xs e inside = All-contains (λ f. p f ≡ true) (filter p xs) e (filter_passes p xs) inside
+
+abbrev IsFrom : ℕ → List PartialIdentity → Placed → Type 0
+IsFrom i keys e = (n : ℕ) × (e.place ≡ i + n) × (slice_get keys n ≡ Some e.key)
+
+placed-each : (i : ℕ) (keys : List PartialIdentity) → All (IsFrom i keys) (placed_from i keys)
+placed-each i [] = All-nil (IsFrom i [])
+placed-each i (k ∷ keys) =
+    All-cons (IsFrom i (k ∷ keys)) (record { key = k; place = i }) (placed_from (i + 1) keys) (0, omega arith, refl)
+    (All-weaker (IsFrom (i + 1) keys) (IsFrom i (k ∷ keys)) (λ e h. (suc h.0, (let at = h.1 in omega (arith, at)), h.2))
+    (placed_from (i + 1) keys) (placed-each (i + 1) keys))
+
+placed-at : (i : ℕ) (keys : List PartialIdentity) (n : ℕ) (e : Placed) → e.place ≡ i + n → slice_get keys n ≡ Some e.key
+    → Contains (placed_from i keys) e
+placed-at i [] n e at h = cc h
+placed-at i (k ∷ keys) zero e at h =
+    let same : k ≡ e.key = same_Some k e.key h in
+    let here : i ≡ e.place = omega (arith, at) in
+    (0, omega arith, λ j. record { key = same j; place = here j })
+placed-at i (k ∷ keys) (suc n) e at h =
+    Contains-append_right (record { key = k; place = i } ∷ []) (placed_from (i + 1) keys) e
+    (placed-at (i + 1) keys n e (omega (arith, at)) h)
+
+has-own : (e : Placed) → has_key e.key e ≡ true
+has-own e = (is_same_partial_identity-Decides e.key e.key).1 refl
+
+-- the entries of an index are those of its list
+pub in-index : (keys : List PartialIdentity) (es : List Placed) (e : Placed) → IsIndexOf keys es → Contains es e ↔ IsEntryOf keys e
+in-index keys es e index = (
+  λ inside.
+      let same = subst (λ l. Contains l e) (index e.key) (kept (has_key e.key) es e inside (has-own e)) in
+      let from = All-contains (IsFrom 0 keys) (placed_from 0 keys) e (placed-each 0 keys) (kept-of (has_key e.key) (placed_from 0 keys) e same) in
+      let here : from.0 ≡ e.place = (let at = from.1 in omega (arith, at)) in
+      ap (slice_get keys) (sym here) ∙ from.2,
+  λ at.
+      let inside = placed-at 0 keys e.place e (omega arith) at in
+      kept-of (has_key e.key) es e (subst (λ l. Contains l e) (sym (index e.key)) (kept (has_key e.key) (placed_from 0 keys) e inside (has-own e))),
+)
+
+pub alike-entries : (keys : List PartialIdentity) (key : PartialIdentity) (es found : List Placed) (q : Placed)
+    → q ≡ record { key = key; place = 0 } → found ≡ filter (λ e. is_eq (alike_cmp e.key q.key)) es
+    → IsIndexOf keys es → AreAllAlike key keys found
+alike-entries keys key es found q sought is index e =
+    let test : Placed → Bool = λ f. is_eq (alike_cmp f.key key) in
+    let cut : found ≡ filter test es = is ∙ ap (λ (r : Placed). filter (λ e. is_eq (alike_cmp e.key r.key)) es) sought in (
+      λ inside.
+          let here = subst (λ l. Contains l e) cut inside in
+          ((in-index keys es e index).0 (kept-of test es e here), tied-alike key e.key (kept-passes test es e here)),
+      λ h. subst (λ l. Contains l e) (sym cut) (kept test es e ((in-index keys es e index).1 h.0) (alike-tied key e.key h.1)),
+    )
