@@ -1,7 +1,7 @@
 //! The text of a drawing, written to a target line by line. `put_node` writes the label of an entry
 //! with `put_label` of `label.rt`.
 
-ghost use Rattle.std.specs.Prelude.{◌<◌, ◌≤◌, ◌++◌, ◌∷◌, [], length, vec_len};
+ghost use Rattle.std.specs.Prelude.{◌≡◌, ◌<◌, ◌≤◌, ◌++◌, ◌∷◌, [], length, vec_len};
 ghost use Rattle.cargo_lock_parts.specs.Ascii.{newline};
 ghost use Rattle.cargo_lock_graph.specs.DrawingByLater.{drawn_by_later, line_by_later};
 ghost use Rattle.cargo_lock_graph.specs.DrawingByLater.{prefix_by_later};
@@ -16,9 +16,8 @@ ghost use Rattle.cargo_lock_graph.specs.WalkState.{IsOn, to_come};
 use crate::drawing::entry::Entry;
 use crate::drawing::label::put_label;
 use crate::drawing::look::Look;
-use crate::drawing::put::{OfSink, OfWriter, Put, Target, put_all, put_both};
+use crate::drawing::put::{OfSink, OfWriter, Put, Target, put_all};
 use crate::drawing::sink::Sink;
-use crate::drawing::symbols::Symbols;
 use crate::drawing::walk::Walk;
 use crate::graph::{EdgeDirection, Graph, NodeIndex};
 use cargo_lock_parts::error::{Error, Result};
@@ -26,35 +25,38 @@ use std::alloc::Global;
 use std::io::Write;
 
 // The part of a prefix for a level above an entry.
-fn put_level<T: Target>(out: &mut T, symbols: &Symbols, more: bool) -> Put
+fn level(more: bool) -> &'static str
+    ensures { result.now ≡ level_text standard_symbols more }
+{
+    if more { "│   " } else { "    " }
+}
+
+// The part of a prefix directly before a label.
+fn branch(more: bool) -> &'static str
+    ensures { result.now ≡ branch_text standard_symbols more }
+{
+    if more { "├── " } else { "└── " }
+}
+
+fn put_level<T: Target>(out: &mut T, more: bool) -> Put
     requires { CanCountFault (T.state out.old).failures }
     ensures { IsWritten (T.state out.old) (T.state out.new)
         (level_text standard_symbols more) result }
 {
-    let first = if more { symbols.down.as_bytes() } else { b" " };
-    put_both(out, first, b"   ")
+    put_all(out, level(more).as_bytes())
 }
 
-// The part of a prefix directly before a label.
-fn put_branch<T: Target>(out: &mut T, symbols: &Symbols, more: bool) -> Put
+fn put_branch<T: Target>(out: &mut T, more: bool) -> Put
     requires { CanCountFault (T.state out.old).failures }
     ensures { IsWritten (T.state out.old) (T.state out.new)
         (branch_text standard_symbols more) result }
 {
-    let first = if more { symbols.tee } else { symbols.ell };
-    put_both(out, first.as_bytes(), symbols.right.as_bytes())?;
-    put_both(out, symbols.right.as_bytes(), b" ")
+    put_all(out, branch(more).as_bytes())
 }
 
 // The prefix of an entry of this depth, which was the last that the walk returned: nothing at depth
 // 0, and otherwise the levels above the entry, from the first on, and the branch to its label.
-fn put_prefix<T: Target>(
-    out: &mut T,
-    symbols: &Symbols,
-    graph: &Graph,
-    walk: &Walk,
-    depth: usize,
-) -> Put
+fn put_prefix<T: Target>(out: &mut T, graph: &Graph, walk: &Walk, depth: usize) -> Put
     requires sound { CanCountFault (T.state out.old).failures }
     requires on { IsOn graph.now walk.now }
     requires depth { depth ≤ vec_len walk.now.stack }
@@ -65,9 +67,9 @@ fn put_prefix<T: Target>(
         return Ok(());
     }
     for level in 0..depth - 1 {
-        put_level(out, symbols, walk.goes_on(graph, level))?;
+        put_level(out, walk.goes_on(graph, level))?;
     }
-    put_branch(out, symbols, walk.goes_on(graph, depth - 1))
+    put_branch(out, walk.goes_on(graph, depth - 1))
 }
 
 // The label of a node, and a newline.
@@ -97,7 +99,7 @@ fn put_line<T: Target>(
         (line_by_later standard_symbols (label_at look.now.exact graph.now.packages) entry
         (to_come graph.now walk.now)) result }
 {
-    put_prefix(out, look.symbols, graph, walk, entry.depth)?;
+    put_prefix(out, graph, walk, entry.depth)?;
     put_node(out, graph, NodeIndex::new(entry.node), look.exact)
 }
 
