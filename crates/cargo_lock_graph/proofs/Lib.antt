@@ -19,5 +19,6 @@ pub mod ReadLineLemmas
 pub mod RenderWrites
 pub mod SinkWrites
 pub mod TreeEdges
+pub mod VersionWrites
 pub mod WalkLevels
 pub mod WalkSteps
