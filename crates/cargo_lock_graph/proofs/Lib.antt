@@ -12,6 +12,7 @@ pub mod DrawingWords
 pub mod EdgeChains
 pub mod EdgeMatch
 pub mod EdgesOnce
+pub mod FrameLevels
 pub mod GraphEnds
 pub mod MadeChains
 pub mod PrefixLemmas
