@@ -13,6 +13,7 @@ pub mod DrawingWords
 pub mod EdgeChains
 pub mod EdgeMatch
 pub mod EdgesOnce
+pub mod FrameLevels
 pub mod GraphEnds
 pub mod MadeChains
 pub mod PrefixLemmas
@@ -20,6 +21,7 @@ pub mod ReadLineLemmas
 pub mod RenderWrites
 pub mod SinkWrites
 pub mod TreeEdges
+pub mod VersionWrites
 pub mod WalkLevels
 pub mod WalkSteps
 pub mod Zipped

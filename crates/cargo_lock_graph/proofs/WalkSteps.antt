@@ -100,6 +100,11 @@ held_pop nodes edges marks old fs f capacity was h =
     let parts = All-pop (Known edges) old fs (Some f) was h.known in
     (record { long = h.long; known = parts.0; room = omega (arith, h.room, ap length was, length_push fs f); reserved = h.reserved }, parts.1)
 
+-- an edge before one of the graph's
+pub known_earlier : (edges edge : ℕ) (f : Option ℕ) → IfSome f (λ older. older < edge) → edge < edges → Known edges f
+known_earlier edges edge None earlier lt = tt
+known_earlier edges edge (Some older) earlier lt = omega (arith, earlier)
+
 -- another frame in place of the last one
 pub held_on : (nodes edges : ℕ) (marks : List Bool) (fs mid : List (Option ℕ)) (f f' : Option ℕ) (capacity capacity' : ℕ) → mid ≡ fs ++ f' ∷ [] → capacity ≤ capacity' → IsHeld nodes edges marks (fs ++ f ∷ []) capacity → Known edges f' → IsHeld nodes edges marks mid capacity'
 held_on nodes edges marks fs mid f f' capacity capacity' is le h known =

@@ -15,4 +15,5 @@ pub mod Sinks
 pub mod Labels
 pub mod WalkState
 pub mod Targets
+pub mod VersionText
 pub mod Candidates

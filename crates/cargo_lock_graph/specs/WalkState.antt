@@ -1,10 +1,12 @@
 -- What a walk over a graph has still to draw, and what it holds.
 use Rattle.std.specs.Prelude.{◌≡◌, ℕ, suc, ◌+◌, ◌≤◌, ◌<◌, Bool, List, [], ◌∷◌, ◌++◌, length, IfSome}
-use Rattle.std.specs.Prelude.{All, Option, vec_capacity}
+use Rattle.std.specs.Prelude.{All, Option, is_some, vec_capacity, vec_len, ◌-◌, ◌*◌, take}
 use Rattle.cargo_lock_graph.specs.declared.graph.EdgeDirection.{EdgeDirection}
 use Rattle.cargo_lock_graph.specs.declared.drawing.entry.Entry.{Entry}
 use Rattle.cargo_lock_graph.specs.declared.drawing.walk.Walk.{Walk}
 use Rattle.cargo_lock_graph.specs.DrawingMade.{entries_below, unmarked_count, rest_of}
+use Rattle.cargo_lock_graph.specs.DrawingByLater.{levels_text}
+use Rattle.cargo_lock_graph.specs.DrawingText.{level_text, standard_symbols}
 use Rattle.cargo_lock_graph.specs.Edges.{Edge, GraphData, far_ends, far_ends_from}
 
 -- The entries that wait in the frames, if the first of the frames is at this depth: a frame is the
@@ -40,3 +42,26 @@ abbrev pub IsOn : GraphData → Walk → Type 0
 IsOn graph walk =
     IsHeld (length graph.packages) (length graph.edges) walk.visited.items walk.stack.items
     (vec_capacity walk.stack)
+
+-- the levels of these frames, each as more follows on it or not
+abbrev pub frames_text : List (Option ℕ) → List ℕ
+frames_text [] = []
+frames_text (f ∷ fs) = level_text standard_symbols (is_some f) ++ frames_text fs
+
+-- The text is that of the levels of the frames. The levels of `nodes` frames, each of at most 6
+-- bytes, fit into the capacity: the walk takes no memory for a level.
+pub record HasLevels (nodes : ℕ) (frames : List (Option ℕ)) (text : List ℕ)
+    (capacity : ℕ) : Type 0 where
+  pub text_is : text ≡ frames_text frames
+  pub reserved : 6 * nodes ≤ capacity
+
+-- the walk keeps the levels of its frames
+abbrev pub KeepsLevels : GraphData → Walk → Type 0
+KeepsLevels graph walk =
+    HasLevels (length graph.packages) walk.stack.items walk.levels.items (vec_capacity walk.levels)
+
+-- the text of the walk's levels starts with those above an entry of this depth, the last one drawn
+pub record IsAbove (graph : GraphData) (walk : Walk) (depth : ℕ) : Type 0 where
+  pub within : walk.above ≤ vec_len walk.levels
+  pub text_is : take walk.above walk.levels.items
+      ≡ levels_text standard_symbols (depth - 1) (to_come graph walk)

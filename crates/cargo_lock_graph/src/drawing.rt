@@ -3,6 +3,7 @@
 pub mod entry;
 mod label;
 pub mod laws;
+mod levels;
 mod look;
 mod put;
 mod render;

@@ -1,15 +1,17 @@
 //! Labels of entries: a package's name and version, and in an exact label what distinguishes the
 //! package. Labels are written in pieces, which allocates nothing.
 
-ghost use Rattle.std.specs.Prelude.{◌≡◌, ◌++◌, codes, option_copied, false};
+ghost use Rattle.std.specs.Prelude.{◌≡◌, ◌<◌, ◌≤◌, ◌+◌, ◌∷◌, ◌++◌, codes, decimal, drop};
+ghost use Rattle.std.specs.Prelude.{false, length, option_copied};
 ghost use Rattle.semver.specs.Identifiers.{parts_of, parts_text};
 ghost use Rattle.cargo_lock_parts.specs.Checksum.{digest_of, digest_text};
 ghost use Rattle.cargo_lock_parts.specs.Source.{git_reference_of};
 ghost use Rattle.cargo_lock_parts.specs.SourceText.{fragment_text, query_text, text_of};
 ghost use Rattle.cargo_lock_graph.specs.Labels.{exact_text, label_of, tags_text};
+ghost use Rattle.cargo_lock_graph.specs.VersionText.{numbers_text};
 ghost use Rattle.cargo_lock_graph.specs.Sinks.{CanCountFault, IsWritten};
 
-use crate::drawing::put::{Put, Target, put_all, put_both, put_dotted, put_marked, put_number};
+use crate::drawing::put::{Put, Target, put_all, put_both, put_marked};
 use cargo_lock_parts::package::{Checksum, GitReference, Package, SourceId, SourceKind, Version};
 
 // ---- versions
@@ -24,14 +26,54 @@ fn put_tags<T: Target>(out: &mut T, version: &Version) -> Put
     put_marked(out, b'+', version.build.as_str())
 }
 
+// Writes a byte that ends at this place of a buffer, and returns where it starts.
+fn write_byte(byte: u8, buffer: &mut [u8], end: usize) -> usize
+    requires { (0 < end) × (end ≤ length buffer.old) }
+    ensures start { result + 1 ≡ end }
+    ensures written { drop result buffer.new ≡ byte ∷ drop end buffer.old }
+{
+    buffer[end - 1] = byte;
+    end - 1
+}
+
+// Writes a mark and a number that end at this place of a buffer, and returns where they start.
+fn write_marked(mark: u8, number: u64, buffer: &mut [u8], end: usize) -> usize
+    requires { (21 ≤ end) × (end ≤ length buffer.old) }
+    ensures start { (end ≤ result + 21) × (result ≤ end) }
+    ensures written { drop result buffer.new ≡ mark ∷ (decimal number ++ drop end buffer.old) }
+{
+    let start = itoa::write_digits(number, buffer, end);
+    write_byte(mark, buffer, start)
+}
+
+// Writes a space and the numbers of a version at the end of a buffer, and returns where they start.
+fn write_numbers(version: &Version, buffer: &mut [u8; 64]) -> usize
+    ensures start { result ≤ 64 }
+    ensures written { drop result buffer.new ≡ numbers_text (parts_of version.now) }
+{
+    let patch = write_marked(b'.', version.patch, buffer, 64);
+    let minor = write_marked(b'.', version.minor, buffer, patch);
+    write_marked(b' ', version.major, buffer, minor)
+}
+
+// A space and the numbers of a version.
+fn put_numbers<T: Target>(out: &mut T, version: &Version) -> Put
+    requires { CanCountFault (T.state out.old).failures }
+    ensures { IsWritten (T.state out.old) (T.state out.new)
+        (numbers_text (parts_of version.now)) result }
+{
+    let mut buffer = [0u8; 64];
+    let start = write_numbers(version, &mut buffer);
+    put_all(out, &buffer[start..])
+}
+
+// A space and a version.
 fn put_version<T: Target>(out: &mut T, version: &Version) -> Put
     requires { CanCountFault (T.state out.old).failures }
     ensures { IsWritten (T.state out.old) (T.state out.new)
-        (parts_text (parts_of version.now)) result }
+        (codes " " ++ parts_text (parts_of version.now)) result }
 {
-    put_number(out, version.major)?;
-    put_dotted(out, version.minor)?;
-    put_dotted(out, version.patch)?;
+    put_numbers(out, version)?;
     put_tags(out, version)
 }
 
@@ -136,7 +178,7 @@ fn put_identity<T: Target>(out: &mut T, package: &Package) -> Put
     ensures { IsWritten (T.state out.old) (T.state out.new)
         («package».now.name ++ (codes " " ++ parts_text «package».now.version)) result }
 {
-    put_both(out, package.name.as_str().as_bytes(), b" ")?;
+    put_all(out, package.name.as_str().as_bytes())?;
     put_version(out, &package.version)
 }
 

@@ -1,12 +1,10 @@
 //! Writing texts to a sink or a writer in pieces, which allocates nothing.
 
-ghost use Rattle.std.specs.Prelude.{◌<◌, ◌++◌, ◌∷◌, decimal, length};
+ghost use Rattle.std.specs.Prelude.{◌<◌, ◌++◌, length};
 ghost use Rattle.semver.specs.Identifiers.{marked};
-ghost use Rattle.cargo_lock_parts.specs.Ascii.{dot};
 ghost use Rattle.cargo_lock_graph.specs.Sinks.{CanCountFault, IsTaken, IsWritten, Taken};
 
 use crate::drawing::sink::{Sink, write_some};
-use itoa::Buffer;
 use std::io::{ErrorKind, Write};
 
 // The destination of the pieces of a text: a borrowed sink or writer. Its state is what it took,
@@ -85,24 +83,6 @@ pub(crate) fn put_both<T: Target>(out: &mut T, first: &[u8], second: &[u8]) -> P
 {
     put_all(out, first)?;
     put_all(out, second)
-}
-
-// Writes a number in decimal digits.
-pub(crate) fn put_number<T: Target>(out: &mut T, number: u64) -> Put
-    requires { CanCountFault (T.state out.old).failures }
-    ensures { IsWritten (T.state out.old) (T.state out.new) (decimal number) result }
-{
-    let mut digits = Buffer::new();
-    put_all(out, digits.format(number).as_bytes())
-}
-
-// Writes a dot and a number.
-pub(crate) fn put_dotted<T: Target>(out: &mut T, number: u64) -> Put
-    requires { CanCountFault (T.state out.old).failures }
-    ensures { IsWritten (T.state out.old) (T.state out.new) (dot ∷ decimal number) result }
-{
-    let mut digits = Buffer::new();
-    put_both(out, b".", digits.format(number).as_bytes())
 }
 
 // Writes a byte and a text, or nothing if the text is empty.

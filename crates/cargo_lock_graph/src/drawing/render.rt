@@ -1,62 +1,49 @@
 //! The text of a drawing, written to a target line by line. `put_node` writes the label of an entry
 //! with `put_label` of `label.rt`.
 
-ghost use Rattle.std.specs.Prelude.{◌<◌, ◌≤◌, ◌++◌, ◌∷◌, [], length, vec_len};
+ghost use Rattle.std.specs.Prelude.{◌≡◌, ◌<◌, ◌≤◌, ◌++◌, ◌∷◌, [], length, vec_len};
 ghost use Rattle.cargo_lock_parts.specs.Ascii.{newline};
 ghost use Rattle.cargo_lock_graph.specs.DrawingByLater.{drawn_by_later, line_by_later};
 ghost use Rattle.cargo_lock_graph.specs.DrawingByLater.{prefix_by_later};
-ghost use Rattle.cargo_lock_graph.specs.DrawingText.{branch_text, level_text};
-ghost use Rattle.cargo_lock_graph.specs.DrawingText.{standard_symbols};
+ghost use Rattle.cargo_lock_graph.specs.DrawingText.{branch_text, standard_symbols};
 ghost use Rattle.cargo_lock_graph.specs.Labels.{label_at};
 ghost use Rattle.cargo_lock_graph.specs.Rendering.{Draws};
 ghost use Rattle.cargo_lock_graph.specs.Sinks.{CanCountFault, IsRendered, IsRenderedInto};
 ghost use Rattle.cargo_lock_graph.specs.Sinks.{IsRenderedTo, IsWritten};
-ghost use Rattle.cargo_lock_graph.specs.WalkState.{IsOn, to_come};
+ghost use Rattle.cargo_lock_graph.specs.WalkState.{IsAbove, IsOn, KeepsLevels, to_come};
 
 use crate::drawing::entry::Entry;
 use crate::drawing::label::put_label;
 use crate::drawing::look::Look;
-use crate::drawing::put::{OfSink, OfWriter, Put, Target, put_all, put_both};
+use crate::drawing::put::{OfSink, OfWriter, Put, Target, put_all};
 use crate::drawing::sink::Sink;
-use crate::drawing::symbols::Symbols;
 use crate::drawing::walk::Walk;
 use crate::graph::{EdgeDirection, Graph, NodeIndex};
 use cargo_lock_parts::error::{Error, Result};
 use std::alloc::Global;
 use std::io::Write;
 
-// The part of a prefix for a level above an entry.
-fn put_level<T: Target>(out: &mut T, symbols: &Symbols, more: bool) -> Put
-    requires { CanCountFault (T.state out.old).failures }
-    ensures { IsWritten (T.state out.old) (T.state out.new)
-        (level_text standard_symbols more) result }
+// The part of a prefix directly before a label.
+fn branch(more: bool) -> &'static str
+    ensures { result.now ≡ branch_text standard_symbols more }
 {
-    let first = if more { symbols.down.as_bytes() } else { b" " };
-    put_both(out, first, b"   ")
+    if more { "├── " } else { "└── " }
 }
 
-// The part of a prefix directly before a label.
-fn put_branch<T: Target>(out: &mut T, symbols: &Symbols, more: bool) -> Put
+fn put_branch<T: Target>(out: &mut T, more: bool) -> Put
     requires { CanCountFault (T.state out.old).failures }
     ensures { IsWritten (T.state out.old) (T.state out.new)
         (branch_text standard_symbols more) result }
 {
-    let first = if more { symbols.tee } else { symbols.ell };
-    put_both(out, first.as_bytes(), symbols.right.as_bytes())?;
-    put_both(out, symbols.right.as_bytes(), b" ")
+    put_all(out, branch(more).as_bytes())
 }
 
 // The prefix of an entry of this depth, which was the last that the walk returned: nothing at depth
-// 0, and otherwise the levels above the entry, from the first on, and the branch to its label.
-fn put_prefix<T: Target>(
-    out: &mut T,
-    symbols: &Symbols,
-    graph: &Graph,
-    walk: &Walk,
-    depth: usize,
-) -> Put
+// 0, and otherwise the levels above the entry, which the walk keeps, and the branch to its label.
+fn put_prefix<T: Target>(out: &mut T, graph: &Graph, walk: &Walk, depth: usize) -> Put
     requires sound { CanCountFault (T.state out.old).failures }
     requires on { IsOn graph.now walk.now }
+    requires above { IsAbove graph.now walk.now depth }
     requires depth { depth ≤ vec_len walk.now.stack }
     ensures { IsWritten (T.state out.old) (T.state out.new)
         (prefix_by_later standard_symbols depth (to_come graph.now walk.now)) result }
@@ -64,10 +51,8 @@ fn put_prefix<T: Target>(
     if depth == 0 {
         return Ok(());
     }
-    for level in 0..depth - 1 {
-        put_level(out, symbols, walk.goes_on(graph, level))?;
-    }
-    put_branch(out, symbols, walk.goes_on(graph, depth - 1))
+    put_all(out, walk.levels_above())?;
+    put_branch(out, walk.goes_on(graph, depth - 1))
 }
 
 // The label of a node, and a newline.
@@ -91,13 +76,14 @@ fn put_line<T: Target>(
 ) -> Put
     requires sound { CanCountFault (T.state out.old).failures }
     requires on { IsOn graph.now walk.now }
+    requires above { IsAbove graph.now walk.now entry.depth }
     requires depth { entry.depth ≤ vec_len walk.now.stack }
     requires node { entry.node < length graph.now.packages }
     ensures { IsWritten (T.state out.old) (T.state out.new)
         (line_by_later standard_symbols (label_at look.now.exact graph.now.packages) entry
         (to_come graph.now walk.now)) result }
 {
-    put_prefix(out, look.symbols, graph, walk, entry.depth)?;
+    put_prefix(out, graph, walk, entry.depth)?;
     put_node(out, graph, NodeIndex::new(entry.node), look.exact)
 }
 
@@ -105,6 +91,7 @@ fn put_line<T: Target>(
 fn put_entries<T: Target>(out: &mut T, look: &Look<'_>, graph: &Graph, walk: &mut Walk) -> Put
     requires sound { CanCountFault (T.state out.old).failures }
     requires on { IsOn graph.now walk.old }
+    requires levels { KeepsLevels graph.now walk.old }
     ensures { IsWritten (T.state out.old) (T.state out.new)
         (drawn_by_later standard_symbols (label_at look.now.exact graph.now.packages)
         (to_come graph.now walk.old)) result }
@@ -125,6 +112,8 @@ fn put_drawing<T: Target>(
 ) -> Put
     requires sound { CanCountFault (T.state out.old).failures }
     requires on { IsOn graph.now walk.old }
+    requires levels { KeepsLevels graph.now walk.old }
+    requires above { IsAbove graph.now walk.old 0 }
     requires start { start < length graph.now.packages }
     ensures { IsWritten (T.state out.old) (T.state out.new)
         (drawn_by_later standard_symbols (label_at look.now.exact graph.now.packages)

@@ -1,25 +1,30 @@
 //! The walk over a graph from a start, entry by entry, by a stack of frames.
 
-ghost use Rattle.std.specs.Prelude.{◌≡◌, ℕ, ◌<◌, ◌≤◌, [], ◌∷◌, ◌++◌, Some, length, vec_len};
-ghost use Rattle.std.specs.Prelude.{vec_capacity, MatchOption, IfOk, IfSome};
+ghost use Rattle.std.specs.Prelude.{◌≡◌, List, ℕ, ◌<◌, ◌≤◌, [], ◌∷◌, ◌++◌, Option, Some, length};
+ghost use Rattle.std.specs.Prelude.{vec_capacity, vec_len, take, MatchOption, IfOk, IfSome};
 ghost use Rattle.cargo_lock_graph.specs.DrawingByLater.{goes_on};
 ghost use Rattle.cargo_lock_graph.specs.DrawingMade.{drawing, rest_of};
 ghost use Rattle.cargo_lock_graph.specs.Edges.{far_ends};
-ghost use Rattle.cargo_lock_graph.specs.WalkState.{IsHeld, IsOn, entries_to_come};
-ghost use Rattle.cargo_lock_graph.specs.WalkState.{to_come, entries_waiting};
+ghost use Rattle.cargo_lock_graph.specs.WalkState.{HasLevels, IsAbove, IsHeld, IsOn};
+ghost use Rattle.cargo_lock_graph.specs.WalkState.{KeepsLevels, entries_to_come};
+ghost use Rattle.cargo_lock_graph.specs.WalkState.{entries_waiting, to_come};
 
 use crate::drawing::entry::Entry;
+use crate::drawing::levels::{pop_level, push_level, with_room};
 use crate::graph::{EdgeDirection, Graph, NodeIndex};
 use std::alloc::{AllocError, Global};
 
 // A walk from a start. For each level above the next entry the stack has a frame: the place of the
 // next edge that leads to an entry of the level below, or none if no edge is left. Nodes that were
-// drawn are marked.
+// drawn are marked. `levels` has the part of a prefix for each frame, one after the other, and its
+// first `above` bytes are the levels above the last entry.
 #[derive(Drop)]
 pub(crate) struct Walk {
     direction: EdgeDirection,
     visited: Vec<bool>,
     stack: Vec<Option<usize>>,
+    levels: Vec<u8>,
+    above: usize,
 }
 
 // A frame onto a stack with room for it, which takes no memory.
@@ -33,7 +38,7 @@ fn put_frame(stack: &mut Vec<Option<usize>>, frame: Option<usize>)
 
 impl Walk {
     // A walk before its first entry, which is that of the start at depth 0. It allocates all its
-    // memory here: capacity for as many frames as there are nodes.
+    // memory here: capacity for as many frames as there are nodes, and for their levels.
     pub(crate) fn new(
         alloc: Global,
         graph: &Graph,
@@ -42,6 +47,8 @@ impl Walk {
     ) -> Result<Self, AllocError>
         requires { start < length graph.now.packages }
         ensures on { IfOk result (λ walk. IsOn graph.now walk) }
+        ensures levels { IfOk result (λ walk. KeepsLevels graph.now walk) }
+        ensures above { IfOk result (λ walk. IsAbove graph.now walk 0) }
         ensures direction { IfOk result (λ walk. walk.direction ≡ direction) }
         ensures all { IfOk result
             (λ walk. record { node = start; depth = 0 } ∷ to_come graph.now walk
@@ -50,10 +57,13 @@ impl Walk {
         let count = graph.node_count();
         let visited = vec![in alloc; false; count]?;
         let stack = Vec::with_capacity(alloc, count)?;
+        let levels = with_room(alloc, count)?;
         let mut walk = Walk {
             direction,
             visited,
             stack,
+            levels,
+            above: 0,
         };
         walk.enter(graph, start);
         Ok(walk)
@@ -62,8 +72,13 @@ impl Walk {
     // If the node was not drawn before, marks it and pushes a frame for its edges.
     fn enter(&mut self, graph: &Graph, node: NodeIndex)
         requires held { IsOn graph.now self.old }
+        requires levels { KeepsLevels graph.now self.old }
         requires node { node < length graph.now.packages }
         ensures on { IsOn graph.now self.new }
+        ensures levels { KeepsLevels graph.now self.new }
+        ensures above { self.new.above ≡ self.old.above }
+        ensures kept { (more : List (Option ℕ))
+            × (self.new.stack.items ≡ self.old.stack.items ++ more) }
         ensures direction { self.new.direction ≡ self.old.direction }
         ensures longer { vec_len self.old.stack ≤ vec_len self.new.stack }
         ensures entry { (depth : ℕ) → depth ≡ vec_len self.old.stack
@@ -76,15 +91,19 @@ impl Walk {
             self.visited[node.index()] = true;
             let newest_edge = graph.newest_edge(node, self.direction);
             put_frame(&mut self.stack, newest_edge);
+            push_level(&mut self.levels, newest_edge.is_some());
         }
     }
 
     // Draws the edge at a place, which is that of a frame that was popped from the stack.
     fn follow(&mut self, graph: &Graph, edge: usize) -> Entry
-        requires { IsHeld (length graph.now.packages)
+        requires held { IsHeld (length graph.now.packages)
             (length graph.now.edges) self.old.visited.items (self.old.stack.items ++ Some edge ∷ [])
             (vec_capacity self.old.stack) }
+        requires levels { KeepsLevels graph.now self.old }
         ensures on { IsOn graph.now self.new }
+        ensures levels { KeepsLevels graph.now self.new }
+        ensures above { IsAbove graph.now self.new result.depth }
         ensures direction { self.new.direction ≡ self.old.direction }
         ensures fits { (0 < result.depth) × (result.depth ≤ vec_len self.new.stack)
             × (result.node < length graph.now.packages) }
@@ -93,7 +112,9 @@ impl Walk {
     {
         let node = graph.far_end(edge, self.direction);
         let older_edge = graph.older_edge(edge, self.direction);
+        self.above = self.levels.len();
         put_frame(&mut self.stack, older_edge);
+        push_level(&mut self.levels, older_edge.is_some());
         let depth = self.stack.len();
         self.enter(graph, node);
         Entry {
@@ -104,8 +125,11 @@ impl Walk {
 
     // The next entry. It allocates nothing.
     pub(crate) fn next(&mut self, graph: &Graph) -> Option<Entry>
-        requires { IsOn graph.now self.old }
+        requires on { IsOn graph.now self.old }
+        requires levels { KeepsLevels graph.now self.old }
         ensures on { IsOn graph.now self.new }
+        ensures levels { KeepsLevels graph.now self.new }
+        ensures above { IfSome result (λ e. IsAbove graph.now self.new e.depth) }
         ensures direction { self.new.direction ≡ self.old.direction }
         ensures fits { IfSome result
             (λ e. (0 < e.depth) × (e.depth ≤ vec_len self.new.stack)
@@ -114,11 +138,20 @@ impl Walk {
             (λ e. to_come graph.now self.old ≡ e ∷ to_come graph.now self.new) }
     {
         while let Some(frame) = self.stack.pop() {
+            pop_level(&mut self.levels, frame.is_some());
             if let Some(edge) = frame {
                 return Some(self.follow(graph, edge));
             }
         }
         None
+    }
+
+    // The levels above the last entry.
+    pub(crate) fn levels_above(&self) -> &[u8]
+        requires { self.now.above ≤ vec_len self.now.levels }
+        ensures { result.now ≡ take self.now.above self.now.levels.items }
+    {
+        &self.levels[..self.above]
     }
 
     // Whether an entry at one level below this depth follows before one that is no deeper.

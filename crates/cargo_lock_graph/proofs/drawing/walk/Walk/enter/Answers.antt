@@ -2,6 +2,7 @@ use Rattle.std.proofs.Common.{◌≡◌, ℕ, Bool, true, false, List, ◌∷◌
 use Rattle.cargo_lock_graph.specs.declared.drawing.entry.Entry.{Entry}
 use Rattle.cargo_lock_graph.specs.Edges.{far_end}
 use Rattle.cargo_lock_graph.specs.WalkState.{IsHeld, entries_to_come}
+use Rattle.cargo_lock_graph.proofs.FrameLevels.{levels_push, levels_room}
 use Rattle.cargo_lock_graph.proofs.WalkSteps.{entered_again, entered_new, held_new, room_new, read_mark}
 use Rattle.cargo_lock_graph.proofs.drawing.walk.Walk.enter.Goals as goal
 
@@ -47,3 +48,17 @@ returns-else-not-index-clause-entry c depth deep =
     let mark : get_or marks c.args.node true ≡ true = subst (λ (k : ℕ). get_or marks k true ≡ true) c.index.ensures
     (read_mark marks c.index.result c.index-2.result.now true (omega (arith, held.long, c.index.ensures, c.requires.node)) c.index-2.ensures c.if-not-index.false) in
     entered_again walk.direction c.args.graph.now.edges marks walk.stack.items c.args.node depth mark
+
+pub push_level-requires : goal.push_level-requires
+push_level-requires c =
+    let walk = c.args.self.now in
+    let marks : List Bool = walk.visited.items in
+    let held = c.requires.held in
+    let mark : get_or marks c.args.node true ≡ false = subst (λ (k : ℕ). get_or marks k true ≡ false) c.index.ensures
+    (read_mark marks c.index.result c.index-2.result.now false (omega (arith, held.long, c.index.ensures, c.requires.node)) c.index-2.ensures c.if-not-index.true) in
+    omega (arith, levels_room _ walk.stack.items walk.levels.items (vec_capacity walk.levels) c.requires.levels (room_new _ _ marks walk.stack.items c.args.node _ held mark), walk.levels.ok.0)
+
+pub returns-then-not-index-clause-levels : goal.returns-then-not-index-clause-levels
+returns-then-not-index-clause-levels c =
+    let walk = c.args.self.now in
+    levels_push _ walk.stack.items c.put_frame.new.stack.items c.newest_edge-newest_edge.result c.is_some.result walk.levels.items c.push_level.new.levels.items (vec_capacity walk.levels) _ c.put_frame.ensures.items c.is_some.ensures c.push_level.ensures.items c.push_level.ensures.capacity c.requires.levels
