@@ -1,13 +1,13 @@
 //! Specifications of packages, as people name them.
 
-ghost use Rattle.std.specs.Prelude.{◌≡◌, ◌||◌, IfOk, length, option_map};
+ghost use Rattle.std.specs.Prelude.{◌≡◌, IfOk, bytes_eq, length, option_map};
 ghost use Rattle.std.specs.List.{before_first};
 ghost use Rattle.semver.specs.Identifiers.{parts_of};
 ghost use Rattle.cargo_lock_ask.specs.Places.{IsPlaces};
 ghost use Rattle.cargo_lock_ask.specs.Spec.{Fits, data_of, fits, has_at_sign, has_checksum};
 ghost use Rattle.cargo_lock_ask.specs.Spec.{has_precise, is_at_sign, part_fits, second_part};
 ghost use Rattle.cargo_lock_ask.specs.Spec.{spec_in};
-ghost use Rattle.cargo_lock_parts.specs.Checksum.{digest_of};
+ghost use Rattle.cargo_lock_parts.specs.Checksum.{digest_of, digest_text};
 ghost use Rattle.cargo_lock_references.specs.Reference as reference;
 
 use cargo_lock_graph::graph::NodeIndex;
@@ -45,41 +45,30 @@ impl<'a> Spec<'a> {
         })
     }
 
-    // Whether a package matches. Fails when out of memory.
-    fn fits(&self, alloc: Global, package: &Package) -> Result<bool, AllocError>
-        ensures { IfOk result (λ is. is ≡ fits (data_of self.now) «package».now) }
+    // Whether a package matches.
+    fn fits(&self, package: &Package) -> bool
+        ensures { result ≡ fits (data_of self.now) «package».now }
     {
         let named = package.name.as_str() == self.name;
         match (self.both, named) {
-            (true, false) => Ok(false),
-            (false, true) => Ok(true),
-            _ => self.part_fits(alloc, package),
+            (true, false) => false,
+            (false, true) => true,
+            _ => self.part_fits(package),
         }
     }
 
     // Whether the second part is the version of a package, or, if it is not a version, its
     // checksum or the precise text of its source.
-    fn part_fits(&self, alloc: Global, package: &Package) -> Result<bool, AllocError>
-        ensures { IfOk result (λ is. is
-            ≡ part_fits (data_of self.now).version (data_of self.now).part «package».now) }
+    fn part_fits(&self, package: &Package) -> bool
+        ensures { result
+            ≡ part_fits (data_of self.now).version (data_of self.now).part «package».now }
     {
         match &self.version {
-            Some(version) => Ok(same_version(&package.version, version)),
-            None => is_from_or_has(alloc, package, self.part),
+            Some(version) => same_version(&package.version, version),
+            None => is_precise(&package.source, self.part)
+                || is_checksum(&package.checksum, self.part),
         }
     }
-}
-
-// Whether a text is the precise text of a package's source, or its checksum. Fails when out of
-// memory.
-fn is_from_or_has(alloc: Global, package: &Package, text: &str) -> Result<bool, AllocError>
-    ensures { IfOk result (λ is. is ≡ (has_precise «package».now.source text.now
-        || has_checksum «package».now.checksum text.now)) }
-{
-    if is_precise(&package.source, text) {
-        return Ok(true);
-    }
-    is_checksum(alloc, &package.checksum, text)
 }
 
 // The texts before and after the first `@`, or the whole text twice, and whether there is one.
@@ -119,16 +108,26 @@ fn is_precise(source: &Option<SourceId>, text: &str) -> bool
     }
 }
 
-// Whether a text is the lower-case text of a checksum. Fails when out of memory.
-fn is_checksum(alloc: Global, checksum: &Option<Checksum>, text: &str) -> Result<bool, AllocError>
-    ensures { IfOk result (λ is. is ≡ has_checksum (option_map digest_of checksum.now) text.now) }
+// Whether a text is the lower-case text of a checksum. It allocates nothing, and mostly looks at the
+// length of the text alone.
+fn is_checksum(checksum: &Option<Checksum>, text: &str) -> bool
+    ensures { result ≡ has_checksum (option_map digest_of checksum.now) text.now }
 {
     match checksum {
-        Some(checksum) => match checksum.to_lower_hex(alloc) {
-            Ok(hex) => Ok(hex.as_str() == text),
-            Err(_) => Err(AllocError),
-        },
-        None => Ok(false),
+        Some(checksum) => text.len() == 64 && is_digest(checksum, text),
+        None => false,
+    }
+}
+
+// Whether a text is the lower-case text of a digest.
+fn is_digest(checksum: &Checksum, text: &str) -> bool
+    ensures { result ≡ bytes_eq (digest_text (digest_of checksum.now)) text.now }
+{
+    let Checksum::Sha256(digest) = *checksum;
+    let mut digits = [0u8; 64];
+    match hex::encode_to_slice(digest.as_slice(), &mut digits) {
+        Ok(()) => digits.as_slice() == text.as_bytes(),
+        Err(_) => unreachable!(),
     }
 }
 
@@ -152,7 +151,7 @@ pub fn fitting(
     let parsed = Spec::parse(alloc, spec)?;
     let mut fitting = Vec::new(alloc);
     for (place, package) in packages.iter().enumerate() {
-        if parsed.fits(alloc, package)? {
+        if parsed.fits(package) {
             fitting.push(NodeIndex::new(place))?;
         }
     }

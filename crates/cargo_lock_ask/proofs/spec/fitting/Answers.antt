@@ -10,8 +10,8 @@ loop-place-preserved c =
     let l = c.loop-place in
     let p = c.index-packages-place.result in
     let before : List ℕ = l.fitting.items in
-    fitting-tested c.args.spec.now c.args.packages.now l.place p c.in_ok-fits.field-0 before _
-    c.loop-place-test.true c.index-packages-place.is (c.in_ok-fits.ensures ∙ ap (λ (s : SpecData). fits s p) c.in_ok-parsed.ensures)
+    fitting-tested c.args.spec.now c.args.packages.now l.place p c.fits.result before _
+    c.loop-place-test.true c.index-packages-place.is (c.fits.ensures ∙ ap (λ (s : SpecData). fits s p) c.in_ok-parsed.ensures)
     (elim c.if-branch.branch [
       | then-branch+in_ok-push w ↦ rw (w.fitting-is, w.if-branch.true) (w.in_ok-push.ensures.items ∙ ap (λ (k : ℕ). before ++ k ∷ []) w.new.ensures)
       | else-branch w ↦ rw (w.fitting-is, w.if-branch.false) refl
