@@ -16,7 +16,7 @@ use Rattle.cargo_lock_merging.specs.Placed.{HasAt, PlacedData}
 use Rattle.cargo_lock_merging.proofs.Members.{in-map, map-in}
 use Rattle.cargo_lock_merging.proofs.Once.{one-at}
 use Rattle.cargo_lock_merging.proofs.Planning.{map-push}
-use Rattle.cargo_lock_merging.proofs.Zipping.{zip-push}
+use Rattle.cargo_lock_graph.proofs.Zipped.{zip-push}
 use Rattle.cargo_lock_merging.specs.Kept.{merged_places}
 
 -- no merged package is at a place that is none of theirs

@@ -5,7 +5,6 @@ pub mod OneLine
 pub mod Conflicting
 pub mod Outcomes
 pub mod Patching
-pub mod Referred
 pub mod MetadataMerging
 pub mod LockfileMerging
 pub mod ByPlaces

@@ -18,7 +18,6 @@ use Rattle.cargo_lock_merging.specs.Placed.{PlacedData}
 use Rattle.cargo_lock_merging.proofs.Members.{in-map}
 use Rattle.cargo_lock_merging.proofs.Permuting.{map-permuted, pairs-permuted}
 use Rattle.cargo_lock_merging.proofs.Planning.{all-in}
-use Rattle.cargo_lock_merging.proofs.Zipping.{zip-push}
 use Rattle.cargo_lock_merge.specs.declared.moved.Moved.{Moved}
 use Rattle.cargo_lock_merge.specs.declared.moved.Named.{Named}
 use Rattle.cargo_lock_merge.specs.Order.{moved_order}
@@ -70,13 +69,6 @@ are-marked packages (f ∷ fs) (n ∷ ns) (r ∷ rs) named marked =
           (subst (λ (i : Identity). Decides r.with_sources (HasNamesake packages n.from ⊎ HasNamesake packages i)) to marked.0.shown))
           rest.1,
     )
-
--- one more beside one more
-pub zip-more : {X Y : Type 0} (R : X → Y → Type 0) (xs : List X) (k : ℕ) (x : X) (old new : List Y) (y : Y) → k < length xs → x ≡ get_or xs k x → AllZip R (take k xs) old → R x y → new ≡ old ++ y ∷ []
-    → AllZip R (take (k + 1) xs) new
-zip-more R xs k x old new y low is zip one grows =
-    subst (AllZip R (take (k + 1) xs)) (sym grows)
-    (subst (λ zs. AllZip R zs (old ++ y ∷ [])) (sym (take_more xs k x low ∙ ap (λ z. take k xs ++ z ∷ []) (sym is))) (zip-push R (take k xs) old x y zip one))
 
 -- ---- namesakes
 

@@ -19,7 +19,7 @@ use Rattle.cargo_lock_merging.proofs.ByPlaces.{merged-number}
 use Rattle.cargo_lock_merging.proofs.Kept.{AreKept, kept-pass, kept-push, kept-start}
 use Rattle.cargo_lock_merging.proofs.Permuting.{pairs-permuted}
 use Rattle.cargo_lock_merging.proofs.Slotting.{numbers-one, place-stated}
-use Rattle.cargo_lock_merging.proofs.Zipping.{zip-push}
+use Rattle.cargo_lock_graph.proofs.Zipped.{zip-push}
 use Rattle.cargo_lock_merge.specs.Once.{AreApart, DependsApart, HasEachOnce, ReferToOne}
 use Rattle.cargo_lock_merge.specs.Referring.{IsReferenceTo, IsReferring}
 use Rattle.cargo_lock_merge.proofs.Assembling.{zip-get, zip-permuted}

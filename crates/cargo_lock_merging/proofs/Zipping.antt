@@ -20,18 +20,6 @@ head-or y ys x h = elim (Contains-append_cases (y ∷ []) ys x h) [
 pub at-head : {X : Type 0} (x : X) (xs : List X) → Contains (x ∷ xs) x
 at-head x xs = (0, omega arith, refl)
 
-pub zip-push : {A B : Type 0} (R : A → B → Type 0) (xs : List A) (ys : List B) (x : A) (y : B) → AllZip R xs ys → R x y → AllZip R (xs ++ x ∷ []) (ys ++ y ∷ [])
-zip-push R [] [] x y h r = (r, tt)
-zip-push R [] (b ∷ ys) x y h r = absurd h
-zip-push R (a ∷ xs) [] x y h r = absurd h
-zip-push R (a ∷ xs) (b ∷ ys) x y h r = (h.0, zip-push R xs ys x y h.1 r)
-
-pub zip-more : {A B : Type 0} (R : A → B → Type 0) (xs : List A) (ys : List B) (i : ℕ) (x : A) (y : B) → i < length xs → x ≡ get_or xs i x → AllZip R (take i xs) ys → R x y
-    → AllZip R (take (i + 1) xs) (ys ++ y ∷ [])
-zip-more {A = A} R xs ys i x y low is h r =
-    subst (λ (zs : List A). AllZip R zs (ys ++ y ∷ [])) (sym (take_more xs i x low ∙ ap (λ (z : A). take i xs ++ z ∷ []) (sym is)))
-    (zip-push R (take i xs) ys x y h r)
-
 pub zip-right : {A B : Type 0} (R : A → B → Type 0) (xs : List A) (ys : List B) (y : B) → AllZip R xs ys → Contains ys y → (x : A) × Contains xs x × R x y
 zip-right R [] [] y h c = absurd (nothing-in y c)
 zip-right R [] (b ∷ ys) y h c = absurd h

@@ -2,17 +2,10 @@
 use Rattle.std.proofs.Common.{◌≡◌, ◌∙◌, ◌+◌, ◌<◌, ◌++◌, ◌∷◌, [], ℕ, List, Option, String, ap, get_or, length, map, option_map, string_bytes, sym, take}
 use Rattle.std.specs.List.{AllZip}
 use Rattle.std.proofs.lemmas.List.{map-append, take_more}
+use Rattle.cargo_lock_graph.proofs.Zipped.{zip-push}
 use Rattle.cargo_lock_licenses.specs.declared.subject.Subject.{Subject}
 use Rattle.cargo_lock_licenses.specs.Subjects.{subject_of}
 use Rattle.cli_tools.specs.BillLicenses.{IsLicense}
-
--- what relates two lists relates them with one more element each
-AllZip-last : {A B : Type 0} (R : A → B → Type 0) (xs : List A) (ys : List B) (x : A) (y : B) → AllZip R xs ys → R x y
-    → AllZip R (xs ++ x ∷ []) (ys ++ y ∷ [])
-AllZip-last R [] [] x y h r = (r, tt)
-AllZip-last R [] (b ∷ ys) x y h r = absurd h
-AllZip-last R (a ∷ xs) [] x y h r = absurd h
-AllZip-last R (a ∷ xs) (b ∷ ys) x y h r = (h.0, AllZip-last R xs ys x y h.1 r)
 
 -- a step of the loop over the subjects
 pub next-license : {Y : Type 0} (subjects : List Subject) (i : ℕ) (s : Subject) (old new : List (Option (String Y))) (license : Option (String Y)) → i < length subjects → s ≡ get_or subjects i s
@@ -23,4 +16,4 @@ next-license subjects i s old new license within is all one grown =
     ap (map subject_of) (take_more subjects i s within ∙ ap (λ (y : Subject). take i subjects ++ y ∷ []) (sym is)) ∙ map-append subject_of (take i subjects) (s ∷ []) in
     let right : map (option_map string_bytes) new ≡ map (option_map string_bytes) old ++ option_map string_bytes license ∷ [] =
     ap (map (option_map string_bytes)) grown ∙ map-append (option_map string_bytes) old (license ∷ []) in
-    rw (left, right) (AllZip-last IsLicense (map subject_of (take i subjects)) (map (option_map string_bytes) old) (subject_of s) (option_map string_bytes license) all one)
+    rw (left, right) (zip-push IsLicense (map subject_of (take i subjects)) (map (option_map string_bytes) old) (subject_of s) (option_map string_bytes license) all one)

@@ -1,7 +1,7 @@
 -- Texts that are printed in pieces, one for each element of a list.
 use Rattle.std.proofs.Common.{◌≡◌, ◌∙◌, ◌<◌, ◌+◌, ◌++◌, ◌∷◌, ℕ, List, [], Option, ap, append_assoc, map, refl, sym, subst, take, length, get_or}
 use Rattle.std.specs.Io.KnownBytes.{Appends}
-use Rattle.std.specs.List.{AllZip, flat_map}
+use Rattle.std.specs.List.{flat_map}
 use Rattle.std.proofs.lemmas.List.{append-nil, take_more}
 use Rattle.std.proofs.lemmas.List.Concat.{flat_map-append}
 use Rattle.cargo_lock_parts.proofs.Appended.{appends_more}
@@ -24,14 +24,6 @@ pub appends_each : {A : Type 0} (text : A → List ℕ) (a b c : Option (List �
     → Appends a c (flat_map text (take (i + 1) xs))
 appends_each {A} text a b c xs i x lt at h k =
     subst (λ (ys : List A). Appends a c (flat_map text ys)) (sym (take-next xs i x lt at)) (appends_last text a b c (take i xs) x h k)
-
--- what relates two lists relates them with one more element each
-pub AllZip-last : {A B : Type 0} (R : A → B → Type 0) (xs : List A) (ys : List B) (x : A) (y : B) → AllZip R xs ys → R x y
-    → AllZip R (xs ++ x ∷ []) (ys ++ y ∷ [])
-AllZip-last R [] [] x y h r = (r, tt)
-AllZip-last R [] (b ∷ ys) x y h r = absurd h
-AllZip-last R (a ∷ xs) [] x y h r = absurd h
-AllZip-last R (a ∷ xs) (b ∷ ys) x y h r = (h.0, AllZip-last R xs ys x y h.1 r)
 
 -- the pieces of a line, as they are printed
 pub line-text : (start name version source end : List ℕ)

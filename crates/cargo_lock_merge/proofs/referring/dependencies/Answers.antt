@@ -2,7 +2,7 @@ use Rattle.std.proofs.Common.{List, arith, subst}
 use Rattle.std.specs.List.{AllZip}
 use Rattle.std.proofs.lemmas.List.{take_all}
 use Rattle.cargo_lock_merge.specs.Referring.{IsReferenceTo}
-use Rattle.cargo_lock_merge.proofs.Referred.{zip-next}
+use Rattle.cargo_lock_graph.proofs.Zipped.{zip-next}
 use Rattle.cargo_lock_parts.specs.Identity.{Identity}
 use Rattle.cargo_lock_merge.proofs.referring.dependencies.Goals as goal
 

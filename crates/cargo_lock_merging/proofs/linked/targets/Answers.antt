@@ -6,7 +6,7 @@ use Rattle.cargo_lock_parts.specs.Identity.{PackageData}
 use Rattle.cargo_lock_graph.specs.Edges.{Edge}
 use Rattle.cargo_lock_merging.specs.Linked.{AreLinked, RefersTo}
 use Rattle.cargo_lock_merging.proofs.Linking.{edge-target, either-refers, joined-next, refers-within}
-use Rattle.cargo_lock_merging.proofs.Zipping.{zip-push}
+use Rattle.cargo_lock_graph.proofs.Zipped.{zip-push}
 use Rattle.cargo_lock_merging.proofs.linked.targets.Goals as goal
 
 pub loop-edge-preserved : goal.loop-edge-preserved

@@ -8,7 +8,8 @@ use Rattle.std.proofs.lemmas.Map.Keys.{IsStrictlyIncreasing-dedup}
 use Rattle.cargo_lock_merging.specs.Lists.{IsNumberAt}
 use Rattle.cargo_lock_merging.specs.Places.{Place}
 use Rattle.cargo_lock_merging.proofs.Slotting.{number-made, number-one}
-use Rattle.cargo_lock_merging.proofs.Zipping.{zip-left, zip-more, zip-right}
+use Rattle.cargo_lock_merging.proofs.Zipping.{zip-left, zip-right}
+use Rattle.cargo_lock_graph.proofs.Zipped.{zip-more}
 use Rattle.cargo_lock_merging.proofs.lists.places.Goals as goal
 
 pub loop-at-preserved : goal.loop-at-preserved

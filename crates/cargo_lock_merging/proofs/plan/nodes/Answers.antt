@@ -3,7 +3,7 @@ use Rattle.std.specs.List.{AllZip}
 use Rattle.cargo_lock_merging.specs.declared.entry.Entry.{Entry}
 use Rattle.cargo_lock_merging.specs.declared.reach.Node.{Node}
 use Rattle.cargo_lock_merging.specs.Plans.{IsNodeOf}
-use Rattle.cargo_lock_merging.proofs.Zipping.{zip-more}
+use Rattle.cargo_lock_graph.proofs.Zipped.{zip-more}
 use Rattle.cargo_lock_merging.proofs.plan.nodes.Goals as goal
 
 pub loop-entry-preserved : goal.loop-entry-preserved

@@ -4,7 +4,8 @@ use Rattle.cargo_lock_graph.specs.DrawingText.{drawing_text, standard_symbols}
 use Rattle.cargo_lock_graph.specs.Labels.{label_at}
 use Rattle.cargo_lock_parts.proofs.Appended.{appends_more}
 use Rattle.cli_views.specs.Tree.{IsDrawn}
-use Rattle.cli_views.proofs.Pieces.{AllZip-last, appends_last, take-next}
+use Rattle.cargo_lock_graph.proofs.Zipped.{zip-push}
+use Rattle.cli_views.proofs.Pieces.{appends_last, take-next}
 use Rattle.cli_views.proofs.tree.print_more_trees.Goals as goal
 
 pub loop-start-preserved : goal.loop-start-preserved
@@ -23,6 +24,6 @@ loop-start-preserved g c =
     let text : List ℕ = drawing_text standard_symbols (label_at c.args.style.exact graph.packages) tree.0 in
     let next = take-next starts c.loop-start.start-index start c.loop-start-test.true c.start-item.is in (
       so_far.0 ++ text ∷ [],
-      subst (λ (ns : List ℕ). AllZip drawn ns (so_far.0 ++ text ∷ [])) (sym next) (AllZip-last drawn _ so_far.0 start text so_far.1 (tree.0, tree.1, refl)),
+      subst (λ (ns : List ℕ). AllZip drawn ns (so_far.0 ++ text ∷ [])) (sym next) (zip-push drawn _ so_far.0 start text so_far.1 (tree.0, tree.1, refl)),
       appends_last (λ t. 10 ∷ t) old before new so_far.0 text so_far.2 (appends_more before mid new (10 ∷ []) text c.in_ok-put.ensures tree.2),
     )
