@@ -1,6 +1,6 @@
 //! Why a package is in a graph.
 
-ghost use Rattle.std.specs.Prelude.{◌≡◌, ◌<◌, ◌↔◌, ℕ, List, IfOk, IsTrue, MatchOption, length, map};
+ghost use Rattle.std.specs.Prelude.{◌≡◌, ◌<◌, ℕ, List, IfOk, MatchOption, length, map};
 ghost use Rattle.cargo_lock_graph.specs.Edges.{GraphData};
 ghost use Rattle.cargo_lock_ask.specs.Chains.{AreChainsOfEach, IsShortestChain, IsUnreached};
 ghost use Rattle.cargo_lock_ask.specs.FirstChains.{AreFirstChains, linked_by};

@@ -1,8 +1,6 @@
 //! How many steps it is from each node to one node.
 
 ghost use Rattle.std.specs.Prelude.{◌≡◌, ◌+◌, ◌^◌, ◌<◌, true, IfOk, OnOk, Some, None, length};
-ghost use Rattle.std.specs.Prelude.{slice_get, unwrap_or};
-ghost use Rattle.std.specs.List.{Contains};
 ghost use Rattle.cargo_lock_graph.specs.Drawing.{is_one_of};
 ghost use Rattle.cargo_lock_ask.specs.Chains.{needs};
 ghost use Rattle.cargo_lock_ask.specs.Steps.{AreSteps, HasCounted, IsSearch, NeedsOneOf, met_by};

@@ -1,6 +1,6 @@
 //! The bill of materials of the packages of a lockfile, as the program prints it.
 
-ghost use Rattle.std.specs.Prelude.{◌≡◌, ◌⊎◌, ◌∷◌, ◌++◌, [], cond, IfErr, IfOk, string_bytes};
+ghost use Rattle.std.specs.Prelude.{◌≡◌, ◌∷◌, ◌++◌, [], cond, IfErr, IfOk, string_bytes};
 ghost use Rattle.json.specs.Layout.{pretty};
 ghost use Rattle.json.specs.Print.{print};
 ghost use Rattle.cargo_lock_parts.specs.Ascii.{newline};

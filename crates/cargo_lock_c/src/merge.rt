@@ -1,6 +1,6 @@
 //! The merge of three lockfiles by packages.
 
-ghost use Rattle.std.specs.Prelude.{◌≡◌, ◌++◌, ◌∷◌, [], IfErr, IfOk, string_bytes};
+ghost use Rattle.std.specs.Prelude.{◌≡◌, IfErr, IfOk, string_bytes};
 ghost use Rattle.cargo_lock_c.specs.declared.refusal.Refusal.TheVariants.{NoMemory};
 ghost use Rattle.cargo_lock_c.specs.Merges.{IsHandedOutWith, IsMergeAnswered, IsMergeText};
 ghost use Rattle.cargo_lock_c.specs.Merges.{IsTextAbout, IsTextAboutError, IsTextOf, LacksMerge};

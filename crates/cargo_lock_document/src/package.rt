@@ -1,6 +1,6 @@
 //! Packages in JSON.
 
-ghost use Rattle.std.specs.Prelude.{◌∷◌, ◌++◌, [], codes, decimal, is_none, map};
+ghost use Rattle.std.specs.Prelude.{◌∷◌, [], codes, decimal, is_none, map};
 ghost use Rattle.std.specs.Prelude.{if◌then◌else◌};
 ghost use Rattle.std.specs.List.{flat_map};
 ghost use Rattle.std.specs.Option.{option_to_list};

@@ -1,6 +1,6 @@
 //! What is found of packages by advisories, as a document of JSON.
 
-ghost use Rattle.std.specs.Prelude.{◌≡◌, ◌∷◌, [], IfOk, codes, map, string_bytes};
+ghost use Rattle.std.specs.Prelude.{◌≡◌, ◌∷◌, IfOk, codes, map, string_bytes};
 ghost use Rattle.json.specs.Json.{array};
 ghost use Rattle.json.specs.Token.{key, string};
 ghost use Rattle.json.specs.Tree.{json_tokens};

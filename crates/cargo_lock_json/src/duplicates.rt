@@ -1,6 +1,6 @@
 //! The names that several packages have, as a document of JSON.
 
-ghost use Rattle.std.specs.Prelude.{◌≡◌, ◌∷◌, IfOk, codes, map, option_map, string_bytes};
+ghost use Rattle.std.specs.Prelude.{◌∷◌, IfOk, codes, map, option_map, string_bytes};
 ghost use Rattle.json.specs.Json.{array};
 ghost use Rattle.json.specs.Token.{key};
 ghost use Rattle.json.specs.Tree.{json_tokens};

@@ -1,11 +1,10 @@
 //! What is wrong with a lockfile, as a document of JSON.
 
-ghost use Rattle.std.specs.Prelude.{◌≡◌, ◌∷◌, IfOk, codes, decimal, map, option_map, string_bytes};
+ghost use Rattle.std.specs.Prelude.{◌≡◌, ◌∷◌, IfOk, codes, map, option_map, string_bytes};
 ghost use Rattle.json.specs.Json.{array};
-ghost use Rattle.json.specs.Token.{begin_object, key, number, string};
+ghost use Rattle.json.specs.Token.{begin_object, key, number};
 ghost use Rattle.json.specs.Tree.{json_tokens};
 ghost use Rattle.cargo_lock_check.specs.Finding.{finding_of};
-ghost use Rattle.cargo_lock_references.specs.Format.{number_of};
 ghost use Rattle.cargo_lock_json.specs.Findings.{finding_json, kind_text, line_json, other_json};
 ghost use Rattle.cargo_lock_json.specs.Findings.{package_of};
 ghost use Rattle.cargo_lock_json.specs.Findings as spec;

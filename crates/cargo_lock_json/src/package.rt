@@ -1,6 +1,6 @@
 //! Packages and dependencies in JSON.
 
-ghost use Rattle.std.specs.Prelude.{◌≡◌, ◌∷◌, codes, map, option_map, true};
+ghost use Rattle.std.specs.Prelude.{◌∷◌, codes, map, option_map, true};
 ghost use Rattle.semver.specs.Identifiers.{parts_of, parts_text};
 ghost use Rattle.json.specs.Token.{begin_object, key, string};
 ghost use Rattle.json.specs.Tree.{json_tokens};

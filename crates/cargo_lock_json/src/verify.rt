@@ -1,8 +1,7 @@
 //! What the documents of `verify` have in common.
 
-ghost use Rattle.std.specs.Prelude.{◌∷◌, [], codes, decimal, option_map};
+ghost use Rattle.std.specs.Prelude.{◌∷◌, [], codes, decimal};
 ghost use Rattle.json.specs.Token.{begin_object, key, number, string};
-ghost use Rattle.json.specs.Tree.{json_tokens};
 ghost use Rattle.json_line.specs.Text.{Adds};
 ghost use Rattle.cargo_lock_references.specs.Format.{number_of};
 

@@ -1,6 +1,6 @@
 //! The metadata of a merge.
 
-ghost use Rattle.std.specs.Prelude.{◌≡◌, ◌≢◌, ◌⊎◌, ℕ, IfOk, IsOkUnless, List, MatchOption, None};
+ghost use Rattle.std.specs.Prelude.{◌≡◌, ◌⊎◌, ℕ, IfOk, IsOkUnless, List, MatchOption, None};
 ghost use Rattle.std.specs.Prelude.{OnOk, Some, if◌then◌else◌, option_copied};
 ghost use Rattle.std.specs.Bool.{Decides};
 ghost use Rattle.cargo_lock.specs.CargoChecksums.{key_from};

@@ -2,10 +2,9 @@
 
 ghost use Rattle.std.specs.Prelude.{◌≡◌, ◌≢◌, ◌+◌, ◌<◌, ◌≤◌, ◌^◌, ◌↔◌, ℕ, All, IfErr, IfOk};
 ghost use Rattle.std.specs.Prelude.{IsOkUnless};
-ghost use Rattle.std.specs.Prelude.{length, slice_get};
+ghost use Rattle.std.specs.Prelude.{length};
 ghost use Rattle.std.specs.List.{Contains};
 ghost use Rattle.std.specs.List.Sorted.{IsStrictlyIncreasing};
-ghost use Rattle.cargo_lock_parts.specs.Identity.{PackageData};
 ghost use Rattle.cargo_lock_parts.specs.declared.error.Error.TheVariants.{Memory};
 ghost use Rattle.cargo_lock_merging.specs.Lists.{AreNumberedFrom, AreSlots};
 ghost use Rattle.cargo_lock_merging.specs.Lists.{IsNumberAt, IsNumberedAt, IsReplaced, place_in};

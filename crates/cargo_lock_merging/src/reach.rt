@@ -1,7 +1,7 @@
 //! Which places are reached from the roots.
 
-ghost use Rattle.std.specs.Prelude.{◌≡◌, ◌<◌, ◌↔◌, ℕ, Bool, false, true, IfOk, OnOk, MatchOption};
-ghost use Rattle.std.specs.Prelude.{length, map, slice_get};
+ghost use Rattle.std.specs.Prelude.{◌≡◌, ◌<◌, ◌↔◌, ℕ, false, true, IfOk, OnOk, MatchOption};
+ghost use Rattle.std.specs.Prelude.{length, slice_get};
 ghost use Rattle.std.specs.List.{Contains};
 ghost use Rattle.std.specs.List.Sorted.{IsStrictlyIncreasing};
 ghost use Rattle.cargo_lock_merging.specs.Merge.{IsReachedFrom};

@@ -1,6 +1,6 @@
 //! What a merge depends on at a place.
 
-ghost use Rattle.std.specs.Prelude.{◌≡◌, ◌⊎◌, ◌↔◌, ℕ, IfOk, IsTrue};
+ghost use Rattle.std.specs.Prelude.{◌⊎◌, ◌↔◌, ℕ, IfOk};
 ghost use Rattle.std.specs.Bool.{Decides};
 ghost use Rattle.std.specs.List.{Contains};
 ghost use Rattle.std.specs.List.Sorted.{IsStrictlyIncreasing};

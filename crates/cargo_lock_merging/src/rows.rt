@@ -1,9 +1,9 @@
 //! Three lists of packages side by side, by their places.
 
-ghost use Rattle.std.specs.Prelude.{◌≡◌, ◌⊎◌, ◌↔◌, ℕ, All, IfOk, map, option_map};
+ghost use Rattle.std.specs.Prelude.{◌≡◌, ◌⊎◌, ◌↔◌, ℕ, All, IfOk, map};
 ghost use Rattle.std.specs.List.{Contains};
 ghost use Rattle.std.specs.List.Sorted.{IsStrictlyIncreasing};
-ghost use Rattle.cargo_lock_merging.specs.Numbered.{all_data, data_if, data_of, places_of, IsInOrder};
+ghost use Rattle.cargo_lock_merging.specs.Numbered.{all_data, data_if, places_of, IsInOrder};
 ghost use Rattle.cargo_lock_merging.specs.Numbered.{IsRowOf};
 ghost use Rattle.cargo_lock_merging.specs.Placed.{IsAt};
 ghost use Rattle.cargo_lock_merging.specs.Sets.{AreBelow};

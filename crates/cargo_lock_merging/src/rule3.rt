@@ -1,6 +1,6 @@
 //! The rule of three.
 
-ghost use Rattle.std.specs.Prelude.{◌≡◌, ◌↔◌, IsTrue};
+ghost use Rattle.std.specs.Prelude.{◌↔◌, IsTrue};
 ghost use Rattle.cargo_lock_merging.specs.Agreed.{IsAgreedSide};
 ghost use Rattle.cargo_lock_merging.specs.Rule3.{IsKept};
 

@@ -1,5 +1,5 @@
 //! The command `merge`: two lockfiles, merged over their common ancestor.
-ghost use Rattle.std.specs.Prelude.{◌≡◌, IfOk, OnOk};
+ghost use Rattle.std.specs.Prelude.{◌≡◌, IfOk};
 ghost use Rattle.clap.specs.Matches.{found_of};
 ghost use Rattle.cargo_lock_merge.specs.MergedLockfiles.{MergesTo};
 ghost use Rattle.cli_lockfiles.specs.Load.{IsCompared};

@@ -1,6 +1,6 @@
 //! The command `audit`: which packages of a lockfile have a known vulnerability, by a folder of
 //! advisories.
-ghost use Rattle.std.specs.Prelude.{◌≡◌, IfOk, OnOk, codes, map};
+ghost use Rattle.std.specs.Prelude.{◌≡◌, IfOk, OnOk, map};
 ghost use Rattle.std.specs.List.{list_any};
 ghost use Rattle.clap.specs.Matches.{found_of};
 ghost use Rattle.cargo_lock_audit.specs.Database.{AreInOrder};
@@ -10,7 +10,6 @@ ghost use Rattle.json_line.specs.Text.{IsJsonText};
 ghost use Rattle.cli_tools.specs.Audit.{PrintsAdvisories, PrintsAudit, PrintsAuditOf};
 ghost use Rattle.cli_tools.specs.Audit.{PrintsAuditReport};
 ghost use Rattle.cli_lockfiles.specs.Json.{PrintsLine};
-ghost use Rattle.cli_tools.specs.Texts.{given_texts};
 
 use crate::folders::folder;
 use crate::texts;

@@ -1,6 +1,6 @@
 //! The command `licenses`: what the manifests of packages say of their licences, and which of them
 //! are not allowed.
-ghost use Rattle.std.specs.Prelude.{◌≡◌, IfOk, OnOk, codes, map};
+ghost use Rattle.std.specs.Prelude.{◌≡◌, IfOk, OnOk, map};
 ghost use Rattle.clap.specs.Matches.{found_of};
 ghost use Rattle.cargo_lock_json.specs.Licenses.{verdicts_json};
 ghost use Rattle.json_line.specs.Text.{IsJsonText};
@@ -9,7 +9,6 @@ ghost use Rattle.cargo_lock_licenses.specs.Verdicts.{verdict_of};
 ghost use Rattle.cli_lockfiles.specs.Json.{PrintsLine};
 ghost use Rattle.cli_tools.specs.Licenses.{AreLicensed, PrintsLicenses, PrintsLicensesOf};
 ghost use Rattle.cli_tools.specs.Licenses.{PrintsLicenseReport, PrintsVerdicts};
-ghost use Rattle.cli_tools.specs.Texts.{given_texts};
 
 use crate::folders::{cache, vendor};
 use crate::texts;

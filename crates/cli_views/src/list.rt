@@ -6,7 +6,7 @@ ghost use Rattle.std.specs.List.{flat_map};
 ghost use Rattle.clap.specs.Matches.{found_of};
 ghost use Rattle.semver.specs.Identifiers.{parts_of, parts_text};
 ghost use Rattle.cargo_lock_parts.specs.Identity.{source_part};
-ghost use Rattle.cli_views.specs.List.{PrintsList, dependency_lines, identity_line, is_wanted, list_text};
+ghost use Rattle.cli_views.specs.List.{PrintsList, identity_line, is_wanted, list_text};
 ghost use Rattle.cli_views.specs.List.{package_lines};
 
 use cargo_lock::{Dependency, Name, Package, SourceId, Version};

@@ -5,10 +5,9 @@ ghost use Rattle.std.specs.List.{AllZip};
 ghost use Rattle.clap.specs.Matches.{found_of};
 ghost use Rattle.cargo_lock_graph.specs.Edges.{GraphData};
 ghost use Rattle.cargo_lock_graph.specs.Rendering.{Draws};
-ghost use Rattle.cli_lockfiles.specs.Json.{IsFlag};
 ghost use Rattle.cli_views.specs.Tree.{AreDrawn, AreStarts, IsDrawn, PrintsTrees};
 ghost use Rattle.cli_lockfiles.specs.Load.{IsGraphOf};
-ghost use Rattle.cli_views.specs.Tree.{PrintsTreesOf, after_empty_lines, direction_of, given_specs};
+ghost use Rattle.cli_views.specs.Tree.{PrintsTreesOf, after_empty_lines, direction_of};
 
 use cargo_lock::dependency::Tree;
 use cargo_lock::dependency::graph::{EdgeDirection, NodeIndex};
