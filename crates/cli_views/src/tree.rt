@@ -11,7 +11,7 @@ ghost use Rattle.cli_views.specs.Tree.{PrintsTreesOf, after_empty_lines, directi
 
 use cargo_lock::dependency::Tree;
 use cargo_lock::dependency::graph::{EdgeDirection, NodeIndex};
-use cargo_lock::{Dependency, Error, Lockfile, Package};
+use cargo_lock::{Dependency, Lockfile, Package};
 use clap::{ArgMatches, Command};
 use cli_lockfiles::load::{lockfile, tree_of};
 use cli_lockfiles::spec::{some_fitting, specs};
