@@ -15,7 +15,7 @@ use Rattle.std.proofs.lemmas.List.Elements.{All-head, All-tail, at_read, filter-
 use Rattle.std.proofs.lemmas.List.Sorted.{ranks_by, sorted_far}
 use Rattle.std.proofs.lemmas.List.Sums.{length-filter, sum_by-cons}
 use Rattle.cargo_lock_parts.specs.PartialIdentity.{PartialIdentity, PartialKey, partial_identity_cmp, is_same_partial_identity, is_same_partial_identity-Decides}
-use Rattle.cargo_lock_index.specs.Near.{Placed, IsIndexOf, beginning, near_cmp, near_total, entry_cmp, entry_total, is_same_entry, has_key, placed_from, first_from, first_place, last_from, last_place, is_only, passes, place_before, place_if}
+use Rattle.cargo_lock_index.specs.Near.{Placed, IsIndexOf, beginning, near_cmp, near_total, entry_cmp, entry_total, is_same_entry, has_key, placed_from, first_from, first_place, last_from, last_place, is_only, passes, place_before, place_if, tail_place}
 
 -- ---- the order
 
@@ -298,11 +298,6 @@ above-other Less h = refl
 above-other Equal h = absurd (false≢true h)
 above-other Greater h = refl
 
--- the place of the last entry
-abbrev pub tail_place : List Placed → Option ℕ
-tail_place [] = None
-tail_place (e ∷ es) = option_or (tail_place es) (Some e.place)
-
 or-some : (o : Option ℕ) (n : ℕ) → o ≡ Some n → (m : ℕ) → option_or o (Some m) ≡ Some n
 or-some o n h m = ap (λ z. option_or z (Some m)) h
 
@@ -323,7 +318,7 @@ one-tail : (b : Bool) (e : Placed) (rest : List Placed) (o : Option ℕ) → o �
 one-tail true e rest o h = ap (λ z. option_or z (Some e.place)) h
 one-tail false e rest o h = or-none o ∙ h
 
-last-tail : (p : PartialIdentity → Bool) (i : ℕ) (keys : List PartialIdentity) → last_from p i keys ≡ tail_place (filter (λ e. p e.key) (placed_from i keys))
+pub last-tail : (p : PartialIdentity → Bool) (i : ℕ) (keys : List PartialIdentity) → last_from p i keys ≡ tail_place (filter (λ e. p e.key) (placed_from i keys))
 last-tail p i [] = refl
 last-tail p i (k ∷ keys) =
     one-tail (p k) (record { key = k; place = i }) (filter (λ e. p e.key) (placed_from (i + 1) keys)) (last_from p (i + 1) keys) (last-tail p (i + 1) keys)
