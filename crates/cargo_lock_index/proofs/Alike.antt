@@ -1,5 +1,5 @@
 -- The entries whose keys are alike are neighbours, and they are those of the list.
-use Rattle.std.proofs.Common.{◌≡◌, ◌<◌, ◌≤◌, ◌+◌, ◌↔◌, ℕ, List, [], ◌∷◌, suc, zero, Option, Some, None, Bool, true, false, cond, take, drop, get_or, length, ◌-◌, nat_lt, if◌then◌else◌, slice_get, option_map, refl, ap, ◌∙◌, sym, subst, arith, inl, inr}
+use Rattle.std.proofs.Common.{◌≡◌, ◌<◌, ◌≤◌, ◌+◌, ◌↔◌, ℕ, List, [], ◌∷◌, suc, zero, Option, Some, None, Bool, true, false, cond, take, drop, get_or, length, ◌-◌, nat_lt, slice_get, option_map, refl, ap, ◌∙◌, sym, subst, arith, inl, inr}
 use Rattle.std.specs.Cmp.{IsEquivalence, IsTotalOrder, Equal-is, eq_by_cmp_equiv, on_total, then_total, tied_itself}
 use Rattle.std.specs.Cmp.Lexicographic.{nat_list_cmp_total, options_total}
 use Rattle.std.specs.List.{All, AllWithin, Contains, filter}

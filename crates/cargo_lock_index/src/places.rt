@@ -309,17 +309,8 @@ impl<'a> Places<'a> {
         ensures after { AllWithin (λ e. is_lt (entry_cmp e sought.now) ≡ false)
             self.now result (length self.now) }
     {
-        let mut low = 0;
-        let mut high = self.entries.len();
-        while low < high {
-            let middle = low + (high - low) / 2;
-            if self.entries[middle].is_before(sought) {
-                low = middle + 1;
-            } else {
-                high = middle;
-            }
-        }
-        low
+        self.entries
+            .partition_point(|entry| entry.is_before(sought))
     }
 
     // How many entries are before those of all greater keys.
@@ -329,17 +320,8 @@ impl<'a> Places<'a> {
         ensures after { AllWithin (λ e. is_lt (entry_cmp sought.now e) ≡ true)
             self.now result (length self.now) }
     {
-        let mut low = 0;
-        let mut high = self.entries.len();
-        while low < high {
-            let middle = low + (high - low) / 2;
-            if sought.is_before(&self.entries[middle]) {
-                high = middle;
-            } else {
-                low = middle + 1;
-            }
-        }
-        low
+        self.entries
+            .partition_point(|entry| !sought.is_before(entry))
     }
 
     // The place of the entry at a position of the order, if there is one and it has the key.

@@ -1,4 +1,4 @@
-use Rattle.std.proofs.Common.{◌≡◌, ◌∙◌, List, Some, ap, option_copied, option_map, sym}
+use Rattle.std.proofs.Common.{◌∙◌, List, Some, ap, option_copied, option_map, sym}
 use Rattle.cargo_lock_index.specs.Near.{Placed}
 use Rattle.cargo_lock_index.proofs.Alike.{last-tail-of}
 use Rattle.cargo_lock_index.proofs.places.last_of.Goals as goal

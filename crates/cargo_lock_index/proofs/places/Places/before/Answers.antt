@@ -1,4 +1,4 @@
-use Rattle.std.proofs.Common.{◌≡◌, ◌∙◌, List, ap}
+use Rattle.std.proofs.Common.{◌∙◌, ap}
 use Rattle.std.specs.List.{filter}
 use Rattle.cargo_lock_index.specs.Near.{Placed, has_key}
 use Rattle.cargo_lock_index.proofs.Alike.{found-earlier}
