@@ -205,9 +205,9 @@ fn same_among<'e, 'a>(entries: &'e [Entry<'a>], sought: &Entry<'a>) -> &'e [Entr
     ensures { result.now ≡ filter (has_key sought.now.key) entries.now }
 {
     let start = entries.partition_point(|entry| entry.cmp(sought).is_lt());
-    let rest = &entries[start..];
-    let count = rest.partition_point(|entry| entry.cmp(sought).is_eq());
-    &rest[..count]
+    let onward = &entries[start..];
+    let count = onward.partition_point(|entry| entry.cmp(sought).is_eq());
+    &onward[..count]
 }
 
 // The last place before this one, where the entries are in the order of their places.
