@@ -25,17 +25,9 @@ AreLastPlaces packages bound places = (i : Identity)
     → IsLastBelow (HoldsOf (HasIdentity i) packages) bound
     (get partial_identity_cmp places (identity_as_key i))
 
--- For the packages below a bound, `last` has for each name and version the last place of those with
--- both, and `earlier` has for each place the last earlier place with the same name and version.
-pub record AreVersions (packages : List PackageData) (bound : ℕ) (last : BTreeMap PartialIdentity ℕ)
-    (earlier : List (Option ℕ)) : Type 0 where
-  pub count : length earlier ≡ bound
-  pub newest : (i : Identity)
-      → IsLastBelow (HoldsOf (HasNameAndVersion i) packages) bound
-      (get partial_identity_cmp last (name_and_version i.name i.version))
-  pub before : (k : ℕ) (p : PackageData) (place : Option ℕ) → slice_get packages k ≡ Some p
-      → slice_get earlier k ≡ Some place
-      → IsLastBelow (HoldsOf (HasNameAndVersion (identity_of p)) packages) k place
+-- the keys of the names and versions of packages
+abbrev pub versions_of : List PackageData → List PartialIdentity
+versions_of packages = map (λ p. name_and_version p.name p.version) packages
 
 -- a match with this rank at this place is no better than the best: its rank is greater, or it is
 -- the same and the place is no later

@@ -2,17 +2,18 @@
 
 ghost use Rattle.std.specs.Prelude.{◌≡◌, IfOk, None, Some, length, slice_get};
 ghost use Rattle.cargo_lock_parts.specs.Identity.{HasNameAndVersion, PackageData, identity_of};
+ghost use Rattle.cargo_lock_index.specs.Near.{IsIndexOf};
+ghost use Rattle.cargo_lock_graph.specs.Candidates.{versions_of};
 ghost use Rattle.cargo_lock_graph.specs.Targets.{HoldsOf, IsLastBelow, rank_between};
 
+use cargo_lock_index::places::{Keys, Places};
 use cargo_lock_parts::dependency::Dependency;
 use cargo_lock_parts::package::{Package, PartialIdentity, SourceId};
 use std::alloc::{AllocError, Global};
-use std::collections::BTreeMap;
 use std::marker::Model;
 
-/// A list of packages, with the last place of each name and version, and from each place the one
-/// before it. So the packages to which a dependency may resolve are visited from the last to the
-/// first, without a look at the others.
+/// A list of packages, with an index of their names and versions. So the packages to which a
+/// dependency may resolve are visited from the last to the first, without a look at the others.
 ///
 /// ```
 /// if let Some(place) = versions.last(dependency) {
@@ -24,21 +25,21 @@ use std::marker::Model;
 #[derive(Drop)]
 pub struct Versions<'a> {
     packages: &'a [Package],
-    last: BTreeMap<PartialIdentity<'a>, usize>,
-    earlier: Vec<Option<usize>>,
+    places: Places<'a>,
 }
 
 impl<'a> Model for Versions<'a> {
-    ghost use Rattle.std.specs.Prelude.{List, length};
+    ghost use Rattle.std.specs.Prelude.{List};
+    ghost use Rattle.cargo_lock_index.specs.Near.{IsIndexOf};
     ghost use Rattle.cargo_lock_parts.specs.Identity.{PackageData};
-    ghost use Rattle.cargo_lock_graph.specs.Candidates.{AreVersions};
+    ghost use Rattle.cargo_lock_graph.specs.Candidates.{versions_of};
 
     ghost Value = { List PackageData };
 
     ghost view = { λ versions. versions.packages.now };
 
-    ghost invariant = { λ versions. AreVersions versions.packages.now
-        (length versions.packages.now) versions.last versions.earlier.items };
+    ghost invariant = { λ versions. IsIndexOf (versions_of versions.packages.now)
+        versions.places };
 }
 
 impl<'a> Versions<'a> {
@@ -46,19 +47,8 @@ impl<'a> Versions<'a> {
     pub fn of(alloc: Global, packages: &'a [Package]) -> Result<Versions<'a>, AllocError>
         ensures { IfOk result (λ versions. versions ≡ packages.now) }
     {
-        let mut last = BTreeMap::new(alloc);
-        let mut earlier = Vec::with_capacity(alloc, packages.len())?;
-        for (place, package) in packages.iter().enumerate() {
-            let key = PartialIdentity::name_and_version(&package.name, &package.version);
-            let before = last.get(&key).copied();
-            earlier.push(before)?;
-            last.insert(key, place)?;
-        }
-        Ok(Versions {
-            packages,
-            last,
-            earlier,
-        })
+        let places = places_of(alloc, packages)?;
+        Ok(Versions { packages, places })
     }
 
     /// The last place of the packages with the name and the version of a dependency. `None` if no
@@ -67,8 +57,9 @@ impl<'a> Versions<'a> {
         ensures { IsLastBelow (HoldsOf (HasNameAndVersion dependency.now) self.now)
             (length self.now) result }
     {
-        let key = PartialIdentity::name_and_version(&dependency.name, &dependency.version);
-        self.last.get(&key).copied()
+        let Dependency { name, version, .. } = dependency;
+        self.places
+            .last(PartialIdentity::name_and_version(name, version))
     }
 
     /// The last place before this one of the packages with the name and the version of the package
@@ -79,7 +70,10 @@ impl<'a> Versions<'a> {
             → IsLastBelow (HoldsOf (HasNameAndVersion (identity_of p)) self.now) place result }
         ensures beyond { slice_get self.now place ≡ None → result ≡ None }
     {
-        *self.earlier.get(place)?
+        let packages = self.packages;
+        let Package { name, version, .. } = packages.get(place)?;
+        self.places
+            .before(PartialIdentity::name_and_version(name, version), place)
     }
 
     /// How well the source of the package at a place matches that of a dependency: the smaller the
@@ -92,6 +86,18 @@ impl<'a> Versions<'a> {
     {
         rank_at(self.packages, dependency, place)
     }
+}
+
+// The places of each name and version.
+fn places_of<'a>(alloc: Global, packages: &'a [Package]) -> Result<Places<'a>, AllocError>
+    ensures { IfOk result (λ places. IsIndexOf (versions_of packages.now) places) }
+{
+    let mut keys = Keys::with_capacity(alloc, packages.len())?;
+    for place in 0..packages.len() {
+        let package = &packages[place];
+        keys.add(PartialIdentity::name_and_version(&package.name, &package.version))?;
+    }
+    keys.into_places()
 }
 
 // How well the source of the package at a place matches that of a dependency.

@@ -1,7 +1,7 @@
 -- What is found in entries in order, and that it is what the list has.
 use Rattle.std.proofs.Common.{◌≡◌, inl, inr, ◌<◌, ◌≤◌, ◌+◌, ℕ, List, [], ◌∷◌, ◌++◌, suc, zero, Option, Some, None, Bool, true, false, ◌&&◌, not, cond, if◌then◌else◌, map, take, drop, get_or, length, slice_get, nat_eq, refl, ap, ◌∙◌, sym, arith}
 use Rattle.std.specs.List.{AllWithin, All, filter, count_by}
-use Rattle.std.specs.List.Sorted.{IsSorted, IsStable, ties}
+use Rattle.std.specs.List.Sorted.{IsPartitionedBy, IsSorted, IsStable, ties}
 use Rattle.std.specs.Ordering.{is_lt, is_eq, nat_cmp, ordering_reverse, ordering_then}
 use Rattle.std.specs.declared.cmp.Ordering.{Ordering}
 use Rattle.std.specs.declared.cmp.Ordering.TheVariants.{Less, Equal, Greater}
@@ -15,7 +15,7 @@ use Rattle.std.proofs.lemmas.List.Elements.{All-head, All-tail, at_read, filter-
 use Rattle.std.proofs.lemmas.List.Sorted.{ranks_by, sorted_far}
 use Rattle.std.proofs.lemmas.List.Sums.{length-filter, sum_by-cons}
 use Rattle.cargo_lock_parts.specs.PartialIdentity.{PartialIdentity, PartialKey, partial_identity_cmp, is_same_partial_identity, is_same_partial_identity-Decides}
-use Rattle.cargo_lock_index.specs.Near.{Placed, IsIndexOf, beginning, near_cmp, near_total, entry_cmp, entry_total, is_same_entry, has_key, placed_from, first_from, first_place, last_from, last_place, is_only, passes, place_before, place_if}
+use Rattle.cargo_lock_index.specs.Near.{Placed, IsIndexOf, beginning, near_cmp, near_total, entry_cmp, entry_total, is_same_entry, has_key, placed_from, first_from, first_place, last_from, last_place, is_only, passes, place_before, place_if, tail_place}
 
 -- ---- the order
 
@@ -24,26 +24,6 @@ less a b = is_lt (entry_cmp a b)
 
 weak : IsStrictWeakOrder less
 weak = ranks_by near_total (λ (e : Placed). e.key)
-
--- what stands before something less is less
-less-then : (a b q : Placed) → less b a ≡ false → less b q ≡ true → less a q ≡ true
-less-then a b q up h = elim (cases_Bool (less a q)) [
-  | inl t ↦ t
-  | inr f ↦ absurd (false≢true (sym (weak.chain b a q up f) ∙ h))
-]
-
-pub below-to : (es : List Placed) (q x : Placed) (m : ℕ) → IsSorted entry_cmp es → m < length es → x ≡ get_or es m x
-    → is_lt (entry_cmp x q) ≡ true → AllWithin (λ e. is_lt (entry_cmp e q) ≡ true) es 0 (m + 1)
-below-to es q x m up h is below k d low high =
-    let le : k ≤ m = omega arith in
-    less-then (get_or es k d) (get_or es m d) q (sorted_far less weak es up k m d le h)
-    (at_read es (λ e. less e q ≡ true) m x h is below d)
-
-pub from-on : (es : List Placed) (q x : Placed) (m : ℕ) → IsSorted entry_cmp es → m < length es → x ≡ get_or es m x
-    → is_lt (entry_cmp x q) ≡ false → AllWithin (λ e. is_lt (entry_cmp e q) ≡ false) es m (length es)
-from-on es q x m up h is above k d low high =
-    weak.chain (get_or es k d) (get_or es m d) q (sorted_far less weak es up m k d low high)
-    (at_read es (λ e. less e q ≡ false) m x h is above d)
 
 tied-middle : (r s : Ordering) → s ≡ ordering_reverse r → is_lt s ≡ false → is_lt r ≡ false → is_eq r ≡ true
 tied-middle Less s e hs hr = absurd (false≢true (sym hr))
@@ -261,24 +241,18 @@ append-nil (e ∷ es) = ap (λ l. e ∷ l) (append-nil es)
 get_or-any : (es : List Placed) (m : ℕ) (d f : Placed) → m < length es → get_or es m d ≡ get_or es m f
 get_or-any es m d f h = (let e : Some (get_or es m d) ≡ Some (get_or es m f) = sym (slice_get-get_or es m d h) ∙ slice_get-get_or es m f h in cc)
 
-pub upto : (es : List Placed) (q x : Placed) (m : ℕ) → IsSorted entry_cmp es → m < length es → x ≡ get_or es m x
-    → is_lt (entry_cmp q x) ≡ false → AllWithin (λ e. is_lt (entry_cmp q e) ≡ false) es 0 (m + 1)
-upto es q x m up h is below k d low high =
-    let le : k ≤ m = omega arith in
-    weak.chain q (get_or es m d) (get_or es k d) (at_read es (λ e. less q e ≡ false) m x h is below d)
-    (sorted_far less weak es up k m d le h)
+pub not-true : (b : Bool) → not b ≡ true → b ≡ false
+not-true true h = absurd (false≢true h)
+not-true false h = refl
 
-more-then : (q a b : Placed) → less b a ≡ false → less q a ≡ true → less q b ≡ true
-more-then q a b up h = elim (cases_Bool (less q b)) [
-  | inl t ↦ t
-  | inr f ↦ absurd (false≢true (sym (weak.chain q b a f up) ∙ h))
-]
+pub not-false : (b : Bool) → not b ≡ false → b ≡ true
+not-false true h = refl
+not-false false h = absurd (false≢true (sym h))
 
-pub above-from : (es : List Placed) (q x : Placed) (m : ℕ) → IsSorted entry_cmp es → m < length es → x ≡ get_or es m x
-    → is_lt (entry_cmp q x) ≡ true → AllWithin (λ e. is_lt (entry_cmp q e) ≡ true) es m (length es)
-above-from es q x m up h is above k d low high =
-    more-then q (get_or es m d) (get_or es k d) (sorted_far less weak es up m k d low high)
-    (at_read es (λ e. less q e ≡ true) m x h is above d)
+-- what is not above a later one is not above this one
+pub parted-upto : (es : List Placed) (q : Placed) → IsSorted entry_cmp es → IsPartitionedBy (λ e. not (is_lt (entry_cmp q e))) es
+parted-upto es q up i j d le below h =
+    ap not (weak.chain q (get_or es j d) (get_or es i d) (not-true (less q (get_or es j d)) h) (sorted_far less weak es up i j d le below))
 
 -- what ties with an earlier one, and is not below this one, ties with this one
 pinned-up : (q a b : Placed) → less b a ≡ false → less q b ≡ false → is_same_entry q a ≡ true → is_same_entry q b ≡ true
@@ -297,11 +271,6 @@ above-other : (r : Ordering) → is_lt r ≡ true → is_eq r ≡ false
 above-other Less h = refl
 above-other Equal h = absurd (false≢true h)
 above-other Greater h = refl
-
--- the place of the last entry
-abbrev pub tail_place : List Placed → Option ℕ
-tail_place [] = None
-tail_place (e ∷ es) = option_or (tail_place es) (Some e.place)
 
 or-some : (o : Option ℕ) (n : ℕ) → o ≡ Some n → (m : ℕ) → option_or o (Some m) ≡ Some n
 or-some o n h m = ap (λ z. option_or z (Some m)) h
@@ -323,7 +292,7 @@ one-tail : (b : Bool) (e : Placed) (rest : List Placed) (o : Option ℕ) → o �
 one-tail true e rest o h = ap (λ z. option_or z (Some e.place)) h
 one-tail false e rest o h = or-none o ∙ h
 
-last-tail : (p : PartialIdentity → Bool) (i : ℕ) (keys : List PartialIdentity) → last_from p i keys ≡ tail_place (filter (λ e. p e.key) (placed_from i keys))
+pub last-tail : (p : PartialIdentity → Bool) (i : ℕ) (keys : List PartialIdentity) → last_from p i keys ≡ tail_place (filter (λ e. p e.key) (placed_from i keys))
 last-tail p i [] = refl
 last-tail p i (k ∷ keys) =
     one-tail (p k) (record { key = k; place = i }) (filter (λ e. p e.key) (placed_from (i + 1) keys)) (last_from p (i + 1) keys) (last-tail p (i + 1) keys)

@@ -93,3 +93,8 @@ place_if p (Some e) = if p e then Some e.place else None
 abbrev pub place_before : (Placed → Bool) → List Placed → ℕ → Option ℕ
 place_before p entries zero = None
 place_before p entries (suc at) = place_if p (slice_get entries at)
+
+-- the place of the last entry, if there is one
+abbrev pub tail_place : List Placed → Option ℕ
+tail_place [] = None
+tail_place (e ∷ entries) = option_or (tail_place entries) (Some e.place)

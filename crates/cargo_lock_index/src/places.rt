@@ -3,13 +3,15 @@
 
 ghost use Rattle.std.specs.Prelude.{◌≡◌, ◌++◌, ◌∷◌, [], ◌+◌, ◌<◌, ◌≤◌, ℕ, List, IfOk, OnOk, length};
 ghost use Rattle.std.specs.Prelude.{slice_index, slice_get, true, false, ◌&&◌, not, option_map};
+ghost use Rattle.std.specs.Prelude.{nat_lt, take};
 ghost use Rattle.std.specs.Ordering.{is_eq, is_lt};
 ghost use Rattle.std.specs.List.{AllWithin, filter};
-ghost use Rattle.std.specs.List.Sorted.{IsSorted};
+ghost use Rattle.std.specs.List.Sorted.{IsNonDecreasingBy, IsSorted};
 ghost use Rattle.cargo_lock_parts.specs.PartialIdentity.{PartialIdentity};
 ghost use Rattle.cargo_lock_index.specs.Alike.{AreAllAlike, alike_cmp, url_cmp, without_source};
 ghost use Rattle.cargo_lock_index.specs.Near as spec;
-ghost use Rattle.cargo_lock_index.specs.Near.{IsIndexOf, entry_cmp, passes, place_before, place_if};
+ghost use Rattle.cargo_lock_index.specs.Near.{IsIndexOf, entry_cmp, has_key, passes, place_before};
+ghost use Rattle.cargo_lock_index.specs.Near.{place_if, tail_place};
 
 use cargo_lock_parts::package::{Name, PartialIdentity, SourceId};
 use std::alloc::{AllocError, Global};
@@ -197,6 +199,34 @@ fn alike_among<'e, 'a>(entries: &'e [Entry<'a>], sought: &Entry<'a>) -> &'e [Ent
     &rest[..count]
 }
 
+// The entries of another entry's key.
+fn same_among<'e, 'a>(entries: &'e [Entry<'a>], sought: &Entry<'a>) -> &'e [Entry<'a>]
+    requires { IsSorted entry_cmp entries.now }
+    ensures { result.now ≡ filter (has_key sought.now.key) entries.now }
+{
+    let start = entries.partition_point(|entry| entry.cmp(sought).is_lt());
+    let onward = &entries[start..];
+    let count = onward.partition_point(|entry| entry.cmp(sought).is_eq());
+    &onward[..count]
+}
+
+// The last place before this one, where the entries are in the order of their places.
+fn last_below(entries: &[Entry<'_>], place: usize) -> Option<usize>
+    ensures { IsNonDecreasingBy (λ e. e.place) entries.now
+        → result ≡ tail_place (filter (λ e. nat_lt e.place place) entries.now) }
+{
+    let end = entries.partition_point(|entry| entry.place < place);
+    last_of(&entries[..end])
+}
+
+// The place of the last of these entries.
+fn last_of(entries: &[Entry<'_>]) -> Option<usize>
+    ensures { result ≡ tail_place entries.now }
+{
+    let entry = entries.last()?;
+    Some(entry.place)
+}
+
 /// The keys of a list so far, in the list's order.
 #[derive(Drop)]
 pub struct Keys<'a> {
@@ -279,17 +309,8 @@ impl<'a> Places<'a> {
         ensures after { AllWithin (λ e. is_lt (entry_cmp e sought.now) ≡ false)
             self.now result (length self.now) }
     {
-        let mut low = 0;
-        let mut high = self.entries.len();
-        while low < high {
-            let middle = low + (high - low) / 2;
-            if self.entries[middle].is_before(sought) {
-                low = middle + 1;
-            } else {
-                high = middle;
-            }
-        }
-        low
+        self.entries
+            .partition_point(|entry| entry.is_before(sought))
     }
 
     // How many entries are before those of all greater keys.
@@ -299,17 +320,8 @@ impl<'a> Places<'a> {
         ensures after { AllWithin (λ e. is_lt (entry_cmp sought.now e) ≡ true)
             self.now result (length self.now) }
     {
-        let mut low = 0;
-        let mut high = self.entries.len();
-        while low < high {
-            let middle = low + (high - low) / 2;
-            if sought.is_before(&self.entries[middle]) {
-                high = middle;
-            } else {
-                low = middle + 1;
-            }
-        }
-        low
+        self.entries
+            .partition_point(|entry| !sought.is_before(entry))
     }
 
     // The place of the entry at a position of the order, if there is one and it has the key.
@@ -352,6 +364,14 @@ impl<'a> Places<'a> {
         let sought = Entry::of(key, 0);
         let end = self.end(&sought);
         self.found_before(end, &sought)
+    }
+
+    /// The last place of a key before a place of the list.
+    pub fn before(&self, key: PartialIdentity<'a>, place: usize) -> Option<usize>
+        ensures { (keys : List PartialIdentity) → IsIndexOf keys self.now
+            → result ≡ spec.last_place key.entry (take place keys) }
+    {
+        last_below(same_among(&self.entries, &Entry::of(key, 0)), place)
     }
 
     /// The entries of the keys with the name, the version and the URL of this key, whatever else

@@ -1,28 +1,30 @@
 use Rattle.std.proofs.Common.{rules, ◌≡◌, ◌≤◌, ◌-◌, ◌∙◌, List, ap, arith, drop, length, subst, sym, take, true, false}
 use Rattle.std.specs.List.Sorted.{IsPartitionPoint, IsPartitionedBy}
 use Rattle.std.specs.Ordering.{is_eq, is_lt}
+use Rattle.std.specs.declared.cmp.Ordering.{Ordering}
 use Rattle.std.proofs.lemmas.List.Sorted.{IsPartitionPoint-from_clause}
 use Rattle.std.proofs.lemmas.Slice.{between_to_end}
 use Rattle.cargo_lock_index.specs.Alike.{alike_cmp}
 use Rattle.cargo_lock_index.specs.Near.{Placed}
-use Rattle.cargo_lock_index.proofs.Alike.{cut-alike, parted-less, parted-tied}
+use Rattle.cargo_lock_index.proofs.Alike.{alike-rise, cut-tied, parted-less, parted-tied}
 use Rattle.cargo_lock_index.proofs.places.alike_among.Goals as goal
 
 pub returns : goal.returns
 returns c =
     let es : List Placed = c.args.entries.now in
-    let q : Placed = c.args.sought.now in
+    let o : Placed → Ordering = λ e. alike_cmp e.key c.args.sought.now.key in
     let start = c.partition_point-start.result in
     let count = c.partition_point-count.result in
     let rest : List Placed = take (length es - start) (drop start es) in
     let rest_is : rest ≡ drop start es = between_to_end es start (length es) (omega arith) in
     let within = c.partition_point-start.ensures.bound in
-    let first = IsPartitionPoint-from_clause (λ (e : Placed). is_lt (alike_cmp e.key q.key)) es start c.partition_point-start.ensures.partitioned
-    (parted-less es q c.requires) (λ a r f k. search rules) in
-    let parted : IsPartitionedBy (λ (e : Placed). is_eq (alike_cmp e.key q.key)) rest =
-    subst (IsPartitionedBy (λ (e : Placed). is_eq (alike_cmp e.key q.key))) (sym rest_is) (parted-tied es q start c.requires within first.1) in
-    let last = IsPartitionPoint-from_clause (λ (e : Placed). is_eq (alike_cmp e.key q.key)) rest count c.partition_point-count.ensures.partitioned
+    let rise = alike-rise es c.args.sought.now c.requires in
+    let first = IsPartitionPoint-from_clause (λ (e : Placed). is_lt (o e)) es start c.partition_point-start.ensures.partitioned
+    (parted-less o es rise) (λ a r f k. search rules) in
+    let parted : IsPartitionedBy (λ (e : Placed). is_eq (o e)) rest =
+    subst (IsPartitionedBy (λ (e : Placed). is_eq (o e))) (sym rest_is) (parted-tied o es start rise within first.1) in
+    let last = IsPartitionPoint-from_clause (λ (e : Placed). is_eq (o e)) rest count c.partition_point-count.ensures.partitioned
     parted (λ a r f k. search rules) in
     ap (take count) rest_is
-    ∙ cut-alike es q start count within (subst (λ l. count ≤ length l) rest_is c.partition_point-count.ensures.bound) first
-    (subst (λ l. IsPartitionPoint (λ (e : Placed). is_eq (alike_cmp e.key q.key) ≡ true) (λ (e : Placed). is_eq (alike_cmp e.key q.key) ≡ false) l count) rest_is last)
+    ∙ cut-tied o es start count within (subst (λ l. count ≤ length l) rest_is c.partition_point-count.ensures.bound) first
+    (subst (λ l. IsPartitionPoint (λ (e : Placed). is_eq (o e) ≡ true) (λ (e : Placed). is_eq (o e) ≡ false) l count) rest_is last)
