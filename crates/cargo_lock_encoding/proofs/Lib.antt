@@ -1,3 +1,4 @@
+pub mod EscapedTexts
 pub mod Escapes
 pub mod Lines
 pub mod MeansLemmas

@@ -5,6 +5,7 @@ pub mod TableMetadata
 pub mod Meaning
 pub mod Table
 pub mod Characters
+pub mod Escaping
 pub mod Text
 pub mod Survives
 pub mod PrintedTable

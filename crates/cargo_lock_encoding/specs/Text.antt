@@ -2,9 +2,9 @@
 -- The rule is that of `serialize_resolve` and `emit_package` in Cargo's `src/cargo/ops/lockfile.rs`
 -- at `0c70319`, as `src/lockfile/encoding.rs` of the Rust crate `cargo-lock` 11.0.1 adapts them.
 use Rattle.std.specs.Prelude.{◌≡◌, ℕ, ℤ, pos, negsuc, ◌+◌, ◌/◌, ◌%◌, ◌==◌, ◌&&◌, ◌||◌, nat_lt}
-use Rattle.std.specs.Prelude.{nat_le, not, Bool, true, false, if◌then◌else◌, List, [], ◌∷◌, ◌++◌, Option}
-use Rattle.std.specs.Prelude.{Some, None, OnOk, Result, String, option_map, map, codes, decimal}
-use Rattle.std.specs.Prelude.{string_bytes}
+use Rattle.std.specs.Prelude.{nat_le, not, Bool, true, false, if◌then◌else◌, List, [], ◌∷◌, ◌++◌}
+use Rattle.std.specs.Prelude.{Option, Some, None, OnOk, Result, String, option_map, map, codes}
+use Rattle.std.specs.Prelude.{decimal, string_bytes}
 use Rattle.std.specs.Char.{encode_utf8}
 use Rattle.std.specs.FinMap.{entries}
 use Rattle.std.specs.List.{flat_map, list_all}
@@ -62,7 +62,7 @@ escape_char c = escape_or (encode_utf8 c) (short_escape c) c
 abbrev pub escape_byte : ℕ → List ℕ
 escape_byte b = escape_or (b ∷ []) (short_escape b) b
 
--- a byte that is not escaped: none below U+0020, and not U+007F, the quotation mark or the backslash
+-- a byte that is not escaped
 abbrev pub is_plain_byte : ℕ → Bool
 is_plain_byte b = nat_le space b && not (b == quotation_mark) && not (b == backslash)
     && not (b == delete)

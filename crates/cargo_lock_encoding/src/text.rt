@@ -4,8 +4,8 @@
 //! The empty line between two blocks is written with the second one, so no empty line has to be
 //! removed at the end of the text.
 
-ghost use Rattle.std.specs.Prelude.{◌≡◌, ◌++◌, ◌∷◌, [], ◌<◌, IfOk, IsOkUnless, codes, false, map};
-ghost use Rattle.std.specs.Prelude.{option_map, string_bytes};
+ghost use Rattle.std.specs.Prelude.{◌≡◌, ◌++◌, ◌∷◌, [], ◌<◌, IfOk, IfSome, IsOkUnless, codes};
+ghost use Rattle.std.specs.Prelude.{false, map, option_map, string_bytes};
 ghost use Rattle.std.specs.FinMap.{entries};
 ghost use Rattle.std.specs.List.{flat_map, list_all};
 ghost use Rattle.std.specs.Option.{option_to_list};
@@ -42,6 +42,7 @@ use cargo_lock_references::{
     EncodableDependencyRef, EncodablePackage, EncodablePackageRef, ResolveVersion,
 };
 use std::alloc::{AllocError, Global};
+use std::fmt;
 
 // The result of a function that adds to the text: memory may run out.
 type Put = std::result::Result<(), AllocError>;
@@ -128,6 +129,54 @@ fn put_escaped(out: &mut String, text: &str) -> Put
     put_each_char(out, text)
 }
 
+// A writer that puts each text onto a string as it is between quotation marks.
+#[derive(Drop)]
+struct EscapingWriter<'a> {
+    out: &'a mut String,
+}
+
+impl fmt::Write for EscapingWriter<'_> {
+    ghost use Rattle.cargo_lock_encoding.specs.Escaping.{EscapesText};
+
+    ghost write_str_gives = { EscapesText };
+
+    fn write_str(&mut self, text: &str) -> fmt::Result {
+        put_escaped(self.out, text)?;
+        Ok(())
+    }
+}
+
+// What `Display` writes of a value, escaped.
+fn write_escaped<T: fmt::Display>(out: &mut String, value: &T) -> fmt::Result
+    ensures { IfSome (T.output value.now) (λ text. Adds result out.old out.new (escape text)) }
+{
+    let mut formatter = fmt::Formatter::new(EscapingWriter { out });
+    let result = formatter.write(value);
+    let EscapingWriter { out: inner } = formatter.into_inner();
+    // No effect at run time. The proof reads what `out` holds from this use of `inner`.
+    let _ = &*inner;
+    result
+}
+
+// The same. The one error of a string is that memory runs out.
+fn put_displayed<T: fmt::Display>(out: &mut String, value: &T) -> Put
+    ensures { IfSome (T.output value.now) (λ text. Adds result out.old out.new (escape text)) }
+{
+    match write_escaped(out, value) {
+        Ok(()) => Ok(()),
+        Err(fmt::Error) => Err(AllocError),
+    }
+}
+
+// What `Display` writes of a value, in quotation marks.
+fn put_quoted_value<T: fmt::Display>(out: &mut String, value: &T) -> Put
+    ensures { IfSome (T.output value.now) (λ text. Adds result out.old out.new (quote text)) }
+{
+    out.push('"')?;
+    put_displayed(out, value)?;
+    out.push('"')
+}
+
 // A string in quotation marks.
 fn put_quoted(out: &mut String, text: &str) -> Put
     ensures { Adds result out.old out.new (quote text.now) }
@@ -149,48 +198,54 @@ fn put_field(out: &mut String, key: &str, text: &str) -> Put
     out.push('\n')
 }
 
+// The line `key = "text"` for a bare key and what `Display` writes of a value.
+fn put_value<T: fmt::Display>(out: &mut String, key: &str, value: &T) -> Put
+    ensures { IfSome (T.output value.now)
+        (λ text. AddsLines result out.old out.new (field key.now text ∷ [])) }
+{
+    out.push_str(key)?;
+    out.push_str(" = ")?;
+    put_quoted_value(out, value)?;
+    out.push('\n')
+}
+
 fn put_name(out: &mut String, name: &Name) -> Put
     ensures { AddsLines result out.old out.new (field (codes "name") name.now ∷ []) }
 {
     put_field(out, "name", name.as_str())
 }
 
-fn put_version(alloc: Global, out: &mut String, version: &Version) -> Put
+fn put_version(out: &mut String, version: &Version) -> Put
     ensures { AddsLines result out.old out.new
         (field (codes "version") (parts_text (parts_of version.now)) ∷ []) }
 {
-    let text = format!(in alloc; "{version}")?;
-    put_field(out, "version", text.as_str())
+    put_value(out, "version", version)
 }
 
 // The line of a source that is written.
-fn put_source(alloc: Global, out: &mut String, source: &SourceIdAsUrl<'_>) -> Put
+fn put_source(out: &mut String, source: &SourceIdAsUrl<'_>) -> Put
     ensures { AddsLines result out.old out.new (source_line source.now ∷ []) }
 {
-    let text = format!(in alloc; "{source}")?;
-    put_field(out, "source", text.as_str())
+    put_value(out, "source", source)
 }
 
 // The source of a package or a patch, if it is written.
-fn put_marked_source(alloc: Global, out: &mut String, source: &Option<SourceIdAsUrl<'_>>) -> Put
+fn put_marked_source(out: &mut String, source: &Option<SourceIdAsUrl<'_>>) -> Put
     ensures { AddsLines result out.old out.new
         (option_to_list (option_map source_line source.now)) }
 {
     match source {
-        Some(source) => put_source(alloc, out, source),
+        Some(source) => put_source(out, source),
         None => Ok(()),
     }
 }
 
-fn put_checksum(alloc: Global, out: &mut String, checksum: &Option<Checksum>) -> Put
+fn put_checksum(out: &mut String, checksum: &Option<Checksum>) -> Put
     ensures { AddsLines result out.old out.new
         (option_to_list (option_map checksum_line (option_map digest_of checksum.now))) }
 {
     match checksum {
-        Some(checksum) => {
-            let text = format!(in alloc; "{checksum}")?;
-            put_field(out, "checksum", text.as_str())
-        }
+        Some(checksum) => put_value(out, "checksum", checksum),
         None => Ok(()),
     }
 }
@@ -198,63 +253,46 @@ fn put_checksum(alloc: Global, out: &mut String, checksum: &Option<Checksum>) ->
 // ---- packages
 
 // The line of one dependency in the list of them.
-fn put_dependency(alloc: Global, out: &mut String, dependency: &EncodableDependencyRef<'_>) -> Put
+fn put_dependency(out: &mut String, dependency: &EncodableDependencyRef<'_>) -> Put
     ensures { AddsLines result out.old out.new (dependency_line dependency.now ∷ []) }
 {
-    let text = format!(in alloc; "{dependency}")?;
     out.push(' ')?;
-    put_quoted(out, text.as_str())?;
+    put_quoted_value(out, dependency)?;
     out.push_str(",\n")
 }
 
-fn put_each_dependency(
-    alloc: Global,
-    out: &mut String,
-    dependencies: &[EncodableDependencyRef<'_>],
-) -> Put
+fn put_each_dependency(out: &mut String, dependencies: &[EncodableDependencyRef<'_>]) -> Put
     ensures { AddsLines result out.old out.new (map dependency_line dependencies.now) }
 {
     for dependency in dependencies {
-        put_dependency(alloc, out, dependency)?;
+        put_dependency(out, dependency)?;
     }
     Ok(())
 }
 
 // The list of the dependencies, of which there is at least one.
-fn put_dependencies(
-    alloc: Global,
-    out: &mut String,
-    dependencies: &[EncodableDependencyRef<'_>],
-) -> Put
+fn put_dependencies(out: &mut String, dependencies: &[EncodableDependencyRef<'_>]) -> Put
     ensures { AddsLines result out.old out.new
         (codes "dependencies = [" ∷ (map dependency_line dependencies.now ++ codes "]" ∷ [])) }
 {
     out.push_str("dependencies = [\n")?;
-    put_each_dependency(alloc, out, dependencies)?;
+    put_each_dependency(out, dependencies)?;
     out.push_str("]\n")?;
     Ok(())
 }
 
-fn put_replacement(
-    alloc: Global,
-    out: &mut String,
-    replace: &Option<EncodableDependencyRef<'_>>,
-) -> Put
+fn put_replacement(out: &mut String, replace: &Option<EncodableDependencyRef<'_>>) -> Put
     ensures { AddsLines result out.old out.new
         (option_to_list (option_map replace_line replace.now)) }
 {
     match replace {
-        Some(replace) => {
-            let text = format!(in alloc; "{replace}")?;
-            put_field(out, "replace", text.as_str())
-        }
+        Some(replace) => put_value(out, "replace", replace),
         None => Ok(()),
     }
 }
 
 // The dependencies, or if there are none, the replacement.
 fn put_references(
-    alloc: Global,
     out: &mut String,
     dependencies: &[EncodableDependencyRef<'_>],
     replace: &Option<EncodableDependencyRef<'_>>,
@@ -262,27 +300,22 @@ fn put_references(
     ensures { AddsLines result out.old out.new (reference_lines dependencies.now replace.now) }
 {
     if dependencies.is_empty() {
-        put_replacement(alloc, out, replace)?;
+        put_replacement(out, replace)?;
     } else {
-        put_dependencies(alloc, out, dependencies)?;
+        put_dependencies(out, dependencies)?;
     }
     Ok(())
 }
 
-fn put_package(alloc: Global, out: &mut String, package: &EncodablePackageRef<'_>) -> Put
+fn put_package(out: &mut String, package: &EncodablePackageRef<'_>) -> Put
     ensures { AddsLines result out.old out.new (package_lines «package».now) }
 {
     out.push_str("\n[[package]]\n")?;
     put_name(out, package.name)?;
-    put_version(alloc, out, package.version)?;
-    put_marked_source(alloc, out, &package.source)?;
-    put_checksum(alloc, out, &package.checksum)?;
-    put_references(
-        alloc,
-        out,
-        package.dependencies.as_slice(),
-        &package.replace,
-    )?;
+    put_version(out, package.version)?;
+    put_marked_source(out, &package.source)?;
+    put_checksum(out, &package.checksum)?;
+    put_references(out, package.dependencies.as_slice(), &package.replace)?;
     Ok(())
 }
 
@@ -300,7 +333,7 @@ fn put_encoded(alloc: Global, out: &mut String, package: &EncodablePackage) -> P
     ensures { AddsLines result out.old out.new (package_lines «package».now) }
 {
     let encoded = package.by_ref(alloc)?;
-    put_package(alloc, out, &encoded)
+    put_package(out, &encoded)
 }
 
 // Adds the packages of a lockfile as they are written in a format, each after an empty line.
@@ -346,37 +379,37 @@ fn put_written<'a>(
         (package_lines (encoded_package_of format (map identity_of packages.now) «package».now)) }
 {
     let encoded = encoded_package_of(alloc, format, packages, package)?;
-    put_package(alloc, out, &encoded)
+    put_package(out, &encoded)
 }
 
 // ---- unused patches
 
 // An unused patch, its source escaped or plain.
-fn put_patch(alloc: Global, out: &mut String, patch: &Dependency, escaped: bool) -> Put
+fn put_patch(out: &mut String, patch: &Dependency, escaped: bool) -> Put
     ensures { AddsLines result out.old out.new (patch_lines escaped patch.now) }
 {
     out.push_str("\n[[patch.unused]]\n")?;
     put_name(out, &patch.name)?;
-    put_version(alloc, out, &patch.version)?;
-    put_marked_source(alloc, out, &written_source(escaped, &patch.source))?;
+    put_version(out, &patch.version)?;
+    put_marked_source(out, &written_source(escaped, &patch.source))?;
     out.push_str("\n")?;
     Ok(())
 }
 
-fn put_each_patch(alloc: Global, out: &mut String, unused: &[Dependency], escaped: bool) -> Put
+fn put_each_patch(out: &mut String, unused: &[Dependency], escaped: bool) -> Put
     ensures { AddsLines result out.old out.new (flat_map (patch_lines escaped) unused.now) }
 {
     for patch in unused {
-        put_patch(alloc, out, patch, escaped)?;
+        put_patch(out, patch, escaped)?;
     }
     Ok(())
 }
 
 // Adds the unused patches, their sources escaped or plain.
-fn put_patches(alloc: Global, out: &mut String, patch: &Patch, escaped: bool) -> Put
+fn put_patches(out: &mut String, patch: &Patch, escaped: bool) -> Put
     ensures { AddsLines result out.old out.new (flat_map (patch_lines escaped) patch.now) }
 {
-    put_each_patch(alloc, out, patch.unused.as_slice(), escaped)?;
+    put_each_patch(out, patch.unused.as_slice(), escaped)?;
     Ok(())
 }
 
@@ -477,7 +510,7 @@ impl LockfileRef<'_> {
         let number = written_version(format);
         put_format(alloc, out, &number)?;
         put_written_packages(alloc, out, format, self.packages)?;
-        put_patches(alloc, out, self.patch, is_escaped_number(&number))?;
+        put_patches(out, self.patch, is_escaped_number(&number))?;
         self.put_metadata(alloc, out)?;
         Ok(())
     }
@@ -515,7 +548,7 @@ impl EncodableLockfile {
         put_comments(out)?;
         put_format(alloc, out, &self.version)?;
         put_packages(alloc, out, self.package.as_slice())?;
-        put_patches(alloc, out, &self.patch, is_escaped_number(&self.version))?;
+        put_patches(out, &self.patch, is_escaped_number(&self.version))?;
         put_metadata(out, &self.metadata)?;
         Ok(())
     }
