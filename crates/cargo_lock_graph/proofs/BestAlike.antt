@@ -1,24 +1,26 @@
 -- The package of a dependency, by the index of identities: the last one with the identity, or else
 -- the best of those with the name, the version and the URL.
-use Rattle.std.proofs.Common.{◌≡◌, ◌<◌, ◌+◌, ◌&&◌, ◌||◌, ◌==◌, ◌⊎◌, inl, inr, ℕ, suc, zero, Bool, true, false, cond, if◌then◌else◌, nat_lt, List, [], ◌∷◌, take, length, get_or, slice_get, unwrap_or, Option, Some, None, option_map, MatchOption, refl, sym, ap, subst, ◌∙◌, arith}
+use Rattle.std.proofs.Common.{map, ◌≤◌, ◌≡◌, ◌<◌, ◌+◌, ◌&&◌, ◌||◌, ◌==◌, ◌⊎◌, inl, inr, ℕ, suc, zero, Bool, true, false, cond, if◌then◌else◌, nat_lt, List, [], ◌∷◌, take, length, get_or, slice_get, unwrap_or, Option, Some, None, option_map, MatchOption, refl, sym, ap, subst, ◌∙◌, arith}
+use Rattle.std.specs.Bool.{Decides}
 use Rattle.std.specs.List.{All, Contains}
 use Rattle.std.specs.Option.{option_or}
 use Rattle.std.proofs.lemmas.Bool.{and_parts, cases_Bool, false≢true, ltb-true, ltb-false, eqb-true, eqb-false}
+use Rattle.std.proofs.lemmas.List.{length-take, take-map}
 use Rattle.std.proofs.lemmas.List.Elements.{All-contains, All-contains_itself, All-more, All-weaker}
 use Rattle.std.proofs.lemmas.Option.{same_Some, slice_get-map, slice_get_within}
 use Rattle.std.proofs.lemmas.Slice.Eq.{bytes_eq-Decides}
 use Rattle.url.specs.Parts.{serialize}
 use Rattle.cargo_lock_parts.specs.Identity.{HasNameAndVersion, Identity, PackageData, identity_of}
-use Rattle.cargo_lock_parts.specs.PartialIdentity.{PartialIdentity, is_same_partial_identity}
+use Rattle.cargo_lock_parts.specs.PartialIdentity.{PartialIdentity, is_same_partial_identity, name_and_version}
 use Rattle.cargo_lock_parts.specs.Rank.{has_rank_4}
 use Rattle.cargo_lock_parts.specs.Source.{Source}
 use Rattle.cargo_lock_parts.proofs.RankLemmas.{no_rank_is_no_match}
 use Rattle.cargo_lock_index.specs.Alike.{AreAlike, AreAllAlike, url_of}
 use Rattle.cargo_lock_index.specs.Near.{Placed, last_from, last_place}
 use Rattle.cargo_lock_graph.specs.declared.targets.Best.{Best}
-use Rattle.cargo_lock_graph.specs.Candidates.{IsBestAmong, IsNoBetter, better_candidate, identity_as_key, is_worse, keys_of}
-use Rattle.cargo_lock_graph.specs.Targets.{HasIdentity, HoldsOf, IsLastWith, IsLost, IsTarget, Matches, MatchesAt, rank_between}
-use Rattle.cargo_lock_graph.proofs.BestCandidates.{same-identity}
+use Rattle.cargo_lock_graph.specs.Candidates.{IsBestAmong, IsNoBetter, better_candidate, identity_as_key, is_worse, keys_of, versions_of}
+use Rattle.cargo_lock_graph.specs.Targets.{HasIdentity, HoldsOf, IsLastBelow, IsLastWith, IsLost, IsTarget, Matches, MatchesAt, rank_between}
+use Rattle.cargo_lock_graph.proofs.BestCandidates.{same-identity, same-version}
 
 -- ---- the last place of a key
 
@@ -63,60 +65,110 @@ last-of p i [] = λ k found. let h = found.1 in cc h
 last-of p i (key ∷ keys) = last-cons p i key keys (last_from p (i + 1) keys) (p key) refl (last-of p (i + 1) keys)
 
 -- what maps to an element of a list is an element of the list
-mapped : (o : Option PackageData) (key : PartialIdentity) → option_map (λ (p : PackageData). identity_as_key (identity_of p)) o ≡ Some key
-    → (p : PackageData) × (o ≡ Some p) × (identity_as_key (identity_of p) ≡ key)
-mapped None key h = cc h
-mapped (Some p) key h = (p, refl, same_Some (identity_as_key (identity_of p)) key h)
+mapped : (f : PackageData → PartialIdentity) (o : Option PackageData) (key : PartialIdentity) → option_map f o ≡ Some key
+    → (p : PackageData) × (o ≡ Some p) × (f p ≡ key)
+mapped f None key h = cc h
+mapped f (Some p) key h = (p, refl, same_Some (f p) key h)
 
-key-at : (packages : List PackageData) (k : ℕ) (key : PartialIdentity) → slice_get (keys_of packages) k ≡ Some key
-    → (p : PackageData) × (slice_get packages k ≡ Some p) × (identity_as_key (identity_of p) ≡ key)
-key-at packages k key h =
-    mapped (slice_get packages k) key (sym (slice_get-map (λ (p : PackageData). identity_as_key (identity_of p)) packages k) ∙ h)
+key-at : (f : PackageData → PartialIdentity) (packages : List PackageData) (k : ℕ) (key : PartialIdentity) → slice_get (map f packages) k ≡ Some key
+    → (p : PackageData) × (slice_get packages k ≡ Some p) × (f p ≡ key)
+key-at f packages k key h = mapped f (slice_get packages k) key (sym (slice_get-map f packages k) ∙ h)
 
-key-of : (packages : List PackageData) (k : ℕ) (p : PackageData) → slice_get packages k ≡ Some p
-    → slice_get (keys_of packages) k ≡ Some (identity_as_key (identity_of p))
-key-of packages k p h =
-    slice_get-map (λ (q : PackageData). identity_as_key (identity_of q)) packages k
-    ∙ ap (option_map (λ (q : PackageData). identity_as_key (identity_of q))) h
+key-of : (f : PackageData → PartialIdentity) (packages : List PackageData) (k : ℕ) (p : PackageData) → slice_get packages k ≡ Some p
+    → slice_get (map f packages) k ≡ Some (f p)
+key-of f packages k p h = slice_get-map f packages k ∙ ap (option_map f) h
 
-has-key-at : (packages : List PackageData) (i : Identity) (k : ℕ) → HoldsOf (HasIdentity i) packages k
-    → HasAt (is_same_partial_identity (identity_as_key i)) (keys_of packages) k
-has-key-at packages i k h = (
-  identity_as_key (identity_of h.0),
-  key-of packages k h.0 h.1,
-  (same-identity i (identity_of h.0)).1 (sym h.2),
-)
+has-key-at : (f : PackageData → PartialIdentity) (P : PackageData → Type 0) (key : PartialIdentity)
+    → ((p : PackageData) → Decides (is_same_partial_identity key (f p)) (P p))
+    → (packages : List PackageData) (k : ℕ) → HoldsOf P packages k → HasAt (is_same_partial_identity key) (map f packages) k
+has-key-at f P key tells packages k h = (f h.0, key-of f packages k h.0 h.1, (tells h.0).1 h.2)
 
-has-identity-at : (packages : List PackageData) (i : Identity) (k : ℕ) → HasAt (is_same_partial_identity (identity_as_key i)) (keys_of packages) k
-    → HoldsOf (HasIdentity i) packages k
-has-identity-at packages i k h =
-    let (p, at, is) = key-at packages k h.0 h.1 in
-    (p, at, sym ((same-identity i (identity_of p)).0 (ap (is_same_partial_identity (identity_as_key i)) is ∙ h.2)))
+holds-at : (f : PackageData → PartialIdentity) (P : PackageData → Type 0) (key : PartialIdentity)
+    → ((p : PackageData) → Decides (is_same_partial_identity key (f p)) (P p))
+    → (packages : List PackageData) (k : ℕ) → HasAt (is_same_partial_identity key) (map f packages) k → HoldsOf P packages k
+holds-at f P key tells packages k h =
+    let (p, at, is) = key-at f packages k h.0 h.1 in
+    (p, at, (tells p).0 (ap (is_same_partial_identity key) is ∙ h.2))
 
-last-told : (packages : List PackageData) (i : Identity) (o : Option ℕ)
-    → IsLastOf (is_same_partial_identity (identity_as_key i)) 0 (keys_of packages) o → IsLastWith packages i o
-last-told packages i None h = λ k low found. h k (has-key-at packages i k found)
-last-told packages i (Some place) h =
+last-told : (f : PackageData → PartialIdentity) (P : PackageData → Type 0) (key : PartialIdentity)
+    → ((p : PackageData) → Decides (is_same_partial_identity key (f p)) (P p))
+    → (packages : List PackageData) (o : Option ℕ) → IsLastOf (is_same_partial_identity key) 0 (map f packages) o
+    → IsLastBelow (HoldsOf P packages) (length packages) o
+last-told f P key tells packages None h = λ k low found. h k (has-key-at f P key tells packages k found)
+last-told f P key tells packages (Some place) h =
     let here : h.0 ≡ place = (let at = h.1 in omega (arith, at)) in
-    let found : HoldsOf (HasIdentity i) packages place = subst (HoldsOf (HasIdentity i) packages) here (has-identity-at packages i h.0 h.2) in (
+    let found : HoldsOf P packages place = subst (HoldsOf P packages) here (holds-at f P key tells packages h.0 h.2) in (
       slice_get_within packages place found.0 found.1,
       found,
-      λ k after low other. h.3 k (omega (arith, after, here)) (has-key-at packages i k other),
+      λ k after low other. h.3 k (omega (arith, after, here)) (has-key-at f P key tells packages k other),
     )
+
+-- the last place of a key is that of the packages that it tells
+last-by : (f : PackageData → PartialIdentity) (P : PackageData → Type 0) (key : PartialIdentity)
+    → ((p : PackageData) → Decides (is_same_partial_identity key (f p)) (P p))
+    → (packages : List PackageData) → IsLastBelow (HoldsOf P packages) (length packages) (last_place key (map f packages))
+last-by f P key tells packages =
+    last-told f P key tells packages (last_place key (map f packages)) (last-of (is_same_partial_identity key) 0 (map f packages))
+
+has-identity : (i : Identity) (p : PackageData) → Decides (is_same_partial_identity (identity_as_key i) (identity_as_key (identity_of p))) (HasIdentity i p)
+has-identity i p =
+    let tells = same-identity i (identity_of p) in
+    (λ h. sym (tells.0 h), λ e. tells.1 (sym e))
 
 -- the last place of a key is that of the packages with the identity
 pub last-like : (packages : List PackageData) (i : Identity) (key : PartialIdentity) (o : Option ℕ) → key ≡ identity_as_key i
     → o ≡ last_place key (keys_of packages) → IsLastWith packages i o
 last-like packages i key o key_is is =
     subst (IsLastWith packages i) (sym (is ∙ ap (λ k. last_place k (keys_of packages)) key_is))
-    (last-told packages i (last_place (identity_as_key i) (keys_of packages))
-    (last-of (is_same_partial_identity (identity_as_key i)) 0 (keys_of packages)))
+    (last-by (λ p. identity_as_key (identity_of p)) (HasIdentity i) (identity_as_key i) (has-identity i) packages)
 
 -- each package has a last place of its identity
 pub last-there : (packages : List PackageData) (i : Identity) (k : ℕ) (o : Option ℕ) → HoldsOf (HasIdentity i) packages k
     → IsLastWith packages i o → IsLastWith packages i (Some (unwrap_or o k))
 last-there packages i k None here none = absurd (none k (slice_get_within packages k here.0 here.1) here)
 last-there packages i k (Some place) here last = last
+
+-- ---- the places of a name and a version
+
+has-version : (d : Identity) (p : PackageData) → Decides (is_same_partial_identity (name_and_version d.name d.version) (name_and_version p.name p.version)) (HasNameAndVersion d p)
+has-version d p =
+    let tells = same-version d (identity_of p) in (
+      λ h. record { name = sym (tells.0 h).0; version = sym (tells.0 h).1 },
+      λ e. tells.1 (sym e.name, sym e.version),
+    )
+
+pub last-version : (packages : List PackageData) (d : Identity) (key : PartialIdentity) (o : Option ℕ) → key ≡ name_and_version d.name d.version
+    → o ≡ last_place key (versions_of packages) → IsLastBelow (HoldsOf (HasNameAndVersion d) packages) (length packages) o
+last-version packages d key o key_is is =
+    subst (IsLastBelow (HoldsOf (HasNameAndVersion d) packages) (length packages)) (sym (is ∙ ap (λ k. last_place k (versions_of packages)) key_is))
+    (last-by (λ p. name_and_version p.name p.version) (HasNameAndVersion d) (name_and_version d.name d.version) (has-version d) packages)
+
+get-taken : (packages : List PackageData) (n k : ℕ) → k < n → slice_get (take n packages) k ≡ slice_get packages k
+get-taken packages zero k low = absurd (omega (arith, low))
+get-taken [] (suc n) k low = refl
+get-taken (p ∷ packages) (suc n) zero low = refl
+get-taken (p ∷ packages) (suc n) (suc k) low = get-taken packages n k (omega (arith, low))
+
+taken-below : (P : PackageData → Type 0) (packages : List PackageData) (n : ℕ) (o : Option ℕ) → n ≤ length packages
+    → IsLastBelow (HoldsOf P (take n packages)) (length (take n packages)) o → IsLastBelow (HoldsOf P packages) n o
+taken-below P packages n None within h = λ k low found.
+    h k (omega (arith, low, within, length-take n packages)) (found.0, get-taken packages n k low ∙ found.1, found.2)
+taken-below P packages n (Some place) within h =
+    let below = h.0 in
+    let low : place < n = omega (arith, below, length-take n packages) in (
+      low,
+      (h.1.0, sym (get-taken packages n place low) ∙ h.1.1, h.1.2),
+      λ k after under found. h.2 k after (omega (arith, under, within, length-take n packages)) (found.0, get-taken packages n k under ∙ found.1, found.2),
+    )
+
+pub version-before : (packages : List PackageData) (p : PackageData) (key : PartialIdentity) (place : ℕ) (o : Option ℕ) → slice_get packages place ≡ Some p
+    → key ≡ name_and_version p.name p.version → o ≡ last_place key (take place (versions_of packages))
+    → IsLastBelow (HoldsOf (HasNameAndVersion (identity_of p)) packages) place o
+version-before packages p key place o here key_is is =
+    let within = slice_get_within packages place p here in
+    taken-below (HasNameAndVersion (identity_of p)) packages place o (omega (arith, within))
+    (last-version (take place packages) (identity_of p) key o key_is
+    (is ∙ ap (last_place key) (take-map (λ (q : PackageData). name_and_version q.name q.version) place packages)))
 
 -- ---- the best of some places
 
@@ -250,7 +302,7 @@ named-all packages d entries alike =
     All-weaker (Contains entries) (λ e. HoldsOf (HasNameAndVersion d) packages e.place)
     (λ e inside.
     let (at, like) = (alike e).0 inside in
-    let (p, here, is) = key-at packages e.place e.key at in
+    let (p, here, is) = key-at (λ q. identity_as_key (identity_of q)) packages e.place e.key at in
     (p, here, alike-named d p (subst (AreAlike (identity_as_key d)) (sym is) like)))
     entries (All-contains_itself entries)
 
@@ -258,7 +310,7 @@ named-all packages d entries alike =
 matching-inside : (packages : List PackageData) (d : Identity) (entries : List Placed) (k rank : ℕ) → AreAllAlike (identity_as_key d) (keys_of packages) entries
     → (f : MatchesAt packages d k rank) → Contains entries (record { key = identity_as_key (identity_of f.0); place = k })
 matching-inside packages d entries k rank alike f =
-    (alike (record { key = identity_as_key (identity_of f.0); place = k })).1 (key-of packages k f.0 f.1, matches-alike d f.0 rank f.2)
+    (alike (record { key = identity_as_key (identity_of f.0); place = k })).1 (key-of (λ q. identity_as_key (identity_of q)) packages k f.0 f.1, matches-alike d f.0 rank f.2)
 
 pub best-target : (packages : List PackageData) (d : Identity) (entries : List Placed) (best : Option Best)
     → AreAllAlike (identity_as_key d) (keys_of packages) entries → IsBestAmong packages d entries best

@@ -1,5 +1,5 @@
 -- How the package of a dependency is found among the packages of its name and version.
-use Rattle.std.proofs.Common.{◌≡◌, ◌<◌, ◌≤◌, ◌+◌, ◌⊎◌, inl, inr, ℕ, Bool, true, false, cond, nat_lt, List, [], ◌∷◌, ◌++◌, length, get_or, slice_get, Option, Some, None, ◌↔◌, option_map, refl, sym, ap, subst, ◌∙◌, arith, length-append}
+use Rattle.std.proofs.Common.{◌≡◌, ◌<◌, ◌≤◌, ◌+◌, ◌⊎◌, inl, inr, ℕ, Bool, true, false, cond, nat_lt, List, length, get_or, slice_get, Option, Some, None, ◌↔◌, option_map, refl, sym, ap, subst, ◌∙◌, arith}
 use Rattle.std.specs.Bool.{Decides}
 use Rattle.std.specs.BTreeMap.{BTreeMap, get, is_at}
 use Rattle.std.proofs.lemmas.Bool.{cases_Bool, false≢true, ltb-true, ltb-false}
@@ -10,9 +10,8 @@ use Rattle.cargo_lock_parts.specs.Rank.{has_rank_1, has_rank_2, has_rank_3, has_
 use Rattle.cargo_lock_parts.specs.Source.{Source}
 use Rattle.cargo_lock_parts.specs.SourceKey.{key_of}
 use Rattle.cargo_lock_parts.proofs.RankLemmas.{rank_one_is_equal_keys}
-use Rattle.cargo_lock_graph.specs.Candidates.{AreLastPlaces, AreVersions, identity_as_key}
+use Rattle.cargo_lock_graph.specs.Candidates.{AreLastPlaces, identity_as_key}
 use Rattle.cargo_lock_graph.specs.Targets.{Matches, HasIdentity, HoldsOf, IsLastBelow, IsLastWith, IsTarget, rank_between}
-use Rattle.cargo_lock_graph.proofs.MadeChains.{in_or_last}
 
 -- ---- the last place
 
@@ -134,7 +133,7 @@ exact-target packages d place last =
 
 -- ---- places by name and version
 
-same-version : (a d : Identity) → Decides (is_at (partial_identity_cmp (name_and_version a.name a.version)) (name_and_version d.name d.version)) ((d.name ≡ a.name) × (d.version ≡ a.version))
+pub same-version : (a d : Identity) → Decides (is_at (partial_identity_cmp (name_and_version a.name a.version)) (name_and_version d.name d.version)) ((d.name ≡ a.name) × (d.version ≡ a.version))
 same-version a d =
     let tells = is_same_partial_identity-Decides (name_and_version a.name a.version) (name_and_version d.name d.version) in (
       λ h.
@@ -143,44 +142,7 @@ same-version a d =
       λ e. tells.1 (λ i. record { name = sym e.0 i; version = Some (sym e.1 i); source = None }),
     )
 
-has-both : (p : PackageData) (d : Identity)
-    → Decides (is_at (partial_identity_cmp (name_and_version p.name p.version)) (name_and_version d.name d.version)) (HasNameAndVersion d p)
-has-both p d =
-    let tells = same-version (identity_of p) d in
-    (λ h. record { name = (tells.0 h).0; version = (tells.0 h).1 }, λ e. tells.1 (e.name, e.version))
-
-pub versions-more : (packages : List PackageData) (bound : ℕ) (last grown : BTreeMap PartialIdentity ℕ) (earlier pushed : List (Option ℕ)) (p : PackageData) (o : Option ℕ)
-    → slice_get packages bound ≡ Some p → o ≡ get partial_identity_cmp last (name_and_version p.name p.version) → pushed ≡ earlier ++ o ∷ []
-    → ((q : PartialIdentity) → get partial_identity_cmp grown q
-    ≡ cond (is_at (partial_identity_cmp (name_and_version p.name p.version)) q) (Some bound) (get partial_identity_cmp last q))
-    → AreVersions packages bound last earlier → AreVersions packages (bound + 1) grown pushed
-versions-more packages bound last grown earlier pushed p o here is more grows so_far =
-    let even = so_far.count in
-    record {
-      count = ap length more ∙ (let l = length-append earlier (o ∷ []) in omega (arith, l, even));
-      newest = λ i.
-          let key = name_and_version i.name i.version in
-          subst (λ found. IsLastBelow (HoldsOf (HasNameAndVersion i) packages) (bound + 1) found) (sym (grows key))
-          (last-step (HasNameAndVersion i) packages bound p (is_at (partial_identity_cmp (name_and_version p.name p.version)) key) (get partial_identity_cmp last key) here (has-both p i) (so_far.newest i));
-      before = λ k q place there at. elim (in_or_last earlier o k place (ap (λ xs. slice_get xs k) (sym more) ∙ at)) [
-        | inl (low, old) ↦ so_far.before k q place there old
-        | inr (end, found) ↦
-            let place_is : k ≡ bound = end ∙ even in
-            let same : p ≡ q = same_Some p q (sym here ∙ ap (slice_get packages) (sym place_is) ∙ there) in
-            let Q : PackageData → ℕ → Option ℕ → Type 0 = λ r bound found. IsLastBelow (HoldsOf (HasNameAndVersion (identity_of r)) packages) bound found in
-            subst (λ r. Q r k place) same
-            (subst (λ n. Q p n place) (sym place_is)
-            (subst (λ f. Q p bound f) (sym is ∙ found) (so_far.newest (identity_of p))))
-      ];
-    }
-
 -- ---- the steps of the search
-
-pub find-start : (packages : List PackageData) (d : Identity) (last : BTreeMap PartialIdentity ℕ) (earlier : List (Option ℕ)) (next : Option ℕ)
-    → AreVersions packages (length packages) last earlier → next ≡ get partial_identity_cmp last (name_and_version d.name d.version)
-    → IsLastBelow (HoldsOf (HasNameAndVersion d) packages) (length packages) next
-find-start packages d last earlier next versions is =
-    subst (λ o. IsLastBelow (HoldsOf (HasNameAndVersion d) packages) (length packages) o) (sym is) (versions.newest d)
 
 -- the places of the name and the version of a package are those of the dependency
 pub find-next : (packages : List PackageData) (d : Identity) (p : PackageData) (place : ℕ) (next : Option ℕ) → HasNameAndVersion d p
@@ -189,11 +151,3 @@ find-next packages d p place next named =
     last-alike (HoldsOf (HasNameAndVersion (identity_of p)) packages) (HoldsOf (HasNameAndVersion d) packages) place next
     (λ k h. (h.0, h.1, record { name = named.name ∙ h.2.name; version = named.version ∙ h.2.version }))
     (λ k h. (h.0, h.1, record { name = sym named.name ∙ h.2.name; version = sym named.version ∙ h.2.version }))
-
-pub versions-step : (packages : List PackageData) (place : ℕ) (last grown : BTreeMap PartialIdentity ℕ) (earlier pushed : List (Option ℕ)) (p : PackageData) (o : Option ℕ)
-    → place < length packages → p ≡ get_or packages place p → o ≡ get partial_identity_cmp last (name_and_version p.name p.version) → pushed ≡ earlier ++ o ∷ []
-    → ((q : PartialIdentity) → get partial_identity_cmp grown q
-    ≡ cond (is_at (partial_identity_cmp (name_and_version p.name p.version)) q) (Some place) (get partial_identity_cmp last q))
-    → AreVersions packages place last earlier → AreVersions packages (place + 1) grown pushed
-versions-step packages place last grown earlier pushed p o low p_is =
-    versions-more packages place last grown earlier pushed p o (slice_get_read packages (length packages) place p refl low p_is)

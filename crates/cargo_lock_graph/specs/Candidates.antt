@@ -1,11 +1,11 @@
 -- How the package of a dependency is found: as the last one with its identity, or else among the
 -- packages with its name, version and URL.
 use Rattle.std.specs.Prelude.{◌≡◌, ℕ, Bool, ◌≤◌, ◌==◌, ◌&&◌, ◌||◌, nat_lt, cond, List, Option}
-use Rattle.std.specs.Prelude.{Some, None, length, map, slice_get}
+use Rattle.std.specs.Prelude.{Some, None, map}
 use Rattle.std.specs.BTreeMap.{BTreeMap, get}
 use Rattle.std.specs.List.{All}
 use Rattle.cargo_lock_index.specs.Near.{Placed}
-use Rattle.cargo_lock_parts.specs.Identity.{HasNameAndVersion, Identity, PackageData, identity_of}
+use Rattle.cargo_lock_parts.specs.Identity.{Identity, PackageData, identity_of}
 use Rattle.cargo_lock_parts.specs.PartialIdentity.{PartialIdentity, name_and_version}
 use Rattle.cargo_lock_parts.specs.PartialIdentity.{partial_identity_cmp}
 use Rattle.cargo_lock_graph.specs.declared.targets.Best.{Best}

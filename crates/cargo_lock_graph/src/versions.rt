@@ -71,7 +71,18 @@ impl<'a> Versions<'a> {
         ensures beyond { slice_get self.now place ≡ None → result ≡ None }
     {
         let packages = self.packages;
-        let Package { name, version, .. } = packages.get(place)?;
+        let package = packages.get(place)?;
+        self.before_like(package, place)
+    }
+
+    // The last place before this one of the packages with the name and the version of the package
+    // at this place.
+    fn before_like(&self, package: &'a Package, place: usize) -> Option<usize>
+        requires { slice_get self.now place ≡ Some «package».now }
+        ensures { IsLastBelow (HoldsOf (HasNameAndVersion (identity_of «package».now)) self.now)
+            place result }
+    {
+        let Package { name, version, .. } = package;
         self.places
             .before(PartialIdentity::name_and_version(name, version), place)
     }
