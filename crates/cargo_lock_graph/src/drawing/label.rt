@@ -1,8 +1,9 @@
 //! Labels of entries: a package's name and version, and in an exact label what distinguishes the
 //! package. Labels are written in pieces, which allocates nothing.
 
-ghost use Rattle.std.specs.Prelude.{◌≡◌, ◌<◌, ◌≤◌, ◌+◌, ◌∷◌, ◌++◌, codes, decimal, drop};
-ghost use Rattle.std.specs.Prelude.{false, length, option_copied};
+ghost use Rattle.std.specs.Prelude.{◌≡◌, ◌<◌, ◌≤◌, ◌+◌, [], ◌∷◌, ◌++◌, codes, decimal};
+ghost use Rattle.std.specs.Prelude.{drop, false, length, option_copied, true};
+ghost use Rattle.cargo_lock_parts.specs.Ascii.{newline};
 ghost use Rattle.semver.specs.Identifiers.{parts_of, parts_text};
 ghost use Rattle.cargo_lock_parts.specs.Checksum.{digest_of, digest_text};
 ghost use Rattle.cargo_lock_parts.specs.Source.{git_reference_of};
@@ -46,12 +47,15 @@ fn write_marked(mark: u8, number: u64, buffer: &mut [u8], end: usize) -> usize
     write_byte(mark, buffer, start)
 }
 
-// Writes a space and the numbers of a version at the end of a buffer, and returns where they start.
-fn write_numbers(version: &Version, buffer: &mut [u8; 64]) -> usize
-    ensures start { result ≤ 64 }
-    ensures written { drop result buffer.new ≡ numbers_text (parts_of version.now) }
+// Writes a space and the numbers of a version, which end at this place of a buffer, and returns
+// where they start.
+fn write_numbers(version: &Version, buffer: &mut [u8; 64], end: usize) -> usize
+    requires { (63 ≤ end) × (end ≤ 64) }
+    ensures start { result ≤ end }
+    ensures written { drop result buffer.new
+        ≡ numbers_text (parts_of version.now) ++ drop end buffer.old }
 {
-    let patch = write_marked(b'.', version.patch, buffer, 64);
+    let patch = write_marked(b'.', version.patch, buffer, end);
     let minor = write_marked(b'.', version.minor, buffer, patch);
     write_marked(b' ', version.major, buffer, minor)
 }
@@ -63,7 +67,18 @@ fn put_numbers<T: Target>(out: &mut T, version: &Version) -> Put
         (numbers_text (parts_of version.now)) result }
 {
     let mut buffer = [0u8; 64];
-    let start = write_numbers(version, &mut buffer);
+    let start = write_numbers(version, &mut buffer, 64);
+    put_all(out, &buffer[start..])
+}
+
+// A space, the numbers of a version and a newline, as one text.
+fn put_numbers_line<T: Target>(out: &mut T, version: &Version) -> Put
+    requires { CanCountFault (T.state out.old).failures }
+    ensures { IsWritten (T.state out.old) (T.state out.new)
+        (numbers_text (parts_of version.now) ++ (newline ∷ [])) result }
+{
+    let mut buffer = [b'\n'; 64];
+    let start = write_numbers(version, &mut buffer, 63);
     put_all(out, &buffer[start..])
 }
 
@@ -75,6 +90,19 @@ fn put_version<T: Target>(out: &mut T, version: &Version) -> Put
 {
     put_numbers(out, version)?;
     put_tags(out, version)
+}
+
+// A space, a version and a newline.
+fn put_version_line<T: Target>(out: &mut T, version: &Version) -> Put
+    requires { CanCountFault (T.state out.old).failures }
+    ensures { IsWritten (T.state out.old) (T.state out.new)
+        ((codes " " ++ parts_text (parts_of version.now)) ++ (newline ∷ [])) result }
+{
+    if version.pre.as_str().is_empty() && version.build.as_str().is_empty() {
+        return put_numbers_line(out, version);
+    }
+    put_version(out, version)?;
+    put_all(out, b"\n")
 }
 
 // ---- the exact part of a label
@@ -182,14 +210,21 @@ fn put_identity<T: Target>(out: &mut T, package: &Package) -> Put
     put_version(out, &package.version)
 }
 
-pub(crate) fn put_label<T: Target>(out: &mut T, package: &Package, exact: bool) -> Put
+// The label that is not exact, and a newline.
+pub(crate) fn put_plain_line<T: Target>(out: &mut T, package: &Package) -> Put
     requires { CanCountFault (T.state out.old).failures }
-    ensures { IsWritten (T.state out.old) (T.state out.new) (label_of exact «package».now) result }
+    ensures { IsWritten (T.state out.old) (T.state out.new)
+        (label_of false «package».now ++ (newline ∷ [])) result }
+{
+    put_all(out, package.name.as_str().as_bytes())?;
+    put_version_line(out, &package.version)
+}
+
+pub(crate) fn put_exact_label<T: Target>(out: &mut T, package: &Package) -> Put
+    requires { CanCountFault (T.state out.old).failures }
+    ensures { IsWritten (T.state out.old) (T.state out.new) (label_of true «package».now) result }
 {
     put_identity(out, package)?;
-    if exact {
-        put_all(out, b" ")?;
-        return put_exact_text(out, package);
-    }
-    Ok(())
+    put_all(out, b" ")?;
+    put_exact_text(out, package)
 }

@@ -1,5 +1,5 @@
 //! The text of a drawing, written to a target line by line. `put_node` writes the label of an entry
-//! with `put_label` of `label.rt`.
+//! with the functions of `label.rt`.
 
 ghost use Rattle.std.specs.Prelude.{◌≡◌, ◌<◌, ◌≤◌, ◌++◌, ◌∷◌, [], length, vec_len};
 ghost use Rattle.cargo_lock_parts.specs.Ascii.{newline};
@@ -13,7 +13,7 @@ ghost use Rattle.cargo_lock_graph.specs.Sinks.{IsRenderedTo, IsWritten};
 ghost use Rattle.cargo_lock_graph.specs.WalkState.{IsAbove, IsOn, KeepsLevels, to_come};
 
 use crate::drawing::entry::Entry;
-use crate::drawing::label::put_label;
+use crate::drawing::label::{put_exact_label, put_plain_line};
 use crate::drawing::look::Look;
 use crate::drawing::put::{OfSink, OfWriter, Put, Target, put_all};
 use crate::drawing::sink::Sink;
@@ -62,7 +62,11 @@ fn put_node<T: Target>(out: &mut T, graph: &Graph, node: NodeIndex, exact: bool)
     ensures { IsWritten (T.state out.old) (T.state out.new)
         (label_at exact graph.now.packages node ++ (newline ∷ [])) result }
 {
-    put_label(out, &graph[node], exact)?;
+    let package = &graph[node];
+    if !exact {
+        return put_plain_line(out, package);
+    }
+    put_exact_label(out, package)?;
     put_all(out, b"\n")
 }
 
