@@ -65,10 +65,27 @@ pub fn graph_of(alloc: Global, packages: &Vec<Package>) -> Result<(Graph, Nodes)
     ensures err { IfErr result (λ e. IsUnresolved packages.now.items (links packages.now.items) e) }
 {
     let nodes = nodes_of(alloc, packages)?;
-    let edges = edges_of(alloc, packages)?;
     let packages = clone_packages(packages)?;
-    let graph = Graph::new(alloc, packages, edges)?;
+    let graph = graph_from(alloc, packages)?;
     Ok((graph, nodes))
+}
+
+/// The graph of these packages, which become its own: the one that `graph_of` returns, without a map
+/// of its nodes, which takes most of the time and the memory of `graph_of`.
+///
+/// `Resolution` names the first dependency that no package matches. The other error is `Memory`.
+///
+/// ```
+/// let graph = graph_from(alloc, lockfile.packages)?;
+/// ```
+pub fn graph_from(alloc: Global, packages: Vec<Package>) -> Result<Graph>
+    ensures packages { IfOk result (λ graph. graph.packages ≡ packages.items) }
+    ensures edges { IfOk result (λ graph. AreEdgesOf packages.items graph.edges) }
+    ensures err { IfErr result (λ e. IsUnresolved packages.items (links packages.items) e) }
+{
+    let edges = edges_of(alloc, &packages)?;
+    let graph = Graph::new(alloc, packages, edges)?;
+    Ok(graph)
 }
 
 // The edges of the dependencies of these packages, in order.

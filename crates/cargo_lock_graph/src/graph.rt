@@ -229,6 +229,13 @@ impl Graph {
         })
     }
 
+    /// The packages: node k is the node of package k.
+    pub fn packages(&self) -> &[Package]
+        ensures { result.now ≡ self.now.packages }
+    {
+        self.packages.as_slice()
+    }
+
     /// How many nodes there are.
     pub fn node_count(&self) -> usize
         ensures { result ≡ length self.now.packages }
