@@ -88,8 +88,8 @@ impl<'a> Candidates<'a> {
         self.last_with(name, version, source)
     }
 
-    // The last place of the packages with an identity.
-    fn last_with(
+    /// The last place of the packages with an identity. `None` if no package has it.
+    pub fn last_with(
         &self,
         name: &'a Name,
         version: &'a Version,
