@@ -3,6 +3,7 @@ use Rattle.std.specs.Prelude.{◌≡◌}
 use Rattle.cargo_lock.specs.CargoChecksums.{with_cargo_checksums_in}
 use Rattle.cargo_lock.specs.Loads.{IsMeant, IsOfFile}
 use Rattle.cargo_lock_encoding.specs.Lockfiles.{LockfileData}
+use Rattle.cargo_lock_references.specs.declared.version.ResolveVersion.{ResolveVersion}
 use Rattle.cargo_lock_graph.specs.Edges.{GraphData}
 use Rattle.cargo_lock_graph.specs.Targets.{AreEdgesOf}
 use Rattle.cli_support.specs.declared.fault.Fault.{Fault}
@@ -22,3 +23,7 @@ IsCompared x = (l : LockfileData) × IsMeant l × (x ≡ with_cargo_checksums_in
 pub record IsGraphOf (l : LockfileData) (graph : GraphData) : Type 0 where
   pub packages : graph.packages ≡ l.packages
   pub edges : AreEdgesOf l.packages graph.edges
+
+-- the format and the graph are those of a lockfile that some text means
+abbrev pub IsRead : ResolveVersion → GraphData → Type 0
+IsRead format graph = (l : LockfileData) × IsMeant l × (l.version ≡ format) × IsGraphOf l graph

@@ -4,12 +4,11 @@ ghost use Rattle.clap.specs.Matches.{found_of};
 ghost use Rattle.cargo_lock.specs.Loads.{IsMeant};
 ghost use Rattle.cargo_lock_encoding.specs.Means.{TextMeans};
 ghost use Rattle.cli_lockfiles.specs.Json.{file_of};
-ghost use Rattle.cli_lockfiles.specs.Load.{IsCompared};
-ghost use Rattle.cli_lockfiles.specs.Load.{IsOfLockfile};
-ghost use Rattle.cli_lockfiles.specs.Load.{IsGraphOf};
+ghost use Rattle.cli_lockfiles.specs.Load.{IsCompared, IsGraphOf, IsOfLockfile, IsRead};
+ghost use Rattle.cli_support.specs.Input.{given_path_in};
 
-use cargo_lock::dependency::Tree;
-use cargo_lock::{Error, Lockfile};
+use cargo_lock::dependency::graph::Graph;
+use cargo_lock::{Error, Lockfile, ResolveVersion};
 use cargo_lock_json::File;
 use clap::ArgMatches;
 use cli_support::fault::path_shown;
@@ -79,24 +78,25 @@ pub fn lockfile_without_packages(alloc: Global) -> Result<Lockfile, Fault>
     Ok(compared)
 }
 
-/// The lockfile at the path of the option `file`, and its tree. Fails if it is not read, with the
-/// path in the error, or if no package matches a dependency.
-pub fn named_tree<R: Files + AllocGlobal>(
+/// The format of the lockfile at the path of the option `file`, and the graph of its packages. Fails
+/// if it is not read, with the path in the error, or if no package matches a dependency.
+pub fn named_graph<R: Files + AllocGlobal>(
     rt: &R,
     options: &ArgMatches<'_>,
-) -> Result<(Lockfile, Tree), Fault>
-    ensures { IfOk result (λ read. IsMeant read.0 × IsGraphOf read.0 read.1.graph) }
+) -> Result<(ResolveVersion, Graph), Fault>
+    ensures { IfOk result (λ read. IsRead read.0 read.1) }
 {
     let lockfile = named_lockfile(rt, options, "file")?;
-    let tree = tree_of(rt.alloc(), &lockfile)?;
-    Ok((lockfile, tree))
+    let format = lockfile.version;
+    let graph = graph_of(rt.alloc(), lockfile)?;
+    Ok((format, graph))
 }
 
-/// The tree of the lockfile. Fails if no package matches a dependency.
-pub fn tree_of(alloc: Global, lockfile: &Lockfile) -> Result<Tree, Error>
-    ensures { IfOk result (λ tree. IsGraphOf lockfile.now tree.graph) }
+/// The graph of the lockfile's packages. Fails if no package matches a dependency.
+pub fn graph_of(alloc: Global, lockfile: Lockfile) -> Result<Graph, Error>
+    ensures { IfOk result (λ graph. IsGraphOf lockfile graph) }
 {
-    lockfile.dependency_tree(alloc)
+    lockfile.into_graph(alloc)
 }
 
 /// The text of the lockfile at the path of the option `name`. Fails if it is not read, with the
@@ -132,9 +132,19 @@ pub fn named_lockfile_of(
 pub fn file<'a>(options: &ArgMatches<'a>, name: &str, lockfile: &Lockfile) -> File<'a>
     ensures { result ≡ file_of (found_of options.now) name.now lockfile.now }
 {
+    file_in(options, name, lockfile.version)
+}
+
+/// The lockfile of this format at the path of the option or argument `name`, as a document has it.
+pub fn file_in<'a>(options: &ArgMatches<'a>, name: &str, format: ResolveVersion) -> File<'a>
+    ensures { result ≡ record {
+      path = given_path_in (found_of options.now) name.now;
+      format = format;
+    } }
+{
     File {
         path: words::given_path(options, name),
-        format: lockfile.version,
+        format,
     }
 }
 

@@ -1,6 +1,6 @@
 -- What `tree` prints.
-use Rattle.std.specs.Prelude.{◌≡◌, ◌≢◌, ℕ, Bool, if◌then◌else◌, List, [], ◌∷◌, ◌++◌, Option}
-use Rattle.std.specs.Prelude.{codes, length, option_map, unwrap_or}
+use Rattle.std.specs.Prelude.{◌≡◌, ◌≢◌, ◌<◌, ℕ, Bool, if◌then◌else◌, List, [], ◌∷◌, ◌++◌, Option}
+use Rattle.std.specs.Prelude.{None, Some, codes, option_map, slice_get, unwrap_or}
 use Rattle.std.specs.Io.KnownBytes.{Appends}
 use Rattle.std.specs.List.{AllZip, flat_map}
 use Rattle.clap.specs.Matches.{matched_of, raw_values}
@@ -9,7 +9,10 @@ use Rattle.cargo_lock_parts.specs.Ascii.{newline}
 use Rattle.cargo_lock_graph.specs.declared.graph.EdgeDirection.{EdgeDirection}
 use Rattle.cargo_lock_graph.specs.declared.graph.EdgeDirection.TheVariants.{Incoming, Outgoing}
 use Rattle.cargo_lock_graph.specs.Edges.{GraphData, externals}
+use Rattle.cargo_lock_ask.specs.Spec.{Fits}
+use Rattle.cargo_lock_parts.specs.Identity.{PackageData, identity_of}
 use Rattle.cargo_lock_graph.specs.Rendering.{Draws}
+use Rattle.cargo_lock_graph.specs.Targets.{IsLastWith}
 use Rattle.cargo_lock_encoding.specs.Lockfiles.{LockfileData}
 use Rattle.cargo_lock.specs.Loads.{IsMeant}
 use Rattle.cli_lockfiles.specs.Json.{IsFlag}
@@ -42,10 +45,26 @@ AreDrawn exact direction graph starts text = (texts : List (List ℕ))
 abbrev pub given_specs : Found → List (List ℕ)
 given_specs found = unwrap_or (option_map raw_values (matched_of found (codes "spec"))) []
 
+-- the package at the first of some places, if there is one
+abbrev pub first_at : List PackageData → List ℕ → Option PackageData
+first_at packages [] = None
+first_at packages (place ∷ places) = slice_get packages place
+
+-- the node of the first package that a specification fits: that of the last package with its
+-- identity
+pub record IsStartOf (packages : List PackageData) (spec : List ℕ) (start : ℕ) : Type 0 where
+  pub first : ℕ
+  pub listed : PackageData
+  pub at : slice_get packages first ≡ Some listed
+  pub fits : Fits spec packages first
+  pub before : (k : ℕ) → k < first → ¬ Fits spec packages k
+  pub last : IsLastWith packages (identity_of listed) (Some start)
+
 -- the nodes whose trees are printed: without specifications the roots, else one for each of them
 pub record AreStarts (found : Found) (graph : GraphData) (starts : List ℕ) : Type 0 where
   pub roots : given_specs found ≡ [] → starts ≡ externals Incoming graph
-  pub specified : given_specs found ≢ [] → length starts ≡ length (given_specs found)
+  pub specified : given_specs found ≢ []
+      → AllZip (IsStartOf graph.packages) (given_specs found) starts
 
 -- what is printed is the trees of a graph that the arguments ask for
 pub record PrintsTreesOf (found : Found) (graph : GraphData) (old new : Option (List ℕ)) : Type 0

@@ -11,7 +11,7 @@ use cargo_lock::dependency::graph::Graph;
 use cargo_lock_ask::{Listing, Rows};
 use cargo_lock_json::{File, groups_json};
 use clap::{ArgMatches, Command};
-use cli_lockfiles::load::{file, named_tree};
+use cli_lockfiles::load::{file_in, named_graph};
 use cli_support::output::put;
 use cli_support::words::{any_size, json, long_flag};
 use cli_support::{Fault, words};
@@ -57,9 +57,9 @@ pub fn run<R: Files + AllocGlobal, W: Write>(
         (W.contents out.old) (W.contents out.new)
         (status ≡ ExitCode.FAILURE) (status ≡ ExitCode.SUCCESS)) }
 {
-    let (lockfile, tree) = named_tree(rt, options)?;
-    let file = file(options, "file", &lockfile);
-    report_names(rt.alloc(), options, &file, tree.graph(), out)
+    let (format, graph) = named_graph(rt, options)?;
+    let file = file_in(options, "file", format);
+    report_names(rt.alloc(), options, &file, &graph, out)
 }
 
 /// Prints the names that several packages of a graph have. Returns the status.

@@ -8,11 +8,11 @@ ghost use Rattle.cli_views.specs.Tree.{given_specs};
 
 use crate::tree::direction;
 use cargo_lock::Package;
-use cargo_lock::dependency::Tree;
 use cargo_lock::dependency::graph::{Graph, NodeIndex};
+use cargo_lock::dependency::tree::roots_of;
 use cargo_lock_picture::{Diagram, Picture, Target, picture_from};
 use clap::{Arg, ArgAction, ArgMatches, Command};
-use cli_lockfiles::load::named_tree;
+use cli_lockfiles::load::named_graph;
 use cli_lockfiles::spec::{some_fitting, specs};
 use cli_support::Fault;
 use cli_support::output::put;
@@ -69,71 +69,50 @@ pub fn run<R: Files + AllocGlobal, W: Write>(
     ensures { OnOk result
         (DrawsGraph (found_of options.now) (W.contents out.old) (W.contents out.new)) }
 {
-    let (lockfile, tree) = named_tree(rt, options)?;
-    draw_tree(
-        rt.alloc(),
-        options,
-        lockfile.packages.as_slice(),
-        &tree,
-        out,
-    )
+    let (_, graph) = named_graph(rt, options)?;
+    draw_graph(rt.alloc(), options, &graph, out)
 }
 
-/// Prints the picture of a tree.
-fn draw_tree<W: Write>(
+/// Prints the picture of a graph.
+fn draw_graph<W: Write>(
     alloc: Global,
     options: &ArgMatches<'_>,
-    packages: &[Package],
-    tree: &Tree,
+    graph: &Graph,
     out: &mut W,
 ) -> Result<(), Fault>
-    requires { packages.now ≡ tree.now.graph.packages }
-    ensures { OnOk result (DrawsPicture (found_of options.now) tree.now.graph
+    ensures { OnOk result (DrawsPicture (found_of options.now) graph.now
         (W.contents out.old) (W.contents out.new)) }
 {
-    let starts = starts(alloc, packages, tree, options)?;
-    let graph = tree.graph();
+    let starts = starts(alloc, graph, options)?;
     let direction = direction(options.get_flag("invert"));
     let picture = picture_from(alloc, graph, &starts, direction)?;
     put_picture(out, target(options), graph, &picture)
 }
 
 /// The nodes from which the picture begins.
-fn starts(
-    alloc: Global,
-    packages: &[Package],
-    tree: &Tree,
-    options: &ArgMatches<'_>,
-) -> Result<Vec<NodeIndex>, Fault>
-    requires { packages.now ≡ tree.now.graph.packages }
+fn starts(alloc: Global, graph: &Graph, options: &ArgMatches<'_>) -> Result<Vec<NodeIndex>, Fault>
     ensures within { IfOk result (λ starts.
-        All (λ start. start < length tree.now.graph.packages) starts.items) }
+        All (λ start. start < length graph.now.packages) starts.items) }
     ensures begun { IfOk result (λ starts.
-        AreBegun (given_specs (found_of options.now)) tree.now.graph starts.items) }
+        AreBegun (given_specs (found_of options.now)) graph.now starts.items) }
 {
     match options.get_strs("spec") {
-        Some(specs) => starts_of(alloc, packages, tree, specs),
-        None => Ok(tree.roots(alloc)?),
+        Some(specs) => starts_of(alloc, graph, specs),
+        None => Ok(roots_of(alloc, graph)?),
     }
 }
 
 /// The nodes from which the picture begins if these are the specifications.
-fn starts_of(
-    alloc: Global,
-    packages: &[Package],
-    tree: &Tree,
-    specs: &[&str],
-) -> Result<Vec<NodeIndex>, Fault>
-    requires { packages.now ≡ tree.now.graph.packages }
+fn starts_of(alloc: Global, graph: &Graph, specs: &[&str]) -> Result<Vec<NodeIndex>, Fault>
     ensures within { IfOk result (λ starts.
-        All (λ start. start < length tree.now.graph.packages) starts.items) }
+        All (λ start. start < length graph.now.packages) starts.items) }
     ensures begun { IfOk result (λ starts.
-        AreBegun (map (λ spec. spec.now) specs.now) tree.now.graph starts.items) }
+        AreBegun (map (λ spec. spec.now) specs.now) graph.now starts.items) }
 {
     if specs.is_empty() {
-        return Ok(tree.roots(alloc)?);
+        return Ok(roots_of(alloc, graph)?);
     }
-    all_fitting(alloc, packages, specs)
+    all_fitting(alloc, graph.packages(), specs)
 }
 
 /// The nodes of the packages that match the specifications. Fails if none matches one of them.

@@ -1,19 +1,24 @@
 //! The command `tree`: the trees of the roots of a lockfile, or of the packages that are asked for.
-ghost use Rattle.std.specs.Prelude.{◌≡◌, ◌<◌, List, ℕ, All, IfOk, OnOk, length};
+ghost use Rattle.std.specs.Prelude.{◌≡◌, ◌<◌, List, ℕ, All, IfOk, OnOk, Some, length, map, option_map};
 ghost use Rattle.std.specs.Io.KnownBytes.{Appends};
 ghost use Rattle.std.specs.List.{AllZip};
 ghost use Rattle.clap.specs.Matches.{found_of};
 ghost use Rattle.cargo_lock_graph.specs.Edges.{GraphData};
 ghost use Rattle.cargo_lock_graph.specs.Rendering.{Draws};
-ghost use Rattle.cli_views.specs.Tree.{AreDrawn, AreStarts, IsDrawn, PrintsTrees};
+ghost use Rattle.cargo_lock_graph.specs.Targets.{IsLastWith};
+ghost use Rattle.cargo_lock_parts.specs.Identity.{identity_of};
+ghost use Rattle.cli_views.specs.Tree.{AreDrawn, AreStarts, IsDrawn, IsStartOf, PrintsTrees};
+ghost use Rattle.cli_views.specs.Tree.{first_at};
 ghost use Rattle.cli_lockfiles.specs.Load.{IsGraphOf};
 ghost use Rattle.cli_views.specs.Tree.{PrintsTreesOf, after_empty_lines, direction_of};
 
-use cargo_lock::dependency::Tree;
-use cargo_lock::dependency::graph::{EdgeDirection, NodeIndex};
-use cargo_lock::{Dependency, Lockfile, Package};
+use cargo_lock::dependency::graph::{EdgeDirection, Graph, NodeIndex};
+use cargo_lock::dependency::tree::{Symbols, roots_of};
+use cargo_lock::{Lockfile, Package};
+use cargo_lock_graph::drawing::{Look, render_onto};
+use cargo_lock_graph::targets::Candidates;
 use clap::{ArgMatches, Command};
-use cli_lockfiles::load::{lockfile, tree_of};
+use cli_lockfiles::load::{graph_of, lockfile};
 use cli_lockfiles::spec::{some_fitting, specs};
 use cli_support::Fault;
 use cli_support::output::put;
@@ -56,41 +61,39 @@ pub fn run<R: Files + AllocGlobal, W: Write>(
         (PrintsTrees (found_of options.now) (W.contents out.old) (W.contents out.new)) }
 {
     let lockfile = lockfile(rt, options, "file")?;
-    draw(rt.alloc(), out, &lockfile, options)
+    draw(rt.alloc(), out, lockfile, options)
 }
 
 /// Prints the trees of a lockfile that the arguments ask for.
 fn draw<W: Write>(
     alloc: Global,
     out: &mut W,
-    lockfile: &Lockfile,
+    lockfile: Lockfile,
     options: &ArgMatches<'_>,
 ) -> Result<(), Fault>
-    ensures { OnOk result ((graph : GraphData) × IsGraphOf lockfile.now graph
+    ensures { OnOk result ((graph : GraphData) × IsGraphOf lockfile graph
         × PrintsTreesOf (found_of options.now) graph (W.contents out.old) (W.contents out.new)) }
 {
-    let tree = tree_of(alloc, lockfile)?;
-    let packages = lockfile.packages.as_slice();
-    draw_starts(alloc, out, packages, &tree, options)
+    let graph = graph_of(alloc, lockfile)?;
+    draw_starts(alloc, out, &graph, options)
 }
 
 /// Prints the trees of the nodes that the arguments name.
 fn draw_starts<W: Write>(
     alloc: Global,
     out: &mut W,
-    packages: &[Package],
-    tree: &Tree,
+    graph: &Graph,
     options: &ArgMatches<'_>,
 ) -> Result<(), Fault>
-    ensures { OnOk result (PrintsTreesOf (found_of options.now) tree.now.graph
+    ensures { OnOk result (PrintsTreesOf (found_of options.now) graph.now
         (W.contents out.old) (W.contents out.new)) }
 {
-    let starts = starts(alloc, packages, tree, options)?;
+    let starts = starts(alloc, graph, options)?;
     let style = Style {
         direction: direction(options.get_flag("invert")),
         exact: options.get_flag("exact"),
     };
-    print_trees(alloc, out, tree, starts.as_slice(), style)
+    print_trees(alloc, out, graph, starts.as_slice(), style)
 }
 
 /// The direction of edges, which a flag turns round.
@@ -105,72 +108,73 @@ pub(crate) fn direction(inverted: bool) -> EdgeDirection
 }
 
 /// The nodes whose trees are printed.
-fn starts(
-    alloc: Global,
-    packages: &[Package],
-    tree: &Tree,
-    options: &ArgMatches<'_>,
-) -> Result<Vec<NodeIndex>, Fault>
+fn starts(alloc: Global, graph: &Graph, options: &ArgMatches<'_>) -> Result<Vec<NodeIndex>, Fault>
     ensures within { IfOk result (λ starts.
-        All (λ start. start < length tree.now.graph.packages) starts.items) }
+        All (λ start. start < length graph.now.packages) starts.items) }
     ensures are { IfOk result (λ starts.
-        AreStarts (found_of options.now) tree.now.graph starts.items) }
+        AreStarts (found_of options.now) graph.now starts.items) }
 {
     match options.get_strs("spec") {
-        Some(specs) if !specs.is_empty() => { starts_of(alloc, packages, tree, specs) }
-        _ => Ok(tree.roots(alloc)?),
+        Some(specs) if !specs.is_empty() => starts_of(alloc, graph, specs),
+        _ => Ok(roots_of(alloc, graph)?),
     }
 }
 
 /// The nodes of the packages that the specifications name, in their order.
-fn starts_of(
-    alloc: Global,
-    packages: &[Package],
-    tree: &Tree,
-    specs: &[&str],
-) -> Result<Vec<NodeIndex>, Fault>
+fn starts_of(alloc: Global, graph: &Graph, specs: &[&str]) -> Result<Vec<NodeIndex>, Fault>
     ensures within { IfOk result (λ starts.
-        All (λ start. start < length tree.now.graph.packages) starts.items) }
-    ensures count { IfOk result (λ starts. length starts.items ≡ length specs.now) }
+        All (λ start. start < length graph.now.packages) starts.items) }
+    ensures named { IfOk result (λ starts.
+        AllZip (IsStartOf graph.now.packages) (map (λ spec. spec.now) specs.now) starts.items) }
 {
+    let candidates = Candidates::of(alloc, graph.packages())?;
     let mut starts = Vec::new(alloc);
     for spec in specs {
-        starts.push(start_of(alloc, packages, tree, spec)?)?;
+        starts.push(start_of(alloc, &candidates, graph.packages(), spec)?)?;
     }
     Ok(starts)
 }
 
-/// The node of the first package that matches a specification.
-fn start_of(
+/// The node of the first package that matches a specification: that of the last package with its
+/// identity.
+fn start_of<'a>(
     alloc: Global,
-    packages: &[Package],
-    tree: &Tree,
+    candidates: &Candidates<'a>,
+    packages: &'a [Package],
     spec: &str,
 ) -> Result<NodeIndex, Fault>
-    ensures { IfOk result (λ start. start < length tree.now.graph.packages) }
+    requires { candidates.now ≡ packages.now }
+    ensures { IfOk result (IsStartOf packages.now spec.now) }
 {
     let fitting = some_fitting(alloc, packages, spec)?;
     match first_of(packages, &fitting) {
-        Some(package) => node_of(alloc, tree, package, spec),
+        Some(package) => node_of(alloc, candidates, package, spec),
         None => Err(Fault::of_spec(alloc, spec)),
     }
 }
 
 /// The package of the first of some nodes.
-fn first_of<'p>(packages: &'p [Package], nodes: &[NodeIndex]) -> Option<&'p Package> {
+fn first_of<'p>(packages: &'p [Package], nodes: &[NodeIndex]) -> Option<&'p Package>
+    ensures { option_map (λ p. p.now) result ≡ first_at packages.now nodes.now }
+{
     match nodes.first() {
         Some(node) => packages.get(node.index()),
         None => None,
     }
 }
 
-/// The node that the tree has for the identity of a package.
-fn node_of(alloc: Global, tree: &Tree, package: &Package, spec: &str) -> Result<NodeIndex, Fault>
-    ensures { IfOk result (λ node. node < length tree.now.graph.packages) }
+/// The node of the last package with the identity of this one.
+fn node_of<'a>(
+    alloc: Global,
+    candidates: &Candidates<'a>,
+    package: &'a Package,
+    spec: &str,
+) -> Result<NodeIndex, Fault>
+    ensures { IfOk result (λ node.
+        IsLastWith candidates.now (identity_of «package».now) (Some node)) }
 {
-    let identity = Dependency::of(package)?;
-    match tree.nodes().get(&identity) {
-        Some(node) => Ok(*node),
+    match candidates.last_with(&package.name, &package.version, &package.source) {
+        Some(place) => Ok(NodeIndex::new(place)),
         None => Err(Fault::of_spec(alloc, spec)),
     }
 }
@@ -179,19 +183,19 @@ fn node_of(alloc: Global, tree: &Tree, package: &Package, spec: &str) -> Result<
 fn print_trees<W: Write>(
     alloc: Global,
     out: &mut W,
-    tree: &Tree,
+    graph: &Graph,
     starts: &[NodeIndex],
     style: Style,
 ) -> Result<(), Fault>
-    requires { All (λ start. start < length tree.now.graph.packages) starts.now }
+    requires { All (λ start. start < length graph.now.packages) starts.now }
     ensures { OnOk result ((text : List ℕ)
-        × AreDrawn style.exact style.direction tree.now.graph starts.now text
+        × AreDrawn style.exact style.direction graph.now starts.now text
         × Appends (W.contents out.old) (W.contents out.new) text) }
 {
     match starts.split_first() {
         Some((first, rest)) => {
-            print_tree(alloc, out, tree, *first, style)?;
-            print_more_trees(alloc, out, tree, rest, style)
+            print_tree(alloc, out, graph, *first, style)?;
+            print_more_trees(alloc, out, graph, rest, style)
         }
         None => Ok(()),
     }
@@ -201,18 +205,18 @@ fn print_trees<W: Write>(
 fn print_more_trees<W: Write>(
     alloc: Global,
     out: &mut W,
-    tree: &Tree,
+    graph: &Graph,
     starts: &[NodeIndex],
     style: Style,
 ) -> Result<(), Fault>
-    requires { All (λ start. start < length tree.now.graph.packages) starts.now }
+    requires { All (λ start. start < length graph.now.packages) starts.now }
     ensures { OnOk result ((texts : List (List ℕ))
-        × AllZip (IsDrawn style.exact style.direction tree.now.graph) starts.now texts
+        × AllZip (IsDrawn style.exact style.direction graph.now) starts.now texts
         × Appends (W.contents out.old) (W.contents out.new) (after_empty_lines texts)) }
 {
     for start in starts {
         put(out, "\n")?;
-        print_tree(alloc, out, tree, *start, style)?;
+        print_tree(alloc, out, graph, *start, style)?;
     }
     Ok(())
 }
@@ -220,14 +224,19 @@ fn print_more_trees<W: Write>(
 fn print_tree<W: Write>(
     alloc: Global,
     out: &mut W,
-    tree: &Tree,
+    graph: &Graph,
     start: NodeIndex,
     style: Style,
 ) -> Result<(), Fault>
-    requires { start < length tree.now.graph.packages }
-    ensures { OnOk result (Draws style.exact style.direction tree.now.graph start
+    requires { start < length graph.now.packages }
+    ensures { OnOk result (Draws style.exact style.direction graph.now start
         (Appends (W.contents out.old) (W.contents out.new))) }
 {
-    tree.render(alloc, out, start, style.direction, style.exact)?;
+    let symbols = Symbols::default();
+    let look = Look {
+        symbols: &symbols,
+        exact: style.exact,
+    };
+    render_onto(alloc, out, graph, start, style.direction, &look)?;
     Ok(())
 }

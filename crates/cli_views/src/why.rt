@@ -13,7 +13,7 @@ use cargo_lock::dependency::graph::Graph;
 use cargo_lock_ask::{Answer, Answers};
 use cargo_lock_json::{File, answers_json};
 use clap::{Arg, ArgAction, ArgMatches, Command};
-use cli_lockfiles::load::{file, named_tree};
+use cli_lockfiles::load::{file_in, named_graph};
 use cli_lockfiles::spec::some_fitting;
 use cli_support::output::put;
 use cli_support::words::{any_size, json, long_flag};
@@ -74,10 +74,9 @@ pub fn run<R: Files + AllocGlobal, W: Write>(
     ensures { OnOk result
         (PrintsWhy (found_of options.now) (W.contents out.old) (W.contents out.new)) }
 {
-    let (lockfile, tree) = named_tree(rt, options)?;
-    let file = file(options, "file", &lockfile);
-    let packages = lockfile.packages.as_slice();
-    report_answers(rt.alloc(), options, &file, packages, tree.graph(), out)
+    let (format, graph) = named_graph(rt, options)?;
+    let file = file_in(options, "file", format);
+    report_answers(rt.alloc(), options, &file, &graph, out)
 }
 
 /// Prints why packages of a graph are there.
@@ -85,15 +84,13 @@ fn report_answers<W: Write>(
     alloc: Global,
     options: &ArgMatches<'_>,
     file: &File<'_>,
-    packages: &[Package],
     graph: &Graph,
     out: &mut W,
 ) -> Result<(), Fault>
-    requires { packages.now ≡ graph.now.packages }
     ensures { OnOk result (PrintsAsked (found_of options.now) file.now graph.now
         (W.contents out.old) (W.contents out.new)) }
 {
-    let answers = asked(alloc, options, packages, graph)?;
+    let answers = asked(alloc, options, graph)?;
     print_answers(alloc, options, file, &answers, out)
 }
 
@@ -136,14 +133,12 @@ fn print_document<W: Write>(
 fn asked<'a>(
     alloc: Global,
     options: &ArgMatches<'_>,
-    packages: &[Package],
     graph: &'a Graph,
 ) -> Result<Answers<'a>, Fault>
-    requires { packages.now ≡ graph.now.packages }
     ensures { IfOk result (λ made. AreAsked (found_of options.now) graph.now
         (map answer_of made.answers.items)) }
 {
-    let nodes = some_fitting(alloc, packages, given_spec(options))?;
+    let nodes = some_fitting(alloc, graph.packages(), given_spec(options))?;
     let answers = Answers::about(alloc, graph, &nodes, options.get_flag("all"))?;
     Ok(answers)
 }

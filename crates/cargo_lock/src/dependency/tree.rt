@@ -14,7 +14,7 @@ ghost use Rattle.cargo_lock_graph.specs.Targets.{IsUnresolved, links};
 
 use crate::error::Result;
 use crate::lockfile::Lockfile;
-use cargo_lock_graph::building::graph_of;
+use cargo_lock_graph::building::{graph_from, graph_of};
 use cargo_lock_graph::drawing::{Look, render_into, render_onto};
 pub use cargo_lock_graph::drawing::{Sink, Symbols, WriterSink, laws};
 use cargo_lock_graph::graph::{EdgeDirection, Graph, NodeIndex, Nodes};
@@ -65,6 +65,24 @@ fn clone_nodes(nodes: &Nodes) -> std::result::Result<Nodes, AllocError>
     ensures { IfOk result (λ copy. copy.entries ≡ nodes.now.entries) }
 {
     nodes.clone()
+}
+
+/// The nodes that no edge enters, in ascending order: the packages on which no package depends. The
+/// one error is `Memory`.
+///
+/// ```
+/// for root in roots_of(alloc, &graph)?.iter() {
+///     put_package(&mut lines, &graph, *root)?;
+/// }
+/// ```
+pub fn roots_of(alloc: Global, graph: &Graph) -> Result<Vec<NodeIndex>>
+    ensures ok { IfOk result (λ roots. roots.items ≡ externals Incoming graph.now) }
+    ensures within { IfOk result (λ roots.
+        All (λ node. node < length graph.now.packages) roots.items) }
+    ensures err { IsOkUnless result Memory }
+{
+    let roots = graph.externals(EdgeDirection::Incoming).collect(alloc)?;
+    Ok(roots)
 }
 
 impl Tree {
@@ -134,11 +152,7 @@ impl Tree {
             All (λ node. node < length self.now.graph.packages) roots.items) }
         ensures err { IsOkUnless result Memory }
     {
-        let roots = self
-            .graph
-            .externals(EdgeDirection::Incoming)
-            .collect(alloc)?;
-        Ok(roots)
+        roots_of(alloc, &self.graph)
     }
 
     /// Draws the tree of a node into a sink, along the edges in a direction. Each line is an entry:
@@ -244,5 +258,20 @@ impl Lockfile {
             (λ e. IsUnresolved self.now.packages (links self.now.packages) e) }
     {
         Tree::new(alloc, self)
+    }
+
+    /// The graph of the lockfile's packages, which become its own: that of `Tree::new`, with the same
+    /// errors. A tree has a copy of each package, and a map of the nodes besides.
+    ///
+    /// ```
+    /// let graph = lockfile.into_graph(alloc)?;
+    /// ```
+    pub fn into_graph(self, alloc: Global) -> Result<Graph>
+        ensures packages { IfOk result (λ graph. graph.packages ≡ self.packages) }
+        ensures edges { IfOk result (λ graph. AreEdgesOf self.packages graph.edges) }
+        ensures err { IfErr result (λ e. IsUnresolved self.packages (links self.packages) e) }
+    {
+        let Lockfile { packages, .. } = self;
+        graph_from(alloc, packages)
     }
 }

@@ -9,7 +9,7 @@ use Rattle.cli_views.proofs.tree.draw_starts.Goals as goal
 pub returns : goal.returns
 returns g c =
     let found = found_of c.args.options.now in
-    let graph = c.args.tree.now.graph in
+    let graph = c.args.graph.now in
     let is_exact = c.get_flag-2.result in
     on_ok_weaken c.print_trees.result _ _ (λ trees. record {
       is_inverted = c.get_flag.result;

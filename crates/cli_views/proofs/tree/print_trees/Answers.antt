@@ -10,7 +10,7 @@ use Rattle.cli_views.proofs.tree.print_trees.Goals as goal
 pub returns-in_ok-print_tree-in-Some : goal.returns-in_ok-print_tree-in-Some
 returns-in_ok-print_tree-in-Some g c =
     let held = g.W.Write.contents in
-    let graph = c.args.tree.now.graph in
+    let graph = c.args.graph.now in
     let exact = c.args.style.exact in
     let tree = c.in_ok-print_tree-in-Some.ensures in
     let text : List ℕ = drawing_text standard_symbols (label_at exact graph.packages) tree.0 in

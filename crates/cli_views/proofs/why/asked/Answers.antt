@@ -14,7 +14,7 @@ pub about-requires : goal.about-requires
 about-requires c =
     let nodes : List ℕ = c.in_ok-nodes.nodes.items in
     subst (λ (ks : List ℕ). All (λ k. k < length c.args.graph.now.packages) ks) (sym c.deref.ensures.value)
-    (subst (λ (ps : List PackageData). All (λ k. k < length ps) nodes) c.requires (places-within _ _ nodes c.in_ok-nodes.ensures.fitting))
+    (subst (λ (ps : List PackageData). All (λ k. k < length ps) nodes) c.packages.ensures (places-within _ _ nodes c.in_ok-nodes.ensures.fitting))
 
 pub returns : goal.returns
 returns c =
@@ -25,8 +25,8 @@ returns c =
     record {
       nodes = nodes;
       is_each = all;
-      fitting = subst (λ (ps : List PackageData). IsPlaces (Fits (given_spec found) ps) (length ps) nodes) c.requires
-          (subst (λ (spec : List ℕ). IsPlaces (Fits spec c.args.packages.now) (length c.args.packages.now) nodes) c.given_spec.ensures c.in_ok-nodes.ensures.fitting);
+      fitting = subst (λ (ps : List PackageData). IsPlaces (Fits (given_spec found) ps) (length ps) nodes) c.packages.ensures
+          (subst (λ (spec : List ℕ). IsPlaces (Fits spec c.packages.result.now) (length c.packages.result.now) nodes) c.given_spec.ensures c.in_ok-nodes.ensures.fitting);
       some = c.in_ok-nodes.ensures.some;
       each = flag-said found (codes "all") all c.get_flag.ensures.none c.get_flag.ensures.value c.get_flag.ensures.other;
       answered = subst (λ (ks : List ℕ). AreAnswers all graph ks (map answer_of c.in_ok-answers.answers.answers.items)) c.deref.ensures.value c.in_ok-answers.ensures;

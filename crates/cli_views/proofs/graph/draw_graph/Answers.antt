@@ -10,21 +10,19 @@ use Rattle.cli_support.proofs.Writes.{on_ok_weaken}
 use Rattle.cli_views.specs.Graph.{IsPicture, target_in}
 use Rattle.cli_views.specs.Tree.{direction_of}
 use Rattle.cli_lockfiles.proofs.Flags.{flag-said}
-use Rattle.cli_views.proofs.graph.draw_tree.Goals as goal
+use Rattle.cli_views.proofs.graph.draw_graph.Goals as goal
 
 pub picture_from-requires : goal.picture_from-requires
 picture_from-requires g c =
     let starts : List ℕ = c.in_ok-starts.starts.items in
-    subst (λ (ks : List ℕ). All (λ k. k < length c.graph-graph.result.now.packages) ks) (sym c.deref.ensures.value)
-    (subst (λ (h : GraphData). All (λ k. k < length h.packages) starts) (sym c.graph-graph.ensures.graph) c.in_ok-starts.ensures.within)
+    subst (λ (ks : List ℕ). All (λ k. k < length c.args.graph.now.packages) ks) (sym c.deref.ensures.value) c.in_ok-starts.ensures.within
 
 pub returns : goal.returns
 returns g c =
     let old = g.W.Write.contents c.args.out.now in
     let new = g.W.Write.contents c.put_picture.new.out in
     let found = found_of c.args.options.now in
-    let graph : GraphData = c.args.tree.now.graph in
-    let here : GraphData = c.graph-graph.result.now in
+    let graph : GraphData = c.args.graph.now in
     let flag = c.get_flag.result in
     let direction : EdgeDirection = c.direction-direction.result in
     let starts : List ℕ = c.in_ok-starts.starts.items in
@@ -37,9 +35,7 @@ returns g c =
       arrows = arrows;
       inverted = flag-said found (codes "invert") flag c.get_flag.ensures.none c.get_flag.ensures.value c.get_flag.ensures.other;
       begun = c.in_ok-starts.ensures.begun;
-      picture = subst (λ (h : GraphData). IsPicture h (direction_of flag) starts nodes arrows) c.graph-graph.ensures.graph
-          (subst (λ (d : EdgeDirection). IsPicture here d starts nodes arrows) c.direction-direction.ensures
-          (subst (λ (ks : List ℕ). IsPicture here direction ks nodes arrows) c.deref.ensures.value (record { reached = c.in_ok-picture.ensures.nodes; among = c.in_ok-picture.ensures.arrows })));
-      printed = subst (λ (h : GraphData). Appends old new (diagram_text (target_in found) h.packages nodes arrows)) c.graph-graph.ensures.graph
-          (subst (λ (t : Target). Appends old new (diagram_text t here.packages nodes arrows)) c.target.ensures drawn);
+      picture = subst (λ (d : EdgeDirection). IsPicture graph d starts nodes arrows) c.direction-direction.ensures
+          (subst (λ (ks : List ℕ). IsPicture graph direction ks nodes arrows) c.deref.ensures.value (record { reached = c.in_ok-picture.ensures.nodes; among = c.in_ok-picture.ensures.arrows }));
+      printed = subst (λ (t : Target). Appends old new (diagram_text t graph.packages nodes arrows)) c.target.ensures drawn;
     }) c.put_picture.ensures
