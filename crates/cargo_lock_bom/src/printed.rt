@@ -12,7 +12,7 @@ ghost use Rattle.cargo_lock_bom.specs.References.{IsRepeatedFault};
 
 use crate::document::{compact_text, pretty_text};
 use crate::options::Options;
-use cargo_lock_graph::building::graph_of;
+use cargo_lock_graph::building::graph_from;
 use cargo_lock_graph::graph::{Graph, NodeIndex};
 use cargo_lock_parts::{Package, Result};
 use std::alloc::{AllocError, Global};
@@ -63,8 +63,14 @@ fn graph_alone(alloc: Global, packages: &Vec<Package>) -> Result<Graph>
     ensures edges { IfOk result (λ graph. AreEdgesOf packages.now.items graph.edges) }
     ensures err { IfErr result (λ e. IsUnresolved packages.now.items (links packages.now.items) e) }
 {
-    let (graph, _) = graph_of(alloc, packages)?;
-    Ok(graph)
+    let packages = copied(packages)?;
+    graph_from(alloc, packages)
+}
+
+fn copied(packages: &Vec<Package>) -> std::result::Result<Vec<Package>, AllocError>
+    ensures { IfOk result (λ copy. copy.items ≡ packages.now.items) }
+{
+    packages.clone()
 }
 
 // The text of the bill of materials of a graph.
