@@ -8,7 +8,8 @@ use Rattle.std.specs.declared.process.ExitCode.{ExitCode}
 -- the names of the commands that the original does not have
 abbrev pub own_commands : List (List ℕ)
 own_commands = codes "audit" ∷ codes "bom" ∷ codes "check" ∷ codes "diff" ∷ codes "duplicates"
-    ∷ codes "graph" ∷ codes "licenses" ∷ codes "merge" ∷ codes "verify" ∷ codes "why" ∷ []
+    ∷ codes "graph" ∷ codes "json" ∷ codes "licenses" ∷ codes "merge" ∷ codes "verify"
+    ∷ codes "why" ∷ []
 
 -- the arguments without a leading `lock`, which cargo passes
 abbrev pub without_lock : List (List ℕ) → List (List ℕ)

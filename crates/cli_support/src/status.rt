@@ -28,6 +28,7 @@ fn is_own(word: &str) -> bool
         || word == "diff"
         || word == "duplicates"
         || word == "graph"
+        || word == "json"
         || word == "licenses"
         || word == "merge"
         || word == "verify"
