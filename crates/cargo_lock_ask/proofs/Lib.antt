@@ -12,3 +12,4 @@ pub mod Grouping
 pub mod Writing
 pub mod Rowing
 pub mod Answering
+pub mod Digests

@@ -114,16 +114,28 @@ fn is_checksum(checksum: &Option<Checksum>, text: &str) -> bool
     ensures { result ≡ has_checksum (option_map digest_of checksum.now) text.now }
 {
     match checksum {
-        Some(checksum) => text.len() == 64 && is_digest(checksum, text),
+        Some(checksum) => is_digest(&digest(checksum), text),
         None => false,
     }
 }
 
-// Whether a text is the lower-case text of a digest.
-fn is_digest(checksum: &Checksum, text: &str) -> bool
-    ensures { result ≡ bytes_eq (digest_text (digest_of checksum.now)) text.now }
+fn digest(checksum: &Checksum) -> [u8; 32]
+    ensures { result ≡ digest_of checksum.now }
 {
     let Checksum::Sha256(digest) = *checksum;
+    digest
+}
+
+// Whether a text is the lower-case text of a digest.
+fn is_digest(digest: &[u8; 32], text: &str) -> bool
+    ensures { result ≡ bytes_eq (digest_text digest.now) text.now }
+{
+    text.len() == 64 && has_digits(digest, text)
+}
+
+fn has_digits(digest: &[u8; 32], text: &str) -> bool
+    ensures { result ≡ bytes_eq (digest_text digest.now) text.now }
+{
     let mut digits = [0u8; 64];
     match hex::encode_to_slice(digest.as_slice(), &mut digits) {
         Ok(()) => digits.as_slice() == text.as_bytes(),

@@ -3,7 +3,7 @@ use Rattle.cargo_lock_ask.proofs.Placing.{places-end}
 use Rattle.cargo_lock_ask.specs.Spec.{Fits, SpecData, fits}
 use Rattle.cargo_lock_ask.proofs.Specified.{fitting-tested}
 use Rattle.cargo_lock_ask.proofs.spec.fitting.Goals as goal
-use Rattle.cargo_lock_ask.proofs.spec.fitting.Goals.{then-branch+in_ok-push, else-branch}
+use Rattle.cargo_lock_ask.proofs.spec.fitting.Goals.{then-fits+in_ok-push, else-fits}
 
 pub loop-place-preserved : goal.loop-place-preserved
 loop-place-preserved c =
@@ -12,9 +12,9 @@ loop-place-preserved c =
     let before : List ℕ = l.fitting.items in
     fitting-tested c.args.spec.now c.args.packages.now l.place p c.fits.result before _
     c.loop-place-test.true c.index-packages-place.is (c.fits.ensures ∙ ap (λ (s : SpecData). fits s p) c.in_ok-parsed.ensures)
-    (elim c.if-branch.branch [
-      | then-branch+in_ok-push w ↦ rw (w.fitting-is, w.if-branch.true) (w.in_ok-push.ensures.items ∙ ap (λ (k : ℕ). before ++ k ∷ []) w.new.ensures)
-      | else-branch w ↦ rw (w.fitting-is, w.if-branch.false) refl
+    (elim c.if-fits.branch [
+      | then-fits+in_ok-push w ↦ rw (w.fitting-is, w.if-fits.true) (w.in_ok-push.ensures.items ∙ ap (λ (k : ℕ). before ++ k ∷ []) w.new.ensures)
+      | else-fits w ↦ rw (w.fitting-is, w.if-fits.false) refl
     ]) l.invariant
 
 pub returns : goal.returns
