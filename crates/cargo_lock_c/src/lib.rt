@@ -13,6 +13,7 @@ mod edges;
 mod findings;
 mod formats;
 mod handing;
+mod json;
 mod merge;
 mod packages;
 mod reading;
