@@ -28,7 +28,7 @@ use std::alloc::{AllocError, Global};
 /// Fails when out of memory.
 ///
 /// ```
-/// let text = lockfile_json(rt.alloc(), &lockfile)?;
+/// let text = lockfile_json(rt.alloc(), lockfile)?;
 /// ```
 pub fn lockfile_json(alloc: Global, lockfile: &Lockfile) -> Result<String, AllocError>
     ensures { IfOk result (λ text. IsDocumentOf lockfile.now (string_bytes text)) }

@@ -3,6 +3,7 @@
 #![tactic(auto)]
 
 mod advisories;
+mod documents;
 mod licenses;
 
 use cargo_lock::{Error, Lockfile};
@@ -26,5 +27,23 @@ fn run(rt: &HostRuntime) -> Result<(), Error> {
     licenses::print_report(rt, &lockfile)?;
     advisories::print_requirement(rt, &lockfile)?;
     advisories::print_advisory(rt, &lockfile)?;
-    advisories::print_findings(rt, &lockfile)
+    advisories::print_findings(rt, &lockfile)?;
+    print_documents(rt, lockfile)
+}
+
+/// Prints documents, and what graphs of the lockfile have.
+fn print_documents(rt: &HostRuntime, lockfile: Lockfile) -> Result<(), Error> {
+    let object = documents::object(rt.alloc())?;
+    println!(rt; "{object}")?;
+    documents::print_document(rt, &lockfile)?;
+    documents::print_leads(rt, &lockfile)?;
+    print_graphs(rt, lockfile)
+}
+
+fn print_graphs(rt: &HostRuntime, lockfile: Lockfile) -> Result<(), Error> {
+    let names = documents::root_names(rt.alloc(), lockfile.clone()?)?;
+    println!(rt; "roots: {names}")?;
+    let count = documents::edge_count(rt.alloc(), lockfile)?;
+    println!(rt; "edges: {count}")?;
+    Ok(())
 }
