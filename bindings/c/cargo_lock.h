@@ -20,9 +20,10 @@
  * and control characters: do not print it unchanged on a terminal. Nor a bill: it has the names
  * too, and JSON escapes no control characters above U+001F. The lines of cargo_lock_diff,
  * cargo_lock_check and cargo_lock_merge_moved, and those of conflicts and of what is refused, have
- * printable characters of ASCII alone, and show any other as `\u{..}` with its number. The documents of
- * cargo_lock_why, cargo_lock_duplicates and cargo_lock_json are as a bill is: do not print them
- * unchanged on a terminal.
+ * printable characters of ASCII alone, and show any other as `\u{..}` with its number. The documents
+ * of cargo_lock_why, cargo_lock_duplicates and cargo_lock_json are as a bill is: do not print them
+ * unchanged on a terminal. A source may have a user name and a password, in cargo_lock_packages and
+ * in these documents, though not in a bill.
  */
 #ifndef CARGO_LOCK_H
 #define CARGO_LOCK_H
@@ -171,9 +172,9 @@ uint32_t cargo_lock_why(const uint8_t *text, size_t text_len, const uint8_t *spe
 uint32_t cargo_lock_duplicates(const uint8_t *text, size_t text_len, uint8_t *out, size_t out_len,
                                size_t *length);
 
-/* The lockfile in one line of JSON with a newline at the end, as `cargo-lock json -f -` prints it: its
- * packages, and the places of the packages on which each depends. No lockfile is refused: a dependency
- * that no package fits is in it too. DONE, NO_LOCKFILE, NO_TEXT, NO_MEMORY or NO_ROOM. */
+/* The lockfile in one line of JSON with a newline at the end, as `cargo-lock json -f -` prints it:
+ * its packages, and the places of the packages on which each depends. A dependency that no package
+ * fits is in it too, so no lockfile is refused. DONE, NO_LOCKFILE, NO_TEXT, NO_MEMORY or NO_ROOM. */
 uint32_t cargo_lock_json(const uint8_t *text, size_t text_len, uint8_t *out, size_t out_len,
                          size_t *length);
 

@@ -1,7 +1,10 @@
 """Tests of the module `cargo_lock`. `bindings/run` runs them."""
+import copy
 import ctypes
+import dataclasses
 import json
 import os
+import pickle
 import subprocess
 import sys
 import threading
@@ -458,6 +461,14 @@ class Lockfiles(unittest.TestCase):
         other = Lockfile.parse("# another text\n" + LOCKFILE)
         self.assertEqual((one, hash(one)), (other, hash(other)))
         self.assertNotEqual(one, Lockfile.parse(one.translate(4)))
+
+    def test_a_lockfile_is_copied(self):
+        lockfile = Lockfile.parse(LOCKFILE + '[metadata]\nkey = "value"\n')
+        self.assertEqual(lockfile.dependents(2), lockfile.packages[:2])
+        for copied in (copy.deepcopy(lockfile), pickle.loads(pickle.dumps(lockfile))):
+            self.assertEqual((copied, copied.metadata), (lockfile, {"key": "value"}))
+            self.assertEqual(copied.check(), lockfile.check())
+        self.assertEqual(dataclasses.asdict(lockfile)["metadata"], {"key": "value"})
 
     def test_a_file_is_loaded(self):
         path = os.path.join(os.path.dirname(__file__), "..", "three_packages.lock")

@@ -336,12 +336,12 @@ def _format(number: int) -> int:
 
 def _answer(given: bytes, call: Callable[..., int], *words: Any) -> bytes:
     """The bytes that a call answers."""
-    status, answer = _told(2 * len(given) + 4096, given, call, *words)
+    status, answer = _answered(2 * len(given) + 4096, given, call, *words)
     _stop_unless_done(given, status)
     return answer
 
 
-def _told(first: int, given: bytes, call: Callable[..., int], *words: Any) -> tuple[int, bytes]:
+def _answered(first: int, given: bytes, call: Callable[..., int], *words: Any) -> tuple[int, bytes]:
     """The status of a call, and the bytes that it sets, if it sets some. The first room should be
     enough for most answers, so that the texts are read once; if it is not, it is made as long as it
     has to be."""
@@ -357,7 +357,7 @@ def _merged(call: Callable[..., int], sides: tuple[bytes, bytes, bytes]) -> str:
     """The text that a call of a merge answers."""
     base, ours, theirs = sides
     room = 2 * (len(ours) + len(theirs)) + 4096
-    status, text = _told(room, base, call, ours, len(ours), theirs, len(theirs))
+    status, text = _answered(room, base, call, ours, len(ours), theirs, len(theirs))
     if status == _CONFLICTS:
         raise ConflictError(_lines(text.decode()))
     if status in _REFUSED:

@@ -5,7 +5,6 @@ import dataclasses
 import functools
 import json
 import os
-from types import MappingProxyType
 from typing import Any, Mapping, Optional, Union
 
 from . import _calls
@@ -23,7 +22,8 @@ class Reference:
 class Source:
     """Where a package comes from. `text` is as a lockfile of format 4 has it; `kind` is `git`,
     `path`, `registry`, `sparse-registry`, `local-registry` or `directory`; a git source may ask for
-    something, its `reference`, and `precise` is its commit."""
+    something, its `reference`, and `precise` is its commit, if it names one. `text` and `url` have
+    the user name and the password of the source, if it has some."""
 
     text: str
     kind: str
@@ -45,9 +45,10 @@ class Dependency:
 
 @dataclasses.dataclass(frozen=True)
 class Package:
-    """A package of a lockfile. `index` is its place among the packages; that of a separate root is
-    how many packages there are. `dependencies` are the places of the packages on which it depends,
-    and `unresolved` are the dependencies that no package fits."""
+    """A package of a lockfile. `index` is its place among the packages. A separate root is not among
+    them, and its `index` is how many packages there are. `dependencies` are the places of the
+    packages on which it depends, in its own order, and `unresolved` are the dependencies that
+    no package fits."""
 
     index: int
     name: str
@@ -61,8 +62,9 @@ class Package:
 
 @dataclasses.dataclass(frozen=True)
 class Finding:
-    """Something that is wrong with a lockfile: its kind, as `order`, and its line, as `cargo-lock
-    check` prints it."""
+    """Something that is wrong with a lockfile: its line, as `cargo-lock check` prints it, and its
+    kind, which is the word before the first colon of the line, as `order`. The kinds of `check
+    --json` are finer, and have other names."""
 
     kind: str
     line: str
@@ -70,7 +72,8 @@ class Finding:
 
 @dataclasses.dataclass(frozen=True)
 class Lockfile:
-    """A lockfile of any format. `Lockfile.parse` and `Lockfile.load` make one."""
+    """A lockfile of any format. `Lockfile.parse` and `Lockfile.load` make one. Two are equal where
+    all but their texts is."""
 
     format: int
     packages: tuple[Package, ...]
@@ -90,7 +93,7 @@ class Lockfile:
             format=document["format"],
             packages=packages,
             root=None if root is None else _package(len(packages), root),
-            metadata=MappingProxyType(document["metadata"]),
+            metadata=document["metadata"],
             patch=tuple(_dependency(it) for it in document["patch"]["unused"]),
             _text=given,
         )
@@ -176,5 +179,15 @@ def _dependency(document: dict[str, Any]) -> Dependency:
 def _source(document: Optional[dict[str, Any]]) -> Optional[Source]:
     if document is None:
         return None
-    reference = document["reference"]
-    return Source(**{**document, "reference": None if reference is None else Reference(**reference)})
+    return Source(
+        text=document["text"],
+        kind=document["kind"],
+        url=document["url"],
+        reference=_reference(document["reference"]),
+        precise=document["precise"],
+        crates_io=document["crates_io"],
+    )
+
+
+def _reference(document: Optional[dict[str, Any]]) -> Optional[Reference]:
+    return None if document is None else Reference(document["kind"], document["value"])

@@ -86,14 +86,14 @@ pub(crate) fn format(text: &[u8]) -> Result<u32, Error> {
     let mut number = 0;
     // SAFETY: the pointers and the length are those of a slice and of a number that is borrowed.
     let status = unsafe { library::cargo_lock_format(text.as_ptr(), text.len(), &mut number) };
-    told(text, status)?;
+    done(text, status)?;
     Ok(number)
 }
 
 pub(crate) fn survives(text: &[u8], number: u32) -> Result<(), Error> {
     // SAFETY: the pointer and the length are those of a slice.
     let status = unsafe { library::cargo_lock_survives(text.as_ptr(), text.len(), number) };
-    told(text, status)
+    done(text, status)
 }
 
 pub(crate) fn fault(text: &[u8]) -> Result<String, Error> {
@@ -212,7 +212,7 @@ fn merged(
     theirs: &[u8],
 ) -> Result<String, MergeError> {
     // SAFETY: the pointers and lengths are those of slices and of a number that are borrowed.
-    let (status, bytes) = told_in_room(ours.len() + theirs.len(), |out, length| unsafe {
+    let (status, bytes) = answer_in_room(ours.len() + theirs.len(), |out, length| unsafe {
         call(
             base.as_ptr(),
             base.len(),
@@ -259,7 +259,7 @@ fn room_for<T: Clone + Default>(
     length_of_text: usize,
     call: impl FnMut(&mut [T], &mut usize) -> u32,
 ) -> Result<Vec<T>, u32> {
-    match told_in_room(length_of_text, call) {
+    match answer_in_room(length_of_text, call) {
         (DONE, items) => Ok(items),
         (status, _) => Err(status),
     }
@@ -268,7 +268,7 @@ fn room_for<T: Clone + Default>(
 /// The status of a call, and the items that it sets, none if it sets none. The first room is enough
 /// for most texts of this length, so that they are read once; if it is not, it is made as long as it
 /// has to be.
-fn told_in_room<T: Clone + Default>(
+fn answer_in_room<T: Clone + Default>(
     length_of_text: usize,
     mut call: impl FnMut(&mut [T], &mut usize) -> u32,
 ) -> (u32, Vec<T>) {
@@ -286,7 +286,7 @@ fn told_in_room<T: Clone + Default>(
 }
 
 /// The fault of a status, if it is one.
-fn told(text: &[u8], status: u32) -> Result<(), Error> {
+fn done(text: &[u8], status: u32) -> Result<(), Error> {
     match status {
         DONE => Ok(()),
         status => Err(fault_of(text, status)),

@@ -10,6 +10,9 @@
 //! }
 //! # Ok::<(), proved_cargo_lock::Error>(())
 //! ```
+//!
+//! `Lockfile` reads a lockfile by one call: its packages, what each depends on, and each source in its
+//! parts. The types of its fields are in the module `lockfile`.
 
 use std::error;
 use std::fmt;
@@ -20,7 +23,7 @@ pub mod lockfile;
 
 pub use lockfile::Lockfile;
 
-/// A package of a lockfile.
+/// A package as `packages` returns it. That of `Lockfile` is `lockfile::Package`.
 #[derive(Clone, Debug, PartialEq, Eq, Hash)]
 pub struct Package {
     /// The name.

@@ -4,6 +4,7 @@ use crate::json::Value;
 use crate::{calls, DiffError, Direction, Error};
 
 use std::collections::BTreeMap;
+use std::fmt;
 
 /// What a git source asks for.
 #[derive(Clone, Debug, PartialEq, Eq, Hash)]
@@ -43,7 +44,8 @@ pub enum Kind {
 /// Where a package comes from.
 #[derive(Clone, Debug, PartialEq, Eq, Hash)]
 pub struct Source {
-    /// The text that a lockfile of format 4 has.
+    /// The text that a lockfile of format 4 has. It has the user name and the password of the
+    /// source, if it has some, as the URL does.
     pub text: String,
 
     /// The kind.
@@ -55,7 +57,7 @@ pub struct Source {
     /// What a git source asks for, if it asks for something.
     pub reference: Option<Reference>,
 
-    /// The commit of a git source.
+    /// The commit of a git source, if it names one.
     pub precise: Option<String>,
 
     /// Whether the source is the registry of crates.io.
@@ -76,7 +78,7 @@ pub struct Dependency {
     pub source: Option<Source>,
 }
 
-/// A package of a lockfile.
+/// A package of a lockfile. Its place is that in `Lockfile::packages`.
 #[derive(Clone, Debug, PartialEq, Eq, Hash)]
 pub struct Package {
     /// The name.
@@ -91,7 +93,7 @@ pub struct Package {
     /// The checksum as 64 hex digits, if there is one.
     pub checksum: Option<String>,
 
-    /// The places of the packages on which it depends.
+    /// The places of the packages on which it depends, in its own order.
     pub dependencies: Vec<usize>,
 
     /// The dependencies that no package fits.
@@ -104,14 +106,15 @@ pub struct Package {
 /// Something that is wrong with a lockfile.
 #[derive(Clone, Debug, PartialEq, Eq, Hash)]
 pub struct Finding {
-    /// The kind, as `order`.
+    /// The kind: the word before the first colon of the line, as `order`. The kinds of `check
+    /// --json` are finer, and have other names.
     pub kind: String,
 
     /// The line, as `cargo-lock check` prints it.
     pub line: String,
 }
 
-/// A lockfile of any format.
+/// A lockfile of any format. Two are equal where all but their texts is.
 ///
 /// ```
 /// use proved_cargo_lock::Lockfile;
@@ -125,7 +128,7 @@ pub struct Finding {
 /// }
 /// # Ok::<(), proved_cargo_lock::Error>(())
 /// ```
-#[derive(Clone, Debug)]
+#[derive(Clone, Debug, PartialEq, Eq)]
 pub struct Lockfile {
     /// The number of the format.
     pub format: u32,
@@ -133,7 +136,8 @@ pub struct Lockfile {
     /// The packages, in the lockfile's order.
     pub packages: Vec<Package>,
 
-    /// The root package, if the lockfile has it separate from the others, as old lockfiles do.
+    /// The root package, if the lockfile has it separate from the others, as old lockfiles do. It
+    /// has no place.
     pub root: Option<Package>,
 
     /// The metadata.
@@ -142,15 +146,33 @@ pub struct Lockfile {
     /// The patches that no package uses.
     pub patch: Vec<Dependency>,
 
-    text: Vec<u8>,
+    text: Text,
 }
+
+/// The text of a lockfile. It is not shown, and does not count where lockfiles are compared.
+#[derive(Clone)]
+struct Text(Vec<u8>);
+
+impl fmt::Debug for Text {
+    fn fmt(&self, f: &mut fmt::Formatter<'_>) -> fmt::Result {
+        write!(f, "{} bytes", self.0.len())
+    }
+}
+
+impl PartialEq for Text {
+    fn eq(&self, _: &Text) -> bool {
+        true
+    }
+}
+
+impl Eq for Text {}
 
 impl Lockfile {
     /// The lockfile of a text.
     pub fn parse(text: impl AsRef<[u8]>) -> Result<Lockfile, Error> {
         let text = text.as_ref();
         let document = calls::json(text)?;
-        let read = Value::read(&document).and_then(|value| lockfile(value, text.to_vec()));
+        let read = Value::read(&document).and_then(|value| lockfile(value, Text(text.to_vec())));
         Ok(read.expect("the library answers such a document"))
     }
 
@@ -166,7 +188,8 @@ impl Lockfile {
         (0..self.packages.len()).filter(move |place| fits(&self.packages[*place]))
     }
 
-    /// The places of the packages that depend on the one at a place, each once. Each call looks at
+    /// The places of the packages that depend on the one at a place, each once: none where no package
+    /// is at the place. A separate root is not among them, since it has no place. Each call looks at
     /// all packages.
     pub fn dependents(&self, place: usize) -> impl Iterator<Item = usize> + '_ {
         let needs = move |needer: &usize| self.packages[*needer].dependencies.contains(&place);
@@ -175,33 +198,33 @@ impl Lockfile {
 
     /// The drawing of the tree of the package at a place, as the function `tree`.
     pub fn tree(&self, place: usize, direction: Direction, exact: bool) -> Result<String, Error> {
-        crate::tree(&self.text, place, direction, exact)
+        crate::tree(&self.text.0, place, direction, exact)
     }
 
     /// The text of the lockfile in the format of this number, as the function `translate`.
     pub fn translate(&self, number: u32) -> Result<String, Error> {
-        crate::translate(&self.text, number)
+        crate::translate(&self.text.0, number)
     }
 
     /// Whether the lockfile survives the format of this number, as the function `survives`.
     pub fn survives(&self, number: u32) -> Result<bool, Error> {
-        crate::survives(&self.text, number)
+        crate::survives(&self.text.0, number)
     }
 
     /// What is wrong with the lockfile.
     pub fn check(&self) -> Result<Vec<Finding>, Error> {
-        let lines = crate::check(&self.text)?;
+        let lines = crate::check(&self.text.0)?;
         Ok(lines.into_iter().map(finding).collect())
     }
 
     /// The bill of materials of the lockfile, as the function `bill`.
     pub fn bom(&self, compact: bool) -> Result<String, Error> {
-        crate::bill(&self.text, compact)
+        crate::bill(&self.text.0, compact)
     }
 
     /// What differs from this lockfile to a new one, as the function `diff`.
     pub fn diff(&self, new: &Lockfile, dependencies: bool) -> Result<String, DiffError> {
-        crate::diff(&self.text, &new.text, dependencies)
+        crate::diff(&self.text.0, &new.text.0, dependencies)
     }
 }
 
@@ -210,7 +233,7 @@ fn finding(line: String) -> Finding {
     Finding { kind, line }
 }
 
-fn lockfile(mut document: Value, text: Vec<u8>) -> Option<Lockfile> {
+fn lockfile(mut document: Value, text: Text) -> Option<Lockfile> {
     Some(Lockfile {
         format: document.take("format")?.number()? as u32,
         packages: document.take("packages")?.list(package)?,

@@ -300,6 +300,15 @@ fn packages_and_what_each_depends_on() {
 }
 
 #[test]
+fn lockfiles_are_equal_where_all_but_their_texts_is() {
+    let read = Lockfile::parse(lockfile()).unwrap();
+    let other = Lockfile::parse(format!("# another text\n{}", lockfile())).unwrap();
+    assert_eq!(read, other);
+    assert_ne!(read, Lockfile::parse(read.translate(4).unwrap()).unwrap());
+    assert!(format!("{read:?}").ends_with(&format!("{} bytes }}", lockfile().len())));
+}
+
+#[test]
 fn packages_are_found() {
     let read = Lockfile::parse(lockfile()).unwrap();
     let found = |name, version| read.find(name, version).collect::<Vec<_>>();

@@ -1,6 +1,7 @@
 -- Documents of JSON about a lockfile, as callers get them: as the program prints them for the
 -- lockfile on standard input.
 use Rattle.std.specs.Prelude.{◌≡◌, ◌≢◌, ◌++◌, ◌∷◌, ℕ, Bool, List, [], codes, length}
+use Rattle.cargo_lock.specs.CargoChecksums.{with_cargo_checksums_in}
 use Rattle.cargo_lock_ask.specs.Answers.{AreAnswers}
 use Rattle.cargo_lock_ask.specs.Lines.{AnswerData}
 use Rattle.cargo_lock_ask.specs.Places.{IsPlaces}
@@ -67,6 +68,8 @@ IsDuplicatesText text bytes = (l : LockfileData) × (graph : GraphData) × TextM
 
 -- ---- lockfiles
 
--- the text is that of a lockfile, and these bytes are its document
+-- the text is that of a lockfile, and these bytes are its document, with the checksums that Cargo
+-- reads
 abbrev pub IsLockfileText : List ℕ → List ℕ → Type 0
-IsLockfileText text bytes = (l : LockfileData) × TextMeans text l × IsLine (IsDocumentOf l) bytes
+IsLockfileText text bytes = (l : LockfileData) × TextMeans text l
+    × IsLine (IsDocumentOf (with_cargo_checksums_in l)) bytes

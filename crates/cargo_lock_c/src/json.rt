@@ -1,6 +1,7 @@
 //! A lockfile as a document of JSON.
 
 ghost use Rattle.std.specs.Prelude.{◌≡◌, ◌≤◌, ◌⊎◌, IfErr, IfOk, string_bytes};
+ghost use Rattle.cargo_lock.specs.CargoChecksums.{with_cargo_checksums_in};
 ghost use Rattle.cargo_lock_document.specs.Document.{IsDocumentOf};
 ghost use Rattle.cargo_lock_c.specs.declared.refusal.Refusal.TheVariants.{NoMemory};
 ghost use Rattle.cargo_lock_c.specs.Answers.{IsHandedOut};
@@ -8,6 +9,7 @@ ghost use Rattle.cargo_lock_c.specs.Documents.{IsLine, IsLockfileText};
 ghost use Rattle.cargo_lock_c.specs.Statuses.{status_of};
 ghost use Rattle.cargo_lock_c.specs.Texts.{RefusesText};
 
+use crate::difference::compared;
 use crate::document::line_of;
 use crate::handing::hand_out;
 use crate::reading::read;
@@ -44,12 +46,22 @@ fn document(alloc: Global, bytes: &[u8]) -> Result<String, Refusal>
     ensures kind { IfErr result (λ refusal. status_of refusal ≤ 3) }
 {
     let lockfile = read(alloc, bytes)?;
-    let line = line_about(alloc, &lockfile)?;
+    let line = line_about(alloc, lockfile)?;
     Ok(line)
 }
 
-/// The document of a lockfile.
-fn line_about(alloc: Global, lockfile: &Lockfile) -> Result<String, Refusal>
+/// The document of a lockfile, with the checksums that Cargo reads.
+fn line_about(alloc: Global, lockfile: Lockfile) -> Result<String, Refusal>
+    ensures ok { IfOk result (λ line.
+        IsLine (IsDocumentOf (with_cargo_checksums_in lockfile)) (string_bytes line)) }
+    ensures err { IfErr result (λ refusal. refusal ≡ NoMemory) }
+{
+    let lockfile = compared(alloc, lockfile)?;
+    line_of_compared(alloc, &lockfile)
+}
+
+/// The document of a lockfile as it is.
+fn line_of_compared(alloc: Global, lockfile: &Lockfile) -> Result<String, Refusal>
     ensures ok { IfOk result (λ line. IsLine (IsDocumentOf lockfile.now) (string_bytes line)) }
     ensures err { IfErr result (λ refusal. refusal ≡ NoMemory) }
 {

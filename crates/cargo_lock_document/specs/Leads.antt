@@ -1,8 +1,9 @@
 -- Where the dependencies of a package lead.
-use Rattle.std.specs.Prelude.{◌≡◌, List, Option, None, Some, MatchOption}
+use Rattle.std.specs.Prelude.{◌≡◌, List, Option, MatchOption}
 use Rattle.std.specs.List.{AllZip}
 use Rattle.cargo_lock_parts.specs.Identity.{Identity, PackageData}
 use Rattle.cargo_lock_graph.specs.Targets.{IsLost, IsTarget}
+use Rattle.cargo_lock_references.specs.Optional.{BothOrNone}
 use Rattle.cargo_lock_document.specs.Linked.{LeadData, LinkedData}
 
 -- the place is that of the package to which the dependency resolves, as an edge of the graph leads,
@@ -18,7 +19,4 @@ IsLinked packages p linked = (linked.listed ≡ p)
 
 -- the root is linked, if there is a root
 abbrev pub IsLinkedRoot : List PackageData → Option PackageData → Option LinkedData → Type 0
-IsLinkedRoot packages None None = Unit {0}
-IsLinkedRoot packages None (Some linked) = ⊥
-IsLinkedRoot packages (Some p) None = ⊥
-IsLinkedRoot packages (Some p) (Some linked) = IsLinked packages p linked
+IsLinkedRoot packages = BothOrNone (IsLinked packages)

@@ -8,7 +8,7 @@ ghost use Rattle.cli_tools.specs.Json.{PrintsLockfile};
 use cargo_lock::Lockfile;
 use cargo_lock_document::lockfile_json;
 use clap::{ArgMatches, Command};
-use cli_lockfiles::load::named_lockfile;
+use cli_lockfiles::load::compared_lockfile;
 use cli_support::Fault;
 use cli_support::output::put;
 use cli_support::words::{any_size, file};
@@ -30,7 +30,7 @@ pub fn command<'a>(alloc: Global) -> Result<Command<'a>, AllocError> {
         .arg(any_size(alloc))
 }
 
-/// Prints the document of the lockfile as one line. Fails if the lockfile is not read or `out`
+/// Prints the document of the lockfile, with the checksums that Cargo reads, as one line. Fails if the lockfile is not read or `out`
 /// fails; a prefix of the text was then written in the last case, and nothing in the other.
 pub fn run<R: Files + AllocGlobal, W: Write>(
     rt: &R,
@@ -39,7 +39,7 @@ pub fn run<R: Files + AllocGlobal, W: Write>(
 ) -> Result<(), Fault>
     ensures { OnOk result (PrintsLockfile (W.contents out.old) (W.contents out.new)) }
 {
-    let lockfile = named_lockfile(rt, options, "file")?;
+    let lockfile = compared_lockfile(rt, options, "file")?;
     print_document(rt.alloc(), &lockfile, out)
 }
 
