@@ -17,7 +17,7 @@ use crate::package::{put_dependencies, put_packages, put_root};
 use cargo_lock::metadata::Metadata;
 use cargo_lock::{Lockfile, ResolveVersion};
 use cargo_lock_graph::targets::Candidates;
-use cargo_lock_parts::dependency::Dependency;
+use cargo_lock_parts::patch::Patch;
 use cargo_lock_references::checksums::keys_ascend;
 use json_line::Text;
 use std::alloc::{AllocError, Global};
@@ -68,7 +68,7 @@ fn put_lockfile(
     put_packages(out, alloc, packages)?;
     put_root(out, alloc, root)?;
     put_metadata(out, &lockfile.metadata)?;
-    put_patch(out, alloc, lockfile.patch.unused.as_slice())?;
+    put_patch(out, alloc, &lockfile.patch)?;
     out.end_object()
 }
 
@@ -105,13 +105,13 @@ fn put_texts(out: &mut Text, metadata: &Metadata) -> Result<(), AllocError>
 }
 
 // Writes the member with the patches that no package uses.
-fn put_patch(out: &mut Text, alloc: Global, unused: &[Dependency]) -> Result<(), AllocError>
+fn put_patch(out: &mut Text, alloc: Global, patch: &Patch) -> Result<(), AllocError>
     ensures { Adds result out.old out.new (key (codes "patch")
-        ∷ json_tokens (patch_json unused.now)) }
+        ∷ json_tokens (patch_json patch.now)) }
 {
     out.key("patch")?;
     out.begin_object()?;
     out.key("unused")?;
-    put_dependencies(out, alloc, unused)?;
+    put_dependencies(out, alloc, patch.unused.as_slice())?;
     out.end_object()
 }
