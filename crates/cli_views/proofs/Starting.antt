@@ -1,8 +1,9 @@
 -- The node of the first package that a specification fits.
-use Rattle.std.proofs.Common.{◌≡◌, ◌<◌, ◌≤◌, ◌+◌, ℕ, zero, suc, List, [], ◌∷◌, Some, None, arith, get_or, get_or_default, length, map, refl, slice_get, All}
+use Rattle.std.proofs.Common.{◌≡◌, ◌<◌, ◌≤◌, ◌+◌, ℕ, zero, suc, List, [], ◌∷◌, Some, None, arith, get_or, length, map, refl, slice_get, subst, All}
 use Rattle.std.specs.Borrow.{Bor}
 use Rattle.std.specs.List.{AllZip, Contains}
 use Rattle.std.specs.List.Sorted.{IsStrictlyIncreasing}
+use Rattle.std.proofs.lemmas.List.{get_or_default}
 use Rattle.std.proofs.lemmas.List.Elements.{All-cons, All-nil}
 use Rattle.std.proofs.lemmas.Option.{slice_get_within}
 use Rattle.cargo_lock_ask.specs.Places.{IsPlaces}
@@ -16,7 +17,8 @@ rises : (xs : List ℕ) → IsStrictlyIncreasing xs → (i : ℕ) → i < length
 rises xs up zero low = omega arith
 rises xs up (suc i) low =
     let before = rises xs up i (omega (arith, low)) in
-    let step = up i (omega (arith, low)) in
+    let next : i + 1 ≡ suc i = omega arith in
+    let step = subst (λ (k : ℕ). get_or xs i 0 < get_or xs k 0) next (up i (omega (arith, low))) in
     omega (arith, before, step)
 
 -- nothing holds before the first place
@@ -52,7 +54,7 @@ specified packages (s ∷ ss) (n ∷ ns) h = (h.0, specified packages ss ns h.1)
 pub starts-within : (packages : List PackageData) (specs : List (Bor (List ℕ))) (starts : List ℕ)
     → AllZip (λ spec start. IsStartOf packages spec.now start) specs starts
     → All (λ start. start < length packages) starts
-starts-within packages [] [] h = All-nil _
+starts-within packages [] [] h = All-nil (λ start. start < length packages)
 starts-within packages [] (n ∷ ns) h = absurd h
 starts-within packages (s ∷ ss) [] h = absurd h
-starts-within packages (s ∷ ss) (n ∷ ns) h = All-cons _ n ns h.0.last.0 (starts-within packages ss ns h.1)
+starts-within packages (s ∷ ss) (n ∷ ns) h = All-cons (λ start. start < length packages) n ns h.0.last.0 (starts-within packages ss ns h.1)
