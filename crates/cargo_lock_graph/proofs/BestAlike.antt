@@ -103,7 +103,7 @@ last-told f P key tells packages (Some place) h =
       λ k after low other. h.3 k (omega (arith, after, here)) (has-key-at f P key tells packages k other),
     )
 
--- the last place of a key is that of the packages that it tells
+-- the last place of a key is the last of the packages that have it
 last-by : (f : PackageData → PartialIdentity) (P : PackageData → Type 0) (key : PartialIdentity)
     → ((p : PackageData) → Decides (is_same_partial_identity key (f p)) (P p))
     → (packages : List PackageData) → IsLastBelow (HoldsOf P packages) (length packages) (last_place key (map f packages))
