@@ -4,7 +4,7 @@ use Rattle.std.specs.List.{AllPairs, Contains}
 use Rattle.std.specs.declared.cmp.Ordering.TheVariants.{Greater}
 use Rattle.cargo_lock_parts.specs.Identity.{Identity, PackageData, identity_key}
 use Rattle.cargo_lock_graph.specs.Targets.{HoldsOf}
-use Rattle.cargo_lock_check.specs.Order.{dependency_order}
+use Rattle.cargo_lock_order.specs.Order.{dependency_order}
 
 -- P holds of the dependency at the place
 abbrev pub HoldsOfDependency : (Identity → Type 0) → List Identity → ℕ → Type 0

@@ -1,6 +1,4 @@
 pub mod Places
-pub mod Canonical
-pub mod Order
 pub mod Packages
 pub mod Names
 pub mod Alike

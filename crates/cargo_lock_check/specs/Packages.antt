@@ -5,7 +5,7 @@ use Rattle.cargo_lock_parts.specs.Identity.{Identity, PackageData, identity_of}
 use Rattle.cargo_lock_parts.specs.Source.{Source, is_remote_registry}
 use Rattle.cargo_lock_parts.specs.SourceKey.{key_of}
 use Rattle.cargo_lock_graph.specs.Targets.{HasIdentity, HoldsOf}
-use Rattle.cargo_lock_check.specs.Order.{package_order}
+use Rattle.cargo_lock_order.specs.Order.{package_order}
 
 -- an earlier package has the same identity as the package at the place
 abbrev pub IsTwice : List PackageData → ℕ → Type 0

@@ -19,12 +19,10 @@
 //! ```
 
 pub mod alike;
-mod canonical;
 pub mod dependencies;
 mod groups;
 pub mod lost;
 pub mod names;
-pub mod order;
 pub mod packages;
 pub mod reach;
 pub mod sources;
@@ -34,10 +32,10 @@ pub use crate::flaws::alike::packages_alike;
 pub use crate::flaws::dependencies::{misplaced_dependencies, repeated_dependencies};
 pub use crate::flaws::lost::lost_dependencies;
 pub use crate::flaws::names::badly_named_packages;
-pub use crate::flaws::order::{dependency_order, package_order};
 pub use crate::flaws::packages::{
     misplaced_packages, packages_twice, packages_without_checksum, unchecked_registries,
 };
 pub use crate::flaws::reach::orphans;
 pub use crate::flaws::sources::{look_alike_sources, sources_with_user_info};
 pub use crate::flaws::stale::stale_keys;
+pub use cargo_lock_order::{dependency_order, package_order};

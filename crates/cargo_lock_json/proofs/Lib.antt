@@ -1,6 +1,5 @@
 pub mod Packages
 pub mod Differences
-pub mod Found
 pub mod Asked
 pub mod Verified
 pub mod Licensed

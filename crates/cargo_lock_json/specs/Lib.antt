@@ -1,7 +1,6 @@
 pub mod File
 pub mod Package
 pub mod Difference
-pub mod Findings
 pub mod Why
 pub mod Duplicates
 pub mod Verify

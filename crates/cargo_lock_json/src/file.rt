@@ -30,12 +30,9 @@ impl<'a> Model for File<'a> {
     ghost view = { λ file. record { path = file.path.now; format = file.format } };
 }
 
-// Opens a document about one lockfile: its schema, and the members of the lockfile.
-pub(crate) fn begin_document(
-    out: &mut Text,
-    schema: &str,
-    file: &File<'_>,
-) -> Result<(), AllocError>
+/// Opens a document about one lockfile: its schema, and the members of the lockfile. The caller ends
+/// the object. Fails when out of memory.
+pub fn begin_document(out: &mut Text, schema: &str, file: &File<'_>) -> Result<(), AllocError>
     ensures { Adds result out.old out.new (begin_object
         ∷ key (codes "schema") ∷ string schema.now
         ∷ key (codes "path") ∷ string «file».now.path

@@ -1,7 +1,8 @@
-//! What the commands print with `--json`: a difference, what is wrong with a lockfile, why packages
-//! are there, the names that several packages have, and what is found of archives and folders, of
-//! licences and by advisories, each as one line of JSON whose keys are in a fixed order. Texts are
-//! as lockfiles, manifests and advisories have them, and JSON escapes them.
+//! What the commands print with `--json`: a difference, why packages are there, the names that
+//! several packages have, and what is found of archives and folders, of licences and by advisories,
+//! each as one line of JSON whose keys are in a fixed order. Texts are as lockfiles, manifests and
+//! advisories have them, and JSON escapes them. `cargo_lock_findings` has what is wrong with a
+//! lockfile.
 //!
 //! `docs/JSON.md` has the documents.
 #![tactic(auto)]
@@ -12,10 +13,9 @@ mod change;
 pub mod difference;
 pub mod duplicates;
 pub mod file;
-pub mod findings;
 pub mod folders;
 pub mod licenses;
-mod package;
+pub mod package;
 mod verify;
 pub mod why;
 
@@ -24,7 +24,6 @@ pub use crate::audit::advisories_json;
 pub use crate::difference::difference_json;
 pub use crate::duplicates::groups_json;
 pub use crate::file::File;
-pub use crate::findings::findings_json;
 pub use crate::folders::folders_json;
 pub use crate::licenses::verdicts_json;
 pub use crate::why::answers_json;

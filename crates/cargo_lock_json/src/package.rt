@@ -15,8 +15,8 @@ use cargo_lock_parts::package::{Name, Package, SourceId, Version};
 use json_line::{Text, put_digest_or_null};
 use std::alloc::{AllocError, Global};
 
-// Writes a member whose value is a package, or null.
-pub(crate) fn put_package_or_null(
+/// Writes a member whose value is a package, or null. Fails when out of memory.
+pub fn put_package_or_null(
     out: &mut Text,
     alloc: Global,
     name: &str,
@@ -34,12 +34,9 @@ pub(crate) fn put_package_or_null(
     }
 }
 
+/// Writes a package: name, version, source and checksum. Fails when out of memory.
 #[tactic(auto, unfolding(crate::specs::Package::identity_json))]
-pub(crate) fn put_package(
-    out: &mut Text,
-    alloc: Global,
-    package: &Package,
-) -> Result<(), AllocError>
+pub fn put_package(out: &mut Text, alloc: Global, package: &Package) -> Result<(), AllocError>
     ensures { Adds result out.old out.new (json_tokens (package_json «package».now)) }
 {
     put_identity(out, alloc, &package.name, &package.version, &package.source)?;
@@ -63,8 +60,9 @@ pub(crate) fn put_packages(
     out.end_array()
 }
 
+/// Writes a dependency as a package without a checksum. Fails when out of memory.
 #[tactic(auto, unfolding(crate::specs::Package::identity_json))]
-pub(crate) fn put_dependency(
+pub fn put_dependency(
     out: &mut Text,
     alloc: Global,
     dependency: &Dependency,

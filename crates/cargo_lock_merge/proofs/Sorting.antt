@@ -14,7 +14,7 @@ use Rattle.cargo_lock_parts.specs.Identity.{Identity, PackageData, identity_of}
 use Rattle.cargo_lock_parts.specs.Source.{Source}
 use Rattle.cargo_lock_parts.specs.SourceKey.{text_cmp}
 use Rattle.cargo_lock.specs.CargoChecksums.{unpinned}
-use Rattle.cargo_lock_check.specs.Order.{by_kind_and_url, dependency_order, package_order}
+use Rattle.cargo_lock_order.specs.Order.{by_kind_and_url, dependency_order, package_order}
 use Rattle.cargo_lock_merge.specs.declared.moved.Moved.{Moved}
 use Rattle.cargo_lock_merge.specs.declared.moved.Named.{Named}
 use Rattle.cargo_lock_merging.specs.declared.moved.Moved as merging

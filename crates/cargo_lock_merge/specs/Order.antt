@@ -3,8 +3,8 @@ use Rattle.std.specs.Prelude.{All, List}
 use Rattle.std.specs.List.Sorted.{IsSorted}
 use Rattle.std.specs.Ordering.{on, then_cmp}
 use Rattle.std.specs.declared.cmp.Ordering.{Ordering}
-use Rattle.cargo_lock_check.specs.Canonical.{canonical}
-use Rattle.cargo_lock_check.specs.Order.{by_kind_and_url, dependency_order, package_order}
+use Rattle.cargo_lock_order.specs.Canonical.{canonical}
+use Rattle.cargo_lock_order.specs.Order.{by_kind_and_url, dependency_order, package_order}
 use Rattle.cargo_lock_parts.specs.Identity.{Identity, PackageData, identity_of}
 use Rattle.cargo_lock_parts.specs.IdentityOrder.{by_name_version_source, version_cmp}
 use Rattle.cargo_lock_merge.specs.declared.moved.Moved.{Moved}

@@ -10,7 +10,7 @@ ghost use Rattle.cargo_lock_merging.specs.Assembled.{IsIdentityAtIf};
 ghost use Rattle.cargo_lock_merging.specs.Merged.{merged_data};
 ghost use Rattle.cargo_lock_merging.specs.Placed.{HasAt, PlacedData};
 ghost use Rattle.cargo_lock_merging.specs.Kept.{AreInPlace, merged_places};
-ghost use Rattle.cargo_lock_check.specs.Order.{dependency_order};
+ghost use Rattle.cargo_lock_order.specs.Order.{dependency_order};
 ghost use Rattle.cargo_lock_merge.specs.Once.{AreApart, DependsApart};
 ghost use Rattle.cargo_lock_merge.specs.Order.{AreInOrder, HasSortedDependencies};
 

@@ -4,7 +4,7 @@ ghost use Rattle.std.specs.Prelude.{◌≡◌, IfOk, OnOk};
 ghost use Rattle.std.specs.List.Sorted.{IsPermutation, IsSorted};
 ghost use Rattle.std.specs.declared.cmp.Ordering.{Ordering};
 
-use cargo_lock_check::{dependency_order, package_order};
+use cargo_lock_order::{dependency_order, package_order};
 use cargo_lock_parts::dependency::Dependency;
 use cargo_lock_parts::package::Package;
 use std::alloc::{AllocError, Global};
@@ -20,7 +20,7 @@ pub(crate) trait Ordered {
 }
 
 impl Ordered for Package {
-    ghost use Rattle.cargo_lock_check.specs.Order.{package_order};
+    ghost use Rattle.cargo_lock_order.specs.Order.{package_order};
 
     ghost order = { package_order };
 
@@ -30,7 +30,7 @@ impl Ordered for Package {
 }
 
 impl Ordered for Dependency {
-    ghost use Rattle.cargo_lock_check.specs.Order.{dependency_order};
+    ghost use Rattle.cargo_lock_order.specs.Order.{dependency_order};
 
     ghost order = { dependency_order };
 

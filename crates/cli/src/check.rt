@@ -3,7 +3,7 @@ ghost use Rattle.std.specs.Prelude.{◌≡◌, IfOk, OnOk, map};
 ghost use Rattle.std.specs.Io.KnownBytes.{Appends};
 ghost use Rattle.clap.specs.Matches.{found_of};
 ghost use Rattle.cargo_lock_check.specs.Finding.{finding_of, findings_text};
-ghost use Rattle.cargo_lock_json.specs.Findings.{findings_json};
+ghost use Rattle.cargo_lock_findings.specs.Findings.{findings_json};
 ghost use Rattle.json_line.specs.Text.{IsJsonText};
 ghost use Rattle.cli.specs.Check.{IsFindingsStatus, PrintsFound, PrintsCheck, PrintsFindings};
 ghost use Rattle.cli.specs.Check.{PrintsFindingsOf};
@@ -11,7 +11,8 @@ ghost use Rattle.cli_lockfiles.specs.Json.{PrintsLine};
 
 use cargo_lock::Lockfile;
 use cargo_lock_check::{Finding, Findings};
-use cargo_lock_json::{File, findings_json};
+use cargo_lock_findings::findings_json;
+use cargo_lock_json::File;
 use clap::{ArgMatches, Command};
 use cli_lockfiles::load::{file, named_lockfile_of, named_text};
 use cli_support::output::put;

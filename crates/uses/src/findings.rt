@@ -2,7 +2,8 @@
 
 use cargo_lock::{Error, Lockfile, Package};
 use cargo_lock_check::Findings;
-use cargo_lock_json::{File, findings_json};
+use cargo_lock_findings::findings_json;
+use cargo_lock_json::File;
 use shown::Shown;
 
 /// Prints what is wrong with the lockfile of a text, a line for each finding, and the document.

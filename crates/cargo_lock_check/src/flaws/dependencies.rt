@@ -5,7 +5,7 @@ ghost use Rattle.std.specs.Bool.{Decides};
 ghost use Rattle.cargo_lock_graph.specs.Candidates.{identity_as_key};
 ghost use Rattle.cargo_lock_check.specs.Dependencies.{AreDependencies, AreDependenciesBefore, IsAfterNext, IsMisplacedAt, IsRepeatedAt};
 
-use crate::flaws::order::dependency_order;
+use cargo_lock_order::dependency_order;
 use cargo_lock_parts::dependency::Dependency;
 use cargo_lock_parts::package::{Package, PartialIdentity};
 use std::alloc::{AllocError, Global};

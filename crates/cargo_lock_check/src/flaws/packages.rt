@@ -9,7 +9,7 @@ ghost use Rattle.cargo_lock_check.specs.Seen.{AreChecked, LacksChecksumAmong, ha
 ghost use Rattle.cargo_lock_parts.specs.Source.{Source};
 ghost use Rattle.cargo_lock_parts.specs.SourceKey.{is_same_source};
 
-use crate::flaws::order::package_order;
+use cargo_lock_order::package_order;
 use cargo_lock_parts::package::{Package, PartialIdentity, SourceId};
 use std::alloc::{AllocError, Global};
 use std::cmp::Ordering;

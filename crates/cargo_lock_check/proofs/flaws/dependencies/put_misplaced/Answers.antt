@@ -5,7 +5,7 @@ use Rattle.std.specs.declared.cmp.Ordering.TheVariants.{Greater}
 use Rattle.std.specs.Prelude.{suc}
 use Rattle.cargo_lock_parts.specs.Identity.{Identity, PackageData}
 use Rattle.cargo_lock_check.specs.Dependencies.{HoldsOfDependency, IsAfterNext, IsMisplacedAt}
-use Rattle.cargo_lock_check.specs.Order.{dependency_order}
+use Rattle.cargo_lock_order.specs.Order.{dependency_order}
 use Rattle.cargo_lock_check.proofs.DependencyPlaces.{next-package, pass, put, there}
 use Rattle.cargo_lock_check.proofs.flaws.dependencies.put_misplaced.Goals as goal
 use Rattle.cargo_lock_check.proofs.flaws.dependencies.put_misplaced.Goals.{then-branch+in_ok-push, else-branch}

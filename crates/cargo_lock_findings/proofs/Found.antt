@@ -4,7 +4,7 @@ use Rattle.json.specs.Tree.{depth}
 use Rattle.cargo_lock_check.specs.Finding.{Alike, BadName, FindingData, LookAlike, LossySource, LostDependency, Misplaced, MisplacedDependency, NoChecksum, NoChecksums, NoRoot, NotKept, Orphan, OtherLine, RepeatedDependency, StaleChecksum, Twice, UserInfo}
 use Rattle.cargo_lock_parts.specs.Identity.{identity_of}
 use Rattle.cargo_lock_json.specs.File.{FileData}
-use Rattle.cargo_lock_json.specs.Findings.{finding_json, findings_json, line_json, other_json, package_of}
+use Rattle.cargo_lock_findings.specs.Findings.{finding_json, findings_json, line_json, other_json, package_of}
 use Rattle.cargo_lock_json.proofs.Packages.{identity-depth, package-depth}
 use Rattle.json_line.proofs.Depth.{array-depth}
 

@@ -3,8 +3,8 @@ use Rattle.std.specs.List.{flat_map}
 use Rattle.json.specs.Token.{begin_array}
 use Rattle.json.specs.Tree.{json_tokens}
 use Rattle.cargo_lock_check.specs.Finding.{finding_of}
-use Rattle.cargo_lock_json.specs.Findings.{finding_json}
-use Rattle.cargo_lock_json.proofs.findings.put_array.Given as goal
+use Rattle.cargo_lock_findings.specs.Findings.{finding_json}
+use Rattle.cargo_lock_findings.proofs.findings.put_array.Given as goal
 
 abbrev pub invariant-loop-finding : goal.invariant-loop-finding
 invariant-loop-finding l = l.out ≡ l.fn.out ++ begin_array

@@ -1,6 +1,6 @@
-use Rattle.cargo_lock_json.specs.Findings.{findings_json}
+use Rattle.cargo_lock_findings.specs.Findings.{findings_json}
 use Rattle.json_line.proofs.Behind.{then}
-use Rattle.cargo_lock_json.proofs.findings.put_findings.Goals as goal
+use Rattle.cargo_lock_findings.proofs.findings.put_findings.Goals as goal
 
 pub returns : goal.returns
 unfolding findings_json

@@ -1,7 +1,7 @@
 use Rattle.std.proofs.Common.{sym}
-use Rattle.cargo_lock_json.specs.Findings.{finding_json}
+use Rattle.cargo_lock_findings.specs.Findings.{finding_json}
 use Rattle.json_line.proofs.Behind.{then}
-use Rattle.cargo_lock_json.proofs.findings.put_finding.Goals as goal
+use Rattle.cargo_lock_findings.proofs.findings.put_finding.Goals as goal
 
 pub returns : goal.returns
 unfolding finding_json

@@ -2,7 +2,7 @@
 
 ghost use Rattle.std.specs.Prelude.{◌≡◌, IfOk, codes, if◌then◌else◌, map};
 ghost use Rattle.std.specs.Char.{to_ascii_lowercase};
-ghost use Rattle.cargo_lock_check.specs.Canonical.{canonical, is_at_github, without_end, without_slash};
+ghost use Rattle.cargo_lock_order.specs.Canonical.{canonical, is_at_github, without_end, without_slash};
 
 use std::alloc::{AllocError, Global};
 use url::{Position, Url};

@@ -2,10 +2,10 @@ use Rattle.std.proofs.Common.{◌∙◌, ◌++◌, List, ap, arith, map, string_
 use Rattle.json.specs.Token.{Token}
 use Rattle.json.specs.Tree.{json_tokens}
 use Rattle.cargo_lock_check.specs.Finding.{finding_of}
-use Rattle.cargo_lock_json.specs.Findings.{findings_json}
-use Rattle.cargo_lock_json.proofs.Found.{findings-depth}
+use Rattle.cargo_lock_findings.specs.Findings.{findings_json}
+use Rattle.cargo_lock_findings.proofs.Found.{findings-depth}
 use Rattle.json_line.proofs.Texts.{json_text}
-use Rattle.cargo_lock_json.proofs.findings.findings_json.Goals as goal
+use Rattle.cargo_lock_findings.proofs.findings.findings_json.Goals as goal
 
 pub returns : goal.returns
 returns c =

@@ -5,9 +5,9 @@ use Rattle.json.specs.Token.{begin_array}
 use Rattle.json.specs.Tree.{json_tokens}
 use Rattle.cargo_lock_check.specs.declared.finding.Finding.{Finding}
 use Rattle.cargo_lock_check.specs.Finding.{finding_of}
-use Rattle.cargo_lock_json.specs.Findings.{finding_json}
+use Rattle.cargo_lock_findings.specs.Findings.{finding_json}
 use Rattle.json_line.proofs.Arrays.{array_ends, items-flat_map}
-use Rattle.cargo_lock_json.proofs.findings.put_array.Goals as goal
+use Rattle.cargo_lock_findings.proofs.findings.put_array.Goals as goal
 
 pub returns : goal.returns
 returns c =

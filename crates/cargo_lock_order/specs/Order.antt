@@ -11,7 +11,7 @@ use Rattle.cargo_lock_parts.specs.Identity.{Identity, PackageData}
 use Rattle.cargo_lock_parts.specs.IdentityOrder.{by_name_version_source, version_cmp}
 use Rattle.cargo_lock_parts.specs.Source.{Kind, Source, DefaultBranch, Tag, Branch, Rev, Git, Path, Registry, SparseRegistry, LocalRegistry, Directory}
 use Rattle.cargo_lock_parts.specs.SourceKey.{git_reference_text, text_cmp}
-use Rattle.cargo_lock_check.specs.Canonical.{canonical}
+use Rattle.cargo_lock_order.specs.Canonical.{canonical}
 
 -- the place of a kind of source in Cargo's order: repositories are last, and among these the
 -- default branches

@@ -7,11 +7,11 @@ ghost use Rattle.url.specs.Parts.{serialize};
 ghost use Rattle.cargo_lock_parts.specs.Source.{kind_of};
 ghost use Rattle.cargo_lock_parts.specs.SourceKey as key;
 ghost use Rattle.cargo_lock_parts.specs.SourceKey.{text_cmp};
-ghost use Rattle.cargo_lock_check.specs.Canonical.{canonical};
-ghost use Rattle.cargo_lock_check.specs.Order.{by_kind_and_url, dependency_order, kind_order, package_order};
-ghost use Rattle.cargo_lock_check.specs.Order as spec;
+ghost use Rattle.cargo_lock_order.specs.Canonical.{canonical};
+ghost use Rattle.cargo_lock_order.specs.Order.{by_kind_and_url, dependency_order, kind_order, package_order};
+ghost use Rattle.cargo_lock_order.specs.Order as spec;
 
-use crate::flaws::canonical::canonical;
+use crate::canonical::canonical;
 use cargo_lock_parts::dependency::Dependency;
 use cargo_lock_parts::package::source::SourceKind;
 use cargo_lock_parts::package::{GitReference, Package, SourceId, Version};
