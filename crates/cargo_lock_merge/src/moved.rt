@@ -11,11 +11,11 @@ ghost use Rattle.cargo_lock_merge.specs.Moved.{AreMarked, AreMovedReferences, Ar
 
 use crate::order::{Ordered, put_in_order};
 use crate::words::{SourceBehind, WithCommit};
-use cargo_lock_order::{dependency_order, package_order};
 use cargo_lock_graph::versions::Versions;
 use cargo_lock_merging::merged::Merged;
 use cargo_lock_merging::moved::{Moved as Found, Reference, moved_references};
 use cargo_lock_merging::placed::Placed;
+use cargo_lock_order::{dependency_order, package_order};
 use cargo_lock_parts::dependency::Dependency;
 use cargo_lock_parts::error::Result;
 use cargo_lock_parts::package::Package;
