@@ -17,10 +17,12 @@ use Rattle.cargo_lock_graph.specs.Candidates.{identity_as_key}
 use Rattle.cargo_lock_graph.specs.Targets.{IsLost, MatchesAt}
 use Rattle.cargo_lock_graph.proofs.MadeChains.{slice_get-left, slice_get-seam}
 use Rattle.cargo_lock_check.specs.Group.{Group, group_cmp, group_for, group_of, group_total, has_precise}
-use Rattle.cargo_lock_check.specs.Groups.{AreGroups, Grouping, HasAdded, HasGrouped, HasMatches, HasPut, IsBestGroup, IsGrouped, IsNumbered, IsPut, group_places, places_at, places_by, places_in, places_of}
-use Rattle.cargo_lock_check.specs.declared.flaws.groups.BestGroup.{BestGroup}
+use Rattle.cargo_lock_check.specs.Groups.{AreGroups, Grouping, HasAdded, HasGrouped, HasMatches, HasPut, HasTwoAlike, IsBest, IsGrouped, IsNumbered, IsPut, group_places, places_at, places_by, places_in, places_of}
+use Rattle.cargo_lock_check.specs.declared.flaws.groups.BestMatch.{BestMatch}
+use Rattle.cargo_lock_check.specs.declared.flaws.groups.BestMatch.TheVariants.{Many, One}
 use Rattle.cargo_lock_check.specs.declared.flaws.groups.Numbered.{Numbered}
 use Rattle.cargo_lock_check.proofs.GroupMatch.{IsIn, in-group, rank-bounds}
+use Rattle.cargo_lock_check.proofs.Neighbours.{matches-alike, two-of}
 
 -- ---- one more package
 
@@ -116,12 +118,27 @@ pub groups-step : (packages : List PackageData) (place : ℕ) (p : PackageData) 
     → HasGrouped old new p place → AreGroups packages place old → AreGroups packages (place + 1) new
 groups-step packages place p old new here more so_far = record {
   numbered = more.numbered;
-  grouped = λ k q low at. elim (below-or-here k place low) [
-    | inl below ↦ grouped-kept old new q k more.kept (so_far.grouped k q below at)
+  grouped = λ k q low at two. elim (below-or-here k place low) [
+    | inl below ↦ grouped-kept old new q k more.kept (so_far.grouped k q below at two)
     | inr same ↦
         let is : p ≡ q = same_Some p q (sym here ∙ ap (slice_get packages) (sym same) ∙ at) in
         subst (λ n. IsGrouped new q n) (sym same) (subst
         (λ (r : PackageData). IsGrouped new r place) is more.grouped)
+  ];
+}
+
+-- the package at a place is the only one of its name, version and URL
+pub groups-pass : (packages : List PackageData) (place : ℕ) (p : PackageData) (s : Numbered)
+    → slice_get packages place ≡ Some p → ¬ HasTwoAlike packages (identity_of p)
+    → AreGroups packages place s → AreGroups packages (place + 1) s
+groups-pass packages place p s here alone so_far = record {
+  numbered = so_far.numbered;
+  grouped = λ k q low at two. elim (below-or-here k place low) [
+    | inl below ↦ so_far.grouped k q below at two
+    | inr same ↦
+        let is : p ≡ q = same_Some p q (sym here ∙ ap (slice_get packages) (sym same) ∙ at) in
+        absurd (alone (subst (λ (r : PackageData). HasTwoAlike packages (identity_of r)) (sym is)
+        two))
   ];
 }
 
@@ -280,26 +297,28 @@ in-places packages s n k h =
     ∙ places-of-map (slice_get s.places.items n))) h
 
 matched-in : (packages : List PackageData) (s : Numbered) (d : Identity) (rank : ℕ)
-    → AreGroups packages (length packages) s
+    → AreGroups packages (length packages) s → HasTwoAlike packages d
     → (k : ℕ) → MatchesAt packages d k rank → IsIn s (group_for rank d) k
-matched-in packages s d rank are k f =
-    in-group s d f.0 k rank (are.grouped k f.0 (slice_get_within packages k f.0 f.1) f.1) f.2
+matched-in packages s d rank are two k f =
+    in-group s d f.0 k rank (are.grouped k f.0 (slice_get_within packages k f.0 f.1) f.1
+    (two-of packages d f.0 (matches-alike d f.0 rank f.2) two)) f.2
 
 -- a dependency without a group for the rank has no match with it
 pub group-none : (packages : List PackageData) (s : Numbered) (d : Identity) (rank : ℕ)
-    → AreGroups packages (length packages) s → group_for rank d ≡ None
+    → AreGroups packages (length packages) s → HasTwoAlike packages d
+    → group_for rank d ≡ None
     → (k : ℕ) → ¬ MatchesAt packages d k rank
-group-none packages s d rank are none k f = subst (λ o. IsIn s o k) none
-    (matched-in packages s d rank are k f)
+group-none packages s d rank are two none k f = subst (λ o. IsIn s o k) none
+    (matched-in packages s d rank are two k f)
 
 pub group-found : (packages : List PackageData) (s : Numbered) (d : Identity) (rank : ℕ) (g : Group)
-    (o : Option ℕ) → AreGroups packages (length packages) s
+    (o : Option ℕ) → AreGroups packages (length packages) s → HasTwoAlike packages d
     → group_for rank d ≡ Some g → o ≡ get group_cmp s.numbers g
     → MatchOption o ((k : ℕ) → ¬ MatchesAt packages d k rank)
     (HasMatches (grouping packages s) d rank)
-group-found packages s d rank g o are has is =
+group-found packages s d rank g o are two has is =
     go o (λ k f. subst (λ n. Contains (places_by s.places.items n) k) (sym is)
-    (subst (λ o. IsIn s o k) has (matched-in packages s d rank are k f)))
+    (subst (λ o. IsIn s o k) has (matched-in packages s d rank are two k f)))
   where
     go : (o : Option ℕ) → ((k : ℕ) → MatchesAt packages d k rank
         → Contains (places_by s.places.items o) k)
@@ -318,15 +337,21 @@ pub rank-small : (packages : List PackageData) (d : Identity) (k rank : ℕ)
     → MatchesAt packages d k rank → rank < 5
 rank-small packages d k rank f = (rank-bounds d f.0 rank f.2).1
 
--- whether a dependency is lost, by its best group
-pub lost-from : (groups : Grouping) (d : Identity) (o : Option BestGroup) (b : Bool)
-    → is_some o ≡ not b → MatchOption o (IsLost groups.packages d) (IsBestGroup groups d)
+-- the best match is a match
+matched-by : (groups : Grouping) (d : Identity) (best : BestMatch) → IsBest groups d best
+    → ¬ IsLost groups.packages d
+matched-by groups d (One place) is lost = let one = (is place).1 refl in
+    lost place one.0 one.1.fits
+matched-by groups d (Many best) is lost = lost is.some.0 best.rank is.some.1
+
+-- whether a dependency is lost, by its best match
+pub lost-from : (groups : Grouping) (d : Identity) (o : Option BestMatch) (b : Bool)
+    → is_some o ≡ not b → MatchOption o (IsLost groups.packages d) (IsBest groups d)
     → Decides b (IsLost groups.packages d)
 lost-from groups d None true e lost = (λ _. lost, λ _. refl)
 lost-from groups d None false e lost = absurd (false≢true e)
 lost-from groups d (Some best) true e is = absurd (false≢true (sym e))
 lost-from groups d (Some best) false e is = (
   λ h. absurd (false≢true h),
-  λ lost. absurd
-      (lost is.some.0 best.rank is.some.1),
+  λ lost. absurd (matched-by groups d best is lost),
 )

@@ -6,6 +6,7 @@ pub mod SeenBefore
 pub mod DependencyPlaces
 pub mod DependencySeen
 pub mod GroupMatch
+pub mod Neighbours
 pub mod Grouping
 pub mod Searching
 pub mod Asking

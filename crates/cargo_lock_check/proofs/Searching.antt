@@ -247,6 +247,20 @@ best-of groups d best a b is f =
     subst (λ n. MatchesAt groups.packages d k n) (omega (arith, below, above)) h.1.fits)
     f
 
+-- one package alone matches best
+pub one-reached : (packages : List PackageData) (d : Identity) (place : ℕ) (a b : Search)
+    → ((k : ℕ) → IsOneOfBest packages d k ↔ (k ≡ place))
+    → HasReached (λ k. k ≡ place) a b → HasReached (IsOneOfBest packages d) a b
+one-reached packages d place a b is f =
+    reached-alike (λ k. k ≡ place) (IsOneOfBest packages d) a b
+    (λ k h. (is k).1 h) (λ k h. (is k).0 h) f
+
+pub one-within : (packages : List PackageData) (d : Identity) (place : ℕ)
+    → ((k : ℕ) → IsOneOfBest packages d k ↔ (k ≡ place)) → place < length packages
+one-within packages d place is =
+    let fits = ((is place).1 refl).1.fits in
+    slice_get_within packages place fits.0 fits.1
+
 -- no package matches
 pub best-none : (packages : List PackageData) (d : Identity) (s : Search) → IsLost packages d
     → HasReached (IsOneOfBest packages d) s s

@@ -1,14 +1,20 @@
--- The groups in which packages are looked up, each by its number.
-use Rattle.std.specs.Prelude.{◌≡◌, ◌<◌, ◌≤◌, ℕ, true, false, List, [], length, slice_get, Option}
-use Rattle.std.specs.Prelude.{Some, None, IfSome, unwrap_or, Vec}
+-- The index and the groups in which packages are looked up. Groups have numbers. The only package of
+-- a name, a version and a URL need not be in one, since the index finds it.
+use Rattle.std.specs.Prelude.{◌≡◌, ◌≢◌, ◌<◌, ◌≤◌, ◌↔◌, ℕ, Bool, true, false, List, [], length}
+use Rattle.std.specs.Prelude.{slice_get, Option, Some, None, IfSome, is_some, unwrap_or, Vec}
 use Rattle.std.specs.BTreeMap.{get, is_at}
 use Rattle.std.specs.List.{Contains}
+use Rattle.cargo_lock_index.specs.Alike.{AreAlike}
+use Rattle.cargo_lock_index.specs.Near.{IsIndexOf, Placed}
 use Rattle.cargo_lock_parts.specs.Identity.{Identity, PackageData, identity_of}
-use Rattle.cargo_lock_graph.specs.Candidates.{identity_as_key}
-use Rattle.cargo_lock_graph.specs.Targets.{MatchesAt}
+use Rattle.cargo_lock_graph.specs.Candidates.{identity_as_key, keys_of}
+use Rattle.cargo_lock_graph.specs.Targets.{HoldsOf, MatchesAt, rank_between}
 use Rattle.cargo_lock_check.specs.declared.flaws.groups.BestGroup.{BestGroup}
+use Rattle.cargo_lock_check.specs.declared.flaws.groups.BestMatch.{BestMatch}
+use Rattle.cargo_lock_check.specs.declared.flaws.groups.BestMatch.TheVariants.{Many, One}
 use Rattle.cargo_lock_check.specs.declared.flaws.groups.Numbered.{Numbered}
 use Rattle.cargo_lock_check.specs.Group.{Group, group_cmp, group_of, has_precise}
+use Rattle.cargo_lock_check.specs.Reach.{IsOneOfBest}
 
 -- ---- the places of the packages of each group
 
@@ -70,11 +76,34 @@ pub record HasGrouped (old new : Numbered) (p : PackageData) (place : ℕ) : Typ
   pub kept : (q : Group) (k : ℕ) → Contains (places_of old q) k → Contains (places_of new q) k
   pub grouped : IsGrouped new p place
 
--- each package below the bound is in each of its groups
+-- ---- packages of one name, version and URL
+
+-- the package at the place has the identity's name and version, and their sources have one URL
+abbrev pub IsAlikeAt : List PackageData → Identity → ℕ → Type 0
+IsAlikeAt packages i place =
+    HoldsOf (λ p. AreAlike (identity_as_key i) (identity_as_key (identity_of p))) packages place
+
+-- the packages at two places have the identity's name and version, and its source's URL
+pub record HasTwoAlike (packages : List PackageData) (i : Identity) : Type 0 where
+  pub one : ℕ
+  pub other : ℕ
+  pub differ : one ≢ other
+  pub one_alike : IsAlikeAt packages i one
+  pub other_alike : IsAlikeAt packages i other
+
+-- each package below the bound that is not the only one of its name, version and URL is in each of
+-- its groups
 pub record AreGroups (packages : List PackageData) (bound : ℕ) (s : Numbered) : Type 0 where
   pub numbered : IsNumbered s
   pub grouped : (k : ℕ) (p : PackageData) → k < bound → slice_get packages k ≡ Some p
-      → IsGrouped s p k
+      → HasTwoAlike packages (identity_of p) → IsGrouped s p k
+
+-- the index has the packages, and the groups have those that are not the only one of their name,
+-- version and URL
+pub record AreIndexed (packages : List PackageData) (entries : List Placed)
+    (s : Numbered) : Type 0 where
+  pub index : IsIndexOf (keys_of packages) entries
+  pub groups : AreGroups packages (length packages) s
 
 -- ---- the best group
 
@@ -102,3 +131,15 @@ pub record IsBestGroup (groups : Grouping) (d : Identity) (best : BestGroup) : T
   pub some : HasMatch groups.packages d best.rank
   pub least : (k other : ℕ) → MatchesAt groups.packages d k other → best.rank ≤ other
   pub all : HasMatches groups d best.rank best.number
+
+-- ---- the best match
+
+-- there is a package, and its source matches that of the dependency
+abbrev pub fits_source : Identity → Option PackageData → Bool
+fits_source d None = false
+fits_source d (Some p) = is_some (rank_between d.source p.source)
+
+-- the packages that match the dependency best: the one at the place, or those of the group
+abbrev pub IsBest : Grouping → Identity → BestMatch → Type 0
+IsBest groups d (One place) = (k : ℕ) → IsOneOfBest groups.packages d k ↔ (k ≡ place)
+IsBest groups d (Many best) = IsBestGroup groups d best

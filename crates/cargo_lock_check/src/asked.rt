@@ -10,9 +10,8 @@ ghost use Rattle.cargo_lock_check.specs.Packages.{IsUnchecked, IsWithoutChecksum
 ghost use Rattle.cargo_lock_check.specs.Places.{IsPlaces};
 ghost use Rattle.cargo_lock_check.specs.Stale.{stale_keys};
 
-use crate::flaws::{
-    lost_dependencies, orphans, packages_without_checksum, stale_keys, unchecked_registries,
-};
+use crate::flaws::unmatched::Unmatched;
+use crate::flaws::{packages_without_checksum, stale_keys, unchecked_registries};
 use crate::text::OtherLine;
 use crate::written::other_line;
 use cargo_lock::Lockfile;
@@ -208,17 +207,24 @@ impl AskedFindings {
     {
         let is_kept = lockfile.survives(alloc, lockfile.version)?;
         let other_line = other_line(alloc, text, lockfile, checked, is_kept)?;
+        let Unmatched {
+            lost_dependencies,
+            orphans,
+        } = unmatched_in(alloc, lockfile)?;
         Ok(AskedFindings {
-            lost_dependencies: lost_dependencies(alloc, &lockfile.packages)?,
-            orphans: orphans_of(alloc, lockfile)?,
+            lost_dependencies,
+            orphans,
             is_kept,
             other_line,
         })
     }
 }
 
-fn orphans_of(alloc: Global, lockfile: &Lockfile) -> std::result::Result<Vec<usize>, AllocError>
-    ensures { IfOk result (λ places. AreOrphans lockfile.now places.items) }
+// The dependencies without a package, and the packages that the workspace does not lead to.
+fn unmatched_in(alloc: Global, lockfile: &Lockfile) -> std::result::Result<Unmatched, AllocError>
+    ensures lost { IfOk result (λ found.
+        AreLost lockfile.now.packages found.lost_dependencies.items) }
+    ensures orphans { IfOk result (λ found. AreOrphans lockfile.now found.orphans.items) }
 {
-    orphans(alloc, &lockfile.packages, &lockfile.root)
+    Unmatched::of(alloc, &lockfile.packages, &lockfile.root)
 }

@@ -22,6 +22,7 @@ pub mod alike;
 mod canonical;
 pub mod dependencies;
 mod groups;
+mod index;
 pub mod lost;
 pub mod names;
 pub mod order;
@@ -29,6 +30,7 @@ pub mod packages;
 pub mod reach;
 pub mod sources;
 pub mod stale;
+pub(crate) mod unmatched;
 
 pub use crate::flaws::alike::packages_alike;
 pub use crate::flaws::dependencies::{misplaced_dependencies, repeated_dependencies};

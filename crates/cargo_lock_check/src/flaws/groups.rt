@@ -1,24 +1,34 @@
-//! The packages of a list in groups. The groups find the packages that match a dependency without a
-//! look at every package with its name and version.
+//! The packages that match a dependency best, found without a walk over the list.
+//!
+//! An index finds the packages of a dependency's name, version and URL. Most often there is one at
+//! most. If there are several, they are in groups, which find those that match without a look at
+//! each of them.
 
 ghost use Rattle.std.specs.Prelude.{◌≡◌, ◌≤◌, ℕ, cond, IfOk, MatchOption, OnOk, Some, length};
-ghost use Rattle.std.specs.Prelude.{option_copied, unwrap_or};
+ghost use Rattle.std.specs.Prelude.{nat_eq, not, option_copied, option_map, slice_get};
+ghost use Rattle.std.specs.Prelude.{unwrap_or};
 ghost use Rattle.std.specs.Bool.{Decides};
 ghost use Rattle.std.specs.BTreeMap.{get, is_at};
+ghost use Rattle.std.specs.List.{list_any};
 ghost use Rattle.cargo_lock_parts.specs.Identity.{identity_of};
 ghost use Rattle.cargo_lock_parts.specs.Rank as rank;
 ghost use Rattle.cargo_lock_parts.specs.Rank.{commit_of};
 ghost use Rattle.cargo_lock_parts.specs.Source.{kind_of};
 ghost use Rattle.cargo_lock_parts.specs.SourceKey.{git_reference_text, kind_number};
-ghost use Rattle.cargo_lock_graph.specs.Candidates.{identity_as_key};
+ghost use Rattle.cargo_lock_index.specs.Alike.{AreAllAlike};
+ghost use Rattle.cargo_lock_index.specs.Near.{IsIndexOf};
+ghost use Rattle.cargo_lock_graph.specs.Candidates.{identity_as_key, keys_of};
 ghost use Rattle.cargo_lock_graph.specs.Targets as target;
 ghost use Rattle.cargo_lock_graph.specs.Targets.{IsLost, Matches, MatchesAt};
 ghost use Rattle.cargo_lock_check.specs.Group as spec;
 ghost use Rattle.cargo_lock_check.specs.Group.{group_cmp, group_of};
-ghost use Rattle.cargo_lock_check.specs.Groups.{HasAdded, HasGrouped, HasMatch, HasMatches, HasPut};
-ghost use Rattle.cargo_lock_check.specs.Groups.{IsBestGroup, IsNumbered, group_places};
+ghost use Rattle.cargo_lock_check.specs.Groups.{AreGroups, HasAdded, HasGrouped, HasMatch};
+ghost use Rattle.cargo_lock_check.specs.Groups.{HasMatches, HasPut, HasTwoAlike, IsBest, IsBestGroup};
+ghost use Rattle.cargo_lock_check.specs.Groups.{IsNumbered, fits_source, group_places};
 
 use crate::flaws::dependencies::identity;
+use crate::flaws::index::{package_key, places_of};
+use cargo_lock_index::places::{Entry, Places};
 use cargo_lock_parts::dependency::Dependency;
 use cargo_lock_parts::package::{GitReference, Package, PartialIdentity, SourceId, SourceKind};
 use std::alloc::{AllocError, Global};
@@ -26,18 +36,19 @@ use std::cmp::Ordering;
 use std::collections::BTreeMap;
 use std::marker::Model;
 
-/// The packages of a list in groups: for each rank of a match, those that can match a dependency
-/// with it. So the packages that match are found without a look at every package with the
-/// dependency's name and version.
+/// The packages of a list, an index of their identities, and the groups of those packages that are
+/// not the only one of their name, version and URL. There is a group for each rank of a match, with
+/// the packages that can match a dependency with it.
 #[derive(Drop)]
 pub(crate) struct Groups<'a> {
     packages: &'a [Package],
+    places: Places<'a>,
     numbered: Numbered<'a>,
 }
 
 impl<'a> Model for Groups<'a> {
     ghost use Rattle.std.specs.Prelude.{length, map};
-    ghost use Rattle.cargo_lock_check.specs.Groups.{AreGroups, Grouping};
+    ghost use Rattle.cargo_lock_check.specs.Groups.{AreIndexed, Grouping};
 
     ghost Value = { Grouping };
 
@@ -46,7 +57,17 @@ impl<'a> Model for Groups<'a> {
       places = map (λ places. places.items) g.numbered.places.items;
     } };
 
-    ghost invariant = { λ g. AreGroups g.packages.now (length g.packages.now) g.numbered };
+    ghost invariant = { λ g. AreIndexed g.packages.now g.places g.numbered };
+}
+
+/// The packages that match a dependency best.
+#[derive(Clone, Copy)]
+pub(crate) enum BestMatch {
+    /// The package at this place alone.
+    One(usize),
+
+    /// Those of a group that match with its rank.
+    Many(BestGroup),
 }
 
 /// The group of the packages that match a dependency best, and the rank of the match.
@@ -154,14 +175,13 @@ impl<'a> Groups<'a> {
     pub(crate) fn of(alloc: Global, packages: &'a [Package]) -> Result<Groups<'a>, AllocError>
         ensures { IfOk result (λ groups. groups.packages ≡ packages.now) }
     {
-        let mut numbered = Numbered {
-            numbers: BTreeMap::new(alloc),
-            places: Vec::new(alloc),
-        };
-        for (place, package) in packages.iter().enumerate() {
-            numbered.put_package(alloc, place, package)?;
-        }
-        Ok(Groups { packages, numbered })
+        let places = places_of(alloc, packages)?;
+        let numbered = Numbered::of(alloc, packages, &places)?;
+        Ok(Groups {
+            packages,
+            places,
+            numbered,
+        })
     }
 
     /// How many groups there are.
@@ -171,8 +191,45 @@ impl<'a> Groups<'a> {
         self.numbered.places.len()
     }
 
-    /// The group of the packages that match a dependency best. `None` if no package matches.
-    pub(crate) fn best(&self, dependency: &'a Dependency) -> Option<BestGroup>
+    /// The packages that match a dependency best. `None` if no package matches.
+    pub(crate) fn best(&self, dependency: &'a Dependency) -> Option<BestMatch>
+        ensures { MatchOption result
+            (IsLost self.now.packages dependency.now)
+            (IsBest self.now dependency.now) }
+    {
+        let alike = self.alike(dependency);
+        let place = first_place(alike)?;
+        if has_other(alike, place) {
+            let best = self.best_group(dependency)?;
+            return Some(BestMatch::Many(best));
+        }
+        if self.fits(dependency, place) {
+            return Some(BestMatch::One(place));
+        }
+        None
+    }
+
+    // The entries of the packages with the name, the version and the URL of a dependency.
+    fn alike(&self, dependency: &'a Dependency) -> &[Entry<'a>]
+        ensures { AreAllAlike (identity_as_key dependency.now) (keys_of self.now.packages)
+            result.now }
+    {
+        self.places.alike(identity(dependency))
+    }
+
+    // Whether there is a package at a place, and its source matches that of a dependency.
+    fn fits(&self, dependency: &Dependency, place: usize) -> bool
+        ensures { result ≡ fits_source dependency.now (slice_get self.now.packages place) }
+    {
+        match self.packages.get(place) {
+            Some(package) => rank_between(&dependency.source, &package.source).is_some(),
+            None => false,
+        }
+    }
+
+    // The group of the packages that match a dependency best. `None` if no package matches.
+    fn best_group(&self, dependency: &'a Dependency) -> Option<BestGroup>
+        requires { HasTwoAlike self.now.packages dependency.now }
         ensures { MatchOption result
             (IsLost self.now.packages dependency.now)
             (IsBestGroup self.now dependency.now) }
@@ -187,6 +244,7 @@ impl<'a> Groups<'a> {
 
     // The group of the packages that match a dependency with a rank. `None` if no package does.
     fn group_with_match(&self, rank: u8, dependency: &'a Dependency) -> Option<usize>
+        requires { HasTwoAlike self.now.packages dependency.now }
         ensures { MatchOption result
             ((k : ℕ) → ¬ MatchesAt self.now.packages dependency.now k rank)
             (λ number. HasMatch self.now.packages dependency.now rank
@@ -203,6 +261,7 @@ impl<'a> Groups<'a> {
 
     // The group of the packages that can match a dependency with a rank. `None` if it is empty.
     fn group(&self, rank: u8, dependency: &'a Dependency) -> Option<usize>
+        requires { HasTwoAlike self.now.packages dependency.now }
         ensures { MatchOption result
             ((k : ℕ) → ¬ MatchesAt self.now.packages dependency.now k rank)
             (HasMatches self.now dependency.now rank) }
@@ -236,6 +295,27 @@ impl<'a> Groups<'a> {
 }
 
 impl<'a> Numbered<'a> {
+    // The groups of those packages that are not the only one of their name, version and URL.
+    fn of(
+        alloc: Global,
+        packages: &'a [Package],
+        places: &Places<'a>,
+    ) -> Result<Numbered<'a>, AllocError>
+        requires { IsIndexOf (keys_of packages.now) places.now }
+        ensures { IfOk result (AreGroups packages.now (length packages.now)) }
+    {
+        let mut numbered = Numbered {
+            numbers: BTreeMap::new(alloc),
+            places: Vec::new(alloc),
+        };
+        for (place, package) in packages.iter().enumerate() {
+            if has_other(places.alike(package_key(package)), place) {
+                numbered.put_package(alloc, place, package)?;
+            }
+        }
+        Ok(numbered)
+    }
+
     // Adds the package at a place to each of its groups.
     fn put_package(
         &mut self,
@@ -270,12 +350,7 @@ impl<'a> Numbered<'a> {
         ensures { OnOk result (HasPut self.old self.new
             (group_of rank is_open (identity_as_key (identity_of «package».now))) place) }
     {
-        let identity = PartialIdentity {
-            name: &package.name,
-            version: Some(&package.version),
-            source: package.source.as_ref(),
-        };
-        match group_of(rank, is_open, identity) {
+        match group_of(rank, is_open, package_key(package)) {
             Some(group) => self.put(alloc, group, place),
             None => Ok(()),
         }
@@ -291,6 +366,21 @@ impl<'a> Numbered<'a> {
         add(alloc, &mut self.places, number, place)?;
         Ok(())
     }
+}
+
+// The place of the first of these entries, if there is one.
+fn first_place(entries: &[Entry<'_>]) -> Option<usize>
+    ensures { result ≡ option_map (λ e. e.place) (slice_get entries.now 0) }
+{
+    let entry = entries.first()?;
+    Some(entry.place())
+}
+
+// Whether one of these entries is of another place.
+fn has_other(entries: &[Entry<'_>], place: usize) -> bool
+    ensures { result ≡ list_any (λ e. not (nat_eq e.place place)) entries.now }
+{
+    entries.iter().any(|entry| entry.place() != place)
 }
 
 // Adds a place to the group with a number, which may be the next one.

@@ -1,32 +1,35 @@
-use Rattle.std.proofs.Common.{inl, inr, arith, nat_lt, subst}
-use Rattle.std.proofs.lemmas.Bool.{cases_Bool, ltb-true, ltb-false}
-use Rattle.cargo_lock_graph.specs.Targets.{MatchesAt}
-use Rattle.cargo_lock_check.proofs.Grouping.{below-or-here, rank-positive, rank-small}
+use Rattle.std.proofs.Common.{◌∙◌, List, sym}
+use Rattle.cargo_lock_index.specs.Near.{Placed}
+use Rattle.cargo_lock_parts.specs.Identity.{PackageData}
+use Rattle.cargo_lock_check.proofs.Neighbours.{none-alike, only-match, only-miss, two-found}
 use Rattle.cargo_lock_check.proofs.flaws.groups.Groups.best.Goals as goal
 
-pub loop-rank-init : goal.loop-rank-init
-loop-rank-init c = λ k other low f. let high = rank-positive c.args.self.now.packages
-    c.args.dependency.now k other f in omega (arith, low, high)
+pub returns-in_err-place : goal.returns-in_err-place
+returns-in_err-place c =
+    let packages : List PackageData = c.args.self.now.packages in
+    let entries : List Placed = c.alike-alike.result.now in
+    rw c.from_residual.ensures
+    (none-alike packages c.args.dependency.now entries c.alike-alike.ensures
+    (sym c.in_err-place.ensures))
 
-pub returns-in-Some : goal.returns-in-Some
-returns-in-Some c = record {
-  some = c.in-Some.ensures.0;
-  least = λ k other f. elim (cases_Bool (nat_lt other c.loop-rank.rank)) [
-    | inl less ↦ absurd (c.loop-rank.invariant k other (ltb-true other c.loop-rank.rank less) f)
-    | inr more ↦ ltb-false other c.loop-rank.rank more
-  ];
-  all = c.in-Some.ensures.1;
-}
+pub best_group-requires : goal.best_group-requires
+best_group-requires c =
+    let packages : List PackageData = c.args.self.now.packages in
+    let entries : List Placed = c.alike-alike.result.now in
+    two-found packages c.args.dependency.now entries c.in_ok-place.place c.alike-alike.ensures
+    (sym c.in_ok-place.ensures) (sym c.has_other.ensures ∙ c.if-has_other.true)
 
-pub loop-rank-preserved : goal.loop-rank-preserved
-loop-rank-preserved c = λ k other low f. elim (below-or-here other c.loop-rank.rank low) [
-  | inl below ↦ c.loop-rank.invariant k other below f
-  | inr same ↦ c.in_default.ensures k (subst (λ n. MatchesAt c.args.self.now.packages
-      c.args.dependency.now k n) same f)
-]
+pub returns-then-fits : goal.returns-then-fits
+returns-then-fits c =
+    let packages : List PackageData = c.args.self.now.packages in
+    let entries : List Placed = c.alike-alike.result.now in
+    only-match packages c.args.dependency.now entries c.in_ok-place.place c.alike-alike.ensures
+    (sym c.in_ok-place.ensures) (sym c.has_other.ensures ∙ c.if-has_other.false)
+    (sym c.fits.ensures ∙ c.if-fits.true)
 
 pub returns : goal.returns
-returns c = λ k rank f.
-    let small = rank-small c.args.self.now.packages c.args.dependency.now k rank f in
-    let end = c.loop-rank-test.false in
-    c.loop-rank.invariant k rank (omega (arith, small, end)) f
+returns c =
+    let packages : List PackageData = c.args.self.now.packages in
+    let entries : List Placed = c.alike-alike.result.now in
+    only-miss packages c.args.dependency.now entries c.in_ok-place.place c.alike-alike.ensures
+    (sym c.has_other.ensures ∙ c.if-has_other.false) (sym c.fits.ensures ∙ c.if-fits.false)

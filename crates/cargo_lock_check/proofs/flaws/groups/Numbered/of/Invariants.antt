@@ -1,5 +1,5 @@
 use Rattle.cargo_lock_check.specs.Groups.{AreGroups}
-use Rattle.cargo_lock_check.proofs.flaws.groups.Groups.of.Given as goal
+use Rattle.cargo_lock_check.proofs.flaws.groups.Numbered.of.Given as goal
 
 -- the packages so far are in their groups
 abbrev pub invariant-loop-place : goal.invariant-loop-place
