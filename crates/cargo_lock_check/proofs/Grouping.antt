@@ -17,12 +17,12 @@ use Rattle.cargo_lock_graph.specs.Candidates.{identity_as_key}
 use Rattle.cargo_lock_graph.specs.Targets.{IsLost, MatchesAt}
 use Rattle.cargo_lock_graph.proofs.MadeChains.{slice_get-left, slice_get-seam}
 use Rattle.cargo_lock_check.specs.Group.{Group, group_cmp, group_for, group_of, group_total, has_precise}
-use Rattle.cargo_lock_check.specs.Groups.{AreGroups, Grouping, HasAdded, HasGrouped, HasMatches, HasPut, HasTwoAlike, IsBest, IsGrouped, IsNumbered, IsPut, group_places, places_at, places_by, places_in, places_of}
+use Rattle.cargo_lock_check.specs.Groups.{AreGroups, AreShared, Grouping, HasAdded, HasGrouped, HasMatches, HasPut, IsBest, IsGrouped, IsNumbered, IsPut, group_places, places_at, places_by, places_in, places_of}
+use Rattle.cargo_lock_check.specs.Places.{IsMarked}
 use Rattle.cargo_lock_check.specs.declared.flaws.groups.BestMatch.{BestMatch}
 use Rattle.cargo_lock_check.specs.declared.flaws.groups.BestMatch.TheVariants.{Many, One}
 use Rattle.cargo_lock_check.specs.declared.flaws.groups.Numbered.{Numbered}
 use Rattle.cargo_lock_check.proofs.GroupMatch.{IsIn, in-group, rank-bounds}
-use Rattle.cargo_lock_check.proofs.Neighbours.{matches-alike, two-of}
 
 -- ---- one more package
 
@@ -113,13 +113,15 @@ below-or-here k n low = elim (cases_Bool (nat_lt k n)) [
   | inr miss ↦ let h = ltb-false k n miss in inr (omega (arith, h, low))
 ]
 
-pub groups-step : (packages : List PackageData) (place : ℕ) (p : PackageData) (old new : Numbered)
+pub groups-step : (packages : List PackageData) (only : List Bool) (place : ℕ) (p : PackageData)
+    (old new : Numbered)
     → slice_get packages place ≡ Some p
-    → HasGrouped old new p place → AreGroups packages place old → AreGroups packages (place + 1) new
-groups-step packages place p old new here more so_far = record {
+    → HasGrouped old new p place → AreGroups packages place only old
+    → AreGroups packages (place + 1) only new
+groups-step packages only place p old new here more so_far = record {
   numbered = more.numbered;
-  grouped = λ k q low at two. elim (below-or-here k place low) [
-    | inl below ↦ grouped-kept old new q k more.kept (so_far.grouped k q below at two)
+  grouped = λ k q low at bare. elim (below-or-here k place low) [
+    | inl below ↦ grouped-kept old new q k more.kept (so_far.grouped k q below at bare)
     | inr same ↦
         let is : p ≡ q = same_Some p q (sym here ∙ ap (slice_get packages) (sym same) ∙ at) in
         subst (λ n. IsGrouped new q n) (sym same) (subst
@@ -127,18 +129,14 @@ groups-step packages place p old new here more so_far = record {
   ];
 }
 
--- the package at a place is the only one of its name, version and URL
-pub groups-pass : (packages : List PackageData) (place : ℕ) (p : PackageData) (s : Numbered)
-    → slice_get packages place ≡ Some p → ¬ HasTwoAlike packages (identity_of p)
-    → AreGroups packages place s → AreGroups packages (place + 1) s
-groups-pass packages place p s here alone so_far = record {
+-- the package at a place has a mark
+pub groups-pass : (packages : List PackageData) (only : List Bool) (place : ℕ) (s : Numbered)
+    → IsMarked only place → AreGroups packages place only s → AreGroups packages (place + 1) only s
+groups-pass packages only place s marked so_far = record {
   numbered = so_far.numbered;
-  grouped = λ k q low at two. elim (below-or-here k place low) [
-    | inl below ↦ so_far.grouped k q below at two
-    | inr same ↦
-        let is : p ≡ q = same_Some p q (sym here ∙ ap (slice_get packages) (sym same) ∙ at) in
-        absurd (alone (subst (λ (r : PackageData). HasTwoAlike packages (identity_of r)) (sym is)
-        two))
+  grouped = λ k q low at bare. elim (below-or-here k place low) [
+    | inl below ↦ so_far.grouped k q below at bare
+    | inr same ↦ absurd (bare (subst (IsMarked only) (sym same) marked))
   ];
 }
 
@@ -286,46 +284,53 @@ places-of-map None = refl
 places-of-map (Some v) = refl
 
 -- packages, and the places of their groups
-abbrev pub grouping : List PackageData → Numbered → Grouping
-grouping packages s = record { packages = packages; places = map (λ v. v.items) s.places.items }
+abbrev pub grouping : List PackageData → List Bool → Numbered → Grouping
+grouping packages only s = record {
+  packages = packages;
+  only = only;
+  places = map (λ v. v.items) s.places.items;
+}
 
-in-places : (packages : List PackageData) (s : Numbered) (n k : ℕ)
-    → Contains (places_at s.places.items n) k → Contains (group_places (grouping packages s) n) k
-in-places packages s n k h =
+in-places : (packages : List PackageData) (only : List Bool) (s : Numbered) (n k : ℕ)
+    → Contains (places_at s.places.items n) k
+    → Contains (group_places (grouping packages only s) n) k
+in-places packages only s n k h =
     subst (λ (ks : List ℕ). Contains ks k)
     (sym (ap (λ o. unwrap_or o []) (slice_get-map (λ v. v.items) s.places.items n)
     ∙ places-of-map (slice_get s.places.items n))) h
 
-matched-in : (packages : List PackageData) (s : Numbered) (d : Identity) (rank : ℕ)
-    → AreGroups packages (length packages) s → HasTwoAlike packages d
+matched-in : (packages : List PackageData) (only : List Bool) (s : Numbered) (d : Identity)
+    (rank : ℕ) → AreGroups packages (length packages) only s
+    → AreShared (grouping packages only s) d
     → (k : ℕ) → MatchesAt packages d k rank → IsIn s (group_for rank d) k
-matched-in packages s d rank are two k f =
+matched-in packages only s d rank are shared k f =
     in-group s d f.0 k rank (are.grouped k f.0 (slice_get_within packages k f.0 f.1) f.1
-    (two-of packages d f.0 (matches-alike d f.0 rank f.2) two)) f.2
+    (shared k (f.0, f.1, f.2.named))) f.2
 
 -- a dependency without a group for the rank has no match with it
-pub group-none : (packages : List PackageData) (s : Numbered) (d : Identity) (rank : ℕ)
-    → AreGroups packages (length packages) s → HasTwoAlike packages d
-    → group_for rank d ≡ None
+pub group-none : (packages : List PackageData) (only : List Bool) (s : Numbered) (d : Identity)
+    (rank : ℕ) → AreGroups packages (length packages) only s
+    → AreShared (grouping packages only s) d → group_for rank d ≡ None
     → (k : ℕ) → ¬ MatchesAt packages d k rank
-group-none packages s d rank are two none k f = subst (λ o. IsIn s o k) none
-    (matched-in packages s d rank are two k f)
+group-none packages only s d rank are shared none k f = subst (λ o. IsIn s o k) none
+    (matched-in packages only s d rank are shared k f)
 
-pub group-found : (packages : List PackageData) (s : Numbered) (d : Identity) (rank : ℕ) (g : Group)
-    (o : Option ℕ) → AreGroups packages (length packages) s → HasTwoAlike packages d
+pub group-found : (packages : List PackageData) (only : List Bool) (s : Numbered) (d : Identity)
+    (rank : ℕ) (g : Group) (o : Option ℕ) → AreGroups packages (length packages) only s
+    → AreShared (grouping packages only s) d
     → group_for rank d ≡ Some g → o ≡ get group_cmp s.numbers g
     → MatchOption o ((k : ℕ) → ¬ MatchesAt packages d k rank)
-    (HasMatches (grouping packages s) d rank)
-group-found packages s d rank g o are two has is =
+    (HasMatches (grouping packages only s) d rank)
+group-found packages only s d rank g o are shared has is =
     go o (λ k f. subst (λ n. Contains (places_by s.places.items n) k) (sym is)
-    (subst (λ o. IsIn s o k) has (matched-in packages s d rank are two k f)))
+    (subst (λ o. IsIn s o k) has (matched-in packages only s d rank are shared k f)))
   where
     go : (o : Option ℕ) → ((k : ℕ) → MatchesAt packages d k rank
         → Contains (places_by s.places.items o) k)
         → MatchOption o ((k : ℕ) → ¬ MatchesAt packages d k rank)
-        (HasMatches (grouping packages s) d rank)
+        (HasMatches (grouping packages only s) d rank)
     go None all = λ k f. none-in k (all k f)
-    go (Some n) all = λ k f. in-places packages s n k (all k f)
+    go (Some n) all = λ k f. in-places packages only s n k (all k f)
 
 -- ---- the best rank
 

@@ -13,9 +13,9 @@ use Rattle.cargo_lock_parts.specs.Identity.{Identity, PackageData}
 use Rattle.cargo_lock_check.specs.declared.flaws.groups.BestGroup.{BestGroup}
 use Rattle.cargo_lock_check.specs.declared.flaws.reach.Search.{Search}
 use Rattle.cargo_lock_check.specs.Groups.{Grouping, IsBestGroup}
-use Rattle.cargo_lock_check.specs.Places.{IsPlaces}
+use Rattle.cargo_lock_check.specs.Places.{IsMarked, IsPlaces}
 use Rattle.cargo_lock_check.specs.Reach.{AsksFor, IsChain, IsOneOfBest, IsOrphan, IsReached, IsWorkspacePackage, IsStart, PackageLeadsTo}
-use Rattle.cargo_lock_check.specs.Search.{HasBegun, HasReached, IsMarked, IsSearch}
+use Rattle.cargo_lock_check.specs.Search.{HasBegun, HasReached, IsSearch}
 
 -- ---- marks
 

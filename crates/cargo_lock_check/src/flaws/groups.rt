@@ -1,34 +1,33 @@
 //! The packages that match a dependency best, found without a walk over the list.
 //!
-//! An index finds the packages of a dependency's name, version and URL. Most often there is one at
-//! most. If there are several, they are in groups, which find those that match without a look at
-//! each of them.
+//! An index finds the packages of a dependency's name and version. Most often there is one at most.
+//! If there are several, they are in groups, which find those that match without a look at each of
+//! them.
 
 ghost use Rattle.std.specs.Prelude.{◌≡◌, ◌≤◌, ℕ, cond, IfOk, MatchOption, OnOk, Some, length};
-ghost use Rattle.std.specs.Prelude.{nat_eq, not, option_copied, option_map, slice_get};
-ghost use Rattle.std.specs.Prelude.{unwrap_or};
+ghost use Rattle.std.specs.Prelude.{List, option_copied, slice_get, unwrap_or};
 ghost use Rattle.std.specs.Bool.{Decides};
 ghost use Rattle.std.specs.BTreeMap.{get, is_at};
-ghost use Rattle.std.specs.List.{list_any};
-ghost use Rattle.cargo_lock_parts.specs.Identity.{identity_of};
+ghost use Rattle.cargo_lock_parts.specs.Identity.{PackageData, identity_of};
 ghost use Rattle.cargo_lock_parts.specs.Rank as rank;
 ghost use Rattle.cargo_lock_parts.specs.Rank.{commit_of};
 ghost use Rattle.cargo_lock_parts.specs.Source.{kind_of};
 ghost use Rattle.cargo_lock_parts.specs.SourceKey.{git_reference_text, kind_number};
-ghost use Rattle.cargo_lock_index.specs.Alike.{AreAllAlike};
 ghost use Rattle.cargo_lock_index.specs.Near.{IsIndexOf};
-ghost use Rattle.cargo_lock_graph.specs.Candidates.{identity_as_key, keys_of};
+ghost use Rattle.cargo_lock_graph.specs.Candidates.{identity_as_key, versions_of};
 ghost use Rattle.cargo_lock_graph.specs.Targets as target;
 ghost use Rattle.cargo_lock_graph.specs.Targets.{IsLost, Matches, MatchesAt};
 ghost use Rattle.cargo_lock_check.specs.Group as spec;
 ghost use Rattle.cargo_lock_check.specs.Group.{group_cmp, group_of};
-ghost use Rattle.cargo_lock_check.specs.Groups.{AreGroups, HasAdded, HasGrouped, HasMatch};
-ghost use Rattle.cargo_lock_check.specs.Groups.{HasMatches, HasPut, HasTwoAlike, IsBest, IsBestGroup};
-ghost use Rattle.cargo_lock_check.specs.Groups.{IsNumbered, fits_source, group_places};
+ghost use Rattle.cargo_lock_check.specs.Groups.{AreGroups, AreOnly, AreShared, HasAdded};
+ghost use Rattle.cargo_lock_check.specs.Groups.{HasGrouped, HasMatch, HasMatches, HasPut, IsBest};
+ghost use Rattle.cargo_lock_check.specs.Groups.{IsBestGroup, IsNamedAt, IsNumbered, fits_source};
+ghost use Rattle.cargo_lock_check.specs.Groups.{group_places, is_only_one};
+ghost use Rattle.cargo_lock_check.specs.Places.{IsMarked};
 
 use crate::flaws::dependencies::identity;
-use crate::flaws::index::{package_key, places_of};
-use cargo_lock_index::places::{Entry, Places};
+use crate::flaws::index::{package_key, version_places};
+use cargo_lock_index::places::Places;
 use cargo_lock_parts::dependency::Dependency;
 use cargo_lock_parts::package::{GitReference, Package, PartialIdentity, SourceId, SourceKind};
 use std::alloc::{AllocError, Global};
@@ -36,13 +35,14 @@ use std::cmp::Ordering;
 use std::collections::BTreeMap;
 use std::marker::Model;
 
-/// The packages of a list, an index of their identities, and the groups of those packages that are
-/// not the only one of their name, version and URL. There is a group for each rank of a match, with
-/// the packages that can match a dependency with it.
+/// The packages of a list, an index of their names and versions, whether each is the only one of its
+/// name and version, and the groups of those that are not. There is a group for each rank of a
+/// match, with the packages that can match a dependency with it.
 #[derive(Drop)]
 pub(crate) struct Groups<'a> {
     packages: &'a [Package],
     places: Places<'a>,
+    only: Vec<bool>,
     numbered: Numbered<'a>,
 }
 
@@ -54,10 +54,11 @@ impl<'a> Model for Groups<'a> {
 
     ghost view = { λ g. record {
       packages = g.packages.now;
+      only = g.only.items;
       places = map (λ places. places.items) g.numbered.places.items;
     } };
 
-    ghost invariant = { λ g. AreIndexed g.packages.now g.places g.numbered };
+    ghost invariant = { λ g. AreIndexed g.packages.now g.places g.only.items g.numbered };
 }
 
 /// The packages that match a dependency best.
@@ -175,11 +176,13 @@ impl<'a> Groups<'a> {
     pub(crate) fn of(alloc: Global, packages: &'a [Package]) -> Result<Groups<'a>, AllocError>
         ensures { IfOk result (λ groups. groups.packages ≡ packages.now) }
     {
-        let places = places_of(alloc, packages)?;
-        let numbered = Numbered::of(alloc, packages, &places)?;
+        let places = version_places(alloc, packages)?;
+        let only = only_ones(alloc, packages, &places)?;
+        let numbered = Numbered::of(alloc, packages, &only)?;
         Ok(Groups {
             packages,
             places,
+            only,
             numbered,
         })
     }
@@ -197,9 +200,8 @@ impl<'a> Groups<'a> {
             (IsLost self.now.packages dependency.now)
             (IsBest self.now dependency.now) }
     {
-        let alike = self.alike(dependency);
-        let place = first_place(alike)?;
-        if has_other(alike, place) {
+        let place = self.first_named(dependency)?;
+        if !is_marked(&self.only, place) {
             let best = self.best_group(dependency)?;
             return Some(BestMatch::Many(best));
         }
@@ -209,12 +211,15 @@ impl<'a> Groups<'a> {
         None
     }
 
-    // The entries of the packages with the name, the version and the URL of a dependency.
-    fn alike(&self, dependency: &'a Dependency) -> &[Entry<'a>]
-        ensures { AreAllAlike (identity_as_key dependency.now) (keys_of self.now.packages)
-            result.now }
+    // The first package with the name and the version of a dependency.
+    fn first_named(&self, dependency: &'a Dependency) -> Option<usize>
+        ensures { MatchOption result
+            ((k : ℕ) → ¬ IsNamedAt self.now.packages dependency.now k)
+            (IsNamedAt self.now.packages dependency.now) }
     {
-        self.places.alike(identity(dependency))
+        let Dependency { name, version, .. } = dependency;
+        self.places
+            .first(PartialIdentity::name_and_version(name, version))
     }
 
     // Whether there is a package at a place, and its source matches that of a dependency.
@@ -229,7 +234,7 @@ impl<'a> Groups<'a> {
 
     // The group of the packages that match a dependency best. `None` if no package matches.
     fn best_group(&self, dependency: &'a Dependency) -> Option<BestGroup>
-        requires { HasTwoAlike self.now.packages dependency.now }
+        requires { AreShared self.now dependency.now }
         ensures { MatchOption result
             (IsLost self.now.packages dependency.now)
             (IsBestGroup self.now dependency.now) }
@@ -244,7 +249,7 @@ impl<'a> Groups<'a> {
 
     // The group of the packages that match a dependency with a rank. `None` if no package does.
     fn group_with_match(&self, rank: u8, dependency: &'a Dependency) -> Option<usize>
-        requires { HasTwoAlike self.now.packages dependency.now }
+        requires { AreShared self.now dependency.now }
         ensures { MatchOption result
             ((k : ℕ) → ¬ MatchesAt self.now.packages dependency.now k rank)
             (λ number. HasMatch self.now.packages dependency.now rank
@@ -261,7 +266,7 @@ impl<'a> Groups<'a> {
 
     // The group of the packages that can match a dependency with a rank. `None` if it is empty.
     fn group(&self, rank: u8, dependency: &'a Dependency) -> Option<usize>
-        requires { HasTwoAlike self.now.packages dependency.now }
+        requires { AreShared self.now dependency.now }
         ensures { MatchOption result
             ((k : ℕ) → ¬ MatchesAt self.now.packages dependency.now k rank)
             (HasMatches self.now dependency.now rank) }
@@ -295,21 +300,16 @@ impl<'a> Groups<'a> {
 }
 
 impl<'a> Numbered<'a> {
-    // The groups of those packages that are not the only one of their name, version and URL.
-    fn of(
-        alloc: Global,
-        packages: &'a [Package],
-        places: &Places<'a>,
-    ) -> Result<Numbered<'a>, AllocError>
-        requires { IsIndexOf (keys_of packages.now) places.now }
-        ensures { IfOk result (AreGroups packages.now (length packages.now)) }
+    // The groups of those packages that are not the only ones.
+    fn of(alloc: Global, packages: &'a [Package], only: &[bool]) -> Result<Numbered<'a>, AllocError>
+        ensures { IfOk result (AreGroups packages.now (length packages.now) only.now) }
     {
         let mut numbered = Numbered {
             numbers: BTreeMap::new(alloc),
             places: Vec::new(alloc),
         };
         for (place, package) in packages.iter().enumerate() {
-            if has_other(places.alike(package_key(package)), place) {
+            if !is_marked(only, place) {
                 numbered.put_package(alloc, place, package)?;
             }
         }
@@ -368,19 +368,38 @@ impl<'a> Numbered<'a> {
     }
 }
 
-// The place of the first of these entries, if there is one.
-fn first_place(entries: &[Entry<'_>]) -> Option<usize>
-    ensures { result ≡ option_map (λ e. e.place) (slice_get entries.now 0) }
+// For each package, whether it is the only one of its name and version.
+fn only_ones<'a>(
+    alloc: Global,
+    packages: &'a [Package],
+    places: &Places<'a>,
+) -> Result<Vec<bool>, AllocError>
+    requires { IsIndexOf (versions_of packages.now) places.now }
+    ensures { IfOk result (λ only. AreOnly packages.now only.items) }
 {
-    let entry = entries.first()?;
-    Some(entry.place())
+    let mut only = Vec::new(alloc);
+    for place in 0..packages.len() {
+        only.push(is_only(places, &packages[place]))?;
+    }
+    Ok(only)
 }
 
-// Whether one of these entries is of another place.
-fn has_other(entries: &[Entry<'_>], place: usize) -> bool
-    ensures { result ≡ list_any (λ e. not (nat_eq e.place place)) entries.now }
+// Whether exactly one of the packages of the index has the name and the version of this one.
+fn is_only<'a>(places: &Places<'a>, package: &'a Package) -> bool
+    ensures { (packages : List PackageData) → IsIndexOf (versions_of packages) places.now
+        → result ≡ is_only_one packages «package».now }
 {
-    entries.iter().any(|entry| entry.place() != place)
+    places.is_only(PartialIdentity::name_and_version(&package.name, &package.version))
+}
+
+// Whether the place has a mark.
+fn is_marked(marks: &[bool], place: usize) -> bool
+    ensures { Decides result (IsMarked marks.now place) }
+{
+    match marks.get(place) {
+        Some(mark) => *mark,
+        None => false,
+    }
 }
 
 // Adds a place to the group with a number, which may be the next one.

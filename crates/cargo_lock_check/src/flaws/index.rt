@@ -1,9 +1,9 @@
-//! An index of the packages of a list by their identities.
+//! Indexes of the packages of a list: by their identities, and by their names and versions.
 
 ghost use Rattle.std.specs.Prelude.{◌≡◌, IfOk};
 ghost use Rattle.cargo_lock_index.specs.Near.{IsIndexOf};
 ghost use Rattle.cargo_lock_parts.specs.Identity.{identity_of};
-ghost use Rattle.cargo_lock_graph.specs.Candidates.{identity_as_key, keys_of};
+ghost use Rattle.cargo_lock_graph.specs.Candidates.{identity_as_key, keys_of, versions_of};
 
 use cargo_lock_index::places::{Keys, Places};
 use cargo_lock_parts::package::{Package, PartialIdentity};
@@ -19,6 +19,21 @@ pub(crate) fn places_of<'a>(
     let mut keys = Keys::with_capacity(alloc, packages.len())?;
     for place in 0..packages.len() {
         keys.add(package_key(&packages[place]))?;
+    }
+    keys.into_places()
+}
+
+/// The places of the packages with each name and version. Fails when out of memory.
+pub(crate) fn version_places<'a>(
+    alloc: Global,
+    packages: &'a [Package],
+) -> Result<Places<'a>, AllocError>
+    ensures { IfOk result (λ places. IsIndexOf (versions_of packages.now) places) }
+{
+    let mut keys = Keys::with_capacity(alloc, packages.len())?;
+    for place in 0..packages.len() {
+        let package = &packages[place];
+        keys.add(PartialIdentity::name_and_version(&package.name, &package.version))?;
     }
     keys.into_places()
 }

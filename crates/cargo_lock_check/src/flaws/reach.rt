@@ -6,10 +6,10 @@ ghost use Rattle.std.specs.List.{Contains};
 ghost use Rattle.cargo_lock_parts.specs.Identity.{Identity};
 ghost use Rattle.cargo_lock_graph.specs.Targets.{MatchesAt};
 ghost use Rattle.cargo_lock_check.specs.Groups.{HasMatches, IsBest, group_places};
-ghost use Rattle.cargo_lock_check.specs.Places.{IsPlaces};
+ghost use Rattle.cargo_lock_check.specs.Places.{IsMarked, IsPlaces};
 ghost use Rattle.cargo_lock_check.specs.Reach.{AsksFor, IsOneOfBest, IsOrphan, IsReached, IsWorkspacePackage};
 ghost use Rattle.cargo_lock_check.specs.Search.{AreAsked, AreReached, HasBegun, HasReached};
-ghost use Rattle.cargo_lock_check.specs.Search.{IsMarked, IsSearch};
+ghost use Rattle.cargo_lock_check.specs.Search.{IsSearch};
 
 use crate::flaws::groups::{BestGroup, BestMatch, Groups};
 use cargo_lock_parts::dependency::Dependency;

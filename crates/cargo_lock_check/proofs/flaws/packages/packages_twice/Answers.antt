@@ -1,8 +1,7 @@
-use Rattle.std.proofs.Common.{◌∙◌, ◌≡◌, ◌↔◌, ◌+◌, ap, arith, length, refl, sym, take, IsSome}
+use Rattle.std.proofs.Common.{◌∙◌, ◌↔◌, ap, arith, length, refl, sym, take, IsSome}
 use Rattle.std.proofs.lemmas.Bool.{false≢true}
 use Rattle.cargo_lock_index.specs.Near.{last_place}
-use Rattle.cargo_lock_parts.specs.Identity.{identity_of}
-use Rattle.cargo_lock_graph.specs.Candidates.{identity_as_key, keys_of}
+use Rattle.cargo_lock_graph.specs.Candidates.{keys_of}
 use Rattle.cargo_lock_check.specs.Packages.{IsTwice}
 use Rattle.cargo_lock_check.proofs.Places.{places-end, places-pass, places-put}
 use Rattle.cargo_lock_check.proofs.SeenBefore.{twice-known}

@@ -1,13 +1,9 @@
-use Rattle.std.proofs.Common.{◌≡◌, ◌∙◌, ap, List, Some, length, refl, slice_get, subst, sym}
+use Rattle.std.proofs.Common.{◌≡◌, List, Some, length, refl, slice_get}
 use Rattle.std.proofs.lemmas.Option.{slice_get_read}
-use Rattle.cargo_lock_index.specs.Alike.{AreAllAlike}
-use Rattle.cargo_lock_index.specs.Near.{Placed}
-use Rattle.cargo_lock_parts.specs.Identity.{PackageData, identity_of}
-use Rattle.cargo_lock_graph.specs.Candidates.{identity_as_key, keys_of}
+use Rattle.cargo_lock_parts.specs.Identity.{PackageData}
 use Rattle.cargo_lock_check.proofs.Grouping.{groups-pass, groups-step}
-use Rattle.cargo_lock_check.proofs.Neighbours.{only-one}
 use Rattle.cargo_lock_check.proofs.flaws.groups.Numbered.of.Goals as goal
-use Rattle.cargo_lock_check.proofs.flaws.groups.Numbered.of.Goals.{then-has_other+in_ok-put_package, else-has_other}
+use Rattle.cargo_lock_check.proofs.flaws.groups.Numbered.of.Goals.{then-not-is_marked+in_ok-put_package, else-not-is_marked}
 
 pub loop-place-preserved : goal.loop-place-preserved
 loop-place-preserved c =
@@ -16,16 +12,11 @@ loop-place-preserved c =
     let place = c.loop-place.place in
     let here : slice_get packages place ≡ Some p = slice_get_read packages (length packages) place p
     refl c.loop-place-test.true c.index-packages-place.is in
-    let entries : List Placed = c.alike.result.now in
-    let alike : AreAllAlike (identity_as_key (identity_of p)) (keys_of packages) entries =
-    subst (λ k. AreAllAlike k (keys_of packages) entries) c.package_key.ensures
-    (c.alike.ensures (keys_of packages) c.requires) in
-    elim c.if-has_other.branch [
-      | then-has_other+in_ok-put_package w ↦ rw w.numbered-is
-          (groups-step packages place p c.loop-place.numbered w.put_package.new.self here
-          w.in_ok-put_package.ensures c.loop-place.invariant)
-      | else-has_other w ↦ rw w.numbered-is
-          (groups-pass packages place p c.loop-place.numbered here
-          (only-one packages (identity_of p) entries place alike
-          (sym c.has_other.ensures ∙ w.if-has_other.false)) c.loop-place.invariant)
+    elim c.if-not-is_marked.branch [
+      | then-not-is_marked+in_ok-put_package w ↦ rw w.numbered-is
+          (groups-step packages c.args.only.now place p c.loop-place.numbered w.put_package.new.self
+          here w.in_ok-put_package.ensures c.loop-place.invariant)
+      | else-not-is_marked w ↦ rw w.numbered-is
+          (groups-pass packages c.args.only.now place c.loop-place.numbered
+          (c.is_marked.ensures.0 w.if-not-is_marked.false) c.loop-place.invariant)
     ]
