@@ -4,7 +4,8 @@ use Rattle.std.specs.List.{Contains}
 use Rattle.std.proofs.lemmas.List.{take_all}
 use Rattle.cargo_lock_check.specs.declared.flaws.reach.Search.{Search}
 use Rattle.cargo_lock_check.specs.Groups.{Grouping, group_places}
-use Rattle.cargo_lock_check.specs.Search.{AreAsked, AreReached, HasReached, IsMarked}
+use Rattle.cargo_lock_check.specs.Search.{AreAsked, AreReached, HasReached}
+use Rattle.cargo_lock_check.specs.Places.{IsMarked}
 use Rattle.cargo_lock_check.proofs.Searching.{taken-cases}
 
 -- no group was asked for

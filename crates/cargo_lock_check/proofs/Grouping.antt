@@ -17,8 +17,10 @@ use Rattle.cargo_lock_graph.specs.Candidates.{identity_as_key}
 use Rattle.cargo_lock_graph.specs.Targets.{IsLost, MatchesAt}
 use Rattle.cargo_lock_graph.proofs.MadeChains.{slice_get-left, slice_get-seam}
 use Rattle.cargo_lock_check.specs.Group.{Group, group_cmp, group_for, group_of, group_total, has_precise}
-use Rattle.cargo_lock_check.specs.Groups.{AreGroups, Grouping, HasAdded, HasGrouped, HasMatches, HasPut, IsBestGroup, IsGrouped, IsNumbered, IsPut, group_places, places_at, places_by, places_in, places_of}
-use Rattle.cargo_lock_check.specs.declared.flaws.groups.BestGroup.{BestGroup}
+use Rattle.cargo_lock_check.specs.Groups.{AreGroups, AreShared, Grouping, HasAdded, HasGrouped, HasMatches, HasPut, IsBest, IsGrouped, IsNumbered, IsPut, group_places, places_at, places_by, places_in, places_of}
+use Rattle.cargo_lock_check.specs.Places.{IsMarked}
+use Rattle.cargo_lock_check.specs.declared.flaws.groups.BestMatch.{BestMatch}
+use Rattle.cargo_lock_check.specs.declared.flaws.groups.BestMatch.TheVariants.{Many, One}
 use Rattle.cargo_lock_check.specs.declared.flaws.groups.Numbered.{Numbered}
 use Rattle.cargo_lock_check.proofs.GroupMatch.{IsIn, in-group, rank-bounds}
 
@@ -111,17 +113,30 @@ below-or-here k n low = elim (cases_Bool (nat_lt k n)) [
   | inr miss ↦ let h = ltb-false k n miss in inr (omega (arith, h, low))
 ]
 
-pub groups-step : (packages : List PackageData) (place : ℕ) (p : PackageData) (old new : Numbered)
+pub groups-step : (packages : List PackageData) (only : List Bool) (place : ℕ) (p : PackageData)
+    (old new : Numbered)
     → slice_get packages place ≡ Some p
-    → HasGrouped old new p place → AreGroups packages place old → AreGroups packages (place + 1) new
-groups-step packages place p old new here more so_far = record {
+    → HasGrouped old new p place → AreGroups packages place only old
+    → AreGroups packages (place + 1) only new
+groups-step packages only place p old new here more so_far = record {
   numbered = more.numbered;
-  grouped = λ k q low at. elim (below-or-here k place low) [
-    | inl below ↦ grouped-kept old new q k more.kept (so_far.grouped k q below at)
+  grouped = λ k q low at bare. elim (below-or-here k place low) [
+    | inl below ↦ grouped-kept old new q k more.kept (so_far.grouped k q below at bare)
     | inr same ↦
         let is : p ≡ q = same_Some p q (sym here ∙ ap (slice_get packages) (sym same) ∙ at) in
         subst (λ n. IsGrouped new q n) (sym same) (subst
         (λ (r : PackageData). IsGrouped new r place) is more.grouped)
+  ];
+}
+
+-- the package at a place has a mark
+pub groups-pass : (packages : List PackageData) (only : List Bool) (place : ℕ) (s : Numbered)
+    → IsMarked only place → AreGroups packages place only s → AreGroups packages (place + 1) only s
+groups-pass packages only place s marked so_far = record {
+  numbered = so_far.numbered;
+  grouped = λ k q low at bare. elim (below-or-here k place low) [
+    | inl below ↦ so_far.grouped k q below at bare
+    | inr same ↦ absurd (bare (subst (IsMarked only) (sym same) marked))
   ];
 }
 
@@ -269,44 +284,53 @@ places-of-map None = refl
 places-of-map (Some v) = refl
 
 -- packages, and the places of their groups
-abbrev pub grouping : List PackageData → Numbered → Grouping
-grouping packages s = record { packages = packages; places = map (λ v. v.items) s.places.items }
+abbrev pub grouping : List PackageData → List Bool → Numbered → Grouping
+grouping packages only s = record {
+  packages = packages;
+  only = only;
+  places = map (λ v. v.items) s.places.items;
+}
 
-in-places : (packages : List PackageData) (s : Numbered) (n k : ℕ)
-    → Contains (places_at s.places.items n) k → Contains (group_places (grouping packages s) n) k
-in-places packages s n k h =
+in-places : (packages : List PackageData) (only : List Bool) (s : Numbered) (n k : ℕ)
+    → Contains (places_at s.places.items n) k
+    → Contains (group_places (grouping packages only s) n) k
+in-places packages only s n k h =
     subst (λ (ks : List ℕ). Contains ks k)
     (sym (ap (λ o. unwrap_or o []) (slice_get-map (λ v. v.items) s.places.items n)
     ∙ places-of-map (slice_get s.places.items n))) h
 
-matched-in : (packages : List PackageData) (s : Numbered) (d : Identity) (rank : ℕ)
-    → AreGroups packages (length packages) s
+matched-in : (packages : List PackageData) (only : List Bool) (s : Numbered) (d : Identity)
+    (rank : ℕ) → AreGroups packages (length packages) only s
+    → AreShared (grouping packages only s) d
     → (k : ℕ) → MatchesAt packages d k rank → IsIn s (group_for rank d) k
-matched-in packages s d rank are k f =
-    in-group s d f.0 k rank (are.grouped k f.0 (slice_get_within packages k f.0 f.1) f.1) f.2
+matched-in packages only s d rank are shared k f =
+    in-group s d f.0 k rank (are.grouped k f.0 (slice_get_within packages k f.0 f.1) f.1
+    (shared k (f.0, f.1, f.2.named))) f.2
 
 -- a dependency without a group for the rank has no match with it
-pub group-none : (packages : List PackageData) (s : Numbered) (d : Identity) (rank : ℕ)
-    → AreGroups packages (length packages) s → group_for rank d ≡ None
+pub group-none : (packages : List PackageData) (only : List Bool) (s : Numbered) (d : Identity)
+    (rank : ℕ) → AreGroups packages (length packages) only s
+    → AreShared (grouping packages only s) d → group_for rank d ≡ None
     → (k : ℕ) → ¬ MatchesAt packages d k rank
-group-none packages s d rank are none k f = subst (λ o. IsIn s o k) none
-    (matched-in packages s d rank are k f)
+group-none packages only s d rank are shared none k f = subst (λ o. IsIn s o k) none
+    (matched-in packages only s d rank are shared k f)
 
-pub group-found : (packages : List PackageData) (s : Numbered) (d : Identity) (rank : ℕ) (g : Group)
-    (o : Option ℕ) → AreGroups packages (length packages) s
+pub group-found : (packages : List PackageData) (only : List Bool) (s : Numbered) (d : Identity)
+    (rank : ℕ) (g : Group) (o : Option ℕ) → AreGroups packages (length packages) only s
+    → AreShared (grouping packages only s) d
     → group_for rank d ≡ Some g → o ≡ get group_cmp s.numbers g
     → MatchOption o ((k : ℕ) → ¬ MatchesAt packages d k rank)
-    (HasMatches (grouping packages s) d rank)
-group-found packages s d rank g o are has is =
+    (HasMatches (grouping packages only s) d rank)
+group-found packages only s d rank g o are shared has is =
     go o (λ k f. subst (λ n. Contains (places_by s.places.items n) k) (sym is)
-    (subst (λ o. IsIn s o k) has (matched-in packages s d rank are k f)))
+    (subst (λ o. IsIn s o k) has (matched-in packages only s d rank are shared k f)))
   where
     go : (o : Option ℕ) → ((k : ℕ) → MatchesAt packages d k rank
         → Contains (places_by s.places.items o) k)
         → MatchOption o ((k : ℕ) → ¬ MatchesAt packages d k rank)
-        (HasMatches (grouping packages s) d rank)
+        (HasMatches (grouping packages only s) d rank)
     go None all = λ k f. none-in k (all k f)
-    go (Some n) all = λ k f. in-places packages s n k (all k f)
+    go (Some n) all = λ k f. in-places packages only s n k (all k f)
 
 -- ---- the best rank
 
@@ -318,15 +342,21 @@ pub rank-small : (packages : List PackageData) (d : Identity) (k rank : ℕ)
     → MatchesAt packages d k rank → rank < 5
 rank-small packages d k rank f = (rank-bounds d f.0 rank f.2).1
 
--- whether a dependency is lost, by its best group
-pub lost-from : (groups : Grouping) (d : Identity) (o : Option BestGroup) (b : Bool)
-    → is_some o ≡ not b → MatchOption o (IsLost groups.packages d) (IsBestGroup groups d)
+-- the best match is a match
+matched-by : (groups : Grouping) (d : Identity) (best : BestMatch) → IsBest groups d best
+    → ¬ IsLost groups.packages d
+matched-by groups d (One place) is lost = let one = (is place).1 refl in
+    lost place one.0 one.1.fits
+matched-by groups d (Many best) is lost = lost is.some.0 best.rank is.some.1
+
+-- whether a dependency is lost, by its best match
+pub lost-from : (groups : Grouping) (d : Identity) (o : Option BestMatch) (b : Bool)
+    → is_some o ≡ not b → MatchOption o (IsLost groups.packages d) (IsBest groups d)
     → Decides b (IsLost groups.packages d)
 lost-from groups d None true e lost = (λ _. lost, λ _. refl)
 lost-from groups d None false e lost = absurd (false≢true e)
 lost-from groups d (Some best) true e is = absurd (false≢true (sym e))
 lost-from groups d (Some best) false e is = (
   λ h. absurd (false≢true h),
-  λ lost. absurd
-      (lost is.some.0 best.rank is.some.1),
+  λ lost. absurd (matched-by groups d best is lost),
 )

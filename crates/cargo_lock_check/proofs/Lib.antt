@@ -6,12 +6,14 @@ pub mod SeenBefore
 pub mod DependencyPlaces
 pub mod DependencySeen
 pub mod GroupMatch
+pub mod OnlyOnes
 pub mod Grouping
 pub mod Searching
 pub mod Asking
 pub mod StaleKeys
 pub mod Lines
 pub mod Carets
+pub mod OwnChecksums
 pub mod Told
 pub mod Sound
 pub mod OneLine

@@ -13,9 +13,9 @@ use Rattle.cargo_lock_parts.specs.Identity.{Identity, PackageData}
 use Rattle.cargo_lock_check.specs.declared.flaws.groups.BestGroup.{BestGroup}
 use Rattle.cargo_lock_check.specs.declared.flaws.reach.Search.{Search}
 use Rattle.cargo_lock_check.specs.Groups.{Grouping, IsBestGroup}
-use Rattle.cargo_lock_check.specs.Places.{IsPlaces}
+use Rattle.cargo_lock_check.specs.Places.{IsMarked, IsPlaces}
 use Rattle.cargo_lock_check.specs.Reach.{AsksFor, IsChain, IsOneOfBest, IsOrphan, IsReached, IsWorkspacePackage, IsStart, PackageLeadsTo}
-use Rattle.cargo_lock_check.specs.Search.{HasBegun, HasReached, IsMarked, IsSearch}
+use Rattle.cargo_lock_check.specs.Search.{HasBegun, HasReached, IsSearch}
 
 -- ---- marks
 
@@ -246,6 +246,20 @@ best-of groups d best a b is f =
     let above = is.least k h.0 h.1.fits in
     subst (λ n. MatchesAt groups.packages d k n) (omega (arith, below, above)) h.1.fits)
     f
+
+-- one package alone matches best
+pub one-reached : (packages : List PackageData) (d : Identity) (place : ℕ) (a b : Search)
+    → ((k : ℕ) → IsOneOfBest packages d k ↔ (k ≡ place))
+    → HasReached (λ k. k ≡ place) a b → HasReached (IsOneOfBest packages d) a b
+one-reached packages d place a b is f =
+    reached-alike (λ k. k ≡ place) (IsOneOfBest packages d) a b
+    (λ k h. (is k).1 h) (λ k h. (is k).0 h) f
+
+pub one-within : (packages : List PackageData) (d : Identity) (place : ℕ)
+    → ((k : ℕ) → IsOneOfBest packages d k ↔ (k ≡ place)) → place < length packages
+one-within packages d place is =
+    let fits = ((is place).1 refl).1.fits in
+    slice_get_within packages place fits.0 fits.1
 
 -- no package matches
 pub best-none : (packages : List PackageData) (d : Identity) (s : Search) → IsLost packages d

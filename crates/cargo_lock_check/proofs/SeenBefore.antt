@@ -1,17 +1,18 @@
 -- What is known of the packages that were seen, one package after another.
-use Rattle.std.proofs.Common.{◌≡◌, ◌<◌, ◌+◌, ◌⊎◌, ◌↔◌, inl, inr, ℕ, Bool, true, false, not, ◌&&◌, if◌then◌else◌, IsTrue, IsSome, List, length, get_or, slice_get, Option, Some, None, option_map, refl, sym, ap, subst, ◌∙◌, arith}
+use Rattle.std.proofs.Common.{◌≡◌, ◌<◌, ◌+◌, ◌⊎◌, ◌↔◌, inl, inr, ℕ, Bool, true, false, not, ◌&&◌, if◌then◌else◌, IsTrue, IsSome, ◌≤◌, suc, zero, List, [], ◌∷◌, length, get_or, take, slice_get, Option, Some, None, option_map, refl, sym, ap, subst, ◌∙◌, arith}
 use Rattle.std.specs.Borrow.{Bor}
 use Rattle.std.specs.BTreeSet.{BTreeSet}
-use Rattle.std.specs.BTreeMap.{BTreeMap, get}
 use Rattle.std.proofs.lemmas.Bool.{cases_eq, false≢true}
+use Rattle.std.proofs.lemmas.List.{length-take, take-map}
 use Rattle.std.proofs.lemmas.Option.{slice_get_read, slice_get_within, same_Some}
 use Rattle.cargo_lock_parts.specs.Identity.{Identity, PackageData, identity_of}
-use Rattle.cargo_lock_parts.specs.PartialIdentity.{PartialIdentity, partial_identity_cmp}
 use Rattle.cargo_lock_parts.specs.Source.{Source, is_remote_registry}
 use Rattle.cargo_lock_parts.specs.SourceKey.{is_same_source, key_of}
 use Rattle.cargo_lock_parts.specs.SourceLaws.{is_same_source-Decides}
-use Rattle.cargo_lock_graph.specs.Candidates.{AreLastPlaces, identity_as_key}
+use Rattle.cargo_lock_index.specs.Near.{last_place}
+use Rattle.cargo_lock_graph.specs.Candidates.{identity_as_key, keys_of}
 use Rattle.cargo_lock_graph.specs.Targets.{HasIdentity, HoldsOf, IsLastBelow}
+use Rattle.cargo_lock_graph.proofs.BestAlike.{last-like}
 use Rattle.cargo_lock_check.specs.Packages.{HasChecksumFrom, IsFirstUnchecked, IsOwnFrom, IsTwice, IsUnchecked, IsWithoutChecksum, LacksChecksum, own_source}
 use Rattle.cargo_lock_check.specs.Seen.{AreChecked, AreOwn, LacksChecksumAmong, has_source, is_new}
 
@@ -22,15 +23,42 @@ holds-here P packages place p at h = subst P (same_Some h.0 p (sym h.1 ∙ at)) 
 
 -- ---- twice
 
--- an earlier place is known exactly where the package stands twice
-pub twice-known : (packages : List PackageData) (places : BTreeMap PartialIdentity ℕ) (place : ℕ) (p : PackageData) (before : Option ℕ)
-    → AreLastPlaces packages place places → place < length packages → p ≡ get_or packages place p
-    → before ≡ get partial_identity_cmp places (identity_as_key (identity_of p))
+get-taken : (packages : List PackageData) (n k : ℕ) → k < n
+    → slice_get (take n packages) k ≡ slice_get packages k
+get-taken packages zero k low = absurd (omega (arith, low))
+get-taken [] (suc n) k low = refl
+get-taken (p ∷ packages) (suc n) zero low = refl
+get-taken (p ∷ packages) (suc n) (suc k) low = get-taken packages n k (omega (arith, low))
+
+-- the last of the packages before a place
+taken-below : (P : PackageData → Type 0) (packages : List PackageData) (n : ℕ) (o : Option ℕ)
+    → n ≤ length packages
+    → IsLastBelow (HoldsOf P (take n packages)) (length (take n packages)) o
+    → IsLastBelow (HoldsOf P packages) n o
+taken-below P packages n None within h = λ k low found.
+    h k (omega (arith, low, within, length-take n packages))
+    (found.0, get-taken packages n k low ∙ found.1, found.2)
+taken-below P packages n (Some place) within h =
+    let below = h.0 in
+    let low : place < n = omega (arith, below, length-take n packages) in (
+      low,
+      (h.1.0, sym (get-taken packages n place low) ∙ h.1.1, h.1.2),
+      λ k after under found. h.2 k after (omega (arith, under, within, length-take n packages))
+          (found.0, get-taken packages n k under ∙ found.1, found.2),
+    )
+
+-- there is an earlier place exactly where the package stands twice
+pub twice-known : (packages : List PackageData) (place : ℕ) (p : PackageData) (before : Option ℕ)
+    → place < length packages → p ≡ get_or packages place p
+    → before ≡ last_place (identity_as_key (identity_of p)) (take place (keys_of packages))
     → IsSome before ↔ IsTwice packages place
-twice-known packages places place p before are low is known =
+twice-known packages place p before low is known =
     let at = slice_get_read packages (length packages) place p refl low is in
     let i : Identity = identity_of p in
-    go at before (subst (λ o. IsLastBelow (HoldsOf (HasIdentity i) packages) place o) (sym known) (are i))
+    let last = last-like (take place packages) i (identity_as_key i) before refl
+    (known ∙ ap (last_place (identity_as_key i))
+    (take-map (λ (q : PackageData). identity_as_key (identity_of q)) place packages)) in
+    go at before (taken-below (HasIdentity i) packages place before (omega (arith, low)) last)
   where
     go : slice_get packages place ≡ Some p → (o : Option ℕ) → IsLastBelow (HoldsOf (HasIdentity (identity_of p)) packages) place o → IsSome o ↔ IsTwice packages place
     go at None none = (

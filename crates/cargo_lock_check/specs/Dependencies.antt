@@ -1,9 +1,10 @@
 -- Dependencies of packages, by the place of the package and their own among its dependencies.
-use Rattle.std.specs.Prelude.{◌≡◌, ◌<◌, ◌⊎◌, ◌↔◌, ℕ, suc, List, Some, slice_get}
-use Rattle.std.specs.List.{AllPairs, Contains}
-use Rattle.std.specs.declared.cmp.Ordering.TheVariants.{Greater}
+use Rattle.std.specs.Prelude.{◌≡◌, ◌<◌, ◌⊎◌, ◌↔◌, ℕ, suc, List, Some, length, slice_get}
+use Rattle.std.specs.List.{AllAdjacentBelow, AllPairs, Contains}
+use Rattle.std.specs.declared.cmp.Ordering.TheVariants.{Greater, Less}
 use Rattle.cargo_lock_parts.specs.Identity.{Identity, PackageData, identity_key}
 use Rattle.cargo_lock_graph.specs.Targets.{HoldsOf}
+use Rattle.cargo_lock_parts.specs.IdentityOrder.{identity_cmp}
 use Rattle.cargo_lock_order.specs.Order.{dependency_order}
 
 -- P holds of the dependency at the place
@@ -54,3 +55,8 @@ IsListedBefore dependencies at = HoldsOfDependency
 -- the package at the place `place` lists the dependency at the place `at` a second time
 abbrev pub IsRepeatedAt : List PackageData → ℕ → ℕ → Type 0
 IsRepeatedAt = HoldsAt IsListedBefore
+
+-- each dependency is less than the next one, so none of them is listed twice
+abbrev pub DoAscend : List Identity → Type 0
+DoAscend dependencies =
+    AllAdjacentBelow (λ d next. identity_cmp d next ≡ Less) dependencies (length dependencies)

@@ -117,6 +117,13 @@ has_workspace l = is_bare_root l.root || list_any (λ p. is_none p.source) l.pac
 abbrev pub checked_packages : LockfileData → List PackageData
 checked_packages l = (with_cargo_checksums_in l).packages
 
+-- the checksums that Cargo reads are those of the packages: in V1 they are in the metadata
+abbrev pub has_own_checksums : ResolveVersion → Bool
+has_own_checksums V1 = false
+has_own_checksums V2 = true
+has_own_checksums V3 = true
+has_own_checksums V4 = true
+
 -- the source is written in the text, and this format loses its tag, branch or revision
 abbrev pub IsLostIn : ResolveVersion → List ℕ → List ℕ → Type 0
 IsLostIn V1 text source = IsLossyIn text source

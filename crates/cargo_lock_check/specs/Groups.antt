@@ -1,14 +1,21 @@
--- The groups in which packages are looked up, each by its number.
-use Rattle.std.specs.Prelude.{◌≡◌, ◌<◌, ◌≤◌, ℕ, true, false, List, [], length, slice_get, Option}
-use Rattle.std.specs.Prelude.{Some, None, IfSome, unwrap_or, Vec}
+-- The index and the groups in which packages are looked up. Groups have numbers. The only package of
+-- a name and a version need not be in one, since the index finds it.
+use Rattle.std.specs.Prelude.{◌≡◌, ◌<◌, ◌≤◌, ◌↔◌, ℕ, Bool, true, false, List, [], length}
+use Rattle.std.specs.Prelude.{slice_get, Option, Some, None, IfSome, is_some, unwrap_or, Vec}
 use Rattle.std.specs.BTreeMap.{get, is_at}
 use Rattle.std.specs.List.{Contains}
-use Rattle.cargo_lock_parts.specs.Identity.{Identity, PackageData, identity_of}
-use Rattle.cargo_lock_graph.specs.Candidates.{identity_as_key}
-use Rattle.cargo_lock_graph.specs.Targets.{MatchesAt}
+use Rattle.cargo_lock_index.specs.Near.{IsIndexOf, Placed, is_only}
+use Rattle.cargo_lock_parts.specs.Identity.{HasNameAndVersion, Identity, PackageData, identity_of}
+use Rattle.cargo_lock_parts.specs.PartialIdentity.{name_and_version}
+use Rattle.cargo_lock_graph.specs.Candidates.{identity_as_key, versions_of}
+use Rattle.cargo_lock_graph.specs.Targets.{HoldsOf, MatchesAt, rank_between}
 use Rattle.cargo_lock_check.specs.declared.flaws.groups.BestGroup.{BestGroup}
+use Rattle.cargo_lock_check.specs.declared.flaws.groups.BestMatch.{BestMatch}
+use Rattle.cargo_lock_check.specs.declared.flaws.groups.BestMatch.TheVariants.{Many, One}
 use Rattle.cargo_lock_check.specs.declared.flaws.groups.Numbered.{Numbered}
 use Rattle.cargo_lock_check.specs.Group.{Group, group_cmp, group_of, has_precise}
+use Rattle.cargo_lock_check.specs.Places.{IsMarked}
+use Rattle.cargo_lock_check.specs.Reach.{IsOneOfBest}
 
 -- ---- the places of the packages of each group
 
@@ -70,18 +77,52 @@ pub record HasGrouped (old new : Numbered) (p : PackageData) (place : ℕ) : Typ
   pub kept : (q : Group) (k : ℕ) → Contains (places_of old q) k → Contains (places_of new q) k
   pub grouped : IsGrouped new p place
 
--- each package below the bound is in each of its groups
-pub record AreGroups (packages : List PackageData) (bound : ℕ) (s : Numbered) : Type 0 where
+-- ---- packages that are the only ones of their names and versions
+
+-- the package at the place has the identity's name and version
+abbrev pub IsNamedAt : List PackageData → Identity → ℕ → Type 0
+IsNamedAt packages i place = HoldsOf (HasNameAndVersion i) packages place
+
+-- exactly one of the packages has the package's name and version
+abbrev pub is_only_one : List PackageData → PackageData → Bool
+is_only_one packages p = is_only (name_and_version p.name p.version) (versions_of packages)
+
+-- no package at another place has the identity's name and version
+abbrev pub IsOnlyPlace : List PackageData → Identity → ℕ → Type 0
+IsOnlyPlace packages i place = (k : ℕ) → IsNamedAt packages i k → k ≡ place
+
+-- where there is a mark, no package at another place has the package's name and version
+abbrev pub AreOnly : List PackageData → List Bool → Type 0
+AreOnly packages only = (place : ℕ) (p : PackageData) → slice_get packages place ≡ Some p
+    → IsMarked only place → IsOnlyPlace packages (identity_of p) place
+
+-- each package below the bound without a mark is in each of its groups
+pub record AreGroups (packages : List PackageData) (bound : ℕ) (only : List Bool)
+    (s : Numbered) : Type 0 where
   pub numbered : IsNumbered s
   pub grouped : (k : ℕ) (p : PackageData) → k < bound → slice_get packages k ≡ Some p
-      → IsGrouped s p k
+      → ¬ IsMarked only k → IsGrouped s p k
+
+-- the index has the names and versions of the packages, the marks are those of packages that are
+-- the only ones of theirs, and the other packages are in the groups
+pub record AreIndexed (packages : List PackageData) (entries : List Placed) (only : List Bool)
+    (s : Numbered) : Type 0 where
+  pub index : IsIndexOf (versions_of packages) entries
+  pub marks : AreOnly packages only
+  pub groups : AreGroups packages (length packages) only s
 
 -- ---- the best group
 
--- packages, and the places of those of each group
+-- packages, marks of those that are the only ones of their names and versions, and the places of
+-- those of each group
 pub record Grouping : Type 0 where
   pub packages : List PackageData
+  pub only : List Bool
   pub places : List (List ℕ)
+
+-- no package with the identity's name and version has a mark
+abbrev pub AreShared : Grouping → Identity → Type 0
+AreShared groups i = (k : ℕ) → IsNamedAt groups.packages i k → ¬ IsMarked groups.only k
 
 -- some package matches the dependency with the rank
 abbrev pub HasMatch : List PackageData → Identity → ℕ → Type 0
@@ -102,3 +143,15 @@ pub record IsBestGroup (groups : Grouping) (d : Identity) (best : BestGroup) : T
   pub some : HasMatch groups.packages d best.rank
   pub least : (k other : ℕ) → MatchesAt groups.packages d k other → best.rank ≤ other
   pub all : HasMatches groups d best.rank best.number
+
+-- ---- the best match
+
+-- there is a package, and its source matches that of the dependency
+abbrev pub fits_source : Identity → Option PackageData → Bool
+fits_source d None = false
+fits_source d (Some p) = is_some (rank_between d.source p.source)
+
+-- the packages that match the dependency best: the one at the place, or those of the group
+abbrev pub IsBest : Grouping → Identity → BestMatch → Type 0
+IsBest groups d (One place) = (k : ℕ) → IsOneOfBest groups.packages d k ↔ (k ≡ place)
+IsBest groups d (Many best) = IsBestGroup groups d best

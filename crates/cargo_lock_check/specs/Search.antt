@@ -1,15 +1,12 @@
 -- What the search for the packages that the workspace leads to has found so far.
-use Rattle.std.specs.Prelude.{◌≡◌, ◌+◌, ◌↔◌, ◌⊎◌, ℕ, Bool, true, List, Option, Some, length, slice_get}
+use Rattle.std.specs.Prelude.{◌≡◌, ◌+◌, ◌↔◌, ◌⊎◌, ℕ, Bool, List, Option, length}
 use Rattle.std.specs.List.{Contains}
 use Rattle.cargo_lock_parts.specs.Identity.{PackageData}
 use Rattle.cargo_lock_graph.specs.DrawingMade.{unmarked_count}
 use Rattle.cargo_lock_check.specs.declared.flaws.reach.Search.{Search}
 use Rattle.cargo_lock_check.specs.Groups.{Grouping, group_places}
+use Rattle.cargo_lock_check.specs.Places.{IsMarked}
 use Rattle.cargo_lock_check.specs.Reach.{IsReached, IsStart, PackageLeadsTo}
-
--- the place has a mark
-abbrev pub IsMarked : List Bool → ℕ → Type 0
-IsMarked marks place = slice_get marks place ≡ Some true
 
 -- The search has reached the places at which P holds. The places that it newly reached wait, and
 -- each place that waits now waited before or has a mark.

@@ -5,14 +5,14 @@ ghost use Rattle.cargo_lock_parts.specs.declared.error.Error.TheVariants.{Memory
 ghost use Rattle.cargo_lock_encoding.specs.Survives.{Survives};
 ghost use Rattle.cargo_lock.specs.CargoChecksums.{with_cargo_checksums_in};
 ghost use Rattle.cargo_lock_check.specs.Findings.{AreLossy, AreOrphans, IsAskedUnless, IsOtherLine, checked_packages};
+ghost use Rattle.cargo_lock_check.specs.Findings.{has_own_checksums};
 ghost use Rattle.cargo_lock_check.specs.Lost.{AreLost};
 ghost use Rattle.cargo_lock_check.specs.Packages.{IsUnchecked, IsWithoutChecksum};
 ghost use Rattle.cargo_lock_check.specs.Places.{IsPlaces};
 ghost use Rattle.cargo_lock_check.specs.Stale.{stale_keys};
 
-use crate::flaws::{
-    lost_dependencies, orphans, packages_without_checksum, stale_keys, unchecked_registries,
-};
+use crate::flaws::unmatched::Unmatched;
+use crate::flaws::{packages_without_checksum, stale_keys, unchecked_registries};
 use crate::text::OtherLine;
 use crate::written::other_line;
 use cargo_lock::Lockfile;
@@ -78,6 +78,16 @@ fn unchecked(
     unchecked_registries(alloc, &checked.packages)
 }
 
+// Whether the checksums that Cargo reads are those of the packages. In V1 they are in the metadata.
+fn has_own_checksums(version: ResolveVersion) -> bool
+    ensures { result ≡ has_own_checksums version }
+{
+    match version {
+        ResolveVersion::V1 => false,
+        ResolveVersion::V2 | ResolveVersion::V3 | ResolveVersion::V4 => true,
+    }
+}
+
 // The lockfile with the checksums that Cargo reads.
 fn checked_lockfile(alloc: Global, lockfile: &Lockfile) -> Result<Lockfile>
     ensures ok { IfOk result (λ checked. checked ≡ with_cargo_checksums_in lockfile.now) }
@@ -121,10 +131,47 @@ impl TextFindings {
             (IsOtherLine text.now lockfile.now f.asked.other_line) (f.asked.other_line ≡ None)) }
         ensures err { IsOkUnless result Memory }
     {
+        if has_own_checksums(lockfile.version) {
+            return TextFindings::of_checked(alloc, text, lockfile, lockfile);
+        }
         let checked = checked_lockfile(alloc, lockfile)?;
-        let checksums = ChecksumFindings::of(alloc, lockfile, &checked)?;
+        TextFindings::of_checked(alloc, text, lockfile, &checked)
+    }
+
+    // Those of a text and its lockfile, where `checked` is the lockfile with the checksums that
+    // Cargo reads.
+    fn of_checked(
+        alloc: Global,
+        text: &str,
+        lockfile: &Lockfile,
+        checked: &Lockfile,
+    ) -> Result<TextFindings>
+        requires { checked.now ≡ with_cargo_checksums_in lockfile.now }
+        ensures without_checksum { IfOk result
+            (λ f. IsPlaces (IsWithoutChecksum (checked_packages lockfile.now))
+            (length lockfile.now.packages) f.checksums.without_checksum.items) }
+        ensures unchecked { IfOk result
+            (λ f. IsPlaces (IsUnchecked (checked_packages lockfile.now))
+            (length lockfile.now.packages) f.checksums.unchecked.items) }
+        ensures stale { IfOk result (λ f. f.checksums.stale.items
+            ≡ stale_keys lockfile.now.metadata lockfile.now.packages) }
+        ensures lossy { IfOk result (λ f.
+            AreLossy lockfile.now.version text.now (map string_bytes f.lossy.items)) }
+        ensures lost_dependencies { IfOk result (λ f. IsAskedUnless (map string_bytes f.lossy.items)
+            (AreLost lockfile.now.packages f.asked.lost_dependencies.items)
+            (f.asked.lost_dependencies.items ≡ [])) }
+        ensures orphans { IfOk result (λ f. IsAskedUnless (map string_bytes f.lossy.items)
+            (AreOrphans lockfile.now f.asked.orphans.items) (f.asked.orphans.items ≡ [])) }
+        ensures is_kept { IfOk result (λ f. IsAskedUnless (map string_bytes f.lossy.items)
+            (IsTrue f.asked.is_kept ↔ Survives lockfile.now lockfile.now.version)
+            (f.asked.is_kept ≡ true)) }
+        ensures other_line { IfOk result (λ f. IsAskedUnless (map string_bytes f.lossy.items)
+            (IsOtherLine text.now lockfile.now f.asked.other_line) (f.asked.other_line ≡ None)) }
+        ensures err { IsOkUnless result Memory }
+    {
+        let checksums = ChecksumFindings::of(alloc, lockfile, checked)?;
         let lossy = lossy_sources(alloc, text, lockfile)?;
-        let asked = AskedFindings::unless(alloc, text, lockfile, &checked, &lossy)?;
+        let asked = AskedFindings::unless(alloc, text, lockfile, checked, &lossy)?;
         Ok(TextFindings {
             checksums,
             lossy,
@@ -208,17 +255,24 @@ impl AskedFindings {
     {
         let is_kept = lockfile.survives(alloc, lockfile.version)?;
         let other_line = other_line(alloc, text, lockfile, checked, is_kept)?;
+        let Unmatched {
+            lost_dependencies,
+            orphans,
+        } = unmatched_in(alloc, lockfile)?;
         Ok(AskedFindings {
-            lost_dependencies: lost_dependencies(alloc, &lockfile.packages)?,
-            orphans: orphans_of(alloc, lockfile)?,
+            lost_dependencies,
+            orphans,
             is_kept,
             other_line,
         })
     }
 }
 
-fn orphans_of(alloc: Global, lockfile: &Lockfile) -> std::result::Result<Vec<usize>, AllocError>
-    ensures { IfOk result (λ places. AreOrphans lockfile.now places.items) }
+// The dependencies without a package, and the packages that the workspace does not lead to.
+fn unmatched_in(alloc: Global, lockfile: &Lockfile) -> std::result::Result<Unmatched, AllocError>
+    ensures lost { IfOk result (λ found.
+        AreLost lockfile.now.packages found.lost_dependencies.items) }
+    ensures orphans { IfOk result (λ found. AreOrphans lockfile.now found.orphans.items) }
 {
-    orphans(alloc, &lockfile.packages, &lockfile.root)
+    Unmatched::of(alloc, &lockfile.packages, &lockfile.root)
 }

@@ -21,12 +21,14 @@
 pub mod alike;
 pub mod dependencies;
 mod groups;
+mod index;
 pub mod lost;
 pub mod names;
 pub mod packages;
 pub mod reach;
 pub mod sources;
 pub mod stale;
+pub(crate) mod unmatched;
 
 pub use crate::flaws::alike::packages_alike;
 pub use crate::flaws::dependencies::{misplaced_dependencies, repeated_dependencies};

@@ -2,8 +2,11 @@
 
 ghost use Rattle.std.specs.Prelude.{◌≡◌, ◌+◌, ◌<◌, IfOk, OnOk, length};
 ghost use Rattle.std.specs.Bool.{Decides};
+ghost use Rattle.std.specs.Ordering.{is_lt};
+ghost use Rattle.cargo_lock_parts.specs.IdentityOrder.{identity_cmp};
 ghost use Rattle.cargo_lock_graph.specs.Candidates.{identity_as_key};
-ghost use Rattle.cargo_lock_check.specs.Dependencies.{AreDependencies, AreDependenciesBefore, IsAfterNext, IsMisplacedAt, IsRepeatedAt};
+ghost use Rattle.cargo_lock_check.specs.Dependencies.{AreDependencies, AreDependenciesBefore, DoAscend};
+ghost use Rattle.cargo_lock_check.specs.Dependencies.{IsAfterNext, IsMisplacedAt, IsRepeatedAt};
 
 use cargo_lock_order::dependency_order;
 use cargo_lock_parts::dependency::Dependency;
@@ -106,6 +109,9 @@ fn put_repeated(
 {
     let package = &packages[place];
     let dependencies = package.dependencies.as_slice();
+    if ascend(dependencies) {
+        return Ok(());
+    }
     let mut last = BTreeMap::new(alloc);
     for (at, dependency) in dependencies.iter().enumerate() {
         let before = last.insert(identity(dependency), at)?;
@@ -114,6 +120,24 @@ fn put_repeated(
         }
     }
     Ok(())
+}
+
+// Whether each dependency is less than the next one, so that none is listed twice.
+fn ascend(dependencies: &[Dependency]) -> bool
+    ensures { Decides result (DoAscend dependencies.now) }
+{
+    for at in 1..dependencies.len() {
+        if !is_less(&dependencies[at - 1], &dependencies[at]) {
+            return false;
+        }
+    }
+    true
+}
+
+fn is_less(one: &Dependency, next: &Dependency) -> bool
+    ensures { result ≡ is_lt (identity_cmp one.now next.now) }
+{
+    one.cmp(next) == Ordering::Less
 }
 
 // The identity of a dependency, as a key.

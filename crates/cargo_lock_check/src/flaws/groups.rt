@@ -1,24 +1,33 @@
-//! The packages of a list in groups. The groups find the packages that match a dependency without a
-//! look at every package with its name and version.
+//! The packages that match a dependency best, found without a walk over the list.
+//!
+//! An index finds the packages of a dependency's name and version. Most often there is one at most.
+//! If there are several, they are in groups, which find those that match without a look at each of
+//! them.
 
 ghost use Rattle.std.specs.Prelude.{◌≡◌, ◌≤◌, ℕ, cond, IfOk, MatchOption, OnOk, Some, length};
-ghost use Rattle.std.specs.Prelude.{option_copied, unwrap_or};
+ghost use Rattle.std.specs.Prelude.{List, option_copied, slice_get, unwrap_or};
 ghost use Rattle.std.specs.Bool.{Decides};
 ghost use Rattle.std.specs.BTreeMap.{get, is_at};
-ghost use Rattle.cargo_lock_parts.specs.Identity.{identity_of};
+ghost use Rattle.cargo_lock_parts.specs.Identity.{PackageData, identity_of};
 ghost use Rattle.cargo_lock_parts.specs.Rank as rank;
 ghost use Rattle.cargo_lock_parts.specs.Rank.{commit_of};
 ghost use Rattle.cargo_lock_parts.specs.Source.{kind_of};
 ghost use Rattle.cargo_lock_parts.specs.SourceKey.{git_reference_text, kind_number};
-ghost use Rattle.cargo_lock_graph.specs.Candidates.{identity_as_key};
+ghost use Rattle.cargo_lock_index.specs.Near.{IsIndexOf};
+ghost use Rattle.cargo_lock_graph.specs.Candidates.{identity_as_key, versions_of};
 ghost use Rattle.cargo_lock_graph.specs.Targets as target;
 ghost use Rattle.cargo_lock_graph.specs.Targets.{IsLost, Matches, MatchesAt};
 ghost use Rattle.cargo_lock_check.specs.Group as spec;
 ghost use Rattle.cargo_lock_check.specs.Group.{group_cmp, group_of};
-ghost use Rattle.cargo_lock_check.specs.Groups.{HasAdded, HasGrouped, HasMatch, HasMatches, HasPut};
-ghost use Rattle.cargo_lock_check.specs.Groups.{IsBestGroup, IsNumbered, group_places};
+ghost use Rattle.cargo_lock_check.specs.Groups.{AreGroups, AreOnly, AreShared, HasAdded};
+ghost use Rattle.cargo_lock_check.specs.Groups.{HasGrouped, HasMatch, HasMatches, HasPut, IsBest};
+ghost use Rattle.cargo_lock_check.specs.Groups.{IsBestGroup, IsNamedAt, IsNumbered, fits_source};
+ghost use Rattle.cargo_lock_check.specs.Groups.{group_places, is_only_one};
+ghost use Rattle.cargo_lock_check.specs.Places.{IsMarked};
 
 use crate::flaws::dependencies::identity;
+use crate::flaws::index::{package_key, version_places};
+use cargo_lock_index::places::Places;
 use cargo_lock_parts::dependency::Dependency;
 use cargo_lock_parts::package::{GitReference, Package, PartialIdentity, SourceId, SourceKind};
 use std::alloc::{AllocError, Global};
@@ -26,27 +35,40 @@ use std::cmp::Ordering;
 use std::collections::BTreeMap;
 use std::marker::Model;
 
-/// The packages of a list in groups: for each rank of a match, those that can match a dependency
-/// with it. So the packages that match are found without a look at every package with the
-/// dependency's name and version.
+/// The packages of a list, an index of their names and versions, whether each is the only one of its
+/// name and version, and the groups of those that are not. There is a group for each rank of a
+/// match, with the packages that can match a dependency with it.
 #[derive(Drop)]
 pub(crate) struct Groups<'a> {
     packages: &'a [Package],
+    places: Places<'a>,
+    only: Vec<bool>,
     numbered: Numbered<'a>,
 }
 
 impl<'a> Model for Groups<'a> {
     ghost use Rattle.std.specs.Prelude.{length, map};
-    ghost use Rattle.cargo_lock_check.specs.Groups.{AreGroups, Grouping};
+    ghost use Rattle.cargo_lock_check.specs.Groups.{AreIndexed, Grouping};
 
     ghost Value = { Grouping };
 
     ghost view = { λ g. record {
       packages = g.packages.now;
+      only = g.only.items;
       places = map (λ places. places.items) g.numbered.places.items;
     } };
 
-    ghost invariant = { λ g. AreGroups g.packages.now (length g.packages.now) g.numbered };
+    ghost invariant = { λ g. AreIndexed g.packages.now g.places g.only.items g.numbered };
+}
+
+/// The packages that match a dependency best.
+#[derive(Clone, Copy)]
+pub(crate) enum BestMatch {
+    /// The package at this place alone.
+    One(usize),
+
+    /// Those of a group that match with its rank.
+    Many(BestGroup),
 }
 
 /// The group of the packages that match a dependency best, and the rank of the match.
@@ -154,14 +176,15 @@ impl<'a> Groups<'a> {
     pub(crate) fn of(alloc: Global, packages: &'a [Package]) -> Result<Groups<'a>, AllocError>
         ensures { IfOk result (λ groups. groups.packages ≡ packages.now) }
     {
-        let mut numbered = Numbered {
-            numbers: BTreeMap::new(alloc),
-            places: Vec::new(alloc),
-        };
-        for (place, package) in packages.iter().enumerate() {
-            numbered.put_package(alloc, place, package)?;
-        }
-        Ok(Groups { packages, numbered })
+        let places = version_places(alloc, packages)?;
+        let only = only_ones(alloc, packages, &places)?;
+        let numbered = Numbered::of(alloc, packages, &only)?;
+        Ok(Groups {
+            packages,
+            places,
+            only,
+            numbered,
+        })
     }
 
     /// How many groups there are.
@@ -171,8 +194,47 @@ impl<'a> Groups<'a> {
         self.numbered.places.len()
     }
 
-    /// The group of the packages that match a dependency best. `None` if no package matches.
-    pub(crate) fn best(&self, dependency: &'a Dependency) -> Option<BestGroup>
+    /// The packages that match a dependency best. `None` if no package matches.
+    pub(crate) fn best(&self, dependency: &'a Dependency) -> Option<BestMatch>
+        ensures { MatchOption result
+            (IsLost self.now.packages dependency.now)
+            (IsBest self.now dependency.now) }
+    {
+        let place = self.first_named(dependency)?;
+        if !is_marked(&self.only, place) {
+            let best = self.best_group(dependency)?;
+            return Some(BestMatch::Many(best));
+        }
+        if self.fits(dependency, place) {
+            return Some(BestMatch::One(place));
+        }
+        None
+    }
+
+    // The first package with the name and the version of a dependency.
+    fn first_named(&self, dependency: &'a Dependency) -> Option<usize>
+        ensures { MatchOption result
+            ((k : ℕ) → ¬ IsNamedAt self.now.packages dependency.now k)
+            (IsNamedAt self.now.packages dependency.now) }
+    {
+        let Dependency { name, version, .. } = dependency;
+        self.places
+            .first(PartialIdentity::name_and_version(name, version))
+    }
+
+    // Whether there is a package at a place, and its source matches that of a dependency.
+    fn fits(&self, dependency: &Dependency, place: usize) -> bool
+        ensures { result ≡ fits_source dependency.now (slice_get self.now.packages place) }
+    {
+        match self.packages.get(place) {
+            Some(package) => rank_between(&dependency.source, &package.source).is_some(),
+            None => false,
+        }
+    }
+
+    // The group of the packages that match a dependency best. `None` if no package matches.
+    fn best_group(&self, dependency: &'a Dependency) -> Option<BestGroup>
+        requires { AreShared self.now dependency.now }
         ensures { MatchOption result
             (IsLost self.now.packages dependency.now)
             (IsBestGroup self.now dependency.now) }
@@ -187,6 +249,7 @@ impl<'a> Groups<'a> {
 
     // The group of the packages that match a dependency with a rank. `None` if no package does.
     fn group_with_match(&self, rank: u8, dependency: &'a Dependency) -> Option<usize>
+        requires { AreShared self.now dependency.now }
         ensures { MatchOption result
             ((k : ℕ) → ¬ MatchesAt self.now.packages dependency.now k rank)
             (λ number. HasMatch self.now.packages dependency.now rank
@@ -203,6 +266,7 @@ impl<'a> Groups<'a> {
 
     // The group of the packages that can match a dependency with a rank. `None` if it is empty.
     fn group(&self, rank: u8, dependency: &'a Dependency) -> Option<usize>
+        requires { AreShared self.now dependency.now }
         ensures { MatchOption result
             ((k : ℕ) → ¬ MatchesAt self.now.packages dependency.now k rank)
             (HasMatches self.now dependency.now rank) }
@@ -236,6 +300,22 @@ impl<'a> Groups<'a> {
 }
 
 impl<'a> Numbered<'a> {
+    // The groups of those packages that are not the only ones.
+    fn of(alloc: Global, packages: &'a [Package], only: &[bool]) -> Result<Numbered<'a>, AllocError>
+        ensures { IfOk result (AreGroups packages.now (length packages.now) only.now) }
+    {
+        let mut numbered = Numbered {
+            numbers: BTreeMap::new(alloc),
+            places: Vec::new(alloc),
+        };
+        for (place, package) in packages.iter().enumerate() {
+            if !is_marked(only, place) {
+                numbered.put_package(alloc, place, package)?;
+            }
+        }
+        Ok(numbered)
+    }
+
     // Adds the package at a place to each of its groups.
     fn put_package(
         &mut self,
@@ -270,12 +350,7 @@ impl<'a> Numbered<'a> {
         ensures { OnOk result (HasPut self.old self.new
             (group_of rank is_open (identity_as_key (identity_of «package».now))) place) }
     {
-        let identity = PartialIdentity {
-            name: &package.name,
-            version: Some(&package.version),
-            source: package.source.as_ref(),
-        };
-        match group_of(rank, is_open, identity) {
+        match group_of(rank, is_open, package_key(package)) {
             Some(group) => self.put(alloc, group, place),
             None => Ok(()),
         }
@@ -290,6 +365,40 @@ impl<'a> Numbered<'a> {
         let number = number_of(&mut self.numbers, group, next)?;
         add(alloc, &mut self.places, number, place)?;
         Ok(())
+    }
+}
+
+// For each package, whether it is the only one of its name and version.
+fn only_ones<'a>(
+    alloc: Global,
+    packages: &'a [Package],
+    places: &Places<'a>,
+) -> Result<Vec<bool>, AllocError>
+    requires { IsIndexOf (versions_of packages.now) places.now }
+    ensures { IfOk result (λ only. AreOnly packages.now only.items) }
+{
+    let mut only = Vec::new(alloc);
+    for place in 0..packages.len() {
+        only.push(is_only(places, &packages[place]))?;
+    }
+    Ok(only)
+}
+
+// Whether exactly one of the packages of the index has the name and the version of this one.
+fn is_only<'a>(places: &Places<'a>, package: &'a Package) -> bool
+    ensures { (packages : List PackageData) → IsIndexOf (versions_of packages) places.now
+        → result ≡ is_only_one packages «package».now }
+{
+    places.is_only(PartialIdentity::name_and_version(&package.name, &package.version))
+}
+
+// Whether the place has a mark.
+fn is_marked(marks: &[bool], place: usize) -> bool
+    ensures { Decides result (IsMarked marks.now place) }
+{
+    match marks.get(place) {
+        Some(mark) => *mark,
+        None => false,
     }
 }
 

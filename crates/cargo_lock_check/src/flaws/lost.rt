@@ -31,8 +31,9 @@ pub fn lost_dependencies(
     Ok(lost)
 }
 
-// The dependencies of packages that none of the packages matches.
-fn lost_among<'a>(
+/// The dependencies of packages that none of the packages matches, by their groups. Fails when out of
+/// memory.
+pub(crate) fn lost_among<'a>(
     alloc: Global,
     packages: &'a [Package],
     groups: &Groups<'a>,

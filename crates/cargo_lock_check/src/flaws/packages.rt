@@ -1,19 +1,18 @@
 //! Places of packages that are wrong.
 
 ghost use Rattle.std.specs.Prelude.{◌≡◌, ◌↔◌, ◌<◌, if◌then◌else◌, true, IfOk, IsTrue, OnOk, length, option_copied};
-ghost use Rattle.cargo_lock_parts.specs.Identity.{identity_of};
-ghost use Rattle.cargo_lock_graph.specs.Candidates.{identity_as_key};
 ghost use Rattle.cargo_lock_check.specs.Packages.{IsMisplaced, IsTwice, IsUnchecked, IsWithoutChecksum, own_source};
 ghost use Rattle.cargo_lock_check.specs.Places.{IsPlaces};
 ghost use Rattle.cargo_lock_check.specs.Seen.{AreChecked, LacksChecksumAmong, has_source, is_new};
 ghost use Rattle.cargo_lock_parts.specs.Source.{Source};
 ghost use Rattle.cargo_lock_parts.specs.SourceKey.{is_same_source};
 
+use crate::flaws::index::{package_key, places_of};
 use cargo_lock_order::package_order;
-use cargo_lock_parts::package::{Package, PartialIdentity, SourceId};
+use cargo_lock_parts::package::{Package, SourceId};
 use std::alloc::{AllocError, Global};
 use std::cmp::Ordering;
-use std::collections::{BTreeMap, BTreeSet};
+use std::collections::BTreeSet;
 
 /// The places of packages for which an earlier one has the same name, version and source. So for
 /// equal packages the first place is not in the list, and all others are. Fails when out of memory.
@@ -27,26 +26,15 @@ pub fn packages_twice(alloc: Global, packages: &[Package]) -> Result<Vec<usize>,
     ensures { IfOk result
         (λ places. IsPlaces (IsTwice packages.now) (length packages.now) places.items) }
 {
-    let mut last = BTreeMap::new(alloc);
+    let index = places_of(alloc, packages)?;
     let mut places = Vec::new(alloc);
     for (place, package) in packages.iter().enumerate() {
-        let before = last.insert(identity(package), place)?;
+        let before = index.before(package_key(package), place);
         if before.is_some() {
             places.push(place)?;
         }
     }
     Ok(places)
-}
-
-// The identity of a package, as a key.
-fn identity<'a>(package: &'a Package) -> PartialIdentity<'a>
-    ensures { result ≡ identity_as_key (identity_of «package».now) }
-{
-    PartialIdentity {
-        name: &package.name,
-        version: Some(&package.version),
-        source: package.source.as_ref(),
-    }
 }
 
 /// The places of packages from a registry on the network that have no checksum and no replacement,

@@ -5,13 +5,13 @@ ghost use Rattle.std.specs.Prelude.{slice_get};
 ghost use Rattle.std.specs.List.{Contains};
 ghost use Rattle.cargo_lock_parts.specs.Identity.{Identity};
 ghost use Rattle.cargo_lock_graph.specs.Targets.{MatchesAt};
-ghost use Rattle.cargo_lock_check.specs.Groups.{HasMatches, group_places};
-ghost use Rattle.cargo_lock_check.specs.Places.{IsPlaces};
+ghost use Rattle.cargo_lock_check.specs.Groups.{HasMatches, IsBest, group_places};
+ghost use Rattle.cargo_lock_check.specs.Places.{IsMarked, IsPlaces};
 ghost use Rattle.cargo_lock_check.specs.Reach.{AsksFor, IsOneOfBest, IsOrphan, IsReached, IsWorkspacePackage};
 ghost use Rattle.cargo_lock_check.specs.Search.{AreAsked, AreReached, HasBegun, HasReached};
-ghost use Rattle.cargo_lock_check.specs.Search.{IsMarked, IsSearch};
+ghost use Rattle.cargo_lock_check.specs.Search.{IsSearch};
 
-use crate::flaws::groups::{BestGroup, Groups};
+use crate::flaws::groups::{BestGroup, BestMatch, Groups};
 use cargo_lock_parts::dependency::Dependency;
 use cargo_lock_parts::package::Package;
 use std::alloc::{AllocError, Global};
@@ -42,7 +42,24 @@ pub fn orphans(
     ensures { IfOk result (λ places.
         IsPlaces (IsOrphan packages.now root.now) (length packages.now) places.items) }
 {
-    let reached = reached(alloc, packages, root)?;
+    let groups = Groups::of(alloc, packages)?;
+    let orphans = orphans_among(alloc, &groups, packages, root)?;
+    Ok(orphans)
+}
+
+/// The places of the packages that neither a package without a source nor the root leads to, by the
+/// groups of the packages. Fails when out of memory.
+pub(crate) fn orphans_among<'a>(
+    alloc: Global,
+    groups: &Groups<'a>,
+    packages: &'a [Package],
+    root: &'a Option<Package>,
+) -> Result<Vec<usize>, AllocError>
+    requires { groups.now.packages ≡ packages.now }
+    ensures { IfOk result (λ places.
+        IsPlaces (IsOrphan packages.now root.now) (length packages.now) places.items) }
+{
+    let reached = reached(alloc, groups, packages, root)?;
     let orphans = unmarked(alloc, &reached)?;
     Ok(orphans)
 }
@@ -86,17 +103,18 @@ impl Asked {
 }
 
 // For each package, whether it is reached.
-fn reached(
+fn reached<'a>(
     alloc: Global,
-    packages: &[Package],
-    root: &Option<Package>,
+    groups: &Groups<'a>,
+    packages: &'a [Package],
+    root: &'a Option<Package>,
 ) -> Result<Vec<bool>, AllocError>
+    requires { groups.now.packages ≡ packages.now }
     ensures count { IfOk result (λ marks. length marks.items ≡ length packages.now) }
     ensures marks { IfOk result (λ marks.
         (k : ℕ) → IsMarked marks.items k ↔ IsReached packages.now root.now k) }
 {
-    let groups = Groups::of(alloc, packages)?;
-    let search = Search::of(alloc, &groups, packages, root)?;
+    let search = Search::of(alloc, groups, packages, root)?;
     let Search {
         reached,
         waiting: _,
@@ -218,7 +236,29 @@ impl Search {
         ensures asked { OnOk result (AreAsked groups.now self.new asked.new.groups.items) }
     {
         if let Some(best) = groups.best(dependency) {
-            self.ask_group(groups, asked, best, dependency)?;
+            self.ask_best(groups, asked, best, dependency)?;
+        }
+        Ok(())
+    }
+
+    // Reaches the packages that match a dependency best, which are these.
+    fn ask_best(
+        &mut self,
+        groups: &Groups<'_>,
+        asked: &mut Asked,
+        best: BestMatch,
+        dependency: &Dependency,
+    ) -> Result<(), AllocError>
+        requires count { length self.old.reached.items ≡ length groups.now.packages }
+        requires asked { AreAsked groups.now self.old asked.old.groups.items }
+        requires best { IsBest groups.now dependency.now best }
+        ensures reached { OnOk result
+            (HasReached (IsOneOfBest groups.now.packages dependency.now) self.old self.new) }
+        ensures asked { OnOk result (AreAsked groups.now self.new asked.new.groups.items) }
+    {
+        match best {
+            BestMatch::One(place) => self.reach(place)?,
+            BestMatch::Many(best) => self.ask_group(groups, asked, best, dependency)?,
         }
         Ok(())
     }

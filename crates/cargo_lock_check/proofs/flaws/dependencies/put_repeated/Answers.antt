@@ -5,12 +5,26 @@ use Rattle.std.proofs.lemmas.Option.{slice_get_read}
 use Rattle.std.specs.Prelude.{ℕ}
 use Rattle.cargo_lock_parts.specs.Identity.{Identity, PackageData}
 use Rattle.cargo_lock_parts.specs.PartialIdentity.{partial_identity_cmp}
-use Rattle.cargo_lock_check.specs.Dependencies.{HoldsOfDependency, IsListedBefore, IsRepeatedAt, IsSameDependency}
+use Rattle.cargo_lock_check.specs.Dependencies.{DoAscend, HoldsOfDependency, IsListedBefore, IsRepeatedAt, IsSameDependency}
 use Rattle.cargo_lock_check.specs.Seen.{AreLastDependencies}
-use Rattle.cargo_lock_check.proofs.DependencyPlaces.{next-package, pass, put, there}
-use Rattle.cargo_lock_check.proofs.DependencySeen.{last-more, listed-known}
+use Rattle.cargo_lock_check.proofs.DependencyPlaces.{next, next-package, pass, put, there}
+use Rattle.cargo_lock_check.proofs.DependencySeen.{last-more, listed-known, none-listed}
 use Rattle.cargo_lock_check.proofs.flaws.dependencies.put_repeated.Goals as goal
 use Rattle.cargo_lock_check.proofs.flaws.dependencies.put_repeated.Goals.{then-is_some+in_ok-push, else-is_some}
+
+pub returns-then-ascend : goal.returns-then-ascend
+returns-then-ascend c =
+    let packages : List PackageData = c.args.packages.now in
+    let p : PackageData = c.index-packages-place.result in
+    let here : slice_get packages c.args.place ≡ Some p = slice_get_read packages (length packages)
+    c.args.place p refl c.requires.within c.index-packages-place.is in
+    let ds : List Identity = c.as_slice-dependencies.result.now in
+    let whole : ds ≡ p.dependencies = c.as_slice-dependencies.ensures.value
+    ∙ ap (λ (q : PackageData). q.dependencies) c.«package».view_is in
+    let up : DoAscend p.dependencies = subst DoAscend whole (c.ascend.ensures.0 c.if-ascend.true) in
+    next (IsRepeatedAt packages) c.args.place 0 c.args.places.now.items
+    (λ j h. absurd (none-listed p.dependencies up j
+    ((there IsListedBefore packages c.args.place j p here).0 h))) c.requires.before
 
 pub loop-at-preserved : goal.loop-at-preserved
 loop-at-preserved c =

@@ -1,10 +1,6 @@
-use Rattle.cargo_lock_graph.specs.Candidates.{AreLastPlaces}
 use Rattle.cargo_lock_check.specs.Packages.{IsTwice}
 use Rattle.cargo_lock_check.specs.Places.{IsPlaces}
 use Rattle.cargo_lock_check.proofs.flaws.packages.packages_twice.Given as goal
 
 abbrev pub invariant-loop-place : goal.invariant-loop-place
-invariant-loop-place l = record {
-  last : AreLastPlaces l.packages l.place l.last;
-  told : IsPlaces (IsTwice l.packages) l.place l.places.items;
-}
+invariant-loop-place l = IsPlaces (IsTwice l.packages) l.place l.places.items

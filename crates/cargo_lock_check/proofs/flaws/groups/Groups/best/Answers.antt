@@ -1,32 +1,51 @@
-use Rattle.std.proofs.Common.{inl, inr, arith, nat_lt, subst}
-use Rattle.std.proofs.lemmas.Bool.{cases_Bool, ltb-true, ltb-false}
-use Rattle.cargo_lock_graph.specs.Targets.{MatchesAt}
-use Rattle.cargo_lock_check.proofs.Grouping.{below-or-here, rank-positive, rank-small}
+use Rattle.std.proofs.Common.{◌≡◌, ◌∙◌, Bool, List, ap, subst, sym}
+use Rattle.std.proofs.lemmas.Bool.{false≢true}
+use Rattle.cargo_lock_check.specs.Groups.{AreOnly, Grouping}
+use Rattle.cargo_lock_check.specs.Places.{IsMarked}
+use Rattle.cargo_lock_check.proofs.OnlyOnes.{none-marked, none-named, only-match, only-miss, only-place}
 use Rattle.cargo_lock_check.proofs.flaws.groups.Groups.best.Goals as goal
 
-pub loop-rank-init : goal.loop-rank-init
-loop-rank-init c = λ k other low f. let high = rank-positive c.args.self.now.packages
-    c.args.dependency.now k other f in omega (arith, low, high)
+pub returns-in_err-place : goal.returns-in_err-place
+returns-in_err-place c =
+    rw c.from_residual.ensures
+    (none-named c.args.self.now.packages c.args.dependency.now c.in_err-place.ensures)
 
-pub returns-in-Some : goal.returns-in-Some
-returns-in-Some c = record {
-  some = c.in-Some.ensures.0;
-  least = λ k other f. elim (cases_Bool (nat_lt other c.loop-rank.rank)) [
-    | inl less ↦ absurd (c.loop-rank.invariant k other (ltb-true other c.loop-rank.rank less) f)
-    | inr more ↦ ltb-false other c.loop-rank.rank more
-  ];
-  all = c.in-Some.ensures.1;
-}
+pub best_group-requires : goal.best_group-requires
+best_group-requires c =
+    let groups : Grouping = c.args.self.now in
+    let place = c.in_ok-place.place in
+    let are : AreOnly groups.packages groups.only =
+    subst (λ (g : Grouping). AreOnly g.packages g.only) c.self.view_is c.self.invariant.marks in
+    let marks : c.deref.result.now ≡ groups.only =
+    c.deref.ensures.value ∙ ap (λ (g : Grouping). g.only) c.self.view_is in
+    none-marked groups.packages groups.only c.args.dependency.now place are c.in_ok-place.ensures
+    (λ marked. false≢true (sym c.if-not-is_marked.true ∙ c.is_marked.ensures.1
+    (subst (λ (ms : List Bool). IsMarked ms place) (sym marks) marked)))
 
-pub loop-rank-preserved : goal.loop-rank-preserved
-loop-rank-preserved c = λ k other low f. elim (below-or-here other c.loop-rank.rank low) [
-  | inl below ↦ c.loop-rank.invariant k other below f
-  | inr same ↦ c.in_default.ensures k (subst (λ n. MatchesAt c.args.self.now.packages
-      c.args.dependency.now k n) same f)
-]
+pub returns-then-fits : goal.returns-then-fits
+returns-then-fits c =
+    let groups : Grouping = c.args.self.now in
+    let place = c.in_ok-place.place in
+    let are : AreOnly groups.packages groups.only =
+    subst (λ (g : Grouping). AreOnly g.packages g.only) c.self.view_is c.self.invariant.marks in
+    let marks : c.deref.result.now ≡ groups.only =
+    c.deref.ensures.value ∙ ap (λ (g : Grouping). g.only) c.self.view_is in
+    let marked : IsMarked groups.only place = subst (λ (ms : List Bool). IsMarked ms place) marks
+    (c.is_marked.ensures.0 c.if-not-is_marked.false) in
+    only-match groups.packages c.args.dependency.now place c.in_ok-place.ensures
+    (only-place groups.packages groups.only c.args.dependency.now place are c.in_ok-place.ensures
+    marked) (sym c.fits.ensures ∙ c.if-fits.true)
 
 pub returns : goal.returns
-returns c = λ k rank f.
-    let small = rank-small c.args.self.now.packages c.args.dependency.now k rank f in
-    let end = c.loop-rank-test.false in
-    c.loop-rank.invariant k rank (omega (arith, small, end)) f
+returns c =
+    let groups : Grouping = c.args.self.now in
+    let place = c.in_ok-place.place in
+    let are : AreOnly groups.packages groups.only =
+    subst (λ (g : Grouping). AreOnly g.packages g.only) c.self.view_is c.self.invariant.marks in
+    let marks : c.deref.result.now ≡ groups.only =
+    c.deref.ensures.value ∙ ap (λ (g : Grouping). g.only) c.self.view_is in
+    let marked : IsMarked groups.only place = subst (λ (ms : List Bool). IsMarked ms place) marks
+    (c.is_marked.ensures.0 c.if-not-is_marked.false) in
+    only-miss groups.packages c.args.dependency.now place
+    (only-place groups.packages groups.only c.args.dependency.now place are c.in_ok-place.ensures
+    marked) (sym c.fits.ensures ∙ c.if-fits.false)

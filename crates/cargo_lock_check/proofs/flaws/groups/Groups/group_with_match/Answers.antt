@@ -6,6 +6,15 @@ use Rattle.cargo_lock_graph.specs.Targets.{MatchesAt}
 use Rattle.cargo_lock_check.proofs.Searching.{same-place, taken-cases}
 use Rattle.cargo_lock_check.proofs.flaws.groups.Groups.group_with_match.Goals as goal
 
+pub returns-then-is_match : goal.returns-then-is_match
+returns-then-is_match c = (
+  (
+    get_or c.places-place-items.result.now c.loop-place.place-index 0,
+    c.is_match.ensures.0 c.if-is_match.true,
+  ),
+  c.in_ok-number.ensures,
+)
+
 pub loop-place-preserved : goal.loop-place-preserved
 loop-place-preserved c =
     let places = c.places-place-items.result.now in

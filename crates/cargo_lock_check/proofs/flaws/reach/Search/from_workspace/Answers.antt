@@ -2,7 +2,7 @@ use Rattle.std.proofs.Common.{◌≡◌, ◌∙◌, List, Bool, false, replicate
 use Rattle.std.proofs.lemmas.List.{length-replicate}
 use Rattle.cargo_lock_parts.specs.Identity.{PackageData}
 use Rattle.cargo_lock_check.specs.Reach.{IsWorkspacePackage}
-use Rattle.cargo_lock_check.specs.Search.{IsMarked}
+use Rattle.cargo_lock_check.specs.Places.{IsMarked}
 use Rattle.cargo_lock_check.proofs.Searching.{none-marked, roots-next, roots-pass, roots-all, search-begun}
 use Rattle.cargo_lock_check.proofs.flaws.reach.Search.from_workspace.Goals as goal
 use Rattle.cargo_lock_check.proofs.flaws.reach.Search.from_workspace.Goals.{then-is_none+in_ok-reach, else-is_none}

@@ -1,7 +1,7 @@
 use Rattle.std.proofs.Common.{◌≡◌, List, Bool, Some, false, length, slice_get, subst}
 use Rattle.cargo_lock_check.specs.Places.{IsPlaces}
 use Rattle.cargo_lock_check.proofs.Searching.{orphans-told}
-use Rattle.cargo_lock_check.proofs.flaws.reach.orphans.Goals as goal
+use Rattle.cargo_lock_check.proofs.flaws.reach.orphans_among.Goals as goal
 
 pub returns : goal.returns
 returns c =
