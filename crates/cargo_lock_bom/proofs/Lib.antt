@@ -3,7 +3,11 @@ pub mod Entries
 pub mod Escapes
 pub mod Seen
 pub mod Depths
-pub mod Floats
+pub mod Members
+pub mod Outlines
+pub mod Ordered
+pub mod Writing
+pub mod Bills
 pub mod Ats
 pub mod Chosen
 pub mod Ways
