@@ -99,8 +99,7 @@ component_order-members reference name type version r h l u a b c d =
           (before-some (codes "hashes") (codes "licenses") l _ refl
           (refl, before-some (codes "hashes") (codes "purl") u _ refl (refl, (refl, tt))))
           (order-some (codes "licenses") l _ c
-          (refl, before-some (codes "licenses") (codes "purl") u _ refl (refl, (refl, tt)))
-          (
+          (refl, before-some (codes "licenses") (codes "purl") u _ refl (refl, (refl, tt))) (
             before-some (codes "name") (codes "purl") u _ refl (refl, (refl, tt)),
             tt,
             order-some (codes "purl") u _ d (refl, (refl, tt)) ((refl, tt), tt, (tt, tt, tt)),
@@ -163,8 +162,7 @@ metadata_order-members version a c t x y z =
     (before-some (codes "authors") (codes "component") c _ refl
     (refl, before-some (codes "authors") (codes "timestamp") t _ refl (refl, tt)))
     (order-some (codes "component") c _ y
-    (refl, before-some (codes "component") (codes "timestamp") t _ refl (refl, tt))
-    (
+    (refl, before-some (codes "component") (codes "timestamp") t _ refl (refl, tt)) (
       before-some (codes "lifecycles") (codes "timestamp") t _ refl (refl, tt),
       ((tt, tt, tt), tt),
       order-some (codes "timestamp") t _ z (refl, tt) (tt, (tt, (((refl, (refl, tt)), tt, ((refl, tt), tt, (tt, tt, tt))), tt), tt), tt),

@@ -60,22 +60,34 @@ pub(crate) fn put_root(
         (root_component graph.now (map (option_map string_bytes) licenses.now) root.now)) }
 {
     match root {
-        Root::Package(node) => {
-            out.key("component")?;
-            put_component(out, alloc, graph, licenses, *node)
-        }
-        Root::Workspace => {
-            out.key("component")?;
-            put_workspace(out)
-        }
+        Root::Package(node) => put_package(out, alloc, graph, licenses, *node),
+        Root::Workspace => put_workspace(out),
         Root::Nothing => Ok(()),
     }
 }
 
-// Writes the component that represents the packages of the workspace together.
-fn put_workspace(out: &mut Text) -> Result<(), AllocError>
-    ensures { Adds result out.old out.new (data_tokens workspace_component) }
+// Writes the member with the component of the package of a node.
+fn put_package(
+    out: &mut Text,
+    alloc: Global,
+    graph: &Graph,
+    licenses: &[Option<String>],
+    node: NodeIndex,
+) -> Result<(), AllocError>
+    requires { node < length graph.now.packages }
+    ensures { Adds result out.old out.new (member_tokens (codes "component")
+        (Some (component_at graph.now (map (option_map string_bytes) licenses.now) node))) }
 {
+    out.key("component")?;
+    put_component(out, alloc, graph, licenses, node)
+}
+
+// Writes the member with the component that represents the packages of the workspace together.
+fn put_workspace(out: &mut Text) -> Result<(), AllocError>
+    ensures { Adds result out.old out.new (member_tokens (codes "component")
+        (Some workspace_component)) }
+{
+    out.key("component")?;
     out.begin_object()?;
     out.string_member("bom-ref", "workspace")?;
     out.string_member("name", "workspace")?;
@@ -201,11 +213,7 @@ fn put_license(out: &mut Text, license: &str) -> Result<(), AllocError>
 }
 
 // Writes the member with the hash of a package, if it has a checksum.
-fn put_hashes(
-    out: &mut Text,
-    alloc: Global,
-    checksum: &Option<Checksum>,
-) -> Result<(), AllocError>
+fn put_hashes(out: &mut Text, alloc: Global, checksum: &Option<Checksum>) -> Result<(), AllocError>
     ensures { Adds result out.old out.new (member_tokens (codes "hashes")
         (option_map hashes_of (option_map digest_of checksum.now))) }
 {
@@ -244,11 +252,7 @@ fn put_repositories(
 }
 
 // Writes the member with the repository, if the source is one.
-fn put_repositories_of(
-    out: &mut Text,
-    alloc: Global,
-    source: &SourceId,
-) -> Result<(), AllocError>
+fn put_repositories_of(out: &mut Text, alloc: Global, source: &SourceId) -> Result<(), AllocError>
     ensures { Adds result out.old out.new (member_tokens (codes "externalReferences")
         (repositories_if (Some source.now))) }
 {

@@ -115,12 +115,7 @@ pub(crate) fn put_entries(
     out.end_array()
 }
 
-fn put_entry(
-    out: &mut Text,
-    alloc: Global,
-    graph: &Graph,
-    entry: &Entry,
-) -> Result<(), AllocError>
+fn put_entry(out: &mut Text, alloc: Global, graph: &Graph, entry: &Entry) -> Result<(), AllocError>
     requires { IsEntryWithin (length graph.now.packages) entry.now }
     ensures { Adds result out.old out.new (data_tokens
         (entry_for graph.now.packages entry.now)) }

@@ -4,9 +4,12 @@ ghost use Rattle.std.specs.Prelude.{◌≡◌, ◌<◌, IfErr, IfOk, IfSome, Non
 ghost use Rattle.std.specs.Prelude.{option_copied, option_map, string_bytes};
 ghost use Rattle.json.specs.Layout.{pretty};
 ghost use Rattle.json.specs.Print.{print};
+ghost use Rattle.serde_json.specs.Read.{read};
+ghost use Rattle.serde_json.specs.View.{view};
+ghost use Rattle.cargo_lock_parts.specs.declared.error.Error.TheVariants.{Memory};
 ghost use Rattle.cargo_lock_bom.specs.Contents.{AreContents, IsTextOf, bill_with};
 ghost use Rattle.cargo_lock_bom.specs.Contents.{with_serial_if};
-ghost use Rattle.cargo_lock_bom.specs.Document.{IsBillText, IsLaidOut};
+ghost use Rattle.cargo_lock_bom.specs.Document.{IsBill, IsBillText, IsLaidOut};
 ghost use Rattle.cargo_lock_bom.specs.Draft.{Adds, data_tokens};
 ghost use Rattle.cargo_lock_bom.specs.Options.{within};
 ghost use Rattle.cargo_lock_bom.specs.References.{IsRepeatedFault};
@@ -22,7 +25,8 @@ use crate::reference::check_distinct;
 use crate::serial::serial_text;
 use crate::text::Text;
 use cargo_lock_graph::graph::Graph;
-use cargo_lock_parts::Result;
+use cargo_lock_parts::{Error, Result};
+use serde_json::Value;
 use std::alloc::{AllocError, Global};
 
 /// The text of the bill of materials of a graph, with one member or item per line, indented: its
@@ -68,6 +72,29 @@ pub fn compact_text(alloc: Global, graph: &Graph, options: &Options<'_>) -> Resu
     ensures err { IfErr result (IsRepeatedFault graph.now.packages) }
 {
     text_within(alloc, graph, &options.within(graph), true)
+}
+
+/// The bill of materials of a graph as a value of JSON, to which a caller may add what a lockfile
+/// does not say. It is read from the text of `compact_text`, and the errors are those of that:
+/// `Parse` if two packages have the same `bom-ref`, and `Memory`.
+pub fn document(alloc: Global, graph: &Graph, options: &Options<'_>) -> Result<Value>
+    ensures ok { IfOk result (λ v. IsBill graph.now (within graph.now «options».now) (view v)) }
+    ensures err { IfErr result (IsRepeatedFault graph.now.packages) }
+{
+    let text = compact_text(alloc, graph, options)?;
+    let value = value_of(alloc, text.as_str())?;
+    Ok(value)
+}
+
+// The value of a text that reads as one, so that a reader lacks nothing but memory.
+fn value_of(alloc: Global, text: &str) -> Result<Value>
+    ensures ok { IfOk result (λ v. read text.now ≡ Some (view v)) }
+    ensures err { IfErr result (λ e. e ≡ Memory) }
+{
+    match Value::from_str(alloc, text) {
+        Ok(value) => Ok(value),
+        Err(_) => Err(Error::Memory),
+    }
 }
 
 // The text, for a root that is a node and a time that the format can represent.
@@ -163,7 +190,13 @@ fn put_bill(
     out.begin_object()?;
     out.string_member("bomFormat", "CycloneDX")?;
     out.key("components")?;
-    put_components(out, alloc, graph, options.licenses, contents.nodes.as_slice())?;
+    put_components(
+        out,
+        alloc,
+        graph,
+        options.licenses,
+        contents.nodes.as_slice(),
+    )?;
     out.key("dependencies")?;
     put_entries(out, alloc, graph, contents.entries.as_slice())?;
     out.key("metadata")?;
