@@ -6,6 +6,7 @@ pub mod Depths
 pub mod Members
 pub mod Outlines
 pub mod Ordered
+pub mod Texts
 pub mod Writing
 pub mod Bills
 pub mod Ats

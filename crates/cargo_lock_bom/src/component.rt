@@ -17,9 +17,9 @@ ghost use Rattle.cargo_lock_bom.specs.Purl.{purl_of};
 ghost use Rattle.cargo_lock_bom.specs.References.{package_reference};
 ghost use Rattle.cargo_lock_bom.specs.Root.{IsWithin};
 
+use crate::dependencies::text_at;
 use crate::iri::iri_text;
 use crate::purl::purl;
-use crate::reference::reference;
 use crate::root::{Root, is_application};
 use crate::text::Text;
 use cargo_lock_graph::graph::{Graph, NodeIndex};
@@ -27,40 +27,44 @@ use cargo_lock_parts::package::{Checksum, Package, SourceId, SourceKind};
 use std::alloc::{AllocError, Global};
 
 /// Writes the components of the packages of some nodes, with these licence expressions of the
-/// packages. Fails when out of memory.
+/// packages and these texts that refer to them. Fails when out of memory.
 pub(crate) fn put_components(
     out: &mut Text,
     alloc: Global,
     graph: &Graph,
     licenses: &[Option<String>],
+    texts: &[String],
     nodes: &[usize],
 ) -> Result<(), AllocError>
-    requires { All (λ k. k < length graph.now.packages) nodes.now }
+    requires within { All (λ k. k < length graph.now.packages) nodes.now }
+    requires texts { map string_bytes texts.now ≡ map package_reference graph.now.packages }
     ensures { Adds result out.old out.new (data_tokens (array (items_of
         (map (component_at graph.now (map (option_map string_bytes) licenses.now)) nodes.now)))) }
 {
     out.begin_array()?;
     for node in nodes {
-        put_component(out, alloc, graph, licenses, NodeIndex::new(*node))?;
+        put_component(out, alloc, graph, licenses, texts, NodeIndex::new(*node))?;
     }
     out.end_array()
 }
 
 /// Writes the member with the component of the root, if there is one, with these licence
-/// expressions of the packages. Fails when out of memory.
+/// expressions of the packages and these texts that refer to them. Fails when out of memory.
 pub(crate) fn put_root(
     out: &mut Text,
     alloc: Global,
     graph: &Graph,
     licenses: &[Option<String>],
+    texts: &[String],
     root: &Root,
 ) -> Result<(), AllocError>
-    requires { IsWithin graph.now.packages root.now }
+    requires within { IsWithin graph.now.packages root.now }
+    requires texts { map string_bytes texts.now ≡ map package_reference graph.now.packages }
     ensures { Adds result out.old out.new (member_tokens (codes "component")
         (root_component graph.now (map (option_map string_bytes) licenses.now) root.now)) }
 {
     match root {
-        Root::Package(node) => put_package(out, alloc, graph, licenses, *node),
+        Root::Package(node) => put_package(out, alloc, graph, licenses, texts, *node),
         Root::Workspace => put_workspace(out),
         Root::Nothing => Ok(()),
     }
@@ -72,14 +76,16 @@ fn put_package(
     alloc: Global,
     graph: &Graph,
     licenses: &[Option<String>],
+    texts: &[String],
     node: NodeIndex,
 ) -> Result<(), AllocError>
-    requires { node < length graph.now.packages }
+    requires within { node < length graph.now.packages }
+    requires texts { map string_bytes texts.now ≡ map package_reference graph.now.packages }
     ensures { Adds result out.old out.new (member_tokens (codes "component")
         (Some (component_at graph.now (map (option_map string_bytes) licenses.now) node))) }
 {
     out.key("component")?;
-    put_component(out, alloc, graph, licenses, node)
+    put_component(out, alloc, graph, licenses, texts, node)
 }
 
 // Writes the member with the component that represents the packages of the workspace together.
@@ -100,15 +106,18 @@ fn put_component(
     alloc: Global,
     graph: &Graph,
     licenses: &[Option<String>],
+    texts: &[String],
     node: NodeIndex,
 ) -> Result<(), AllocError>
-    requires { node < length graph.now.packages }
+    requires within { node < length graph.now.packages }
+    requires texts { map string_bytes texts.now ≡ map package_reference graph.now.packages }
     ensures { Adds result out.old out.new (data_tokens
         (component_at graph.now (map (option_map string_bytes) licenses.now) node)) }
 {
     let application = is_application(alloc, graph, node)?;
     let license = license_at(licenses, node);
-    put_component_of(out, alloc, application, license, &graph[node])
+    let text = text_at(texts, node.index());
+    put_component_of(out, alloc, application, license, text, &graph[node])
 }
 
 // The licence expression of the package of a node, if it is there.
@@ -122,19 +131,21 @@ fn license_at(licenses: &[Option<String>], node: NodeIndex) -> Option<&str>
 }
 
 // Writes the component of a package, as an application or as a library, with this licence
-// expression, if it is there.
+// expression, if it is there, and with the text that refers to it.
 fn put_component_of(
     out: &mut Text,
     alloc: Global,
     application: bool,
     license: Option<&str>,
+    text: &str,
     package: &Package,
 ) -> Result<(), AllocError>
+    requires { text.now ≡ package_reference «package».now }
     ensures { Adds result out.old out.new (data_tokens
         (component_of application (option_copied license.entry) «package».now)) }
 {
     out.begin_object()?;
-    put_reference(out, alloc, package)?;
+    out.string_member("bom-ref", text)?;
     put_repositories(out, alloc, &package.source)?;
     put_hashes(out, alloc, &package.checksum)?;
     put_licenses(out, license)?;
@@ -143,15 +154,6 @@ fn put_component_of(
     out.string_member("type", type_text(application))?;
     out.displayed_member(alloc, "version", &package.version)?;
     out.end_object()
-}
-
-// Writes the member with the text that refers to a package.
-fn put_reference(out: &mut Text, alloc: Global, package: &Package) -> Result<(), AllocError>
-    ensures { Adds result out.old out.new
-        (token.key (codes "bom-ref") ∷ token.string (package_reference «package».now) ∷ []) }
-{
-    let text = reference(alloc, package)?;
-    out.string_member("bom-ref", text.as_str())
 }
 
 // The type of a component.

@@ -7,6 +7,7 @@ ghost use Rattle.cargo_lock_bom.specs.Contents.{AreContents};
 use crate::dependencies::{Entry, entries};
 use crate::metadata::time_text_if;
 use crate::options::Options;
+use crate::reference::references;
 use crate::root::{Root, others, root_of};
 use cargo_lock_graph::graph::Graph;
 use std::alloc::{AllocError, Global};
@@ -16,6 +17,9 @@ use std::alloc::{AllocError, Global};
 pub(crate) struct Contents {
     /// Its root.
     pub root: Root,
+
+    /// The texts that refer to the packages of the graph, in order.
+    pub texts: Vec<String>,
 
     /// The nodes of its components, which are those of the packages that are not the root.
     pub nodes: Vec<usize>,
@@ -38,11 +42,13 @@ pub(crate) fn contents_of(
     ensures { IfOk result (AreContents graph.now «options».now) }
 {
     let root = root_of(alloc, graph, options.root)?;
+    let texts = references(alloc, graph)?;
     let nodes = others(alloc, graph, &root)?;
     let entries = entries(alloc, graph, &root)?;
     let time = time_text_if(alloc, options.timestamp)?;
     Ok(Contents {
         root,
+        texts,
         nodes,
         entries,
         time,

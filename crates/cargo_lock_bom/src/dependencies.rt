@@ -1,18 +1,18 @@
 //! The entries of a bill of materials: what each package depends on.
 
-ghost use Rattle.std.specs.Prelude.{◌≡◌, ◌<◌, ◌∷◌, ◌++◌, [], All, IfOk, IfSome, codes, length, map};
+ghost use Rattle.std.specs.Prelude.{◌≡◌, ◌<◌, ◌∷◌, ◌++◌, [], All, IfOk, codes, length, map};
+ghost use Rattle.std.specs.Prelude.{string_bytes};
 ghost use Rattle.std.specs.List.{AllZip, range_with_len};
 ghost use Rattle.json.specs.Token as token;
 ghost use Rattle.serde_json.specs.Data.{Data, array, string};
 ghost use Rattle.serde_json.specs.View.{items_of};
 ghost use Rattle.cargo_lock_graph.specs.declared.graph.EdgeDirection.TheVariants.{Outgoing};
 ghost use Rattle.cargo_lock_graph.specs.Edges.{far_ends};
-ghost use Rattle.cargo_lock_bom.specs.Contents.{IsEntryWithin, entry_for, own_text};
+ghost use Rattle.cargo_lock_bom.specs.Contents.{entry_by, entry_for, own_text, text_at};
 ghost use Rattle.cargo_lock_bom.specs.Dependencies.{AreEntries, AreTargets, IsEntry};
-ghost use Rattle.cargo_lock_bom.specs.Dependencies.{IsWorkspaceEntry, node_reference};
+ghost use Rattle.cargo_lock_bom.specs.Dependencies.{IsWorkspaceEntry};
 ghost use Rattle.cargo_lock_bom.specs.Draft.{Adds, data_tokens};
 
-use crate::reference::reference;
 use crate::root::{Root, members};
 use crate::text::Text;
 use cargo_lock_graph::graph::{EdgeDirection, Graph, NodeIndex};
@@ -31,10 +31,8 @@ pub(crate) struct Entry {
 /// The entries of the nodes of a graph, in order, and then the entry of the workspace, if it is the
 /// root. Fails when out of memory.
 pub(crate) fn entries(alloc: Global, graph: &Graph, root: &Root) -> Result<Vec<Entry>, AllocError>
-    ensures are { IfOk result (λ made. AreEntries graph.now root.now
+    ensures { IfOk result (λ made. AreEntries graph.now root.now
         (map (entry_for graph.now.packages) made.items)) }
-    ensures within { IfOk result (λ made.
-        All (IsEntryWithin (length graph.now.packages)) made.items) }
 {
     let made = node_entries(alloc, graph)?;
     match root {
@@ -50,12 +48,9 @@ fn with_workspace(
     graph: &Graph,
     entries: Vec<Entry>,
 ) -> Result<Vec<Entry>, AllocError>
-    requires { All (IsEntryWithin (length graph.now.packages)) entries.items }
-    ensures are { IfOk result (λ made. (d : Data) × IsWorkspaceEntry graph.now.packages d
+    ensures { IfOk result (λ made. (d : Data) × IsWorkspaceEntry graph.now.packages d
         × (map (entry_for graph.now.packages) made.items
         ≡ map (entry_for graph.now.packages) entries.items ++ d ∷ [])) }
-    ensures within { IfOk result (λ made.
-        All (IsEntryWithin (length graph.now.packages)) made.items) }
 {
     let own = workspace_entry(alloc, graph)?;
     let mut made = entries;
@@ -64,9 +59,8 @@ fn with_workspace(
 }
 
 fn workspace_entry(alloc: Global, graph: &Graph) -> Result<Entry, AllocError>
-    ensures is { IfOk result (λ e. IsWorkspaceEntry graph.now.packages
+    ensures { IfOk result (λ e. IsWorkspaceEntry graph.now.packages
         (entry_for graph.now.packages e)) }
-    ensures within { IfOk result (IsEntryWithin (length graph.now.packages)) }
 {
     let on = members(alloc, graph)?;
     Ok(Entry { of: None, on })
@@ -74,11 +68,9 @@ fn workspace_entry(alloc: Global, graph: &Graph) -> Result<Entry, AllocError>
 
 // The entries of the nodes of a graph, in order.
 fn node_entries(alloc: Global, graph: &Graph) -> Result<Vec<Entry>, AllocError>
-    ensures are { IfOk result (λ made. AllZip (IsEntry graph.now)
+    ensures { IfOk result (λ made. AllZip (IsEntry graph.now)
         (range_with_len 0 (length graph.now.packages))
         (map (entry_for graph.now.packages) made.items)) }
-    ensures within { IfOk result (λ made.
-        All (IsEntryWithin (length graph.now.packages)) made.items) }
 {
     let count = graph.node_count();
     let mut made = Vec::with_capacity(alloc, count)?;
@@ -90,91 +82,73 @@ fn node_entries(alloc: Global, graph: &Graph) -> Result<Vec<Entry>, AllocError>
 
 fn node_entry(alloc: Global, graph: &Graph, node: NodeIndex) -> Result<Entry, AllocError>
     requires { node < length graph.now.packages }
-    ensures is { IfOk result (λ e. IsEntry graph.now node (entry_for graph.now.packages e)) }
-    ensures within { IfOk result (IsEntryWithin (length graph.now.packages)) }
+    ensures { IfOk result (λ e. IsEntry graph.now node (entry_for graph.now.packages e)) }
 {
     let on = targets(alloc, graph, node)?;
     Ok(Entry { of: Some(node), on })
 }
 
-/// Writes entries. Fails when out of memory.
+/// Writes entries, with these texts that refer to the packages of nodes. Fails when out of memory.
 pub(crate) fn put_entries(
     out: &mut Text,
-    alloc: Global,
-    graph: &Graph,
+    texts: &[String],
     entries: &[Entry],
 ) -> Result<(), AllocError>
-    requires { All (IsEntryWithin (length graph.now.packages)) entries.now }
     ensures { Adds result out.old out.new (data_tokens (array (items_of
-        (map (entry_for graph.now.packages) entries.now)))) }
+        (map (entry_by (map string_bytes texts.now)) entries.now)))) }
 {
     out.begin_array()?;
     for entry in entries {
-        put_entry(out, alloc, graph, entry)?;
+        put_entry(out, texts, entry)?;
     }
     out.end_array()
 }
 
-fn put_entry(out: &mut Text, alloc: Global, graph: &Graph, entry: &Entry) -> Result<(), AllocError>
-    requires { IsEntryWithin (length graph.now.packages) entry.now }
+fn put_entry(out: &mut Text, texts: &[String], entry: &Entry) -> Result<(), AllocError>
     ensures { Adds result out.old out.new (data_tokens
-        (entry_for graph.now.packages entry.now)) }
+        (entry_by (map string_bytes texts.now) entry.now)) }
 {
     out.begin_object()?;
     out.key("dependsOn")?;
-    put_references(out, alloc, graph, entry.on.as_slice())?;
-    put_own_text(out, alloc, graph, entry.of)?;
+    put_texts(out, texts, entry.on.as_slice())?;
+    put_own_text(out, texts, entry.of)?;
     out.end_object()
 }
 
-// Writes the texts that refer to the packages of some nodes.
-fn put_references(
-    out: &mut Text,
-    alloc: Global,
-    graph: &Graph,
-    nodes: &[usize],
-) -> Result<(), AllocError>
-    requires { All (λ k. k < length graph.now.packages) nodes.now }
+// Writes the texts of some nodes.
+fn put_texts(out: &mut Text, texts: &[String], nodes: &[usize]) -> Result<(), AllocError>
     ensures { Adds result out.old out.new (data_tokens (array (items_of
-        (map (λ k. string (node_reference graph.now.packages k)) nodes.now)))) }
+        (map (λ k. string (text_at (map string_bytes texts.now) k)) nodes.now)))) }
 {
     out.begin_array()?;
     for node in nodes {
-        put_reference(out, alloc, graph, NodeIndex::new(*node))?;
+        out.string(text_at(texts, *node))?;
     }
     out.end_array()
 }
 
-// Writes the text that refers to the package of a node.
-fn put_reference(
-    out: &mut Text,
-    alloc: Global,
-    graph: &Graph,
-    node: NodeIndex,
-) -> Result<(), AllocError>
-    requires { node < length graph.now.packages }
-    ensures { Adds result out.old out.new
-        (token.string (node_reference graph.now.packages node) ∷ []) }
-{
-    let text = reference(alloc, &graph[node])?;
-    out.string(text.as_str())
-}
-
-// Writes the member with the text that refers to the package of a node, or to the workspace.
+// Writes the member with the text of a node, or of the workspace.
 fn put_own_text(
     out: &mut Text,
-    alloc: Global,
-    graph: &Graph,
+    texts: &[String],
     node: Option<NodeIndex>,
 ) -> Result<(), AllocError>
-    requires { IfSome node (λ k. k < length graph.now.packages) }
-    ensures { Adds result out.old out.new
-        (token.key (codes "ref") ∷ token.string (own_text graph.now.packages node) ∷ []) }
+    ensures { Adds result out.old out.new (token.key (codes "ref")
+        ∷ token.string (own_text (map string_bytes texts.now) node) ∷ []) }
 {
-    out.key("ref")?;
     match node {
-        Some(node) => put_reference(out, alloc, graph, node),
-        None => out.string("workspace"),
+        Some(node) => out.string_member("ref", text_at(texts, node.index())),
+        None => out.string_member("ref", "workspace"),
+    }
+}
+
+/// The text of a node among those of the packages of a graph.
+pub(crate) fn text_at(texts: &[String], node: usize) -> &str
+    ensures { result.now ≡ text_at (map string_bytes texts.now) node }
+{
+    match texts.get(node) {
+        Some(text) => text.as_str(),
+        None => "",
     }
 }
 

@@ -187,20 +187,16 @@ fn put_bill(
         (with_serial_if (option_map string_bytes serial.now)
         (bill_with graph.now «options».now contents.now))) }
 {
+    let texts = contents.texts.as_slice();
+    let nodes = contents.nodes.as_slice();
     out.begin_object()?;
     out.string_member("bomFormat", "CycloneDX")?;
     out.key("components")?;
-    put_components(
-        out,
-        alloc,
-        graph,
-        options.licenses,
-        contents.nodes.as_slice(),
-    )?;
+    put_components(out, alloc, graph, options.licenses, texts, nodes)?;
     out.key("dependencies")?;
-    put_entries(out, alloc, graph, contents.entries.as_slice())?;
+    put_entries(out, texts, contents.entries.as_slice())?;
     out.key("metadata")?;
-    put_metadata(out, alloc, graph, options, &contents.root, &contents.time)?;
+    put_metadata(out, alloc, graph, options, contents)?;
     put_text_if(out, "serialNumber", serial)?;
     out.string_member("specVersion", "1.6")?;
     out.key("version")?;

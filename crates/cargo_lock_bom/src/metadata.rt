@@ -3,41 +3,38 @@
 ghost use Rattle.std.specs.Prelude.{◌≡◌, ◌<◌, ◌*◌, ◌∷◌, IfOk, IfSome, Some, codes, option_copied};
 ghost use Rattle.std.specs.Prelude.{option_map, pos, string_bytes};
 ghost use Rattle.json.specs.Token.{key};
-ghost use Rattle.cargo_lock_bom.specs.Component.{root_component};
+ghost use Rattle.cargo_lock_bom.specs.Contents.{AreContents, metadata_with};
 ghost use Rattle.cargo_lock_bom.specs.Draft.{Adds, data_tokens, member_tokens};
 ghost use Rattle.cargo_lock_bom.specs.Metadata.{IsTimeText, IsTimeTextIf, authors_of, lifecycles};
-ghost use Rattle.cargo_lock_bom.specs.Metadata.{metadata_of, tools_of};
-ghost use Rattle.cargo_lock_bom.specs.Root.{IsWithin};
+ghost use Rattle.cargo_lock_bom.specs.Metadata.{tools_of};
 
 use crate::component::{put_root, put_text_if};
+use crate::contents::Contents;
 use crate::options::Options;
-use crate::root::Root;
 use crate::text::Text;
 use cargo_lock_graph::graph::Graph;
 use jiff_core::civil::DateTime;
 use jiff_fmt::temporal::DateTimePrinter;
 use std::alloc::{AllocError, Global};
 
-/// Writes the metadata of the bill of a graph with this root and this text of its time. Fails when
-/// out of memory.
+/// Writes the metadata of the bill of a graph with these contents. Fails when out of memory.
 pub(crate) fn put_metadata(
     out: &mut Text,
     alloc: Global,
     graph: &Graph,
     options: &Options<'_>,
-    root: &Root,
-    time: &Option<String>,
+    contents: &Contents,
 ) -> Result<(), AllocError>
-    requires { IsWithin graph.now.packages root.now }
-    ensures { Adds result out.old out.new (data_tokens (metadata_of «options».now.tool_version
-        «options».now.author (root_component graph.now «options».now.licenses root.now)
-        (option_map string_bytes time.now))) }
+    requires { AreContents graph.now «options».now contents.now }
+    ensures { Adds result out.old out.new (data_tokens
+        (metadata_with graph.now «options».now contents.now)) }
 {
+    let texts = contents.texts.as_slice();
     out.begin_object()?;
     put_authors(out, options.author)?;
-    put_root(out, alloc, graph, options.licenses, root)?;
+    put_root(out, alloc, graph, options.licenses, texts, &contents.root)?;
     put_lifecycles(out)?;
-    put_text_if(out, "timestamp", time)?;
+    put_text_if(out, "timestamp", &contents.time)?;
     put_tools(out, options.tool_version)?;
     out.end_object()
 }

@@ -1,7 +1,7 @@
 //! The texts by which a bill of materials refers to packages.
 
 ghost use Rattle.std.specs.Prelude.{◌≡◌, ◌⊎◌, ◌||◌, not, ℕ, List, bytes_eq, IfErr, IfOk};
-ghost use Rattle.std.specs.Prelude.{IsOkUnless, OnOk, option_map, string_bytes};
+ghost use Rattle.std.specs.Prelude.{IsOkUnless, OnOk, map, option_map, string_bytes};
 ghost use Rattle.std.specs.BTreeSet.{contains_text};
 ghost use Rattle.cargo_lock_parts.specs.declared.error.Error.TheVariants.{Memory};
 ghost use Rattle.cargo_lock_parts.specs.Error.{IsParse};
@@ -34,6 +34,22 @@ pub fn reference(alloc: Global, package: &Package) -> std::result::Result<String
         }
         None => format!(in alloc; "{name}@{version}"),
     }
+}
+
+/// The texts that refer to the packages of a graph, in order. Fails when out of memory.
+pub(crate) fn references(
+    alloc: Global,
+    graph: &Graph,
+) -> std::result::Result<Vec<String>, AllocError>
+    ensures { IfOk result (λ made. map string_bytes made.items
+        ≡ map package_reference graph.now.packages) }
+{
+    let count = graph.node_count();
+    let mut made = Vec::with_capacity(alloc, count)?;
+    for node in 0..count {
+        made.push(reference(alloc, &graph[NodeIndex::new(node)])?)?;
+    }
+    Ok(made)
 }
 
 /// Refuses a graph in which the same text refers to two packages.
