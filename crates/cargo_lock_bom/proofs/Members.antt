@@ -1,5 +1,5 @@
 -- The members of the objects of a bill, in the order of their keys, and their tokens.
-use Rattle.std.proofs.Common.{◌≡◌, ◌∙◌, ℕ, Bool, List, [], ◌∷◌, ◌++◌, Option, None, Some, ap, codes, decimal, map, option_map, refl}
+use Rattle.std.proofs.Common.{◌≡◌, ◌∙◌, ℕ, Bool, List, [], ◌∷◌, ◌++◌, Option, None, Some, ap, codes, option_map, refl}
 use Rattle.std.specs.Fmt.{digits}
 use Rattle.semver.specs.Identifiers.{parts_text}
 use Rattle.json.specs.Token as token

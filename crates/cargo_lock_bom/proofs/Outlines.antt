@@ -1,9 +1,8 @@
 -- A value whose members are in the order of their keys is read back from its tokens.
-use Rattle.std.proofs.Common.{◌≡◌, ◌∙◌, ◌≤◌, ℕ, List, [], ◌∷◌, Some, ap, ap₂, append-nil, arith, option_and_then, option_map, refl, suc, max, sym}
+use Rattle.std.proofs.Common.{◌≡◌, ◌∙◌, ◌≤◌, ℕ, List, [], Some, ap, ap₂, append-nil, arith, option_and_then, option_map, refl, suc, max, sym}
 use Rattle.std.specs.Cmp.Lexicographic.{slice_cmp}
 use Rattle.std.specs.Ordering.{nat_cmp}
 use Rattle.std.specs.declared.cmp.Ordering.TheVariants.{Greater}
-use Rattle.json.specs.Json as json
 use Rattle.json.specs.Json.{if_last, value}
 use Rattle.json.specs.Lex.{tokens}
 use Rattle.json.specs.Tree as tree

@@ -128,11 +128,7 @@ fn put_texts(out: &mut Text, texts: &[String], nodes: &[usize]) -> Result<(), Al
 }
 
 // Writes the member with the text of a node, or of the workspace.
-fn put_own_text(
-    out: &mut Text,
-    texts: &[String],
-    node: Option<NodeIndex>,
-) -> Result<(), AllocError>
+fn put_own_text(out: &mut Text, texts: &[String], node: Option<NodeIndex>) -> Result<(), AllocError>
     ensures { Adds result out.old out.new (token.key (codes "ref")
         ∷ token.string (own_text (map string_bytes texts.now) node) ∷ []) }
 {

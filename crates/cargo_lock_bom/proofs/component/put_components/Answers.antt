@@ -1,4 +1,4 @@
-use Rattle.std.proofs.Common.{◌≡◌, ◌∙◌, List, ℕ, ap, arith, map, option_map, string_bytes, take}
+use Rattle.std.proofs.Common.{◌≡◌, ◌∙◌, ap, arith, map, option_map, string_bytes, take}
 use Rattle.std.proofs.lemmas.List.{take_all}
 use Rattle.cargo_lock_bom.specs.Component.{component_at}
 use Rattle.cargo_lock_bom.specs.Draft.{extended}

@@ -1,8 +1,8 @@
-use Rattle.std.proofs.Common.{◌≡◌, ◌∙◌, List, [], ◌∷◌, ℕ, ap, arith, map, option_map, string_bytes, take}
+use Rattle.std.proofs.Common.{◌≡◌, ◌∙◌, ap, arith, map, string_bytes, take}
 use Rattle.std.proofs.lemmas.List.{take_all}
 use Rattle.cargo_lock_bom.specs.Contents.{entry_by}
 use Rattle.cargo_lock_bom.specs.Draft.{extended}
-use Rattle.cargo_lock_bom.proofs.Writing.{array_ends, as_tokens, items_so_far, next}
+use Rattle.cargo_lock_bom.proofs.Writing.{array_ends, items_so_far, next}
 use Rattle.cargo_lock_bom.proofs.dependencies.put_entries.Goals as goal
 
 pub loop-entry-init : goal.loop-entry-init

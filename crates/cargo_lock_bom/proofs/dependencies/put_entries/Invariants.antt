@@ -1,4 +1,4 @@
-use Rattle.std.proofs.Common.{◌≡◌, ℕ, map, option_map, string_bytes, take}
+use Rattle.std.proofs.Common.{◌≡◌, map, string_bytes, take}
 use Rattle.cargo_lock_bom.specs.Contents.{entry_by}
 use Rattle.cargo_lock_bom.specs.Draft.{extended}
 use Rattle.cargo_lock_bom.proofs.Writing.{items_so_far}

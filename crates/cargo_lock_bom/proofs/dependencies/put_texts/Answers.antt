@@ -1,4 +1,4 @@
-use Rattle.std.proofs.Common.{◌≡◌, ◌∙◌, List, [], ◌∷◌, ℕ, ap, arith, get_or, map, refl, option_map, string_bytes, take}
+use Rattle.std.proofs.Common.{◌≡◌, ◌∙◌, List, [], ◌∷◌, ℕ, ap, arith, get_or, map, refl, string_bytes, take}
 use Rattle.std.proofs.lemmas.List.{take_all}
 use Rattle.json.specs.Token as token
 use Rattle.serde_json.specs.Data.{string}

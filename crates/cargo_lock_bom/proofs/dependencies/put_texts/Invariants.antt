@@ -1,5 +1,4 @@
-use Rattle.std.proofs.Common.{◌≡◌, ℕ, map, option_map, string_bytes, take}
-use Rattle.json.specs.Token as token
+use Rattle.std.proofs.Common.{◌≡◌, ℕ, map, string_bytes, take}
 use Rattle.serde_json.specs.Data.{string}
 use Rattle.cargo_lock_bom.specs.Contents.{text_at}
 use Rattle.cargo_lock_bom.specs.Draft.{extended}

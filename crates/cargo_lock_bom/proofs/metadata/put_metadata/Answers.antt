@@ -1,10 +1,6 @@
-use Rattle.std.proofs.Common.{◌∙◌, ap, codes, option_copied, option_map, string_bytes, subst, sym}
-use Rattle.json.specs.Token.{key}
+use Rattle.std.proofs.Common.{option_map, string_bytes, subst, sym}
 use Rattle.cargo_lock_bom.specs.Component.{root_component}
-use Rattle.cargo_lock_bom.specs.Draft.{Adds, data_tokens, member_tokens}
-use Rattle.cargo_lock_bom.specs.Metadata.{authors_of, tools_of}
-use Rattle.cargo_lock_bom.specs.Options.{OptionsData}
-use Rattle.cargo_lock_bom.specs.References.{package_reference}
+use Rattle.cargo_lock_bom.specs.Draft.{Adds}
 use Rattle.cargo_lock_bom.proofs.Members.{metadata-tokens}
 use Rattle.cargo_lock_bom.proofs.Writing.{then}
 use Rattle.cargo_lock_bom.proofs.metadata.put_metadata.Goals as goal
