@@ -18,6 +18,12 @@ pub text_same : (packages : List PackageData) (k : ℕ) → text_at (map package
 text_same packages k =
     ap (λ (o : Option (List ℕ)). unwrap_or o []) (slice_get-map package_reference packages k) ∙ if_same (slice_get packages k)
 
+-- the text of the node of a package
+pub text_of : (packages : List PackageData) (k : ℕ) (p : PackageData) (texts : List (List ℕ)) → texts ≡ map package_reference packages → slice_get packages k ≡ Some p
+    → text_at texts k ≡ package_reference p
+text_of packages k p texts are at =
+    ap (λ (ts : List (List ℕ)). text_at ts k) are ∙ text_same packages k ∙ ap reference_if at
+
 own_same : (packages : List PackageData) (of : Option ℕ) → own_text (map package_reference packages) of ≡ own_reference packages of
 own_same packages None = refl
 own_same packages (Some k) = text_same packages k

@@ -17,9 +17,9 @@ ghost use Rattle.cargo_lock_bom.specs.Purl.{purl_of};
 ghost use Rattle.cargo_lock_bom.specs.References.{package_reference};
 ghost use Rattle.cargo_lock_bom.specs.Root.{IsWithin};
 
-use crate::dependencies::text_at;
 use crate::iri::iri_text;
 use crate::purl::purl;
+use crate::reference::text_at;
 use crate::root::{Root, is_application};
 use crate::text::Text;
 use cargo_lock_graph::graph::{Graph, NodeIndex};

@@ -13,6 +13,7 @@ ghost use Rattle.cargo_lock_bom.specs.Dependencies.{AreEntries, AreTargets, IsEn
 ghost use Rattle.cargo_lock_bom.specs.Dependencies.{IsWorkspaceEntry};
 ghost use Rattle.cargo_lock_bom.specs.Draft.{Adds, data_tokens};
 
+use crate::reference::text_at;
 use crate::root::{Root, members};
 use crate::text::Text;
 use cargo_lock_graph::graph::{EdgeDirection, Graph, NodeIndex};
@@ -135,16 +136,6 @@ fn put_own_text(out: &mut Text, texts: &[String], node: Option<NodeIndex>) -> Re
     match node {
         Some(node) => out.string_member("ref", text_at(texts, node.index())),
         None => out.string_member("ref", "workspace"),
-    }
-}
-
-/// The text of a node among those of the packages of a graph.
-pub(crate) fn text_at(texts: &[String], node: usize) -> &str
-    ensures { result.now ≡ text_at (map string_bytes texts.now) node }
-{
-    match texts.get(node) {
-        Some(text) => text.as_str(),
-        None => "",
     }
 }
 

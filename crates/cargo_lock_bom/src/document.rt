@@ -21,7 +21,7 @@ use crate::contents::{Contents, contents_of};
 use crate::dependencies::put_entries;
 use crate::metadata::put_metadata;
 use crate::options::Options;
-use crate::reference::check_distinct;
+use crate::reference::{check_distinct, references};
 use crate::serial::serial_text;
 use crate::text::Text;
 use cargo_lock_graph::graph::Graph;
@@ -111,8 +111,9 @@ fn text_within(
         (λ text. IsLaidOut (cond is_compact print pretty) (string_bytes text)) }
     ensures err { IfErr result (IsRepeatedFault graph.now.packages) }
 {
-    check_distinct(alloc, graph)?;
-    let contents = contents_of(alloc, graph, options)?;
+    let texts = references(alloc, graph)?;
+    check_distinct(alloc, graph, texts.as_slice())?;
+    let contents = contents_of(alloc, graph, options, texts)?;
     let text = numbered_text(alloc, graph, options, &contents, is_compact)?;
     Ok(text)
 }
