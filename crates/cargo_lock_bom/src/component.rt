@@ -1,9 +1,8 @@
 //! The components of a bill of materials: the root, and the other packages, in order, each listed
 //! once.
 
-ghost use Rattle.std.specs.Prelude.{◌≡◌, ◌<◌, ◌∷◌, [], All, Some, codes, length, map};
+ghost use Rattle.std.specs.Prelude.{◌≡◌, ◌<◌, All, Some, codes, length, map};
 ghost use Rattle.std.specs.Prelude.{option_copied, option_map, string_bytes};
-ghost use Rattle.json.specs.Token as token;
 ghost use Rattle.serde_json.specs.Data.{array, string};
 ghost use Rattle.serde_json.specs.View.{items_of};
 ghost use Rattle.cargo_lock_parts.specs.Checksum.{digest_of};

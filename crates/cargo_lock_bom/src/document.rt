@@ -1,20 +1,18 @@
 //! The bill of materials of a lockfile.
 
-ghost use Rattle.std.specs.Prelude.{◌≡◌, ◌<◌, IfErr, IfOk, IfSome, None, Some, cond, length};
-ghost use Rattle.std.specs.Prelude.{option_copied, option_map, string_bytes};
+ghost use Rattle.std.specs.Prelude.{◌≡◌, ◌<◌, IfErr, IfOk, IfSome, Some, cond, length};
+ghost use Rattle.std.specs.Prelude.{option_map, string_bytes};
 ghost use Rattle.json.specs.Layout.{pretty};
 ghost use Rattle.json.specs.Print.{print};
 ghost use Rattle.serde_json.specs.Read.{read};
 ghost use Rattle.serde_json.specs.View.{view};
 ghost use Rattle.cargo_lock_parts.specs.declared.error.Error.TheVariants.{Memory};
-ghost use Rattle.cargo_lock_bom.specs.Contents.{AreContents, IsTextOf, bill_with};
-ghost use Rattle.cargo_lock_bom.specs.Contents.{with_serial_if};
+ghost use Rattle.cargo_lock_bom.specs.Contents.{AreContents, IsTextOf, bill_with, with_serial_if};
 ghost use Rattle.cargo_lock_bom.specs.Document.{IsBill, IsBillText, IsLaidOut};
 ghost use Rattle.cargo_lock_bom.specs.Draft.{Adds, data_tokens};
 ghost use Rattle.cargo_lock_bom.specs.Options.{within};
 ghost use Rattle.cargo_lock_bom.specs.References.{IsRepeatedFault};
 ghost use Rattle.cargo_lock_bom.specs.Serial.{numbered};
-ghost use Rattle.cargo_lock_bom.specs.Serial as spec;
 
 use crate::component::{put_components, put_text_if};
 use crate::contents::{Contents, contents_of};
@@ -30,8 +28,8 @@ use serde_json::Value;
 use std::alloc::{AllocError, Global};
 
 /// The text of the bill of materials of a graph, with one member or item per line, indented: its
-/// packages, and for each package the packages on which it
-/// depends by the graph's edges. The graph of a lockfile is that of its tree.
+/// packages, and for each package the packages on which it depends by the graph's edges. The graph
+/// of a lockfile is that of its tree.
 ///
 /// The member `components` has a package of crates.io as `{"bom-ref":
 /// "registry+https://github.com/rust-lang/crates.io-index#serde@1.0.203", "hashes": [{"alg":
