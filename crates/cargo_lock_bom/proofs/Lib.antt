@@ -3,7 +3,12 @@ pub mod Entries
 pub mod Escapes
 pub mod Seen
 pub mod Depths
-pub mod Floats
+pub mod Members
+pub mod Outlines
+pub mod Ordered
+pub mod Texts
+pub mod Writing
+pub mod Bills
 pub mod Ats
 pub mod Chosen
 pub mod Ways

@@ -12,3 +12,5 @@ pub mod Metadata
 pub mod Serial
 pub mod Document
 pub mod Printed
+pub mod Draft
+pub mod Contents

@@ -1,103 +1,122 @@
 //! The components of a bill of materials: the root, and the other packages, in order, each listed
 //! once.
 
-ghost use Rattle.std.specs.Prelude.{◌≡◌, ◌<◌, All, IfOk, OnOk, Some, length, map, option_copied};
-ghost use Rattle.std.specs.Prelude.{option_map, string_bytes};
-ghost use Rattle.serde_json.specs.Data.{string};
-ghost use Rattle.serde_json.specs.View.{members_view, view};
+ghost use Rattle.std.specs.Prelude.{◌≡◌, ◌<◌, All, Some, codes, length, map};
+ghost use Rattle.std.specs.Prelude.{option_copied, option_map, string_bytes};
+ghost use Rattle.serde_json.specs.Data.{array, string};
+ghost use Rattle.serde_json.specs.View.{items_of};
 ghost use Rattle.cargo_lock_parts.specs.Checksum.{digest_of};
 ghost use Rattle.cargo_lock_parts.specs.Identity.{identity_of};
-ghost use Rattle.cargo_lock_bom.specs.Component.{AreComponents, base_members, component_at};
-ghost use Rattle.cargo_lock_bom.specs.Component.{component_of, hashes_of, license_at, licenses_of};
-ghost use Rattle.cargo_lock_bom.specs.Component.{repositories_if, repositories_of, type_text};
+ghost use Rattle.cargo_lock_bom.specs.Component.{component_at, component_of, hashes_of};
+ghost use Rattle.cargo_lock_bom.specs.Component.{license_at, licenses_of, repositories_if};
+ghost use Rattle.cargo_lock_bom.specs.Component.{repositories_of, root_component, type_text};
 ghost use Rattle.cargo_lock_bom.specs.Component.{workspace_component};
-ghost use Rattle.cargo_lock_bom.specs.Component as spec;
+ghost use Rattle.cargo_lock_bom.specs.Draft.{Adds, data_tokens, member_tokens};
 ghost use Rattle.cargo_lock_bom.specs.Purl.{purl_of};
+ghost use Rattle.cargo_lock_bom.specs.References.{package_reference};
 ghost use Rattle.cargo_lock_bom.specs.Root.{IsWithin};
 
 use crate::iri::iri_text;
 use crate::purl::purl;
-use crate::reference::reference;
-use crate::root::{Root, is_application, others};
+use crate::reference::text_at;
+use crate::root::{Root, is_application};
+use crate::text::Text;
 use cargo_lock_graph::graph::{Graph, NodeIndex};
 use cargo_lock_parts::package::{Checksum, Package, SourceId, SourceKind};
-use serde_json::{Map, Value, json, put};
 use std::alloc::{AllocError, Global};
 
-/// The components of the packages of a graph that are not its root, with these licence expressions
-/// of the packages. Fails when out of memory.
-pub(crate) fn components(
+/// Writes the components of the packages of some nodes, with these licence expressions of the
+/// packages and these texts that refer to them. Fails when out of memory.
+pub(crate) fn put_components(
+    out: &mut Text,
     alloc: Global,
     graph: &Graph,
     licenses: &[Option<String>],
-    root: &Root,
-) -> Result<Vec<Value>, AllocError>
-    ensures { IfOk result (λ made. AreComponents graph.now
-        (map (option_map string_bytes) licenses.now) root.now (map view made.items)) }
-{
-    let nodes = others(alloc, graph, root)?;
-    let made = components_of(alloc, graph, licenses, &nodes)?;
-    Ok(made)
-}
-
-// The components of the packages of some nodes.
-fn components_of(
-    alloc: Global,
-    graph: &Graph,
-    licenses: &[Option<String>],
+    texts: &[String],
     nodes: &[usize],
-) -> Result<Vec<Value>, AllocError>
-    requires { All (λ k. k < length graph.now.packages) nodes.now }
-    ensures { IfOk result (λ made. map view made.items
-        ≡ map (component_at graph.now (map (option_map string_bytes) licenses.now)) nodes.now) }
+) -> Result<(), AllocError>
+    requires within { All (λ k. k < length graph.now.packages) nodes.now }
+    requires texts { map string_bytes texts.now ≡ map package_reference graph.now.packages }
+    ensures { Adds result out.old out.new (data_tokens (array (items_of
+        (map (component_at graph.now (map (option_map string_bytes) licenses.now)) nodes.now)))) }
 {
-    let mut made = Vec::with_capacity(alloc, nodes.len())?;
+    out.begin_array()?;
     for node in nodes {
-        made.push(component(alloc, graph, licenses, NodeIndex::new(*node))?)?;
+        put_component(out, alloc, graph, licenses, texts, NodeIndex::new(*node))?;
     }
-    Ok(made)
+    out.end_array()
 }
 
-/// The component of the root, if there is one, with these licence expressions of the packages. Fails
-/// when out of memory.
-pub(crate) fn root_component(
+/// Writes the member with the component of the root, if there is one, with these licence
+/// expressions of the packages and these texts that refer to them. Fails when out of memory.
+pub(crate) fn put_root(
+    out: &mut Text,
     alloc: Global,
     graph: &Graph,
     licenses: &[Option<String>],
+    texts: &[String],
     root: &Root,
-) -> Result<Option<Value>, AllocError>
-    requires { IsWithin graph.now.packages root.now }
-    ensures { IfOk result (λ made. option_map view made ≡ spec.root_component graph.now
-        (map (option_map string_bytes) licenses.now) root.now) }
+) -> Result<(), AllocError>
+    requires within { IsWithin graph.now.packages root.now }
+    requires texts { map string_bytes texts.now ≡ map package_reference graph.now.packages }
+    ensures { Adds result out.old out.new (member_tokens (codes "component")
+        (root_component graph.now (map (option_map string_bytes) licenses.now) root.now)) }
 {
     match root {
-        Root::Package(node) => Ok(Some(component(alloc, graph, licenses, *node)?)),
-        Root::Workspace => Ok(Some(workspace(alloc)?)),
-        Root::Nothing => Ok(None),
+        Root::Package(node) => put_package(out, alloc, graph, licenses, texts, *node),
+        Root::Workspace => put_workspace(out),
+        Root::Nothing => Ok(()),
     }
 }
 
-// The component that represents the packages of the workspace together.
-fn workspace(alloc: Global) -> Result<Value, AllocError>
-    ensures { IfOk result (λ v. view v ≡ workspace_component) }
-{
-    json!(in alloc; {"bom-ref": "workspace", "name": "workspace", "type": "application"})
-}
-
-fn component(
+// Writes the member with the component of the package of a node.
+fn put_package(
+    out: &mut Text,
     alloc: Global,
     graph: &Graph,
     licenses: &[Option<String>],
+    texts: &[String],
     node: NodeIndex,
-) -> Result<Value, AllocError>
-    requires { node < length graph.now.packages }
-    ensures { IfOk result (λ v. view v
-        ≡ component_at graph.now (map (option_map string_bytes) licenses.now) node) }
+) -> Result<(), AllocError>
+    requires within { node < length graph.now.packages }
+    requires texts { map string_bytes texts.now ≡ map package_reference graph.now.packages }
+    ensures { Adds result out.old out.new (member_tokens (codes "component")
+        (Some (component_at graph.now (map (option_map string_bytes) licenses.now) node))) }
+{
+    out.key("component")?;
+    put_component(out, alloc, graph, licenses, texts, node)
+}
+
+// Writes the member with the component that represents the packages of the workspace together.
+fn put_workspace(out: &mut Text) -> Result<(), AllocError>
+    ensures { Adds result out.old out.new (member_tokens (codes "component")
+        (Some workspace_component)) }
+{
+    out.key("component")?;
+    out.begin_object()?;
+    out.string_member("bom-ref", "workspace")?;
+    out.string_member("name", "workspace")?;
+    out.string_member("type", "application")?;
+    out.end_object()
+}
+
+fn put_component(
+    out: &mut Text,
+    alloc: Global,
+    graph: &Graph,
+    licenses: &[Option<String>],
+    texts: &[String],
+    node: NodeIndex,
+) -> Result<(), AllocError>
+    requires within { node < length graph.now.packages }
+    requires texts { map string_bytes texts.now ≡ map package_reference graph.now.packages }
+    ensures { Adds result out.old out.new (data_tokens
+        (component_at graph.now (map (option_map string_bytes) licenses.now) node)) }
 {
     let application = is_application(alloc, graph, node)?;
     let license = license_at(licenses, node);
-    let made = component_of(alloc, application, license, &graph[node])?;
-    Ok(made)
+    let text = text_at(texts, node.index());
+    put_component_of(out, alloc, application, license, text, &graph[node])
 }
 
 // The licence expression of the package of a node, if it is there.
@@ -110,65 +129,30 @@ fn license_at(licenses: &[Option<String>], node: NodeIndex) -> Option<&str>
     }
 }
 
-// The component of a package, as an application or as a library, with this licence expression, if
-// it is there.
-#[tactic(auto, unfolding(crate::specs::Component::component_of))]
-fn component_of(
+// Writes the component of a package, as an application or as a library, with this licence
+// expression, if it is there, and with the text that refers to it.
+fn put_component_of(
+    out: &mut Text,
     alloc: Global,
     application: bool,
     license: Option<&str>,
+    text: &str,
     package: &Package,
-) -> Result<Value, AllocError>
-    ensures { IfOk result
-        (λ v. view v ≡ component_of application (option_copied license.entry) «package».now) }
+) -> Result<(), AllocError>
+    requires { text.now ≡ package_reference «package».now }
+    ensures { Adds result out.old out.new (data_tokens
+        (component_of application (option_copied license.entry) «package».now)) }
 {
-    let mut members = base(alloc, application, package)?;
-    let purl = purl_value(alloc, package)?;
-    put_some(&mut members, alloc, "purl", purl)?;
-    let licenses = licenses(alloc, license)?;
-    put_some(&mut members, alloc, "licenses", licenses)?;
-    let hashes = hashes(alloc, &package.checksum)?;
-    put_some(&mut members, alloc, "hashes", hashes)?;
-    let repositories = repositories(alloc, &package.source)?;
-    put_some(&mut members, alloc, "externalReferences", repositories)?;
-    Ok(Value::Object(members))
-}
-
-// The members that each component has.
-fn base(
-    alloc: Global,
-    application: bool,
-    package: &Package,
-) -> Result<Map<String, Value>, AllocError>
-    ensures { IfOk result
-        (λ m. members_view m.entries ≡ base_members application «package».now) }
-{
-    let mut members = Map::new(alloc);
-    put(
-        &mut members,
-        alloc,
-        "bom-ref",
-        Value::String(reference(alloc, package)?),
-    )?;
-    put(
-        &mut members,
-        alloc,
-        "name",
-        Value::String(package.name.to_string(alloc)?),
-    )?;
-    put(
-        &mut members,
-        alloc,
-        "type",
-        Value::String(String::from_str(alloc, type_text(application))?),
-    )?;
-    put(
-        &mut members,
-        alloc,
-        "version",
-        Value::String(package.version.to_string(alloc)?),
-    )?;
-    Ok(members)
+    out.begin_object()?;
+    out.string_member("bom-ref", text)?;
+    put_repositories(out, alloc, &package.source)?;
+    put_hashes(out, alloc, &package.checksum)?;
+    put_licenses(out, license)?;
+    out.string_member("name", package.name.as_str())?;
+    put_purl(out, alloc, package)?;
+    out.string_member("type", type_text(application))?;
+    out.displayed_member(alloc, "version", &package.version)?;
+    out.end_object()
 }
 
 // The type of a component.
@@ -182,105 +166,133 @@ fn type_text(application: bool) -> &'static str
     }
 }
 
-// The package URL, if there is one.
-fn purl_value(alloc: Global, package: &Package) -> Result<Option<Value>, AllocError>
-    ensures { IfOk result (λ v.
-        option_map view v ≡ option_map string (purl_of (identity_of «package».now))) }
+// Writes the member with the package URL, if there is one.
+fn put_purl(out: &mut Text, alloc: Global, package: &Package) -> Result<(), AllocError>
+    ensures { Adds result out.old out.new (member_tokens (codes "purl")
+        (option_map string (purl_of (identity_of «package».now)))) }
 {
-    match purl(alloc, package)? {
-        Some(text) => Ok(Some(Value::String(text))),
-        None => Ok(None),
+    let text = purl(alloc, package)?;
+    put_text_if(out, "purl", &text)
+}
+
+/// Writes a member whose value is a text, if there is one. Fails when out of memory.
+pub(crate) fn put_text_if(
+    out: &mut Text,
+    name: &str,
+    text: &Option<String>,
+) -> Result<(), AllocError>
+    ensures { Adds result out.old out.new (member_tokens name.now
+        (option_map string (option_map string_bytes text.now))) }
+{
+    match text {
+        Some(text) => out.string_member(name, text.as_str()),
+        None => Ok(()),
     }
 }
 
-// The list with the one licence expression of a package, if it is there.
-fn licenses(alloc: Global, license: Option<&str>) -> Result<Option<Value>, AllocError>
-    ensures { IfOk result (λ v.
-        option_map view v ≡ option_map licenses_of (option_copied license.entry)) }
+// Writes the member with the licence expression of a package, if it is there.
+fn put_licenses(out: &mut Text, license: Option<&str>) -> Result<(), AllocError>
+    ensures { Adds result out.old out.new (member_tokens (codes "licenses")
+        (option_map licenses_of (option_copied license.entry))) }
 {
     match license {
-        Some(license) => Ok(Some(licenses_of(alloc, license)?)),
-        None => Ok(None),
+        Some(license) => put_license(out, license),
+        None => Ok(()),
     }
 }
 
-// The list with this licence expression.
-fn licenses_of(alloc: Global, license: &str) -> Result<Value, AllocError>
-    ensures { IfOk result (λ v. view v ≡ licenses_of license.now) }
+fn put_license(out: &mut Text, license: &str) -> Result<(), AllocError>
+    ensures { Adds result out.old out.new (member_tokens (codes "licenses")
+        (Some (licenses_of license.now))) }
 {
-    let expression = String::from_str(alloc, license)?;
-    json!(in alloc; [{"expression": expression}])
+    out.key("licenses")?;
+    out.begin_array()?;
+    out.begin_object()?;
+    out.string_member("expression", license)?;
+    out.end_object()?;
+    out.end_array()
 }
 
-// The list with the one hash of a package, if it has a checksum.
-fn hashes(alloc: Global, checksum: &Option<Checksum>) -> Result<Option<Value>, AllocError>
-    ensures { IfOk result (λ v.
-        option_map view v ≡ option_map hashes_of (option_map digest_of checksum.now)) }
+// Writes the member with the hash of a package, if it has a checksum.
+fn put_hashes(out: &mut Text, alloc: Global, checksum: &Option<Checksum>) -> Result<(), AllocError>
+    ensures { Adds result out.old out.new (member_tokens (codes "hashes")
+        (option_map hashes_of (option_map digest_of checksum.now))) }
 {
     match checksum {
-        Some(checksum) => {
-            let content = checksum.to_string(alloc)?;
-            let list = json!(in alloc; [{"alg": "SHA-256", "content": content}])?;
-            Ok(Some(list))
-        }
-        None => Ok(None),
+        Some(checksum) => put_hash(out, alloc, checksum),
+        None => Ok(()),
     }
 }
 
-// The list with the one repository of a package, if its source is one.
-fn repositories(alloc: Global, source: &Option<SourceId>) -> Result<Option<Value>, AllocError>
-    ensures { IfOk result (λ v. option_map view v ≡ repositories_if source.now) }
+fn put_hash(out: &mut Text, alloc: Global, checksum: &Checksum) -> Result<(), AllocError>
+    ensures { Adds result out.old out.new (member_tokens (codes "hashes")
+        (Some (hashes_of (digest_of checksum.now)))) }
+{
+    out.key("hashes")?;
+    out.begin_array()?;
+    out.begin_object()?;
+    out.string_member("alg", "SHA-256")?;
+    out.displayed_member(alloc, "content", checksum)?;
+    out.end_object()?;
+    out.end_array()
+}
+
+// Writes the member with the repository of a package, if its source is one.
+fn put_repositories(
+    out: &mut Text,
+    alloc: Global,
+    source: &Option<SourceId>,
+) -> Result<(), AllocError>
+    ensures { Adds result out.old out.new (member_tokens (codes "externalReferences")
+        (repositories_if source.now)) }
 {
     match source {
-        Some(source) => repositories_of(alloc, source),
-        None => Ok(None),
+        Some(source) => put_repositories_of(out, alloc, source),
+        None => Ok(()),
     }
 }
 
-// The list with the one repository, if the source is one.
-fn repositories_of(alloc: Global, source: &SourceId) -> Result<Option<Value>, AllocError>
-    ensures { IfOk result (λ v. option_map view v ≡ repositories_if (Some source.now)) }
+// Writes the member with the repository, if the source is one.
+fn put_repositories_of(out: &mut Text, alloc: Global, source: &SourceId) -> Result<(), AllocError>
+    ensures { Adds result out.old out.new (member_tokens (codes "externalReferences")
+        (repositories_if (Some source.now))) }
 {
     match source.kind() {
         SourceKind::Git(_) => {
             let url = iri_text(alloc, source.url())?;
-            Ok(Some(repository(alloc, url, source.precise())?))
+            put_repository(out, url.as_str(), source.precise())
         }
-        SourceKind::Path => Ok(None),
-        SourceKind::Registry => Ok(None),
-        SourceKind::SparseRegistry => Ok(None),
-        SourceKind::LocalRegistry => Ok(None),
-        SourceKind::Directory => Ok(None),
+        SourceKind::Path => Ok(()),
+        SourceKind::Registry => Ok(()),
+        SourceKind::SparseRegistry => Ok(()),
+        SourceKind::LocalRegistry => Ok(()),
+        SourceKind::Directory => Ok(()),
     }
 }
 
-// The list with the one repository at a URL, with the commit, tag, branch or revision, if it is
-// known.
-fn repository(alloc: Global, url: String, precise: Option<&str>) -> Result<Value, AllocError>
-    ensures { IfOk result (λ v.
-        view v ≡ repositories_of (string_bytes url) (option_copied precise.entry)) }
+// Writes the member with the repository at a URL, with the commit, tag, branch or revision, if it
+// is known.
+fn put_repository(out: &mut Text, url: &str, precise: Option<&str>) -> Result<(), AllocError>
+    ensures { Adds result out.old out.new (member_tokens (codes "externalReferences")
+        (Some (repositories_of url.now (option_copied precise.entry)))) }
+{
+    out.key("externalReferences")?;
+    out.begin_array()?;
+    out.begin_object()?;
+    put_comment(out, precise)?;
+    out.string_member("type", "vcs")?;
+    out.string_member("url", url)?;
+    out.end_object()?;
+    out.end_array()
+}
+
+// Writes the member with the commit, tag, branch or revision, if it is known.
+fn put_comment(out: &mut Text, precise: Option<&str>) -> Result<(), AllocError>
+    ensures { Adds result out.old out.new (member_tokens (codes "comment")
+        (option_map string (option_copied precise.entry))) }
 {
     match precise {
-        Some(precise) => {
-            let comment = String::from_str(alloc, precise)?;
-            json!(in alloc; [{"comment": comment, "type": "vcs", "url": url}])
-        }
-        None => json!(in alloc; [{"type": "vcs", "url": url}]),
-    }
-}
-
-/// Sets a member, if there is a value for it. Fails when out of memory.
-pub(crate) fn put_some(
-    members: &mut Map<String, Value>,
-    alloc: Global,
-    key: &str,
-    value: Option<Value>,
-) -> Result<(), AllocError>
-    ensures { OnOk result (members_view members.new.entries
-        ≡ spec.put_some key.now (option_map view value) (members_view members.old.entries)) }
-{
-    match value {
-        Some(value) => put(members, alloc, key, value),
+        Some(precise) => out.string_member("comment", precise),
         None => Ok(()),
     }
 }

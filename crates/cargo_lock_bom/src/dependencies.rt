@@ -3,24 +3,37 @@
 ghost use Rattle.std.specs.Prelude.{◌≡◌, ◌<◌, ◌∷◌, ◌++◌, [], All, IfOk, codes, length, map};
 ghost use Rattle.std.specs.Prelude.{string_bytes};
 ghost use Rattle.std.specs.List.{AllZip, range_with_len};
-ghost use Rattle.serde_json.specs.Data.{Data, array, member, no_members, object, string};
-ghost use Rattle.serde_json.specs.View.{items_view, view};
+ghost use Rattle.json.specs.Token as token;
+ghost use Rattle.serde_json.specs.Data.{Data, array, string};
+ghost use Rattle.serde_json.specs.View.{items_of};
 ghost use Rattle.cargo_lock_graph.specs.declared.graph.EdgeDirection.TheVariants.{Outgoing};
 ghost use Rattle.cargo_lock_graph.specs.Edges.{far_ends};
+ghost use Rattle.cargo_lock_bom.specs.Contents.{entry_by, entry_for, own_text, text_at};
 ghost use Rattle.cargo_lock_bom.specs.Dependencies.{AreEntries, AreTargets, IsEntry};
 ghost use Rattle.cargo_lock_bom.specs.Dependencies.{IsWorkspaceEntry};
-ghost use Rattle.cargo_lock_bom.specs.Dependencies as spec;
+ghost use Rattle.cargo_lock_bom.specs.Draft.{Adds, data_tokens};
 
-use crate::reference::reference;
+use crate::reference::text_at;
 use crate::root::{Root, members};
+use crate::text::Text;
 use cargo_lock_graph::graph::{EdgeDirection, Graph, NodeIndex};
-use serde_json::{Value, json};
 use std::alloc::{AllocError, Global};
+
+/// The nodes of an entry.
+#[derive(Drop)]
+pub(crate) struct Entry {
+    /// The node of its package, or `None` if the entry is that of the workspace.
+    pub of: Option<NodeIndex>,
+
+    /// The nodes of the packages on which that depends, ascending.
+    pub on: Vec<usize>,
+}
 
 /// The entries of the nodes of a graph, in order, and then the entry of the workspace, if it is the
 /// root. Fails when out of memory.
-pub(crate) fn entries(alloc: Global, graph: &Graph, root: &Root) -> Result<Vec<Value>, AllocError>
-    ensures { IfOk result (λ made. AreEntries graph.now root.now (map view made.items)) }
+pub(crate) fn entries(alloc: Global, graph: &Graph, root: &Root) -> Result<Vec<Entry>, AllocError>
+    ensures { IfOk result (λ made. AreEntries graph.now root.now
+        (map (entry_for graph.now.packages) made.items)) }
 {
     let made = node_entries(alloc, graph)?;
     match root {
@@ -34,10 +47,11 @@ pub(crate) fn entries(alloc: Global, graph: &Graph, root: &Root) -> Result<Vec<V
 fn with_workspace(
     alloc: Global,
     graph: &Graph,
-    entries: Vec<Value>,
-) -> Result<Vec<Value>, AllocError>
+    entries: Vec<Entry>,
+) -> Result<Vec<Entry>, AllocError>
     ensures { IfOk result (λ made. (d : Data) × IsWorkspaceEntry graph.now.packages d
-        × (map view made.items ≡ map view entries.items ++ d ∷ [])) }
+        × (map (entry_for graph.now.packages) made.items
+        ≡ map (entry_for graph.now.packages) entries.items ++ d ∷ [])) }
 {
     let own = workspace_entry(alloc, graph)?;
     let mut made = entries;
@@ -45,61 +59,84 @@ fn with_workspace(
     Ok(made)
 }
 
-fn workspace_entry(alloc: Global, graph: &Graph) -> Result<Value, AllocError>
-    ensures { IfOk result (λ v. IsWorkspaceEntry graph.now.packages (view v)) }
+fn workspace_entry(alloc: Global, graph: &Graph) -> Result<Entry, AllocError>
+    ensures { IfOk result (λ e. IsWorkspaceEntry graph.now.packages
+        (entry_for graph.now.packages e)) }
 {
-    let members = members(alloc, graph)?;
-    let on = references(alloc, graph, &members)?;
-    let own = String::from_str(alloc, "workspace")?;
-    let made = entry_of(alloc, own, on)?;
-    Ok(made)
+    let on = members(alloc, graph)?;
+    Ok(Entry { of: None, on })
 }
 
 // The entries of the nodes of a graph, in order.
-fn node_entries(alloc: Global, graph: &Graph) -> Result<Vec<Value>, AllocError>
+fn node_entries(alloc: Global, graph: &Graph) -> Result<Vec<Entry>, AllocError>
     ensures { IfOk result (λ made. AllZip (IsEntry graph.now)
-        (range_with_len 0 (length graph.now.packages)) (map view made.items)) }
+        (range_with_len 0 (length graph.now.packages))
+        (map (entry_for graph.now.packages) made.items)) }
 {
     let count = graph.node_count();
     let mut made = Vec::with_capacity(alloc, count)?;
     for node in 0..count {
-        made.push(entry(alloc, graph, NodeIndex::new(node))?)?;
+        made.push(node_entry(alloc, graph, NodeIndex::new(node))?)?;
     }
     Ok(made)
 }
 
-fn entry(alloc: Global, graph: &Graph, node: NodeIndex) -> Result<Value, AllocError>
+fn node_entry(alloc: Global, graph: &Graph, node: NodeIndex) -> Result<Entry, AllocError>
     requires { node < length graph.now.packages }
-    ensures { IfOk result (λ v. IsEntry graph.now node (view v)) }
+    ensures { IfOk result (λ e. IsEntry graph.now node (entry_for graph.now.packages e)) }
 {
-    let targets = targets(alloc, graph, node)?;
-    let on = references(alloc, graph, targets.as_slice())?;
-    let own = reference(alloc, &graph[node])?;
-    let made = entry_of(alloc, own, on)?;
-    Ok(made)
+    let on = targets(alloc, graph, node)?;
+    Ok(Entry { of: Some(node), on })
 }
 
-// The entry of a text, with the texts of the packages on which its package depends.
-fn entry_of(alloc: Global, own: String, on: Vec<Value>) -> Result<Value, AllocError>
-    ensures { IfOk result (λ v. view v ≡ object
-        (member (codes "dependsOn") (array (items_view on.items))
-        (member (codes "ref") (string (string_bytes own)) no_members))) }
+/// Writes entries, with these texts that refer to the packages of nodes. Fails when out of memory.
+pub(crate) fn put_entries(
+    out: &mut Text,
+    texts: &[String],
+    entries: &[Entry],
+) -> Result<(), AllocError>
+    ensures { Adds result out.old out.new (data_tokens (array (items_of
+        (map (entry_by (map string_bytes texts.now)) entries.now)))) }
 {
-    json!(in alloc; {"ref": own, "dependsOn": Value::Array(on)})
-}
-
-// The texts that refer to the packages of some nodes.
-fn references(alloc: Global, graph: &Graph, nodes: &[usize]) -> Result<Vec<Value>, AllocError>
-    requires { All (λ k. k < length graph.now.packages) nodes.now }
-    ensures { IfOk result (λ made. map view made.items
-        ≡ map (λ k. string (spec.node_reference graph.now.packages k)) nodes.now) }
-{
-    let mut made = Vec::with_capacity(alloc, nodes.len())?;
-    for node in nodes {
-        let text = reference(alloc, &graph[NodeIndex::new(*node)])?;
-        made.push(Value::String(text))?;
+    out.begin_array()?;
+    for entry in entries {
+        put_entry(out, texts, entry)?;
     }
-    Ok(made)
+    out.end_array()
+}
+
+fn put_entry(out: &mut Text, texts: &[String], entry: &Entry) -> Result<(), AllocError>
+    ensures { Adds result out.old out.new (data_tokens
+        (entry_by (map string_bytes texts.now) entry.now)) }
+{
+    out.begin_object()?;
+    out.key("dependsOn")?;
+    put_texts(out, texts, entry.on.as_slice())?;
+    put_own_text(out, texts, entry.of)?;
+    out.end_object()
+}
+
+// Writes the texts of some nodes.
+fn put_texts(out: &mut Text, texts: &[String], nodes: &[usize]) -> Result<(), AllocError>
+    ensures { Adds result out.old out.new (data_tokens (array (items_of
+        (map (λ k. string (text_at (map string_bytes texts.now) k)) nodes.now)))) }
+{
+    out.begin_array()?;
+    for node in nodes {
+        out.string(text_at(texts, *node))?;
+    }
+    out.end_array()
+}
+
+// Writes the member with the text of a node, or of the workspace.
+fn put_own_text(out: &mut Text, texts: &[String], node: Option<NodeIndex>) -> Result<(), AllocError>
+    ensures { Adds result out.old out.new (token.key (codes "ref")
+        ∷ token.string (own_text (map string_bytes texts.now) node) ∷ []) }
+{
+    match node {
+        Some(node) => out.string_member("ref", text_at(texts, node.index())),
+        None => out.string_member("ref", "workspace"),
+    }
 }
 
 // The nodes to which the edges of a node lead, ascending, each listed once.

@@ -1,29 +1,35 @@
 //! The bill of materials of a lockfile.
 
-ghost use Rattle.std.specs.Prelude.{◌≡◌, ◌<◌, IfErr, IfOk, IfSome, length, map, string_bytes};
+ghost use Rattle.std.specs.Prelude.{◌≡◌, ◌<◌, IfErr, IfOk, IfSome, Some, cond, length};
+ghost use Rattle.std.specs.Prelude.{option_map, string_bytes};
 ghost use Rattle.json.specs.Layout.{pretty};
 ghost use Rattle.json.specs.Print.{print};
+ghost use Rattle.serde_json.specs.Read.{read};
 ghost use Rattle.serde_json.specs.View.{view};
-ghost use Rattle.cargo_lock_bom.specs.Document.{IsAbout, IsBill, IsBillText, IsLaidOut};
-ghost use Rattle.cargo_lock_bom.specs.Document as spec;
+ghost use Rattle.cargo_lock_parts.specs.declared.error.Error.TheVariants.{Memory};
+ghost use Rattle.cargo_lock_bom.specs.Contents.{AreContents, IsTextOf, bill_with, with_serial_if};
+ghost use Rattle.cargo_lock_bom.specs.Document.{IsBill, IsBillText, IsLaidOut};
+ghost use Rattle.cargo_lock_bom.specs.Draft.{Adds, data_tokens};
 ghost use Rattle.cargo_lock_bom.specs.Options.{within};
 ghost use Rattle.cargo_lock_bom.specs.References.{IsRepeatedFault};
-ghost use Rattle.cargo_lock_bom.specs.Root.{IsWithin};
+ghost use Rattle.cargo_lock_bom.specs.Serial.{numbered};
 
-use crate::component::components;
-use crate::dependencies::entries;
-use crate::metadata::metadata;
+use crate::component::{put_components, put_text_if};
+use crate::contents::{Contents, contents_of};
+use crate::dependencies::put_entries;
+use crate::metadata::put_metadata;
 use crate::options::Options;
-use crate::reference::check_distinct;
-use crate::root::{Root, root_of};
-use crate::serial::numbered;
+use crate::reference::{check_distinct, references};
+use crate::serial::serial_text;
+use crate::text::Text;
 use cargo_lock_graph::graph::Graph;
-use cargo_lock_parts::Result;
-use serde_json::{Map, Value, put};
+use cargo_lock_parts::{Error, Result};
+use serde_json::Value;
 use std::alloc::{AllocError, Global};
 
-/// The bill of materials of a graph: its packages, and for each package the packages on which it
-/// depends by the graph's edges. The graph of a lockfile is that of its tree.
+/// The text of the bill of materials of a graph, with one member or item per line, indented: its
+/// packages, and for each package the packages on which it depends by the graph's edges. The graph
+/// of a lockfile is that of its tree.
 ///
 /// The member `components` has a package of crates.io as `{"bom-ref":
 /// "registry+https://github.com/rust-lang/crates.io-index#serde@1.0.203", "hashes": [{"alg":
@@ -45,93 +51,154 @@ use std::alloc::{AllocError, Global};
 ///
 /// `Parse` means that two packages have the same `bom-ref`, so the bill would refer to both:
 /// `two packages are NAME VERSION (SOURCE)`. The other error is `Memory`.
-pub fn document(alloc: Global, graph: &Graph, options: &Options<'_>) -> Result<Value>
-    ensures ok { IfOk result (λ v. IsBill graph.now (within graph.now «options».now) (view v)) }
-    ensures err { IfErr result (IsRepeatedFault graph.now.packages) }
-{
-    document_within(alloc, graph, &options.within(graph))
-}
-
-// The same, for a root that is a node and a time that the format can represent.
-fn document_within(alloc: Global, graph: &Graph, options: &Options<'_>) -> Result<Value>
-    requires root { IfSome «options».now.root (λ node. node < length graph.now.packages) }
-    requires time { IfSome «options».now.timestamp (λ seconds. seconds < 253_402_300_800) }
-    ensures ok { IfOk result (λ v. IsBill graph.now «options».now (view v)) }
-    ensures err { IfErr result (IsRepeatedFault graph.now.packages) }
-{
-    check_distinct(alloc, graph)?;
-    let root = root_of(alloc, graph, options.root)?;
-    let plain = bill_about(alloc, graph, &root, options)?;
-    let bill = numbered(alloc, plain, options.has_serial)?;
-    Ok(bill)
-}
-
-/// The text of the bill of materials of a graph, with one member or item per line, indented. The
-/// errors are those of `document`: `Parse` if two packages have the same `bom-ref`, and `Memory`.
 pub fn pretty_text(alloc: Global, graph: &Graph, options: &Options<'_>) -> Result<String>
     ensures ok { IfOk result (λ text. IsBillText graph.now
         (within graph.now «options».now) (string_bytes text)) }
     ensures layout { IfOk result (λ text. IsLaidOut pretty (string_bytes text)) }
     ensures err { IfErr result (IsRepeatedFault graph.now.packages) }
 {
-    Ok(document(alloc, graph, options)?.to_string_pretty(alloc)?)
+    text_within(alloc, graph, &options.within(graph), false)
 }
 
-/// The text of the bill of materials of a graph, in one line without spaces between its parts. The
-/// errors are those of `document`: `Parse` if two packages have the same `bom-ref`, and `Memory`.
+/// The text of the bill of materials of a graph, in one line without spaces between its parts: the
+/// same as that of `pretty_text` but for the layout. The errors are those of `pretty_text`: `Parse`
+/// if two packages have the same `bom-ref`, and `Memory`.
 pub fn compact_text(alloc: Global, graph: &Graph, options: &Options<'_>) -> Result<String>
     ensures ok { IfOk result (λ text. IsBillText graph.now
         (within graph.now «options».now) (string_bytes text)) }
     ensures layout { IfOk result (λ text. IsLaidOut print (string_bytes text)) }
     ensures err { IfErr result (IsRepeatedFault graph.now.packages) }
 {
-    Ok(document(alloc, graph, options)?.to_string(alloc)?)
+    text_within(alloc, graph, &options.within(graph), true)
 }
 
-// The document of a graph with this root.
-fn bill_about(
+/// The bill of materials of a graph as a value of JSON, to which a caller may add what a lockfile
+/// does not say. It is read from the text of `compact_text`, and the errors are those of that:
+/// `Parse` if two packages have the same `bom-ref`, and `Memory`.
+pub fn document(alloc: Global, graph: &Graph, options: &Options<'_>) -> Result<Value>
+    ensures ok { IfOk result (λ v. IsBill graph.now (within graph.now «options».now) (view v)) }
+    ensures err { IfErr result (IsRepeatedFault graph.now.packages) }
+{
+    let text = compact_text(alloc, graph, options)?;
+    let value = value_of(alloc, text.as_str())?;
+    Ok(value)
+}
+
+// The value of a text that reads as one, so that a reader lacks nothing but memory.
+fn value_of(alloc: Global, text: &str) -> Result<Value>
+    ensures ok { IfOk result (λ v. read text.now ≡ Some (view v)) }
+    ensures err { IfErr result (λ e. e ≡ Memory) }
+{
+    match Value::from_str(alloc, text) {
+        Ok(value) => Ok(value),
+        Err(_) => Err(Error::Memory),
+    }
+}
+
+// The text, for a root that is a node and a time that the format can represent.
+fn text_within(
     alloc: Global,
     graph: &Graph,
-    root: &Root,
     options: &Options<'_>,
-) -> std::result::Result<Value, AllocError>
-    requires within { IsWithin graph.now.packages root.now }
+    is_compact: bool,
+) -> Result<String>
+    requires root { IfSome «options».now.root (λ node. node < length graph.now.packages) }
     requires time { IfSome «options».now.timestamp (λ seconds. seconds < 253_402_300_800) }
-    ensures { IfOk result (λ v. IsAbout graph.now root.now «options».now (view v)) }
+    ensures ok { IfOk result (λ text. IsBillText graph.now «options».now (string_bytes text)) }
+    ensures layout { IfOk result
+        (λ text. IsLaidOut (cond is_compact print pretty) (string_bytes text)) }
+    ensures err { IfErr result (IsRepeatedFault graph.now.packages) }
 {
-    let components = components(alloc, graph, options.licenses, root)?;
-    let entries = entries(alloc, graph, root)?;
-    let metadata = metadata(alloc, graph, root, options)?;
-    let bill = document_of(alloc, components, entries, metadata)?;
-    Ok(bill)
+    let texts = references(alloc, graph)?;
+    check_distinct(alloc, graph, texts.as_slice())?;
+    let contents = contents_of(alloc, graph, options, texts)?;
+    let text = numbered_text(alloc, graph, options, &contents, is_compact)?;
+    Ok(text)
 }
 
-#[tactic(auto, unfolding(crate::specs::Document::document_of))]
-fn document_of(
+// The text with these contents, with its serial number if the options ask for one.
+fn numbered_text(
     alloc: Global,
-    components: Vec<Value>,
-    entries: Vec<Value>,
-    metadata: Value,
-) -> std::result::Result<Value, AllocError>
-    ensures { IfOk result (λ v. view v ≡ spec.document_of
-        (map view components.items) (map view entries.items) (view metadata)) }
+    graph: &Graph,
+    options: &Options<'_>,
+    contents: &Contents,
+    is_compact: bool,
+) -> std::result::Result<String, AllocError>
+    requires { AreContents graph.now «options».now contents.now }
+    ensures { IfOk result (λ text. IsTextOf is_compact (numbered «options».now.has_serial
+        (bill_with graph.now «options».now contents.now)) (string_bytes text)) }
 {
-    let mut members = Map::new(alloc);
-    put(
-        &mut members,
-        alloc,
-        "bomFormat",
-        Value::String(String::from_str(alloc, "CycloneDX")?),
-    )?;
-    put(&mut members, alloc, "components", Value::Array(components))?;
-    put(&mut members, alloc, "dependencies", Value::Array(entries))?;
-    put(&mut members, alloc, "metadata", metadata)?;
-    put(
-        &mut members,
-        alloc,
-        "specVersion",
-        Value::String(String::from_str(alloc, "1.6")?),
-    )?;
-    put(&mut members, alloc, "version", Value::from(1u64))?;
-    Ok(Value::Object(members))
+    let serial = serial_if(alloc, graph, options, contents)?;
+    text_with(alloc, graph, options, contents, &serial, is_compact)
+}
+
+// The serial number, if the options ask for one: that of the text in one line without it.
+fn serial_if(
+    alloc: Global,
+    graph: &Graph,
+    options: &Options<'_>,
+    contents: &Contents,
+) -> std::result::Result<Option<String>, AllocError>
+    requires { AreContents graph.now «options».now contents.now }
+    ensures { IfOk result (λ serial.
+        with_serial_if (option_map string_bytes serial)
+        (bill_with graph.now «options».now contents.now)
+        ≡ numbered «options».now.has_serial (bill_with graph.now «options».now contents.now)) }
+{
+    if !options.has_serial {
+        return Ok(None);
+    }
+    let text = text_with(alloc, graph, options, contents, &None, true)?;
+    let serial = serial_text(alloc, text.as_str())?;
+    Ok(Some(serial))
+}
+
+// The text with these contents and this serial number.
+fn text_with(
+    alloc: Global,
+    graph: &Graph,
+    options: &Options<'_>,
+    contents: &Contents,
+    serial: &Option<String>,
+    is_compact: bool,
+) -> std::result::Result<String, AllocError>
+    requires { AreContents graph.now «options».now contents.now }
+    ensures { IfOk result (λ text. IsTextOf is_compact
+        (with_serial_if (option_map string_bytes serial.now)
+        (bill_with graph.now «options».now contents.now)) (string_bytes text)) }
+{
+    let mut out = Text::new(alloc, is_compact);
+    put_bill(&mut out, alloc, graph, options, contents, serial)?;
+    Ok(out.into_string())
+}
+
+// Writes the bill with these contents and this serial number.
+fn put_bill(
+    out: &mut Text,
+    alloc: Global,
+    graph: &Graph,
+    options: &Options<'_>,
+    contents: &Contents,
+    serial: &Option<String>,
+) -> std::result::Result<(), AllocError>
+    requires { AreContents graph.now «options».now contents.now }
+    ensures { Adds result out.old out.new (data_tokens
+        (with_serial_if (option_map string_bytes serial.now)
+        (bill_with graph.now «options».now contents.now))) }
+{
+    let texts = contents.texts.as_slice();
+    let nodes = contents.nodes.as_slice();
+    out.begin_object()?;
+    out.string_member("bomFormat", "CycloneDX")?;
+    out.key("components")?;
+    put_components(out, alloc, graph, options.licenses, texts, nodes)?;
+    out.key("dependencies")?;
+    put_entries(out, texts, contents.entries.as_slice())?;
+    out.key("metadata")?;
+    put_metadata(out, alloc, graph, options, contents)?;
+    put_text_if(out, "serialNumber", serial)?;
+    out.string_member("specVersion", "1.6")?;
+    out.key("version")?;
+    out.number("1")?;
+    out.end_object()
 }

@@ -8,6 +8,7 @@
 #![tactic(auto)]
 
 mod component;
+mod contents;
 mod dependencies;
 pub mod document;
 mod iri;
@@ -20,4 +21,5 @@ mod reach;
 pub mod reference;
 pub mod root;
 mod serial;
+mod text;
 mod user_info;

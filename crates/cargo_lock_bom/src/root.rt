@@ -162,8 +162,11 @@ pub(crate) fn is_application(
 ) -> Result<bool, AllocError>
     ensures { IfOk result (λ is. is ≡ spec.is_application graph.now node) }
 {
+    if !is_member(graph, node) {
+        return Ok(false);
+    }
     let needed = is_needed(alloc, graph, node)?;
-    Ok(is_member(graph, node) && !needed)
+    Ok(!needed)
 }
 
 // Whether an edge leads to a node from another one.

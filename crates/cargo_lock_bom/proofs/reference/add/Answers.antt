@@ -12,4 +12,4 @@ returns-clause-added c q =
     let before = c.args.seen.now in
     btree_set_updates_text text before c.insert.new.self true c.in_ok-new.ensures.updates q
     ∙ cond-or (bytes_eq text q) (contains_text before q)
-    ∙ ap (λ b. contains_text before q || b) (nat_list_eq_equiv.symm text q ∙ ap (bytes_eq q) c.in_ok-text.ensures)
+    ∙ ap (λ b. contains_text before q || b) (nat_list_eq_equiv.symm text q ∙ ap (bytes_eq q) c.in_ok-text.ensures.ok)

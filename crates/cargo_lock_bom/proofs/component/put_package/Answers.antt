@@ -1,0 +1,5 @@
+use Rattle.cargo_lock_bom.proofs.Writing.{then}
+use Rattle.cargo_lock_bom.proofs.component.put_package.Goals as goal
+
+pub returns : goal.returns
+returns c = then c.in_ok-key.ensures c.put_component.ensures

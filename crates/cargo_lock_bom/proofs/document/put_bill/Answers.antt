@@ -1,0 +1,45 @@
+use Rattle.std.proofs.Common.{◌≡◌, ◌∙◌, ◌<◌, All, List, ℕ, ap, arith, length, map, option_map, string_bytes, subst, sym}
+use Rattle.std.specs.Fmt.{digits}
+use Rattle.json.proofs.Printed.Decimals.{IsNumber-decimal}
+use Rattle.serde_json.specs.Data.{Data, array}
+use Rattle.serde_json.specs.View.{items_of}
+use Rattle.cargo_lock_bom.specs.declared.dependencies.Entry.{Entry}
+use Rattle.cargo_lock_bom.specs.declared.root.Root.TheVariants.{Package}
+use Rattle.cargo_lock_bom.specs.Component.{component_at}
+use Rattle.cargo_lock_bom.specs.Contents.{entry_by, entry_for, metadata_with}
+use Rattle.cargo_lock_bom.specs.Draft.{Adds, data_tokens}
+use Rattle.cargo_lock_bom.specs.Options.{OptionsData}
+use Rattle.cargo_lock_bom.proofs.Chosen.{places-within}
+use Rattle.cargo_lock_bom.proofs.Members.{bill-tokens}
+use Rattle.cargo_lock_bom.proofs.Texts.{entries_same}
+use Rattle.cargo_lock_bom.proofs.Writing.{as_tokens, then}
+use Rattle.cargo_lock_bom.proofs.document.put_bill.Goals as goal
+
+pub put_components-requires-clause-within : goal.put_components-requires-clause-within
+put_components-requires-clause-within c =
+    let n : ℕ = length c.args.graph.now.packages in
+    subst (λ (ks : List ℕ). All (λ k. k < n) ks) (sym c.as_slice-nodes.ensures.value)
+    (places-within (λ k. ¬ (c.args.contents.now.root ≡ Package k)) n c.args.contents.now.nodes.items c.requires.are_others)
+
+pub number-requires : goal.number-requires
+unfolding digits
+number-requires c = IsNumber-decimal 1 (omega arith)
+
+pub returns : goal.returns
+returns c =
+    let graph = c.args.graph.now in
+    let options = c.args.options.now in
+    let contents = c.args.contents.now in
+    let licenses = ap (λ (o : OptionsData). data_tokens (array (items_of (map (component_at graph o.licenses) c.as_slice-nodes.result.now)))) c.options.view_is in
+    let nodes = ap (λ (ks : List ℕ). data_tokens (array (items_of (map (component_at graph options.licenses) ks)))) c.as_slice-nodes.ensures.value in
+    let texts = ap (map string_bytes) c.as_slice-texts.ensures.value ∙ c.requires.are_texts in
+    let listed = ap (λ (es : List Entry). data_tokens (array (items_of (map (entry_by (map string_bytes c.as_slice-texts.result.now)) es)))) c.as_slice.ensures.value in
+    let entries = ap (λ (ds : List Data). data_tokens (array (items_of ds))) (entries_same graph.packages (map string_bytes c.as_slice-texts.result.now) contents.entries.items texts) in
+    subst (Adds c.end_object.result c.args.out.now c.end_object.new.self)
+    (sym (bill-tokens (option_map string_bytes c.args.serial.now) (map (component_at graph options.licenses) contents.nodes.items)
+    (map (entry_for graph.packages) contents.entries.items) (metadata_with graph options contents)))
+    (then c.in_ok-begin_object.ensures (then c.in_ok-string_member.ensures (then c.in_ok-key.ensures
+    (then (as_tokens (licenses ∙ nodes) c.in_ok-put_components.ensures) (then c.in_ok-key-2.ensures
+    (then (as_tokens (listed ∙ entries) c.in_ok-put_entries.ensures) (then c.in_ok-key-3.ensures
+    (then c.in_ok-put_metadata.ensures (then c.in_ok-put_text_if.ensures (then c.in_ok-string_member-2.ensures
+    (then c.in_ok-key-4.ensures (then c.in_ok-number.ensures c.end_object.ensures))))))))))))
