@@ -100,6 +100,11 @@ pub(crate) fn is_file<R: Files>(rt: &R, path: &str) -> bool {
     fs::metadata(rt, Path::new(path)).is_ok_and(|found| found.is_file())
 }
 
+/// Whether a file is at the path, and no link to one.
+pub(crate) fn is_file_and_no_link<R: Files>(rt: &R, path: &str) -> bool {
+    fs::symlink_metadata(rt, Path::new(path)).is_ok_and(|found| found.is_file())
+}
+
 /// The error of a file or folder, with its path.
 pub(crate) fn fault_at(alloc: Global, path: &str, error: io::Error) -> Fault {
     if error.kind() == ErrorKind::OutOfMemory {

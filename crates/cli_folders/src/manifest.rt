@@ -1,6 +1,6 @@
 //! The manifests of packages.
 
-use crate::files::{fault_of, is_file, path_of, text_at};
+use crate::files::{fault_of, is_file_and_no_link, path_of, text_at};
 use cargo_lock_licenses::Manifest;
 use cargo_lock_parts::Error;
 use cli_support::Fault;
@@ -34,14 +34,14 @@ pub(crate) fn text_in<'a>(manifest: &'a Table, key: &str) -> Option<&'a str> {
         .and_then(Value::as_str)
 }
 
-/// Adds what the manifest in a folder says of the licence, if there is one.
+/// Adds what the manifest in a folder says of the licence, if there is one. A link is none.
 pub(crate) fn put_manifest<R: Files + AllocGlobal>(
     rt: &R,
     manifests: &mut Vec<Manifest>,
     folder: &str,
 ) -> Result<(), Fault> {
     let path = manifest_path(rt.alloc(), folder)?;
-    if is_file(rt, &path) {
+    if is_file_and_no_link(rt, &path) {
         let manifest = manifest_at(rt, &path)?;
         manifests.push(manifest)?;
     }

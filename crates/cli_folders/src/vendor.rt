@@ -3,7 +3,7 @@
 ghost use Rattle.std.specs.Prelude.{◌≡◌, [], IfOk, None};
 
 use crate::files::{
-    all_names_in, digest_at, fault_at, fault_of, is_file, names_in, path_of, text_at,
+    all_names_in, digest_at, fault_at, fault_of, is_file_and_no_link, names_in, path_of, text_at,
 };
 use crate::manifest::{manifest_path, put_manifest, table_at, text_in};
 use cargo_lock_licenses::Manifest;
@@ -31,8 +31,8 @@ pub struct Vendor {
 
 impl Vendor {
     /// Reads the manifests of the folders in a folder. A folder whose name begins with a dot, one
-    /// without a manifest, and one whose manifest has no name and no version are left out, and so
-    /// is a link. Fails if a folder or a manifest is not read.
+    /// without a manifest, one whose manifest is a link, and one whose manifest has no name and no
+    /// version are left out, and so is a link. Fails if a folder or a manifest is not read.
     pub fn of<R: Files + AllocGlobal>(rt: &R, folder: &str) -> Result<Vendor, Fault> {
         let mut vendor = Vendor {
             folders: BTreeMap::new(rt.alloc()),
@@ -48,7 +48,7 @@ impl Vendor {
     /// Adds what is at a path, if it is a folder with a manifest.
     fn put<R: Files + AllocGlobal>(&mut self, rt: &R, path: String) -> Result<(), Fault> {
         let manifest = manifest_path(rt.alloc(), &path)?;
-        if kind_at(rt, &path)? != Kind::Folder || !is_file(rt, &manifest) {
+        if kind_at(rt, &path)? != Kind::Folder || !is_file_and_no_link(rt, &manifest) {
             return Ok(());
         }
         match identity_at(rt, &manifest)? {
