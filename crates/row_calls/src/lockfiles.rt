@@ -122,7 +122,7 @@ pub fn around(alloc: Global, texts: Texts<'_>) -> Result<String, Error> {
     let lines = texts.subject;
     let (front, back) = lines.split_once('|').unwrap_or(("", lines));
     let at_hand = texts.at_hand;
-    line(alloc, format_args!("{front}\n{at_hand}{back}"))
+    Ok(format!(in alloc; "{front}\n{at_hand}{back}\n")?)
 }
 
 fn meaning_around(alloc: Global, texts: Texts<'_>) -> Result<String, Error> {

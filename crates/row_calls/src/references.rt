@@ -129,7 +129,7 @@ fn match_text(alloc: Global, package: &Package, dependency: &Dependency) -> Resu
     let identity = Dependency::of(package)?;
     let matches = dependency.matches(package);
     let equal = *dependency == identity;
-    line(alloc, format_args!("{matches} {equal} {identity}"))
+    Ok(format!(in alloc; "{matches} {equal} {identity}\n")?)
 }
 
 /// A reference whose version was taken away, which no text with a source reads as.

@@ -2,7 +2,7 @@
 
 use super::lockfiles::{printed, read_in};
 use cargo_lock::lockfile::encoding::{EncodableLockfile, EncodesLockfile};
-use cargo_lock::{Error, Lockfile};
+use cargo_lock::{Error, Lockfile, ResolveVersion};
 use std::alloc::Global;
 use toml::Table;
 use value_calls::{line, no_call};
@@ -52,8 +52,8 @@ fn values_of(alloc: Global, lockfile: &Lockfile) -> Result<String, Error> {
     let are_printed = are_printed(alloc, lockfile)?;
     let go_back = go_back(alloc, lockfile)?;
     match number {
-        Some(number) => line(alloc, format_args!("{number} {are_printed} {go_back}")),
-        None => line(alloc, format_args!("none {are_printed} {go_back}")),
+        Some(number) => Ok(format!(in alloc; "{number} {are_printed} {go_back}\n")?),
+        None => Ok(format!(in alloc; "none {are_printed} {go_back}\n")?),
     }
 }
 
@@ -100,10 +100,14 @@ fn numbered_text(alloc: Global, text: &str, number: &str) -> Result<String, Erro
 
 /// The format of the lockfile that these values are.
 fn numbered_format(alloc: Global, text: &str, number: &str) -> Result<String, Error> {
+    let format = format_of_numbered(alloc, text, number)?;
+    line(alloc, format_args!("{format:?}"))
+}
+
+fn format_of_numbered(alloc: Global, text: &str, number: &str) -> Result<ResolveVersion, Error> {
     let values = numbered(alloc, text, number)?;
     let lockfile = Lockfile::from_encodable(alloc, values)?;
-    let format = lockfile.version;
-    line(alloc, format_args!("{format:?}"))
+    Ok(lockfile.version)
 }
 
 /// Whether the values have the patches of the lockfile, of which there are some.

@@ -1,9 +1,11 @@
 //! Whether a file is the archive that a lockfile names, and whether folders are as their lists say.
 
+use crate::print_line;
 use cargo_lock::{Error, Lockfile, Package};
 use cargo_lock_json::{File, archives_json, folders_json};
 use cargo_lock_verify::{
-    Archive, Report, Subject, VendorReport, Vendored, digest, findings, vendored_findings,
+    Archive, Finding, FolderFinding, Report, Subject, VendorReport, Vendored, digest, findings,
+    vendored_findings,
 };
 use std::fs::OpenOptions;
 use std::path::Path;
@@ -16,10 +18,15 @@ pub fn print_wrong(rt: &HostRuntime, lockfile: &Lockfile, path: &str) -> Result<
         subjects.push(subject(rt, package, path)?)?;
     }
     let found = findings(alloc, &subjects)?;
-    for finding in &found {
+    print_findings(rt, &found)?;
+    print_document(rt, lockfile, &subjects)
+}
+
+fn print_findings(rt: &HostRuntime, found: &[Finding<'_, '_>]) -> Result<(), Error> {
+    for finding in found {
         println!(rt; "{finding}")?;
     }
-    print_document(rt, lockfile, &subjects)
+    Ok(())
 }
 
 /// Prints the document of what is wrong with archives.
@@ -28,14 +35,21 @@ fn print_document(
     lockfile: &Lockfile,
     subjects: &[Subject<'_>],
 ) -> Result<(), Error> {
+    let report = Report::of(rt.alloc(), subjects, true)?;
+    print_report(rt, lockfile, report)
+}
+
+fn print_report(
+    rt: &HostRuntime,
+    lockfile: &Lockfile,
+    report: Report<'_, '_>,
+) -> Result<(), Error> {
     let file = File {
         path: "Cargo.lock",
         format: lockfile.version,
     };
-    let report = Report::of(rt.alloc(), subjects, true)?;
     let text = archives_json(rt.alloc(), &file, &report)?;
-    println!(rt; "{text}")?;
-    Ok(())
+    print_line(rt, &text)
 }
 
 fn subject<'a>(rt: &HostRuntime, package: &'a Package, path: &str) -> Result<Subject<'a>, Error> {
@@ -61,10 +75,20 @@ pub fn print_without_folders(rt: &HostRuntime, lockfile: &Lockfile) -> Result<()
     }
     let found = vendored_findings(alloc, &vendored)?;
     let report = VendorReport::of(alloc, &vendored)?;
+    print_folders(rt, lockfile, &found, &report)
+}
+
+/// Prints the report on folders, if it has as many findings.
+fn print_folders(
+    rt: &HostRuntime,
+    lockfile: &Lockfile,
+    found: &[FolderFinding<'_, '_>],
+    report: &VendorReport<'_, '_>,
+) -> Result<(), Error> {
     if found.len() == report.findings.len() {
         print!(rt; "{report}")?;
     }
-    print_document_of_folders(rt, lockfile, &report)
+    print_document_of_folders(rt, lockfile, report)
 }
 
 /// Prints the document of what is wrong with folders.
@@ -78,6 +102,5 @@ fn print_document_of_folders(
         format: lockfile.version,
     };
     let text = folders_json(rt.alloc(), &file, report)?;
-    println!(rt; "{text}")?;
-    Ok(())
+    print_line(rt, &text)
 }

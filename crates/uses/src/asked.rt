@@ -3,6 +3,7 @@
 
 ghost use Rattle.std.specs.Prelude.{◌<◌, All, length};
 
+use crate::print_line;
 use cargo_lock::dependency::Tree;
 use cargo_lock::dependency::graph::{EdgeDirection, Graph, NodeIndex};
 use cargo_lock::{Error, Lockfile, ResolveVersion};
@@ -32,6 +33,12 @@ fn print_chains(rt: &HostRuntime, tree: &Tree, node: NodeIndex) -> Result<(), Er
         let count = chain.len();
         println!(rt; "a chain of {count} packages")?;
     }
+    print_each_chain(rt, tree, node)
+}
+
+fn print_each_chain(rt: &HostRuntime, tree: &Tree, node: NodeIndex) -> Result<(), Error>
+    requires { node < length tree.now.graph.packages }
+{
     for chain in &why_each(rt.alloc(), tree.graph(), node)? {
         let count = chain.len();
         println!(rt; "one of {count} packages from a root")?;
@@ -52,6 +59,18 @@ fn print_chains_from(
         let count = chain.len();
         println!(rt; "the shortest has {count} packages")?;
     }
+    print_roots_of(rt, tree, roots, node)
+}
+
+/// Prints how many of some nodes lead to a node.
+fn print_roots_of(
+    rt: &HostRuntime,
+    tree: &Tree,
+    roots: &[NodeIndex],
+    node: NodeIndex,
+) -> Result<(), Error>
+    requires { node < length tree.now.graph.packages }
+{
     let chains = chains_of_each(rt.alloc(), tree.graph(), roots, node)?;
     let count = chains.len();
     println!(rt; "{count} roots lead there")?;
@@ -83,8 +102,7 @@ fn print_answers_document(rt: &HostRuntime, answers: &Answers<'_>) -> Result<(),
         format: ResolveVersion::V3,
     };
     let text = answers_json(rt.alloc(), &file, &answers.answers)?;
-    println!(rt; "{text}")?;
-    Ok(())
+    print_line(rt, &text)
 }
 
 /// Prints the answer of a package to which nothing leads.
@@ -128,8 +146,7 @@ fn print_names_document(rt: &HostRuntime, listing: &Listing<'_>) -> Result<(), E
         format: ResolveVersion::V3,
     };
     let text = groups_json(rt.alloc(), &file, &listing.groups)?;
-    println!(rt; "{text}")?;
-    Ok(())
+    print_line(rt, &text)
 }
 
 /// Prints the picture of a tree as a text for Graphviz.

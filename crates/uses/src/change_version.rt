@@ -12,10 +12,20 @@ pub fn changed(
     version: &str,
 ) -> Result<Lockfile, Error> {
     let mut lockfile = lockfile.clone()?;
-    for package in &mut lockfile.packages {
+    change_all(alloc, &mut lockfile.packages, name, version)?;
+    Ok(lockfile)
+}
+
+fn change_all(
+    alloc: Global,
+    packages: &mut [Package],
+    name: &str,
+    version: &str,
+) -> Result<(), Error> {
+    for package in packages {
         change(alloc, package, name, version)?;
     }
-    Ok(lockfile)
+    Ok(())
 }
 
 fn change(alloc: Global, package: &mut Package, name: &str, version: &str) -> Result<(), Error> {

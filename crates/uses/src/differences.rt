@@ -1,5 +1,6 @@
 //! What differs between two lockfiles.
 
+use crate::print_line;
 use cargo_lock::{Error, Lockfile, ResolveVersion};
 use cargo_lock_diff::{Difference, Summary};
 use cargo_lock_json::{File, difference_json};
@@ -37,6 +38,5 @@ fn print_document(rt: &HostRuntime, difference: &Difference<'_>) -> Result<(), E
     };
     let changes = difference.all_changes(rt.alloc(), false)?;
     let text = difference_json(rt.alloc(), &old, &new, changes.as_slice())?;
-    println!(rt; "{text}")?;
-    Ok(())
+    print_line(rt, &text)
 }

@@ -1,5 +1,6 @@
 //! What is wrong with a lockfile.
 
+use crate::print_line;
 use cargo_lock::{Error, Lockfile, Package};
 use cargo_lock_check::Findings;
 use cargo_lock_findings::findings_json;
@@ -32,8 +33,7 @@ fn print_document(
     };
     let all = findings.all(rt.alloc())?;
     let text = findings_json(rt.alloc(), &file, all.as_slice())?;
-    println!(rt; "{text}")?;
-    Ok(())
+    print_line(rt, &text)
 }
 
 /// Prints the name of a package, in visible characters alone.

@@ -41,6 +41,10 @@ fn print_misplaced(rt: &HostRuntime, lockfile: &Lockfile) -> Result<(), Error> {
     for (place, at) in misplaced_dependencies(rt.alloc(), &lockfile.packages)?.as_slice() {
         println!(rt; "dependency {at} of package {place} is out of order")?;
     }
+    print_whether_in_order(rt, lockfile)
+}
+
+fn print_whether_in_order(rt: &HostRuntime, lockfile: &Lockfile) -> Result<(), Error> {
     let is_in_order = misplaced_packages(rt.alloc(), &lockfile.packages)?.is_empty();
     println!(rt; "packages are in order: {is_in_order}")?;
     Ok(())
@@ -67,9 +71,14 @@ fn print_checksums(rt: &HostRuntime, lockfile: &Lockfile) -> Result<(), Error> {
     for place in packages_without_checksum(rt.alloc(), &lockfile.packages)?.as_slice() {
         println!(rt; "package {place} has no checksum")?;
     }
+    print_whether_lost(rt, lockfile)?;
+    print_stale_keys(rt, lockfile)
+}
+
+fn print_whether_lost(rt: &HostRuntime, lockfile: &Lockfile) -> Result<(), Error> {
     let has_lost_all = !unchecked_registries(rt.alloc(), &lockfile.packages)?.is_empty();
     println!(rt; "a registry has no checksums: {has_lost_all}")?;
-    print_stale_keys(rt, lockfile)
+    Ok(())
 }
 
 fn print_stale_keys(rt: &HostRuntime, lockfile: &Lockfile) -> Result<(), Error> {

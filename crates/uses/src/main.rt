@@ -23,7 +23,8 @@ mod values;
 mod versions;
 
 use cargo_lock::dependency::Tree;
-use cargo_lock::{Error, Lockfile};
+use cargo_lock::dependency::graph::{Graph, NodeIndex};
+use cargo_lock::{Dependency, Error, Lockfile, Package};
 use std::fs;
 use std::path::Path;
 use std::process::ExitCode;
@@ -44,12 +45,18 @@ fn main(rt: HostRuntime) -> ExitCode {
 fn run(rt: &HostRuntime) -> Result<(), Error> {
     let path = Path::new(FILE);
     let lockfile = Lockfile::load(rt, rt.alloc(), path)?;
-    run_over(rt, &lockfile)?;
+    run_with(rt, path, &lockfile)
+}
+
+// A function that owns a lockfile or a tree is expensive to prove, so it passes it on at once.
+
+fn run_with(rt: &HostRuntime, path: Path<'_>, lockfile: &Lockfile) -> Result<(), Error> {
+    run_over(rt, lockfile)?;
     let is_kept = check_merge::is_file_kept(rt, path)?;
     println!(rt; "the file is kept and printed unchanged: {is_kept}")?;
     print_missing(rt)?;
-    print_values(rt, &lockfile)?;
-    print_places(rt, &lockfile)?;
+    print_values(rt, lockfile)?;
+    print_places(rt, lockfile)?;
     print_text_of(rt, path)
 }
 
@@ -67,21 +74,45 @@ fn print_missing(rt: &HostRuntime) -> Result<(), Error> {
 
 /// Runs the programs that take a lockfile.
 fn run_over(rt: &HostRuntime, lockfile: &Lockfile) -> Result<(), Error> {
-    let alloc = rt.alloc();
-    let tree = Tree::new(alloc, lockfile)?;
-    print_block(rt, "resolved dependencies", &resolved::lines(alloc, &tree)?)?;
-    print_block(
-        rt,
-        "reachable from the first package",
-        &reachable::names(alloc, &tree)?,
-    )?;
-    let lines = count_lines::of_first_tree(alloc, &tree)?;
-    println!(rt; "lines of the first tree: {lines}\n")?;
-    let read = print_and_read::printed_and_read(alloc, lockfile)?;
-    let is_equal = read == *lockfile;
-    println!(rt; "printed and read again it is equal: {is_equal}\n")?;
+    run_over_tree(rt, lockfile)?;
+    print_read(rt, lockfile)?;
     print_changed(rt, lockfile)?;
     print_made(rt)
+}
+
+fn run_over_tree(rt: &HostRuntime, lockfile: &Lockfile) -> Result<(), Error> {
+    let alloc = rt.alloc();
+    let tree = Tree::new(alloc, lockfile)?;
+    print_tree(rt, &tree)
+}
+
+fn print_tree(rt: &HostRuntime, tree: &Tree) -> Result<(), Error> {
+    print_resolved(rt, tree)?;
+    print_reachable(rt, tree)?;
+    let lines = count_lines::of_first_tree(rt.alloc(), tree)?;
+    println!(rt; "lines of the first tree: {lines}\n")?;
+    Ok(())
+}
+
+fn print_resolved(rt: &HostRuntime, tree: &Tree) -> Result<(), Error> {
+    let lines = resolved::lines(rt.alloc(), tree)?;
+    print_block(rt, "resolved dependencies", &lines)
+}
+
+fn print_reachable(rt: &HostRuntime, tree: &Tree) -> Result<(), Error> {
+    let names = reachable::names(rt.alloc(), tree)?;
+    print_block(rt, "reachable from the first package", &names)
+}
+
+fn print_read(rt: &HostRuntime, lockfile: &Lockfile) -> Result<(), Error> {
+    let is_equal = is_equal_when_read(rt, lockfile)?;
+    println!(rt; "printed and read again it is equal: {is_equal}\n")?;
+    Ok(())
+}
+
+fn is_equal_when_read(rt: &HostRuntime, lockfile: &Lockfile) -> Result<bool, Error> {
+    let read = print_and_read::printed_and_read(rt.alloc(), lockfile)?;
+    Ok(read == *lockfile)
 }
 
 fn print_changed(rt: &HostRuntime, lockfile: &Lockfile) -> Result<(), Error> {
@@ -99,6 +130,12 @@ fn print_text(rt: &HostRuntime, title: &str, lockfile: &Lockfile) -> Result<(), 
     print_block(rt, title, &text)
 }
 
+/// Prints a document of one line.
+fn print_line(rt: &HostRuntime, text: &String) -> Result<(), Error> {
+    println!(rt; "{text}")?;
+    Ok(())
+}
+
 fn print_block(rt: &HostRuntime, title: &str, lines: &String) -> Result<(), Error> {
     println!(rt; "{title}:\n{lines}")?;
     Ok(())
@@ -106,22 +143,60 @@ fn print_block(rt: &HostRuntime, title: &str, lines: &String) -> Result<(), Erro
 
 /// Runs the programs that print values, references, a drawing and other formats.
 fn print_values(rt: &HostRuntime, lockfile: &Lockfile) -> Result<(), Error> {
-    let alloc = rt.alloc();
-    print_block(rt, "\nvalues", &values::lines(alloc)?)?;
-    print_block(rt, "references", &references::lines(alloc, lockfile)?)?;
-    let dependency = references::resolved(alloc, lockfile, "tower-buffer")?;
-    let named = references::by_key(alloc, &dependency)?;
-    println!(rt; "the package of a key: {named}\n")?;
-    print_block(rt, "drawing", &drawings::drawing(alloc, lockfile)?)?;
+    print_values_read(rt)?;
+    print_references(rt, lockfile)?;
+    print_resolved_reference(rt, lockfile)?;
+    print_drawing(rt, lockfile)?;
     print_formats(rt, lockfile)
 }
 
+fn print_values_read(rt: &HostRuntime) -> Result<(), Error> {
+    let lines = values::lines(rt.alloc())?;
+    print_block(rt, "\nvalues", &lines)
+}
+
+fn print_references(rt: &HostRuntime, lockfile: &Lockfile) -> Result<(), Error> {
+    let lines = references::lines(rt.alloc(), lockfile)?;
+    print_block(rt, "references", &lines)
+}
+
+fn print_resolved_reference(rt: &HostRuntime, lockfile: &Lockfile) -> Result<(), Error> {
+    let dependency = references::resolved(rt.alloc(), lockfile, "tower-buffer")?;
+    print_by_key(rt, &dependency)
+}
+
+fn print_by_key(rt: &HostRuntime, dependency: &Dependency) -> Result<(), Error> {
+    let named = references::by_key(rt.alloc(), dependency)?;
+    println!(rt; "the package of a key: {named}\n")?;
+    Ok(())
+}
+
+fn print_drawing(rt: &HostRuntime, lockfile: &Lockfile) -> Result<(), Error> {
+    let drawing = drawings::drawing(rt.alloc(), lockfile)?;
+    print_block(rt, "drawing", &drawing)
+}
+
 fn print_formats(rt: &HostRuntime, lockfile: &Lockfile) -> Result<(), Error> {
+    print_kept(rt, lockfile)?;
+    print_equal_by_table(rt, lockfile)?;
+    print_equal_by_values(rt, lockfile)
+}
+
+fn print_kept(rt: &HostRuntime, lockfile: &Lockfile) -> Result<(), Error> {
     let is_translated = formats::translated(rt.alloc(), lockfile)?.is_some();
     let is_printed = formats::printed(rt.alloc(), lockfile)?.is_some();
     println!(rt; "V4 keeps it: {is_translated}, and its text too: {is_printed}")?;
-    print_equal(rt, lockfile, &formats::by_table(rt.alloc(), lockfile)?)?;
-    print_equal(rt, lockfile, &formats::by_values(rt.alloc(), lockfile)?)
+    Ok(())
+}
+
+fn print_equal_by_table(rt: &HostRuntime, lockfile: &Lockfile) -> Result<(), Error> {
+    let read = formats::by_table(rt.alloc(), lockfile)?;
+    print_equal(rt, lockfile, &read)
+}
+
+fn print_equal_by_values(rt: &HostRuntime, lockfile: &Lockfile) -> Result<(), Error> {
+    let read = formats::by_values(rt.alloc(), lockfile)?;
+    print_equal(rt, lockfile, &read)
 }
 
 fn print_equal(rt: &HostRuntime, one: &Lockfile, other: &Lockfile) -> Result<(), Error> {
@@ -146,46 +221,71 @@ fn print_places(rt: &HostRuntime, lockfile: &Lockfile) -> Result<(), Error> {
 
 fn print_nodes(rt: &HostRuntime, lockfile: &Lockfile) -> Result<(), Error> {
     let tree = Tree::new(rt.alloc(), lockfile)?;
+    print_nodes_of(rt, lockfile, &tree)
+}
+
+fn print_nodes_of(rt: &HostRuntime, lockfile: &Lockfile, tree: &Tree) -> Result<(), Error> {
     for package in &lockfile.packages {
-        if let Some(node) = drawings::node_of(&tree, package)? {
-            let place = node.index();
-            let names = drawings::needed_by(rt.alloc(), tree.graph(), node)?;
-            println!(rt; "node {place} needs:\n{names}")?;
+        if let Some(node) = drawings::node_of(tree, package)? {
+            print_node(rt, tree.graph(), node)?;
         }
     }
     Ok(())
 }
 
+fn print_node(rt: &HostRuntime, graph: &Graph, node: NodeIndex) -> Result<(), Error> {
+    let place = node.index();
+    let names = drawings::needed_by(rt.alloc(), graph, node)?;
+    println!(rt; "node {place} needs:\n{names}")?;
+    Ok(())
+}
+
 /// Runs the programs that ask a tree.
 fn print_asked(rt: &HostRuntime, lockfile: &Lockfile) -> Result<(), Error> {
-    let tree = Tree::new(rt.alloc(), lockfile)?;
     println!(rt; "\nreasons:")?;
     asked::print_fitting(rt, lockfile)?;
-    asked::print_reasons(rt, &tree)?;
+    let tree = Tree::new(rt.alloc(), lockfile)?;
+    print_asked_of(rt, &tree)
+}
+
+fn print_asked_of(rt: &HostRuntime, tree: &Tree) -> Result<(), Error> {
+    asked::print_reasons(rt, tree)?;
     println!(rt; "\nseveral packages of one name:")?;
-    asked::print_names(rt, &tree)?;
+    asked::print_names(rt, tree)?;
     println!(rt; "\npicture:")?;
-    asked::print_picture(rt, &tree)
+    asked::print_picture(rt, tree)
 }
 
 fn print_difference(rt: &HostRuntime, lockfile: &Lockfile) -> Result<(), Error> {
     println!(rt; "\ndifference:")?;
-    let changed = change_version::changed(rt.alloc(), lockfile, "tower-buffer", "0.3.1")?;
-    differences::print_changes(rt, lockfile, &changed)?;
+    print_difference_from(rt, lockfile)?;
     differences::print_no_change(rt, lockfile)?;
     println!(rt; "\narchives:")?;
     archives::print_wrong(rt, lockfile, FILE)?;
     archives::print_without_folders(rt, lockfile)
 }
 
+fn print_difference_from(rt: &HostRuntime, lockfile: &Lockfile) -> Result<(), Error> {
+    let changed = change_version::changed(rt.alloc(), lockfile, "tower-buffer", "0.3.1")?;
+    differences::print_changes(rt, lockfile, &changed)
+}
+
 /// Runs the programs that take the text of a lockfile.
 fn print_text_of(rt: &HostRuntime, path: Path<'_>) -> Result<(), Error> {
     println!(rt; "\nfindings:")?;
     let text = fs::read_to_string(rt, path)?;
-    findings::print_findings(rt, text.as_str())?;
-    checksums::print_lossy_sources(rt, text.as_str())?;
-    let lockfile = checksums::read(rt.alloc(), text.as_str())?;
-    for package in &lockfile.packages {
+    print_over(rt, text.as_str())
+}
+
+fn print_over(rt: &HostRuntime, text: &str) -> Result<(), Error> {
+    findings::print_findings(rt, text)?;
+    checksums::print_lossy_sources(rt, text)?;
+    let lockfile = checksums::read(rt.alloc(), text)?;
+    print_names(rt, &lockfile.packages)
+}
+
+fn print_names(rt: &HostRuntime, packages: &[Package]) -> Result<(), Error> {
+    for package in packages {
         findings::print_name(rt, package)?;
     }
     Ok(())

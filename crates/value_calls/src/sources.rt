@@ -57,8 +57,8 @@ fn parts_text(alloc: Global, source: &SourceId) -> Result<String, Error> {
     let kind = kind_text(alloc, source.kind())?;
     let url = source.url().as_str();
     match source.precise() {
-        Some(precise) => line(alloc, format_args!("{kind} {url} #{precise}")),
-        None => line(alloc, format_args!("{kind} {url}")),
+        Some(precise) => Ok(format!(in alloc; "{kind} {url} #{precise}\n")?),
+        None => Ok(format!(in alloc; "{kind} {url}\n")?),
     }
 }
 
@@ -124,7 +124,7 @@ fn tests(alloc: Global, source: &SourceId) -> Result<String, Error> {
     let git = source.is_git();
     let registry = source.is_registry();
     let remote = source.is_remote_registry();
-    line(alloc, format_args!("{path} {git} {registry} {remote}"))
+    Ok(format!(in alloc; "{path} {git} {registry} {remote}\n")?)
 }
 
 fn registry_words(alloc: Global, text: &str) -> Result<String, Error> {
@@ -137,7 +137,7 @@ fn registry_words_of(alloc: Global, source: &SourceId) -> Result<String, Error> 
     let index = source.display_index(alloc)?;
     let name = source.display_registry_name(alloc)?;
     let is_default = source.is_default_registry();
-    line(alloc, format_args!("{is_default}, {index}, {name}"))
+    Ok(format!(in alloc; "{is_default}, {index}, {name}\n")?)
 }
 
 /// The tag, branch or revision of a repository, as a URL has it.

@@ -50,10 +50,8 @@ fn formats_survived(alloc: Global, lockfile: &Lockfile) -> Result<String, Error>
 /// A line with each format and whether it keeps the lockfile.
 fn by_format(alloc: Global, kept: [bool; 4]) -> Result<String, Error> {
     let [first, second, third, fourth] = kept;
-    line(
-        alloc,
-        format_args!("V1 {first}, V2 {second}, V3 {third}, V4 {fourth}"),
-    )
+    let text = format!(in alloc; "V1 {first}, V2 {second}, V3 {third}, V4 {fourth}\n")?;
+    Ok(text)
 }
 
 fn survives(alloc: Global, lockfile: &Lockfile, format: ResolveVersion) -> Result<bool, Error> {

@@ -1,6 +1,6 @@
 //! Two sources side by side.
 
-use super::super::{line, no_call, pair};
+use super::super::{no_call, pair};
 use super::source;
 use cargo_lock_parts::error::Error;
 use cargo_lock_parts::package::SourceId;
@@ -26,12 +26,12 @@ fn ranks(alloc: Global, one: &SourceId, other: &SourceId) -> Result<String, Erro
     let rank = one.match_rank(other).unwrap_or(0);
     let back = other.match_rank(one).unwrap_or(0);
     let equal = one == other;
-    line(alloc, format_args!("{rank} {back} {equal}"))
+    Ok(format!(in alloc; "{rank} {back} {equal}\n")?)
 }
 
 /// How two sources compare, in both directions.
 fn order(alloc: Global, one: &SourceId, other: &SourceId) -> Result<String, Error> {
     let order = one.cmp(other);
     let back = other.cmp(one);
-    line(alloc, format_args!("{order:?} {back:?}"))
+    Ok(format!(in alloc; "{order:?} {back:?}\n")?)
 }
