@@ -22,6 +22,11 @@ def of_crates(pairs):
     return ", ".join(f"{counts[it]} of {it}" for it in sorted(counts))
 
 
+def others():
+    """Returns the other logics of the record."""
+    return ", ".join(sorted({*record.read_all()} - {record.logic()}))
+
+
 def how_to_record(count):
     minutes = count * SECONDS // 60 + 1
     return f"`./check --record` tries all: some {minutes} minutes of a processor for these edits"
@@ -32,8 +37,7 @@ def report(states):
     counts = {name: len(states[name]) for name in record.STATES}
     said = [f"{counts[record.HOLDS]} lines of the record hold under logic {record.logic()}"]
     if counts[record.OTHER_LOGIC]:
-        others = ", ".join(sorted({*record.read_all()} - {record.logic()}))
-        said += [f"{counts[record.OTHER_LOGIC]} lines are of logic {others}"]
+        said += [f"{counts[record.OTHER_LOGIC]} lines are of logic {others()}"]
     if counts[record.VOID]:
         void = states[record.VOID]
         said += [f"{len(void)} lines do not hold: run ./check --record ({of_crates(void)})"]
@@ -50,18 +54,16 @@ def holds(states, is_strict):
     return 1 if is_void or is_strict and states[record.OTHER_LOGIC] else 0
 
 
-def count_of(states):
-    """Returns how many edits are tried."""
-    is_of_logic = states[record.OTHER_LOGIC] and not states[record.VOID]
-    return OF_LOGIC if is_of_logic and not states[record.HOLDS] else USUAL
+def is_of_logic(states):
+    """Returns whether the lines fail to hold by the logic alone."""
+    return states[record.OTHER_LOGIC] and not states[record.VOID] and not states[record.HOLDS]
 
 
 def announce(states, drawn, seed):
     total = sum(map(len, states.values()))
     print(f"edits: sample: {len(drawn)} of {total}, seed {seed}: {of_crates(drawn)}", flush=True)
-    if len(drawn) > USUAL:
-        others = ", ".join(sorted({*record.read_all()} - {record.logic()}))
-        print(f"record of logic {others}, this is logic {record.logic()}: "
+    if is_of_logic(states):
+        print(f"record of logic {others()}, this is logic {record.logic()}: "
               f"{len(drawn)} of {total} tried", flush=True)
 
 
@@ -89,7 +91,8 @@ def tried(pair):
 def run(all_edits, seed, lanes):
     """Tries a sample, and returns how many passed and how many failed."""
     states = choice.states_of(all_edits)
-    drawn = choice.sample(states, seed, count_of(states))
+    count = OF_LOGIC if is_of_logic(states) else USUAL
+    drawn = choice.sample(states, seed, count)
     announce(states, drawn, seed)
     with ThreadPoolExecutor(lanes) as pool:
         found = [*pool.map(tried, drawn)]

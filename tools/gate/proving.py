@@ -112,21 +112,24 @@ def reckoned(top):
     return reckoning.schedule(uses, reckoning.takes_of(uses), machine.jobs())
 
 
-def prove(top, log, *words):
-    """Runs `rt ci` at the top of a repository. Returns its status and the seconds of each crate. All
-    that it prints is in the log."""
+def prove(top, log, started=lambda child: None):
+    """Runs `rt ci` at the top of a repository. Returns its status, the seconds of all processors, and
+    those of each crate. All that it prints is in the log."""
     watch = Watch(top)
     progress = Progress(len(reckoning.uses_of(lines_of(top))), watch)
     ways = {"stdout": subprocess.PIPE, "stderr": subprocess.STDOUT, "stdin": subprocess.DEVNULL}
     environment = {**os.environ, "RT_JOBS": str(machine.jobs())}
     watch.start()
-    with open(log, "w", encoding="utf-8") as out, subprocess.Popen(
-        ["rt", "ci", *words], cwd=top, env=environment, text=True, errors="replace", **ways
-    ) as run:
-        for line in run.stdout:
+    with open(log, "w", encoding="utf-8") as out:
+        child = subprocess.Popen(["rt", "ci"], cwd=top, env=environment, text=True,
+                                 errors="replace", start_new_session=True, **ways)
+        started(child)
+        for line in child.stdout:
             out.write(line)
             out.flush()
             progress.take(line)
+        _, status, used = os.wait4(child.pid, 0)
+    child.returncode = os.waitstatus_to_exitcode(status)
     watch.ended.set()
     watch.join()
-    return run.returncode, watch.seconds()
+    return child.returncode, used.ru_utime + used.ru_stime, watch.seconds()

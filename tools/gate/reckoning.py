@@ -23,8 +23,8 @@ def read(path):
     if not os.path.isfile(path):
         return {}
     with open(path, encoding="utf-8") as file:
-        rows = [line.split() for line in file if line.strip() and not line.startswith("#")]
-    return {name: float(seconds) for name, seconds in rows}
+        rows = [line.rpartition(" ") for line in file if line.strip() and not line.startswith("#")]
+    return {name: float(seconds) for name, _, seconds in rows}
 
 
 def seconds():
