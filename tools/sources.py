@@ -107,16 +107,16 @@ def name_in(line):
 
 
 class Definitions:
-    """The definitions of a file: their names with the comments above them, the lines and the words
-    that each is made of, constructors, and the comment that the file begins with."""
+    """The definitions of a file: their names with the comments above them, where each begins, the
+    lines and the words that each is made of, constructors, and the comment at the file's head."""
 
     def __init__(self, crate, module):
         self.text = read(os.path.join(TOP, "crates", crate, "specs", module + ".antt"))
         self.found, self.about, self.constructors = [], "", {}
-        self.words, self.bound, self.lines = {}, {}, {}
+        self.words, self.bound, self.lines, self.places = {}, {}, {}, {}
         self.comment, self.fixities, self.in_mutual = [], [], False
-        for line in self.text.split("\n"):
-            self.add(line)
+        for number, line in enumerate(self.text.split("\n"), 1):
+            self.add(number, line)
         imports, own = Imports(self.text), {name for name, _ in self.found}
         self.made_of = {
             name: {imports.of(it) or ((crate, module, it) if it in own else None)
@@ -124,7 +124,7 @@ class Definitions:
             for name, words in self.words.items()
         }
 
-    def add(self, line):
+    def add(self, number, line):
         """Adds a line to what is known of the file."""
         if line.startswith("--"):
             is_rule = line.startswith("-- ----")
@@ -132,7 +132,8 @@ class Definitions:
             return
         if self.begins_definition(line):
             self.found.append((name_in(line), " ".join(self.comment)))
-            self.lines[self.found[-1][0]], self.fixities, self.comment = self.fixities, [], []
+            self.places[name_in(line)] = number
+            self.lines[name_in(line)], self.fixities, self.comment = self.fixities, [], []
         elif line.strip() == "" or line.startswith("use "):
             if self.comment and not self.found and not self.about:
                 self.about = " ".join(self.comment)
