@@ -1,0 +1,110 @@
+# What the tests of the program in bash share: which program is asked, a room for its files, and the
+# counts of what holds and what fails. A test `tests/NAME/run` reads this file, and its last line is
+# `finish`.
+#
+# `here` is the folder of the repository, `program` the absolute path of the program that is named, or
+# else of the one that `rt ci` or `./install` left, and `folder` a room, which is removed at the end.
+# The last line of a test is `N passed, N failed`, with `, N skipped` if something was left out, which
+# the line before it names. The status is 0 if each case holds, 1 if one fails or there is none, and 2
+# if the program is not there or the test stops before its end.
+
+here=$(cd "$(dirname "${BASH_SOURCE[0]}")/.." && pwd)
+name=
+passed=0
+failed=0
+skipped=()
+as=()
+# The processes that end with the test.
+children=()
+is_finished=false
+
+# Ends the test by a fault: nothing more can be asked.
+stop() {
+    echo "$*" >&2
+    exit 2
+}
+
+[ $# -le 1 ] || stop 'one program is asked at a time'
+program=$(realpath -m -- "${1:-$here/crates/main/out/main}")
+[[ -f "$program" && -x "$program" ]] ||
+    stop "no program $program: build it by ./install or name it"
+folder=$(mktemp -d)
+trap leave EXIT
+trap 'exit 2' INT TERM
+
+# Ends what the test began, and removes the room. A test that stops before its end is a fault.
+leave() {
+    local status=$?
+    [ ${#children[@]} = 0 ] || kill "${children[@]}" 2> /dev/null || true
+    cd /
+    chmod -R u+rwx "$folder" 2> /dev/null || true
+    rm -rf "$folder"
+    if ! $is_finished; then
+        echo "the test stopped before its end, in the case '$name', with status $status" >&2
+        exit 2
+    fi
+}
+
+# Takes a copy of the program in the room as the program, as a file that each user may run.
+copy_program() {
+    chmod 755 "$folder"
+    cp "$program" "$folder/cargo-lock"
+    program=$folder/cargo-lock
+}
+
+# A case: an empty folder of this name in the room, which is made the current one.
+room_of() {
+    name=$1
+    as=()
+    mkdir "$folder/$name"
+    cd "$folder/$name"
+}
+
+# What is run by `"${as[@]}"` from here to the end of the case is run as one whom rights stop.
+without_rights() {
+    if [ "$(id -u)" = 0 ]; then
+        chown -R nobody .
+        as=(setpriv --reuid=nobody --clear-groups --inh-caps=-all)
+    fi
+}
+
+# Counts a thing that holds.
+hold() {
+    passed=$((passed + 1))
+}
+
+# Counts a thing that fails, and prints why.
+fail() {
+    echo "failed: $name: $*"
+    failed=$((failed + 1))
+}
+
+# Counts whether a text is as another.
+equal() {
+    if [ "$1" = "$2" ]; then hold; else fail "$1 is not $2"; fi
+}
+
+# Counts whether a file has the bytes of another.
+same() {
+    if cmp -s "$1" "$2"; then hold; else fail "$1 is not as $2"; fi
+}
+
+# Notes something that is left out, and why.
+skip() {
+    skipped+=("$1 ($2)")
+}
+
+# Prints what was left out and the counts, and ends the test.
+finish() {
+    local left_out='' separator=', '
+    if [ ${#skipped[@]} != 0 ]; then
+        left_out=$(printf "$separator%s" "${skipped[@]}")
+        echo "skipped: ${left_out#"$separator"}"
+        left_out=", ${#skipped[@]} skipped"
+    fi
+    is_finished=true
+    echo "$passed passed, $failed failed$left_out"
+    [ $failed = 0 ] || exit 1
+    [ $((passed + ${#skipped[@]})) != 0 ] || exit 1
+    exit 0
+}
