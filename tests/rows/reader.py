@@ -69,11 +69,11 @@ def rows_of(path):
 
 
 def lockfiles():
-    """The texts of all lockfiles of the rows: those of blocks, and the files beside the rows."""
-    paths = sorted(glob.glob(f"{DATA}/*.lock"))
-    texts = [bytes_of(path) for path in paths]
+    """The bytes of all lockfiles of the rows: the files beside the rows, and the texts of blocks."""
+    texts = [bytes_of(path) for path in sorted(glob.glob(f"{DATA}/*.lock"))]
     for path in files():
-        texts += [body.encode() for _, call, body in blocks(read(path)) if is_text(call) and body]
+        found = blocks(read(path))
+        texts += [text_of(call, body).encode() for _, call, body in found if is_text(call)]
     return texts
 
 
@@ -131,6 +131,17 @@ def is_text(call):
     return call.startswith(TEXT)
 
 
+def text_of(call, body):
+    """The text of a block, or of the file that it names."""
+    name = name_of(call)
+    return read(f"{DATA}/{name}") if name else body
+
+
+def name_of(call):
+    """The file that a block of a text names, or nothing."""
+    return call.removeprefix(TEXT).removeprefix(BESIDE).lstrip(" ")
+
+
 def blocks(text):
     """The number of the first line, the call and the lines of each block, as one text."""
     call, start, body = None, 0, ""
@@ -182,16 +193,12 @@ class Reader:
 
     def put_text(self, line, call, body):
         """Keeps a text, or that of a file. A block that names a file and has lines is no row."""
-        words = call.removeprefix(TEXT)
-        is_beside = words.startswith(BESIDE)
-        name = words.removeprefix(BESIDE).lstrip(" ")
-        if name and body:
+        if name_of(call) and body:
             yield self.row(line, call, fault="a block that names a file has no lines")
-        text = read(f"{DATA}/{name}") if name else body
-        if is_beside:
-            self.beside = text
+        if call.startswith(TEXT + BESIDE):
+            self.beside = text_of(call, body)
         else:
-            self.at_hand = text
+            self.at_hand = text_of(call, body)
 
     def lines(self, start, call, body):
         """The rows of a block `each`, one in each line but comments."""
