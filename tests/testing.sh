@@ -2,13 +2,13 @@
 # counts of what holds and what fails. A test `tests/NAME/run` reads this file, and its last line is
 # `finish`.
 #
-# `here` is the folder of the repository, `program` the absolute path of the program that is named, or
-# else of the one that `rt ci` or `./install` left, and `folder` a room, which is removed at the end.
-# The last line of a test is `N passed, N failed`, with `, N skipped` if something was left out, which
-# the line before it names. The status is 0 if each case holds, 1 if one fails or there is none, and 2
-# if the program is not there or the test stops before its end.
+# `here` is the folder of the repository, `program` the absolute path of the program that is named,
+# or else of the one that `rt ci` or `./install` left, and `folder` a room, which is removed at the
+# end. The last line of a test is `N passed, N failed`, with `, N skipped` if something was left out,
+# which the line before it names. The status is 0 if each case holds, 1 if one fails or there is none,
+# and 2 if the program is not there or the test stops before its end.
 
-here=$(cd "$(dirname "${BASH_SOURCE[0]}")/.." && pwd)
+here=$(cd "$(dirname "${BASH_SOURCE[0]}")/.." > /dev/null && pwd)
 name=
 passed=0
 failed=0
@@ -20,17 +20,10 @@ is_finished=false
 
 # Ends the test by a fault: nothing more can be asked.
 stop() {
+    is_finished=true
     echo "$*" >&2
     exit 2
 }
-
-[ $# -le 1 ] || stop 'one program is asked at a time'
-program=$(realpath -m -- "${1:-$here/crates/main/out/main}")
-[[ -f "$program" && -x "$program" ]] ||
-    stop "no program $program: build it by ./install or name it"
-folder=$(mktemp -d)
-trap leave EXIT
-trap 'exit 2' INT TERM
 
 # Ends what the test began, and removes the room. A test that stops before its end is a fault.
 leave() {
@@ -40,12 +33,19 @@ leave() {
     chmod -R u+rwx "$folder" 2> /dev/null || true
     rm -rf "$folder"
     if ! $is_finished; then
-        echo "the test stopped before its end, in the case '$name', with status $status" >&2
+        echo "the test stopped before its end, with status $status: $name" >&2
         exit 2
     fi
 }
 
-# Takes a copy of the program in the room as the program, as a file that each user may run.
+[ $# -le 1 ] || stop 'one program is asked at a time'
+program=$(realpath -m -- "${1:-$here/crates/main/out/main}")
+[[ -f "$program" && -x "$program" ]] || stop "no program $program: build it by ./install or name it"
+folder=$(mktemp -d)
+trap leave EXIT
+trap 'exit 2' INT TERM
+
+# Puts a copy of the program into the room, which each user may run, in place of the program.
 copy_program() {
     chmod 755 "$folder"
     cp "$program" "$folder/cargo-lock"
@@ -75,7 +75,7 @@ hold() {
 
 # Counts a thing that fails, and prints why.
 fail() {
-    echo "failed: $name: $*"
+    echo "failed: ${name:+$name: }$*"
     failed=$((failed + 1))
 }
 
@@ -89,6 +89,12 @@ same() {
     if cmp -s "$1" "$2"; then hold; else fail "$1 is not as $2"; fi
 }
 
+# Prints how a file differs from a text, and another file, such as a message.
+differ() {
+    diff <(printf '%s\n' "$1") "$2" || true
+    cat "$3"
+}
+
 # Notes something that is left out, and why.
 skip() {
     skipped+=("$1 ($2)")
@@ -96,15 +102,13 @@ skip() {
 
 # Prints what was left out and the counts, and ends the test.
 finish() {
-    local left_out='' separator=', '
+    local left_out=''
     if [ ${#skipped[@]} != 0 ]; then
-        left_out=$(printf "$separator%s" "${skipped[@]}")
-        echo "skipped: ${left_out#"$separator"}"
+        left_out=$(printf ', %s' "${skipped[@]}")
+        echo "skipped: ${left_out#, }"
         left_out=", ${#skipped[@]} skipped"
     fi
     is_finished=true
     echo "$passed passed, $failed failed$left_out"
-    [ $failed = 0 ] || exit 1
-    [ $((passed + ${#skipped[@]})) != 0 ] || exit 1
-    exit 0
+    exit $((failed > 0 || passed + ${#skipped[@]} == 0))
 }
