@@ -2,9 +2,9 @@
 the counts of what holds and what fails.
 
 A test `tests/NAME/run` ends with `testing.run(ask)`, where `ask(program, results)` asks the program
-at a path and counts each case in `results`. The last line is `N passed, N failed`, with `, N skipped`
-if something was left out, which the line before it names. The status is 0 if each case holds, 1 if
-one fails or there is none, and 2 if the program is not there or a call of the system fails.
+at a path and counts each case in `results`. The last line is `N passed, N failed`. If something was
+left out, it goes on with `, N skipped`, and the line before it names what. The status is 0 if each
+case holds, 1 if one fails or there is none, and 2 if there is no program or the test stops.
 """
 import contextlib
 import os
@@ -14,6 +14,8 @@ import tempfile
 import traceback
 
 ROOT = os.path.dirname(os.path.dirname(os.path.realpath(__file__)))
+# How many faults are printed, and how many characters of each.
+MOST, LONGEST = 50, 4000
 # The program that `rt ci` or `./install` left.
 BUILT = f"{ROOT}/crates/main/out/main"
 
@@ -67,9 +69,10 @@ class Results:
         self.passed += 1
 
     def fail(self, name, why):
-        """Counts a case that fails, and prints why."""
+        """Counts a case that fails, and prints why, unless many others failed before."""
         self.failed += 1
-        print(f"failed: {name}: {why}", flush=True)
+        if self.failed <= MOST:
+            print(f"failed: {name}: {str(why)[:LONGEST]}", flush=True)
 
     def holds(self, name, condition, why="it does not hold"):
         """Counts a case by whether the condition holds."""
@@ -88,6 +91,8 @@ class Results:
 
     def finish(self):
         """Prints what was left out and the counts, and returns the status."""
+        if self.failed > MOST:
+            print(f"and {self.failed - MOST} other faults")
         if self.skipped:
             print(f"skipped: {', '.join(self.skipped)}")
         left_out = f", {len(self.skipped)} skipped" if self.skipped else ""
@@ -96,10 +101,10 @@ class Results:
         return 0 if is_asked and not self.failed else 1
 
 
-def status_of(ask, *words, results=None):
+def status_of(ask, *words):
     """The status of a test, which is a call whose last argument counts its cases."""
     signal.signal(signal.SIGTERM, lambda *_: sys.exit(2))
-    results = results or Results()
+    results = Results()
     try:
         ask(*words, results)
     except Exception:

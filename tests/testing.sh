@@ -4,9 +4,9 @@
 #
 # `here` is the folder of the repository, `program` the absolute path of the program that is named,
 # or else of the one that `rt ci` or `./install` left, and `folder` a room, which is removed at the
-# end. The last line of a test is `N passed, N failed`, with `, N skipped` if something was left out,
-# which the line before it names. The status is 0 if each case holds, 1 if one fails or there is none,
-# and 2 if the program is not there or the test stops before its end.
+# end. The last line of a test is `N passed, N failed`. If something was left out, it goes on with
+# `, N skipped`, and the line before it names what. The status is 0 if each case holds, 1 if one
+# fails or there is none, and 2 if there is no program or the test stops before its end.
 
 here=$(cd "$(dirname "${BASH_SOURCE[0]}")/.." > /dev/null && pwd)
 name=

@@ -1,10 +1,11 @@
-/* A library that is loaded before a program, and fails calls of the C library that the program makes.
+/* A library that is loaded before a program, and fails calls of the C library that it makes.
  *
- * The variables FAULTS_FILES, FAULTS_OUT and FAULTS_ERR are of calls on files, of writes to standard
- * output and of writes to standard error. Each is `FIRST LAST ERROR TAKEN`: the calls from the number
- * FIRST to LAST, counted from 1, fail with the error of this number, or take no byte if it is 0. Any
- * other write takes at most TAKEN bytes. The name of each call on files that fails is a line in the
- * file FAULTS_REPORT. FAULTS_CLOCK is what the clock reads, in seconds since 1970. */
+ * The variables FAULTS_FILES, FAULTS_OUT and FAULTS_ERR are of calls on files, of writes to
+ * standard output and of writes to standard error. Each is `FIRST LAST ERROR TAKEN`: the calls from
+ * the number FIRST to LAST, counted from 1, fail with the error of this number, or take no byte if
+ * it is 0. Any other write takes at most TAKEN bytes. The name of each call on files that fails is
+ * a line in the file FAULTS_REPORT, which is there already. FAULTS_CLOCK is what the clock reads,
+ * in seconds since 1970. */
 #define _GNU_SOURCE
 #include <dlfcn.h>
 #include <errno.h>

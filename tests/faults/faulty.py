@@ -52,7 +52,8 @@ class Faulty:
         with open(report, "wb"):
             pass
         faults = {f"FAULTS_{kind}": " ".join(map(str, it)) for kind, it in (turns or {}).items()}
-        environment = {"LD_PRELOAD": self.library, "FAULTS_REPORT": report, **faults, **(added or {})}
+        environment = {"LD_PRELOAD": self.library, "FAULTS_REPORT": report}
+        environment |= faults | (added or {})
         ran = subprocess.run([self.program, *words], cwd=folder, env=environment,
                              stdin=subprocess.DEVNULL, capture_output=True, timeout=LIMIT)
         with open(report, encoding="ascii") as file:

@@ -1,5 +1,5 @@
-"""`-o` over files whose calls fail, for each of them: the file that was there stays complete, or the
-new one is, and nothing is left beside it."""
+"""`-o` over files whose calls fail, for each of them: the file that was there stays complete, or
+the new one is, and nothing is left beside it."""
 import dataclasses
 import errno
 import itertools
@@ -162,8 +162,8 @@ def one_fault(case, number):
 
 
 def all_fail_from(case, number):
-    """Runs a command with all calls failing from one on, as if it ended there, and then once more. A
-    file that did not exist may be left empty: the command creates one to see whether it may."""
+    """Runs a command with all calls failing from one on, as if it ended there, and then once more.
+    A file that did not exist may be left empty: the command creates one to see whether it may."""
     case.start()
     answer = case.run(lasting(number, case.error, case.command.taken()))
     if fault := case.fault_of_answer(answer):
@@ -206,8 +206,9 @@ def with_text(faulty, command):
 def asked(work):
     """What each call of a case is asked, with what is wrong."""
     case, ask = work
-    return [(f"{ask.__name__}: {case.command.name} -o {case.output}, {errno.errorcode[case.error]}, "
-             f"{what}", fault, failed) for what, fault, failed in each_call(case, ask)]
+    error = errno.errorcode[case.error]
+    name = f"{ask.__name__}: {case.command.name} -o {case.output}, {error}"
+    return [(f"{name}, {what}", fault, failed) for what, fault, failed in each_call(case, ask)]
 
 
 def ask_saving(faulty, pool, results):

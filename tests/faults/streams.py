@@ -33,8 +33,8 @@ MESSAGE = START + b"I/O operation failed: "
 # How an output fails: by an error of the system, or by taking no byte.
 KINDS = (errno.EPIPE, errno.ENOMEM, 0)
 
-# After how many bytes standard error fails: after none, some, or never.
-SHOWN = (EVER, 0, 7)
+# After how many bytes standard error fails: never, at once, or after some.
+LIMITS = (EVER, 0, 7)
 
 
 @dataclasses.dataclass(frozen=True)
@@ -76,26 +76,25 @@ def printed(faulty, words, files):
     return answer.out
 
 
-def fault_of(printing, answer, calls, shown):
-    """What is wrong with a run whose output fails after some bytes, and whose standard error takes so
-    many, or None."""
-    message = answer.err
-    if shown < len(MESSAGE):
-        is_printed = message == MESSAGE[:shown]
+def fault_of(it, answer, calls, limit):
+    """What is wrong with a run whose output takes some bytes and then fails, and whose standard
+    error takes no more than `limit`, or None."""
+    if limit < len(MESSAGE):
+        is_shown = answer.err == MESSAGE[:limit]
     else:
-        is_printed = message.startswith(MESSAGE) and message.endswith(b"\n")
-    is_cut_off = answer.out == printing.text[:calls] and answer.status == printing.status
-    return None if is_cut_off and is_printed else f"{answer}"
+        is_shown = answer.err.startswith(MESSAGE) and answer.err.endswith(b"\n")
+    is_cut_off = answer.out == it.text[:calls] and answer.status == it.status
+    return None if is_cut_off and is_shown else f"{answer}"
 
 
 def cut_off(work):
     """Cuts a command off after some bytes, in each way. Returns each way with what is wrong."""
     faulty, folder, it, calls = work
     found = []
-    for kind, shown in itertools.product(KINDS, SHOWN):
-        turns = {"OUT": lasting(calls + 1, kind, 1), "ERR": lasting(min(shown, EVER - 1) + 1, kind, 1)}
-        fault = fault_of(it, faulty.run(it.words, f"{folder}", turns), calls, shown)
-        what = f"{' '.join(it.words)} after {calls} bytes, error {kind}, {shown} bytes of the message"
+    for kind, limit in itertools.product(KINDS, LIMITS):
+        turns = {"OUT": lasting(calls + 1, kind, 1), "ERR": lasting(limit + 1, kind, 1)}
+        fault = fault_of(it, faulty.run(it.words, folder, turns), calls, limit)
+        what = f"{' '.join(it.words)}: error {kind} after {calls} bytes, {limit} of the message"
         found.append((what, fault))
     return found
 
@@ -119,20 +118,31 @@ def ask_message(faulty, results):
         results.equal(f"a message cut off after {calls} bytes, error {kind}", answer[:3],
                       (1, b"", START[:calls]))
     answer = faulty.run([b"\xff"], folder)
-    is_printed = answer.err.startswith(MESSAGE) and answer.err.endswith(b"\n")
-    results.holds("an argument that is not UTF-8", answer[:2] == (1, b"") and is_printed, answer)
+    is_shown = answer.err.startswith(MESSAGE) and answer.err.endswith(b"\n")
+    results.holds("an argument that is not UTF-8", answer[:2] == (1, b"") and is_shown, answer)
 
 
-def ask_streams(faulty, pool, read, results):
+def ask_interrupted(faulty, commands, pool, results):
+    """Interrupts each write of each command."""
+    faults = pool.map(lambda it: interrupted(faulty, it), commands)
+    for it, fault in zip(commands, faults):
+        results.holds(f"{' '.join(it.words)}, interrupted", fault is None, fault)
+
+
+def ask_cut_off(faulty, commands, pool, results):
     """Cuts each command off after each number of bytes."""
-    commands = [*printing(read), *from_runs(faulty)]
-    help_page = commands[4].text
-    results.holds("the help of list", help_page.startswith(b"Lists the packages of a lockfile\n"))
     folders = [faulty.folder(dict(it.files)) for it in commands]
-    work = [(faulty, f"{folder}", it, calls) for it, folder in zip(commands, folders)
+    work = [(faulty, folder, it, calls) for it, folder in zip(commands, folders)
             for calls in range(0, len(it.text), it.step)]
     for what, fault in itertools.chain.from_iterable(pool.imap(cut_off, work)):
         results.holds(what, fault is None, fault)
-    for it, fault in zip(commands, pool.map(lambda it: interrupted(faulty, it), commands)):
-        results.holds(f"{' '.join(it.words)}, interrupted", fault is None, fault)
+
+
+def ask_streams(faulty, pool, read, results):
+    """Asks commands whose outputs fail, where `read` has the bytes of a file of the rows."""
+    commands = [*printing(read), *from_runs(faulty)]
+    starts = [it.text.startswith(b"Lists the packages of a lockfile\n") for it in commands]
+    results.equal("commands that print the help of list", sum(starts), 1)
+    ask_cut_off(faulty, commands, pool, results)
+    ask_interrupted(faulty, commands, pool, results)
     ask_message(faulty, results)

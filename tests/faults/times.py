@@ -22,23 +22,37 @@ NO_TIMES = {
 }
 
 
-def ask_times(faulty, results):
-    """Asks for bills with a time, where the clock does not move."""
-    folder = faulty.folder({"Cargo.lock": LOCKFILE})
+def bill(faulty, folder, added):
+    """The answer to a command for a bill with a time, where the clock does not move."""
+    environment = {"FAULTS_CLOCK": SECONDS, **added}
+    return faulty.run(["bom", "--timestamp"], folder, added=environment)
 
-    def bill(added):
-        return faulty.run(["bom", "--timestamp"], folder, added={"FAULTS_CLOCK": SECONDS, **added})
 
-    def has_time(what, added, wanted):
-        answer = bill(added)
-        time = json.loads(answer.out)["metadata"]["timestamp"] if answer.status == 0 else answer
-        results.equal(what, time, wanted)
+def time_of(answer):
+    """The time in a bill, or the answer that is none."""
+    return json.loads(answer.out)["metadata"]["timestamp"] if answer.status == 0 else answer
 
-    for text, time in TIMES.items():
-        has_time(f"the time {text}", {VARIABLE: text}, time)
+
+def fault(message):
+    """The answer whose message is about the variable."""
+    return 2, b"", f"*** error: {VARIABLE} {message}\n".encode()
+
+
+def ask_no_times(faulty, folder, results):
+    """Values of the variable that are no time, and no text."""
     for text, shown in NO_TIMES.items():
-        message = f"*** error: {VARIABLE} is no time: `{shown}`\n".encode()
-        results.equal(f"no time {text!r}", bill({VARIABLE: text})[:3], (2, b"", message))
-    message = f"*** error: {VARIABLE} is not UTF-8\n".encode()
-    results.equal("no text", bill({VARIABLE: b"\xff"})[:3], (2, b"", message))
-    has_time("the clock where no variable is", {}, MOMENT)
+        answer = bill(faulty, folder, {VARIABLE: text})
+        results.equal(f"no time {text!r}", answer[:3], fault(f"is no time: `{shown}`"))
+    answer = bill(faulty, folder, {VARIABLE: b"\xff"})
+    results.equal("no text", answer[:3], fault("is not UTF-8"))
+
+
+def ask_times(faulty, results):
+    """Asks for bills with a time."""
+    folder = faulty.folder({"Cargo.lock": LOCKFILE})
+    for text, time in TIMES.items():
+        answer = bill(faulty, folder, {VARIABLE: text})
+        results.equal(f"the time {text}", time_of(answer), time)
+    answer = bill(faulty, folder, {})
+    results.equal("the clock where no variable is", time_of(answer), MOMENT)
+    ask_no_times(faulty, folder, results)

@@ -20,8 +20,8 @@ class Unreadable(Exception):
 
 @dataclasses.dataclass(frozen=True)
 class Row:
-    """A row. `call` is what the block says it asks, without `each`, and `subject` the input of a line
-    of `each`, or else the text at hand. `fault` says why it is no row, or is empty."""
+    """A row. `call` is what the block says it asks, without `each`, and `subject` the input of a
+    line of `each`, or else the text at hand. `fault` says why it is no row, or is empty."""
 
     file: str
     line: int
@@ -69,7 +69,7 @@ def rows_of(path):
 
 
 def lockfiles():
-    """The bytes of all lockfiles of the rows: the files beside the rows, and the texts of blocks."""
+    """The bytes of all lockfiles of the rows: the files beside the rows, and texts of blocks."""
     texts = [bytes_of(path) for path in sorted(glob.glob(f"{DATA}/*.lock"))]
     for path in files():
         found = blocks(read(path))
