@@ -7,6 +7,7 @@ left out, it goes on with `, N skipped`, and the line before it names what. The 
 case holds, 1 if one fails or there is none, and 2 if there is no program or the test stops.
 """
 import contextlib
+import multiprocessing.pool
 import os
 import signal
 import sys
@@ -55,6 +56,17 @@ def room(within=None):
     """An empty folder, which is removed at the end."""
     with tempfile.TemporaryDirectory(prefix="cargo-lock-test-", dir=within) as folder:
         yield folder
+
+
+@contextlib.contextmanager
+def threads():
+    """A thread for each processor. Each has ended its work before the room of a test is removed."""
+    pool = multiprocessing.pool.ThreadPool(os.cpu_count())
+    try:
+        yield pool
+    finally:
+        pool.terminate()
+        pool.join()
 
 
 class Results:
