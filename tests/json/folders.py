@@ -34,17 +34,17 @@ def packages(lockfile):
     return [it for it in found if "source" in it and plain.fullmatch(f"{it['name']}@{it['version']}")]
 
 
-def make(lockfile, draw):
-    """Makes the folders `cache`, `vendor` and `db` in the current folder."""
+def make(lockfile, draw, room):
+    """Makes the folders `cache`, `vendor` and `db` in a folder."""
     for folder in ["cache", "vendor", "db/crates"]:
-        os.makedirs(folder, exist_ok=True)
+        os.makedirs(f"{room}/{folder}", exist_ok=True)
     for it in packages(lockfile):
         place = f"{it['name']}-{it['version']}"
         if draw.random() < 0.7:
-            write(f"cache/{place}.crate", place)
-        make_vendored(f"vendor/{place}", it, draw)
+            write(f"{room}/cache/{place}.crate", place)
+        make_vendored(f"{room}/vendor/{place}", it, draw)
         if draw.random() < 0.5:
-            make_advisory(it["name"], draw)
+            make_advisory(f"{room}/db/crates/{it['name']}", it["name"], draw)
 
 
 def make_vendored(folder, package, draw):
@@ -69,10 +69,10 @@ def make_vendored(folder, package, draw):
     write(f"{folder}/.cargo-checksum.json", json.dumps({"files": listed, "package": archive}))
 
 
-def make_advisory(name, draw):
+def make_advisory(folder, name, draw):
     number = draw.randrange(1000, 10000)
     patched = draw.choice(["", "\">= 99.0.0\"", "\">= 98.0.0, < 98.1.0\", \">= 99.0.0\""])
-    write(f"db/crates/{name}/RUSTSEC-2020-{number}.md",
+    write(f"{folder}/RUSTSEC-2020-{number}.md",
           f"```toml\n[advisory]\nid = \"RUSTSEC-2020-{number}\"\npackage = \"{name}\"\n"
           f"date = \"2020-01-01\"\n{draw.choice(KINDS)}\n[versions]\npatched = [{patched}]\n```\n\n"
           "# A `title` \\ with \"quotes\"\n")

@@ -1,10 +1,10 @@
 """Rows: triples of lockfiles with the merge that is wanted. `rows/README.md` says how they are
 written."""
 import glob
-import importlib.machinery
-import importlib.util
 import os
 import re
+
+from sources import lossy_sources
 
 HERE = os.path.dirname(os.path.realpath(__file__))
 TESTS = os.path.dirname(HERE)
@@ -88,14 +88,6 @@ def ask_refusals(merge):
     yield "what is refused beside them", fault_of(merge([sound] * 3), (0, sound, []))
 
 
-def cargo_tests():
-    """The script of `tests/cargo` as a module, which knows what V1 to V3 lose of a source."""
-    loader = importlib.machinery.SourceFileLoader("cargo_tests", f"{TESTS}/cargo/run")
-    module = importlib.util.module_from_spec(importlib.util.spec_from_loader(loader.name, loader))
-    loader.exec_module(module)
-    return module
-
-
 def plain(text):
     """The text without the empty lines that the program writes and Cargo does not."""
     return re.sub(r"(?<=manual editing\.\n)\n(?=\[)", "", text).replace("\n\n\n", "\n\n").strip("\n")
@@ -103,7 +95,6 @@ def plain(text):
 
 def ask_wrote(merge):
     """Each lockfile that Cargo wrote, merged with itself over itself and over nothing."""
-    lossy_sources = cargo_tests().lossy_sources
     for path in sorted(glob.glob(f"{TESTS}/cargo/wrote/*.lock")):
         name, text = os.path.basename(path), text_of(path)
         if NOT_KEPT.match(name) or ".v4." not in name and lossy_sources(text):

@@ -1,7 +1,5 @@
-# Functions for tests over folders that Cargo itself fills, without a network. A script that reads this
-# file has the folder of the repository in `here`, and ends the process `server`.
-
-server=
+# Functions for tests over folders that Cargo itself fills, without a network. A test reads
+# `tests/testing.sh` before this file.
 
 # Packs a library of this name, version and text, and with this line in its manifest, for the registry
 # in this folder.
@@ -29,15 +27,14 @@ wait_for() {
         [ ! -e "$1" ] || return 0
         sleep 0.05
     done
-    echo "no $1" >&2
-    exit 1
+    stop "no $1"
 }
 
 # Serves the registries in the folder `served`: `io` in place of crates.io, and `own`. The start of
 # their URLs is then in `url`.
 serve() {
     "$here/tests/verify/registry" served 2> /dev/null &
-    server=$!
+    children+=($!)
     wait_for served/port
     url=sparse+http://127.0.0.1:$(cat served/port)
     cat > home/config.toml <<END
