@@ -7,6 +7,9 @@ TOP = os.path.dirname(os.path.dirname(os.path.realpath(__file__)))
 ITEM = re.compile(r"^pub (?:const )?(?:fn|struct|enum|trait|type|const) (\w+)", re.M)
 DECLARED = re.compile(r"^(?:pub(?:\(\w+\))? )?(?:struct|enum) (\w+)", re.M)
 EXPORT = re.compile(r"^pub use ([\w:]+?)(?:::\{([^}]*)\})?;", re.M)
+# A definition that is private has no `pub`, and may have no word but its name before the colon.
+DEFINITION = re.compile(
+    r"(?:(?:pub|abbrev|unfoldable|record|data|inductive) )+(?!mutual$)([^\s:({]+)|([^\s:({]+) :(?:\s|$)")
 CONSTRUCTOR = re.compile(r"  ([\w'-]+) :")
 # Names that a definition binds: parameters of a type or of a function.
 BOUND = re.compile(r"[({]([\w ]+) :|λ ([\w ]+)\.")
@@ -94,16 +97,10 @@ def find_module(crate, module):
     return crate, module
 
 
-def is_definition(line):
-    return line.startswith(("abbrev pub ", "unfoldable pub ", "record pub ", "data pub ", "pub "))
-
-
 def name_in(line):
-    words = line.split()
-    at = words.index("pub") + 1
-    while words[at] in ("record", "data", "abbrev", "inductive"):
-        at += 1
-    return words[at]
+    """The name of the definition that begins with a line, if one does."""
+    found = DEFINITION.match(line)
+    return found and (found[1] or found[2])
 
 
 class Definitions:
@@ -130,10 +127,11 @@ class Definitions:
             is_rule = line.startswith("-- ----")
             self.comment = [] if is_rule else self.comment + [line[2:].strip()]
             return
-        if self.begins_definition(line):
-            self.found.append((name_in(line), " ".join(self.comment)))
-            self.places[name_in(line)] = number
-            self.lines[name_in(line)], self.fixities, self.comment = self.fixities, [], []
+        name = self.begun(line)
+        if name:
+            self.found.append((name, " ".join(self.comment)))
+            self.places[name] = number
+            self.lines[name], self.fixities, self.comment = self.fixities, [], []
         elif line.strip() == "" or line.startswith("use "):
             if self.comment and not self.found and not self.about:
                 self.about = " ".join(self.comment)
@@ -144,11 +142,11 @@ class Definitions:
         if self.found and not line.startswith("use "):
             self.add_to_definition(self.found[-1][0], line)
 
-    def begins_definition(self, line):
-        """Whether a definition begins: at the margin, or in a block of mutual ones."""
+    def begun(self, line):
+        """The definition that begins with a line: at the margin, or in a block of mutual ones."""
         if line[:1].strip():
             self.in_mutual = line.startswith("abbrev mutual")
-        return is_definition(line) or self.in_mutual and line.startswith("  pub ")
+        return name_in(line[2:] if self.in_mutual else line)
 
     def add_to_definition(self, name, line):
         """Adds a line to a definition."""
