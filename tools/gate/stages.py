@@ -55,6 +55,7 @@ OF_PROGRAM = [
         ("licenses", "folders of manifests"),
         ("audit", "folders of advisories"),
         ("install", "what ./install leaves"),
+        ("try", "when ./try builds, and what it passes on"),
         ("completions", "TAB in bash, zsh and fish"),
         ("git", "hooks and the merge driver"),
         ("pictures", "pictures as Graphviz reads them"),
