@@ -9,7 +9,8 @@ DECLARED = re.compile(r"^(?:pub(?:\(\w+\))? )?(?:struct|enum) (\w+)", re.M)
 EXPORT = re.compile(r"^pub use ([\w:]+?)(?:::\{([^}]*)\})?;", re.M)
 # A definition that is private has no `pub`, and may have no word but its name before the colon.
 DEFINITION = re.compile(
-    r"(?:(?:pub|abbrev|unfoldable|record|data|inductive) )+(?!mutual$)([^\s:({]+)|([^\s:({]+) :(?:\s|$)")
+    r"(?:(?:pub|abbrev|unfoldable|record|data|inductive) )+(?!mutual$)([^\s:({]+)"
+    r"|([^\s:({]+) :(?:\s|$)")
 CONSTRUCTOR = re.compile(r"  ([\w'-]+) :")
 # Names that a definition binds: parameters of a type or of a function.
 BOUND = re.compile(r"[({]([\w ]+) :|λ ([\w ]+)\.")
