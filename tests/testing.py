@@ -106,7 +106,7 @@ class Results:
         if self.failed > MOST:
             print(f"and {self.failed - MOST} other faults")
         if self.skipped:
-            print(f"skipped: {', '.join(self.skipped)}")
+            print(f"skipped: {'; '.join(self.skipped)}")
         left_out = f", {len(self.skipped)} skipped" if self.skipped else ""
         print(f"{self.passed} passed, {self.failed} failed{left_out}")
         is_asked = self.passed > 0 or self.skipped
