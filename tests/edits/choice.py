@@ -7,22 +7,16 @@ from kit import ROOT, rt
 from rule import Edit
 
 FOLDERS = ("edits", "must-fail")
-AT_MOST = 20
 
 
 class Plan:
-    """What is tried of a crate: its edits, those that are due, those of the sample, and once they
-    were tried, those that were refused."""
+    """What is tried of a crate: its edits, those that are due, and once they were tried, those that
+    were refused."""
 
     def __init__(self, crate, edits, base):
         self.crate, self.edits, self.base = crate, edits, base
         self.sums = {it: record.sum_of_edit(it) for it in edits}
-        self.due, self.sampled = [], []
-        self.refused, self.is_sound = [], False
-
-    @property
-    def tried(self):
-        return self.due + self.sampled
+        self.due, self.refused, self.is_sound = [], [], False
 
 
 def edits_of_all():
@@ -85,36 +79,39 @@ def chosen(all_edits, names):
 
 
 def plans_of(crates, names, is_anew):
-    """Returns a plan for each crate. What has no line that counts is due, and what is named."""
-    recorded, plans = record.read(), []
+    """Returns a plan for each crate. What has no line that holds is due, and what is named."""
+    logics, plans = record.read_all(), []
     for crate, edits in crates:
         plan = Plan(crate, edits, record.base_of(crate))
-        is_due = lambda it: is_anew or it.name in names
-        lacks = lambda it: not record.counts(recorded, crate, plan.base, it)
-        plan.due = [it for it in edits if is_due(it) or lacks(it)]
+        states = {it: record.state(logics, crate, plan.base, it) for it in edits}
+        is_due = lambda it: is_anew or it.name in names or states[it] != record.HOLDS
+        plan.due = [it for it in edits if is_due(it)]
         plans.append(plan)
     return plans
 
 
-def sample(plans, seed):
-    """Adds a sample of the edits that are not due to the plan of one crate, which is drawn by its
-    number of edits, and returns that plan, if there is any."""
-    drawn = random.Random(seed)
-    left = [it for it in plans if len(it.due) < len(it.edits)]
-    if not left:
-        return None
-    plan, = drawn.choices(left, [len(it.edits) for it in left])
-    others = [it for it in plan.edits if it not in plan.due]
-    taken, is_alone = set(), False
-    for it in drawn.sample(others, len(others)):
-        # (no two of them change one function, and one at most has a check of its own)
-        needs_own = it.is_shared or not it.places
-        if len(plan.sampled) == AT_MOST or it.places & taken or needs_own and is_alone:
-            continue
-        plan.sampled.append(it)
-        taken |= it.places
-        is_alone |= needs_own
-    return plan
+def states_of(crates):
+    """Returns the edits by how their lines of the record hold."""
+    logics, found = record.read_all(), {it: [] for it in record.STATES}
+    for crate, edits in crates:
+        base = record.base_of(crate)
+        for it in edits:
+            found[record.state(logics, crate, base, it)].append((crate, it))
+    return found
+
+
+def sample(states, seed, count):
+    """Draws edits over all crates: first of those whose line is void, then of those whose line is of
+    another logic, then of the others. One at most changes what other functions are proved from,
+    since that takes a check of its whole crate."""
+    drawn, found, is_whole = random.Random(seed), [], False
+    for name in (record.VOID, record.OTHER_LOGIC, record.HOLDS):
+        for crate, edit in drawn.sample(states[name], len(states[name])):
+            needs_whole = edit.is_shared or not edit.places
+            if len(found) < count and not (needs_whole and is_whole):
+                found.append((crate, edit))
+                is_whole |= needs_whole
+    return found
 
 
 def write_record(plans, is_whole):
@@ -127,7 +124,7 @@ def write_record(plans, is_whole):
         now = {edit: record.sum_of_edit(edit) for edit in it.edits if os.path.isfile(edit.path)}
         if now != it.sums or record.base_of(it.crate) != it.base:
             yield f"{it.crate.name}: a file changed meanwhile, so nothing is recorded"
-        elif it.tried and not it.is_sound:
+        elif it.due and not it.is_sound:
             yield f"{it.crate.name}: nothing is recorded"
         else:
             recorded[it.crate.name] = (it.base, lines_of(it))
@@ -138,5 +135,5 @@ def lines_of(plan):
     """Returns the lines of a crate's edits: of those that are refused, and by no limit, and of
     those that were not tried, since they have a line that counts."""
     refused = [it for it in plan.refused if not record.is_by_limit(it)]
-    kept = [it for it in plan.edits if it in refused or it not in plan.tried]
+    kept = [it for it in plan.edits if it in refused or it not in plan.due]
     return {record.short(it): plan.sums[it] for it in kept}

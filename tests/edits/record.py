@@ -1,15 +1,18 @@
 """The record of refusals, tests/edits/refused: which edits were refused, and over what.
 
-For each kit it has a line `kit KIT`, since machines differ in theirs. Below it is for each crate a
-line `CRATE BASE`, and below that a line `    NAME EDIT` for each refused edit, sorted. EDIT is the
-sum of the edit's bytes. BASE is the sum of all that a refusal rests on: the kit and its command, the
-rule, the crate's line of crates.txt, its files, and what can be seen of each library below it. A
-line counts while both sums are those of the files at hand.
+For each logic it has a line `logic LOGIC`. Below it is for each crate a line `CRATE BASE`, and below
+that a line `    NAME EDIT` for each refused edit, sorted. EDIT is the sum of the edit's bytes. BASE
+is the sum of all else that a refusal rests on beside the logic: the rule, the crate's files, and what
+can be seen of each crate of this repository below it. A line counts while both sums are those of the
+files at hand, under the logic of the kit at hand. No name of a kit counts.
 """
+import functools
 import hashlib
 import os
 import re
+import subprocess
 
+import rule
 from kit import ROOT, rt
 
 FILE = f"{ROOT}/tests/edits/refused"
@@ -17,48 +20,50 @@ HEAD = """\
 # Edits that were refused. `tests/edits/run --record` writes this file. README.md beside it says
 # what a line means.
 """
-# What the record of a library says of how it was made, without times.
-MADE = re.compile(r"(?m)^(?:rattle-build|checked|sum) .*$")
 # What is said where the prover came to an end of its steps, its memory or its stack. That `search`
 # gave up is not among it: its limits are numbers of lemmas, the same on each machine.
 LIMIT = re.compile(r"ran out of|could not tell|no verdict|too many steps|out of memory")
-# What other crates can name of a library, among the entries of what was made of it.
-SEEN = (b'"facade', b'"specs')
+# The files of proofs/ that hold the proof of one function, which no other crate can read.
+OF_FUNCTION = ("Answers.antt", "Invariants.antt", "Proof.antt")
+# How a line of the record holds.
+STATES = HOLDS, OTHER_LOGIC, VOID = "holds", "of another logic", "void"
 
 
-def kit():
-    """Returns the name of the kit at hand."""
-    return bytes_of(f"{rt.rtlib.KIT}/KIT-ID").decode().strip()
+@functools.cache
+def logic():
+    """Returns the sum of the logic of the kit at hand, the last word of `rt version`."""
+    ran = subprocess.run(["rt", "version"], capture_output=True, text=True, check=True)
+    return ran.stdout.split()[-1]
 
 
-def read_all(path):
-    """Returns the record of each kit, by its name."""
-    kits, found, lines = {}, {}, {}
+def read_all(path=FILE):
+    """Returns the record of each logic."""
+    logics, found, lines = {}, {}, {}
     if not os.path.isfile(path):
-        return kits
+        return logics
     with open(path, encoding="utf-8") as file:
         for line in file.read().splitlines():
             name, _, rest = line.strip().partition(" ")
             if line.startswith("    "):
                 lines[name] = rest
-            elif name == "kit":
-                found = kits.setdefault(rest, {})
+            elif name == "logic":
+                found = logics.setdefault(rest, {})
             elif name and not line.startswith("#"):
                 lines = {}
                 found[name] = (rest, lines)
-    return kits
+    return logics
 
 
-def read(path=FILE):
-    """Returns the record of the kit at hand: for each crate its base, and the sum of each edit by
+def read():
+    """Returns the record of the logic at hand: for each crate its base, and the sum of each edit by
     its name."""
-    return read_all(path).get(kit(), {})
+    return read_all().get(logic(), {})
 
 
 def write(record, path=FILE):
-    """Writes the record of the kit at hand, and keeps those of other kits."""
-    kits = read_all(path) | {kit(): record}
-    text = HEAD + "".join(f"kit {name}\n{lines_of(kits[name])}" for name in sorted(kits))
+    """Writes the record of the logic at hand, and keeps those of other logics."""
+    logics = read_all(path) | {logic(): record}
+    text = HEAD + "".join(f"logic {it}\n{lines_of(logics[it])}" for it in sorted(logics))
     part = f"{path}.part"
     with open(part, "w", encoding="utf-8") as file:
         file.write(text)
@@ -96,27 +101,63 @@ def why(edit):
     return next(iter(told + found + edit.words), "")
 
 
-def counts(record, crate, base, edit):
-    """Returns whether the record has a line of the edit whose two sums are those of the files."""
+def has(record, crate, base, edit):
+    """Returns whether the record of a logic has a line of the edit with these two sums."""
     recorded, lines = record.get(crate.name, ("", {}))
     return recorded == base and lines.get(short(edit)) == sum_of_edit(edit)
 
 
+def state(logics, crate, base, edit):
+    """Returns whether a line of the edit holds, holds but for the logic, or is void."""
+    if has(logics.get(logic(), {}), crate, base, edit):
+        return HOLDS
+    return OTHER_LOGIC if any(has(it, crate, base, edit) for it in logics.values()) else VOID
+
+
 def base_of(crate):
-    """Returns the sum of all that a refusal of an edit of the crate rests on."""
+    """Returns the sum of all but the edit and the logic that a refusal in the crate rests on."""
     found = hashlib.sha256()
-    own = [rt.rtlib.KIT + it for it in ("/KIT-ID", "/bin/rt", "/bin/rtlib.py")]
-    for path in [*own, f"{os.path.dirname(__file__)}/rule.py"]:
-        add(found, os.path.basename(path), bytes_of(path))
-    add(found, "crates.txt", line_of(crate).encode())
+    add(found, "rule.py", bytes_of(rule.__file__))
     for path in rt.rtlib.files_of(crate.folder):
         add(found, os.path.relpath(path, crate.folder), bytes_of(path))
-    for name in libraries_of_kit(crate):
-        add(found, name, "\n".join(MADE.findall(format_of(name))).encode())
     for below in sorted(crate.below(), key=lambda it: it.name):
-        for path, seen in seen_of(below.rlib):
-            add(found, f"{below.name}/{path}", seen)
+        add(found, below.name, sum_of_seen(below.folder).encode())
     return found.hexdigest()
+
+
+@functools.cache
+def sum_of_seen(folder):
+    """Returns the sum of what a crate above can read of a library: its specs, its lemmas, and its
+    sources without comments and bodies of functions."""
+    found = hashlib.sha256()
+    for path in rt.rtlib.files_of(folder):
+        name = os.path.relpath(path, folder)
+        if path.endswith(".rt"):
+            add(found, name, without_bodies(name, bytes_of(path).decode()).encode())
+        elif not name.startswith("proofs/") or os.path.basename(path) not in OF_FUNCTION:
+            add(found, name, bytes_of(path))
+    return found.hexdigest()
+
+
+def without_bodies(file, text):
+    """Returns a source, in the layout of `rattle fmt`, without comments and bodies of functions."""
+    lines, inside = text.split("\n"), set()
+    for it in rule.functions_of(file, text):
+        inside.update(range(body_of(lines, it), it.last - 1))
+    seen = (line for at, line in enumerate(lines) if at not in inside)
+    return "\n".join(line for line in seen if not line.lstrip().startswith("//"))
+
+
+def body_of(lines, function):
+    """Returns the place of the first line of a function's body, below the line that opens it."""
+    outer = None
+    for at in range(function.first - 1, function.last):
+        found = rule.FUNCTION.match(lines[at])
+        outer = found[1] if found and outer is None else outer
+        if outer is not None and lines[at].endswith("{"):
+            if len(lines[at]) - len(lines[at].lstrip()) == len(outer):
+                return at + 1
+    return function.last
 
 
 def add(found, name, data):
@@ -127,52 +168,3 @@ def add(found, name, data):
 def bytes_of(path):
     with open(path, "rb") as file:
         return file.read()
-
-
-def line_of(crate):
-    """Returns the crate's line of crates.txt, its words a space apart."""
-    with open(f"{ROOT}/crates.txt", encoding="utf-8") as file:
-        lines = [" ".join(line.partition("#")[0].split()) for line in file]
-    return next(it for it in lines if re.match(rf"{re.escape(crate.name)}(?=[ :]|$)", it))
-
-
-def format_of(name):
-    with open(f"{rt.rtlib.KIT}/rlibs/{name}.rlib/format", encoding="utf-8") as file:
-        return file.read()
-
-
-def libraries_of_kit(crate):
-    """Returns the libraries of the kit that the crate reaches."""
-    left = {name for it in [crate, *crate.below()] for name in it.of_kit} | {"core", "std"}
-    seen = set()
-    while left:
-        name = left.pop()
-        seen.add(name)
-        left |= {*re.findall(r"(?m)^dep (\w+)$", format_of(name))} - seen
-    return sorted(seen)
-
-
-def seen_of(rlib):
-    """Returns what a crate above can read of a library, by its path: its sources without bodies,
-    its specs and lemmas, and what its facade and its specs were made to be."""
-    found = []
-    for top in ("lang/antt", "lang/src"):
-        for at, folders, names in os.walk(f"{rlib}/{top}"):
-            folders.sort()
-            for name in sorted(names):
-                data = bytes_of(f"{at}/{name}")
-                seen = seen_entries(data) if name == "made.json" else data
-                found.append((os.path.relpath(f"{at}/{name}", rlib), seen))
-    return found
-
-
-def seen_entries(data):
-    """Returns the entries whose key begins with `facade` or `specs`. A key has a line that begins
-    with a quotation mark, and what it is for has the lines up to the next one."""
-    found, is_seen = [], False
-    for line in data.split(b"\n"):
-        if line.startswith(b'"'):
-            is_seen = line.startswith(SEEN)
-        if is_seen:
-            found.append(line)
-    return b"\n".join(found)

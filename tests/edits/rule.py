@@ -108,6 +108,7 @@ class Edit:
         self.lines = {file: changes(crate, file, text) for file, text in self.texts.items()}
         functions = [it for file in self.lines for it in functions_of(file, source(crate, file))]
         changed = [it for it in functions if any(touches(it, *at) for at in self.lines[it.file])]
+        self.functions = changed
         self.places = {(it.file, it.first) for it in changed}
         self.is_shared = any(is_shared(crate, functions, *it) for it in self.lines.items())
 
@@ -154,9 +155,9 @@ def touches(function, first, end, _):
     return first <= function.last and max(end, first + 1) > function.first
 
 
-def check(crate, edits, kept):
+def check(crate, edits, *more):
     """Returns the status of a check of the crate with these edits, what it printed, and the
-    functions of each edit."""
+    functions of each edit. The check gets more arguments."""
     with tempfile.TemporaryDirectory(prefix="edits-") as room:
         for part in rt.rtlib.PARTS:
             if os.path.isdir(f"{crate.folder}/{part}"):
@@ -166,7 +167,7 @@ def check(crate, edits, kept):
             text = apply(crate, file, edits, marks)
             with open(f"{room}/{file}", "w", encoding="utf-8") as it:
                 it.write(text)
-        words = [*crate.words(["--jobs", "1"], keeps=False), "--incremental", kept]
+        words = [*crate.words(["--jobs", "1"], keeps=False), *more]
         how = {"cwd": room, "stdin": subprocess.DEVNULL, "errors": "replace"}
         how |= {"stdout": subprocess.PIPE, "stderr": subprocess.STDOUT}
         call = [*rt.rtlib.guarded(), rt.rtlib.RATTLE, "check", *words]
@@ -224,19 +225,42 @@ def try_round(crate, edits, kept):
     are noted."""
     if len(edits) == 1:
         edits[0].had_own_check = True
-    status, said, functions = check(crate, edits, kept)
+    status, said, functions = check(crate, edits, "--incremental", kept)
     is_refused = status == 1 and said.rstrip().endswith("logic=not-proved")
-    lines, refused = refusals(said) if is_refused else [], []
-    for it in edits:
-        own = [at for at in lines if any(f.holds(*at[:2]) for f in functions[it])]
-        if own:
-            it.words = [f"{file}:{line}: {words}" for file, line, words in own]
-            refused.append(it)
+    lines = refusals(said) if is_refused else []
+    refused = [it for it in edits if is_refused_by(lines, it, functions[it])]
     if not lines and len(edits) > 1:
         # One of them does not compile: half of them at a time.
         half = len(edits) // 2
         return try_round(crate, edits[:half], kept) + try_round(crate, edits[half:], kept)
     return refused
+
+
+def is_refused_by(lines, edit, functions):
+    """Returns whether messages refuse an edit in its own functions, and notes their words."""
+    own = [at for at in lines if any(it.holds(*at[:2]) for it in functions)]
+    edit.words = [f"{file}:{line}: {words}" for file, line, words in own] or edit.words
+    return bool(own)
+
+
+def try_only(crate, edit):
+    """Returns whether a check of the functions of an edit alone, and of those that they call, refuses
+    it in one of them. Nothing that was kept serves such a check."""
+    paths = [path_of(it) for it in edit.functions]
+    more = [word for path in paths for word in ("--only", path)]
+    status, said, functions = check(crate, [edit], *more)
+    is_refused = status == 1 and said.rstrip().split("\n")[-1].startswith("only=")
+    return is_refused and is_refused_by(refusals(said), edit, functions[edit])
+
+
+def path_of(function):
+    """Returns the name of a function below its crate, as a check prints it."""
+    parts = re.sub(r"^src/|\.rt$", "", function.file).split("/")
+    parts = [it for it in parts if it not in ("lib", "main")]
+    if function.block:
+        trait, of = function.block
+        parts.append(of + trait)
+    return "::".join([*parts, function.name])
 
 
 def try_alone(crate, edit, kept):
@@ -263,5 +287,5 @@ def try_all(crate, edits, kept, say):
     for it in left:
         say(f"{it.name}: tried alone")
     refused += [it for it in left if try_alone(crate, it, kept)]
-    status, said, _ = check(crate, [], kept)
+    status, said, _ = check(crate, [], "--incremental", kept)
     return refused, status == 0 and "logic=proved" in said

@@ -18,8 +18,9 @@ typedef struct {
     bool is_lockfile;
 } Lengths;
 
-/* What is answered to a question. The operation `fuzz` answers bits that only it knows. */
-enum { DONE, NO_TEXT, NO_OPERATION, NOT_MADE, NO_ROOM };
+/* What is answered to a question. The operation `fuzz` answers bits that only it knows. `FAILED` is
+   answered of rows and tests. */
+enum { DONE, NO_TEXT, NO_OPERATION, NOT_MADE, NO_ROOM, FAILED };
 
 /* What came of a call that is swept. */
 enum {

@@ -1,18 +1,13 @@
-//! What people ask of a tree: why a package is there, which names several packages have, and a
-//! picture.
+//! Why a package is there. Each function that takes a node requires that it is one of the tree.
 
 ghost use Rattle.std.specs.Prelude.{◌<◌, All, length};
 
 use crate::print_line;
 use cargo_lock::dependency::Tree;
-use cargo_lock::dependency::graph::{EdgeDirection, Graph, NodeIndex};
-use cargo_lock::{Error, Lockfile, ResolveVersion};
-use cargo_lock_ask::{
-    Answer, Answers, Listing, Rows, chains_of_each, duplicates, fitting, needers, shortest_chain,
-    why, why_each,
-};
-use cargo_lock_json::{File, answers_json, groups_json};
-use cargo_lock_picture::{Diagram, Target, picture_from};
+use cargo_lock::dependency::graph::{Graph, NodeIndex};
+use cargo_lock::{Error, ResolveVersion};
+use cargo_lock_ask::{Answer, Answers, chains_of_each, needers, shortest_chain, why, why_each};
+use cargo_lock_json::{File, answers_json};
 
 /// Prints why each package of a tree is there.
 pub fn print_reasons(rt: &HostRuntime, tree: &Tree) -> Result<(), Error> {
@@ -26,7 +21,8 @@ pub fn print_reasons(rt: &HostRuntime, tree: &Tree) -> Result<(), Error> {
     print_answers(rt, tree, &roots)
 }
 
-fn print_chains(rt: &HostRuntime, tree: &Tree, node: NodeIndex) -> Result<(), Error>
+/// Prints how long the chain is by which a package is needed, if there is one.
+pub fn print_chains(rt: &HostRuntime, tree: &Tree, node: NodeIndex) -> Result<(), Error>
     requires { node < length tree.now.graph.packages }
 {
     if let Some(chain) = why(rt.alloc(), tree.graph(), node)? {
@@ -36,7 +32,8 @@ fn print_chains(rt: &HostRuntime, tree: &Tree, node: NodeIndex) -> Result<(), Er
     print_each_chain(rt, tree, node)
 }
 
-fn print_each_chain(rt: &HostRuntime, tree: &Tree, node: NodeIndex) -> Result<(), Error>
+/// Prints how long the chain from each root to a node is.
+pub fn print_each_chain(rt: &HostRuntime, tree: &Tree, node: NodeIndex) -> Result<(), Error>
     requires { node < length tree.now.graph.packages }
 {
     for chain in &why_each(rt.alloc(), tree.graph(), node)? {
@@ -46,8 +43,8 @@ fn print_each_chain(rt: &HostRuntime, tree: &Tree, node: NodeIndex) -> Result<()
     Ok(())
 }
 
-/// Prints the chains from some nodes to a node.
-fn print_chains_from(
+/// Prints how long the shortest chain from some nodes to a node is.
+pub fn print_chains_from(
     rt: &HostRuntime,
     tree: &Tree,
     roots: &[NodeIndex],
@@ -63,7 +60,7 @@ fn print_chains_from(
 }
 
 /// Prints how many of some nodes lead to a node.
-fn print_roots_of(
+pub fn print_roots_of(
     rt: &HostRuntime,
     tree: &Tree,
     roots: &[NodeIndex],
@@ -77,7 +74,8 @@ fn print_roots_of(
     Ok(())
 }
 
-fn print_needers(rt: &HostRuntime, graph: &Graph, node: NodeIndex) -> Result<(), Error> {
+/// Prints the names of the packages that depend on that of a node.
+pub fn print_needers(rt: &HostRuntime, graph: &Graph, node: NodeIndex) -> Result<(), Error> {
     for needer in &needers(rt.alloc(), graph, node)? {
         if let Some(package) = graph.node_weight(*needer) {
             let name = &package.name;
@@ -87,7 +85,8 @@ fn print_needers(rt: &HostRuntime, graph: &Graph, node: NodeIndex) -> Result<(),
     Ok(())
 }
 
-fn print_answers(rt: &HostRuntime, tree: &Tree, nodes: &[NodeIndex]) -> Result<(), Error>
+/// Prints the answers about some nodes, as lines and as a document.
+pub fn print_answers(rt: &HostRuntime, tree: &Tree, nodes: &[NodeIndex]) -> Result<(), Error>
     requires { All (λ node. node < length tree.now.graph.packages) nodes.now }
 {
     let answers = Answers::about(rt.alloc(), tree.graph(), nodes, true)?;
@@ -96,7 +95,8 @@ fn print_answers(rt: &HostRuntime, tree: &Tree, nodes: &[NodeIndex]) -> Result<(
     print_nothing(rt, tree.graph())
 }
 
-fn print_answers_document(rt: &HostRuntime, answers: &Answers<'_>) -> Result<(), Error> {
+/// Prints the document of answers.
+pub fn print_answers_document(rt: &HostRuntime, answers: &Answers<'_>) -> Result<(), Error> {
     let file = File {
         path: "Cargo.lock",
         format: ResolveVersion::V3,
@@ -106,58 +106,10 @@ fn print_answers_document(rt: &HostRuntime, answers: &Answers<'_>) -> Result<(),
 }
 
 /// Prints the answer of a package to which nothing leads.
-fn print_nothing(rt: &HostRuntime, graph: &Graph) -> Result<(), Error> {
+pub fn print_nothing(rt: &HostRuntime, graph: &Graph) -> Result<(), Error> {
     if let Some(package) = graph.node_weight(NodeIndex::new(0)) {
         let answer = Answer::Nothing(package);
         println!(rt; "{answer}")?;
     }
-    Ok(())
-}
-
-/// Prints how many packages a specification fits.
-pub fn print_fitting(rt: &HostRuntime, lockfile: &Lockfile) -> Result<(), Error> {
-    let nodes = fitting(rt.alloc(), &lockfile.packages, "tracing@0.1.35")?;
-    let count = nodes.len();
-    println!(rt; "packages that fit: {count}")?;
-    Ok(())
-}
-
-/// Prints the names that several packages have.
-pub fn print_names(rt: &HostRuntime, tree: &Tree) -> Result<(), Error> {
-    let groups = duplicates(rt.alloc(), tree.graph())?;
-    for group in &groups {
-        let rows = Rows::of(rt.alloc(), tree.graph(), group)?;
-        println!(rt; "{rows}")?;
-    }
-    let listing = Listing::of(rt.alloc(), tree.graph(), &groups)?;
-    print_listing(rt, tree)?;
-    print_names_document(rt, &listing)
-}
-
-fn print_listing(rt: &HostRuntime, tree: &Tree) -> Result<(), Error> {
-    let listing = Listing::about(rt.alloc(), tree.graph())?;
-    print!(rt; "{listing}")?;
-    Ok(())
-}
-
-fn print_names_document(rt: &HostRuntime, listing: &Listing<'_>) -> Result<(), Error> {
-    let file = File {
-        path: "Cargo.lock",
-        format: ResolveVersion::V3,
-    };
-    let text = groups_json(rt.alloc(), &file, &listing.groups)?;
-    print_line(rt, &text)
-}
-
-/// Prints the picture of a tree as a text for Graphviz.
-pub fn print_picture(rt: &HostRuntime, tree: &Tree) -> Result<(), Error> {
-    let roots = tree.roots(rt.alloc())?;
-    let picture = picture_from(rt.alloc(), tree.graph(), &roots, EdgeDirection::Outgoing)?;
-    let diagram = Diagram {
-        target: Target::Dot,
-        graph: tree.graph(),
-        picture: &picture,
-    };
-    print!(rt; "{diagram}")?;
     Ok(())
 }

@@ -33,8 +33,8 @@ pub fn is_kept(alloc: Global, text: &str) -> Result<bool, Error>
     Ok(printed.as_str() == text)
 }
 
-/// Whether a lockfile's own format keeps it.
-fn is_kept_by_its_format(alloc: Global, lockfile: &Lockfile) -> Result<bool, Error>
+/// Whether a lockfile's own format keeps it. The one error is `Memory`.
+pub fn is_kept_by_its_format(alloc: Global, lockfile: &Lockfile) -> Result<bool, Error>
     ensures { IfOk result (λ kept. IsTrue kept
         → Survives lockfile.now lockfile.now.version) }
 {

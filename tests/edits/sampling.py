@@ -1,0 +1,99 @@
+"""What the gate asks of the record: whether its lines hold, and a sample of the edits, each tried by a
+check of its own functions alone over the libraries that `rt ci` left."""
+import os
+import tempfile
+from collections import Counter
+from concurrent.futures import ThreadPoolExecutor
+
+import choice
+import record
+import rule
+from kit import rt
+
+# How many edits the gate tries: where the bytes hold, or some do not, and where the logic is another.
+USUAL, OF_LOGIC = 20, 100
+# What an edit was seen to take in seconds of one processor where many are tried at once, with its
+# share of the checks without edits.
+SECONDS = 27
+
+
+def of_crates(pairs):
+    counts = Counter(crate.name for crate, _ in pairs)
+    return ", ".join(f"{counts[it]} of {it}" for it in sorted(counts))
+
+
+def others():
+    """Returns the other logics of the record."""
+    return ", ".join(sorted({*record.read_all()} - {record.logic()}))
+
+
+def how_to_record(count):
+    minutes = count * SECONDS // 60 + 1
+    return f"`./check --record` tries all: some {minutes} minutes of a processor for these edits"
+
+
+def report(states):
+    """Returns what is said of the lines of the record, line by line."""
+    counts = {name: len(states[name]) for name in record.STATES}
+    said = [f"{counts[record.HOLDS]} lines of the record hold under logic {record.logic()}"]
+    if counts[record.OTHER_LOGIC]:
+        said += [f"{counts[record.OTHER_LOGIC]} lines are of logic {others()}"]
+    if counts[record.VOID]:
+        void = states[record.VOID]
+        said += [f"{len(void)} lines do not hold: run ./check --record ({of_crates(void)})"]
+        said += [how_to_record(len(void))]
+    return said
+
+
+def holds(states, is_strict):
+    """Prints how the lines hold. Returns 1 where some are void by their bytes and that is a failure,
+    as it is in CI, or where, for a release, some are of another logic."""
+    for line in report(states):
+        print(line)
+    is_void = bool(states[record.VOID]) and (is_strict or os.environ.get("CI") == "true")
+    return 1 if is_void or is_strict and states[record.OTHER_LOGIC] else 0
+
+
+def is_of_logic(states):
+    """Returns whether the lines fail to hold by the logic alone."""
+    return states[record.OTHER_LOGIC] and not states[record.VOID] and not states[record.HOLDS]
+
+
+def announce(states, drawn, seed):
+    total = sum(map(len, states.values()))
+    print(f"edits: sample: {len(drawn)} of {total}, seed {seed}: {of_crates(drawn)}", flush=True)
+    if is_of_logic(states):
+        print(f"record of logic {others()}, this is logic {record.logic()}: "
+              f"{len(drawn)} of {total} tried", flush=True)
+
+
+def is_refused(crate, edit):
+    """Returns whether an edit is refused. The check of its functions alone says so of most; another one
+    is tried over the whole crate."""
+    if edit.bad:
+        return False
+    if edit.places and not edit.is_shared and rule.try_only(crate, edit):
+        return True
+    with tempfile.TemporaryDirectory(prefix="edits-kept-") as kept:
+        if edit.places and rule.try_round(crate, [edit], kept):
+            return True
+        return rule.try_alone(crate, edit, kept)
+
+
+def tried(pair):
+    crate, edit = pair
+    found = is_refused(crate, edit)
+    said = "refused" if found else edit.bad or "NOT REFUSED"
+    print(f"{edit.name}: {said}: {record.why(edit)[:160]}", flush=True)
+    return found
+
+
+def run(all_edits, seed, lanes):
+    """Tries a sample, and returns how many passed and how many failed."""
+    states = choice.states_of(all_edits)
+    count = OF_LOGIC if is_of_logic(states) else USUAL
+    drawn = choice.sample(states, seed, count)
+    announce(states, drawn, seed)
+    with ThreadPoolExecutor(lanes) as pool:
+        found = [*pool.map(tried, drawn)]
+    return sum(found), len(found) - sum(found)
