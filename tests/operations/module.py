@@ -1,5 +1,6 @@
-"""The module of LLVM that all harnesses in C are compiled from: the operations of src/, the crates of
-tests/harness, and the exports of `cargo_lock_c`, over the sources of the repository and of the kit.
+"""The module of LLVM that all harnesses in C are compiled from: the operations of src/, the crates
+of tests/harness, and the exports of `cargo_lock_c`, over the sources of the repository and of the
+kit. It is lowered once for all of them.
 """
 import os
 import re
@@ -24,7 +25,7 @@ NAMED += ["cargo_lock_merging", "cargo_lock_picture", "cargo_lock_verify"]
 NAMED += ["cargo_lock_audit", "cargo_lock_licenses", "cli_folders", "json_line"]
 NAMED += ["cargo_lock_document", "cargo_lock_index", "cargo_lock_order", "cargo_lock_findings"]
 NAMED += ["semver", "url", "toml", "serde", "serde_json", "uuid"]
-# The crate whose exports are called: its modules are private, and public in the copy that is lowered.
+# The crate whose exports are called. Its private modules are public in the copy that is lowered.
 EXPORTING = "cargo_lock_c"
 PRIVATE = re.compile(r"^mod (\w+);", re.M)
 

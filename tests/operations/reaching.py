@@ -1,7 +1,7 @@
 """What the text of a module of LLVM reaches from some of its functions.
 
-The compiler takes all functions through its first passes before it drops those that nothing reaches,
-so they are left out of the text.
+The compiler takes all functions through its first passes before it drops those that nothing
+reaches, so they are left out of the text.
 """
 import re
 
