@@ -7,6 +7,7 @@ left out, it goes on with `, N skipped`, and the line before it names what. The 
 case holds, 1 if one fails or there is none, and 2 if there is no program or the test stops.
 """
 import contextlib
+import glob
 import multiprocessing.pool
 import os
 import signal
@@ -15,6 +16,8 @@ import tempfile
 import traceback
 
 ROOT = os.path.dirname(os.path.dirname(os.path.realpath(__file__)))
+# Where the lockfiles of the repository are, but for those that Cargo wrote.
+FOLDERS = ("crates/main/data", "tests/harness/examples/data", "tests/rows/data")
 # How many faults are printed, and how many characters of each.
 MOST, LONGEST = 50, 4000
 # The program that `rt ci` or `./install` left.
@@ -49,6 +52,15 @@ def program_of(words):
     if len(programs) > 1:
         stop("one program is asked at a time")
     return programs[0]
+
+
+def lockfiles():
+    """The paths of the lockfiles of the repository. A folder that has none is a fault."""
+    found = {folder: sorted(glob.glob(f"{ROOT}/{folder}/*.lock")) for folder in FOLDERS}
+    for folder in found:
+        if not found[folder]:
+            stop(f"no lockfile in {folder}")
+    return [path for folder in FOLDERS for path in found[folder]]
 
 
 @contextlib.contextmanager
@@ -106,7 +118,7 @@ class Results:
         if self.failed > MOST:
             print(f"and {self.failed - MOST} other faults")
         if self.skipped:
-            print(f"skipped: {', '.join(self.skipped)}")
+            print(f"skipped: {'; '.join(self.skipped)}")
         left_out = f", {len(self.skipped)} skipped" if self.skipped else ""
         print(f"{self.passed} passed, {self.failed} failed{left_out}")
         is_asked = self.passed > 0 or self.skipped

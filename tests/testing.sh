@@ -104,8 +104,8 @@ skip() {
 finish() {
     local left_out=''
     if [ ${#skipped[@]} != 0 ]; then
-        left_out=$(printf ', %s' "${skipped[@]}")
-        echo "skipped: ${left_out#, }"
+        left_out=$(printf '; %s' "${skipped[@]}")
+        echo "skipped: ${left_out#; }"
         left_out=", ${#skipped[@]} skipped"
     fi
     is_finished=true

@@ -29,6 +29,12 @@ def is_old(crate):
     return any(os.stat(it).st_mtime > made for it in rt.rtlib.files_of(crate.folder))
 
 
+def is_proved(crate):
+    """Returns whether the library of a crate is one of the sources at hand: only of what is proved is
+    a library made."""
+    return not crate.is_program and os.path.isdir(crate.rlib) and not is_old(crate)
+
+
 def kept_of(crate, top):
     """Returns the folder of the work that `rt check` kept of a crate, if there is one: in the
     checkout at top, or else in the one on this machine whose work serves the crate best."""

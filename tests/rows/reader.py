@@ -68,13 +68,10 @@ def rows_of(path):
     return list(Reader(os.path.basename(path)).rows(read(path)))
 
 
-def lockfiles():
-    """The bytes of all lockfiles of the rows: the files beside the rows, and texts of blocks."""
-    texts = [bytes_of(path) for path in sorted(glob.glob(f"{DATA}/*.lock"))]
-    for path in files():
-        found = blocks(read(path))
-        texts += [text_of(call, body).encode() for _, call, body in found if is_text(call)]
-    return texts
+def texts():
+    """The bytes of the text of each block, or of the file that it names."""
+    found = [block for path in files() for block in blocks(read(path))]
+    return [text_of(call, body).encode() for _, call, body in found if is_text(call)]
 
 
 def holds(answer, wanted):

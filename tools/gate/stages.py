@@ -59,6 +59,7 @@ OF_PROGRAM = [
         ("completions", "TAB in bash, zsh and fish"),
         ("git", "hooks and the merge driver"),
         ("pictures", "pictures as Graphviz reads them"),
+        ("json", "documents of JSON against their schemas"),
     )),
 ]
 
