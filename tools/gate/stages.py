@@ -35,6 +35,7 @@ BESIDE = [
     of("callers", "tests/callers/run", ["operations"], "callers in C, Rust and Python"),
     of("edits-runner", "tests/edits/failing/run", [], "the runner of edits finds planted faults"),
     of("contracts-test", "tests/contracts/run", [], "planted changes show in docs/CONTRACTS"),
+    of("gate-test", "tests/gate/run", [], "stages, schedules and counts of the gate itself"),
     of("copies-test", "tests/copies/run", [], "a planted copy is found"),
 ]
 
