@@ -112,8 +112,8 @@ def reckoned(top):
     return reckoning.schedule(uses, reckoning.takes_of(uses), machine.jobs())
 
 
-def prove(top, log, started=lambda child: None):
-    """Runs `rt ci` at the top of a repository. Returns its status, the seconds of all processors, and
+def prove(top, log, words=(), started=lambda child: None):
+    """Runs `rt ci` at the top of a repository, with more words. Returns its status, the seconds of all processors, and
     those of each crate. All that it prints is in the log."""
     watch = Watch(top)
     progress = Progress(len(reckoning.uses_of(lines_of(top))), watch)
@@ -121,7 +121,7 @@ def prove(top, log, started=lambda child: None):
     environment = {**os.environ, "RT_JOBS": str(machine.jobs())}
     watch.start()
     with open(log, "w", encoding="utf-8") as out:
-        child = subprocess.Popen(["rt", "ci"], cwd=top, env=environment, text=True,
+        child = subprocess.Popen(["rt", "ci", *words], cwd=top, env=environment, text=True,
                                  errors="replace", start_new_session=True, **ways)
         started(child)
         for line in child.stdout:
