@@ -1,4 +1,5 @@
-"""What the tests of tools share that plant changes in a copy of a part of the repository: the copy."""
+"""What the tests of tools share that plant changes in a copy of a part of the repository: the
+copy."""
 import os
 import shutil
 import subprocess

@@ -107,14 +107,15 @@ class Progress:
 
 
 def reckoned(top):
-    """Returns the seconds that the proofs of a repository are reckoned to take here, from nothing."""
+    """Returns the seconds that the proofs of a repository are reckoned to take here, from
+    nothing."""
     uses = reckoning.uses_of(lines_of(top))
     return reckoning.schedule(uses, reckoning.takes_of(uses), machine.jobs())
 
 
 def prove(top, log, words=(), started=lambda child: None):
-    """Runs `rt ci` at the top of a repository, with more words. Returns its status, the seconds of all processors, and
-    those of each crate. All that it prints is in the log."""
+    """Runs `rt ci` at the top of a repository, with more words. Returns its status, the seconds of
+    all processors, and those of each crate. All that it prints is in the log."""
     watch = Watch(top)
     progress = Progress(len(reckoning.uses_of(lines_of(top))), watch)
     ways = {"stdout": subprocess.PIPE, "stderr": subprocess.STDOUT, "stdin": subprocess.DEVNULL}

@@ -19,7 +19,7 @@ QUICK = [
     of("layout", "tools/gate/layout", [], "the sources are laid out as `rattle fmt` does"),
     of("fits", "tests/edits/run --fits", [], "each edit can be applied"),
     of("record", "tests/edits/run --holds", [], "the lines of the record of edits hold"),
-    of("contracts", "tools/contracts --check", [], "contracts, definitions, counts: docs/CONTRACTS"),
+    of("contracts", "tools/contracts --check", [], "contracts are as docs/CONTRACTS has them"),
     of("copies", "tools/copies --check", [], "nothing more stands in several places"),
     of("examples", "tools/examples", [], "the examples of comments are in programs that run"),
     of("english", "tools/english", [], "plain words on the pages"),
