@@ -1,5 +1,5 @@
-"""What the tests of tools share that plant changes in a copy of a part of the repository: the copy,
-and the counts of what holds and what fails."""
+"""What the tests of tools share that plant changes in a copy of a part of the repository: the
+copy."""
 import os
 import shutil
 import subprocess
@@ -45,21 +45,3 @@ class Copy:
         """Runs a tool of the copy, and returns its status, what it printed, and its faults."""
         ran = subprocess.run([f"{self.root}/{tool}", *words], text=True, capture_output=True)
         return ran.returncode, ran.stdout, ran.stderr
-
-
-class Results:
-    """How many cases hold and fail."""
-
-    def __init__(self):
-        self.passed = self.failed = 0
-
-    def holds(self, name, condition, why):
-        """Counts a case, and prints why it fails."""
-        self.passed, self.failed = self.passed + bool(condition), self.failed + (not condition)
-        if not condition:
-            print(f"failed: {name}: {why}")
-
-    def finish(self):
-        """Prints the counts, and returns the status."""
-        print(f"{self.passed} passed, {self.failed} failed")
-        return 0 if self.passed and not self.failed else 1

@@ -101,8 +101,8 @@ def states_of(crates):
 
 
 def sample(states, seed, count):
-    """Draws edits over all crates: first of those whose line is void, then of those whose line is of
-    another logic, then of the others. One at most changes what other functions are proved from,
+    """Draws edits over all crates: first of those whose line is void, then of those whose line is
+    of another logic, then of the others. One at most changes what other functions are proved from,
     since that takes a check of its whole crate."""
     drawn, found, is_whole = random.Random(seed), [], False
     for name in (record.VOID, record.OTHER_LOGIC, record.HOLDS):

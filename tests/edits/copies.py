@@ -1,14 +1,14 @@
-"""Tries many edits of a crate in one check: each as a copy of its function, with another name, below
-the function itself.
+"""Tries many edits of a crate in one check: each as a copy of its function, with another name,
+below the function itself.
 
-A copy has the clauses of its function and the body of the edit, and the proof folder is copied with it.
-So it is refused by the rule of `rule.py`: a goal or an answer of the very function is not proved. No
-other function calls a copy, so no copy changes what is proved of others. The same check proves the
-crate with no edit: it counts only if each function that is no copy is proved.
+A copy has the clauses of its function and the body of the edit, and the proof folder is copied
+with it. So it is refused by the rule of `rule.py`: a goal or an answer of the very function is not
+proved. No other function calls a copy, so no copy changes what is proved of others. The same check
+proves the crate with no edit: it counts only if each function that is no copy is proved.
 
-An edit of one free function, or of one method of a type's own, can be tried so. A method of a trait
-has no second name in its block, and an edit of several functions, of a clause or of a type is no copy
-of one function: these are tried by rounds.
+An edit of one free function, or of one method of a type's own, can be tried so. A method of a
+trait has no second name in its block, and an edit of several functions, of a clause or of a type
+is no copy of one function: these are tried by rounds.
 """
 import os
 import re
@@ -28,7 +28,8 @@ FAULT = re.compile(r"^(?:\./)?(src/[^:\n]+):(\d+):\d+: error", re.M)
 
 
 class Copy:
-    """A copy of a function with an edit: its name, its lines, and where it stands in the new file."""
+    """A copy of a function with an edit: its name, its lines, and where it stands in the new
+    file."""
 
     def __init__(self, crate, edit, number):
         self.edit, self.of = edit, edit.functions[0]
@@ -143,8 +144,8 @@ def try_part(crate, edits, kept):
 
 
 def try_all(crate, edits, kept, say):
-    """Tries the edits that can be tried as copies, so many in each check. Returns those that are refused,
-    and whether each check proved the crate itself."""
+    """Tries the edits that can be tried as copies, so many in each check. Returns those that are
+    refused, and whether each check proved the crate itself."""
     able, refused, is_sound = [it for it in edits if can_copy(crate, it)], [], True
     for first in range(0, len(able), AT_ONCE):
         part = able[first : first + AT_ONCE]

@@ -30,8 +30,8 @@ def is_old(crate):
 
 
 def is_proved(crate):
-    """Returns whether the library of a crate is one of the sources at hand: only of what is proved is
-    a library made."""
+    """Returns whether the library of a crate is one of the sources at hand: only of what is proved
+    is a library made."""
     return not crate.is_program and os.path.isdir(crate.rlib) and not is_old(crate)
 
 

@@ -1,10 +1,10 @@
 """The record of refusals, tests/edits/refused: which edits were refused, and over what.
 
-For each logic it has a line `logic LOGIC`. Below it is for each crate a line `CRATE BASE`, and below
-that a line `    NAME EDIT` for each refused edit, sorted. EDIT is the sum of the edit's bytes. BASE
-is the sum of all else that a refusal rests on beside the logic: the rule, the crate's files, and what
-can be seen of each crate of this repository below it. A line counts while both sums are those of the
-files at hand, under the logic of the kit at hand. No name of a kit counts.
+For each logic it has a line `logic LOGIC`. Below it is for each crate a line `CRATE BASE`, and
+below that a line `    NAME EDIT` for each refused edit, sorted. EDIT is the sum of the edit's
+bytes. BASE is the sum of all else that a refusal rests on beside the logic: the rule, the crate's
+files, and what can be seen of each crate of this repository below it. A line counts while both
+sums are those of the files at hand, under the logic of the kit at hand. No name of a kit counts.
 """
 import functools
 import hashlib

@@ -1,5 +1,5 @@
-"""What the gate asks of the record: whether its lines hold, and a sample of the edits, each tried by a
-check of its own functions alone over the libraries that `rt ci` left."""
+"""What the gate asks of the record: whether its lines hold, and a sample of the edits, each tried
+by a check of its own functions alone over the libraries that `rt ci` left."""
 import os
 import tempfile
 from collections import Counter
@@ -10,7 +10,8 @@ import record
 import rule
 from kit import rt
 
-# How many edits the gate tries: where the bytes hold, or some do not, and where the logic is another.
+# How many edits the gate tries: where the bytes hold, or some do not, and where the logic is
+# another.
 USUAL, OF_LOGIC = 20, 100
 # What an edit was seen to take in seconds of one processor where many are tried at once, with its
 # share of the checks without edits.
@@ -46,8 +47,8 @@ def report(states):
 
 
 def holds(states, is_strict):
-    """Prints how the lines hold. Returns 1 where some are void by their bytes and that is a failure,
-    as it is in CI, or where, for a release, some are of another logic."""
+    """Prints how the lines hold. Returns 1 where some are void by their bytes and that is a
+    failure, as it is in CI, or where, for a release, some are of another logic."""
     for line in report(states):
         print(line)
     is_void = bool(states[record.VOID]) and (is_strict or os.environ.get("CI") == "true")
@@ -68,8 +69,8 @@ def announce(states, drawn, seed):
 
 
 def is_refused(crate, edit):
-    """Returns whether an edit is refused. The check of its functions alone says so of most; another one
-    is tried over the whole crate."""
+    """Returns whether an edit is refused. The check of its functions alone says so of most;
+    another one is tried over the whole crate."""
     if edit.bad:
         return False
     if edit.places and not edit.is_shared and rule.try_only(crate, edit):

@@ -6,7 +6,6 @@
    NAME is that of a test, or `rows` or `examples`. FILE is the case file of the rows. */
 #define _GNU_SOURCE
 #include "../operations/operations.h"
-#include "../rattle_memory.h"
 #include <stdio.h>
 #include <stdlib.h>
 #include <string.h>

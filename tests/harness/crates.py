@@ -9,6 +9,9 @@ import shutil
 
 HERE = os.path.dirname(os.path.realpath(__file__))
 ROWS = f"{os.path.dirname(HERE)}/rows/data"
+EXAMPLES = f"{HERE}/examples/data"
+# What lies in the folder in which a program runs.
+DATA = {"rows": ROWS, "example_program": EXAMPLES}
 LINE = re.compile(r"^(\w+):((?: \w+)*)$")
 
 
@@ -54,22 +57,14 @@ def copy_sources(name, target, change=lambda text: text):
             out.write(text)
 
 
-def copy_rest(name, target):
-    """Copies what stands beside the sources: what a program prints, and its data."""
-    for it in sorted(os.listdir(f"{HERE}/{name}")):
-        if os.path.isfile(f"{HERE}/{name}/{it}"):
-            shutil.copyfile(f"{HERE}/{name}/{it}", f"{target}/{it}")
-        elif it == "data":
-            shutil.copytree(f"{HERE}/{name}/{it}", f"{target}/{it}")
-
-
 def put(repository):
     """Makes crates of all of them in a copy of the repository."""
     for name in lines():
         target = f"{repository}/crates/{name}"
         os.makedirs(target)
         copy_sources(name, target)
-        copy_rest(name, target)
-    shutil.copytree(ROWS, f"{repository}/crates/rows/data")
+        if name in DATA:
+            shutil.copyfile(f"{HERE}/{name}/stdout", f"{target}/stdout")
+            shutil.copytree(DATA[name], f"{target}/data")
     with open(f"{repository}/crates.txt", "a", encoding="utf-8") as out:
         out.writelines(f"{it}\n" for it in lines().values())

@@ -1,8 +1,9 @@
 """The tests of the crates of this folder, as functions that a program calls by their names.
 
 A test is a function under `#[test]`, which `rt test` runs. In a copy of the sources it becomes a
-plain public function, and `table` makes the file that calls each of them. Only `main` and a test can
-end the process with the runtime that they take, so the copy takes what ends it, and asserts by that.
+plain public function, and `table` makes the file that calls each of them. Only `main` and a test
+can end the process with the runtime that they take. So each function of the copy takes besides what
+ends the process, and asserts by that.
 """
 import re
 
@@ -13,8 +14,8 @@ MODULE = re.compile(r"^#\[cfg\(test\)\]\nmod (\w+);", re.M)
 # What ends the process where it fails: a macro, and a method.
 ASSERTION = re.compile(r"\b((?:assert\w*|panic|unreachable)!\()rt;")
 EXPECTATION = re.compile(r"(\.expect\()&rt,")
-TABLE = """//! What `tests/harness/run` asks by a name: each test, and the examples if they are there.
-//! Made by `tests/harness/tests.py`.
+TABLE = """//! What `tests/harness/run` asks by a name: each test, and the examples.
+//! `tests/harness/tests.py` makes this file.
 
 use std::process::{{Abort, ExitCode, Termination}};
 use std::rt::HostRuntime;

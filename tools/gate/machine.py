@@ -29,8 +29,8 @@ def memory():
 
 
 def jobs():
-    """Returns how many crates are proved at once: one a processor, as far as memory reaches. The kit
-    itself reckons with up to three times the memory that a crate was seen to take."""
+    """Returns how many crates are proved at once: one a processor, as far as memory reaches. The
+    kit itself reckons with up to three times the memory that a crate was seen to take."""
     return int(os.environ.get("RT_JOBS") or max(1, min(processors(), memory() // NEEDED)))
 
 

@@ -107,21 +107,22 @@ class Progress:
 
 
 def reckoned(top):
-    """Returns the seconds that the proofs of a repository are reckoned to take here, from nothing."""
+    """Returns the seconds that the proofs of a repository are reckoned to take here, from
+    nothing."""
     uses = reckoning.uses_of(lines_of(top))
     return reckoning.schedule(uses, reckoning.takes_of(uses), machine.jobs())
 
 
-def prove(top, log, started=lambda child: None):
-    """Runs `rt ci` at the top of a repository. Returns its status, the seconds of all processors, and
-    those of each crate. All that it prints is in the log."""
+def prove(top, log, words=(), started=lambda child: None):
+    """Runs `rt ci` at the top of a repository, with more words. Returns its status, the seconds of
+    all processors, and those of each crate. All that it prints is in the log."""
     watch = Watch(top)
     progress = Progress(len(reckoning.uses_of(lines_of(top))), watch)
     ways = {"stdout": subprocess.PIPE, "stderr": subprocess.STDOUT, "stdin": subprocess.DEVNULL}
     environment = {**os.environ, "RT_JOBS": str(machine.jobs())}
     watch.start()
     with open(log, "w", encoding="utf-8") as out:
-        child = subprocess.Popen(["rt", "ci"], cwd=top, env=environment, text=True,
+        child = subprocess.Popen(["rt", "ci", *words], cwd=top, env=environment, text=True,
                                  errors="replace", start_new_session=True, **ways)
         started(child)
         for line in child.stdout:

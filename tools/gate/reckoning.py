@@ -4,7 +4,8 @@ import re
 
 from machine import ROOT
 
-# Seconds of one processor, from nothing: of the machine of WORKING.md, and those of the last run here.
+# Seconds of one processor, from nothing: those of the machine of WORKING.md, and those of the last
+# run here.
 TRACKED = f"{ROOT}/tools/gate/seconds"
 LAST = f"{ROOT}/out/checked/seconds"
 # What a crate is reckoned to take that has no line yet.
@@ -35,7 +36,7 @@ def seconds():
 def write(path, found):
     os.makedirs(os.path.dirname(path), exist_ok=True)
     with open(path, "w", encoding="utf-8") as file:
-        file.write("# Seconds of one processor, from nothing. `./check --record` writes this file.\n")
+        file.write("# Seconds of one processor, from nothing. `./check` writes this file.\n")
         file.writelines(f"{name} {found[name]:.0f}\n" for name in sorted(found))
 
 

@@ -1,5 +1,5 @@
-"""Runs the stages of the gate: each once those that it needs have ended, and measures how long it takes
-on the clock and of all processors."""
+"""Runs the stages of the gate: each once those that it needs have ended, and measures how long it
+takes on the clock and of all processors."""
 import os
 import re
 import signal
@@ -10,7 +10,7 @@ import time
 
 from reckoning import shown
 
-COUNTS = re.compile(r"^(\d+) passed, (\d+) failed(?:, (\d+) skipped)?$", re.M)
+COUNTS = re.compile(r"(\d+) passed, (\d+) failed(?:, \d+ skipped)?")
 SKIPPED = re.compile(r"^skipped: .*$", re.M)
 # How many lines of a stage are printed: of one that passed, and of one that failed.
 OF_PASSED, OF_FAILED = 3, 300
@@ -23,9 +23,8 @@ class Outcome:
 
     def __init__(self, seconds, worked, status, said):
         self.seconds, self.worked, self.status = seconds, worked, status
-        counts = COUNTS.findall(said)
-        found = counts[-1] if counts and said.rstrip().split("\n")[-1].startswith(counts[-1][0]) else ()
-        self.passed, self.failed = (int(found[0]), int(found[1])) if found else (status == 0, 0)
+        counts = COUNTS.fullmatch(said.rstrip("\n").rpartition("\n")[2])
+        self.passed, self.failed = map(int, counts.groups()) if counts else (status == 0, 0)
         if status and not self.failed:
             self.failed = 1
         self.skipped = SKIPPED.findall(said)

@@ -19,7 +19,7 @@ QUICK = [
     of("layout", "tools/gate/layout", [], "the sources are laid out as `rattle fmt` does"),
     of("fits", "tests/edits/run --fits", [], "each edit can be applied"),
     of("record", "tests/edits/run --holds", [], "the lines of the record of edits hold"),
-    of("contracts", "tools/contracts --check", [], "contracts, definitions, counts: docs/CONTRACTS"),
+    of("contracts", "tools/contracts --check", [], "contracts are as docs/CONTRACTS has them"),
     of("copies", "tools/copies --check", [], "nothing more stands in several places"),
     of("examples", "tools/examples", [], "the examples of comments are in programs that run"),
     of("english", "tools/english", [], "plain words on the pages"),
@@ -35,6 +35,7 @@ BESIDE = [
     of("callers", "tests/callers/run", ["operations"], "callers in C, Rust and Python"),
     of("edits-runner", "tests/edits/failing/run", [], "the runner of edits finds planted faults"),
     of("contracts-test", "tests/contracts/run", [], "planted changes show in docs/CONTRACTS"),
+    of("gate-test", "tests/gate/run", [], "stages, schedules and counts of the gate itself"),
     of("copies-test", "tests/copies/run", [], "a planted copy is found"),
 ]
 
