@@ -1,4 +1,5 @@
-//! Where the program's output goes: one type for all outputs, so that the commands are compiled once.
+//! Where the program's output goes: one type for all outputs, by which the commands are compiled
+//! once.
 
 use cli_support::colours::Colours;
 use cli_support::terminal::Terminal;
