@@ -244,8 +244,8 @@ def is_refused_by(lines, edit, functions):
 
 
 def try_only(crate, edit):
-    """Returns whether a check of the functions of an edit alone, and of those that they call, refuses
-    it in one of them. Nothing that was kept serves such a check."""
+    """Returns whether a check of the functions of an edit alone, and of those that they call,
+    refuses it in one of them. Nothing that was kept serves such a check."""
     paths = [path_of(it) for it in edit.functions]
     more = [word for path in paths for word in ("--only", path)]
     status, said, functions = check(crate, [edit], *more)
