@@ -102,15 +102,12 @@ def states_of(crates):
 
 def sample(states, seed, count):
     """Draws edits over all crates: first of those whose line is void, then of those whose line is
-    of another logic, then of the others. One at most changes what other functions are proved from,
-    since that takes a check of its whole crate."""
-    drawn, found, is_whole = random.Random(seed), [], False
+    of another logic, then of the others. Those that change no function are not drawn, since each
+    takes a check of its whole crate."""
+    drawn, found = random.Random(seed), []
     for name in (record.VOID, record.OTHER_LOGIC, record.HOLDS):
-        for crate, edit in drawn.sample(states[name], len(states[name])):
-            needs_whole = edit.is_shared or not edit.places
-            if len(found) < count and not (needs_whole and is_whole):
-                found.append((crate, edit))
-                is_whole |= needs_whole
+        able = [pair for pair in states[name] if pair[1].places]
+        found += drawn.sample(able, min(len(able), count - len(found)))
     return found
 
 

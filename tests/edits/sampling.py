@@ -73,12 +73,10 @@ def is_refused(crate, edit):
     another one is tried over the whole crate."""
     if edit.bad:
         return False
-    if edit.places and not edit.is_shared and rule.try_only(crate, edit):
+    if rule.try_only(crate, edit):
         return True
     with tempfile.TemporaryDirectory(prefix="edits-kept-") as kept:
-        if edit.places and rule.try_round(crate, [edit], kept):
-            return True
-        return rule.try_alone(crate, edit, kept)
+        return bool(rule.try_round(crate, [edit], kept)) or rule.try_alone(crate, edit, kept)
 
 
 def tried(pair):
