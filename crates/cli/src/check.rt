@@ -18,7 +18,7 @@ use cli_lockfiles::load::{file, named_lockfile_of, named_text};
 use cli_support::output::put;
 use cli_support::{Fault, words};
 use std::alloc::{AllocError, Global};
-use std::io::Write;
+use std::io::{Input, Write};
 use std::process::ExitCode;
 use std::rt::Files;
 
@@ -58,7 +58,7 @@ pub(crate) fn command<'a>(alloc: Global) -> Result<Command<'a>, AllocError> {
 /// it, all as one line of JSON. The status is 1 if there is a finding, and otherwise 0. Fails if
 /// the lockfile is not read or `out` fails; a prefix of the text was then written in the last case,
 /// and nothing in the others.
-pub(crate) fn run<R: Files + AllocGlobal, W: Write>(
+pub(crate) fn run<R: Files + Input + AllocGlobal, W: Write>(
     rt: &R,
     options: &ArgMatches<'_>,
     out: &mut W,

@@ -11,13 +11,13 @@ use cargo_lock::dependency::graph::Graph;
 use cargo_lock::{Error, Lockfile, ResolveVersion};
 use cargo_lock_json::File;
 use clap::ArgMatches;
-use cli_support::fault::path_shown;
 use cli_support::{Fault, words};
 use std::alloc::Global;
+use std::io::Input;
 use std::rt::Files;
 
 /// The lockfile at the path of the option `name`. Fails if it is not read.
-pub fn lockfile<R: Files + AllocGlobal>(
+pub fn lockfile<R: Files + Input + AllocGlobal>(
     rt: &R,
     options: &ArgMatches<'_>,
     name: &str,
@@ -42,7 +42,7 @@ fn lockfile_of(alloc: Global, text: &str) -> Result<Lockfile, Fault>
 
 /// The lockfile at the path of the option or argument `name`. Fails if it is not read, with the
 /// path in the error.
-pub fn named_lockfile<R: Files + AllocGlobal>(
+pub fn named_lockfile<R: Files + Input + AllocGlobal>(
     rt: &R,
     options: &ArgMatches<'_>,
     name: &str,
@@ -57,7 +57,7 @@ pub fn named_lockfile<R: Files + AllocGlobal>(
 
 /// The lockfile whose path the argument `name` has, with the checksums that Cargo reads. Fails if it
 /// is not read, with the path in the error.
-pub fn compared_lockfile<R: Files + AllocGlobal>(
+pub fn compared_lockfile<R: Files + Input + AllocGlobal>(
     rt: &R,
     options: &ArgMatches<'_>,
     name: &str,
@@ -80,7 +80,7 @@ pub fn lockfile_without_packages(alloc: Global) -> Result<Lockfile, Fault>
 
 /// The format of the lockfile at the path of the option `file`, and the graph of its packages. Fails
 /// if it is not read, with the path in the error, or if no package matches a dependency.
-pub fn named_graph<R: Files + AllocGlobal>(
+pub fn named_graph<R: Files + Input + AllocGlobal>(
     rt: &R,
     options: &ArgMatches<'_>,
 ) -> Result<(ResolveVersion, Graph), Fault>
@@ -101,7 +101,7 @@ pub fn graph_of(alloc: Global, lockfile: Lockfile) -> Result<Graph, Error>
 
 /// The text of the lockfile at the path of the option `name`. Fails if it is not read, with the
 /// path in the error.
-pub fn named_text<R: Files + AllocGlobal>(
+pub fn named_text<R: Files + Input + AllocGlobal>(
     rt: &R,
     options: &ArgMatches<'_>,
     name: &str,
@@ -152,7 +152,7 @@ pub fn file_in<'a>(options: &ArgMatches<'a>, name: &str, format: ResolveVersion)
 fn named(alloc: Global, options: &ArgMatches<'_>, name: &str, fault: Fault) -> Fault {
     match fault {
         Fault::Library(Error::Memory) => fault,
-        Fault::Library(error) => match path_shown(alloc, words::path_of(options, name)) {
+        Fault::Library(error) => match words::input_shown(alloc, options, name) {
             Ok(path) => Fault::File(path, error),
             Err(refused) => Fault::from(refused),
         },

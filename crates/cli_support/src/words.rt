@@ -1,19 +1,21 @@
 //! The arguments of the program.
-ghost use Rattle.std.specs.Prelude.{◌≡◌, ◌↔◌, IfErr, IfSome, IsTrue, None, Some, codes, map, option_map};
+ghost use Rattle.std.specs.Prelude.{◌≡◌, ◌↔◌, IfErr, IfOk, IfSome, IsTrue, None, Some, codes};
+ghost use Rattle.std.specs.Prelude.{map, option_map, string_bytes};
 ghost use Rattle.std.specs.Path.{path_bytes};
 ghost use Rattle.clap.specs.Matches.{first_value, found_of};
 ghost use Rattle.cli_support.specs.Destination.{IsPrinted};
-ghost use Rattle.cli_support.specs.Input.{IsInputPath, IsOfReading, given_path_in};
+ghost use Rattle.cli_support.specs.Input.{IsInputPath, IsInputShown, IsOfReading};
+ghost use Rattle.cli_support.specs.Input.{given_path_in};
 ghost use Rattle.cli_support.specs.Status as spec;
 
-use crate::fault::Fault;
+use crate::fault::{Fault, path_shown};
 use cargo_lock_parts::error::Error;
 use clap::{Arg, ArgAction, ArgMatches};
 use std::alloc::{AllocError, Global};
 use std::convert::AsStr;
 use std::fs::OpenOptions;
 use std::io;
-use std::io::{ErrorKind, Read};
+use std::io::{ErrorKind, Input, Read};
 use std::path::Path;
 use std::rt::Files;
 
@@ -27,8 +29,8 @@ const STANDARD: &str = "-";
 /// The options of the program itself.
 const OWN_OPTIONS: [&str; 4] = ["-h", "--help", "-V", "--version"];
 
-/// The path of standard input.
-const STANDARD_INPUT: &str = "/dev/stdin";
+/// What messages call standard input.
+const STANDARD_INPUT: &str = "standard input";
 
 /// The length in bytes from which on a lockfile is refused. It is that of some 900,000 packages.
 const LIMIT: u64 = 1 << 28;
@@ -79,9 +81,10 @@ fn is_option(word: &str) -> bool {
     word.starts_with('-') && !OWN_OPTIONS.contains(&word)
 }
 
-/// The text of the lockfile at the path of the option or argument `name`. Fails if the file is not
-/// read, and if it has 256 MiB or more, unless the options allow that.
-pub fn text<R: Files + AllocGlobal>(
+/// The text of the lockfile at the path of the option or argument `name`, or of standard input if
+/// that is `-`. Fails if it is not read, and if it has 256 MiB or more, unless the options allow
+/// that.
+pub fn text<R: Files + Input + AllocGlobal>(
     rt: &R,
     options: &ArgMatches<'_>,
     name: &str,
@@ -93,7 +96,11 @@ pub fn text<R: Files + AllocGlobal>(
     } else {
         LIMIT
     };
-    match bytes(rt, path_of(options, name), limit) {
+    let read = match input_path(options, name) {
+        Some(path) => file_bytes(rt, path, limit),
+        None => input_bytes(rt, limit),
+    };
+    match read {
         Ok(bytes) if (bytes.len() as u64) < limit => of_bytes(bytes),
         Ok(_) => Err(Fault::TooLarge),
         Err(error) => Err(Fault::of_system_call(error)),
@@ -101,10 +108,18 @@ pub fn text<R: Files + AllocGlobal>(
 }
 
 /// The first bytes of a file, at most `limit` of them.
-fn bytes<R: Files + AllocGlobal>(rt: &R, path: Path<'_>, limit: u64) -> io::Result<Vec<u8>> {
+fn file_bytes<R: Files + AllocGlobal>(rt: &R, path: Path<'_>, limit: u64) -> io::Result<Vec<u8>> {
     let file = OpenOptions::new().read(true).open(rt, path)?;
     let mut bytes = Vec::new(rt.alloc());
     file.take(limit).read_to_end(&mut bytes)?;
+    Ok(bytes)
+}
+
+/// The next bytes of standard input, at most `limit` of them. The stream is read as it was handed
+/// over: from where it is, whatever kind it has, and whoever may open its file.
+fn input_bytes<R: Input + AllocGlobal>(rt: &R, limit: u64) -> io::Result<Vec<u8>> {
+    let mut bytes = Vec::new(rt.alloc());
+    rt.reader().take(limit).read_to_end(&mut bytes)?;
     Ok(bytes)
 }
 
@@ -125,20 +140,37 @@ pub fn given_path<'a>(options: &ArgMatches<'a>, name: &str) -> &'a str
     options.get_str(name).unwrap_or(DEFAULT_PATH)
 }
 
-/// The path of the option or argument `name`, or `Cargo.lock` without one. For `-` it is that of
+/// The path of the option or argument `name`, or `Cargo.lock` without one. `-` is no path, but
 /// standard input.
-pub fn path_of<'a>(options: &ArgMatches<'a>, name: &str) -> Path<'a>
-    ensures { IsInputPath (given_path_in (found_of options.now) name.now) (path_bytes result) }
+pub fn input_path<'a>(options: &ArgMatches<'a>, name: &str) -> Option<Path<'a>>
+    ensures { IsInputPath (given_path_in (found_of options.now) name.now)
+        (option_map path_bytes result) }
 {
     match given_path(options, name) {
-        STANDARD => Path::new(STANDARD_INPUT),
-        path => Path::new(path),
+        STANDARD => None,
+        path => Some(Path::new(path)),
+    }
+}
+
+/// What messages call the lockfile of the option or argument `name`: its path as it is shown, or
+/// `standard input`. Fails when out of memory.
+pub fn input_shown(
+    alloc: Global,
+    options: &ArgMatches<'_>,
+    name: &str,
+) -> Result<String, AllocError>
+    ensures { IfOk result (λ text.
+        IsInputShown (given_path_in (found_of options.now) name.now) (string_bytes text)) }
+{
+    match input_path(options, name) {
+        Some(path) => path_shown(alloc, path),
+        None => String::from_str(alloc, STANDARD_INPUT),
     }
 }
 
 /// Whether the argument `name` is `-`, for standard input.
 pub fn is_standard(options: &ArgMatches<'_>, name: &str) -> bool {
-    options.get_str(name) == Some(STANDARD)
+    given_path(options, name) == STANDARD
 }
 
 /// The path of the file that a command writes, unless it prints.

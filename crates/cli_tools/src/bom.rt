@@ -18,7 +18,7 @@ use cli_support::words::{any_size, file, long_flag, output};
 use cli_support::{Fault, time};
 use std::alloc::{AllocError, Global};
 use std::env::Env;
-use std::io::Write;
+use std::io::{Input, Write};
 use std::rt::Files;
 use std::time::Clock;
 
@@ -66,7 +66,7 @@ fn named<'a>(alloc: Global, name: &'a str, shown: &'a str) -> Arg<'a> {
 /// package matches the root that the arguments name, if the folder of manifests that they name or a
 /// manifest is not read, if the same text would refer to two of its packages, and if the output
 /// fails.
-pub fn run<R: Files + Env + Clock + AllocGlobal, W: Write>(
+pub fn run<R: Files + Input + Env + Clock + AllocGlobal, W: Write>(
     rt: &R,
     options: &ArgMatches<'_>,
     out: &mut W,
@@ -96,7 +96,7 @@ fn asked_time<R: Env + Clock + AllocGlobal>(
 }
 
 /// The text of the bill of materials of a lockfile that the arguments ask for, and a newline.
-fn text_about<R: Files + AllocGlobal>(
+fn text_about<R: Files + Input + AllocGlobal>(
     rt: &R,
     options: &ArgMatches<'_>,
     time: Option<u64>,

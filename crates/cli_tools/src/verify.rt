@@ -27,7 +27,7 @@ use cli_support::output::put;
 use cli_support::words::{any_size, json, long_flag};
 use cli_support::{Fault, words};
 use std::alloc::{AllocError, Global};
-use std::io::Write;
+use std::io::{Input, Write};
 use std::process::ExitCode;
 use std::rt::Files;
 
@@ -82,7 +82,7 @@ fn all<'a>(alloc: Global) -> Result<Arg<'a>, AllocError> {
 /// JSON. The status is 1 if something is found of a package, and otherwise 0. Fails if the lockfile,
 /// a folder or a file is not read, or if `out` fails; a prefix of the text was then written in the
 /// last case, and nothing in the others.
-pub fn run<R: Files + AllocGlobal, W: Write>(
+pub fn run<R: Files + Input + AllocGlobal, W: Write>(
     rt: &R,
     options: &ArgMatches<'_>,
     out: &mut W,

@@ -16,7 +16,7 @@ use cli_support::Fault;
 use cli_support::output::put;
 use cli_support::words::{any_size, file, flag, value};
 use std::alloc::{AllocError, Global};
-use std::io::Write;
+use std::io::{Input, Write};
 use std::rt::Files;
 
 /// The parser of this command: its options.
@@ -39,7 +39,7 @@ struct Detail {
 
 /// Prints each package of the lockfile in list order, or each with the name that is asked for.
 /// Fails if the lockfile is not read or `out` fails; a prefix of the text was then written.
-pub fn run<R: Files + AllocGlobal, W: Write>(
+pub fn run<R: Files + Input + AllocGlobal, W: Write>(
     rt: &R,
     options: &ArgMatches<'_>,
     out: &mut W,

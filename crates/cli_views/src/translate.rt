@@ -19,7 +19,7 @@ use cli_support::Fault;
 use cli_support::destination::put_out;
 use cli_support::words::{any_size, file, long_flag, output, value};
 use std::alloc::{AllocError, Global};
-use std::io::Write;
+use std::io::{Input, Write};
 use std::rt::Files;
 
 /// The format that is written if the arguments name none.
@@ -62,7 +62,7 @@ fn format_text<'a>(options: &ArgMatches<'a>) -> &'a str
 /// more newline. The format is read before the file. Fails if either is not read, if the arguments
 /// ask for a check and the lockfile does not survive the format or its text does not read back, and
 /// if the output fails.
-pub fn run<R: Files + AllocGlobal, W: Write>(
+pub fn run<R: Files + Input + AllocGlobal, W: Write>(
     rt: &R,
     options: &ArgMatches<'_>,
     out: &mut W,

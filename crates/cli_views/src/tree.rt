@@ -24,7 +24,7 @@ use cli_support::Fault;
 use cli_support::output::put;
 use cli_support::words::{any_size, file, flag};
 use std::alloc::{AllocError, Global};
-use std::io::Write;
+use std::io::{Input, Write};
 use std::rt::Files;
 
 /// The specifications, as help shows them.
@@ -52,7 +52,7 @@ struct Style {
 /// trees. If there are no specifications, it prints the trees of all roots. Fails if the lockfile
 /// is not read or has no tree, if a specification matches no package, or if `out` fails. Only in
 /// the last case a part of the text has been written.
-pub fn run<R: Files + AllocGlobal, W: Write>(
+pub fn run<R: Files + Input + AllocGlobal, W: Write>(
     rt: &R,
     options: &ArgMatches<'_>,
     out: &mut W,
