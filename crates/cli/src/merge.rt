@@ -12,7 +12,7 @@ use cargo_lock_merge::moved::Moved;
 use clap::{Arg, ArgAction, ArgMatches, Command};
 use cli_lockfiles::load::{compared_lockfile, lockfile_without_packages};
 use cli_support::Fault;
-use cli_support::destination::put_out;
+use cli_support::destination::put_own_out;
 use cli_support::words::{any_size, is_standard, output};
 use std::alloc::{AllocError, Global};
 use std::io::{ErrorKind, Input, Write};
@@ -159,7 +159,7 @@ fn put_merge<R: Files + AllocGlobal, W: Write>(
     match merge {
         LockfileMerge::Merged(_, text, moved) => {
             let lines = moved_lines(rt.alloc(), &moved)?;
-            put_out(rt, options, text.as_str(), "", out)?;
+            put_own_out(rt, options, text.as_str(), out)?;
             Ok(Ended {
                 status: ExitCode::SUCCESS,
                 lines: Some(lines),

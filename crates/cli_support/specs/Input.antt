@@ -1,5 +1,5 @@
 -- The lockfile that a command reads.
-use Rattle.std.specs.Prelude.{◌≡◌, ◌≢◌, ℕ, List, None, Option, Some, codes, unwrap_or}
+use Rattle.std.specs.Prelude.{◌≡◌, ◌≢◌, ℕ, List, None, Option, Some, codes, string_bytes, unwrap_or}
 use Rattle.std.specs.declared.io.ErrorKind.TheVariants.{OutOfMemory}
 use Rattle.clap.specs.Matches.{first_value}
 use Rattle.clap.specs.declared.parser.matches.Found.{Found}
@@ -23,9 +23,10 @@ pub record IsInputShown (argument text : List ℕ) : Type 0 where
   pub standard : argument ≡ codes "-" → text ≡ codes "standard input"
   pub other : argument ≢ codes "-" → text ≡ shown Quoted argument
 
--- the error for a file that is not read: its length, memory, or another error of the system
-abbrev pub IsOfReading : Fault → Type 0
-IsOfReading TooLarge = Unit {0}
-IsOfReading (Library Memory) = Unit {0}
-IsOfReading (Library (Io kind)) = kind ≢ OutOfMemory
-IsOfReading other = ⊥
+-- the error for a lockfile of this argument that is not read: its length, memory, or another error of
+-- the system
+abbrev pub IsOfReading : List ℕ → Fault → Type 0
+IsOfReading argument (TooLarge name) = IsInputShown argument (string_bytes name)
+IsOfReading argument (Library Memory) = Unit {0}
+IsOfReading argument (Library (Io kind)) = kind ≢ OutOfMemory
+IsOfReading argument other = ⊥

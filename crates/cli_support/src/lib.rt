@@ -4,6 +4,7 @@
 //! Nothing here depends on lockfiles, so each promise is about arguments, files and streams.
 #![tactic(auto)]
 
+pub mod arguments;
 pub mod colours;
 pub mod destination;
 pub mod fault;

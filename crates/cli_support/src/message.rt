@@ -12,21 +12,34 @@ const NEXT_LINE: &str = "\n  | ";
 /// Prints `*** ` and what `Display` writes of the error: U+0020 to U+007E unchanged, and each other
 /// character by its number, as `shown` does. A newline inside the message begins a line with
 /// `  | `, and the newlines at its end become one. The parser of the arguments formats its own
-/// lines, which have no `  | `. Fails as the writer does.
+/// lines, which have no `  | `, nor has the line that names a file after an error. Fails as the
+/// writer does.
 pub fn put_message<W: Write>(out: &mut W, fault: &Fault) -> io::Result<()> {
-    let separator = match fault {
-        Fault::Words(_) => "\n",
-        _ => NEXT_LINE,
-    };
+    match fault {
+        Fault::Words(words) => put_lines(out, "\n", format_args!("*** {words}"))?,
+        Fault::FileAfter(name, error) => {
+            put_lines(out, NEXT_LINE, format_args!("*** error: {error}"))?;
+            put_all(out, b"\n  in ")?;
+            put_lines(out, NEXT_LINE, name)?;
+        }
+        _ => put_lines(out, NEXT_LINE, format_args!("*** {fault}"))?,
+    }
+    put_all(out, b"\n")
+}
+
+/// Prints a text as a message has it, without the newlines at its end.
+fn put_lines<W: Write, D: fmt::Display + Drop>(
+    out: &mut W,
+    separator: &'static str,
+    text: D,
+) -> io::Result<()> {
     let mut message = Message {
         out,
         separator,
         newlines: 0,
     };
-    let result = fmt::Write::write(&mut message, format_args!("*** {fault}"));
-    let Message { out, .. } = message;
-    match result {
-        Ok(()) => put_all(out, b"\n"),
+    match fmt::Write::write(&mut message, text) {
+        Ok(()) => Ok(()),
         Err(_) => Err(io::Error::from(ErrorKind::Other)),
     }
 }

@@ -7,6 +7,9 @@ ghost use Rattle.cli_support.specs.Destination.{IsPrinted};
 ghost use Rattle.cli_support.specs.Input.{IsInputPath, IsInputShown, IsOfReading};
 ghost use Rattle.cli_support.specs.Input.{given_path_in};
 ghost use Rattle.cli_support.specs.Status as spec;
+ghost use Rattle.std.specs.declared.io.ErrorKind.TheVariants.{InvalidData};
+ghost use Rattle.cargo_lock_parts.specs.declared.error.Error.TheVariants.{Io};
+ghost use Rattle.cli_support.specs.declared.fault.Fault.TheVariants.{Library};
 
 use crate::fault::{Fault, path_shown};
 use cargo_lock_parts::error::Error;
@@ -89,7 +92,7 @@ pub fn text<R: Files + Input + AllocGlobal>(
     options: &ArgMatches<'_>,
     name: &str,
 ) -> Result<String, Fault>
-    ensures { IfErr result IsOfReading }
+    ensures { IfErr result (IsOfReading (given_path_in (found_of options.now) name.now)) }
 {
     let limit = if options.get_flag("any-size") {
         u64::MAX
@@ -102,7 +105,7 @@ pub fn text<R: Files + Input + AllocGlobal>(
     };
     match read {
         Ok(bytes) if (bytes.len() as u64) < limit => of_bytes(bytes),
-        Ok(_) => Err(Fault::TooLarge),
+        Ok(_) => Err(too_large(rt.alloc(), options, name)),
         Err(error) => Err(Fault::of_system_call(error)),
     }
 }
@@ -123,9 +126,19 @@ fn input_bytes<R: Input + AllocGlobal>(rt: &R, limit: u64) -> io::Result<Vec<u8>
     Ok(bytes)
 }
 
+/// The error for a lockfile that is too large, or out of memory.
+fn too_large(alloc: Global, options: &ArgMatches<'_>, name: &str) -> Fault
+    ensures { IsOfReading (given_path_in (found_of options.now) name.now) result }
+{
+    match input_shown(alloc, options, name) {
+        Ok(name) => Fault::TooLarge(name),
+        Err(refused) => Fault::from(refused),
+    }
+}
+
 /// The text of bytes. Fails if they are not UTF-8.
 fn of_bytes(bytes: Vec<u8>) -> Result<String, Fault>
-    ensures { IfErr result IsOfReading }
+    ensures { IfErr result (λ fault. fault ≡ Library (Io InvalidData)) }
 {
     match String::from_utf8(bytes) {
         Ok(text) => Ok(text),

@@ -13,7 +13,7 @@ use cargo_lock_bom::options::{Options, VERSION};
 use cargo_lock_bom::printed::{printed_bill, with_root};
 use clap::{Arg, ArgAction, ArgMatches, Command};
 use cli_lockfiles::load::named_lockfile;
-use cli_support::destination::put_out;
+use cli_support::destination::put_own_out;
 use cli_support::words::{any_size, file, long_flag, output};
 use cli_support::{Fault, time};
 use std::alloc::{AllocError, Global};
@@ -77,7 +77,7 @@ pub fn run<R: Files + Input + Env + Clock + AllocGlobal, W: Write>(
     let time = asked_time(rt, options)?;
     let lockfile = named_lockfile(rt, options, "file")?;
     let text = text_about(rt, options, time, lockfile)?;
-    put_out(rt, options, text.as_str(), "", out)
+    put_own_out(rt, options, text.as_str(), out)
 }
 
 /// The time, if the arguments ask for one.
@@ -165,7 +165,7 @@ fn only_fitting(alloc: Global, packages: &[Package], spec: &str) -> Result<NodeI
     let fitting = fitting(alloc, packages, spec)?;
     match fitting.as_slice() {
         [node] => Ok(*node),
-        others => Err(Fault::of_root(alloc, others.len(), spec)),
+        others => Err(Fault::of_count(alloc, others.len(), spec)),
     }
 }
 

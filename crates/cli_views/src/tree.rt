@@ -15,11 +15,12 @@ ghost use Rattle.cli_views.specs.Tree.{PrintsTreesOf, after_empty_lines, directi
 use cargo_lock::dependency::graph::{EdgeDirection, Graph, NodeIndex};
 use cargo_lock::dependency::tree::{Symbols, roots_of};
 use cargo_lock::{Lockfile, Package};
+use cargo_lock_ask::fitting;
 use cargo_lock_graph::drawing::{Look, render_onto};
 use cargo_lock_graph::targets::Candidates;
 use clap::{ArgMatches, Command};
 use cli_lockfiles::load::{graph_of, lockfile};
-use cli_lockfiles::spec::{some_fitting, specs};
+use cli_lockfiles::spec::specs;
 use cli_support::Fault;
 use cli_support::output::put;
 use cli_support::words::{any_size, file, flag};
@@ -146,7 +147,7 @@ fn start_of<'a>(
     requires { candidates.now ≡ packages.now }
     ensures { IfOk result (IsStartOf packages.now spec.now) }
 {
-    let fitting = some_fitting(alloc, packages, spec)?;
+    let fitting = fitting(alloc, packages, spec)?;
     match first_of(packages, &fitting) {
         Some(package) => node_of(alloc, candidates, package, spec),
         None => Err(Fault::of_spec(alloc, spec)),
