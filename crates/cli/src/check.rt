@@ -50,8 +50,8 @@ pub(crate) fn command<'a>(alloc: Global) -> Result<Command<'a>, AllocError> {
         .about("Prints what is wrong with a lockfile")
         .after_help(FINDINGS_HELP)
         .arg(words::file(alloc))?
-        .arg(words::any_size(alloc))?
-        .arg(words::json(alloc))
+        .arg(words::any_size(alloc)?)?
+        .arg(words::json(alloc)?)
 }
 
 /// Prints what is wrong with the lockfile, a line for each finding, or, if the arguments ask for

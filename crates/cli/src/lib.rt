@@ -117,14 +117,15 @@ fn execute<R: Files + Input + Env + Clock + AllocGlobal, S: AsStr, W: Write>(
     Ok(ended)
 }
 
-/// The parser of the arguments. If an option is given more than once, the last value counts, and a
-/// flag may be given more than once. Fails when out of memory.
+/// The parser of the arguments. If an option is given more than once, the last value counts for the
+/// commands of the original. The others refuse it, since the values before would be left out in
+/// silence, unless the option collects its values. A flag may be given more than once. Fails when out
+/// of memory.
 fn parser<'a>(alloc: Global) -> Result<Command<'a>, AllocError> {
     Command::new(alloc, "cargo-lock")
         .about("Looks into lockfiles")
         .version(VERSION)
         .subcommand_required(true)
-        .args_override_self(true)
         .subcommand(list::command(alloc)?)?
         .subcommand(translate::command(alloc)?)?
         .subcommand(tree::command(alloc)?)?

@@ -44,7 +44,7 @@ pub(crate) fn command<'a>(alloc: Global) -> Result<Command<'a>, AllocError> {
         .arg(path(alloc, "base", "BASE").help(BASE_HELP))?
         .arg(path(alloc, "ours", "OURS").help(OURS_HELP))?
         .arg(path(alloc, "theirs", "THEIRS").help(THEIRS_HELP))?
-        .arg(any_size(alloc))?
+        .arg(any_size(alloc)?)?
         .arg(output(alloc))
 }
 

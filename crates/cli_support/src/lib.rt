@@ -6,6 +6,7 @@
 
 pub mod arguments;
 pub mod colours;
+pub mod departure;
 pub mod destination;
 pub mod fault;
 pub mod laws;

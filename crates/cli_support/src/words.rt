@@ -207,13 +207,15 @@ pub fn file<'a>(alloc: Global) -> Arg<'a> {
 }
 
 /// The option to print JSON.
-pub fn json<'a>(alloc: Global) -> Arg<'a> {
-    long_flag(alloc, "json").help("Prints one line of JSON")
+pub fn json<'a>(alloc: Global) -> Result<Arg<'a>, AllocError> {
+    let flag = long_flag(alloc, "json")?;
+    Ok(flag.help("Prints one line of JSON"))
 }
 
 /// The option to read a lockfile of any length.
-pub fn any_size<'a>(alloc: Global) -> Arg<'a> {
-    long_flag(alloc, "any-size").help("Reads a lockfile of 256 MiB or more too")
+pub fn any_size<'a>(alloc: Global) -> Result<Arg<'a>, AllocError> {
+    let flag = long_flag(alloc, "any-size")?;
+    Ok(flag.help("Reads a lockfile of 256 MiB or more too"))
 }
 
 /// The option for the file that is written.
@@ -231,12 +233,16 @@ pub fn value<'a>(alloc: Global, name: &'a str, short: char, shown: &'a str) -> A
         .action(ArgAction::Set)
 }
 
-/// An option that takes no value.
-pub fn flag<'a>(alloc: Global, name: &'a str, short: char) -> Arg<'a> {
-    long_flag(alloc, name).short(short)
+/// An option that takes no value. Given several times it counts once.
+pub fn flag<'a>(alloc: Global, name: &'a str, short: char) -> Result<Arg<'a>, AllocError> {
+    let flag = long_flag(alloc, name)?;
+    Ok(flag.short(short))
 }
 
-/// An option that takes no value and has no short name.
-pub fn long_flag<'a>(alloc: Global, name: &'a str) -> Arg<'a> {
-    Arg::new(alloc, name).long(name).action(ArgAction::SetTrue)
+/// The same without a short name.
+pub fn long_flag<'a>(alloc: Global, name: &'a str) -> Result<Arg<'a>, AllocError> {
+    Arg::new(alloc, name)
+        .long(name)
+        .action(ArgAction::SetTrue)
+        .overrides_with(name)
 }

@@ -60,11 +60,11 @@ pub fn command<'a>(alloc: Global) -> Result<Command<'a>, AllocError> {
         .about("Prints the advisories that concern packages of a lockfile")
         .after_help(AUDIT_HELP)
         .arg(words::file(alloc))?
-        .arg(any_size(alloc))?
+        .arg(any_size(alloc)?)?
         .arg(database_option(alloc))?
         .arg(texts::option(alloc, "ignore", "ID").help(IGNORE_HELP))?
         .arg(texts::option(alloc, "deny", "KIND").help(DENY_HELP))?
-        .arg(json(alloc))
+        .arg(json(alloc)?)
 }
 
 /// The option for the folder of the advisories.

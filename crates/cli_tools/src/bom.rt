@@ -43,14 +43,14 @@ pub fn command<'a>(alloc: Global) -> Result<Command<'a>, AllocError> {
         .about("Writes a bill of materials, as CycloneDX 1.6 has it in JSON")
         .after_help(BOM_HELP)
         .arg(file(alloc))?
-        .arg(any_size(alloc))?
+        .arg(any_size(alloc)?)?
         .arg(output(alloc))?
         .arg(named(alloc, "root", "SPEC").help(ROOT_HELP))?
         .arg(named(alloc, "author", "NAME").help("Who writes the bill"))?
-        .arg(long_flag(alloc, "timestamp").help(TIME_HELP))?
-        .arg(long_flag(alloc, "serial").help("Adds a serial number, equal for equal bills"))?
+        .arg(long_flag(alloc, "timestamp")?.help(TIME_HELP))?
+        .arg(long_flag(alloc, "serial")?.help("Adds a serial number, equal for equal bills"))?
         .arg(bill_licenses::option(alloc))?
-        .arg(long_flag(alloc, "compact").help("Writes one line, without spaces"))
+        .arg(long_flag(alloc, "compact")?.help("Writes one line, without spaces"))
 }
 
 /// An option with a value and no short name.

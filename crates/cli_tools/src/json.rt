@@ -27,7 +27,7 @@ pub fn command<'a>(alloc: Global) -> Result<Command<'a>, AllocError> {
         .about("Prints a lockfile as one line of JSON")
         .after_help(JSON_HELP)
         .arg(file(alloc))?
-        .arg(any_size(alloc))
+        .arg(any_size(alloc)?)
 }
 
 /// Prints the document of the lockfile, with the checksums that Cargo reads, as one line. Fails if the lockfile is not read or `out`

@@ -61,11 +61,11 @@ pub fn command<'a>(alloc: Global) -> Result<Command<'a>, AllocError> {
         .about("Prints the licences of packages, and which are not allowed")
         .after_help(LICENSES_HELP)
         .arg(words::file(alloc))?
-        .arg(any_size(alloc))?
+        .arg(any_size(alloc)?)?
         .arg(cache(alloc, CACHE_HELP))?
         .arg(vendor(alloc)?)?
         .arg(texts::option(alloc, "allow", "TERM").help(ALLOW_HELP))?
-        .arg(json(alloc))
+        .arg(json(alloc)?)
 }
 
 /// Prints what is found of the licences of the packages of the lockfile, a line for each, or, if

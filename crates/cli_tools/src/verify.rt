@@ -63,16 +63,16 @@ pub fn command<'a>(alloc: Global) -> Result<Command<'a>, AllocError> {
         .about("Compares archives, or vendored folders, with the checksums of a lockfile")
         .after_help(VERIFY_HELP)
         .arg(words::file(alloc))?
-        .arg(any_size(alloc))?
+        .arg(any_size(alloc)?)?
         .arg(cache(alloc, CACHE_HELP))?
         .arg(vendor(alloc)?)?
         .arg(all(alloc)?)?
-        .arg(json(alloc))
+        .arg(json(alloc)?)
 }
 
 /// The option to report packages without an archive.
 fn all<'a>(alloc: Global) -> Result<Arg<'a>, AllocError> {
-    long_flag(alloc, "all")
+    long_flag(alloc, "all")?
         .help(ALL_HELP)
         .conflicts_with("vendor")
 }

@@ -52,12 +52,12 @@ pub fn command<'a>(alloc: Global) -> Result<Command<'a>, AllocError> {
         .after_help(DIFF_HELP)
         .arg(path(alloc, "old", "OLD").help(OLD_HELP))?
         .arg(path(alloc, "new", "NEW").help(NEW_HELP))?
-        .arg(any_size(alloc))?
-        .arg(flag(alloc, "dependencies", 'd').help("Shows other dependencies of packages too"))?
-        .arg(long_flag(alloc, "exit-code").help(
+        .arg(any_size(alloc)?)?
+        .arg(flag(alloc, "dependencies", 'd')?.help("Shows other dependencies of packages too"))?
+        .arg(long_flag(alloc, "exit-code")?.help(
             "Ends with status 1 where anything differs, dependencies only with -d",
         ))?
-        .arg(json(alloc))
+        .arg(json(alloc)?)
 }
 
 /// The path of a lockfile, which help shows as `shown`.

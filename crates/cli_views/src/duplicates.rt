@@ -38,9 +38,9 @@ pub fn command<'a>(alloc: Global) -> Result<Command<'a>, AllocError> {
         .about("Lists the names that several packages have, and what needs each package")
         .after_help(DUPLICATES_HELP)
         .arg(words::file(alloc))?
-        .arg(any_size(alloc))?
-        .arg(long_flag(alloc, "exit-code").help(STATUS_HELP))?
-        .arg(json(alloc))
+        .arg(any_size(alloc)?)?
+        .arg(long_flag(alloc, "exit-code")?.help(STATUS_HELP))?
+        .arg(json(alloc)?)
 }
 
 /// Prints the names that several packages of the lockfile have, with these packages and what needs

@@ -40,9 +40,9 @@ pub fn command<'a>(alloc: Global) -> Result<Command<'a>, AllocError> {
         .about("Writes a picture of packages, for Graphviz or Mermaid")
         .after_help(GRAPH_HELP)
         .arg(file(alloc))?
-        .arg(any_size(alloc))?
+        .arg(any_size(alloc)?)?
         .arg(format(alloc))?
-        .arg(flag(alloc, "invert", 'i').help("Shows what depends on each package"))?
+        .arg(flag(alloc, "invert", 'i')?.help("Shows what depends on each package"))?
         .arg(specs(alloc).help(SPEC_HELP))
 }
 

@@ -22,12 +22,13 @@ use std::rt::Files;
 /// The parser of this command: its options.
 pub fn command<'a>(alloc: Global) -> Result<Command<'a>, AllocError> {
     Command::new(alloc, "list")
+        .args_override_self(true)
         .about("Lists the packages of a lockfile")
         .arg(file(alloc))?
-        .arg(any_size(alloc))?
+        .arg(any_size(alloc)?)?
         .arg(value(alloc, "package", 'p', "NAME").help("Lists only the packages of this name"))?
-        .arg(flag(alloc, "dependencies", 'd').help("Lists the dependencies of each package"))?
-        .arg(flag(alloc, "sources", 's').help("Shows where each comes from"))
+        .arg(flag(alloc, "dependencies", 'd')?.help("Lists the dependencies of each package"))?
+        .arg(flag(alloc, "sources", 's')?.help("Shows where each comes from"))
 }
 
 /// What is printed of a package besides its name and version.

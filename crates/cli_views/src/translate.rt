@@ -37,17 +37,18 @@ root, and the replacement of a package with dependencies, are in the table and i
 /// The parser of this command: its options.
 pub fn command<'a>(alloc: Global) -> Result<Command<'a>, AllocError> {
     Command::new(alloc, "translate")
+        .args_override_self(true)
         .about("Writes a lockfile in another format")
         .arg(file(alloc))?
-        .arg(any_size(alloc))?
+        .arg(any_size(alloc)?)?
         .arg(output(alloc))?
         .arg(
             value(alloc, "version", 'v', "FORMAT")
                 .default_value(DEFAULT_FORMAT)
                 .help("The format, 1 to 4"),
         )?
-        .arg(long_flag(alloc, "check").help(CHECK_HELP))?
-        .arg(long_flag(alloc, "check-text").help(CHECK_TEXT_HELP))
+        .arg(long_flag(alloc, "check")?.help(CHECK_HELP))?
+        .arg(long_flag(alloc, "check-text")?.help(CHECK_TEXT_HELP))
 }
 
 /// The text of the format that is written.

@@ -34,11 +34,12 @@ const SPEC_HELP: &str = "Packages, by name, version, both as NAME@VERSION, check
 /// The parser of this command: its options and its specifications.
 pub fn command<'a>(alloc: Global) -> Result<Command<'a>, AllocError> {
     Command::new(alloc, "tree")
+        .args_override_self(true)
         .about("Draws the trees of packages")
         .arg(file(alloc))?
-        .arg(any_size(alloc))?
-        .arg(flag(alloc, "exact", 'x').help("Shows checksums, or else where each comes from"))?
-        .arg(flag(alloc, "invert", 'i').help("Draws what depends on each package"))?
+        .arg(any_size(alloc)?)?
+        .arg(flag(alloc, "exact", 'x')?.help("Shows checksums, or else where each comes from"))?
+        .arg(flag(alloc, "invert", 'i')?.help("Draws what depends on each package"))?
         .arg(specs(alloc).help(SPEC_HELP))
 }
 

@@ -46,9 +46,9 @@ pub fn command<'a>(alloc: Global) -> Result<Command<'a>, AllocError> {
         .about("Shows why a package is in a lockfile")
         .after_help(WHY_HELP)
         .arg(words::file(alloc))?
-        .arg(any_size(alloc))?
-        .arg(long_flag(alloc, "all").help(ALL_HELP))?
-        .arg(json(alloc))?
+        .arg(any_size(alloc)?)?
+        .arg(long_flag(alloc, "all")?.help(ALL_HELP))?
+        .arg(json(alloc)?)?
         .arg(spec(alloc))
 }
 
