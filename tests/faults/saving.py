@@ -170,13 +170,12 @@ def one_fault(case, number):
 
 def all_fail_from(case, number):
     """Runs a command with all calls failing from one on, as if it ended there, and then once more.
-    A file that did not exist may be left empty: the command creates one to see whether it may."""
+    A file that did not exist is not there."""
     case.start()
     answer = case.run(lasting(number, case.error, case.command.taken()))
     if fault := case.fault_of_answer(answer):
         return fault, answer
-    old = [case.output.old] if case.output.old is not None else [None, b""]
-    if not case.has(*([case.command.text] if answer.status == 0 else old)):
+    if not case.has(case.command.text if answer.status == 0 else case.output.old):
         return f"it holds {case.content(case.output.meant)!r} after {answer}", answer
     left = case.content(NEW_NAME)
     if not case.command.is_lockfile and case.output.meant == NAME:

@@ -26,10 +26,9 @@ impl<W: Write> Departure<W> {
         }
     }
 
-    /// Whether this error says that the reader is gone, which is no fault here. It is remembered.
-    fn notes(&mut self, error: &io::Error) -> bool {
-        self.is_gone = self.is_allowed && error.kind() == ErrorKind::BrokenPipe;
-        self.is_gone
+    /// Whether this error says that the reader is gone, which is no fault here.
+    fn is_departure(&self, error: &io::Error) -> bool {
+        self.is_allowed && error.kind() == ErrorKind::BrokenPipe
     }
 }
 
@@ -39,7 +38,10 @@ impl<W: Write> Write for Departure<W> {
             return Ok(bytes.len());
         }
         match self.out.write(bytes) {
-            Err(error) if self.notes(&error) => Ok(bytes.len()),
+            Err(error) if self.is_departure(&error) => {
+                self.is_gone = true;
+                Ok(bytes.len())
+            }
             result => result,
         }
     }
@@ -49,7 +51,10 @@ impl<W: Write> Write for Departure<W> {
             return Ok(());
         }
         match self.out.flush() {
-            Err(error) if self.notes(&error) => Ok(()),
+            Err(error) if self.is_departure(&error) => {
+                self.is_gone = true;
+                Ok(())
+            }
             result => result,
         }
     }

@@ -95,6 +95,11 @@ pub enum Fault {
     #[error("error: another file has taken the path `{0}`\n")]
     Replaced(String),
 
+    /// The file at this path, a mount point, was written in part. The file of this name in its folder
+    /// has the whole text.
+    #[error("error: {0}: written in part; the whole text is in {1} beside it\n")]
+    WrittenInPart(String, String),
+
     /// This folder has files with all of the names that a new one could have.
     #[error("error: the folder `{0}` has all of `.cargo-lock-0.new` to `.cargo-lock-99.new`\n")]
     NamesTaken(String),
