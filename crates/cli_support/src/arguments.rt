@@ -25,11 +25,21 @@ pub fn fault_of<R: Env + AllocGlobal>(rt: &R, error: io::Error) -> Fault {
 fn first_not_utf8<R: Env + AllocGlobal>(rt: &R) -> Result<Option<usize>, AllocError> {
     let mut buffer: Vec<u8> = Vec::from_elem(rt.alloc(), 0, LONGEST)?;
     for number in 0..usize::MAX {
-        match rt.arg(number, &mut buffer) {
-            Ok(length) if str::from_utf8(&buffer[..length]).is_err() => return Ok(Some(number)),
-            Ok(_) | Err(FillError::TooLong) => {}
-            Err(FillError::NotPresent) => break,
+        match is_utf8(rt, number, buffer.as_mut_slice()) {
+            Some(true) => {}
+            Some(false) => return Ok(Some(number)),
+            None => break,
         }
     }
     Ok(None)
+}
+
+/// Whether the argument of this number is UTF-8, if there is one. One that is longer than the buffer
+/// is passed over.
+fn is_utf8<R: Env>(rt: &R, number: usize, buffer: &mut [u8]) -> Option<bool> {
+    match rt.arg(number, buffer) {
+        Ok(length) => Some(str::from_utf8(&buffer[..length]).is_ok()),
+        Err(FillError::TooLong) => Some(true),
+        Err(FillError::NotPresent) => None,
+    }
 }

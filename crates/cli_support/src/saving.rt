@@ -223,7 +223,10 @@ fn overwrite<R: Files + AllocGlobal>(
 
 /// The error for a file that was written in part. It is made before anything is written.
 fn written_in_part(alloc: Global, path: Path<'_>, target: Path<'_>) -> Result<Fault, AllocError> {
-    let name = path.file_name().map_or(path, Path::new);
+    let name = match path.file_name() {
+        Some(name) => Path::new(name),
+        None => path,
+    };
     Ok(Fault::WrittenInPart(path_shown(alloc, target)?, path_shown(alloc, name)?))
 }
 

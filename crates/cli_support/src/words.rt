@@ -118,7 +118,7 @@ fn file_bytes<R: Files + AllocGlobal>(rt: &R, path: Path<'_>, limit: u64) -> io:
     Ok(bytes)
 }
 
-/// The next bytes of standard input, at most `limit` of them. The stream is read as it was handed
+/// The next bytes of standard input, at most `limit` of them. The stream is read as it was passed
 /// over: from where it is, whatever kind it has, and whoever may open its file.
 fn input_bytes<R: Input + AllocGlobal>(rt: &R, limit: u64) -> io::Result<Vec<u8>> {
     let mut bytes = Vec::new(rt.alloc());
