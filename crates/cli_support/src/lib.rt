@@ -4,7 +4,6 @@
 //! Nothing here depends on lockfiles, so each promise is about arguments, files and streams.
 #![tactic(auto)]
 
-pub mod arguments;
 pub mod colours;
 pub mod departure;
 pub mod destination;
@@ -16,6 +15,7 @@ pub mod saving;
 pub mod status;
 pub mod terminal;
 pub mod time;
+pub mod unread;
 pub mod words;
 
 pub use crate::fault::Fault;
