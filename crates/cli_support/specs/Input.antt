@@ -25,8 +25,8 @@ pub record IsInputShown (argument text : List ℕ) : Type 0 where
 
 -- the error for a lockfile of this argument that is not read: its length, memory, or another error of
 -- the system
-abbrev pub IsOfReading : List ℕ → Fault → Type 0
-IsOfReading argument (TooLarge name) = IsInputShown argument (string_bytes name)
-IsOfReading argument (Library Memory) = Unit {0}
-IsOfReading argument (Library (Io kind)) = kind ≢ OutOfMemory
-IsOfReading argument other = ⊥
+abbrev pub IsOfReading : Fault → List ℕ → Type 0
+IsOfReading (TooLarge name) argument = IsInputShown argument (string_bytes name)
+IsOfReading (Library Memory) argument = Unit {0}
+IsOfReading (Library (Io kind)) argument = kind ≢ OutOfMemory
+IsOfReading other argument = ⊥

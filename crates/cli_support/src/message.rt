@@ -16,26 +16,42 @@ const NEXT_LINE: &str = "\n  | ";
 /// writer does.
 pub fn put_message<W: Write>(out: &mut W, fault: &Fault) -> io::Result<()> {
     match fault {
-        Fault::Words(words) => put_lines(out, "\n", format_args!("*** {words}"))?,
+        Fault::Words(words) => put_lines(out, Continued::Plain, format_args!("*** {words}"))?,
         Fault::FileAfter(name, error) => {
-            put_lines(out, NEXT_LINE, format_args!("*** error: {error}"))?;
+            put_lines(out, Continued::Marked, format_args!("*** error: {error}"))?;
             put_all(out, b"\n  in ")?;
-            put_lines(out, NEXT_LINE, name)?;
+            put_lines(out, Continued::Marked, format_args!("{name}"))?;
         }
-        _ => put_lines(out, NEXT_LINE, format_args!("*** {fault}"))?,
+        _ => put_lines(out, Continued::Marked, format_args!("*** {fault}"))?,
     }
     put_all(out, b"\n")
+}
+
+/// How a line begins that a newline inside a message makes.
+#[derive(Clone, Copy)]
+enum Continued {
+    Plain,
+    Marked,
+}
+
+impl Continued {
+    fn separator(self) -> &'static str {
+        match self {
+            Continued::Plain => "\n",
+            Continued::Marked => NEXT_LINE,
+        }
+    }
 }
 
 /// Prints a text as a message has it, without the newlines at its end.
 fn put_lines<W: Write, D: fmt::Display + Drop>(
     out: &mut W,
-    separator: &'static str,
+    continued: Continued,
     text: D,
 ) -> io::Result<()> {
     let mut message = Message {
         out,
-        separator,
+        separator: continued.separator(),
         newlines: 0,
     };
     match fmt::Write::write(&mut message, text) {

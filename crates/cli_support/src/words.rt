@@ -92,7 +92,8 @@ pub fn text<R: Files + Input + AllocGlobal>(
     options: &ArgMatches<'_>,
     name: &str,
 ) -> Result<String, Fault>
-    ensures { IfErr result (IsOfReading (given_path_in (found_of options.now) name.now)) }
+    ensures { IfErr result
+        (λ fault. IsOfReading fault (given_path_in (found_of options.now) name.now)) }
 {
     let limit = if options.get_flag("any-size") {
         u64::MAX
@@ -106,8 +107,15 @@ pub fn text<R: Files + Input + AllocGlobal>(
     match read {
         Ok(bytes) if (bytes.len() as u64) < limit => of_bytes(bytes),
         Ok(_) => Err(too_large(rt.alloc(), options, name)),
-        Err(error) => Err(Fault::of_system_call(error)),
+        Err(error) => Err(not_read(given_path(options, name), error)),
     }
+}
+
+/// The error where the system does not read the lockfile of this argument.
+fn not_read(argument: &str, error: io::Error) -> Fault
+    ensures { IsOfReading result argument.now }
+{
+    Fault::of_system_call(error)
 }
 
 /// The first bytes of a file, at most `limit` of them.
@@ -128,7 +136,7 @@ fn input_bytes<R: Input + AllocGlobal>(rt: &R, limit: u64) -> io::Result<Vec<u8>
 
 /// The error for a lockfile that is too large, or out of memory.
 fn too_large(alloc: Global, options: &ArgMatches<'_>, name: &str) -> Fault
-    ensures { IsOfReading (given_path_in (found_of options.now) name.now) result }
+    ensures { IsOfReading result (given_path_in (found_of options.now) name.now) }
 {
     match input_shown(alloc, options, name) {
         Ok(name) => Fault::TooLarge(name),
