@@ -32,7 +32,7 @@ class Copy:
     file."""
 
     def __init__(self, crate, edit, number):
-        self.edit, self.of = edit, edit.functions[0]
+        self.crate, self.edit, self.of = crate, edit, edit.functions[0]
         self.name = f"{self.of.name}_edit_{number}"
         text = edit.texts[self.of.file].split("\n")
         grown = len(text) - len(rule.source(crate, self.of.file).split("\n"))
@@ -53,7 +53,7 @@ class Copy:
 
     @property
     def path(self):
-        return rule.path_of(self.function)
+        return rule.path_of(self.crate, self.function)
 
 
 def can_copy(crate, edit):
@@ -89,7 +89,7 @@ def put_copies(crate, copies, room):
 
 def put_proof(crate, copy, room):
     """Copies the proof folder of a function for its copy, in which it has its own name."""
-    below = rule.path_of(copy.of).split("::")
+    below = rule.path_of(crate, copy.of).split("::")
     folder = f"{room}/proofs/{'/'.join(below)}"
     if not os.path.isdir(folder):
         return

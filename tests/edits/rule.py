@@ -10,6 +10,7 @@ function is tried alone, by the rule of `rt ci`, and so is one that no check ref
 crate must be proved with no edit over the same kept work.
 """
 import difflib
+import functools
 import os
 import re
 import shutil
@@ -24,6 +25,7 @@ FUNCTION = re.compile(
 BLOCK = re.compile(
     r"impl(?:<.*?>)? (?:(?:\w+::)*(\w+)(?:<.*>)? for )?&?(?:'\w+ )?(?:\w+::)*(\w+)"
 )
+TYPE = re.compile(r"^(?:pub(?:\(\w+\))? )?(?:struct|enum) (\w+)", re.M)
 CLAUSE = re.compile(r"\s*(?:requires|ensures|ghost)\b")
 # A line outside of functions that is no part of another function's proof.
 ALONE_OF_ITSELF = re.compile(rf"\s*(?://|use |ghost use |}}?$)|{FUNCTION.pattern}")
@@ -246,16 +248,38 @@ def is_refused_by(lines, edit, functions):
 def try_only(crate, edit):
     """Returns whether a check of the functions of an edit alone, and of those that they call,
     refuses it in one of them. Nothing that was kept serves such a check."""
-    paths = [path_of(it) for it in edit.functions]
+    paths = [path_of(crate, it) for it in edit.functions]
     more = [word for path in paths for word in ("--only", path)]
     status, said, functions = check(crate, [edit], *more)
     is_refused = status == 1 and said.rstrip().split("\n")[-1].startswith("only=")
     return is_refused and is_refused_by(refusals(said), edit, functions[edit])
 
 
-def path_of(function):
+def home_of(crate, function):
+    """Returns the file whose module a check names before a function: for a method of a type's own,
+    that of the type."""
+    trait, of = function.block or ("", "")
+    if not of or trait:
+        return function.file
+    homes = types_of(crate.folder).get(of, [])
+    return homes[0] if len(homes) == 1 else function.file
+
+
+@functools.cache
+def types_of(folder):
+    """Returns the files that declare each type of a crate."""
+    found = {}
+    for at, _, names in os.walk(f"{folder}/src"):
+        for file in (os.path.relpath(f"{at}/{it}", folder) for it in names):
+            with open(f"{folder}/{file}", encoding="utf-8") as text:
+                for name in TYPE.findall(text.read()):
+                    found.setdefault(name, []).append(file)
+    return found
+
+
+def path_of(crate, function):
     """Returns the name of a function below its crate, as a check prints it."""
-    parts = re.sub(r"^src/|\.rt$", "", function.file).split("/")
+    parts = re.sub(r"^src/|\.rt$", "", home_of(crate, function)).split("/")
     parts = [it for it in parts if it not in ("lib", "main")]
     if function.block:
         trait, of = function.block
