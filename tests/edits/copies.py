@@ -16,6 +16,7 @@ import shutil
 import subprocess
 import tempfile
 
+import libraries
 import rule
 from kit import rt
 
@@ -105,16 +106,16 @@ def put_proof(crate, copy, room):
                 file.write(re.sub(rf"{re.escape(old)}(?=[.\s])", new, text))
 
 
-def check(crate, copies, kept):
-    """Returns the status of one check of the crate with the copies, and what it printed. It begins
-    with the work of a folder, and leaves there what it did."""
+def check(crate, copies, more):
+    """Returns the status of one check of the crate with the copies, and what it printed. The check
+    gets more arguments."""
     with tempfile.TemporaryDirectory(prefix="edits-") as room:
         for part in rt.rtlib.PARTS:
             if os.path.isdir(f"{crate.folder}/{part}"):
                 shutil.copytree(f"{crate.folder}/{part}", f"{room}/{part}")
         put_copies(crate, copies, room)
         words = crate.words(["--jobs", "1"], keeps=False)
-        call = [*rt.rtlib.guarded(), rt.rtlib.RATTLE, "check", *words, "--incremental", kept]
+        call = [*rt.rtlib.guarded(), rt.rtlib.RATTLE, "check", *words, *more(copies)]
         ran = subprocess.run(call, cwd=room, stdin=subprocess.DEVNULL, stdout=subprocess.PIPE,
                              stderr=subprocess.STDOUT, errors="replace")
     return ran.returncode, ran.stdout
@@ -127,20 +128,37 @@ def broken(copies, said):
 
 
 def try_part(crate, edits, kept):
-    """Returns the edits that one check refuses in their own copies, and whether it proves the crate
-    itself. The words of each refusal are noted. What does not compile is left out."""
+    """Returns the edits that one check refuses in their own copies, and whether the crate itself is
+    proved: by that check, or where its library shows that it is, before. Then the check is of the
+    copies alone. The words of each refusal are noted. What does not compile is left out."""
+    is_proved = libraries.is_proved(crate)
     copies = [Copy(crate, it, number) for number, it in enumerate(edits)]
-    status, said = check(crate, copies, kept)
-    while not VERDICT.search(said) and broken(copies, said):
+
+    def more(copies):
+        alone = [word for it in copies for word in ("--only", it.path)]
+        return alone if is_proved else ["--incremental", kept]
+
+    status, said = check(crate, copies, more)
+    while not is_judged(said) and broken(copies, said):
         left = broken(copies, said)
         copies = [it for it in copies if it not in left]
-        status, said = check(crate, copies, kept)
-    names = {it.path for it in copies}
-    others = [verdict for name, verdict in VERDICT.findall(said) if name not in names]
+        status, said = check(crate, copies, more)
     lines = rule.refusals(said) if status == 1 else []
     is_own = all(any(it.function.holds(*at[:2]) for it in copies) for at in lines)
-    is_sound = status in (0, 1) and bool(others) and {*others} == {"proved"} and is_own
+    is_sound = status in (0, 1) and is_own and (is_proved or proves_others(copies, said))
     return [it.edit for it in copies if rule.is_refused_by(lines, it.edit, [it.function])], is_sound
+
+
+def is_judged(said):
+    """Returns whether a check came to judge functions."""
+    return bool(VERDICT.search(said)) or said.rstrip().split("\n")[-1].startswith("only=")
+
+
+def proves_others(copies, said):
+    """Returns whether a check of a whole crate proved each function that is no copy."""
+    names = {it.path for it in copies}
+    others = {verdict for name, verdict in VERDICT.findall(said) if name not in names}
+    return others == {"proved"}
 
 
 def try_all(crate, edits, kept, say):
