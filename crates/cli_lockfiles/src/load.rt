@@ -44,8 +44,10 @@ fn unnamed_lockfile<R: Files + Input + AllocGlobal>(
         (IsOfLockfileUnnamed (given_path_in (found_of options.now) name.now)) }
 {
     let text = words::text(rt, options, name)?;
-    let lockfile = lockfile_of(rt.alloc(), text.as_str())?;
-    Ok(lockfile)
+    match lockfile_of(rt.alloc(), text.as_str()) {
+        Ok(lockfile) => Ok(lockfile),
+        Err(fault) => Err(fault),
+    }
 }
 
 fn lockfile_of(alloc: Global, text: &str) -> Result<Lockfile, Fault>
