@@ -1,12 +1,15 @@
 """Which edits there are, which of them are tried, and what is recorded of them."""
 import os
 import random
+import threading
 
 import record
 from kit import ROOT, rt
 from rule import Edit
 
 FOLDERS = ("edits", "must-fail")
+# Held while the record is read and written, since the crates are tried side by side.
+WRITING = threading.Lock()
 
 
 class Plan:
@@ -16,7 +19,7 @@ class Plan:
     def __init__(self, crate, edits, base):
         self.crate, self.edits, self.base = crate, edits, base
         self.sums = {it: record.sum_of_edit(it) for it in edits}
-        self.due, self.refused, self.is_sound = [], [], False
+        self.due, self.refused, self.is_sound, self.fault = [], [], False, ""
 
 
 def edits_of_all():
@@ -111,21 +114,28 @@ def sample(states, seed, count):
     return found
 
 
-def write_record(plans, is_whole):
-    """Records what was refused, and yields why some of it is not."""
-    recorded = record.read()
-    if is_whole:
-        names = {it.crate.name for it in plans}
-        recorded = {name: it for name, it in recorded.items() if name in names}
+def write_record(plan):
+    """Records what was refused of a plan. Returns why it is not recorded, or nothing."""
+    now = {edit: record.sum_of_edit(edit) for edit in plan.edits if os.path.isfile(edit.path)}
+    if now != plan.sums or record.base_of(plan.crate) != plan.base:
+        return f"{plan.crate.name}: a file changed meanwhile, so nothing is recorded"
+    if not plan.is_sound:
+        return f"{plan.crate.name}: nothing is recorded"
+    with WRITING:
+        recorded = record.read()
+        recorded[plan.crate.name] = (plan.base, lines_of(plan))
+        record.write(recorded)
+    return ""
+
+
+def forget_others(plans):
+    """Takes out of the record what is of none of these plans: crates and edits that are gone."""
+    recorded, found = record.read(), {}
     for it in plans:
-        now = {edit: record.sum_of_edit(edit) for edit in it.edits if os.path.isfile(edit.path)}
-        if now != it.sums or record.base_of(it.crate) != it.base:
-            yield f"{it.crate.name}: a file changed meanwhile, so nothing is recorded"
-        elif it.due and not it.is_sound:
-            yield f"{it.crate.name}: nothing is recorded"
-        else:
-            recorded[it.crate.name] = (it.base, lines_of(it))
-    record.write(recorded)
+        base, lines = recorded.get(it.crate.name, ("", {}))
+        names = {record.short(edit) for edit in it.edits}
+        found[it.crate.name] = (base, {name: lines[name] for name in lines if name in names})
+    record.write(found)
 
 
 def lines_of(plan):

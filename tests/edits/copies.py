@@ -32,7 +32,7 @@ class Copy:
     file."""
 
     def __init__(self, crate, edit, number):
-        self.edit, self.of = edit, edit.functions[0]
+        self.crate, self.edit, self.of = crate, edit, edit.functions[0]
         self.name = f"{self.of.name}_edit_{number}"
         text = edit.texts[self.of.file].split("\n")
         grown = len(text) - len(rule.source(crate, self.of.file).split("\n"))
@@ -53,7 +53,7 @@ class Copy:
 
     @property
     def path(self):
-        return rule.path_of(self.function)
+        return rule.path_of(self.crate, self.function)
 
 
 def can_copy(crate, edit):
@@ -89,7 +89,7 @@ def put_copies(crate, copies, room):
 
 def put_proof(crate, copy, room):
     """Copies the proof folder of a function for its copy, in which it has its own name."""
-    below = rule.path_of(copy.of).split("::")
+    below = rule.path_of(crate, copy.of).split("::")
     folder = f"{room}/proofs/{'/'.join(below)}"
     if not os.path.isdir(folder):
         return
@@ -107,14 +107,17 @@ def put_proof(crate, copy, room):
 
 def check(crate, copies, kept):
     """Returns the status of one check of the crate with the copies, and what it printed. It begins
-    with the work of a folder, and leaves there what it did."""
+    with the work of a folder, and leaves there what it did; with no folder it is of the copies
+    alone."""
     with tempfile.TemporaryDirectory(prefix="edits-") as room:
         for part in rt.rtlib.PARTS:
             if os.path.isdir(f"{crate.folder}/{part}"):
                 shutil.copytree(f"{crate.folder}/{part}", f"{room}/{part}")
         put_copies(crate, copies, room)
+        alone = [word for it in copies for word in ("--only", it.path)]
         words = crate.words(["--jobs", "1"], keeps=False)
-        call = [*rt.rtlib.guarded(), rt.rtlib.RATTLE, "check", *words, "--incremental", kept]
+        words += ["--incremental", kept] if kept else alone
+        call = [*rt.rtlib.guarded(), rt.rtlib.RATTLE, "check", *words]
         ran = subprocess.run(call, cwd=room, stdin=subprocess.DEVNULL, stdout=subprocess.PIPE,
                              stderr=subprocess.STDOUT, errors="replace")
     return ran.returncode, ran.stdout
@@ -127,20 +130,34 @@ def broken(copies, said):
 
 
 def try_part(crate, edits, kept):
-    """Returns the edits that one check refuses in their own copies, and whether it proves the crate
-    itself. The words of each refusal are noted. What does not compile is left out."""
+    """Returns the edits that one check refuses in their own copies, and whether it shows of the
+    crate itself what it was to show. Over the work of a folder it proves the whole crate; with no
+    folder it is of the copies alone. The words of each refusal are noted. What does not compile is
+    left out."""
     copies = [Copy(crate, it, number) for number, it in enumerate(edits)]
     status, said = check(crate, copies, kept)
-    while not VERDICT.search(said) and broken(copies, said):
+    while not is_judged(said) and broken(copies, said):
         left = broken(copies, said)
         copies = [it for it in copies if it not in left]
+        if not copies and not kept:
+            return [], True
         status, said = check(crate, copies, kept)
-    names = {it.path for it in copies}
-    others = [verdict for name, verdict in VERDICT.findall(said) if name not in names]
     lines = rule.refusals(said) if status == 1 else []
     is_own = all(any(it.function.holds(*at[:2]) for it in copies) for at in lines)
-    is_sound = status in (0, 1) and bool(others) and {*others} == {"proved"} and is_own
+    is_sound = status in (0, 1) and is_own and (not kept or proves_others(copies, said))
     return [it.edit for it in copies if rule.is_refused_by(lines, it.edit, [it.function])], is_sound
+
+
+def is_judged(said):
+    """Returns whether a check came to judge functions."""
+    return bool(VERDICT.search(said)) or said.rstrip().split("\n")[-1].startswith("only=")
+
+
+def proves_others(copies, said):
+    """Returns whether a check of a whole crate proved each function that is no copy."""
+    names = {it.path for it in copies}
+    others = {verdict for name, verdict in VERDICT.findall(said) if name not in names}
+    return others == {"proved"}
 
 
 def try_all(crate, edits, kept, say):

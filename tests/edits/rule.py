@@ -6,10 +6,11 @@ is refused where a goal or an answer of the very function that it changes is not
 function failed only because it calls another one that an edit changes, or where a second edit
 changes it, the edit is tried in a later check. One that also changes a type, a constant or a clause
 of a contract, from which others are proved, has a check of its own. An edit that changes no
-function is tried alone, by the rule of `rt ci`, and so is one that no check refused. At the end the
-crate must be proved with no edit over the same kept work.
+function is tried alone, by the rule of `rt ci`, and so is one that no check refused. The crate must
+be proved with no edit: its library shows that, or a check at the end over the same kept work.
 """
 import difflib
+import functools
 import os
 import re
 import shutil
@@ -24,6 +25,7 @@ FUNCTION = re.compile(
 BLOCK = re.compile(
     r"impl(?:<.*?>)? (?:(?:\w+::)*(\w+)(?:<.*>)? for )?&?(?:'\w+ )?(?:\w+::)*(\w+)"
 )
+TYPE = re.compile(r"^(?:pub(?:\(\w+\))? )?(?:struct|enum) (\w+)", re.M)
 CLAUSE = re.compile(r"\s*(?:requires|ensures|ghost)\b")
 # A line outside of functions that is no part of another function's proof.
 ALONE_OF_ITSELF = re.compile(rf"\s*(?://|use |ghost use |}}?$)|{FUNCTION.pattern}")
@@ -222,11 +224,14 @@ def round_of(edits):
 
 def try_round(crate, edits, kept):
     """Returns the edits that one check of them all refuses, each in its own function; their words
-    are noted."""
-    if len(edits) == 1:
+    are noted. The check is of the whole crate over the work of a folder, or with no folder of their
+    functions alone, and of those that these call. Nothing that was kept serves such a check."""
+    if kept and len(edits) == 1:
         edits[0].had_own_check = True
-    status, said, functions = check(crate, edits, "--incremental", kept)
-    is_refused = status == 1 and said.rstrip().endswith("logic=not-proved")
+    more = ["--incremental", kept] if kept else only(crate, edits)
+    status, said, functions = check(crate, edits, *more)
+    last = said.rstrip().split("\n")[-1]
+    is_refused = status == 1 and (last.endswith("logic=not-proved") or last.startswith("only="))
     lines = refusals(said) if is_refused else []
     refused = [it for it in edits if is_refused_by(lines, it, functions[it])]
     if not lines and len(edits) > 1:
@@ -236,6 +241,12 @@ def try_round(crate, edits, kept):
     return refused
 
 
+def only(crate, edits):
+    """Returns the words by which a check is of the functions of edits alone."""
+    paths = [path_of(crate, it) for edit in edits for it in edit.functions]
+    return [word for path in dict.fromkeys(paths) for word in ("--only", path)]
+
+
 def is_refused_by(lines, edit, functions):
     """Returns whether messages refuse an edit in its own functions, and notes their words."""
     own = [at for at in lines if any(it.holds(*at[:2]) for it in functions)]
@@ -243,19 +254,46 @@ def is_refused_by(lines, edit, functions):
     return bool(own)
 
 
-def try_only(crate, edit):
-    """Returns whether a check of the functions of an edit alone, and of those that they call,
-    refuses it in one of them. Nothing that was kept serves such a check."""
-    paths = [path_of(it) for it in edit.functions]
-    more = [word for path in paths for word in ("--only", path)]
-    status, said, functions = check(crate, [edit], *more)
-    is_refused = status == 1 and said.rstrip().split("\n")[-1].startswith("only=")
-    return is_refused and is_refused_by(refusals(said), edit, functions[edit])
+def try_only(crate, edits):
+    """Tries edits by checks of their functions alone, and returns those that are refused."""
+    left, refused = [it for it in edits if it.places and not it.bad], []
+    for it in [it for it in left if it.is_shared]:
+        refused += try_round(crate, [it], None)
+    left = [it for it in left if not it.is_shared]
+    while round_of(left):
+        found = try_round(crate, round_of(left), None)
+        if not found:
+            break
+        left = [it for it in left if it not in found]
+        refused += found
+    return refused
 
 
-def path_of(function):
+def home_of(crate, function):
+    """Returns the file whose module a check names before a function: for a method of a type's own,
+    that of the type."""
+    trait, of = function.block or ("", "")
+    if not of or trait:
+        return function.file
+    homes = types_of(crate.folder).get(of, [])
+    return homes[0] if len(homes) == 1 else function.file
+
+
+@functools.cache
+def types_of(folder):
+    """Returns the files that declare each type of a crate."""
+    found = {}
+    for at, _, names in os.walk(f"{folder}/src"):
+        for file in (os.path.relpath(f"{at}/{it}", folder) for it in names):
+            with open(f"{folder}/{file}", encoding="utf-8") as text:
+                for name in TYPE.findall(text.read()):
+                    found.setdefault(name, []).append(file)
+    return found
+
+
+def path_of(crate, function):
     """Returns the name of a function below its crate, as a check prints it."""
-    parts = re.sub(r"^src/|\.rt$", "", function.file).split("/")
+    parts = re.sub(r"^src/|\.rt$", "", home_of(crate, function)).split("/")
     parts = [it for it in parts if it not in ("lib", "main")]
     if function.block:
         trait, of = function.block

@@ -73,7 +73,7 @@ def is_refused(crate, edit):
     another one is tried over the whole crate."""
     if edit.bad:
         return False
-    if rule.try_only(crate, edit):
+    if rule.try_only(crate, [edit]):
         return True
     with tempfile.TemporaryDirectory(prefix="edits-kept-") as kept:
         return bool(rule.try_round(crate, [edit], kept)) or rule.try_alone(crate, edit, kept)

@@ -86,10 +86,10 @@ class Watch(threading.Thread):
 
 
 class Progress:
-    """Prints a line for each crate, in `rt ci`'s order."""
+    """Prints a line for each crate, in `rt ci`'s order, once in several runs."""
 
     def __init__(self, count, watch):
-        self.count, self.watch, self.ended = count, watch, 0
+        self.count, self.watch, self.ended, self.proved = count, watch, set(), 0
 
     def take(self, line):
         proved, kept = PROVED.match(line), KEPT.match(line)
@@ -99,11 +99,13 @@ class Progress:
             print(f"{proved[1]}{' (tests)' if proved[2] else ''} NOT PROVED", flush=True)
         elif proved and not proved[2]:
             began = self.watch.began.get(proved[1], time.monotonic())
+            self.proved += 1
             self.say(proved[1], shown(time.monotonic() - began))
 
     def say(self, name, what):
-        self.ended += 1
-        print(f"[{self.ended:2}/{self.count}] {name} {what}", flush=True)
+        if name not in self.ended:
+            self.ended.add(name)
+            print(f"[{len(self.ended):2}/{self.count}] {name} {what}", flush=True)
 
 
 def reckoned(top):
@@ -113,24 +115,72 @@ def reckoned(top):
     return reckoning.schedule(uses, reckoning.takes_of(uses), machine.jobs())
 
 
-def prove(top, log, words=(), started=lambda child: None):
-    """Runs `rt ci` at the top of a repository, with more words. Returns its status, the seconds of
-    all processors, and those of each crate. All that it prints is in the log."""
-    watch = Watch(top)
-    progress = Progress(len(reckoning.uses_of(lines_of(top))), watch)
-    ways = {"stdout": subprocess.PIPE, "stderr": subprocess.STDOUT, "stdin": subprocess.DEVNULL}
-    environment = {**os.environ, "RT_JOBS": str(machine.jobs())}
-    watch.start()
-    with open(log, "w", encoding="utf-8") as out:
-        child = subprocess.Popen(["rt", "ci", *words], cwd=top, env=environment, text=True,
-                                 errors="replace", start_new_session=True, **ways)
+class Prover:
+    """Runs `rt ci` at the top of a repository, and adds up what it takes. All that it prints is in
+    the log."""
+
+    def __init__(self, top, log):
+        self.top, self.out, self.worked = top, open(log, "w", encoding="utf-8"), 0
+        self.watch = Watch(top)
+        self.progress = Progress(len(reckoning.uses_of(lines_of(top))), self.watch)
+        self.watch.start()
+
+    def run(self, words, has_jobs, started=lambda child: None):
+        """Returns the status of a run. With `has_jobs` it proves so many crates at once, each with
+        one job. Else the kit shares out the processors, and gives a crate those that are idle."""
+        environment = {it: os.environ[it] for it in os.environ if it != "RT_JOBS"}
+        environment |= {"RT_JOBS": str(machine.jobs())} if has_jobs else {}
+        child = subprocess.Popen(["rt", "ci", *words], cwd=self.top, env=environment, text=True,
+                                 errors="replace", start_new_session=True,
+                                 stdout=subprocess.PIPE, stderr=subprocess.STDOUT,
+                                 stdin=subprocess.DEVNULL)
         started(child)
         for line in child.stdout:
-            out.write(line)
-            out.flush()
-            progress.take(line)
+            self.out.write(line)
+            self.out.flush()
+            self.progress.take(line)
         _, status, used = os.wait4(child.pid, 0)
-    child.returncode = os.waitstatus_to_exitcode(status)
-    watch.ended.set()
-    watch.join()
-    return child.returncode, used.ru_utime + used.ru_stime, watch.seconds()
+        child.returncode = os.waitstatus_to_exitcode(status)
+        self.worked += used.ru_utime + used.ru_stime
+        return child.returncode
+
+    def end(self):
+        """Returns the seconds of all processors, and those of each crate."""
+        self.watch.ended.set()
+        self.watch.join()
+        self.out.close()
+        return self.worked, self.watch.seconds()
+
+
+def prove(top, log, words=(), started=lambda child: None):
+    """Proves a repository by one run of `rt ci`, with more words. Returns its status, the seconds
+    of all processors, and those of each crate."""
+    prover = Prover(top, log)
+    status = prover.run(words, True, started)
+    return status, *prover.end()
+
+
+def runs_of(top):
+    """Returns the runs that prove a repository from nothing, each with the names of its crates and
+    with `has_jobs`. No name stands for all."""
+    uses = reckoning.uses_of(lines_of(top))
+    first, last = reckoning.alone(uses, reckoning.takes_of(uses), machine.jobs())
+    found = [(first, False)] if first else []
+    found += [([it for it in uses if it not in last], True)] if last else []
+    return [*found, ([], not last)]
+
+
+def prove_in_parts(top, log):
+    """Proves a repository as `prove` does, by several runs where the kit keeps what one proved for
+    the next. The crates beside which most processors have nothing to do, at the beginning and at
+    the end, get these too."""
+    prover = Prover(top, log)
+    left = runs_of(top) if machine.keeps_proofs() else [([], True)]
+    status = 0
+    while left and not status:
+        names, has_jobs = left.pop(0)
+        status = prover.run(names, has_jobs)
+        if names and not prover.progress.proved:
+            # (the first crates are kept, and so are most)
+            left = [([], True)]
+    return status, *prover.end()

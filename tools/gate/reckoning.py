@@ -1,4 +1,5 @@
 """What a run will take: the seconds that each crate was seen to take, and a schedule of them."""
+import itertools
 import os
 import re
 
@@ -58,20 +59,42 @@ def chains(uses, takes):
     return found
 
 
-def schedule(uses, takes, lanes):
-    """Returns the seconds until all is proved, if each lane takes, of the crates whose own uses are
-    proved, the one with the longest chain."""
-    behind, ended, running, now = chains(uses, takes), set(), {}, 0
-    left = sorted(uses, key=lambda it: -behind[it])
+def placed(uses, takes, lanes):
+    """Returns when each begins and ends, in seconds, if each lane takes, of the crates whose own
+    uses are proved, the one with the longest chain."""
+    behind, ended, found, now = chains(uses, takes), set(), {}, 0
+    left, running = sorted(uses, key=lambda it: -behind[it]), {}
     while left or running:
         ready = [it for it in left if ended.issuperset(uses[it])][: lanes - len(running)]
         for name in ready:
             left.remove(name)
             running[name] = now + takes[name]
+            found[name] = (now, running[name])
         name = min(running, key=running.get)
         now = running.pop(name)
         ended.add(name)
-    return now
+    return found
+
+
+def schedule(uses, takes, lanes):
+    """Returns the seconds until all is proved."""
+    return max((end for _, end in placed(uses, takes, lanes).values()), default=0)
+
+
+def alone(uses, takes, lanes):
+    """Returns the crates at the beginning of a schedule, and those at its end, beside which at least
+    half of the lanes have nothing to do. A crate of the beginning has the longest chain."""
+    at, behind = placed(uses, takes, lanes), chains(uses, takes)
+
+    def is_alone(name):
+        begin, end = at[name]
+        worked = sum(max(0, min(end, there[1]) - max(begin, there[0])) for there in at.values())
+        return worked <= (end - begin) * lanes / 2
+
+    longest = [it for it in sorted(uses, key=at.get) if behind[it] + at[it][0] == max(behind.values())]
+    first = [*itertools.takewhile(is_alone, longest)]
+    last = [*itertools.takewhile(is_alone, sorted(uses, key=lambda it: -at[it][1]))]
+    return first, [it for it in reversed(last) if it not in first]
 
 
 def takes_of(uses):
