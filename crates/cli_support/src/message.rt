@@ -12,21 +12,50 @@ const NEXT_LINE: &str = "\n  | ";
 /// Prints `*** ` and what `Display` writes of the error: U+0020 to U+007E unchanged, and each other
 /// character by its number, as `shown` does. A newline inside the message begins a line with
 /// `  | `, and the newlines at its end become one. The parser of the arguments formats its own
-/// lines, which have no `  | `. Fails as the writer does.
+/// lines, which have no `  | `, nor has the line that names a file after an error. Fails as the
+/// writer does.
 pub fn put_message<W: Write>(out: &mut W, fault: &Fault) -> io::Result<()> {
-    let separator = match fault {
-        Fault::Words(_) => "\n",
-        _ => NEXT_LINE,
-    };
+    match fault {
+        Fault::Words(words) => put_lines(out, Continued::Plain, format_args!("*** {words}"))?,
+        Fault::FileAfter(name, error) => {
+            put_lines(out, Continued::Marked, format_args!("*** error: {error}"))?;
+            put_all(out, b"\n  in ")?;
+            put_lines(out, Continued::Marked, format_args!("{name}"))?;
+        }
+        _ => put_lines(out, Continued::Marked, format_args!("*** {fault}"))?,
+    }
+    put_all(out, b"\n")
+}
+
+/// How a line begins that a newline inside a message makes.
+#[derive(Clone, Copy)]
+enum Continued {
+    Plain,
+    Marked,
+}
+
+impl Continued {
+    fn separator(self) -> &'static str {
+        match self {
+            Continued::Plain => "\n",
+            Continued::Marked => NEXT_LINE,
+        }
+    }
+}
+
+/// Prints a text as a message has it, without the newlines at its end.
+fn put_lines<W: Write, D: fmt::Display + Drop>(
+    out: &mut W,
+    continued: Continued,
+    text: D,
+) -> io::Result<()> {
     let mut message = Message {
         out,
-        separator,
+        separator: continued.separator(),
         newlines: 0,
     };
-    let result = fmt::Write::write(&mut message, format_args!("*** {fault}"));
-    let Message { out, .. } = message;
-    match result {
-        Ok(()) => put_all(out, b"\n"),
+    match fmt::Write::write(&mut message, text) {
+        Ok(()) => Ok(()),
         Err(_) => Err(io::Error::from(ErrorKind::Other)),
     }
 }

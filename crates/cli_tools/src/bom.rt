@@ -13,12 +13,12 @@ use cargo_lock_bom::options::{Options, VERSION};
 use cargo_lock_bom::printed::{printed_bill, with_root};
 use clap::{Arg, ArgAction, ArgMatches, Command};
 use cli_lockfiles::load::named_lockfile;
-use cli_support::destination::put_out;
+use cli_support::destination::put_own_out;
 use cli_support::words::{any_size, file, long_flag, output};
 use cli_support::{Fault, time};
 use std::alloc::{AllocError, Global};
 use std::env::Env;
-use std::io::Write;
+use std::io::{Input, Write};
 use std::rt::Files;
 use std::time::Clock;
 
@@ -43,14 +43,14 @@ pub fn command<'a>(alloc: Global) -> Result<Command<'a>, AllocError> {
         .about("Writes a bill of materials, as CycloneDX 1.6 has it in JSON")
         .after_help(BOM_HELP)
         .arg(file(alloc))?
-        .arg(any_size(alloc))?
+        .arg(any_size(alloc)?)?
         .arg(output(alloc))?
         .arg(named(alloc, "root", "SPEC").help(ROOT_HELP))?
         .arg(named(alloc, "author", "NAME").help("Who writes the bill"))?
-        .arg(long_flag(alloc, "timestamp").help(TIME_HELP))?
-        .arg(long_flag(alloc, "serial").help("Adds a serial number, equal for equal bills"))?
+        .arg(long_flag(alloc, "timestamp")?.help(TIME_HELP))?
+        .arg(long_flag(alloc, "serial")?.help("Adds a serial number, equal for equal bills"))?
         .arg(bill_licenses::option(alloc))?
-        .arg(long_flag(alloc, "compact").help("Writes one line, without spaces"))
+        .arg(long_flag(alloc, "compact")?.help("Writes one line, without spaces"))
 }
 
 /// An option with a value and no short name.
@@ -66,7 +66,7 @@ fn named<'a>(alloc: Global, name: &'a str, shown: &'a str) -> Arg<'a> {
 /// package matches the root that the arguments name, if the folder of manifests that they name or a
 /// manifest is not read, if the same text would refer to two of its packages, and if the output
 /// fails.
-pub fn run<R: Files + Env + Clock + AllocGlobal, W: Write>(
+pub fn run<R: Files + Input + Env + Clock + AllocGlobal, W: Write>(
     rt: &R,
     options: &ArgMatches<'_>,
     out: &mut W,
@@ -77,7 +77,7 @@ pub fn run<R: Files + Env + Clock + AllocGlobal, W: Write>(
     let time = asked_time(rt, options)?;
     let lockfile = named_lockfile(rt, options, "file")?;
     let text = text_about(rt, options, time, lockfile)?;
-    put_out(rt, options, text.as_str(), "", out)
+    put_own_out(rt, options, text.as_str(), out)
 }
 
 /// The time, if the arguments ask for one.
@@ -96,7 +96,7 @@ fn asked_time<R: Env + Clock + AllocGlobal>(
 }
 
 /// The text of the bill of materials of a lockfile that the arguments ask for, and a newline.
-fn text_about<R: Files + AllocGlobal>(
+fn text_about<R: Files + Input + AllocGlobal>(
     rt: &R,
     options: &ArgMatches<'_>,
     time: Option<u64>,
@@ -165,7 +165,7 @@ fn only_fitting(alloc: Global, packages: &[Package], spec: &str) -> Result<NodeI
     let fitting = fitting(alloc, packages, spec)?;
     match fitting.as_slice() {
         [node] => Ok(*node),
-        others => Err(Fault::of_root(alloc, others.len(), spec)),
+        others => Err(Fault::of_count(alloc, others.len(), spec)),
     }
 }
 
