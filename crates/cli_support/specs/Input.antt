@@ -3,9 +3,8 @@ use Rattle.std.specs.Prelude.{◌≡◌, ◌≢◌, ℕ, List, None, Option, Som
 use Rattle.std.specs.declared.io.ErrorKind.TheVariants.{OutOfMemory}
 use Rattle.clap.specs.Matches.{first_value}
 use Rattle.clap.specs.declared.parser.matches.Found.{Found}
-use Rattle.shown.specs.Shown.{shown}
-use Rattle.shown.specs.declared.form.Form.TheVariants.{Quoted}
 use Rattle.cargo_lock_parts.specs.declared.error.Error.TheVariants.{Io, Memory}
+use Rattle.cli_support.specs.Terminal.{in_line}
 use Rattle.cli_support.specs.declared.fault.Fault.{Fault}
 use Rattle.cli_support.specs.declared.fault.Fault.TheVariants.{Library, TooLarge}
 
@@ -21,7 +20,7 @@ pub record IsInputPath (argument : List ℕ) (path : Option (List ℕ)) : Type 0
 -- what messages call a lockfile by its argument: the path as it is shown, or standard input
 pub record IsInputShown (argument text : List ℕ) : Type 0 where
   pub standard : argument ≡ codes "-" → text ≡ codes "standard input"
-  pub other : argument ≢ codes "-" → text ≡ shown Quoted argument
+  pub other : argument ≢ codes "-" → text ≡ in_line argument
 
 -- the error for a lockfile of this argument that is not read: its length, memory, or another error of
 -- the system

@@ -3,16 +3,15 @@ ghost use Rattle.std.specs.Prelude.{◌≡◌, ◌≢◌, ◌⊎◌, IfOk, Strin
 ghost use Rattle.std.specs.Path.{path_bytes};
 ghost use Rattle.std.specs.declared.alloc.Global.{Global};
 ghost use Rattle.std.specs.IoError.{error_kind};
-ghost use Rattle.shown.specs.Shown.{shown};
-ghost use Rattle.shown.specs.declared.form.Form.TheVariants as form;
 ghost use Rattle.cargo_lock_parts.specs.declared.error.Error.TheVariants.{Io, Memory};
 ghost use Rattle.cli_support.specs.Fault.{in_file, with_file_first};
+ghost use Rattle.cli_support.specs.Terminal as terminal;
 ghost use Rattle.cli_support.specs.declared.fault.Fault.TheVariants.{Library, ManyPackages};
 ghost use Rattle.cli_support.specs.declared.fault.Fault.TheVariants.{NoPackage, NoTime, Spec};
 
+use crate::terminal::in_line;
 use cargo_lock_parts::error::Error;
 use clap::error::ErrorKind;
-use shown::Quoted;
 use std::alloc::{AllocError, AllocFailed, Global};
 use std::io;
 use std::path::Path;
@@ -178,9 +177,9 @@ impl Fault {
     /// The error for a text of `SOURCE_DATE_EPOCH` that is not a time, or out of memory.
     pub fn of_time(alloc: Global, text: &str) -> Fault
         ensures { (result ≡ Library Memory) ⊎ ((said : String Global) × (result ≡ NoTime said)
-            × (string_bytes said ≡ shown form.Quoted text.now)) }
+            × (string_bytes said ≡ terminal.in_line text.now)) }
     {
-        match text_shown(alloc, text) {
+        match in_line(alloc, text) {
             Ok(text) => Fault::NoTime(text),
             Err(_) => Fault::Library(Error::Memory),
         }
@@ -198,19 +197,11 @@ impl Fault {
     }
 }
 
-/// A path as it is shown between backquotes. Fails when out of memory.
+/// A path as messages show it, in one line. Fails when out of memory.
 pub fn path_shown(alloc: Global, path: Path<'_>) -> Result<String, AllocError>
-    ensures { IfOk result (λ text. string_bytes text ≡ shown form.Quoted (path_bytes path.entry)) }
+    ensures { IfOk result (λ text. string_bytes text ≡ terminal.in_line (path_bytes path.entry)) }
 {
-    text_shown(alloc, path.as_str())
-}
-
-// A text as it is shown between backquotes.
-fn text_shown(alloc: Global, text: &str) -> Result<String, AllocError>
-    ensures { IfOk result (λ all. string_bytes all ≡ shown form.Quoted text.now) }
-{
-    let text = Quoted(text);
-    format!(in alloc; "{text}")
+    in_line(alloc, path.as_str())
 }
 
 impl From<Error> for Fault {

@@ -2,6 +2,7 @@
 
 use crate::fault::Fault;
 use crate::output::{put, put_all};
+use crate::terminal::is_hidden_in_line;
 use shown::Shown;
 use std::io::{ErrorKind, Write};
 use std::{fmt, io};
@@ -9,11 +10,11 @@ use std::{fmt, io};
 /// The beginning of each line of a message except the first.
 const NEXT_LINE: &str = "\n  | ";
 
-/// Prints `*** ` and what `Display` writes of the error: U+0020 to U+007E unchanged, and each other
-/// character by its number, as `shown` does. A newline inside the message begins a line with
-/// `  | `, and the newlines at its end become one. The parser of the arguments formats its own
-/// lines, which have no `  | `, nor has the line that names a file after an error. Fails as the
-/// writer does.
+/// Prints `*** ` and what `Display` writes of the error: letters of each alphabet unchanged, and the
+/// characters that a terminal obeys or does not show by their numbers. A newline inside the message
+/// begins a line with `  | `, and the newlines at its end become one. The parser of the arguments
+/// formats its own lines, which have no `  | `, nor has the line that names a file after an error.
+/// Fails as the writer does.
 pub fn put_message<W: Write>(out: &mut W, fault: &Fault) -> io::Result<()> {
     match fault {
         Fault::Words(words) => put_lines(out, Continued::Plain, format_args!("*** {words}"))?,
@@ -72,7 +73,7 @@ struct Message<'a, W> {
 
 impl<W: Write> fmt::Write for Message<'_, W> {
     fn write_str(&mut self, text: &str) -> fmt::Result {
-        for piece in text.split_inclusive(is_no_plain) {
+        for piece in text.split_inclusive(is_hidden_in_line) {
             match self.put_piece(piece) {
                 Ok(()) => {}
                 Err(_) => return Err(fmt::Error),
@@ -83,7 +84,7 @@ impl<W: Write> fmt::Write for Message<'_, W> {
 }
 
 impl<W: Write> Message<'_, W> {
-    /// Prints characters that are not escaped, except perhaps the last one.
+    /// Prints characters that are not hidden, except perhaps the last one.
     fn put_piece(&mut self, piece: &str) -> io::Result<()> {
         if let Some(plain) = piece.strip_suffix('\n') {
             self.put_text(plain)?;
@@ -102,16 +103,11 @@ impl<W: Write> Message<'_, W> {
             put_all(self.out, self.separator.as_bytes())?;
         }
         self.newlines = 0;
-        put_ended(self.out, text, text.strip_suffix(is_no_plain))
+        put_ended(self.out, text, text.strip_suffix(is_hidden_in_line))
     }
 }
 
-/// Whether a character is not one of U+0020 to U+007E.
-fn is_no_plain(c: char) -> bool {
-    !(' '..='~').contains(&c)
-}
-
-/// Prints a text. `plain` is all of it except its last character, if that is escaped.
+/// Prints a text. `plain` is all of it except its last character, if that is hidden.
 fn put_ended<W: Write>(out: &mut W, text: &str, plain: Option<&str>) -> io::Result<()> {
     match (plain, text.chars().next_back()) {
         (Some(plain), Some(last)) => {

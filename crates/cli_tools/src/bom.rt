@@ -3,9 +3,11 @@ ghost use Rattle.std.specs.Prelude.{◌≡◌, None, IfOk, OnOk, codes, map, opt
 ghost use Rattle.clap.specs.Matches.{first_value, found_of};
 ghost use Rattle.cli_tools.specs.Bom.{IsAskedBill, IsAskedLine, IsBillOf, IsBillWith, IsTimeAsked};
 ghost use Rattle.cli_tools.specs.Bom.{PrintsBill};
+ghost use Rattle.cli_tools.specs.Texts.{given_texts};
 ghost use Rattle.cli_lockfiles.specs.Json.{IsFlag};
 
 use crate::bill_licenses;
+use crate::texts;
 use cargo_lock::dependency::graph::NodeIndex;
 use cargo_lock::{Lockfile, Package};
 use cargo_lock_ask::fitting;
@@ -34,6 +36,9 @@ With --licenses, a package with a source has the expression that its manifests i
 /// The package that a bill is about, as help shows it.
 const ROOT_HELP: &str = "The package that the bill is about, as for tree; only one may fit";
 
+/// The authors of a bill, as help shows them.
+const AUTHOR_HELP: &str = "Names this author of the bill, and others that are given so";
+
 /// How the time is chosen, as help shows it.
 const TIME_HELP: &str = "Adds the time: of SOURCE_DATE_EPOCH, or else of the clock";
 
@@ -45,19 +50,19 @@ pub fn command<'a>(alloc: Global) -> Result<Command<'a>, AllocError> {
         .arg(file(alloc))?
         .arg(any_size(alloc)?)?
         .arg(output(alloc))?
-        .arg(named(alloc, "root", "SPEC").help(ROOT_HELP))?
-        .arg(named(alloc, "author", "NAME").help("Who writes the bill"))?
+        .arg(root(alloc).help(ROOT_HELP))?
+        .arg(texts::option(alloc, "author", "NAME").help(AUTHOR_HELP))?
         .arg(long_flag(alloc, "timestamp")?.help(TIME_HELP))?
         .arg(long_flag(alloc, "serial")?.help("Adds a serial number, equal for equal bills"))?
         .arg(bill_licenses::option(alloc))?
         .arg(long_flag(alloc, "compact")?.help("Writes one line, without spaces"))
 }
 
-/// An option with a value and no short name.
-fn named<'a>(alloc: Global, name: &'a str, shown: &'a str) -> Arg<'a> {
-    Arg::new(alloc, name)
-        .long(name)
-        .value_name(shown)
+/// The option for the package that the bill is about.
+fn root<'a>(alloc: Global) -> Arg<'a> {
+    Arg::new(alloc, "root")
+        .long("root")
+        .value_name("SPEC")
         .action(ArgAction::Set)
 }
 
@@ -179,7 +184,7 @@ fn said_of_bill<'a>(
 ) -> Options<'a>
     ensures root { «result».root ≡ given }
     ensures timestamp { «result».timestamp ≡ time }
-    ensures author { «result».author ≡ first_value (found_of options.now) (codes "author") }
+    ensures authors { «result».authors ≡ given_texts (found_of options.now) (codes "author") }
     ensures serial { IsFlag (found_of options.now) (codes "serial") «result».has_serial }
     ensures licenses { «result».licenses ≡ map (option_map string_bytes) licenses.now }
 {
@@ -187,7 +192,7 @@ fn said_of_bill<'a>(
         root: given,
         tool_version: VERSION,
         timestamp: time,
-        author: options.get_str("author"),
+        authors: texts::among(options, "author"),
         has_serial: options.get_flag("serial"),
         licenses,
     }
