@@ -6,8 +6,7 @@ ghost use Rattle.cli_tools.specs.Bom.{PrintsBill};
 ghost use Rattle.cli_tools.specs.Texts.{given_texts};
 ghost use Rattle.cli_lockfiles.specs.Json.{IsFlag};
 
-use crate::bill_licenses;
-use crate::texts;
+use crate::{bill_licenses, texts};
 use cargo_lock::dependency::graph::NodeIndex;
 use cargo_lock::{Lockfile, Package};
 use cargo_lock_ask::fitting;
