@@ -1,4 +1,4 @@
-use Rattle.std.proofs.Common.{◌≡◌, ◌∙◌, ap, arith, map, sym, take}
+use Rattle.std.proofs.Common.{◌≡◌, ◌∙◌, ap, arith, get_or, map, refl, sym, take}
 use Rattle.std.proofs.lemmas.List.{take_all}
 use Rattle.std.proofs.lemmas.Simd.{map-map}
 use Rattle.serde_json.specs.Data.{array}
@@ -13,7 +13,7 @@ loop-name-init c = c.in_ok-begin_array.ensures.is
 
 pub loop-name-preserved : goal.loop-name-preserved
 loop-name-preserved c =
-    next c.args.out.now (λ name. author_of name.now) c.args.names.now c.loop-name.name-index c.name-item.result c.name-item.result c.loop-name-test.true c.name-item.is
+    next c.args.out.now (λ name. author_of name.now) c.args.names.now c.loop-name.name-index _ (get_or c.args.names.now c.loop-name.name-index _) c.loop-name-test.true refl
     c.loop-name.invariant c.in_ok-put_author.ensures
 
 pub returns : goal.returns
