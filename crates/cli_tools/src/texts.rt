@@ -18,10 +18,7 @@ pub(crate) fn option<'a>(alloc: Global, name: &'a str, shown: &'a str) -> Arg<'a
 pub(crate) fn among<'a>(options: &'a ArgMatches<'_>, name: &str) -> &'a [&'a str]
     ensures { map (λ text. text.now) result.now ≡ given_texts (found_of options.now) name.now }
 {
-    match options.get_strs(name) {
-        Some(texts) => texts,
-        None => &[],
-    }
+    options.get_strs(name).unwrap_or(&[])
 }
 
 /// The same as texts of their own. Fails when out of memory.
