@@ -10,7 +10,8 @@ use Rattle.cargo_lock_encoding.specs.Lockfiles.{LockfileData}
 use Rattle.cargo_lock_encoding.specs.Means.{TextMeans}
 use Rattle.cargo_lock_encoding.specs.PrintedTable.{HasAllPrinted}
 use Rattle.cargo_lock_encoding.specs.Survives.{Survives}
-use Rattle.cargo_lock_encoding.specs.Text.{join_lines, lines_of}
+use Rattle.cargo_lock_lines.specs.Layout.{join_lines}
+use Rattle.cargo_lock_encoding.specs.Text.{lines_of}
 use Rattle.cargo_lock.specs.Printed.{IsPrintedBack}
 use Rattle.cargo_lock.proofs.PrintedTexts.{printed-back, text-means-one}
 use Rattle.cargo_lock.proofs.TranslationLemmas.{only-memory}

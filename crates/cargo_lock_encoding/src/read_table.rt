@@ -206,7 +206,7 @@ fn source_at(
 }
 
 // A source that was read, which is marked plain.
-fn mark_plain(source: Option<SourceId>) -> Option<EncodableSourceId>
+pub(crate) fn mark_plain(source: Option<SourceId>) -> Option<EncodableSourceId>
     ensures { result ≡ option_map mark_plain source }
 {
     match source {
@@ -236,7 +236,11 @@ fn checksum_at(alloc: Global, table: &Table, key: &str) -> Result<Option<Checksu
 }
 
 // The reference that a text reads as.
-fn reference_of(alloc: Global, sources: &mut ReadSources, text: &str) -> Result<EncodableDependency>
+pub(crate) fn reference_of(
+    alloc: Global,
+    sources: &mut ReadSources,
+    text: &str,
+) -> Result<EncodableDependency>
     ensures { ReadsUrls (λ f. f) result (reference_of text.now) }
 {
     match EncodableDependency::from_str_by(alloc, sources, text) {
@@ -401,7 +405,7 @@ fn table_at_key(
 // ---- metadata
 
 // Sets a key to a text.
-fn put_text(alloc: Global, metadata: &mut Metadata, key: &str, value: &str) -> Result<()>
+pub(crate) fn put_text(alloc: Global, metadata: &mut Metadata, key: &str, value: &str) -> Result<()>
     ensures ok { OnOk result
         (texts_of metadata.new.entries ≡ insert (texts_of metadata.old.entries) key.now value.now) }
     ensures err { IsOkUnless result Memory }

@@ -8,7 +8,8 @@ ghost use Rattle.cargo_lock.specs.Means.{TextMeans};
 ghost use Rattle.cargo_lock.specs.Printed.{IsPrintedBack};
 ghost use Rattle.cargo_lock.specs.PrintedTable.{HasAllPrinted};
 ghost use Rattle.cargo_lock.specs.Survives.{Survives};
-ghost use Rattle.cargo_lock.specs.Text.{join_lines, lines_of};
+ghost use Rattle.cargo_lock.specs.Layout.{join_lines};
+ghost use Rattle.cargo_lock.specs.Text.{lines_of};
 
 use cargo_lock::{Error, Lockfile};
 use std::alloc::Global;

@@ -4,6 +4,7 @@ ghost use Rattle.std.specs.Prelude.{◌≡◌, ◌≢◌, ◌⊎◌, false, IfEr
 ghost use Rattle.std.specs.declared.io.ErrorKind.TheVariants.{OutOfMemory};
 ghost use Rattle.toml.specs.Errors.{IsMemory};
 ghost use Rattle.toml.specs.View.{table_view};
+ghost use Rattle.cargo_lock_lines.specs.TableOfWords.{words_table};
 ghost use Rattle.cargo_lock_parts.specs.declared.error.Error.TheVariants.{Io, Memory};
 ghost use Rattle.cargo_lock_parts.specs.Error.{IsShort, IsTooLong, ReadsUrls, Refuses};
 ghost use Rattle.cargo_lock_references.specs.Finds.{Finds, FindsUrls};
@@ -16,7 +17,9 @@ use crate::error::{Error, Result};
 use crate::lockfile::Lockfile;
 use crate::lockfile::encoding::lockfile_of;
 use crate::lockfile::long_texts::members_have_long_text;
-use cargo_lock_encoding::encoded_at;
+use cargo_lock_encoding::{encoded_at, encoded_from_words};
+use cargo_lock_lines::scan::words_of;
+use cargo_lock_lines::words::LockfileWords;
 use cargo_lock_parts::error::SHORT_LENGTH;
 use std::alloc::Global;
 use std::fs;
@@ -98,6 +101,26 @@ impl Lockfile {
 }
 
 fn read_text(alloc: Global, text: &str) -> Result<Lockfile>
+    ensures { FindsUrls (TextMeans text.now) result }
+{
+    match words_of(alloc, text)? {
+        Some(words) => read_words(alloc, words),
+        None => read_toml(alloc, text),
+    }
+}
+
+// Reads the words of a lockfile, which are not used again: they are dropped before the references
+// are resolved, as a table is.
+fn read_words(alloc: Global, words: LockfileWords<'_>) -> Result<Lockfile>
+    ensures { ReadsUrls (λ l. l) result (meaning (words_table words.entry)) }
+{
+    let values = encoded_from_words(alloc, &words)?;
+    drop(words);
+    lockfile_of(alloc, values)
+}
+
+// Reads a text by its table.
+fn read_toml(alloc: Global, text: &str) -> Result<Lockfile>
     ensures { FindsUrls (TextMeans text.now) result }
 {
     match toml::table_from_str(alloc, text) {
