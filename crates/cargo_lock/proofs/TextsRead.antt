@@ -24,21 +24,21 @@ meant l text survives printed same none =
     none y (subst (λ (t : List ℕ). TextMeans t y) (sym same) means)
 
 -- what is read is what the printed text means
-pub means-back : (l : LockfileData) (text : List ℕ) (r : Result LockfileData Error) → text ≡ join_lines (lines_of l) → FindsUrls (TextMeans text) r → IfOk r (TextMeans (join_lines (lines_of l)))
+pub means-back : {L : Type 0} (l : LockfileData) (text : List ℕ) (r : Result LockfileData Error) → text ≡ join_lines (lines_of l) → FindsUrls L (TextMeans text) r → IfOk r (TextMeans (join_lines (lines_of l)))
 means-back l text (Ok x) same found = subst (λ (t : List ℕ). TextMeans t x) same found
 means-back l text (Err e) same found = tt
 
-pub read-back : (l : LockfileData) (text : List ℕ) (r : Result LockfileData Error) → Survives l l.version → AllByRecursion HasAllPrinted l.packages → text ≡ join_lines (lines_of l)
-    → FindsUrls (TextMeans text) r → IfOk r (IsPrintedBack l)
+pub read-back : {L : Type 0} (l : LockfileData) (text : List ℕ) (r : Result LockfileData Error) → Survives l l.version → AllByRecursion HasAllPrinted l.packages → text ≡ join_lines (lines_of l)
+    → FindsUrls L (TextMeans text) r → IfOk r (IsPrintedBack l)
 read-back l text (Ok x) survives printed same found =
     let (y, means, back) = printed-back l survives printed in
     subst (IsPrintedBack l) (text-means-one text y x (subst (λ (t : List ℕ). TextMeans t y) (sym same) means) found) back
 read-back l text (Err e) survives printed same found = tt
 
-pub refused-back : (l : LockfileData) (text : List ℕ) (r : Result LockfileData Error) → Survives l l.version → AllByRecursion HasAllPrinted l.packages → text ≡ join_lines (lines_of l)
-    → FindsUrls (TextMeans text) r → IfErr r (λ e. RefusesUrls e ⊥)
+pub refused-back : {L : Type 0} (l : LockfileData) (text : List ℕ) (r : Result LockfileData Error) → Survives l l.version → AllByRecursion HasAllPrinted l.packages → text ≡ join_lines (lines_of l)
+    → FindsUrls L (TextMeans text) r → IfErr r (λ e. RefusesUrls L e ⊥)
 refused-back l text (Ok x) survives printed same found = tt
-refused-back l text (Err e) survives printed same found = RefusesUrls-by e _ _ found (meant l text survives printed same)
+refused-back l text (Err e) survives printed same found = RefusesUrls-by e _ _ _ _ found (λ long. long) (meant l text survives printed same)
 
 pub memory-back : (l : LockfileData) (text : List ℕ) (r : Result LockfileData Error) → Survives l l.version → AllByRecursion HasAllPrinted l.packages → text ≡ join_lines (lines_of l)
     → Finds (TextMeans text) r → IsOkUnless r Memory

@@ -177,5 +177,5 @@ words-read l =
     values-data (unless_no_text l.metadata) (unless_empty (map lined_value l.packages)) (unless_no_patch (map identity_value l.patches)) (option_map integer l.number)
     ∙ rw (lined-list l.packages, number-word l.number, packages-words l.packages, metadata-words l.metadata, patch-words l.patches) (listed (map_all package_from l.packages) (map_all identity_from l.patches) l.number (put_all empty l.metadata))
 
-pub ReadsUrls-words : (l : LinedLockfile) (r : Result EncodedData Error) → ReadsUrls (λ e. e) r (values_from l) → ReadsUrls (λ e. e) r (encoded_at (words_table l))
-ReadsUrls-words l r h = rw (words-read l) h
+pub ReadsUrls-words : (L : Type 0) (l : LinedLockfile) (r : Result EncodedData Error) → ReadsUrls L (λ e. e) r (values_from l) → ReadsUrls L (λ e. e) r (encoded_at (words_table l))
+ReadsUrls-words L l r h = rw (words-read l) h

@@ -1,5 +1,6 @@
 pub mod Lockfiles
 pub mod TableReading
+pub mod LongTexts
 pub mod WordsReading
 pub mod Means
 pub mod TableMetadata

@@ -34,14 +34,14 @@ use std::alloc::Global;
 /// values of a table are read. `Parse` also comes for a URL of 4 GB or more. The other error is
 /// `Memory`.
 pub fn encoded_from_words(alloc: Global, words: &LockfileWords<'_>) -> Result<EncodableLockfile>
-    ensures { ReadsUrls (λ e. e) result (encoded_at (words_table words.now)) }
+    ensures { ReadsUrls (Unit {0}) (λ e. e) result (encoded_at (words_table words.now)) }
 {
     values_from(alloc, words)
 }
 
 #[tactic(auto, unfolding(crate::specs::WordsReading::values_from))]
 fn values_from(alloc: Global, words: &LockfileWords<'_>) -> Result<EncodableLockfile>
-    ensures { ReadsUrls (λ e. e) result (values_from words.now) }
+    ensures { ReadsUrls (Unit {0}) (λ e. e) result (values_from words.now) }
 {
     let mut sources = ReadSources::new(alloc);
     let package = packages_from(alloc, &mut sources, words.packages.as_slice())?;
@@ -62,7 +62,7 @@ fn source_from(
     sources: &mut ReadSources,
     word: Option<&str>,
 ) -> Result<Option<SourceId>>
-    ensures { ReadsUrls (λ o. o) result (map_some source_of (option_copied word.entry)) }
+    ensures { ReadsUrls (Unit {0}) (λ o. o) result (map_some source_of (option_copied word.entry)) }
 {
     match word {
         Some(word) => Ok(Some(sources.read(alloc, word)?)),
@@ -86,7 +86,7 @@ fn replace_from(
     sources: &mut ReadSources,
     word: Option<&str>,
 ) -> Result<Option<EncodableDependency>>
-    ensures { ReadsUrls (λ o. o) result (map_some reference_of (option_copied word.entry)) }
+    ensures { ReadsUrls (Unit {0}) (λ o. o) result (map_some reference_of (option_copied word.entry)) }
 {
     match word {
         Some(word) => Ok(Some(reference_of(alloc, sources, word)?)),
@@ -100,7 +100,7 @@ fn references_from(
     words: &[&str],
 ) -> Result<Vec<EncodableDependency>>
     ensures { ReadsUrls
-        (λ v. v.items) result (map_all reference_of (map (λ w. w.now) words.now)) }
+        (Unit {0}) (λ v. v.items) result (map_all reference_of (map (λ w. w.now) words.now)) }
 {
     let mut references = Vec::with_capacity(alloc, words.len())?;
     for word in words {
@@ -117,7 +117,7 @@ fn identity_from(
     sources: &mut ReadSources,
     words: &IdentityWords<'_>,
 ) -> Result<Dependency>
-    ensures { ReadsUrls (λ d. d) result (identity_from words.now) }
+    ensures { ReadsUrls (Unit {0}) (λ d. d) result (identity_from words.now) }
 {
     let name = Name::from_str(alloc, words.name)?;
     let version = version_of(alloc, words.version)?;
@@ -135,7 +135,7 @@ fn package_from(
     sources: &mut ReadSources,
     words: &PackageWords<'_>,
 ) -> Result<EncodablePackage>
-    ensures { ReadsUrls (λ e. e) result (package_from words.now) }
+    ensures { ReadsUrls (Unit {0}) (λ e. e) result (package_from words.now) }
 {
     let Dependency {
         name,
@@ -160,7 +160,7 @@ fn packages_from(
     sources: &mut ReadSources,
     words: &[PackageWords<'_>],
 ) -> Result<Vec<EncodablePackage>>
-    ensures { ReadsUrls (λ v. v.items) result (map_all package_from words.now) }
+    ensures { ReadsUrls (Unit {0}) (λ v. v.items) result (map_all package_from words.now) }
 {
     let mut packages = Vec::with_capacity(alloc, words.len())?;
     for package in words {
@@ -184,7 +184,7 @@ fn metadata_from(alloc: Global, words: &[PairWords<'_>]) -> Result<Metadata>
 }
 
 fn patch_from(alloc: Global, words: &[IdentityWords<'_>]) -> Result<Patch>
-    ensures { ReadsUrls (λ p. p) result (map_all identity_from words.now) }
+    ensures { ReadsUrls (Unit {0}) (λ p. p) result (map_all identity_from words.now) }
 {
     let mut sources = ReadSources::new(alloc);
     let unused = patches_from(alloc, &mut sources, words)?;
@@ -196,7 +196,7 @@ fn patches_from(
     sources: &mut ReadSources,
     words: &[IdentityWords<'_>],
 ) -> Result<Vec<Dependency>>
-    ensures { ReadsUrls (λ v. v.items) result (map_all identity_from words.now) }
+    ensures { ReadsUrls (Unit {0}) (λ v. v.items) result (map_all identity_from words.now) }
 {
     let mut patches = Vec::with_capacity(alloc, words.len())?;
     for patch in words {

@@ -3,4 +3,4 @@ use Rattle.cargo_lock.proofs.lockfile.reading.read_text.Goals as goal
 
 pub returns-in-Some : goal.returns-in-Some
 returns-in-Some c =
-    FindsUrls-text c.args.text.now _ c.read_words.result (rw c.in-Some.is at c.in_ok-words.ensures) (FindsUrls-means _ c.read_words.result c.read_words.ensures)
+    FindsUrls-text _ c.args.text.now _ c.read_words.result (rw c.in-Some.is at c.in_ok-words.ensures) (FindsUrls-means _ _ c.read_words.result c.read_words.ensures)
