@@ -47,7 +47,8 @@ use toml::{Table, Value};
 #[tactic(auto, unfolding(crate::specs::TableReading::encoded_at, crate::specs::LongTexts::HasLongUrlText))]
 pub fn encoded_at(alloc: Global, table: &Table) -> Result<EncodableLockfile>
     ensures { ReadsUrls
-        (HasLongUrlText (table_view table.now)) (λ e. e) result (encoded_at (table_view table.now)) }
+        (HasLongUrlText (table_view table.now))
+        (λ e. e) result (encoded_at (table_view table.now)) }
 {
     let version = number_at(alloc, table, "version")?;
     let all = all_encoded_packages_at(alloc, table)?;
@@ -317,7 +318,8 @@ fn references_of(
 #[tactic(auto, unfolding(crate::specs::TableReading::identity_at))]
 fn identity_at(alloc: Global, sources: &mut ReadSources, table: &Table) -> Result<Dependency>
     ensures { ReadsUrls
-        (HasLongSource (table_view table.now)) (λ e. e) result (identity_at (table_view table.now)) }
+        (HasLongSource (table_view table.now))
+        (λ e. e) result (identity_at (table_view table.now)) }
 {
     let written = required_text(alloc, table, "name")?;
     let name = Name::from_str(alloc, written)?;
@@ -338,7 +340,8 @@ fn package_at_key(
     table: &Table,
 ) -> Result<EncodablePackage>
     ensures { ReadsUrls
-        (HasLongPart (table_view table.now)) (λ e. e) result (package_at_key (table_view table.now)) }
+        (HasLongPart (table_view table.now))
+        (λ e. e) result (package_at_key (table_view table.now)) }
 {
     let Dependency {
         name,

@@ -86,7 +86,8 @@ fn replace_from(
     sources: &mut ReadSources,
     word: Option<&str>,
 ) -> Result<Option<EncodableDependency>>
-    ensures { ReadsUrls (Unit {0}) (λ o. o) result (map_some reference_of (option_copied word.entry)) }
+    ensures { ReadsUrls
+        (Unit {0}) (λ o. o) result (map_some reference_of (option_copied word.entry)) }
 {
     match word {
         Some(word) => Ok(Some(reference_of(alloc, sources, word)?)),

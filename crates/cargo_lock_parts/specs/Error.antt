@@ -38,8 +38,8 @@ RefusesWith result text = IfErr result (λ e. (e ≡ Memory) ⊎ IsParse e text)
 abbrev pub too_long : List ℕ
 too_long = codes "invalid url: more than 4 GB"
 
--- The text has 2^28 bytes or more. A URL may be longer than its text, since escapes take three bytes
--- for one, but below this length none has 4 GB.
+-- The text has 2^28 bytes or more. A URL may be longer than its text, since escapes take three
+-- bytes for one, but below this length none has 4 GB.
 abbrev pub IsLong : List ℕ → Type 0
 IsLong text = 268435456 ≤ length text
 
@@ -64,8 +64,8 @@ abbrev pub Reads : {X Y : Type 0} → (X → Y) → Result X Error → Option Y 
 Reads view (Ok x) meaning = meaning ≡ Some (view x)
 Reads view (Err e) meaning = Refuses e (meaning ≡ None)
 
--- An error of a reader of URLs. `Parse` comes only if P holds, or if it is the error of a URL of 4 GB
--- or more and L holds: the evidence that a text is long enough for one.
+-- An error of a reader of URLs. `Parse` comes only if P holds, or if it is the error of a URL of
+-- 4 GB or more and L holds: the evidence that a text is long enough for one.
 abbrev pub RefusesUrls : Type 0 → Error → Type 0 → Type 0
 RefusesUrls L (Parse message) P = P ⊎ ((string_bytes message ≡ too_long) × L)
 RefusesUrls L Memory P = Unit {0}

@@ -85,8 +85,8 @@ impl<T: Drop> From<AllocFailed<T>> for Error {
 // The text of the error for a URL of 4 GB or more.
 pub(crate) const TOO_LONG: &str = "invalid url: more than 4 GB";
 
-/// Texts of fewer bytes, which is 2^28, hold no URL of 4 GB or more: a URL grows at most threefold by
-/// escapes.
+/// Texts of fewer bytes, which is 2^28, hold no URL of 4 GB or more: a URL grows at most threefold
+/// by escapes.
 pub const SHORT_LENGTH: usize = 268435456;
 
 impl Error {
