@@ -3,7 +3,7 @@ use Rattle.std.proofs.Common.{◌≡◌, ℕ, List, Result, Ok, Err, IfOk, IfErr
 use Rattle.std.specs.List.{AllByRecursion}
 use Rattle.cargo_lock_parts.specs.declared.error.Error.{Error}
 use Rattle.cargo_lock_parts.specs.declared.error.Error.TheVariants.{Memory}
-use Rattle.cargo_lock_parts.specs.Error.{RefusesUrls}
+use Rattle.cargo_lock_parts.specs.Error.{IsLong, RefusesUrls}
 use Rattle.cargo_lock_references.specs.Finds.{Finds, FindsUrls}
 use Rattle.cargo_lock_references.proofs.Walk.{Refuses-by, RefusesUrls-by}
 use Rattle.cargo_lock_encoding.specs.Lockfiles.{LockfileData}
@@ -35,10 +35,11 @@ read-back l text (Ok x) survives printed same found =
     subst (IsPrintedBack l) (text-means-one text y x (subst (λ (t : List ℕ). TextMeans t y) (sym same) means) found) back
 read-back l text (Err e) survives printed same found = tt
 
-pub refused-back : {L : Type 0} (l : LockfileData) (text : List ℕ) (r : Result LockfileData Error) → Survives l l.version → AllByRecursion HasAllPrinted l.packages → text ≡ join_lines (lines_of l)
-    → FindsUrls L (TextMeans text) r → IfErr r (λ e. RefusesUrls L e ⊥)
+pub refused-back : (l : LockfileData) (text : List ℕ) (r : Result LockfileData Error) → Survives l l.version → AllByRecursion HasAllPrinted l.packages → text ≡ join_lines (lines_of l)
+    → FindsUrls (IsLong text) (TextMeans text) r → IfErr r (λ e. RefusesUrls (IsLong (join_lines (lines_of l))) e ⊥)
 refused-back l text (Ok x) survives printed same found = tt
-refused-back l text (Err e) survives printed same found = RefusesUrls-by e _ _ _ _ found (λ long. long) (meant l text survives printed same)
+refused-back l text (Err e) survives printed same found =
+    RefusesUrls-by e _ _ _ _ found (subst IsLong same) (meant l text survives printed same)
 
 pub memory-back : (l : LockfileData) (text : List ℕ) (r : Result LockfileData Error) → Survives l l.version → AllByRecursion HasAllPrinted l.packages → text ≡ join_lines (lines_of l)
     → Finds (TextMeans text) r → IsOkUnless r Memory
