@@ -1,7 +1,6 @@
 -- Which tables have a text that is long enough for a URL of 4 GB or more, where a text is read as a
 -- source or as a reference. No other error of reading a table depends on the length of a text.
-use Rattle.std.specs.Prelude.{codes}
-use Rattle.std.specs.Option.{IsSomeAnd}
+use Rattle.std.specs.Prelude.{◌⊎◌, IsSomeAnd, codes}
 use Rattle.toml.specs.Data.{Data, Items, no_items, item, Members, get_member}
 use Rattle.cargo_lock_parts.specs.Error.{IsLong}
 use Rattle.cargo_lock_encoding.specs.TableReading.{members_in, optional_list, required_list}
