@@ -1,6 +1,6 @@
 -- The text of a version that was parsed has no newline.
-use Rattle.std.proofs.Common.{◌≡◌, ℕ, ◌<◌, ◌^◌, ◌==◌, ◌&&◌, eqb, Bool, true, false, List, [], ◌∷◌, ◌++◌, refl, subst, arith, inl, inr, Ok}
-use Rattle.std.proofs.lemmas.Bool.{cases_Bool, eqb-true, false≢true, ne_eqb, or_from}
+use Rattle.std.proofs.Common.{◌≡◌, ℕ, ◌<◌, ◌^◌, ◌==◌, eqb, true, false, List, [], ◌∷◌, ◌++◌, refl, subst, arith, inl, inr, Ok}
+use Rattle.std.proofs.lemmas.Bool.{and_from, and_parts, cases_Bool, eqb-true, ne_eqb, or_from}
 use Rattle.std.proofs.lemmas.List.Elements.{recursion_from_All}
 use Rattle.std.specs.Fmt.{decimal}
 use Rattle.std.specs.Int.{IsInRange}
@@ -14,14 +14,6 @@ use Rattle.url.proofs.HostRoundTrip.{All-decimal}
 use Rattle.cargo_lock_graph.specs.Drawing.{is_one_of}
 use Rattle.cargo_lock_graph.proofs.DrawingLines.{among-append}
 
-both-true : (a b : Bool) → (a && b) ≡ true → (a ≡ true) × (b ≡ true)
-both-true true b h = (refl, h)
-both-true false b h = absurd (false≢true h)
-
-both-from : (a b : Bool) → a ≡ true → b ≡ true → (a && b) ≡ true
-both-from true b h k = k
-both-from false b h k = h
-
 -- ---- identifiers between dots
 
 abbrev bytes : List ℕ → Bool
@@ -31,11 +23,11 @@ byte-plain : (x : ℕ) → is_identifier_byte x ≡ true → eqb 10 x ≡ false
 byte-plain x h = grind arith
 
 first-part : (x : ℕ) (ps : List (List ℕ)) → list_all bytes (onto_first x ps) ≡ true → (is_identifier_byte x ≡ true) × (list_all bytes ps ≡ true)
-first-part x [] h = let p = both-true (bytes (x ∷ [])) true h in ((both-true (is_identifier_byte x) true p.0).0, refl)
+first-part x [] h = let p = and_parts (bytes (x ∷ [])) true h in ((and_parts (is_identifier_byte x) true p.0).0, refl)
 first-part x (p ∷ ps) h =
-    let a = both-true (bytes (x ∷ p)) (list_all bytes ps) h in
-    let b = both-true (is_identifier_byte x) (bytes p) a.0 in
-    (b.0, both-from (bytes p) (list_all bytes ps) b.1 a.1)
+    let a = and_parts (bytes (x ∷ p)) (list_all bytes ps) h in
+    let b = and_parts (is_identifier_byte x) (bytes p) a.0 in
+    (b.0, and_from (bytes p) (list_all bytes ps) b.1 a.1)
 
 parts-plain : (xs : List ℕ) → list_all bytes (parts xs) ≡ true → is_one_of 10 xs ≡ false
 parts-plain [] h = refl
@@ -51,15 +43,15 @@ parts-plain (x ∷ xs) h = elim (cases_Bool (x == 46)) [
 build-bytes : (ps : List (List ℕ)) → list_all is_build_identifier ps ≡ true → list_all bytes ps ≡ true
 build-bytes [] h = refl
 build-bytes (p ∷ ps) h =
-    let a = both-true (is_build_identifier p) (list_all is_build_identifier ps) h in
-    both-from (bytes p) (list_all bytes ps) (both-true _ (bytes p) a.0).1 (build-bytes ps a.1)
+    let a = and_parts (is_build_identifier p) (list_all is_build_identifier ps) h in
+    and_from (bytes p) (list_all bytes ps) (and_parts _ (bytes p) a.0).1 (build-bytes ps a.1)
 
 pre-bytes : (ps : List (List ℕ)) → list_all is_pre_identifier ps ≡ true → list_all bytes ps ≡ true
 pre-bytes [] h = refl
 pre-bytes (p ∷ ps) h =
-    let a = both-true (is_pre_identifier p) (list_all is_pre_identifier ps) h in
-    let b = both-true (is_build_identifier p) _ a.0 in
-    both-from (bytes p) (list_all bytes ps) (both-true _ (bytes p) b.0).1 (pre-bytes ps a.1)
+    let a = and_parts (is_pre_identifier p) (list_all is_pre_identifier ps) h in
+    let b = and_parts (is_build_identifier p) _ a.0 in
+    and_from (bytes p) (list_all bytes ps) (and_parts _ (bytes p) b.0).1 (pre-bytes ps a.1)
 
 pre-plain : (xs : List ℕ) → is_pre_release xs ≡ true → is_one_of 10 xs ≡ false
 pre-plain [] h = refl
