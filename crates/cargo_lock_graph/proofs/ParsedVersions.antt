@@ -1,5 +1,5 @@
 -- The text of a version that was parsed has no newline.
-use Rattle.std.proofs.Common.{◌≡◌, ℕ, ◌<◌, ◌^◌, ◌==◌, eqb, true, false, List, [], ◌∷◌, ◌++◌, refl, subst, arith, inl, inr, Ok}
+use Rattle.std.proofs.Common.{◌≡◌, ℕ, Bool, ◌<◌, ◌^◌, ◌==◌, eqb, true, false, List, [], ◌∷◌, refl, arith, inl, inr, Ok}
 use Rattle.std.proofs.lemmas.Bool.{and_from, and_parts, cases_Bool, eqb-true, ne_eqb, or_from}
 use Rattle.std.proofs.lemmas.List.Elements.{recursion_from_All}
 use Rattle.std.specs.Fmt.{decimal}
