@@ -1,6 +1,7 @@
 -- How many frames there are after an entry.
-use Rattle.std.proofs.Common.{◌≡◌, ◌≤◌, ◌<◌, ◌+◌, ◌∙◌, ℕ, suc, Bool, true, false, cond, max, List, [], ◌∷◌, get_or, set, length, ap, arith, subst, sym}
+use Rattle.std.proofs.Common.{◌≡◌, ◌≤◌, ◌<◌, ◌+◌, ◌∙◌, ℕ, suc, Bool, true, false, cond, max, List, [], ◌∷◌, get_or, set, length, replicate, ap, arith, subst, sym}
 use Rattle.std.proofs.lemmas.Bool.{cases_Bool}
+use Rattle.std.proofs.lemmas.List.{get_or-replicate, length-replicate}
 use Rattle.cargo_lock_graph.specs.Drawing.{is_one_of}
 use Rattle.cargo_lock_graph.specs.DrawingMade.{AreMarked}
 use Rattle.cargo_lock_graph.specs.WalkState.{HasDrawn}
@@ -43,3 +44,20 @@ pub frames-step : (marks new : List Bool) (nodes : List ℕ) (node depth frames 
 frames-step marks new nodes node depth frames most rest whole within marked h low all =
     step-by (is_one_of node nodes) most depth frames rest whole
     (h.frames_are ∙ ap (λ b. depth + cond b 0 1) (marked node within)) low all
+
+-- ---- the first entry
+
+fresh : (count node : ℕ) → node < count → get_or (replicate count false) node true ≡ false
+fresh count node within = get_or-replicate count node false true within
+
+pub marked-start : (count start frames : ℕ) (new : List Bool) → start < count → HasDrawn (replicate count false) new start 0 frames → AreMarked new (start ∷ [])
+marked-start count start frames new within h =
+    let none : List Bool = replicate count false in
+    let long : length none ≡ count = length-replicate count false in
+    let bare : AreMarked none [] = λ k low. fresh count k (omega (arith, low, long)) in
+    drawn-marked none new [] start 0 frames (omega (arith, within, long)) h bare
+
+pub frames-start : (count start frames most rest whole : ℕ) (new : List Bool) → start < count → HasDrawn (replicate count false) new start 0 frames → most ≡ frames → max 1 rest ≡ whole → max most rest ≡ whole
+frames-start count start frames most rest whole new within h is all =
+    let one : frames ≡ 1 = h.frames_are ∙ ap (λ b. 0 + cond b 0 1) (fresh count start within) in
+    omega (arith, one, is, all)
