@@ -5,5 +5,5 @@ use Rattle.cargo_lock_check.proofs.text.lines_of.Goals as goal
 
 pub returns : goal.returns
 returns c =
-    let whole = YieldsList-end (YieldsList-from_lines c.args.text.now c.lines-line.ensures.rest) c.loop-line.yielded _ c.loop-line.yielded_by _ _ c.in-None.is c.next.ensures.steps in
+    let whole = YieldsList-end (YieldsList-from_lines c.args.text.now cc) c.loop-line.yielded _ c.loop-line.yielded_by _ _ c.in-None.is c.next.ensures.steps in
     ap (map (λ x. x.now)) c.loop-line.invariant ∙ whole.0

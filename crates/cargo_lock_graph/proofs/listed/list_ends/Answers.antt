@@ -1,17 +1,15 @@
-use Rattle.std.proofs.Common.{◌<◌, ℕ, List, ap, length, map, subst, sym}
+use Rattle.std.proofs.Common.{◌≡◌, ◌<◌, ℕ, List, ap, length, map, subst, sym}
 use Rattle.std.specs.List.{All}
-use Rattle.cargo_lock_graph.specs.Edges.{far_end, far_ends}
+use Rattle.cargo_lock_graph.specs.Edges.{edges_at, far_end, far_ends}
 use Rattle.cargo_lock_graph.proofs.Listing.{listed-all, listed-more, listed-none}
 use Rattle.cargo_lock_graph.proofs.WalkSteps.{below_far}
 use Rattle.cargo_lock_graph.proofs.listed.list_ends.Goals as goal
 
 pub loop-edge-init : goal.loop-edge-init
 loop-edge-init c =
-    let far = far_end c.args.direction in (
-      tt,
-      tt,
-      listed-none far c.in_ok-ends.ends.items _ c.edges_directed.result c.in_ok-ends.ensures.items (ap (map far) c.edges_directed.ensures.edges),
-    )
+    let far = far_end c.args.direction in
+    let all : c.into_iter-edge-iterator.result ≡ edges_at c.args.direction c.args.graph.now.edges c.args.node = cc in
+    (tt, tt, listed-none far c.in_ok-ends.ends.items _ c.into_iter-edge-iterator.result c.in_ok-ends.ensures.items (ap (map far) all))
 
 pub loop-edge-preserved : goal.loop-edge-preserved
 loop-edge-preserved c =

@@ -1,11 +1,14 @@
-use Rattle.std.proofs.Common.{◌<◌, ◌∙◌, ℕ, List, ◌∷◌, ◌++◌, [], ap, append_assoc, length, subst, sym}
+use Rattle.std.proofs.Common.{◌≡◌, ◌<◌, ◌∙◌, ℕ, List, ◌∷◌, ◌++◌, [], ap, append_assoc, length, subst, sym}
 use Rattle.std.specs.List.{All}
 use Rattle.std.proofs.lemmas.List.{append-nil}
+use Rattle.cargo_lock_graph.specs.Edges.{externals}
 use Rattle.cargo_lock_graph.proofs.GraphEnds.{externals-below}
 use Rattle.cargo_lock_graph.proofs.listed.list_externals.Goals as goal
 
 pub loop-node-init : goal.loop-node-init
-loop-node-init c = (tt, tt, ap (λ (ns : List ℕ). ns ++ c.externals.result) c.in_ok-nodes.ensures.items ∙ c.externals.ensures.nodes)
+loop-node-init c =
+    let all : c.into_iter-node-iterator.result ≡ externals c.args.direction c.args.graph.now = cc in
+    (tt, tt, ap (λ (ns : List ℕ). ns ++ c.into_iter-node-iterator.result) c.in_ok-nodes.ensures.items ∙ all)
 
 pub loop-node-preserved : goal.loop-node-preserved
 loop-node-preserved c =

@@ -7,4 +7,4 @@ abbrev pub invariant-loop-node : goal.invariant-loop-node
 invariant-loop-node l =
     (goal.iterator-loop-node).can_next l.node-iterator ×
     (goal.iterator-loop-node).is_finite l.node-iterator ×
-    (l.nodes.items ++ l.node-iterator ≡ externals l.direction l.graph)
+    (l.nodes.items ++ l.node-iterator ≡ externals l.fn.direction l.graph)
