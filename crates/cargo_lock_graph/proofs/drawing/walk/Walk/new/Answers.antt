@@ -14,5 +14,5 @@ returns-clause-drawn c =
     let graph = c.args.graph.now in
     let none : c.in_ok-visited.visited.items ≡ replicate (length graph.packages) false = c.in_ok-visited.ensures.items_if_clones_equal (λ y e. e) ∙ ap (λ (k : ℕ). replicate k false) c.node_count-count.ensures in
     let empty : vec_len c.in_ok-stack.stack ≡ 0 = c.in_ok-stack.ensures.len in
-    subst (λ ms. HasDrawn ms c.enter.new.walk.visited.items c.args.start 0 (vec_len c.enter.new.walk.stack)) none
-    (subst (λ n. HasDrawn c.in_ok-visited.visited.items c.enter.new.walk.visited.items c.args.start n (vec_len c.enter.new.walk.stack)) empty c.enter.ensures.drawn)
+    subst (λ ms. HasDrawn ms c.enter.new.self.visited.items c.args.start 0 (vec_len c.enter.new.self.stack)) none
+    (subst (λ n. HasDrawn c.in_ok-visited.visited.items c.enter.new.self.visited.items c.args.start n (vec_len c.enter.new.self.stack)) empty c.enter.ensures.drawn)
