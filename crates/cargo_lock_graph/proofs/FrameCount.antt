@@ -39,10 +39,11 @@ step-by true most depth frames rest whole is low all = omega (arith, is, low, al
 step-by false most depth frames rest whole is low all = omega (arith, is, low, all)
 
 -- the greatest number with one more entry drawn
-pub frames-step : (marks new : List Bool) (nodes : List ℕ) (node depth frames most rest whole : ℕ) → node < length marks → AreMarked marks nodes → HasDrawn marks new node depth frames → depth ≤ most
-    → max most (max (cond (is_one_of node nodes) 0 (suc depth)) rest) ≡ whole → max (max most frames) rest ≡ whole
-frames-step marks new nodes node depth frames most rest whole within marked h low all =
-    step-by (is_one_of node nodes) most depth frames rest whole
+pub frames-step : (marks new : List Bool) (nodes : List ℕ) (node depth frames most more rest whole : ℕ) → node < length marks → AreMarked marks nodes → HasDrawn marks new node depth frames → depth ≤ most → more ≡ max most frames
+    → max most (max (cond (is_one_of node nodes) 0 (suc depth)) rest) ≡ whole → max more rest ≡ whole
+frames-step marks new nodes node depth frames most more rest whole within marked h low grown all =
+    ap (λ n. max n rest) grown
+    ∙ step-by (is_one_of node nodes) most depth frames rest whole
     (h.frames_are ∙ ap (λ b. depth + cond b 0 1) (marked node within)) low all
 
 -- ---- the first entry

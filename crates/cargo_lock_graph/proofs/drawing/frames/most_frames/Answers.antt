@@ -1,4 +1,4 @@
-use Rattle.std.proofs.Common.{◌≡◌, ◌<◌, ◌∙◌, ℕ, List, [], ◌∷◌, ap, arith, length, max, refl, sym}
+use Rattle.std.proofs.Common.{◌≡◌, ◌<◌, ◌∙◌, List, [], ◌∷◌, ap, arith, length, max, refl, sym, vec_len}
 use Rattle.cargo_lock_graph.specs.declared.drawing.entry.Entry.{Entry}
 use Rattle.cargo_lock_graph.specs.DrawingMade.{drawing}
 use Rattle.cargo_lock_graph.specs.Edges.{far_ends}
@@ -36,16 +36,17 @@ entries-preserved c =
     let within = c.in-Some.ensures.fits.2 in
     let low : e.node < length old.visited.items = omega (arith, within, c.entries.invariant.on.long) in
     let deep = c.in-Some.ensures.deep in
+    let grown : c.max-most.result ≡ max c.entries.most (vec_len new.stack) = c.max-most.ensures ∙ ap (max c.entries.most) c.frame_count.ensures in
     let told = ap (λ es. max c.entries.most (frames_after nodes es)) (sym c.in-Some.ensures.entry) ∙ all in
     record {
       on = c.in-Some.ensures.on;
       levels = c.in-Some.ensures.levels;
-      held = omega (arith, c.frame_count.ensures, c.max.ensures);
-      within = omega (arith, c.frame_count.ensures, c.max.ensures, c.entries.invariant.within, c.in-Some.ensures.on.room, new.stack.ok.0);
+      held = omega (arith, c.frame_count.ensures, c.max-most.ensures);
+      within = omega (arith, c.frame_count.ensures, c.max-most.ensures, c.entries.invariant.within, c.in-Some.ensures.on.room, new.stack.ok.0);
       drawn = (
         e.node ∷ nodes,
-        drawn-marked old.visited.items new.visited.items nodes e.node e.depth _ low c.in-Some.ensures.drawn marked,
-        frames-step old.visited.items new.visited.items nodes e.node e.depth _ c.entries.most (frames_after (e.node ∷ nodes) (to_come graph new)) _ low marked c.in-Some.ensures.drawn (omega (arith, deep, c.entries.invariant.held)) told,
+        drawn-marked old.visited.items new.visited.items nodes e.node e.depth (vec_len new.stack) low c.in-Some.ensures.drawn marked,
+        frames-step old.visited.items new.visited.items nodes e.node e.depth (vec_len new.stack) c.entries.most c.max-most.result (frames_after (e.node ∷ nodes) (to_come graph new)) _ low marked c.in-Some.ensures.drawn (omega (arith, deep, c.entries.invariant.held)) grown told,
       );
     }
 
