@@ -16,8 +16,8 @@ loop-node-preserved c =
       tt,
       tt,
       ap (λ (ns : List ℕ). ns ++ c.next.new.self) c.in_ok-push.ensures.items
-      ∙ append_assoc c.loop-node.nodes.items (c.in-Some.node ∷ []) c.next.new.self
-      ∙ ap (λ (ns : List ℕ). c.loop-node.nodes.items ++ ns) (sym steps) ∙ c.loop-node.invariant.2,
+          ∙ append_assoc c.loop-node.nodes.items (c.in-Some.node ∷ []) c.next.new.self
+          ∙ ap (λ (ns : List ℕ). c.loop-node.nodes.items ++ ns) (sym steps) ∙ c.loop-node.invariant.2,
     )
 
 pub returns-clause-are : goal.returns-clause-are
