@@ -9,3 +9,4 @@ pub mod SurvivalLemmas
 pub mod TableMetadata
 pub mod TextPuts
 pub mod WordTables
+pub mod WordsMeant

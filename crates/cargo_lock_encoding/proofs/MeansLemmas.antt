@@ -29,7 +29,7 @@ map_all-from f R each [] (y ∷ ys) h = absurd h
 map_all-from f R each (x ∷ xs) [] h = absurd h
 map_all-from f R each (x ∷ xs) (y ∷ ys) h = rw (each x y h.0, map_all-from f R each xs ys h.1)
 
-more-parts : {Y : Type 0} (o : Option Y) (p : Option (List Y)) (zs : List Y) → (o >>= λ y. option_map (λ ys. y ∷ ys) p) ≡ Some zs → (y : Y) × (ys : List Y) × (o ≡ Some y) × (p ≡ Some ys) × (zs ≡ y ∷ ys)
+pub more-parts : {Y : Type 0} (o : Option Y) (p : Option (List Y)) (zs : List Y) → (o >>= λ y. option_map (λ ys. y ∷ ys) p) ≡ Some zs → (y : Y) × (ys : List Y) × (o ≡ Some y) × (p ≡ Some ys) × (zs ≡ y ∷ ys)
 more-parts None p zs e = absurd (none-some zs e)
 more-parts (Some y) None zs e = absurd (none-some zs e)
 more-parts (Some y) (Some ys) zs e = (y, ys, refl, refl, sym (same_Some _ _ e))

@@ -1,6 +1,7 @@
 pub mod Lockfiles
 pub mod TableReading
 pub mod WordsReading
+pub mod ResolvedWords
 pub mod Means
 pub mod TableMetadata
 pub mod Meaning

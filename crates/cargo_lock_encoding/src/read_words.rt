@@ -71,7 +71,7 @@ fn source_from(
 }
 
 // The checksum of a word that may be absent.
-fn checksum_from(alloc: Global, word: Option<&str>) -> Result<Option<Checksum>>
+pub(crate) fn checksum_from(alloc: Global, word: Option<&str>) -> Result<Option<Checksum>>
     ensures { Reads (option_map digest_of) result (map_some digest_in (option_copied word.entry)) }
 {
     match word {
@@ -112,7 +112,7 @@ fn references_from(
 
 // The name, the version and the source.
 #[tactic(auto, unfolding(crate::specs::WordsReading::identity_from))]
-fn identity_from(
+pub(crate) fn identity_from(
     alloc: Global,
     sources: &mut ReadSources,
     words: &IdentityWords<'_>,
@@ -172,7 +172,7 @@ fn packages_from(
 
 // ---- metadata and patches
 
-fn metadata_from(alloc: Global, words: &[PairWords<'_>]) -> Result<Metadata>
+pub(crate) fn metadata_from(alloc: Global, words: &[PairWords<'_>]) -> Result<Metadata>
     ensures ok { IfOk result (λ m. texts_of m.entries ≡ put_all empty words.now) }
     ensures err { IsOkUnless result Memory }
 {
@@ -183,7 +183,7 @@ fn metadata_from(alloc: Global, words: &[PairWords<'_>]) -> Result<Metadata>
     Ok(metadata)
 }
 
-fn patch_from(alloc: Global, words: &[IdentityWords<'_>]) -> Result<Patch>
+pub(crate) fn patch_from(alloc: Global, words: &[IdentityWords<'_>]) -> Result<Patch>
     ensures { ReadsUrls (λ p. p) result (map_all identity_from words.now) }
 {
     let mut sources = ReadSources::new(alloc);

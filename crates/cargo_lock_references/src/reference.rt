@@ -1,7 +1,7 @@
 //! References: how a lockfile names the package that another one depends on.
 
 ghost use Rattle.std.specs.Prelude.{◌≡◌, ◌≤◌, ◌+◌, ◌∷◌, [], IfOk, IfSome, IsOkUnless, MatchOption};
-ghost use Rattle.std.specs.Prelude.{length, count_by, map, option_copied, option_map};
+ghost use Rattle.std.specs.Prelude.{length, count_by, map, option_copied, option_map, true};
 ghost use Rattle.std.specs.List.{find};
 ghost use Rattle.std.specs.Option.{option_cmp};
 ghost use Rattle.std.specs.Str.Iter.{split_whitespace_rest};
@@ -105,6 +105,13 @@ impl EncodableDependency {
         ensures short { IsShort text.now
             → ReadsReferenceExactly result (reference_of_words (text_words text.now)) }
     {
+        if is_one_word(text) {
+            return Ok(EncodableDependency {
+                name: Name::from_str(alloc, text)?,
+                version: None,
+                source: None,
+            });
+        }
         let mut words = text.split_whitespace();
         let Some(name) = next_word(&mut words) else {
             return Err(Error::parse(String::from_str(alloc, "empty dependency string")));
@@ -135,6 +142,14 @@ impl EncodableDependency {
             source: Some(EncodableSourceId::without_url_encoded(source)),
         })
     }
+}
+
+// Whether a text is a word of ASCII, which is told from its bytes alone. Most references are the name
+// of a package, which is one.
+fn is_one_word(text: &str) -> bool
+    ensures { result ≡ true → text_words text.now ≡ text.now ∷ [] }
+{
+    !text.is_empty() && text.as_bytes().iter().all(|byte| byte.is_ascii_graphic())
 }
 
 // The next word of a text.

@@ -17,7 +17,7 @@ use crate::error::{Error, Result};
 use crate::lockfile::Lockfile;
 use crate::lockfile::encoding::lockfile_of;
 use crate::lockfile::long_texts::members_have_long_text;
-use cargo_lock_encoding::{encoded_at, encoded_from_words};
+use cargo_lock_encoding::{ResolvedWords, encoded_at, encoded_from_words, resolved_words};
 use cargo_lock_lines::scan::words_of;
 use cargo_lock_lines::words::LockfileWords;
 use cargo_lock_parts::error::SHORT_LENGTH;
@@ -109,9 +109,38 @@ fn read_text(alloc: Global, text: &str) -> Result<Lockfile>
     }
 }
 
-// Reads the words of a lockfile, which are not used again: they are dropped before the references
-// are resolved, as a table is.
+// Reads the words of a lockfile: where each reference resolves as it is read, without the values of
+// its table, which say else what is refused.
 fn read_words(alloc: Global, words: LockfileWords<'_>) -> Result<Lockfile>
+    ensures { ReadsUrls (λ l. l) result (meaning (words_table words.entry)) }
+{
+    match resolved_words(alloc, &words)? {
+        Some(found) => Ok(lockfile_of_words(found)),
+        None => read_values(alloc, words),
+    }
+}
+
+fn lockfile_of_words(found: ResolvedWords) -> Lockfile
+    ensures { result ≡ found }
+{
+    let ResolvedWords {
+        version,
+        packages,
+        metadata,
+        patch,
+    } = found;
+    Lockfile {
+        version,
+        packages,
+        root: None,
+        metadata,
+        patch,
+    }
+}
+
+// Reads the values of words that are not used again: the words are dropped before the references
+// are resolved, as a table is.
+fn read_values(alloc: Global, words: LockfileWords<'_>) -> Result<Lockfile>
     ensures { ReadsUrls (λ l. l) result (meaning (words_table words.entry)) }
 {
     let values = encoded_from_words(alloc, &words)?;
