@@ -10,3 +10,4 @@ pub mod TableMetadata
 pub mod TextPuts
 pub mod WordTables
 pub mod WordsMeant
+pub mod EachWith

@@ -6,7 +6,7 @@ ghost use Rattle.std.specs.Prelude.{slice_index, slice_get, true, false, ◌&&�
 ghost use Rattle.std.specs.Prelude.{nat_lt, take};
 ghost use Rattle.std.specs.Ordering.{is_eq, is_lt};
 ghost use Rattle.std.specs.List.{AllWithin, filter};
-ghost use Rattle.std.specs.List.Sorted.{IsNonDecreasingBy, IsSorted};
+ghost use Rattle.std.specs.List.Sorted.{IsNonDecreasingBy, IsSorted, IsStable};
 ghost use Rattle.cargo_lock_parts.specs.PartialIdentity.{PartialIdentity};
 ghost use Rattle.cargo_lock_index.specs.Alike.{AreAllAlike, alike_cmp, url_cmp, without_source};
 ghost use Rattle.cargo_lock_index.specs.Near as spec;
@@ -234,6 +234,21 @@ fn last_of(entries: &[Entry<'_>]) -> Option<usize>
     Some(entry.place)
 }
 
+// The entries in the order of their keys, those of one key as they stand. What is in that order, as
+// the packages that Cargo wrote are, is not sorted again.
+#[tactic(auto, using(crate::proofs::Near::sorted_from))]
+fn in_order(entries: Vec<Entry<'_>>) -> Result<Vec<Entry<'_>>, AllocError>
+    ensures sorted { IfOk result (λ v. IsSorted entry_cmp v.items) }
+    ensures stable { IfOk result (λ v. IsStable entry_cmp entries.entry.items v.items) }
+{
+    if entries.is_sorted() {
+        return Ok(entries);
+    }
+    let mut entries = entries;
+    entries.sort()?;
+    Ok(entries)
+}
+
 /// The keys of a list so far, in the list's order.
 #[derive(Drop)]
 pub struct Keys<'a> {
@@ -275,10 +290,8 @@ impl<'a> Keys<'a> {
     pub fn into_places(self) -> Result<Places<'a>, AllocError>
         ensures { IfOk result (λ places. IsIndexOf self.entry places) }
     {
-        let Keys { mut entries } = self;
-        if !entries.is_sorted() {
-            entries.sort()?;
-        }
+        let Keys { entries } = self;
+        let entries = in_order(entries)?;
         Ok(Places { entries })
     }
 }
