@@ -2,7 +2,8 @@
 
 ghost use Rattle.std.specs.Prelude.{◌≡◌, ◌≤◌, ◌+◌, ◌∷◌, [], IfOk, IfSome, IsOkUnless, MatchOption};
 ghost use Rattle.std.specs.Prelude.{length, count_by, map, option_copied, option_map, true};
-ghost use Rattle.std.specs.List.{find};
+ghost use Rattle.std.specs.Char.{is_ascii_graphic};
+ghost use Rattle.std.specs.List.{find, list_all};
 ghost use Rattle.std.specs.Option.{option_cmp};
 ghost use Rattle.std.specs.Str.Iter.{split_whitespace_rest};
 ghost use Rattle.semver.specs.Identifiers.{parts_of};
@@ -144,12 +145,19 @@ impl EncodableDependency {
     }
 }
 
-// Whether a text is a word of ASCII, which is told from its bytes alone. Most references are the name
+// Whether a text is a word of visible ASCII, which its bytes alone tell. Most references are the name
 // of a package, which is one.
+#[tactic(auto, using(crate::proofs::WordLemmas::word_of_graphic))]
 fn is_one_word(text: &str) -> bool
     ensures { result ≡ true → text_words text.now ≡ text.now ∷ [] }
 {
-    !text.is_empty() && text.as_bytes().iter().all(|byte| byte.is_ascii_graphic())
+    !text.is_empty() && are_graphic(text)
+}
+
+fn are_graphic(text: &str) -> bool
+    ensures { result ≡ list_all is_ascii_graphic text.now }
+{
+    text.as_bytes().iter().all(|byte| byte.is_ascii_graphic())
 }
 
 // The next word of a text.
