@@ -56,9 +56,14 @@ pub fn into_dependency<T: Identified>(
 ) -> std::result::Result<Option<Dependency>, AllocError>
     ensures { IfOk result (λ found. found ≡ resolution_of reference (map T.identity list.now)) }
 {
-    match list.first_fit(&reference.by_ref()) {
-        Some(item) if reference.source.is_none() => Ok(Some(named(reference.name, item)?)),
-        first => dependency_by_first(&reference.by_ref(), first),
+    let borrowed = reference.by_ref();
+    let first = list.first_fit(&borrowed);
+    if borrowed.source.is_some() {
+        return dependency_by_first(&borrowed, first);
+    }
+    match first {
+        Some(item) => Ok(Some(named(reference.name, item)?)),
+        None => own_dependency(&borrowed),
     }
 }
 
