@@ -1,10 +1,10 @@
 pub mod Lockfiles
 pub mod TableReading
 pub mod WordsReading
-pub mod ResolvedWords
 pub mod Means
 pub mod TableMetadata
 pub mod Meaning
+pub mod ResolvedWords
 pub mod Table
 pub mod Escaping
 pub mod Text

@@ -1,13 +1,15 @@
 -- What the words of a lockfile mean where each reference is resolved as it is read. No public
 -- contract cites these definitions.
 use Rattle.std.specs.Prelude.{ℕ, List, [], ◌∷◌, Option, Some, None, map}
-use Rattle.cargo_lock_lines.specs.TableOfWords.{LinedPackage}
+use Rattle.cargo_lock_lines.specs.TableOfWords.{LinedLockfile, LinedPackage}
 use Rattle.cargo_lock_parts.specs.Checksum.{digest_in}
 use Rattle.cargo_lock_parts.specs.Identity.{Identity, PackageData, identity_of}
 use Rattle.cargo_lock_references.specs.Optional.{◌>>=◌, map_all, map_some}
 use Rattle.cargo_lock_references.specs.Reference.{reference_of}
 use Rattle.cargo_lock_references.specs.ResolutionSearch.{resolution_of}
-use Rattle.cargo_lock_encoding.specs.WordsReading.{identity_from}
+use Rattle.cargo_lock_encoding.specs.Lockfiles.{LockfileData}
+use Rattle.cargo_lock_encoding.specs.Meaning.{lockfile_of}
+use Rattle.cargo_lock_encoding.specs.WordsReading.{identity_from, values_from}
 
 -- what a word resolves to among these identities
 unfoldable pub resolved_word : List Identity → List ℕ → Option Identity
@@ -55,3 +57,7 @@ resolved_packages words = do
   bare ← map_all bare_package words
   lists ← map_all (resolved_words (map identity_of bare)) words
   Some (each_with lists bare)
+
+-- the lockfile that the values of words mean
+abbrev pub meant_by : LinedLockfile → Option LockfileData
+meant_by l = values_from l >>= lockfile_of

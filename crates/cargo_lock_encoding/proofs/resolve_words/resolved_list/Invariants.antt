@@ -3,7 +3,7 @@ use Rattle.cargo_lock_parts.specs.Identity.{identity_of}
 use Rattle.cargo_lock_references.specs.Optional.{map_all}
 use Rattle.cargo_lock_references.proofs.Walk.{after}
 use Rattle.cargo_lock_encoding.specs.ResolvedWords.{resolved_word}
-use Rattle.cargo_lock_encoding.proofs.resolved_words.resolved_list.Given as goal
+use Rattle.cargo_lock_encoding.proofs.resolve_words.resolved_list.Given as goal
 
 abbrev pub invariant-loop-word : goal.invariant-loop-word
 invariant-loop-word l =

@@ -5,12 +5,11 @@ ghost use Rattle.std.specs.Prelude.{◌≡◌, [], Some, IfOk, IfSome, IsOkUnles
 ghost use Rattle.cargo_lock_lines.specs.TableOfWords.{words_table};
 ghost use Rattle.cargo_lock_parts.specs.declared.error.Error.TheVariants.{Memory};
 ghost use Rattle.cargo_lock_parts.specs.Identity.{identity_of};
-ghost use Rattle.cargo_lock_references.specs.Optional.{◌>>=◌, map_all, map_some};
-ghost use Rattle.cargo_lock_encoding.specs.Meaning.{lockfile_of, meaning};
-ghost use Rattle.cargo_lock_encoding.specs.ResolvedWords.{bare_package, each_with};
+ghost use Rattle.cargo_lock_references.specs.Optional.{map_all, map_some};
+ghost use Rattle.cargo_lock_encoding.specs.Meaning.{meaning};
+ghost use Rattle.cargo_lock_encoding.specs.ResolvedWords.{bare_package, each_with, meant_by};
 ghost use Rattle.cargo_lock_encoding.specs.ResolvedWords.{resolved_packages, resolved_word};
 ghost use Rattle.cargo_lock_encoding.specs.ResolvedWords.{resolved_words};
-ghost use Rattle.cargo_lock_encoding.specs.WordsReading.{values_from};
 
 use crate::read_table::reference_of;
 use crate::read_words::{checksum_from, identity_from, metadata_from, patch_from};
@@ -80,8 +79,7 @@ pub fn resolved_words(alloc: Global, words: &LockfileWords<'_>) -> Result<Option
 
 // What the words mean. Any error but `Memory` says nothing of them, as `None` does.
 fn found_in(alloc: Global, words: &LockfileWords<'_>) -> Result<Option<ResolvedWords>>
-    ensures { IfOk result (λ found. IfSome found
-        (λ l. (values_from words.now >>= lockfile_of) ≡ Some l)) }
+    ensures { IfOk result (λ found. IfSome found (λ l. meant_by words.now ≡ Some l)) }
 {
     if words.number.is_none() && !words.metadata.is_empty() {
         return Ok(None);
