@@ -21,10 +21,11 @@ use Rattle.cargo_lock_references.specs.Records.{EncodedPackage, unmarked_source,
 use Rattle.cargo_lock_references.specs.ResolutionSearch.{resolution_of}
 use Rattle.cargo_lock_references.specs.ReadBack.{DigestReadsBack, ReferenceSurvives, SourceSurvives, SourceTextReadsBack}
 use Rattle.cargo_lock_encoding.specs.Survives.{PackageSurvives}
-use Rattle.cargo_lock_encoding.specs.Table.{checksum_value, package_table, encoded_package_with, reference_value, present_members, source_value, unless_empty}
+use Rattle.cargo_lock_encoding.specs.Table.{checksum_value, package_table, encoded_package_with, reference_value, source_value}
+use Rattle.cargo_lock_lines.specs.TableOfWords.{present_members, unless_empty}
 use Rattle.cargo_lock_encoding.specs.TableReading.{checksum_from, identity_at, package_at_key, reference_in, optional_by, optional_list, read_all, required_text, source_in}
 use Rattle.cargo_lock_references.specs.Reference.{version_of}
-use Rattle.cargo_lock_encoding.proofs.MeansLemmas.{bind-parts, map-parts}
+use Rattle.cargo_lock_encoding.proofs.MeansLemmas.{bare-mark_plain, bind-parts, map-parts}
 use Rattle.cargo_lock.proofs.ResolutionKeys.{IsOf, in_full-of, reference-survives, reference-reads}
 
 pub cons-parts : {A : Type 0} (x y : A) (xs ys : List A) → x ∷ xs ≡ y ∷ ys → (x ≡ y) × (xs ≡ ys)
@@ -253,10 +254,6 @@ package-parts list checksum e q h =
       dependencies = a.1 ∙ ap (λ (x : PackageData). Some x.dependencies) made;
       replace = b.1 ∙ ap (λ (x : PackageData). Some x.replace) made;
     }
-
-bare-mark_plain : (s : Option Source) → unmarked_source (option_map mark_plain s) ≡ s
-bare-mark_plain None = refl
-bare-mark_plain (Some s) = refl
 
 -- an entry that was read, and means an equal package, is that of a package that survives
 pub package-survives : (format : ResolveVersion) (checksum : Option (List ℕ)) (choose : Identity → Reference) (list other : List Identity) (sum : Option (List ℕ)) (p q : PackageData) (e : EncodedPackage)

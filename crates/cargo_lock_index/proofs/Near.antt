@@ -1,8 +1,8 @@
 -- What is found in entries in order, and that it is what the list has.
-use Rattle.std.proofs.Common.{◌≡◌, inl, inr, ◌<◌, ◌≤◌, ◌+◌, ℕ, List, [], ◌∷◌, ◌++◌, suc, zero, Option, Some, None, Bool, true, false, ◌&&◌, not, cond, if◌then◌else◌, map, take, drop, get_or, length, slice_get, nat_eq, refl, ap, ◌∙◌, sym, arith}
-use Rattle.std.specs.List.{AllWithin, All, filter, count_by}
+use Rattle.std.proofs.Common.{◌≡◌, inl, inr, ◌<◌, ◌≤◌, ◌+◌, ℕ, List, [], ◌∷◌, ◌++◌, suc, zero, Option, Some, None, Bool, true, false, ◌&&◌, not, cond, if◌then◌else◌, map, take, drop, get_or, length, slice_get, slice_index_or, nat_eq, refl, ap, ◌∙◌, sym, arith}
+use Rattle.std.specs.List.{AllAdjacentBelow, AllWithin, All, filter, count_by}
 use Rattle.std.specs.List.Sorted.{IsPartitionedBy, IsSorted, IsStable, ties}
-use Rattle.std.specs.Ordering.{is_lt, is_eq, nat_cmp, ordering_reverse, ordering_then}
+use Rattle.std.specs.Ordering.{as_partial_cmp, is_le, is_lt, is_eq, nat_cmp, ordering_reverse, ordering_then, partial_le}
 use Rattle.std.specs.declared.cmp.Ordering.{Ordering}
 use Rattle.std.specs.declared.cmp.Ordering.TheVariants.{Less, Equal, Greater}
 use Rattle.std.specs.Cmp.{IsStrictWeakOrder, Equal-is, nat_cmp_total, tied_itself}
@@ -169,6 +169,18 @@ tie-is : (r s : Ordering) → s ≡ ordering_reverse r → (not (is_lt r) && not
 tie-is Less s e = refl
 tie-is Equal s e = ap (λ o. not (is_lt o)) e
 tie-is Greater s e = ap (λ o. not (is_lt o)) e
+
+not-above : (r s : Ordering) → s ≡ ordering_reverse r → is_le r ≡ true → is_lt s ≡ false
+not-above Less s e h = ap is_lt e
+not-above Equal s e h = ap is_lt e
+not-above Greater s e h = absurd (false≢true h)
+
+-- entries none of which is above the next one are sorted
+pub sorted_from : (es : List Placed) → AllAdjacentBelow (λ x y. partial_le (as_partial_cmp entry_cmp) x y ≡ true) es (length es) → IsSorted entry_cmp es
+sorted_from es h k d low high =
+    let a : Placed = slice_index_or es k d in
+    let b : Placed = slice_index_or es (k + 1) d in
+    not-above (entry_cmp a b) (entry_cmp b a) (entry_total.antisymm b a) (h k d high)
 
 pub index-of : (keys : List PartialIdentity) (es fs : List Placed) → es ≡ placed_from 0 keys → IsStable entry_cmp es fs → IsIndexOf keys fs
 index-of keys es fs is stable key =

@@ -6,7 +6,7 @@ ghost use Rattle.std.specs.Prelude.{slice_index, slice_get, true, false, ◌&&�
 ghost use Rattle.std.specs.Prelude.{nat_lt, take};
 ghost use Rattle.std.specs.Ordering.{is_eq, is_lt};
 ghost use Rattle.std.specs.List.{AllWithin, filter};
-ghost use Rattle.std.specs.List.Sorted.{IsNonDecreasingBy, IsSorted};
+ghost use Rattle.std.specs.List.Sorted.{IsNonDecreasingBy, IsSorted, IsStable};
 ghost use Rattle.cargo_lock_parts.specs.PartialIdentity.{PartialIdentity};
 ghost use Rattle.cargo_lock_index.specs.Alike.{AreAllAlike, alike_cmp, url_cmp, without_source};
 ghost use Rattle.cargo_lock_index.specs.Near as spec;
@@ -108,7 +108,7 @@ impl<'a> Entry<'a> {
     }
 
     // Compares the names, the versions and the URLs of the sources.
-    fn cmp_alike(&self, other: &Entry<'a>) -> Ordering
+    fn cmp_alike(&self, other: &Entry<'_>) -> Ordering
         ensures { result ≡ alike_cmp self.now.key other.now.key }
     {
         let order = match self.beginning.cmp(&other.beginning) {
@@ -118,18 +118,29 @@ impl<'a> Entry<'a> {
         order.then(cmp_urls(self.key.source, other.key.source))
     }
 
+    // Compares the keys.
+    fn cmp_key(&self, other: &Entry<'_>) -> Ordering
+        ensures { result ≡ entry_cmp self.now other.now }
+    {
+        match self.beginning.cmp(&other.beginning) {
+            Ordering::Less => Ordering::Less,
+            Ordering::Equal => self.key.cmp(&other.key),
+            Ordering::Greater => Ordering::Greater,
+        }
+    }
+
     // Whether the entry is before another one.
-    fn is_before(&self, other: &Entry<'a>) -> bool
+    fn is_before(&self, other: &Entry<'_>) -> bool
         ensures { result ≡ is_lt (entry_cmp self.now other.now) }
     {
-        self.cmp(other) == Ordering::Less
+        self.cmp_key(other) == Ordering::Less
     }
 
     // Whether the entry has the key of another.
-    fn is_like(&self, other: &Entry<'a>) -> bool
+    fn is_like(&self, other: &Entry<'_>) -> bool
         ensures { result ≡ spec.is_same_entry self.now other.now }
     {
-        self.cmp(other) == Ordering::Equal
+        self.cmp_key(other) == Ordering::Equal
     }
 }
 
@@ -180,16 +191,12 @@ impl<'a> Ord for Entry<'a> {
     ghost matches_eq = { λ a b. refl };
 
     fn cmp(&self, other: &Entry<'a>) -> Ordering {
-        match self.beginning.cmp(&other.beginning) {
-            Ordering::Less => Ordering::Less,
-            Ordering::Equal => self.key.cmp(&other.key),
-            Ordering::Greater => Ordering::Greater,
-        }
+        self.cmp_key(other)
     }
 }
 
 // The entries whose keys have the name, the version and the URL of another entry's key.
-fn alike_among<'e, 'a>(entries: &'e [Entry<'a>], sought: &Entry<'a>) -> &'e [Entry<'a>]
+fn alike_among<'e, 'a>(entries: &'e [Entry<'a>], sought: &Entry<'_>) -> &'e [Entry<'a>]
     requires { IsSorted entry_cmp entries.now }
     ensures { result.now ≡ filter (λ e. is_eq (alike_cmp e.key sought.now.key)) entries.now }
 {
@@ -200,13 +207,13 @@ fn alike_among<'e, 'a>(entries: &'e [Entry<'a>], sought: &Entry<'a>) -> &'e [Ent
 }
 
 // The entries of another entry's key.
-fn same_among<'e, 'a>(entries: &'e [Entry<'a>], sought: &Entry<'a>) -> &'e [Entry<'a>]
+fn same_among<'e, 'a>(entries: &'e [Entry<'a>], sought: &Entry<'_>) -> &'e [Entry<'a>]
     requires { IsSorted entry_cmp entries.now }
     ensures { result.now ≡ filter (has_key sought.now.key) entries.now }
 {
-    let start = entries.partition_point(|entry| entry.cmp(sought).is_lt());
+    let start = entries.partition_point(|entry| entry.cmp_key(sought).is_lt());
     let onward = &entries[start..];
-    let count = onward.partition_point(|entry| entry.cmp(sought).is_eq());
+    let count = onward.partition_point(|entry| entry.cmp_key(sought).is_eq());
     &onward[..count]
 }
 
@@ -225,6 +232,21 @@ fn last_of(entries: &[Entry<'_>]) -> Option<usize>
 {
     let entry = entries.last()?;
     Some(entry.place)
+}
+
+// The entries in the order of their keys, those of one key as they stand. What is in that order, as
+// the packages that Cargo wrote are, is not sorted again.
+#[tactic(auto, using(crate::proofs::Near::sorted_from))]
+fn in_order(entries: Vec<Entry<'_>>) -> Result<Vec<Entry<'_>>, AllocError>
+    ensures sorted { IfOk result (λ v. IsSorted entry_cmp v.items) }
+    ensures stable { IfOk result (λ v. IsStable entry_cmp entries.entry.items v.items) }
+{
+    if entries.is_sorted() {
+        return Ok(entries);
+    }
+    let mut entries = entries;
+    entries.sort()?;
+    Ok(entries)
 }
 
 /// The keys of a list so far, in the list's order.
@@ -268,8 +290,8 @@ impl<'a> Keys<'a> {
     pub fn into_places(self) -> Result<Places<'a>, AllocError>
         ensures { IfOk result (λ places. IsIndexOf self.entry places) }
     {
-        let Keys { mut entries } = self;
-        entries.sort()?;
+        let Keys { entries } = self;
+        let entries = in_order(entries)?;
         Ok(Places { entries })
     }
 }
@@ -303,7 +325,7 @@ impl<'a> Places<'a> {
     }
 
     // How many entries are before those of a key.
-    fn start(&self, sought: &Entry<'a>) -> usize
+    fn start(&self, sought: &Entry<'_>) -> usize
         ensures within { result ≤ length self.now }
         ensures before { AllWithin (λ e. is_lt (entry_cmp e sought.now) ≡ true) self.now 0 result }
         ensures after { AllWithin (λ e. is_lt (entry_cmp e sought.now) ≡ false)
@@ -314,7 +336,7 @@ impl<'a> Places<'a> {
     }
 
     // How many entries are before those of all greater keys.
-    fn end(&self, sought: &Entry<'a>) -> usize
+    fn end(&self, sought: &Entry<'_>) -> usize
         ensures within { result ≤ length self.now }
         ensures before { AllWithin (λ e. is_lt (entry_cmp sought.now e) ≡ false) self.now 0 result }
         ensures after { AllWithin (λ e. is_lt (entry_cmp sought.now e) ≡ true)
@@ -325,7 +347,7 @@ impl<'a> Places<'a> {
     }
 
     // The place of the entry at a position of the order, if there is one and it has the key.
-    fn found_at(&self, at: usize, sought: &Entry<'a>) -> Option<usize>
+    fn found_at(&self, at: usize, sought: &Entry<'_>) -> Option<usize>
         ensures { result ≡ place_if (spec.is_same_entry sought.now) (slice_get self.now at) }
     {
         match self.entries.get(at) {
@@ -335,7 +357,7 @@ impl<'a> Places<'a> {
     }
 
     // Whether there is an entry at a position of the order, and it has the key.
-    fn is_at(&self, at: usize, sought: &Entry<'a>) -> bool
+    fn is_at(&self, at: usize, sought: &Entry<'_>) -> bool
         ensures { result ≡ passes (spec.is_same_entry sought.now) (slice_get self.now at) }
     {
         match self.entries.get(at) {
@@ -345,7 +367,7 @@ impl<'a> Places<'a> {
     }
 
     /// The first place of a key in the list.
-    pub fn first(&self, key: PartialIdentity<'a>) -> Option<usize>
+    pub fn first(&self, key: PartialIdentity<'_>) -> Option<usize>
         ensures { (keys : List PartialIdentity) → IsIndexOf keys self.now
             → result ≡ spec.first_place key.entry keys }
     {
@@ -356,7 +378,7 @@ impl<'a> Places<'a> {
     }
 
     /// The last place of a key in the list.
-    pub fn last(&self, key: PartialIdentity<'a>) -> Option<usize>
+    pub fn last(&self, key: PartialIdentity<'_>) -> Option<usize>
         ensures { (keys : List PartialIdentity) → IsIndexOf keys self.now
             → result ≡ spec.last_place key.entry keys }
     {
@@ -367,7 +389,7 @@ impl<'a> Places<'a> {
     }
 
     /// The last place of a key before a place of the list.
-    pub fn before(&self, key: PartialIdentity<'a>, place: usize) -> Option<usize>
+    pub fn before(&self, key: PartialIdentity<'_>, place: usize) -> Option<usize>
         ensures { (keys : List PartialIdentity) → IsIndexOf keys self.now
             → result ≡ spec.last_place key.entry (take place keys) }
     {
@@ -376,7 +398,7 @@ impl<'a> Places<'a> {
 
     /// The entries of the keys with the name, the version and the URL of this key, whatever else
     /// their sources have. The entries are neighbours, so no other is visited.
-    pub fn alike(&self, key: PartialIdentity<'a>) -> &[Entry<'a>]
+    pub fn alike(&self, key: PartialIdentity<'_>) -> &[Entry<'a>]
         ensures { (keys : List PartialIdentity) → IsIndexOf keys self.now
             → AreAllAlike key.entry keys result.now }
     {
@@ -384,7 +406,7 @@ impl<'a> Places<'a> {
     }
 
     // The place of the entry before a position of the order, if there is one and it has the key.
-    fn found_before(&self, end: usize, sought: &Entry<'a>) -> Option<usize>
+    fn found_before(&self, end: usize, sought: &Entry<'_>) -> Option<usize>
         ensures { result ≡ place_before (spec.is_same_entry sought.now) self.now end }
     {
         match end.checked_sub(1) {
@@ -394,7 +416,7 @@ impl<'a> Places<'a> {
     }
 
     /// Whether the list has a key exactly once.
-    pub fn is_only(&self, key: PartialIdentity<'a>) -> bool
+    pub fn is_only(&self, key: PartialIdentity<'_>) -> bool
         ensures { (keys : List PartialIdentity) → IsIndexOf keys self.now
             → result ≡ spec.is_only key.entry keys }
     {
@@ -405,7 +427,7 @@ impl<'a> Places<'a> {
     }
 
     // Whether the entry at a position of the order has the key, and the next one does not.
-    fn is_one_at(&self, at: usize, sought: &Entry<'a>) -> bool
+    fn is_one_at(&self, at: usize, sought: &Entry<'_>) -> bool
         requires { at ≤ length self.now }
         ensures { result ≡ (passes (spec.is_same_entry sought.now) (slice_get self.now at)
             && not (passes (spec.is_same_entry sought.now) (slice_get self.now (at + 1)))) }

@@ -32,7 +32,7 @@ use Rattle.cargo_lock_merge.specs.declared.metadata.MetadataConflict.{MetadataCo
 use Rattle.cargo_lock_merge.specs.declared.metadata.MetadataMerge.{MetadataMerge}
 use Rattle.cargo_lock_merging.proofs.Agreeing.{agreed-apart}
 use Rattle.cargo_lock_merging.specs.Rule3.{IsAgreed}
-use Rattle.cargo_lock_parts.specs.Error.{RefusesUrls}
+use Rattle.cargo_lock_parts.specs.Error.{IsLong, RefusesUrls}
 use Rattle.cargo_lock_parts.specs.Identity.{PackageData, identity_key, package_key}
 use Rattle.cargo_lock_parts.specs.IdentityLaws.{is_same_identity-Decides, is_same_package-Decides}
 use Rattle.cargo_lock_parts.specs.IdentityOrder.{is_same_identity, is_same_package}
@@ -135,9 +135,9 @@ read-decides l x text b means d = (λ h. (x, means, d.0 h), from)
     from (y, other, same) = d.1 (subst (λ (z : LockfileData). IsSameLockfile (with_cargo_checksums_in z) l) (text-means-one text y x other means) same)
 
 -- a text that is refused, but not for a long URL, means no lockfile
-pub unread : (l : LockfileData) (text : List ℕ) (e : Error) → RefusesUrls e ((x : LockfileData) → ¬ TextMeans text x) → IsUnread e → ¬ TextIsOf l text
+pub unread : (l : LockfileData) (text : List ℕ) (e : Error) → RefusesUrls (IsLong text) e ((x : LockfileData) → ¬ TextMeans text x) → IsUnread e → ¬ TextIsOf l text
 unread l text (Parse message) (inl none) n (x, means, same) = none x means
-unread l text (Parse message) (inr long) n h = n long
+unread l text (Parse message) (inr long) n h = n long.0
 unread l text (Io kind) r n h = n
 unread l text (Version fault) r n h = n
 unread l text (Resolution message) r n h = n

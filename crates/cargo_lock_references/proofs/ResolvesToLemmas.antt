@@ -1,5 +1,5 @@
 -- What a form says, by places and by a search, is the same.
-use Rattle.std.proofs.Common.{◌≡◌, ◌<◌, inl, inr, ℕ, zero, suc, Bool, true, false, List, [], ◌∷◌, map, slice_get, Option, Some, None, IfSome, is_some, option_map, Result, Ok, Err, refl, sym, ap, ◌∙◌, arith}
+use Rattle.std.proofs.Common.{◌≡◌, ◌<◌, inl, inr, ℕ, zero, suc, Bool, true, false, List, [], ◌∷◌, map, slice_get, Option, Some, None, IfSome, is_some, option_map, Result, Ok, Err, refl, subst, sym, ap, ◌∙◌, arith}
 use Rattle.std.specs.List.{find}
 use Rattle.std.specs.Bool.{Decides}
 use Rattle.std.proofs.lemmas.Bool.{cases_Bool, false≢true, and_parts}
@@ -159,6 +159,18 @@ resolution_of-found identity f xs x none found = rw (none, find-map (fits f) ide
 
 pub resolution_of-unfound : {X : Type 0} (identity : X → Identity) (f : Reference) (xs : List X) → f.source ≡ None → find (λ y. fits f (identity y)) xs ≡ None → resolution_of f (map identity xs) ≡ own_words f
 resolution_of-unfound identity f xs none unfound = rw (none, find-map (fits f) identity xs, unfound)
+
+-- what is found has the name
+pub found-name : {X : Type 0} (identity : X → Identity) (f : Reference) (xs : List X) (x : X) → find (λ y. fits f (identity y)) xs ≡ Some x → f.name ≡ (identity x).name
+found-name identity f xs x found =
+    let w = find-found (λ y. fits f (identity y)) xs x found in
+    sym ((fits-yes f (identity x) w.2).0)
+
+-- what is found for an equal reference
+pub into-found : {X : Type 0} (identity : X → Identity) (r f : Reference) (xs : List X) (x : X) → r ≡ f → f.source ≡ None → find (λ y. fits r (identity y)) xs ≡ Some x → (resolution_of f (map identity xs) ≡ Some (identity x)) × (f.name ≡ (identity x).name)
+into-found identity r f xs x e none found =
+    let h = subst (λ q. find (λ y. fits q (identity y)) xs ≡ Some x) e found in
+    (resolution_of-found identity f xs x none h, found-name identity f xs x h)
 
 pub no_source : (s : Option MarkedSource) → is_some s ≡ false → s ≡ None
 no_source None h = refl

@@ -2,16 +2,18 @@
 use Rattle.std.proofs.Common.{◌≡◌, ℕ, ◌<◌, Bool, true, false, not, List, [], ◌∷◌, ◌++◌, map, length, refl, sym, subst, ◌∙◌, ap, arith, true≢false, IsUtf8, chars, encode_utf8_all, append-nil}
 use Rattle.std.specs.Char.{encode_utf8}
 use Rattle.std.specs.Prelude.{All, filter}
-use Rattle.std.specs.Char.{is_whitespace, is_not_whitespace}
+use Rattle.std.specs.Char.{is_ascii_graphic, is_whitespace, is_not_whitespace}
+use Rattle.std.specs.List.{list_all}
 use Rattle.std.specs.Str.{NonePass, NoCharPasses, EmptyOrStartsWithPassing}
 use Rattle.std.proofs.Math.Utf8.{scalar, scalars}
-use Rattle.std.proofs.lemmas.Str.{chars-append, chars-encodes, encodes_same, encodes-chars, IsUtf8-encode, chars-nil, is_utf8-from_IsUtf8}
+use Rattle.std.proofs.lemmas.Str.{chars-append, encode_ascii, chars-encodes, encodes_same, encodes-chars, IsUtf8-encode, chars-nil, is_utf8-from_IsUtf8}
 use Rattle.std.proofs.lemmas.List.Elements.{All-cons, All-nil}
 use Rattle.std.proofs.lemmas.List.Splits.{slice_split_none, slice_split_at, slice_split-cons_yes}
+use Rattle.std.proofs.lemmas.Bool.{and_parts}
 use Rattle.std.proofs.lemmas.Bool.Decides.{nat_tests}
 use Rattle.std.specs.Prelude.{Result}
 use Rattle.cargo_lock_parts.specs.declared.error.Error.{Error}
-use Rattle.cargo_lock_references.specs.Reference.{Reference, ReadsReference, ReadsReferenceExactly, reference_of_words, reference_or_refusal}
+use Rattle.cargo_lock_references.specs.Reference.{Reference, ReadsReference, reference_of_words, reference_or_refusal}
 use Rattle.cargo_lock_references.specs.Words.{words, text_words, words_of_chars, is_nonempty}
 
 white_from_not : (b : Bool) → not b ≡ false → b ≡ true
@@ -100,13 +102,37 @@ unfolding words
 words-text t u = rw (is_utf8-from_IsUtf8 t u)
 
 -- what the words of a text read as, the text reads as
-pub ReadsReference-text : (t : List ℕ) (r : Result Reference Error) → IsUtf8 t → ReadsReference r (reference_of_words (text_words t))
-    → ReadsReference r (reference_or_refusal t)
+pub ReadsReference-text : (L : Type 0) (t : List ℕ) (r : Result Reference Error) → IsUtf8 t → ReadsReference L r (reference_of_words (text_words t))
+    → ReadsReference L r (reference_or_refusal t)
 unfolding reference_or_refusal
-ReadsReference-text t r u h = subst (λ ws. ReadsReference r (reference_of_words ws)) (sym (words-text t u)) h
+ReadsReference-text L t r u h = subst (λ ws. ReadsReference L r (reference_of_words ws)) (sym (words-text t u)) h
 
-pub ReadsReferenceExactly-text : (t : List ℕ) (r : Result Reference Error) → IsUtf8 t
-    → ReadsReferenceExactly r (reference_of_words (text_words t)) → ReadsReferenceExactly r (reference_or_refusal t)
-unfolding reference_or_refusal
-ReadsReferenceExactly-text t r u h =
-    subst (λ ws. ReadsReferenceExactly r (reference_of_words ws)) (sym (words-text t u)) h
+-- ---- visible ASCII
+
+graphic-scalar : (c : ℕ) → is_ascii_graphic c ≡ true → scalar c ≡ true
+graphic-scalar c h = grind (arith, nat_tests)
+
+graphic-dark : (c : ℕ) → is_ascii_graphic c ≡ true → is_whitespace c ≡ false
+graphic-dark c h = grind (arith, nat_tests)
+
+graphic-low : (c : ℕ) → is_ascii_graphic c ≡ true → c < 128
+graphic-low c h = grind (arith, nat_tests)
+
+graphic-scalars : (cs : List ℕ) → list_all is_ascii_graphic cs ≡ true → scalars cs ≡ true
+graphic-scalars [] h = refl
+graphic-scalars (c ∷ cs) h = let (a, b) = and_parts _ _ h in rw (graphic-scalar c a, graphic-scalars cs b) refl
+
+graphic-none : (cs : List ℕ) → list_all is_ascii_graphic cs ≡ true → NonePass is_whitespace cs
+graphic-none [] h = tt
+graphic-none (c ∷ cs) h = let (a, b) = and_parts _ _ h in (graphic-dark c a, graphic-none cs b)
+
+graphic-encodes : (cs : List ℕ) → list_all is_ascii_graphic cs ≡ true → encode_utf8_all cs ≡ cs
+graphic-encodes [] h = refl
+graphic-encodes (c ∷ cs) h = let (a, b) = and_parts _ _ h in rw (encode_ascii c (graphic-low c a), graphic-encodes cs b) refl
+
+-- a text of visible ASCII is one word
+pub word_of_graphic : (t : List ℕ) → 0 < length t → list_all is_ascii_graphic t ≡ true → text_words t ≡ t ∷ []
+word_of_graphic t long h =
+    let encoded = graphic-encodes t h in
+    words-step t [] t [] [] (sym (append-nil t)) long (t, (graphic-scalars t h, encoded)) ([], refl, tt) (t, encoded, graphic-none t h) (λ some. absurd (omega (arith, some)))
+    ∙ ap (λ rest. t ∷ rest) (words-none [] ([], refl, tt))

@@ -87,14 +87,14 @@ impl<'a, T: Identified> Indexed<'a, T> {
     }
 
     /// Whether exactly one item has the name.
-    pub fn is_name_unique(&self, name: &'a Name) -> bool
+    pub fn is_name_unique(&self, name: &Name) -> bool
         ensures { result ≡ exactly_one (has_name name.now) (map T.identity self.now) }
     {
         self.names.is_only(PartialIdentity::name_alone(name))
     }
 
     /// Whether exactly one item has the name and the version.
-    pub fn is_version_unique(&self, name: &'a Name, version: &'a Version) -> bool
+    pub fn is_version_unique(&self, name: &Name, version: &Version) -> bool
         ensures { result
             ≡ exactly_one (has_name_and_version name.now (parts_of version.now))
             (map T.identity self.now) }
@@ -104,14 +104,14 @@ impl<'a, T: Identified> Indexed<'a, T> {
     }
 
     /// The first item that a reference matches.
-    pub fn first_fit(&self, reference: &EncodableDependencyRef<'a>) -> Option<&'a T>
+    pub fn first_fit(&self, reference: &EncodableDependencyRef<'_>) -> Option<&'a T>
         ensures { option_copied result ≡ find (λ x. fits reference.now (T.identity x)) self.now }
     {
         self.item_at(self.first_place(reference.name, reference.version))
     }
 
     // The place of the first item with a name and, if there is one, a version.
-    fn first_place(&self, name: &'a Name, version: Option<&'a Version>) -> Option<usize>
+    fn first_place(&self, name: &Name, version: Option<&Version>) -> Option<usize>
         ensures { spec.item_at self.now result ≡ find
             (λ x. is_of name.now (option_map (λ v. parts_of v.now) version.entry) (T.identity x))
             self.now }

@@ -20,9 +20,9 @@ use std::alloc::{AllocError, Global};
 /// The dependency to which a reference resolves: without a source the first item that it matches;
 /// with a source, or if it matches no item, its own parts. It is `None` if these have no version.
 /// Fails when out of memory.
-pub fn dependency_among<'a, T: Identified>(
-    reference: &EncodableDependencyRef<'a>,
-    list: &Indexed<'a, T>,
+pub fn dependency_among<T: Identified>(
+    reference: &EncodableDependencyRef<'_>,
+    list: &Indexed<'_, T>,
 ) -> std::result::Result<Option<Dependency>, AllocError>
     ensures { IfOk result (λ found. found ≡ resolution_of reference.now (map T.identity list.now)) }
 {
@@ -46,6 +46,36 @@ pub fn dependency_by_first<T: Identified>(
         Some(item) => Ok(Some(identity(item)?)),
         None => own_dependency(reference),
     }
+}
+
+/// The same as `dependency_among`, of a reference that is not used again: where an item matches it,
+/// the dependency has the reference's own copy of the name. Fails when out of memory.
+pub fn into_dependency<T: Identified>(
+    reference: EncodableDependency,
+    list: &Indexed<'_, T>,
+) -> std::result::Result<Option<Dependency>, AllocError>
+    ensures { IfOk result (λ found. found ≡ resolution_of reference (map T.identity list.now)) }
+{
+    let borrowed = reference.by_ref();
+    let first = list.first_fit(&borrowed);
+    if borrowed.source.is_some() {
+        return dependency_by_first(&borrowed, first);
+    }
+    match first {
+        Some(item) => Ok(Some(named(reference.name, item)?)),
+        None => own_dependency(&borrowed),
+    }
+}
+
+// The identity of an item, with this copy of its name.
+fn named<T: Identified>(name: Name, item: &T) -> std::result::Result<Dependency, AllocError>
+    ensures { name ≡ (T.identity item.now).name → IfOk result (λ copy. copy ≡ T.identity item.now) }
+{
+    Ok(Dependency {
+        name,
+        version: item.version().clone()?,
+        source: copy_source(item.source())?,
+    })
 }
 
 /// The reference's own parts as a dependency, if a version is written. Fails when out of memory.
@@ -75,10 +105,10 @@ fn without_mark<'a>(source: &'a Option<SourceIdAsUrl<'_>>) -> Option<&'a SourceI
 
 /// The dependency to which a reference of a table resolves among the packages of the table. `Parse`
 /// means that it resolves to none. The other error is `Memory`.
-pub fn resolve_among<'a>(
+pub fn resolve_among(
     alloc: Global,
-    reference: &'a EncodableDependency,
-    list: &Indexed<'a, EncodablePackage>,
+    reference: &EncodableDependency,
+    list: &Indexed<'_, EncodablePackage>,
 ) -> Result<Dependency>
     ensures { Reads (λ d. d) result (resolution_of reference.now (map encoded_identity list.now)) }
 {
