@@ -17,6 +17,8 @@ COMMANDS = {
     "check": ["check", "-f"],
     "bom": ["bom", "-f"],
 }
+# `list` reads what Cargo wrote by its words. By its table it takes 1.7 times the TOML alone.
+LIST_AT_MOST = 1.4
 
 
 def count(words):
@@ -64,6 +66,17 @@ def measure_all(asked, alone, bench):
                 title = f"V{form}, {bench.NAMES[names][0]}"
                 bench.row([title, f"{size:,}", f"{base:,.0f}", *cells])
     return found
+
+
+def is_by_words(found, bench):
+    """Whether no `list` takes as much as one by the table of TOML. Says which ones do."""
+    kept = True
+    for (names, form, size), (alone, of_list, *_) in found.items():
+        if of_list > LIST_AT_MOST * alone:
+            kept = False
+            print(f"\nV{form}, {bench.NAMES[names][0]}, {size:,} packages: `list` takes over "
+                  f"{LIST_AT_MOST} times the TOML alone")
+    return kept
 
 
 def print_growth(asked, found, bench):

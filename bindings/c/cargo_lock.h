@@ -50,7 +50,7 @@ enum {
     CARGO_LOCK_NO_LOCKFILE = 1,
     /* The bytes are no UTF-8. */
     CARGO_LOCK_NO_TEXT = 2,
-    /* Memory was refused. So is a text of 2^24 bytes or more with a URL of 4 GB or more. */
+    /* Memory was refused. So is a text of 2^28 bytes or more with a URL of 4 GB or more. */
     CARGO_LOCK_NO_MEMORY = 3,
     /* The number of the format is none of 1 to 4. */
     CARGO_LOCK_NO_FORMAT = 4,

@@ -2,7 +2,8 @@
 
        fuzz RUNS SEED FOLDER FILE..
 
-   A text with a fault is kept in the folder. */
+   A text with a fault is kept in the folder. Each FILE in a folder `wrote` is one that Cargo
+   wrote. */
 #define _GNU_SOURCE
 #include "../operations/operations.h"
 #include "mutate.h"
@@ -16,22 +17,25 @@
 
 enum { FORMATS = 4, FAULTS_SHOWN = 20, SECONDS_AT_MOST = 60, SIGNAL_STACK = 1 << 16 };
 
-/* The bits of an answer: a lockfile, of which format, the formats that it survives, its tree, and
-   whether some replacement is in no text. `BROKEN` has the number of a property below it. */
+/* The bits of an answer: a lockfile, of which format, the formats that it survives, its tree,
+   whether some replacement is in no text, and whether the text has words. `BROKEN` has
+   the number of a property below it. */
 #define IS_LOCKFILE (1u << 8)
 #define SURVIVES (1u << 8)
 #define HAS_TREE (1u << 16)
 #define HAS_UNPRINTED (1u << 17)
+#define HAS_WORDS (1u << 18)
 #define BROKEN (1u << 31)
 
 typedef struct {
-    unsigned long texts, not_utf8, lockfiles, trees, unprinted, survivors[FORMATS + 1];
+    unsigned long texts, not_utf8, lockfiles, trees, unprinted, worded, survivors[FORMATS + 1];
     unsigned long faults, bytes;
     double longest;
 } Totals;
 
 static Text *files, made;
 static size_t count_of_files;
+static char **paths;
 static unsigned long runs, run;
 static uint64_t seed, blocks_before;
 static const char *folder;
@@ -47,6 +51,7 @@ static const char *const properties[] = {
     "what is read from the text of a survivor is printed as another text",
     "the values of a lockfile are printed as another text than the lockfile",
     "a tree is drawn in two ways",
+    "a text that was printed has no words, though it needs no escape",
 };
 
 /* Keeps the text at hand in the folder. */
@@ -129,9 +134,15 @@ static void count_lockfile(uint32_t answer) {
     totals.lockfiles++;
     totals.trees += (answer & HAS_TREE) != 0;
     totals.unprinted += (answer & HAS_UNPRINTED) != 0;
+    totals.worded += (answer & HAS_WORDS) != 0;
     for (unsigned format = 1; format <= FORMATS; format++) {
         totals.survivors[format] += (answer & (SURVIVES << format)) != 0;
     }
+}
+
+/* Whether the text is a file that Cargo wrote. */
+static bool is_of_cargo(void) {
+    return run <= count_of_files && strstr(paths[run - 1], "/wrote/") != NULL;
 }
 
 void take_answer(uint32_t answer) {
@@ -148,6 +159,9 @@ void take_answer(uint32_t answer) {
     }
     if (live_blocks() != blocks_before) {
         fault("blocks", "blocks were left over");
+    }
+    if (is_of_cargo() && (answer & (BROKEN | HAS_WORDS)) != HAS_WORDS) {
+        fault("words", "a lockfile that Cargo wrote has no words");
     }
     if ((answer & BROKEN) != 0) {
         size_t number = answer & 255;
@@ -174,8 +188,9 @@ static void read_file(Text *text, const char *path) {
 static void tell(void) {
     printf("%lu texts of seed %lu, %lu bytes, %lu not UTF-8, the longest %.3f s\n", totals.texts,
            (unsigned long)seed, totals.bytes, totals.not_utf8, totals.longest);
-    printf("lockfiles %lu, of them with a tree %lu, with a replacement that is in no text %lu\n",
-           totals.lockfiles, totals.trees, totals.unprinted);
+    printf("lockfiles %lu, of them with a tree %lu, with a replacement that is in no text %lu, "
+           "with words %lu\n",
+           totals.lockfiles, totals.trees, totals.unprinted, totals.worded);
     for (unsigned format = 1; format <= FORMATS; format++) {
         printf("printed in V%u, read back and printed again: %lu\n", format,
                totals.survivors[format]);
@@ -192,6 +207,7 @@ int main(int count, char **words) {
     seed = strtoull(words[2], NULL, 10);
     folder = words[3];
     count_of_files = (size_t)count - 4;
+    paths = words + 4;
     files = calloc(count_of_files, sizeof *files);
     made.bytes = malloc(LONGEST);
     if (files == NULL || made.bytes == NULL) {

@@ -25,8 +25,11 @@ use Rattle.cargo_lock_references.specs.ResolutionSearch.{same_parts, same_text}
 use Rattle.cargo_lock_encoding.specs.Survives.{HasSamePackages}
 use Rattle.cargo_lock.specs.Same.{EqualTablesAndTexts}
 use Rattle.cargo_lock.proofs.EqualLockfiles.{equal_fields}
-use Rattle.cargo_lock_encoding.specs.Table.{checksum_value, encoded_of, encoded_table, encoded_package_of, encoded_package_value, encoded_package_with, reference_value, metadata_value, unused_patch_value, present_members, encoded_root, source_value, table_of, unless_empty, unless_no_patch, written_checksum, written_version}
-use Rattle.cargo_lock_encoding.specs.Text.{checksum_line, comment_lines, dependency_line, encoded_lines, package_lines, field, metadata_lines, patch_lines, quote, reference_lines, replace_line, source_line, version_lines}
+use Rattle.cargo_lock_encoding.specs.Table.{checksum_value, encoded_of, encoded_table, encoded_package_of, encoded_package_value, encoded_package_with, reference_value, metadata_value, unused_patch_value, encoded_root, source_value, table_of, written_checksum, written_version}
+use Rattle.cargo_lock_lines.specs.TableOfWords.{present_members, unless_empty, unless_no_patch}
+use Rattle.cargo_lock_encoding.specs.Text.{checksum_line, dependency_line, encoded_lines, package_lines, patch_lines, reference_lines, replace_line, source_line, version_lines}
+use Rattle.cargo_lock_lines.specs.Layout.{comment_lines, field, metadata_lines}
+use Rattle.cargo_lock_lines.specs.Quoting.{quote}
 
 -- ---- lists and options, by what keys tell
 

@@ -21,7 +21,8 @@ use Rattle.cargo_lock_references.specs.Records.{EncodedPackage, unmarked_source,
 use Rattle.cargo_lock_references.specs.ResolutionSearch.{resolution_of}
 use Rattle.cargo_lock_references.specs.ReadBack.{DigestReadsBack, ReferenceSurvives, SourceSurvives, SourceTextReadsBack}
 use Rattle.cargo_lock_encoding.specs.Survives.{PackageSurvives}
-use Rattle.cargo_lock_encoding.specs.Table.{checksum_value, package_table, encoded_package_with, reference_value, present_members, source_value, unless_empty}
+use Rattle.cargo_lock_encoding.specs.Table.{checksum_value, package_table, encoded_package_with, reference_value, source_value}
+use Rattle.cargo_lock_lines.specs.TableOfWords.{present_members, unless_empty}
 use Rattle.cargo_lock_encoding.specs.TableReading.{checksum_from, identity_at, package_at_key, reference_in, optional_by, optional_list, read_all, required_text, source_in}
 use Rattle.cargo_lock_references.specs.Reference.{version_of}
 use Rattle.cargo_lock_encoding.proofs.MeansLemmas.{bind-parts, map-parts}

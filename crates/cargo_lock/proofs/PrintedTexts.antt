@@ -9,7 +9,8 @@ use Rattle.cargo_lock_references.specs.Metadata.{metadata_of}
 use Rattle.cargo_lock_references.specs.Optional.{◌>>=◌}
 use Rattle.cargo_lock_encoding.specs.Means.{Means, TextMeans}
 use Rattle.cargo_lock.specs.Printed.{PrintedBack, TextMeansOne, TextReadsBack}
-use Rattle.cargo_lock_encoding.specs.Text.{join_lines, lines_of}
+use Rattle.cargo_lock_lines.specs.Layout.{join_lines}
+use Rattle.cargo_lock_encoding.specs.Text.{lines_of}
 use Rattle.toml.specs.Data.{Members}
 use Rattle.toml.specs.Parse.{parse_document}
 use Rattle.cargo_lock_encoding.specs.PrintedTable.{HasAllPrinted, printed_number, printed_package, printed_replace, printed_table}
@@ -19,7 +20,8 @@ use Rattle.cargo_lock_references.specs.Reference.{Reference}
 use Rattle.cargo_lock_references.specs.declared.version.ResolveVersion.{ResolveVersion}
 use Rattle.cargo_lock_references.specs.declared.version.ResolveVersion.TheVariants.{V1, V2, V3, V4}
 use Rattle.cargo_lock_encoding.specs.Survives.{Survives, in_format}
-use Rattle.cargo_lock_encoding.specs.Table.{encoded_of, encoded_package_of, encoded_package_value, metadata_value, patch_value, present_members, table_of, unless_empty, written_version}
+use Rattle.cargo_lock_encoding.specs.Table.{encoded_of, encoded_package_of, encoded_package_value, metadata_value, patch_value, table_of, written_version}
+use Rattle.cargo_lock_lines.specs.TableOfWords.{present_members, unless_empty}
 use Rattle.cargo_lock_encoding.specs.TableReading.{all_encoded_packages_at, encoded_at, encoded_packages_at, optional_list}
 use Rattle.cargo_lock_encoding.proofs.MeansLemmas.{Means-from, Means-one}
 use Rattle.cargo_lock.proofs.PackageTables.{list-read}

@@ -24,7 +24,8 @@ use Rattle.cargo_lock_references.specs.ResolutionSearch.{same_text}
 use Rattle.cargo_lock.specs.Shortest.{AreDistinct, HasShortestReferences, IsAmong, IsShortening, ShortestReferences, WrittenByBearers, namesakes, bears_some, item_at, package_at, reference_at}
 use Rattle.cargo_lock_encoding.specs.Survives.{ListedSurvives, Survives}
 use Rattle.cargo_lock_references.specs.ReadBack.{SourceSurvives}
-use Rattle.cargo_lock_encoding.specs.Table.{checksum_value, encoded_of, encoded_table, encoded_package_of, package_table, encoded_package_value, reference_value, metadata_value, packages_value, patch_value, present_members, encoded_root, source_value, table_of, unless_empty, written_version}
+use Rattle.cargo_lock_encoding.specs.Table.{checksum_value, encoded_of, encoded_table, encoded_package_of, package_table, encoded_package_value, reference_value, metadata_value, packages_value, patch_value, encoded_root, source_value, table_of, written_version}
+use Rattle.cargo_lock_lines.specs.TableOfWords.{present_members, unless_empty}
 use Rattle.cargo_lock_encoding.specs.TableReading.{members_in, required_list, text_in}
 use Rattle.cargo_lock_references.proofs.WrittenReferenceLemmas.{count-miss}
 use Rattle.cargo_lock.proofs.ReferenceTexts.{Alike, whole-reads}

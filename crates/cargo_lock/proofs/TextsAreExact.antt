@@ -17,7 +17,8 @@ use Rattle.cargo_lock_encoding.specs.Means.{IsListed, IsRoot, Means}
 use Rattle.cargo_lock_encoding.specs.PrintedTable.{HasAllPrinted, printed_number, printed_package, printed_table}
 use Rattle.cargo_lock.specs.Printed.{TextIsExact, TextReadsBack}
 use Rattle.cargo_lock_encoding.specs.Survives.{Survives, in_format}
-use Rattle.cargo_lock_encoding.specs.Table.{encoded_of, encoded_package_of, encoded_package_value, metadata_value, package_table, patch_value, unless_empty, written_checksum, written_version}
+use Rattle.cargo_lock_encoding.specs.Table.{encoded_of, encoded_package_of, encoded_package_value, metadata_value, package_table, patch_value, written_checksum, written_version}
+use Rattle.cargo_lock_lines.specs.TableOfWords.{unless_empty}
 use Rattle.cargo_lock_encoding.specs.TableReading.{EncodedPackages, encoded_package_in, encoded_at, metadata_in, number_in, optional_by, patch_in, package_at_key, read_all}
 use Rattle.cargo_lock_encoding.proofs.MeansLemmas.{bind-parts}
 use Rattle.cargo_lock.proofs.PackageTables.{all-parts, cons-parts, list-read, not-cons, table-read}

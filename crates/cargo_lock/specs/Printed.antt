@@ -7,7 +7,8 @@ use Rattle.cargo_lock_references.specs.Metadata.{metadata_of}
 use Rattle.cargo_lock_encoding.specs.Lockfiles.{LockfileData}
 use Rattle.cargo_lock_encoding.specs.Survives.{Survives, HasSamePackages, in_format}
 use Rattle.cargo_lock_references.specs.declared.version.ResolveVersion.{ResolveVersion}
-use Rattle.cargo_lock_encoding.specs.Text.{join_lines, lines_of}
+use Rattle.cargo_lock_lines.specs.Layout.{join_lines}
+use Rattle.cargo_lock_encoding.specs.Text.{lines_of}
 use Rattle.cargo_lock_encoding.specs.PrintedTable.{HasAllPrinted}
 
 -- the format, equal packages and patches, the written metadata, and no root

@@ -7,7 +7,6 @@ ghost use Rattle.cargo_lock.specs.Same.{is_same_metadata, is_same_pair};
 
 mod checksums;
 pub mod encoding;
-mod long_texts;
 mod lossy_sources;
 mod reading;
 mod serialization;

@@ -42,7 +42,7 @@ impl Advisory {
     /// ```
     #[tactic(auto, unfolding(crate::specs::AdvisoryReading::advisory_of))]
     pub fn parse(alloc: Global, text: &str) -> Result<Advisory>
-        ensures { ReadsUrls (λ a. a) result (advisory_of text.now) }
+        ensures { ReadsUrls (Unit {0}) (λ a. a) result (advisory_of text.now) }
     {
         let lines = lines_from_first(alloc, text)?;
         let body = body_of(alloc, &lines)?;
@@ -78,7 +78,7 @@ fn toml_fault(alloc: Global, fault: &TomlError) -> Error
 // The advisory with this title that a table is.
 #[tactic(auto, unfolding(crate::specs::AdvisoryReading::advisory_at))]
 fn advisory_at(alloc: Global, table: &Table, title: &str) -> Result<Advisory>
-    ensures { ReadsUrls (λ a. a) result (advisory_at title.now (table_view table.now)) }
+    ensures { ReadsUrls (Unit {0}) (λ a. a) result (advisory_at title.now (table_view table.now)) }
 {
     let members = required_members(alloc, table, "advisory")?;
     let fields = fields_at(alloc, members)?;
@@ -228,7 +228,7 @@ fn fields_at<'a>(alloc: Global, table: &'a Table) -> Result<Fields<'a>>
 
 // The source at a key, if the key is present.
 fn source_at(alloc: Global, table: &Table, key: &str) -> Result<Option<SourceId>>
-    ensures { ReadsUrls
+    ensures { ReadsUrls (Unit {0})
         (λ o. o) result (optional_by source_in (get_member key.now (table_view table.now))) }
 {
     match value_at(table, key) {
@@ -239,7 +239,7 @@ fn source_at(alloc: Global, table: &Table, key: &str) -> Result<Option<SourceId>
 
 // The source that a value reads as.
 fn source_in(alloc: Global, value: &Value, key: &str) -> Result<SourceId>
-    ensures { ReadsUrls (λ s. s) result (source_in (view value.now)) }
+    ensures { ReadsUrls (Unit {0}) (λ s. s) result (source_in (view value.now)) }
 {
     let text = text_in(alloc, value, key)?;
     let source = SourceId::from_str(alloc, text)?;

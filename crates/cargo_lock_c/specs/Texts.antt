@@ -5,7 +5,8 @@ use Rattle.cargo_lock_references.specs.Format.{number_of, format_numbered}
 use Rattle.cargo_lock_encoding.specs.Lockfiles.{LockfileData}
 use Rattle.cargo_lock_encoding.specs.Means.{TextMeans}
 use Rattle.cargo_lock_encoding.specs.Survives.{Survives, in_format}
-use Rattle.cargo_lock_encoding.specs.Text.{join_lines, lines_of}
+use Rattle.cargo_lock_lines.specs.Layout.{join_lines}
+use Rattle.cargo_lock_encoding.specs.Text.{lines_of}
 
 -- the text is not that of a lockfile
 abbrev pub MeansNothing : List ℕ → Type 0

@@ -4,7 +4,8 @@ ghost use Rattle.std.specs.Prelude.{◌≡◌, ◌≢◌, ◌≤◌, ◌↔◌, 
 ghost use Rattle.std.specs.Prelude.{string_bytes};
 ghost use Rattle.cargo_lock_references.specs.Format.{format_numbered};
 ghost use Rattle.cargo_lock_encoding.specs.Survives.{Survives, in_format};
-ghost use Rattle.cargo_lock_encoding.specs.Text.{join_lines, lines_of};
+ghost use Rattle.cargo_lock_lines.specs.Layout.{join_lines};
+ghost use Rattle.cargo_lock_encoding.specs.Text.{lines_of};
 ghost use Rattle.cargo_lock_c.specs.declared.refusal.Refusal.TheVariants.{NoFormat, NoMemory};
 ghost use Rattle.cargo_lock_c.specs.Answers.{IsHandedOut};
 ghost use Rattle.cargo_lock_c.specs.Statuses.{status_of};

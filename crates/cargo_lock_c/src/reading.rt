@@ -16,7 +16,7 @@ use std::alloc::Global;
 use std::str;
 
 /// The lockfile of a text. A URL of 4 GB or more is reported as out of memory: no text of fewer
-/// than 2^24 bytes has one.
+/// than 2^28 bytes has one.
 fn read_text(alloc: Global, text: &str) -> Result<Lockfile, Error>
     ensures { Finds (TextMeans text.now) result }
 {

@@ -9,7 +9,8 @@ use Rattle.cargo_lock_references.specs.declared.version.ResolveVersion.{ResolveV
 use Rattle.cargo_lock_references.specs.declared.version.ResolveVersion.TheVariants.{V1, V2, V3, V4}
 use Rattle.cargo_lock_encoding.specs.Lockfiles.{LockfileData}
 use Rattle.cargo_lock_encoding.specs.Survives.{Survives, in_format}
-use Rattle.cargo_lock_encoding.specs.Text.{join_lines, lines_of}
+use Rattle.cargo_lock_lines.specs.Layout.{join_lines}
+use Rattle.cargo_lock_encoding.specs.Text.{lines_of}
 use Rattle.cargo_lock.specs.CargoChecksums.{with_cargo_checksums_in}
 use Rattle.cargo_lock.specs.LossySources.{AreLossySources, IsLossyIn}
 use Rattle.cargo_lock_check.specs.Finding.{Alike, BadName, FindingData, LookAlike, LossySource, LostDependency, Misplaced, MisplacedDependency, NoChecksum, NoChecksums, NoRoot, NotKept, Orphan, OtherLine, RepeatedDependency, StaleChecksum, Twice, UserInfo}

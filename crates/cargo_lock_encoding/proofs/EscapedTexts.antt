@@ -6,7 +6,7 @@ use Rattle.std.specs.declared.fmt.Formatter.{Formatter}
 use Rattle.std.specs.Fmt.{DisplaysOnOk, IsPlainFormatter, WritesInCalls}
 use Rattle.std.specs.List.{FoldsTo, concat}
 use Rattle.std.proofs.lemmas.Grind.{flat_map-append}
-use Rattle.cargo_lock_encoding.specs.Text.{escape, escape_byte}
+use Rattle.cargo_lock_lines.specs.Quoting.{escape, escape_byte}
 use Rattle.cargo_lock_encoding.specs.Escaping.{EscapesText}
 use Rattle.cargo_lock_encoding.specs.declared.text.EscapingWriter.{EscapingWriter}
 

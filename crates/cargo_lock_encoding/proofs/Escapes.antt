@@ -1,14 +1,15 @@
 -- A text is escaped by its characters as by its bytes.
-use Rattle.std.proofs.Common.{◌≡◌, ℕ, ◌<◌, ◌≤◌, ◌&&◌, Bool, true, false, nat_lt, List, [], ◌∷◌, refl, sym, ◌∙◌, inl, inr, arith, append-nil}
-use Rattle.std.proofs.lemmas.Bool.{cases_Bool, cases_lt, false≢true}
+use Rattle.std.proofs.Common.{◌≡◌, ℕ, ◌<◌, ◌≤◌, false, nat_lt, List, [], ◌∷◌, refl, sym, ◌∙◌, inl, inr, arith, append-nil}
+use Rattle.std.proofs.lemmas.Bool.{cases_Bool, cases_lt}
 use Rattle.std.proofs.lemmas.Bool.Decides.{nat_tests}
 use Rattle.std.proofs.lemmas.Grind.{flat_map-append}
 use Rattle.std.proofs.lemmas.Str.{encode_ascii, encodes-chars}
 use Rattle.std.proofs.Math.Utf8.{encode, encodes}
-use Rattle.std.specs.List.{flat_map, list_all, AllByRecursion}
+use Rattle.std.specs.List.{flat_map, AllByRecursion}
 use Rattle.std.specs.Prelude.{IsUtf8}
 use Rattle.std.specs.Str.{chars}
-use Rattle.cargo_lock_encoding.specs.Text.{escape, escape_char, escape_byte, is_plain_byte}
+use Rattle.cargo_lock_lines.specs.Quoting.{escape, escape_byte}
+use Rattle.cargo_lock_encoding.specs.Text.{escape_char}
 
 -- a byte past ASCII stands for itself
 byte_high : (b : ℕ) → 128 ≤ b → escape_byte b ≡ b ∷ []
@@ -50,22 +51,3 @@ chars_same (c ∷ cs) = rw (char_same c, chars_same cs) (sym (flat_map-append es
 pub escape-chars : (text : List ℕ) → IsUtf8 text → flat_map escape_char (chars text) ≡ escape text
 unfolding escape
 escape-chars text utf8 = chars_same (chars text) ∙ rw (encodes-chars text utf8) refl
-
--- ---- a text that needs no escape
-
-plain-byte : (b : ℕ) → is_plain_byte b ≡ true → escape_byte b ≡ b ∷ []
-plain-byte b h = grind (arith, nat_tests)
-
-both : (p q : Bool) → (p && q) ≡ true → (p ≡ true) × (q ≡ true)
-both true q h = (refl, h)
-both false q h = absurd (false≢true h)
-
-plain-bytes : (bs : List ℕ) → list_all is_plain_byte bs ≡ true → flat_map escape_byte bs ≡ bs
-plain-bytes [] h = refl
-plain-bytes (b ∷ bs) h =
-    let parts = both (is_plain_byte b) (list_all is_plain_byte bs) h in
-    rw (plain-byte b parts.0, plain-bytes bs parts.1) refl
-
-pub escape-plain : (text : List ℕ) → list_all is_plain_byte text ≡ true → escape text ≡ text
-unfolding escape
-escape-plain text h = plain-bytes text h

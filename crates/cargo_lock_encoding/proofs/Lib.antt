@@ -2,13 +2,10 @@ pub mod EscapedTexts
 pub mod Escapes
 pub mod Lines
 pub mod MeansLemmas
-pub mod PrintedEdits
-pub mod PrintedExpressions
-pub mod PrintedLines
-pub mod PrintedQuotes
 pub mod PrintedTables
 pub mod PutAll
 pub mod Puts
 pub mod SurvivalLemmas
 pub mod TableMetadata
 pub mod TextPuts
+pub mod WordTables

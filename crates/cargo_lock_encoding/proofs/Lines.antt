@@ -13,7 +13,9 @@ use Rattle.cargo_lock_references.specs.WrittenReference.{written_source}
 use Rattle.cargo_lock_references.specs.Reference.{Reference}
 use Rattle.cargo_lock_references.specs.Records.{EncodedPackage}
 use Rattle.cargo_lock_encoding.specs.Lockfiles.{EncodedData, is_escaped_number}
-use Rattle.cargo_lock_encoding.specs.Text.{checksum_line, comment_lines, dependency_line, encoded_lines, package_lines, field, is_nonempty_text, join_lines, metadata_lines, pair_line, patch_lines, reference_lines, source_line, version_lines}
+use Rattle.cargo_lock_encoding.specs.Text.{checksum_line, dependency_line, encoded_lines, package_lines, patch_lines, reference_lines, source_line, version_lines}
+use Rattle.cargo_lock_lines.specs.Layout.{comment_lines, field, join_lines, metadata_lines, pair_line}
+use Rattle.cargo_lock_lines.specs.Quoting.{is_nonempty_text}
 
 -- what was put, and what was put after it
 pub then : (a b c : List ℕ) (l m : List (List ℕ)) → b ≡ a ++ join_lines l → c ≡ b ++ join_lines m → c ≡ a ++ join_lines (l ++ m)

@@ -138,9 +138,9 @@ Means-from t l h =
     record { encoded = e.0; values = e.1; lockfile_of = IsLocked-from e.0 l e.2 }
 
 -- what is computed is what the table means
-pub FindsUrls-means : (t : Members) (r : Result LockfileData Error) → ReadsUrls (λ l. l) r (meaning t) → FindsUrls (Means t) r
-FindsUrls-means t (Ok l) h = Means-from t l h
-FindsUrls-means t (Err e) h = RefusesUrls-by e _ _ h (λ none l m. none-some l (sym none ∙ meaning-from t l m))
+pub FindsUrls-means : (L : Type 0) (t : Members) (r : Result LockfileData Error) → ReadsUrls L (λ l. l) r (meaning t) → FindsUrls L (Means t) r
+FindsUrls-means L t (Ok l) h = Means-from t l h
+FindsUrls-means L t (Err e) h = RefusesUrls-by e _ _ _ _ h (λ long. long) (λ none l m. none-some l (sym none ∙ meaning-from t l m))
 
 -- a table means at most one lockfile
 pub Means-one : (t : Members) (a b : LockfileData) → Means t a → Means t b → a ≡ b
@@ -148,15 +148,16 @@ Means-one t a b p q = same_Some _ _ (sym (meaning-from t a p) ∙ meaning-from t
 
 -- ---- texts
 
-pub FindsUrls-text : (text : List ℕ) (t : Members) (r : Result LockfileData Error) → parse_document text ≡ Some t
-    → FindsUrls (Means t) r → FindsUrls (TextMeans text) r
-FindsUrls-text text t (Ok l) parsed h = record { table = t; parsed = parsed; means = h }
-FindsUrls-text text t (Err e) parsed h =
-    RefusesUrls-by e _ _ h (λ never l m. never l (subst (λ (u : Members). Means u l) (same_Some _ _ (sym m.parsed ∙ parsed)) m.means))
+-- the evidence of the table is dropped: that of the text stands in its place
+pub FindsUrls-text : (L : Type 0) (text : List ℕ) (t : Members) (r : Result LockfileData Error) → parse_document text ≡ Some t
+    → FindsUrls L (Means t) r → FindsUrls (Unit {0}) (TextMeans text) r
+FindsUrls-text L text t (Ok l) parsed h = record { table = t; parsed = parsed; means = h }
+FindsUrls-text L text t (Err e) parsed h =
+    RefusesUrls-by e _ _ _ _ h (λ long. tt) (λ never l m. never l (subst (λ (u : Members). Means u l) (same_Some _ _ (sym m.parsed ∙ parsed)) m.means))
 
 -- a text that is no table means nothing
 pub FindsUrls-refused : (text : List ℕ) (e : Error) (P : Type 0) → Refuses e P → (P → parse_document text ≡ None)
-    → FindsUrls (TextMeans text) (Err e)
+    → FindsUrls (Unit {0}) (TextMeans text) (Err e)
 FindsUrls-refused text (Io kind) P h f = absurd h
 FindsUrls-refused text (Parse message) P h f = inl (λ l m. none-some m.table (sym (f h) ∙ m.parsed))
 FindsUrls-refused text (Version fault) P h f = absurd h
@@ -165,22 +166,26 @@ FindsUrls-refused text Memory P h f = tt
 
 -- ---- refusals for length
 
--- a fault that is kept or told as out of memory
-pub FindsUrls-kept : (P : LockfileData → Type 0) (e kept : Error) (Q : Type 0) → FindsUrls P (Err e)
-    → (kept ≡ Memory) ⊎ ((kept ≡ e) × Q) → FindsUrls P (Err kept)
-FindsUrls-kept P e kept Q h (inl memory) = rw memory tt
-FindsUrls-kept P e kept Q h (inr same) = rw same.0 h
+-- a fault that is told as out of memory, or is kept, and then for its length only if L holds
+pub FindsUrls-kept : (L : Type 0) (P : LockfileData → Type 0) (e kept : Error) → FindsUrls (Unit {0}) P (Err e)
+    → (kept ≡ Memory) ⊎ ((kept ≡ e) × (IsTooLong e → L)) → FindsUrls L P (Err kept)
+FindsUrls-kept L P e kept h (inl memory) = rw memory tt
+FindsUrls-kept L P e kept h (inr same) = rw same.0 (long-by e h same.1)
+  where
+    long-by : (e : Error) → FindsUrls (Unit {0}) P (Err e) → (IsTooLong e → L) → FindsUrls L P (Err e)
+    long-by (Io kind) h told = absurd h
+    long-by (Parse message) (inl never) told = inl never
+    long-by (Parse message) (inr long) told = inr (long.0, told long.0)
+    long-by (Version fault) h told = absurd h
+    long-by (Resolution message) h told = absurd h
+    long-by Memory h told = tt
 
-Finds-not_long : (P : LockfileData → Type 0) (e : Error) → FindsUrls P (Err e) → ¬ IsTooLong e → Finds P (Err e)
-Finds-not_long P (Io kind) h other = absurd h
-Finds-not_long P (Parse message) (inl never) other = never
-Finds-not_long P (Parse message) (inr long) other = absurd (other long)
-Finds-not_long P (Version fault) h other = absurd h
-Finds-not_long P (Resolution message) h other = absurd h
-Finds-not_long P Memory h other = tt
-
--- the same, where it is not kept for its length
-pub Finds-kept : (P : LockfileData → Type 0) (e kept : Error) (Q : Type 0) → FindsUrls P (Err e)
-    → (kept ≡ Memory) ⊎ ((kept ≡ e) × (Q → ¬ IsTooLong e)) → Q → Finds P (Err kept)
-Finds-kept P e kept Q h (inl memory) q = rw memory tt
-Finds-kept P e kept Q h (inr same) q = rw same.0 (Finds-not_long P e h (same.1 q))
+-- what is found where no text is long enough
+pub Finds-short : (L : Type 0) (P : LockfileData → Type 0) (r : Result LockfileData Error) → ¬ L → FindsUrls L P r → Finds P r
+Finds-short L P (Ok l) short h = h
+Finds-short L P (Err (Io kind)) short h = absurd h
+Finds-short L P (Err (Parse message)) short (inl never) = never
+Finds-short L P (Err (Parse message)) short (inr long) = absurd (short long.1)
+Finds-short L P (Err (Version fault)) short h = absurd h
+Finds-short L P (Err (Resolution message)) short h = absurd h
+Finds-short L P (Err Memory) short h = tt

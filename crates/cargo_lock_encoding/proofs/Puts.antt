@@ -11,7 +11,8 @@ use Rattle.std.specs.Ordering.{is_gt}
 use Rattle.std.specs.Cmp.Lexicographic.{slice_cmp}
 use Rattle.std.proofs.lemmas.Bool.{false≢true, and_parts}
 use Rattle.toml.specs.Data.{Data, Members, member, no_members}
-use Rattle.cargo_lock_encoding.specs.Table.{present_members, present_member, put, put_present}
+use Rattle.cargo_lock_lines.specs.TableOfWords.{present_members, present_member}
+use Rattle.cargo_lock_encoding.specs.Table.{put, put_present}
 
 match_members : (o : Ordering) (a b c : List Entry) → members_view (match_ordering o a b c) ≡ match_ordering o (members_view a) (members_view b) (members_view c)
 match_members Less a b c = refl

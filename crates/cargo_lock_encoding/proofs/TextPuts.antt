@@ -6,7 +6,8 @@ use Rattle.std.specs.List.Sorted.{IsStrictlySortedBy}
 use Rattle.std.specs.Map.{keys_of}
 use Rattle.std.specs.Ordering.{ordering_reverse}
 use Rattle.toml.specs.Data.{Data, Members, no_members, member, string}
-use Rattle.cargo_lock_encoding.specs.Table.{put, text_members}
+use Rattle.cargo_lock_encoding.specs.Table.{put}
+use Rattle.cargo_lock_lines.specs.TableOfWords.{text_members}
 
 -- each text put in turn
 abbrev pub put_texts : Members → List (List ℕ × List ℕ) → Members

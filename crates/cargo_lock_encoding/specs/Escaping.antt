@@ -1,6 +1,6 @@
 -- What a writer that escapes texts has written. No public contract cites this definition.
 use Rattle.std.specs.Prelude.{◌≡◌, ◌++◌, ℕ, List, string_bytes}
-use Rattle.cargo_lock_encoding.specs.Text.{escape}
+use Rattle.cargo_lock_lines.specs.Quoting.{escape}
 use Rattle.cargo_lock_encoding.specs.declared.text.EscapingWriter.{EscapingWriter}
 
 -- the writer before and after it took a text: the text is escaped at the end of its string

@@ -1,10 +1,11 @@
 pub mod Lockfiles
 pub mod TableReading
+pub mod LongTexts
+pub mod WordsReading
 pub mod Means
 pub mod TableMetadata
 pub mod Meaning
 pub mod Table
-pub mod Characters
 pub mod Escaping
 pub mod Text
 pub mod Survives

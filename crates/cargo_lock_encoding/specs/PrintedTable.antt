@@ -8,10 +8,11 @@ use Rattle.cargo_lock_parts.specs.Identity.{PackageData}
 use Rattle.cargo_lock_references.specs.Records.{EncodedPackage}
 use Rattle.cargo_lock_references.specs.Reference.{Reference}
 use Rattle.cargo_lock_encoding.specs.Lockfiles.{EncodedData, LockfileData, is_escaped_number}
-use Rattle.cargo_lock_encoding.specs.Table.{encoded_of, encoded_package_value}
-use Rattle.cargo_lock_encoding.specs.Table.{metadata_value, patch_value, present_members}
-use Rattle.cargo_lock_encoding.specs.Table.{unless_empty}
-use Rattle.cargo_lock_encoding.specs.Text.{encoded_lines, join_lines, lines_of}
+use Rattle.cargo_lock_encoding.specs.Table.{encoded_of, encoded_package_value, metadata_value}
+use Rattle.cargo_lock_encoding.specs.Table.{patch_value}
+use Rattle.cargo_lock_lines.specs.TableOfWords.{present_members, unless_empty}
+use Rattle.cargo_lock_encoding.specs.Text.{encoded_lines, lines_of}
+use Rattle.cargo_lock_lines.specs.Layout.{join_lines}
 
 -- the number that the text has: from 3 on
 abbrev pub printed_number : Option ℤ → Option ℤ

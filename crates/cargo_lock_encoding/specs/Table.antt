@@ -19,6 +19,8 @@ use Rattle.cargo_lock_references.specs.WrittenReference.{written_reference, in_f
 use Rattle.cargo_lock_references.specs.Reference.{Reference, reference_text}
 use Rattle.cargo_lock_references.specs.Metadata.{metadata_of}
 use Rattle.cargo_lock_references.specs.Records.{EncodedPackage, Texts, is_escaped}
+use Rattle.cargo_lock_lines.specs.TableOfWords.{present_members, unless_empty, unless_no_patch}
+use Rattle.cargo_lock_lines.specs.TableOfWords.{unless_no_text}
 use Rattle.cargo_lock_encoding.specs.Lockfiles.{EncodedData, LockfileData, is_escaped_number}
 
 -- ---- the values that are written
@@ -71,21 +73,6 @@ encoded_of l = record {
 
 -- ---- tables
 
--- a member before others, if it has a value
-abbrev pub present_member : List ℕ → Option Data → Members → Members
-present_member k None rest = rest
-present_member k (Some d) rest = member k d rest
-
--- the members that are present, in this order
-abbrev pub present_members : List (List ℕ × Option Data) → Members
-present_members [] = no_members
-present_members (m ∷ ms) = present_member m.0 m.1 (present_members ms)
-
--- a list that is left out if it is empty
-abbrev pub unless_empty : List Data → Option Data
-unless_empty [] = None
-unless_empty (d ∷ ds) = Some (array (items_of (d ∷ ds)))
-
 -- a reference as a value
 abbrev pub reference_value : Reference → Data
 reference_value f = string (reference_text f)
@@ -123,28 +110,9 @@ patch_table escaped i = present_members (
 abbrev pub unused_patch_value : Bool → Identity → Data
 unused_patch_value escaped i = table (patch_table escaped i)
 
--- the table of a list of unused patches
-abbrev pub unused_table : List Data → Members
-unused_table values = member (codes "unused") (array (items_of values)) no_members
-
--- the table of unused patches, unless there are none
-abbrev pub unless_no_patch : List Data → Option Data
-unless_no_patch [] = None
-unless_no_patch (d ∷ ds) = Some (table (unused_table (d ∷ ds)))
-
 -- the unused patches, their sources escaped or plain
 abbrev pub patch_value : Bool → List Identity → Option Data
 patch_value escaped patch = unless_no_patch (map (unused_patch_value escaped) patch)
-
--- the members of a table of texts
-abbrev pub text_members : List (List ℕ × List ℕ) → Members
-text_members [] = no_members
-text_members (m ∷ ms) = member m.0 (string m.1) (text_members ms)
-
--- a table of texts, unless there are none
-abbrev pub unless_no_text : List (List ℕ × List ℕ) → Option Data
-unless_no_text [] = None
-unless_no_text (m ∷ ms) = Some (table (text_members (m ∷ ms)))
 
 -- the metadata as a value, unless it is empty
 abbrev pub metadata_value : Texts → Option Data

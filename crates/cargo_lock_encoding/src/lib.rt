@@ -8,6 +8,7 @@ mod encode;
 pub mod laws;
 mod meaning;
 mod read_table;
+mod read_words;
 mod survival;
 mod table;
 mod text;
@@ -15,4 +16,5 @@ mod values;
 
 pub use crate::meaning::{Resolved, resolved_values};
 pub use crate::read_table::encoded_at;
+pub use crate::read_words::encoded_from_words;
 pub use crate::values::{EncodableLockfile, LockfileRef};

@@ -3,15 +3,19 @@
 //! The values are read in the order in which the keys are named here, and the first error is
 //! returned. An error of `semver` is `Parse` here, so a table is refused only with `Parse`.
 
-ghost use Rattle.std.specs.Prelude.{◌≡◌, ◌⊎◌, ◌++◌, IsOkUnless, OnOk, codes, option_map};
+ghost use Rattle.std.specs.Prelude.{◌≡◌, ◌⊎◌, ◌++◌, IsOkUnless, IsSomeAnd, OnOk, codes, option_map};
 ghost use Rattle.std.specs.FinMap.{insert};
 ghost use Rattle.toml.specs.Data.{get_member};
 ghost use Rattle.toml.specs.View.{items_view, table_view, view};
 ghost use Rattle.cargo_lock_parts.specs.Checksum.{digest_of};
-ghost use Rattle.cargo_lock_parts.specs.Error.{IsParse, IsParseOrMemory, Reads, ReadsUrls};
+ghost use Rattle.cargo_lock_parts.specs.Error.{IsLong, IsParse, IsParseOrMemory, Reads, ReadsUrls};
 ghost use Rattle.cargo_lock_parts.specs.declared.error.Error.TheVariants.{Memory};
 ghost use Rattle.cargo_lock_references.specs.Reference.{reference_of, mark_plain};
 ghost use Rattle.cargo_lock_references.specs.Records.{texts_of};
+ghost use Rattle.cargo_lock_encoding.specs.LongTexts.{HasLongPackage, HasLongPart, HasLongRoot};
+ghost use Rattle.cargo_lock_encoding.specs.LongTexts.{HasLongSource, HasLongUnused, HasLongUrlText};
+ghost use Rattle.cargo_lock_encoding.specs.LongTexts.{IsLongPackage, IsLongPatch, IsLongPatches};
+ghost use Rattle.cargo_lock_encoding.specs.LongTexts.{IsLongText, SomeItem};
 ghost use Rattle.cargo_lock_encoding.specs.TableReading.{all_encoded_packages_at, checksum_from};
 ghost use Rattle.cargo_lock_encoding.specs.TableReading.{encoded_at, encoded_packages_at};
 ghost use Rattle.cargo_lock_encoding.specs.TableReading.{package_at_key, encoded_package_in};
@@ -38,10 +42,13 @@ use toml::{Table, Value};
 
 /// Reads the values of a table. `Parse` says which value is refused: the first one that is absent,
 /// of another type, or a text that does not read, in the order of the keys here. `Parse` also comes
-/// for a URL of 4 GB or more. The other error is `Memory`.
-#[tactic(auto, unfolding(crate::specs::TableReading::encoded_at))]
+/// for a URL of 4 GB or more, which only a text of 2^28 bytes or more has. The other error is
+/// `Memory`.
+#[tactic(auto, unfolding(crate::specs::TableReading::encoded_at, crate::specs::LongTexts::HasLongUrlText))]
 pub fn encoded_at(alloc: Global, table: &Table) -> Result<EncodableLockfile>
-    ensures { ReadsUrls (λ e. e) result (encoded_at (table_view table.now)) }
+    ensures { ReadsUrls
+        (HasLongUrlText (table_view table.now))
+        (λ e. e) result (encoded_at (table_view table.now)) }
 {
     let version = number_at(alloc, table, "version")?;
     let all = all_encoded_packages_at(alloc, table)?;
@@ -75,7 +82,9 @@ impl Model for AllEncodedPackages {
 // The packages of a table, under `package`, and its root, under `root`.
 #[tactic(auto, unfolding(crate::specs::TableReading::all_encoded_packages_at))]
 fn all_encoded_packages_at(alloc: Global, table: &Table) -> Result<AllEncodedPackages>
-    ensures { ReadsUrls (λ e. e) result (all_encoded_packages_at (table_view table.now)) }
+    ensures { ReadsUrls
+        (HasLongPackage (table_view table.now) ⊎ HasLongRoot (table_view table.now))
+        (λ e. e) result (all_encoded_packages_at (table_view table.now)) }
 {
     let mut sources = ReadSources::new(alloc);
     let listed = encoded_packages_at(alloc, &mut sources, table)?;
@@ -182,7 +191,8 @@ fn required_list<'a>(alloc: Global, table: &'a Table, key: &str) -> Result<&'a [
 
 // The source that a value reads as.
 fn source_in(alloc: Global, sources: &mut ReadSources, value: &Value, key: &str) -> Result<SourceId>
-    ensures { ReadsUrls (λ s. s) result (source_in (view value.now)) }
+    ensures { ReadsUrls
+        (IsLongText (view value.now)) (λ s. s) result (source_in (view value.now)) }
 {
     let text = text_in(alloc, value, key)?;
     let source = sources.read(alloc, text)?;
@@ -197,6 +207,7 @@ fn source_at(
     key: &str,
 ) -> Result<Option<SourceId>>
     ensures { ReadsUrls
+        (IsSomeAnd (get_member key.now (table_view table.now)) IsLongText)
         (λ o. o) result (optional_by source_in (get_member key.now (table_view table.now))) }
 {
     match value_at(table, key) {
@@ -206,7 +217,7 @@ fn source_at(
 }
 
 // A source that was read, which is marked plain.
-fn mark_plain(source: Option<SourceId>) -> Option<EncodableSourceId>
+pub(crate) fn mark_plain(source: Option<SourceId>) -> Option<EncodableSourceId>
     ensures { result ≡ option_map mark_plain source }
 {
     match source {
@@ -236,8 +247,12 @@ fn checksum_at(alloc: Global, table: &Table, key: &str) -> Result<Option<Checksu
 }
 
 // The reference that a text reads as.
-fn reference_of(alloc: Global, sources: &mut ReadSources, text: &str) -> Result<EncodableDependency>
-    ensures { ReadsUrls (λ f. f) result (reference_of text.now) }
+pub(crate) fn reference_of(
+    alloc: Global,
+    sources: &mut ReadSources,
+    text: &str,
+) -> Result<EncodableDependency>
+    ensures { ReadsUrls (IsLong text.now) (λ f. f) result (reference_of text.now) }
 {
     match EncodableDependency::from_str_by(alloc, sources, text) {
         Err(Error::Version(fault)) => {
@@ -254,7 +269,8 @@ fn reference_in(
     value: &Value,
     key: &str,
 ) -> Result<EncodableDependency>
-    ensures { ReadsUrls (λ f. f) result (reference_in (view value.now)) }
+    ensures { ReadsUrls
+        (IsLongText (view value.now)) (λ f. f) result (reference_in (view value.now)) }
 {
     let text = text_in(alloc, value, key)?;
     let reference = reference_of(alloc, sources, text)?;
@@ -269,6 +285,7 @@ fn reference_at_key(
     key: &str,
 ) -> Result<Option<EncodableDependency>>
     ensures { ReadsUrls
+        (IsSomeAnd (get_member key.now (table_view table.now)) IsLongText)
         (λ o. o) result (optional_by reference_in (get_member key.now (table_view table.now))) }
 {
     match value_at(table, key) {
@@ -283,7 +300,9 @@ fn references_of(
     list: &[Value],
     key: &str,
 ) -> Result<Vec<EncodableDependency>>
-    ensures { ReadsUrls (λ v. v.items) result (read_all reference_in (items_view list.now)) }
+    ensures { ReadsUrls
+        (SomeItem IsLongText (items_view list.now))
+        (λ v. v.items) result (read_all reference_in (items_view list.now)) }
 {
     let mut references = Vec::with_capacity(alloc, list.len())?;
     for value in list {
@@ -298,7 +317,9 @@ fn references_of(
 // The name, the version and the source of a table.
 #[tactic(auto, unfolding(crate::specs::TableReading::identity_at))]
 fn identity_at(alloc: Global, sources: &mut ReadSources, table: &Table) -> Result<Dependency>
-    ensures { ReadsUrls (λ e. e) result (identity_at (table_view table.now)) }
+    ensures { ReadsUrls
+        (HasLongSource (table_view table.now))
+        (λ e. e) result (identity_at (table_view table.now)) }
 {
     let written = required_text(alloc, table, "name")?;
     let name = Name::from_str(alloc, written)?;
@@ -318,7 +339,9 @@ fn package_at_key(
     sources: &mut ReadSources,
     table: &Table,
 ) -> Result<EncodablePackage>
-    ensures { ReadsUrls (λ e. e) result (package_at_key (table_view table.now)) }
+    ensures { ReadsUrls
+        (HasLongPart (table_view table.now))
+        (λ e. e) result (package_at_key (table_view table.now)) }
 {
     let Dependency {
         name,
@@ -345,7 +368,8 @@ fn encoded_package_in(
     value: &Value,
     key: &str,
 ) -> Result<EncodablePackage>
-    ensures { ReadsUrls (λ e. e) result (encoded_package_in (view value.now)) }
+    ensures { ReadsUrls
+        (IsLongPackage (view value.now)) (λ e. e) result (encoded_package_in (view value.now)) }
 {
     match value.as_table() {
         Some(table) => package_at_key(alloc, sources, table),
@@ -359,7 +383,9 @@ fn encoded_packages_of(
     list: &[Value],
     key: &str,
 ) -> Result<Vec<EncodablePackage>>
-    ensures { ReadsUrls (λ v. v.items) result (read_all encoded_package_in (items_view list.now)) }
+    ensures { ReadsUrls
+        (SomeItem IsLongPackage (items_view list.now))
+        (λ v. v.items) result (read_all encoded_package_in (items_view list.now)) }
 {
     let mut listed = Vec::with_capacity(alloc, list.len())?;
     for value in list {
@@ -375,7 +401,9 @@ fn encoded_packages_at(
     sources: &mut ReadSources,
     table: &Table,
 ) -> Result<Vec<EncodablePackage>>
-    ensures { ReadsUrls (λ v. v.items) result (encoded_packages_at (table_view table.now)) }
+    ensures { ReadsUrls
+        (HasLongPackage (table_view table.now))
+        (λ v. v.items) result (encoded_packages_at (table_view table.now)) }
 {
     let list = optional_list(alloc, table, "package")?;
     encoded_packages_of(alloc, sources, list, "package")
@@ -389,6 +417,7 @@ fn table_at_key(
     key: &str,
 ) -> Result<Option<EncodablePackage>>
     ensures { ReadsUrls
+        (IsSomeAnd (get_member key.now (table_view table.now)) IsLongPackage)
         (λ o. o) result
         (optional_by encoded_package_in (get_member key.now (table_view table.now))) }
 {
@@ -401,7 +430,7 @@ fn table_at_key(
 // ---- metadata
 
 // Sets a key to a text.
-fn put_text(alloc: Global, metadata: &mut Metadata, key: &str, value: &str) -> Result<()>
+pub(crate) fn put_text(alloc: Global, metadata: &mut Metadata, key: &str, value: &str) -> Result<()>
     ensures ok { OnOk result
         (texts_of metadata.new.entries ≡ insert (texts_of metadata.old.entries) key.now value.now) }
     ensures err { IsOkUnless result Memory }
@@ -414,7 +443,7 @@ fn put_text(alloc: Global, metadata: &mut Metadata, key: &str, value: &str) -> R
 
 // The texts of a table, in the order of its keys.
 fn texts_in(alloc: Global, table: &Table) -> Result<Metadata>
-    ensures { ReadsUrls (λ m. texts_of m.entries) result (texts_in (table_view table.now)) }
+    ensures { Reads (λ m. texts_of m.entries) result (texts_in (table_view table.now)) }
 {
     let mut metadata = Metadata::new(alloc);
     for (key, value) in table {
@@ -426,7 +455,7 @@ fn texts_in(alloc: Global, table: &Table) -> Result<Metadata>
 
 // The metadata at a key, empty if the key is absent.
 fn metadata_at(alloc: Global, table: &Table, key: &str) -> Result<Metadata>
-    ensures { ReadsUrls
+    ensures { Reads
         (λ m. texts_of m.entries) result (metadata_in (get_member key.now (table_view table.now))) }
 {
     let Some(value) = value_at(table, key) else {
@@ -446,7 +475,8 @@ fn unused_patch_in(
     value: &Value,
     key: &str,
 ) -> Result<Dependency>
-    ensures { ReadsUrls (λ e. e) result (unused_patch_in (view value.now)) }
+    ensures { ReadsUrls
+        (IsLongPatch (view value.now)) (λ e. e) result (unused_patch_in (view value.now)) }
 {
     match value.as_table() {
         Some(table) => identity_at(alloc, sources, table),
@@ -460,7 +490,9 @@ fn patches_of(
     list: &[Value],
     key: &str,
 ) -> Result<Vec<Dependency>>
-    ensures { ReadsUrls (λ v. v.items) result (read_all unused_patch_in (items_view list.now)) }
+    ensures { ReadsUrls
+        (SomeItem IsLongPatch (items_view list.now))
+        (λ v. v.items) result (read_all unused_patch_in (items_view list.now)) }
 {
     let mut patches = Vec::with_capacity(alloc, list.len())?;
     for value in list {
@@ -472,7 +504,8 @@ fn patches_of(
 
 // The unused patches of a table.
 fn patch_at(alloc: Global, table: &Table) -> Result<Patch>
-    ensures { ReadsUrls (λ p. p) result (patch_at (table_view table.now)) }
+    ensures { ReadsUrls
+        (HasLongUnused (table_view table.now)) (λ p. p) result (patch_at (table_view table.now)) }
 {
     let list = required_list(alloc, table, "unused")?;
     let mut sources = ReadSources::new(alloc);
@@ -482,7 +515,9 @@ fn patch_at(alloc: Global, table: &Table) -> Result<Patch>
 
 // The unused patches at a key, none if the key is absent.
 fn patch_at_key(alloc: Global, table: &Table, key: &str) -> Result<Patch>
-    ensures { ReadsUrls (λ p. p) result (patch_in (get_member key.now (table_view table.now))) }
+    ensures { ReadsUrls
+        (IsSomeAnd (get_member key.now (table_view table.now)) IsLongPatches)
+        (λ p. p) result (patch_in (get_member key.now (table_view table.now))) }
 {
     let Some(value) = value_at(table, key) else {
         return Ok(Patch::new(alloc));

@@ -13,17 +13,17 @@ ghost use Rattle.semver.specs.Identifiers.{parts_of, parts_text};
 ghost use Rattle.cargo_lock_parts.specs.Checksum.{digest_of};
 ghost use Rattle.cargo_lock_parts.specs.Identity.{identity_of};
 ghost use Rattle.cargo_lock_references.specs.Records.{texts_of};
+ghost use Rattle.cargo_lock_lines.specs.Layout.{comment_lines, field, join_lines, metadata_lines};
+ghost use Rattle.cargo_lock_lines.specs.Layout.{pair_line};
+ghost use Rattle.cargo_lock_lines.specs.Quoting.{escape, hex_digit, is_bare_byte, is_bare_key};
+ghost use Rattle.cargo_lock_lines.specs.Quoting.{is_plain_byte, key_text, quote, short_escape};
 ghost use Rattle.cargo_lock_encoding.specs.Table.{encoded_package_of};
+ghost use Rattle.cargo_lock_encoding.specs.Text.{Adds, AddsLines, checksum_line, dependency_line};
+ghost use Rattle.cargo_lock_encoding.specs.Text.{encoded_lines, package_lines, escape_char};
+ghost use Rattle.cargo_lock_encoding.specs.Text.{lines_of, patch_lines, reference_lines};
+ghost use Rattle.cargo_lock_encoding.specs.Text.{replace_line, source_line, version_lines};
 ghost use Rattle.cargo_lock_parts.specs.declared.error.Error.TheVariants.{Memory};
 ghost use Rattle.cargo_lock_references.specs.Metadata.{metadata_of};
-ghost use Rattle.cargo_lock_encoding.specs.Text.{Adds, AddsLines, checksum_line, comment_lines};
-ghost use Rattle.cargo_lock_encoding.specs.Text.{dependency_line, encoded_lines, package_lines};
-ghost use Rattle.cargo_lock_encoding.specs.Text.{escape_char, escape, field, hex_digit};
-ghost use Rattle.cargo_lock_encoding.specs.Text.{is_bare_byte, is_bare_key, is_plain_byte};
-ghost use Rattle.cargo_lock_encoding.specs.Text.{join_lines, key_text};
-ghost use Rattle.cargo_lock_encoding.specs.Text.{lines_of, metadata_lines, pair_line, patch_lines};
-ghost use Rattle.cargo_lock_encoding.specs.Text.{quote, reference_lines, replace_line};
-ghost use Rattle.cargo_lock_encoding.specs.Text.{short_escape, source_line, version_lines};
 
 use crate::encode::{encoded_package_of, written_version};
 use crate::table::is_escaped_number;
@@ -109,7 +109,7 @@ fn is_plain(text: &str) -> bool
 }
 
 // The characters of a string, one by one.
-#[tactic(auto, unfolding(crate::specs::Text::escape))]
+#[tactic(auto, unfolding(cargo_lock_lines::specs::Quoting::escape))]
 fn put_each_char(out: &mut String, text: &str) -> Put
     ensures { Adds result out.old out.new (escape text.now) }
 {

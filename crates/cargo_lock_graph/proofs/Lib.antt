@@ -16,6 +16,7 @@ pub mod EdgesOnce
 pub mod FrameLevels
 pub mod GraphEnds
 pub mod MadeChains
+pub mod ParsedVersions
 pub mod PrefixLemmas
 pub mod ReadLineLemmas
 pub mod RenderWrites

@@ -1,6 +1,10 @@
 -- Laws of drawings, over every graph.
-use Rattle.std.specs.Prelude.{◌≡◌, ℕ, suc, ◌<◌, ◌↔◌, Bool, All, List, [], Some, length, slice_get}
+use Rattle.std.specs.Prelude.{◌≡◌, ℕ, suc, ◌<◌, ◌↔◌, Bool, false, All, List, [], Some, Ok}
+use Rattle.std.specs.Prelude.{length, slice_get}
 use Rattle.std.specs.List.{filter}
+use Rattle.semver.specs.Identifiers.{parts_text}
+use Rattle.semver.specs.Parse.{Parts, version_parts}
+use Rattle.cargo_lock_parts.specs.Ascii.{newline}
 use Rattle.cargo_lock_parts.specs.Identity.{PackageData}
 use Rattle.cargo_lock_graph.specs.declared.graph.EdgeDirection.{EdgeDirection}
 use Rattle.cargo_lock_graph.specs.declared.drawing.entry.Entry.{Entry}
@@ -97,3 +101,8 @@ abbrev pub EntriesAreLines : Type 0
 EntriesAreLines = (exact : Bool) (packages : List PackageData) (es : List Entry)
     → All (λ e. (p : PackageData) → slice_get packages e.node ≡ Some p → HasNoNewline p) es
     → AreLines (label_at exact packages) es
+
+-- the text of a version that was parsed has no newline
+abbrev pub ParsedVersionsAreLines : Type 0
+ParsedVersionsAreLines = (text : List ℕ) (v : Parts) → version_parts text ≡ Ok v
+    → is_one_of newline (parts_text v) ≡ false

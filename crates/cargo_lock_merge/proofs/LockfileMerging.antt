@@ -135,9 +135,9 @@ read-decides l x text b means d = (λ h. (x, means, d.0 h), from)
     from (y, other, same) = d.1 (subst (λ (z : LockfileData). IsSameLockfile (with_cargo_checksums_in z) l) (text-means-one text y x other means) same)
 
 -- a text that is refused, but not for a long URL, means no lockfile
-pub unread : (l : LockfileData) (text : List ℕ) (e : Error) → RefusesUrls e ((x : LockfileData) → ¬ TextMeans text x) → IsUnread e → ¬ TextIsOf l text
+pub unread : {L : Type 0} (l : LockfileData) (text : List ℕ) (e : Error) → RefusesUrls L e ((x : LockfileData) → ¬ TextMeans text x) → IsUnread e → ¬ TextIsOf l text
 unread l text (Parse message) (inl none) n (x, means, same) = none x means
-unread l text (Parse message) (inr long) n h = n long
+unread l text (Parse message) (inr long) n h = n long.0
 unread l text (Io kind) r n h = n
 unread l text (Version fault) r n h = n
 unread l text (Resolution message) r n h = n

@@ -9,7 +9,8 @@ use Rattle.cargo_lock.specs.CargoChecksums.{with_cargo_checksums_in}
 use Rattle.cargo_lock_encoding.specs.Lockfiles.{LockfileData}
 use Rattle.cargo_lock_encoding.specs.Means.{TextMeans}
 use Rattle.cargo_lock_encoding.specs.Survives.{HasSamePackages}
-use Rattle.cargo_lock_encoding.specs.Text.{join_lines, lines_of}
+use Rattle.cargo_lock_lines.specs.Layout.{join_lines}
+use Rattle.cargo_lock_encoding.specs.Text.{lines_of}
 use Rattle.cargo_lock_merge.specs.Formats.{IsLaterFormat}
 use Rattle.cargo_lock_merge.specs.Once.{HasEachOnce}
 use Rattle.cargo_lock_merge.specs.Order.{AreInOrder}

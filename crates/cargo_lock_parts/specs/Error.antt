@@ -1,6 +1,6 @@
 -- Errors by what they say, without the capacity of their texts.
 use Rattle.std.specs.Prelude.{◌≡◌, ℕ, ◌⊎◌, List, String, Result, Ok, Err, Option, Some, None, IfErr}
-use Rattle.std.specs.Prelude.{◌<◌, length, string_bytes, codes}
+use Rattle.std.specs.Prelude.{◌<◌, ◌≤◌, length, string_bytes, codes}
 use Rattle.std.specs.declared.alloc.AllocError.{AllocError}
 use Rattle.std.specs.declared.alloc.Global.{Global}
 use Rattle.semver.specs.Parse.{memory_error}
@@ -38,9 +38,14 @@ RefusesWith result text = IfErr result (λ e. (e ≡ Memory) ⊎ IsParse e text)
 abbrev pub too_long : List ℕ
 too_long = codes "invalid url: more than 4 GB"
 
--- the text is shorter than 2^24 bytes, so no URL in it has 4 GB and it never gets that refusal
+-- The text has 2^28 bytes or more. A URL may be longer than its text, since escapes take three
+-- bytes for one, but below this length none has 4 GB.
+abbrev pub IsLong : List ℕ → Type 0
+IsLong text = 268435456 ≤ length text
+
+-- the text is shorter, so it never gets that refusal
 abbrev pub IsShort : List ℕ → Type 0
-IsShort text = length text < 16777216
+IsShort text = length text < 268435456
 
 -- the error is that of a URL of 4 GB or more
 abbrev pub IsTooLong : Error → Type 0
@@ -59,13 +64,19 @@ abbrev pub Reads : {X Y : Type 0} → (X → Y) → Result X Error → Option Y 
 Reads view (Ok x) meaning = meaning ≡ Some (view x)
 Reads view (Err e) meaning = Refuses e (meaning ≡ None)
 
--- An error of a reader of URLs, for which a URL may also have 4 GB or more.
-abbrev pub RefusesUrls : Error → Type 0 → Type 0
-RefusesUrls (Parse message) P = P ⊎ (string_bytes message ≡ too_long)
-RefusesUrls Memory P = Unit {0}
-RefusesUrls other P = ⊥
+-- An error of a reader of URLs. `Parse` comes only if P holds, or if it is the error of a URL of
+-- 4 GB or more and L holds: the evidence that a text is long enough for one.
+abbrev pub RefusesUrls : Type 0 → Error → Type 0 → Type 0
+RefusesUrls L (Parse message) P = P ⊎ ((string_bytes message ≡ too_long) × L)
+RefusesUrls L Memory P = Unit {0}
+RefusesUrls L other P = ⊥
 
--- `Ok` has the meaning of the text, and `Parse` comes only if it has none or a URL has 4 GB or more
-abbrev pub ReadsUrls : {X Y : Type 0} → (X → Y) → Result X Error → Option Y → Type 0
-ReadsUrls view (Ok x) meaning = meaning ≡ Some (view x)
-ReadsUrls view (Err e) meaning = RefusesUrls e (meaning ≡ None)
+-- `Ok` has the meaning of the text, and `Parse` comes only if it has none, or for a URL of 4 GB or
+-- more if L holds
+abbrev pub ReadsUrls : {X Y : Type 0} → Type 0 → (X → Y) → Result X Error → Option Y → Type 0
+ReadsUrls L view (Ok x) meaning = meaning ≡ Some (view x)
+ReadsUrls L view (Err e) meaning = RefusesUrls L e (meaning ≡ None)
+
+-- the error of a URL of 4 GB or more comes only if L holds
+abbrev pub TellsLength : {X : Type 0} → Type 0 → Result X Error → Type 0
+TellsLength L result = IfErr result (λ e. IsTooLong e → L)

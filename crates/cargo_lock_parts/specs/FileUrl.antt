@@ -10,7 +10,7 @@ use Rattle.std.specs.List.{flat_map, list_any, slice_split}
 use Rattle.percent_encoding.specs.Percent.{percent_encode_byte}
 use Rattle.cargo_lock_parts.specs.declared.error.Error.{Error}
 use Rattle.cargo_lock_parts.specs.Ascii.{slash}
-use Rattle.cargo_lock_parts.specs.Error.{IsShort, Reads, ReadsUrls, RefusesWith}
+use Rattle.cargo_lock_parts.specs.Error.{IsLong, ReadsUrls, RefusesWith}
 use Rattle.cargo_lock_parts.specs.Source.{Kind, Source}
 use Rattle.cargo_lock_parts.specs.SourceReading.{plain_source, url_of}
 
@@ -81,11 +81,11 @@ abbrev pub invalid_path : List ℕ → List ℕ
 invalid_path path = codes "invalid path url `" ++ path ++ codes "`"
 
 -- The result is the source of this kind at the path. `Parse` comes if there is none, and then names
--- a path that does not begin with `/`. It also comes for a URL of 4 GB or more, which the URL of a
--- short path never has.
+-- a path that does not begin with `/`. It also comes for a URL of 4 GB or more, which only a long
+-- path has.
 abbrev pub ReadsFolder : Result Source Error → Kind → List ℕ → Type 0
-ReadsFolder result kind path = ReadsUrls (λ source. source) result (source_at kind path)
-    × (IsShort path → Reads (λ source. source) result (source_at kind path))
+ReadsFolder result kind path =
+    ReadsUrls (IsLong path) (λ source. source) result (source_at kind path)
     × (begins_with_slash path ≡ false → RefusesWith result (invalid_path path))
 
 -- each absolute path has a source

@@ -85,8 +85,9 @@ impl<T: Drop> From<AllocFailed<T>> for Error {
 // The text of the error for a URL of 4 GB or more.
 pub(crate) const TOO_LONG: &str = "invalid url: more than 4 GB";
 
-/// Texts of fewer bytes hold no URL of 4 GB or more.
-pub const SHORT_LENGTH: usize = 16777216;
+/// Texts of fewer bytes, which is 2^28, hold no URL of 4 GB or more: a URL grows at most threefold
+/// by escapes.
+pub const SHORT_LENGTH: usize = 268435456;
 
 impl Error {
     ghost use Rattle.std.specs.Prelude.{◌≡◌, ◌↔◌, IsTrue};
@@ -103,7 +104,8 @@ impl Error {
     }
 
     /// Whether this is the error for a URL of 4 GB or more, which is refused though it may be a
-    /// valid URL. Texts of fewer than 2^24 bytes never get this error.
+    /// valid URL. The readers of sources, references and lockfiles give it for no text of fewer
+    /// than `SHORT_LENGTH` bytes.
     pub fn is_too_long(&self) -> bool
         ensures { IsTrue result ↔ IsTooLong self.now }
     {

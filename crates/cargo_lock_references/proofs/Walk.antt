@@ -17,13 +17,22 @@ Refuses-by (Version fault) P Q h f = absurd h
 Refuses-by (Resolution message) P Q h f = absurd h
 Refuses-by Memory P Q h f = tt
 
-pub RefusesUrls-by : (e : Error) (P Q : Type 0) → RefusesUrls e P → (P → Q) → RefusesUrls e Q
-RefusesUrls-by (Io kind) P Q h f = absurd h
-RefusesUrls-by (Parse message) P Q (inl p) f = inl (f p)
-RefusesUrls-by (Parse message) P Q (inr long) f = inr long
-RefusesUrls-by (Version fault) P Q h f = absurd h
-RefusesUrls-by (Resolution message) P Q h f = absurd h
-RefusesUrls-by Memory P Q h f = tt
+-- the same of a reader of URLs, with evidence of another kind
+pub RefusesUrls-by : (e : Error) (L M P Q : Type 0) → RefusesUrls L e P → (L → M) → (P → Q) → RefusesUrls M e Q
+RefusesUrls-by (Io kind) L M P Q h g f = absurd h
+RefusesUrls-by (Parse message) L M P Q (inl p) g f = inl (f p)
+RefusesUrls-by (Parse message) L M P Q (inr long) g f = inr (long.0, g long.1)
+RefusesUrls-by (Version fault) L M P Q h g f = absurd h
+RefusesUrls-by (Resolution message) L M P Q h g f = absurd h
+RefusesUrls-by Memory L M P Q h g f = tt
+
+-- a refusal of a reader that reads no URL
+pub RefusesUrls-exactly : (e : Error) (M P Q : Type 0) → Refuses e P → (P → Q) → RefusesUrls M e Q
+RefusesUrls-exactly (Io kind) M P Q h f = absurd h
+RefusesUrls-exactly (Parse message) M P Q h f = inl (f h)
+RefusesUrls-exactly (Version fault) M P Q h f = absurd h
+RefusesUrls-exactly (Resolution message) M P Q h f = absurd h
+RefusesUrls-exactly Memory M P Q h f = tt
 
 -- one more item, mapped on both sides
 pub map-more : {A B C : Type 0} (f : A → C) (g : B → C) (xs : List A) (x : A) (ys : List B) (i : ℕ) (y : B) → i < length ys → y ≡ get_or ys i y → f x ≡ g y → map f xs ≡ map g (take i ys)

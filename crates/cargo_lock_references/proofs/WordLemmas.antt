@@ -11,7 +11,7 @@ use Rattle.std.proofs.lemmas.List.Splits.{slice_split_none, slice_split_at, slic
 use Rattle.std.proofs.lemmas.Bool.Decides.{nat_tests}
 use Rattle.std.specs.Prelude.{Result}
 use Rattle.cargo_lock_parts.specs.declared.error.Error.{Error}
-use Rattle.cargo_lock_references.specs.Reference.{Reference, ReadsReference, ReadsReferenceExactly, reference_of_words, reference_or_refusal}
+use Rattle.cargo_lock_references.specs.Reference.{Reference, ReadsReference, reference_of_words, reference_or_refusal}
 use Rattle.cargo_lock_references.specs.Words.{words, text_words, words_of_chars, is_nonempty}
 
 white_from_not : (b : Bool) → not b ≡ false → b ≡ true
@@ -100,13 +100,7 @@ unfolding words
 words-text t u = rw (is_utf8-from_IsUtf8 t u)
 
 -- what the words of a text read as, the text reads as
-pub ReadsReference-text : (t : List ℕ) (r : Result Reference Error) → IsUtf8 t → ReadsReference r (reference_of_words (text_words t))
-    → ReadsReference r (reference_or_refusal t)
+pub ReadsReference-text : (L : Type 0) (t : List ℕ) (r : Result Reference Error) → IsUtf8 t → ReadsReference L r (reference_of_words (text_words t))
+    → ReadsReference L r (reference_or_refusal t)
 unfolding reference_or_refusal
-ReadsReference-text t r u h = subst (λ ws. ReadsReference r (reference_of_words ws)) (sym (words-text t u)) h
-
-pub ReadsReferenceExactly-text : (t : List ℕ) (r : Result Reference Error) → IsUtf8 t
-    → ReadsReferenceExactly r (reference_of_words (text_words t)) → ReadsReferenceExactly r (reference_or_refusal t)
-unfolding reference_or_refusal
-ReadsReferenceExactly-text t r u h =
-    subst (λ ws. ReadsReferenceExactly r (reference_of_words ws)) (sym (words-text t u)) h
+ReadsReference-text L t r u h = subst (λ ws. ReadsReference L r (reference_of_words ws)) (sym (words-text t u)) h

@@ -8,7 +8,7 @@ abbrev pub Finds : {X : Type 0} → (X → Type 0) → Result X Error → Type 0
 Finds {X} P (Ok x) = P x
 Finds {X} P (Err e) = Refuses e ((x : X) → ¬ P x)
 
--- the same if URLs are read, one of which may have 4 GB or more
-abbrev pub FindsUrls : {X : Type 0} → (X → Type 0) → Result X Error → Type 0
-FindsUrls {X} P (Ok x) = P x
-FindsUrls {X} P (Err e) = RefusesUrls e ((x : X) → ¬ P x)
+-- the same if URLs are read, one of which may have 4 GB or more if L holds
+abbrev pub FindsUrls : {X : Type 0} → Type 0 → (X → Type 0) → Result X Error → Type 0
+FindsUrls {X} L P (Ok x) = P x
+FindsUrls {X} L P (Err e) = RefusesUrls L e ((x : X) → ¬ P x)

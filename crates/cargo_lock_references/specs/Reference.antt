@@ -105,9 +105,9 @@ abbrev pub ReadsReferenceOr : {X : Type 0} → (Error → Type 0 → Type 0) →
 ReadsReferenceOr refuses (Ok f) expected = expected ≡ Ok f
 ReadsReferenceOr refuses (Err e) expected = IsReferenceFault refuses e expected
 
--- what the reader of a reference returns; a URL may also have 4 GB or more
-abbrev pub ReadsReference : {X : Type 0} → Result X Error → Result X Refusal → Type 0
-ReadsReference = ReadsReferenceOr RefusesUrls
+-- what the reader of a reference returns; a URL may also have 4 GB or more if L holds
+abbrev pub ReadsReference : {X : Type 0} → Type 0 → Result X Error → Result X Refusal → Type 0
+ReadsReference L = ReadsReferenceOr (RefusesUrls L)
 
 -- what the reader of a reference returns if no URL can have 4 GB or more
 abbrev pub ReadsReferenceExactly : {X : Type 0} → Result X Error → Result X Refusal → Type 0

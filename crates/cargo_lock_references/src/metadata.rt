@@ -14,8 +14,8 @@ ghost use Rattle.std.specs.Ordering.{nat_cmp};
 ghost use Rattle.cargo_lock_parts.specs.declared.error.Error.TheVariants.{Memory};
 ghost use Rattle.cargo_lock_parts.specs.Checksum.{IsDigestText, checksum_refusal, digest_in};
 ghost use Rattle.cargo_lock_parts.specs.Checksum.{digest_of};
-ghost use Rattle.cargo_lock_parts.specs.Error.{IsShort, Reads, RefusesWith};
-ghost use Rattle.cargo_lock_references.specs.Reference.{ReadsReference, ReadsReferenceExactly};
+ghost use Rattle.cargo_lock_parts.specs.Error.{IsLong, Reads, RefusesWith};
+ghost use Rattle.cargo_lock_references.specs.Reference.{ReadsReference};
 ghost use Rattle.cargo_lock_references.specs.Metadata.{checksum_key, is_checksum, key_or_refusal};
 
 use crate::EncodableDependency;
@@ -100,14 +100,13 @@ impl MetadataKey {
     /// The package whose checksum is at the key: the text after `checksum `, read as a reference
     /// with a version. A version that does not read is `Version`, and any other key without such a
     /// text is `Parse`. `Parse` also comes for a URL of 4 GB or more, which no key shorter than
-    /// 2^24 bytes has. The other error is `Memory`.
+    /// 2^28 bytes has. The other error is `Memory`.
     ///
     /// ```
     /// let named = key.checksum_dependency(alloc)?;
     /// ```
     pub fn checksum_dependency(&self, alloc: Global) -> Result<Dependency>
-        ensures read { ReadsReference result (key_or_refusal self.now) }
-        ensures short { IsShort self.now → ReadsReferenceExactly result (key_or_refusal self.now) }
+        ensures { ReadsReference (IsLong self.now) result (key_or_refusal self.now) }
     {
         let mut sources = ReadSources::new(alloc);
         self.dependency_by(alloc, &mut sources)
@@ -120,8 +119,7 @@ impl MetadataKey {
         alloc: Global,
         sources: &mut ReadSources,
     ) -> Result<Dependency>
-        ensures read { ReadsReference result (key_or_refusal self.now) }
-        ensures short { IsShort self.now → ReadsReferenceExactly result (key_or_refusal self.now) }
+        ensures { ReadsReference (IsLong self.now) result (key_or_refusal self.now) }
     {
         let Some(text) = self.reference_text() else {
             let message = String::from_str(

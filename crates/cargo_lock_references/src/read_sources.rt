@@ -1,7 +1,7 @@
 //! The sources of texts, with each text read once.
 
 ghost use Rattle.std.specs.Prelude.{◌≡◌, Some, IfOk, IfSome, string_bytes};
-ghost use Rattle.cargo_lock_parts.specs.Error.{IsShort, Reads, ReadsUrls};
+ghost use Rattle.cargo_lock_parts.specs.Error.{IsLong, ReadsUrls, TellsLength};
 ghost use Rattle.cargo_lock_parts.specs.SourceReading.{source_of};
 ghost use Rattle.cargo_lock_references.specs.ReadSources.{AreRead};
 
@@ -41,8 +41,9 @@ impl ReadSources {
     /// The source that a text reads as, from `SourceId::from_url` if the text is new, with the same
     /// errors.
     pub fn read(&mut self, alloc: Global, text: &str) -> Result<SourceId>
-        ensures read { ReadsUrls (λ source. source) result (source_of text.now) }
-        ensures short { IsShort text.now → Reads (λ source. source) result (source_of text.now) }
+        ensures read { ReadsUrls
+            (IsLong text.now) (λ source. source) result (source_of text.now) }
+        ensures told { TellsLength (IsLong text.now) result }
     {
         if let Some(source) = known_source(&self.sources, text)? {
             return Ok(source);

@@ -7,7 +7,8 @@ ghost use Rattle.std.specs.Option.{option_cmp};
 ghost use Rattle.std.specs.Str.Iter.{split_whitespace_rest};
 ghost use Rattle.semver.specs.Identifiers.{parts_of};
 ghost use Rattle.cargo_lock_parts.specs.declared.error.Error.TheVariants.{Memory};
-ghost use Rattle.cargo_lock_parts.specs.Error.{IsShort, Reads, ReadsUrls};
+ghost use Rattle.cargo_lock_parts.specs.Error.{IsLong, IsParseOrMemory, IsTooLong, Reads};
+ghost use Rattle.cargo_lock_parts.specs.Error.{ReadsUrls, TellsLength};
 ghost use Rattle.cargo_lock_parts.specs.Identity.{identity_of};
 ghost use Rattle.cargo_lock_parts.specs.IdentityOrder.{version_cmp};
 ghost use Rattle.cargo_lock_references.specs.Words.{text_words};
@@ -61,8 +62,7 @@ impl Model for EncodableDependency {
 }
 
 impl EncodableDependency {
-    ghost use Rattle.cargo_lock_references.specs.Reference.{ReadsReference, ReadsReferenceExactly};
-    ghost use Rattle.cargo_lock_references.specs.Reference.{reference_of_words};
+    ghost use Rattle.cargo_lock_references.specs.Reference.{ReadsReference, reference_of_words};
     ghost use Rattle.cargo_lock_references.specs.Reference.{reference_or_refusal};
 
     /// Reads one to three parts with white space between: a name, a version, and a source in round
@@ -71,15 +71,14 @@ impl EncodableDependency {
     ///
     /// The first part from the left that is refused decides the error: `Version` for the version,
     /// otherwise `Parse`. `Parse` also comes for a URL of 4 GB or more, which no text shorter than
-    /// 2^24 bytes has. The other error is `Memory`.
+    /// 2^28 bytes has. The other error is `Memory`.
     ///
     /// ```
     /// let reference = EncodableDependency::from_str(alloc, text)?;
     /// ```
     pub fn from_str(alloc: Global, text: &str) -> Result<EncodableDependency>
-        ensures read { ReadsReference result (reference_or_refusal text.now) }
-        ensures short { IsShort text.now → ReadsReferenceExactly
-            result (reference_or_refusal text.now) }
+        ensures read { ReadsReference (IsLong text.now) result (reference_or_refusal text.now) }
+        ensures told { TellsLength (IsLong text.now) result }
     {
         let mut sources = ReadSources::new(alloc);
         EncodableDependency::from_str_by(alloc, &mut sources, text)
@@ -92,22 +91,21 @@ impl EncodableDependency {
         sources: &mut ReadSources,
         text: &str,
     ) -> Result<EncodableDependency>
-        ensures read { ReadsReference result (reference_or_refusal text.now) }
-        ensures short { IsShort text.now → ReadsReferenceExactly
-            result (reference_or_refusal text.now) }
+        ensures read { ReadsReference (IsLong text.now) result (reference_or_refusal text.now) }
+        ensures told { TellsLength (IsLong text.now) result }
     {
         EncodableDependency::read(alloc, sources, text)
     }
 
     // Reads a reference part by part.
     fn read(alloc: Global, sources: &mut ReadSources, text: &str) -> Result<EncodableDependency>
-        ensures read { ReadsReference result (reference_of_words (text_words text.now)) }
-        ensures short { IsShort text.now
-            → ReadsReferenceExactly result (reference_of_words (text_words text.now)) }
+        ensures read { ReadsReference
+            (IsLong text.now) result (reference_of_words (text_words text.now)) }
+        ensures told { TellsLength (IsLong text.now) result }
     {
         let mut words = text.split_whitespace();
         let Some(name) = next_word(&mut words) else {
-            return Err(Error::parse(String::from_str(alloc, "empty dependency string")));
+            return Err(empty_reference(alloc));
         };
         let name = Name::from_str(alloc, name)?;
         let Some(version) = next_word(&mut words) else {
@@ -127,7 +125,7 @@ impl EncodableDependency {
         };
         let source = bracketed_source(alloc, sources, source)?;
         if let Some(_) = next_word(&mut words) {
-            return Err(Error::parse(format!(in alloc; "malformed dependency: {text}")));
+            return Err(malformed_reference(alloc, text));
         }
         Ok(EncodableDependency {
             name,
@@ -161,17 +159,41 @@ fn next_word<'a>(rest: &mut SplitWhitespace<'a>) -> Option<&'a str>
 // The source in round brackets.
 #[tactic(auto, unfolding(crate::specs::Reference::bracketed_source))]
 fn bracketed_source(alloc: Global, sources: &mut ReadSources, word: &str) -> Result<SourceId>
-    ensures read { ReadsUrls (λ source. source) result (spec.bracketed_source word.now) }
-    ensures short { IsShort word.now → Reads
-        (λ source. source) result (spec.bracketed_source word.now) }
+    ensures read { ReadsUrls
+        (IsLong word.now) (λ source. source) result (spec.bracketed_source word.now) }
+    ensures told { TellsLength (IsLong word.now) result }
 {
     let bytes = word.as_bytes();
     let length = bytes.len();
     if length < 2 || bytes[0] != b'(' || bytes[length - 1] != b')' {
-        return Err(Error::parse(format!(in alloc; "malformed source in dependency: {word}")));
+        return Err(malformed_source(alloc, word));
     }
     let source = sources.read(alloc, &word[1..length - 1])?;
     Ok(source)
+}
+
+// The error for a text without words.
+fn empty_reference(alloc: Global) -> Error
+    ensures kind { IsParseOrMemory result }
+    ensures told { ¬ IsTooLong result }
+{
+    Error::parse(String::from_str(alloc, "empty dependency string"))
+}
+
+// The error for a text of more than three words.
+fn malformed_reference(alloc: Global, text: &str) -> Error
+    ensures kind { IsParseOrMemory result }
+    ensures told { ¬ IsTooLong result }
+{
+    Error::parse(format!(in alloc; "malformed dependency: {text}"))
+}
+
+// The error for a third word that is not in round brackets.
+fn malformed_source(alloc: Global, word: &str) -> Error
+    ensures kind { IsParseOrMemory result }
+    ensures told { ¬ IsTooLong result }
+{
+    Error::parse(format!(in alloc; "malformed source in dependency: {word}"))
 }
 
 impl fmt::Display for EncodableDependency {
@@ -283,13 +305,12 @@ impl EncodableDependency {
 
 impl EncodableDependency {
     ghost use Rattle.std.specs.Prelude.{Ok};
-    ghost use Rattle.cargo_lock_references.specs.Reference.{ReadsReference, ReadsReferenceExactly};
+    ghost use Rattle.cargo_lock_references.specs.Reference.{ReadsReferenceExactly};
     ghost use Rattle.cargo_lock_references.specs.Metadata.{own_identity};
 
     // The reference's own parts as an identity.
     pub(crate) fn own_identity(&self, alloc: Global) -> Result<Dependency>
-        ensures read { ReadsReference result (own_identity (Ok self.now)) }
-        ensures exact { ReadsReferenceExactly result (own_identity (Ok self.now)) }
+        ensures { ReadsReferenceExactly result (own_identity (Ok self.now)) }
     {
         let found = own_dependency(&self.by_ref())?;
         require(alloc, &self.name, found)

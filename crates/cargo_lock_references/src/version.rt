@@ -20,20 +20,20 @@ use serde::{Deserialize, Serialize};
 use std::alloc::Global;
 use std::fmt;
 
-/// A format of lockfiles. Its number is in the file from V3 on.
+/// A format of lockfiles. Its number, which is also that of the variant, is in the file from V3 on.
 #[derive(Clone, Copy, Debug, PartialEq, Eq, PartialOrd, Ord, Hash, Serialize, Deserialize)]
 pub enum ResolveVersion {
     /// The first format: references in full, and checksums in the metadata.
-    V1,
+    V1 = 1,
 
     /// References without redundant parts, and checksums in the packages.
-    V2,
+    V2 = 2,
 
     /// As V2, and the number of the format is in the file.
-    V3,
+    V3 = 3,
 
     /// As V3, and the references of git sources are escaped.
-    V4,
+    V4 = 4,
 }
 
 impl Default for ResolveVersion {
@@ -54,12 +54,7 @@ impl From<ResolveVersion> for u32 {
     ghost from_gives = { λ version number. number ≡ number_of version };
 
     fn from(version: ResolveVersion) -> u32 {
-        match version {
-            ResolveVersion::V1 => 1,
-            ResolveVersion::V2 => 2,
-            ResolveVersion::V3 => 3,
-            ResolveVersion::V4 => 4,
-        }
+        version as u32
     }
 }
 

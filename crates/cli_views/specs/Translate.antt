@@ -7,7 +7,8 @@ use Rattle.cargo_lock_references.specs.declared.version.ResolveVersion.{ResolveV
 use Rattle.cargo_lock_parts.specs.Ascii.{newline}
 use Rattle.cargo_lock_references.specs.Format.{IsFormatText}
 use Rattle.cargo_lock_encoding.specs.Lockfiles.{LockfileData}
-use Rattle.cargo_lock_encoding.specs.Text.{join_lines, lines_of}
+use Rattle.cargo_lock_lines.specs.Layout.{join_lines}
+use Rattle.cargo_lock_encoding.specs.Text.{lines_of}
 use Rattle.cargo_lock.specs.Loads.{IsMeant}
 use Rattle.cargo_lock.specs.Printed.{TextReadsBack}
 use Rattle.cargo_lock_encoding.specs.Survives.{Survives, in_format}

@@ -4,7 +4,8 @@
 ghost use Rattle.std.specs.Prelude.{◌≡◌, IfOk, IsTrue};
 ghost use Rattle.cargo_lock.specs.Means.{TextMeans};
 ghost use Rattle.cargo_lock.specs.Lockfiles.{LockfileData};
-ghost use Rattle.cargo_lock.specs.Text.{join_lines, lines_of};
+ghost use Rattle.cargo_lock.specs.Layout.{join_lines};
+ghost use Rattle.cargo_lock.specs.Text.{lines_of};
 ghost use Rattle.cargo_lock.specs.Survives.{Survives};
 
 use cargo_lock::{Error, Lockfile};

@@ -5,7 +5,8 @@ ghost use Rattle.toml.specs.View.{table_view};
 ghost use Rattle.cargo_lock_parts.specs.declared.error.Error.TheVariants.{Memory};
 ghost use Rattle.cargo_lock.specs.Shortest.{HasShortestReferences};
 ghost use Rattle.cargo_lock_encoding.specs.Table.{table_of};
-ghost use Rattle.cargo_lock_encoding.specs.Text.{join_lines, lines_of};
+ghost use Rattle.cargo_lock_lines.specs.Layout.{join_lines};
+ghost use Rattle.cargo_lock_encoding.specs.Text.{lines_of};
 
 use crate::error::Result;
 use crate::lockfile::Lockfile;

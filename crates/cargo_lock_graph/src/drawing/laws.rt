@@ -4,7 +4,8 @@ ghost use Rattle.cargo_lock_graph.specs.DrawingLaws.{DrawingExists, DrawingIsUni
 ghost use Rattle.cargo_lock_graph.specs.DrawingLaws.{DrawingsAreOneForm, EdgesMatch};
 ghost use Rattle.cargo_lock_graph.specs.DrawingLaws.{EntriesAreCounted, FirstIsUnique};
 ghost use Rattle.cargo_lock_graph.specs.DrawingLaws.{EntriesAreLines, GraphHasOneDrawing};
-ghost use Rattle.cargo_lock_graph.specs.DrawingLaws.{OccursWhereReachable, ReachableIsExpanded};
+ghost use Rattle.cargo_lock_graph.specs.DrawingLaws.{OccursWhereReachable};
+ghost use Rattle.cargo_lock_graph.specs.DrawingLaws.{ParsedVersionsAreLines, ReachableIsExpanded};
 ghost use Rattle.cargo_lock_graph.specs.DrawingLaws.{TextByLater, TextIsEndedLines};
 ghost use Rattle.cargo_lock_graph.specs.DrawingLaws.{TextIsOfOneDrawing, TextTellsDrawing};
 
@@ -78,4 +79,10 @@ pub fn text_is_ended_lines()
 /// An entry is one line if its package's name, version and exact text have no newline.
 pub fn entries_are_lines()
     ensures { EntriesAreLines }
+{}
+
+/// The text of a version that was parsed has no newline. So `entries_are_lines` asks that only of a
+/// version that was made in another way, since the type of versions promises nothing of it.
+pub fn parsed_versions_are_lines()
+    ensures { ParsedVersionsAreLines }
 {}

@@ -3,7 +3,8 @@ use Rattle.std.specs.List.{flat_map}
 use Rattle.std.proofs.lemmas.Iterator.{YieldsList-from_chars}
 use Rattle.std.proofs.lemmas.Iterator.Consumers.{YieldsList-end}
 use Rattle.std.proofs.lemmas.List.{map-id}
-use Rattle.cargo_lock_encoding.specs.Text.{escape, escape_char}
+use Rattle.cargo_lock_lines.specs.Quoting.{escape}
+use Rattle.cargo_lock_encoding.specs.Text.{escape_char}
 use Rattle.cargo_lock_encoding.proofs.Escapes.{escape-chars}
 use Rattle.cargo_lock_encoding.proofs.text.put_each_char.Goals as goal
 

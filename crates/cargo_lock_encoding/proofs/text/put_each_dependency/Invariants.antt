@@ -1,5 +1,6 @@
 use Rattle.std.proofs.Common.{◌≡◌, ◌++◌, map, take, string_bytes}
-use Rattle.cargo_lock_encoding.specs.Text.{dependency_line, join_lines}
+use Rattle.cargo_lock_encoding.specs.Text.{dependency_line}
+use Rattle.cargo_lock_lines.specs.Layout.{join_lines}
 use Rattle.cargo_lock_encoding.proofs.text.put_each_dependency.Given as goal
 
 abbrev pub invariant-loop-dependency : goal.invariant-loop-dependency

@@ -2,7 +2,8 @@ use Rattle.std.proofs.Common.{◌≡◌, ◌++◌, map, take, string_bytes}
 use Rattle.std.specs.List.{flat_map}
 use Rattle.cargo_lock_parts.specs.Identity.{identity_of}
 use Rattle.cargo_lock_encoding.specs.Table.{encoded_package_of}
-use Rattle.cargo_lock_encoding.specs.Text.{package_lines, join_lines}
+use Rattle.cargo_lock_encoding.specs.Text.{package_lines}
+use Rattle.cargo_lock_lines.specs.Layout.{join_lines}
 use Rattle.cargo_lock_encoding.proofs.text.put_each_written.Given as goal
 
 abbrev pub invariant-loop-package : goal.invariant-loop-package

@@ -1,5 +1,5 @@
 use Rattle.std.proofs.Common.{sym, ◌∙◌, rules}
-use Rattle.cargo_lock_encoding.proofs.Escapes.{escape-plain}
+use Rattle.cargo_lock_lines.proofs.Plain.{escape-plain}
 use Rattle.cargo_lock_encoding.proofs.text.put_escaped.Goals as goal
 
 pub returns-then-is_plain : goal.returns-then-is_plain

@@ -1,6 +1,7 @@
 use Rattle.std.proofs.Common.{◌≡◌, ◌++◌, take, string_bytes}
 use Rattle.std.specs.List.{flat_map}
-use Rattle.cargo_lock_encoding.specs.Text.{package_lines, join_lines}
+use Rattle.cargo_lock_encoding.specs.Text.{package_lines}
+use Rattle.cargo_lock_lines.specs.Layout.{join_lines}
 use Rattle.cargo_lock_encoding.proofs.text.put_packages.Given as goal
 
 abbrev pub invariant-loop-package : goal.invariant-loop-package

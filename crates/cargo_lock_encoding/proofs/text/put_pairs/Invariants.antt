@@ -1,5 +1,5 @@
 use Rattle.std.proofs.Common.{◌≡◌, ◌++◌, map, string_bytes}
-use Rattle.cargo_lock_encoding.specs.Text.{join_lines, pair_line}
+use Rattle.cargo_lock_lines.specs.Layout.{join_lines, pair_line}
 use Rattle.cargo_lock_encoding.proofs.text.put_pairs.Given as goal
 
 abbrev pub invariant-loop-key : goal.invariant-loop-key

@@ -43,7 +43,7 @@ impl SourceId {
     ///
     /// The path is absolute, and becomes a `file` URL: `/a b/./c/` is `file:///a%20b/c`. A path
     /// that does not begin with `/` is `Parse`. So is a URL of 4 GB or more, which no path shorter
-    /// than 2^24 bytes has. The other error is `Memory`.
+    /// than 2^28 bytes has. The other error is `Memory`.
     pub fn for_path(alloc: Global, path: Path<'_>) -> Result<SourceId>
         ensures { ReadsFolder result seen.Path (path_bytes path.entry) }
     {

@@ -1,10 +1,11 @@
 //! Reading the text of a source.
 
-ghost use Rattle.std.specs.Prelude.{◌≡◌, ◌<◌, ◌⊎◌, [], Some, None, IfOk, IsOkUnless, codes};
+ghost use Rattle.std.specs.Prelude.{◌≡◌, ◌≤◌, ◌⊎◌, [], Some, None, IfOk, IsOkUnless, codes};
 ghost use Rattle.std.specs.Prelude.{unwrap_or, if◌then◌else◌};
 ghost use Rattle.url.specs.Head.{without_tail};
 ghost use Rattle.cargo_lock_parts.specs.declared.error.Error.TheVariants.{Memory};
-ghost use Rattle.cargo_lock_parts.specs.Error.{IsShort, IsTooLong, Reads, ReadsUrls};
+ghost use Rattle.cargo_lock_parts.specs.Error.{IsLong, IsParseOrMemory, IsTooLong, ReadsUrls};
+ghost use Rattle.cargo_lock_parts.specs.Error.{TellsLength};
 ghost use Rattle.cargo_lock_parts.specs.Source.{kind_of, git_reference_of};
 ghost use Rattle.cargo_lock_parts.specs.SourceReading as spec;
 ghost use Rattle.cargo_lock_parts.specs.SourceReading.{git_reference_named};
@@ -25,7 +26,7 @@ impl SourceId {
     /// `rev` or `tag`.
     ///
     /// Any other text is `Parse`, which says which part is refused. So is a text with a URL of 4 GB
-    /// or more, which no text shorter than 2^24 bytes has. The other error is `Memory`.
+    /// or more, which no text shorter than 2^28 bytes has. The other error is `Memory`.
     ///
     /// ```
     /// let url = "git+https://example.org/lib?branch=main#92dd31f";
@@ -36,15 +37,15 @@ impl SourceId {
     /// ```
     #[tactic(auto, unfolding(crate::specs::SourceReading::source_of))]
     pub fn from_url(alloc: Global, text: &str) -> Result<SourceId>
-        ensures read { ReadsUrls (λ source. source) result (source_of text.now) }
-        ensures short { IsShort text.now → Reads (λ source. source) result (source_of text.now) }
+        ensures read { ReadsUrls
+            (IsLong text.now) (λ source. source) result (source_of text.now) }
+        ensures told { TellsLength (IsLong text.now) result }
     {
         let Some((word, url)) = text.split_once('+') else {
-            return Err(Error::parse(format!(in alloc; "invalid source `{text}`")));
+            return Err(invalid_source(alloc, text));
         };
         let Some(protocol) = protocol_of(word) else {
-            let message = format!(in alloc; "unsupported source protocol: `{word}` from `{text}`");
-            return Err(Error::parse(message));
+            return Err(unsupported_protocol(alloc, word, text));
         };
         let url = parse_url(alloc, url, text.len())?;
         let source = source_by(alloc, protocol, url)?;
@@ -53,8 +54,9 @@ impl SourceId {
 
     /// Reads a text as `from_url` does, with the same errors.
     pub fn from_str(alloc: Global, text: &str) -> Result<SourceId>
-        ensures read { ReadsUrls (λ source. source) result (source_of text.now) }
-        ensures short { IsShort text.now → Reads (λ source. source) result (source_of text.now) }
+        ensures read { ReadsUrls
+            (IsLong text.now) (λ source. source) result (source_of text.now) }
+        ensures told { TellsLength (IsLong text.now) result }
     {
         SourceId::from_url(alloc, text)
     }
@@ -82,24 +84,50 @@ fn protocol_of(word: &str) -> Option<Protocol>
     }
 }
 
+// The error for a text without a `+`.
+fn invalid_source(alloc: Global, text: &str) -> Error
+    ensures kind { IsParseOrMemory result }
+    ensures told { ¬ IsTooLong result }
+{
+    Error::parse(format!(in alloc; "invalid source `{text}`"))
+}
+
+// The error for a text whose part before the first `+` names no protocol.
+fn unsupported_protocol(alloc: Global, word: &str, text: &str) -> Error
+    ensures kind { IsParseOrMemory result }
+    ensures told { ¬ IsTooLong result }
+{
+    Error::parse(format!(in alloc; "unsupported source protocol: `{word}` from `{text}`"))
+}
+
 // Reads the URL in a text of `size` bytes.
 pub(super) fn parse_url(alloc: Global, url: &str, size: usize) -> Result<Url>
-    ensures read { ReadsUrls (λ url. url) result (spec.url_of url.now) }
-    ensures short { size < 16777216 → Reads (λ url. url) result (spec.url_of url.now) }
+    ensures read { ReadsUrls (268435456 ≤ size) (λ url. url) result (spec.url_of url.now) }
+    ensures told { TellsLength (268435456 ≤ size) result }
 {
     match Url::parse(alloc, url) {
         Ok(url) => Ok(url),
         Err(ParseError::OutOfMemory) => Err(Error::Memory),
         Err(ParseError::Overflow) => Err(too_long(alloc, size)),
-        Err(fault) => { Err(Error::parse(format!(in alloc; "invalid url `{url}`: {fault}"))) }
+        Err(fault) => Err(invalid_url(alloc, url, &fault)),
+    }
+}
+
+// The error for a text that is no URL, which says why.
+fn invalid_url(alloc: Global, url: &str, fault: &ParseError) -> Error
+    ensures kind { IsParseOrMemory result }
+    ensures told { ¬ IsTooLong result }
+{
+    match fault.to_string(alloc) {
+        Ok(fault) => Error::parse(format!(in alloc; "invalid url `{url}`: {fault}")),
+        Err(_) => Error::Memory,
     }
 }
 
 // The error for a URL of 4 GB or more, in a text of `size` bytes. Short texts have no such URL, so
 // for them it is `Memory`.
 fn too_long(alloc: Global, size: usize) -> Error
-    ensures kind { (result ≡ Memory) ⊎ IsTooLong result }
-    ensures short { size < 16777216 → result ≡ Memory }
+    ensures { (result ≡ Memory) ⊎ (IsTooLong result × (268435456 ≤ size)) }
 {
     if size < SHORT_LENGTH {
         return Error::Memory;

@@ -1,6 +1,7 @@
 use Rattle.std.proofs.Common.{◌≡◌, ◌++◌, ℕ, List, codes, subst, ◌∙◌}
 use Rattle.cargo_lock_references.specs.Format.{IsFormatText}
-use Rattle.cargo_lock_encoding.specs.Text.{join_lines, lines_of}
+use Rattle.cargo_lock_lines.specs.Layout.{join_lines}
+use Rattle.cargo_lock_encoding.specs.Text.{lines_of}
 use Rattle.cargo_lock_encoding.specs.Survives.{in_format}
 use Rattle.clap.specs.Matches.{first_value, found_of}
 use Rattle.cli_support.specs.Destination.{TakesOutput}

@@ -1,9 +1,6 @@
-use Rattle.cargo_lock_encoding.proofs.MeansLemmas.{FindsUrls-means, FindsUrls-refused, FindsUrls-text}
+use Rattle.cargo_lock_encoding.proofs.MeansLemmas.{FindsUrls-means, FindsUrls-text}
 use Rattle.cargo_lock.proofs.lockfile.reading.read_text.Goals as goal
 
-pub returns-in-Ok : goal.returns-in-Ok
-returns-in-Ok c =
-    FindsUrls-text c.args.text.now _ c.read_once.result c.in-Ok.ensures.ok (FindsUrls-means _ c.read_once.result c.read_once.ensures)
-
-pub returns-in-Err : goal.returns-in-Err
-returns-in-Err c = FindsUrls-refused c.args.text.now c.toml_error.result _ c.toml_error.ensures c.in-Err.ensures.refused
+pub returns-in-Some : goal.returns-in-Some
+returns-in-Some c =
+    FindsUrls-text _ c.args.text.now _ c.read_words.result (rw c.in-Some.is at c.in_ok-words.ensures) (FindsUrls-means _ _ c.read_words.result c.read_words.ensures)

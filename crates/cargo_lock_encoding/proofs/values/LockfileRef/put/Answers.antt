@@ -4,7 +4,8 @@ use Rattle.cargo_lock_references.specs.Metadata.{metadata_of}
 use Rattle.cargo_lock_encoding.specs.Lockfiles.{LockfileData}
 use Rattle.cargo_lock_references.specs.Records.{texts_of}
 use Rattle.cargo_lock_encoding.specs.Table.{encoded_of}
-use Rattle.cargo_lock_encoding.specs.Text.{join_lines, lines_of, metadata_lines}
+use Rattle.cargo_lock_lines.specs.Layout.{join_lines, metadata_lines}
+use Rattle.cargo_lock_encoding.specs.Text.{lines_of}
 use Rattle.cargo_lock_encoding.proofs.Lines.{then-encoded}
 use Rattle.cargo_lock_encoding.proofs.values.LockfileRef.put.Goals as goal
 

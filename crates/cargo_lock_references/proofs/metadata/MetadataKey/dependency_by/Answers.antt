@@ -2,6 +2,6 @@ use Rattle.std.proofs.Common.{inl, rules}
 use Rattle.cargo_lock_references.specs.Metadata.{key_or_refusal}
 use Rattle.cargo_lock_references.proofs.metadata.MetadataKey.dependency_by.Goals as goal
 
-pub returns-in_default-clause-read : goal.returns-in_default-clause-read
+pub returns-in_default : goal.returns-in_default
 unfolding key_or_refusal
-returns-in_default-clause-read c = inl (search rules)
+returns-in_default c = inl (search rules)
