@@ -7,9 +7,9 @@ ghost use Rattle.cargo_lock_ask.specs.Chains.{AreChainsOfEach, IsShortestChain, 
 ghost use Rattle.cargo_lock_ask.specs.Steps.{AreNearest, AreSteps, HasSteps, IsFirstChain};
 ghost use Rattle.cargo_lock_ask.specs.Steps.{IsNearerOf, IsNoFarther, IsOneCounted};
 
-use crate::need::ends;
 use crate::steps::steps_to;
 use cargo_lock_graph::graph::{EdgeDirection, Graph, NodeIndex};
+use cargo_lock_graph::listed::list_ends;
 use std::alloc::{AllocError, Global};
 
 // A node, and how many steps it is from there.
@@ -136,7 +136,7 @@ fn chain_from(
     chain.push(root.node)?;
     let mut last = root;
     'walk: while last.node.index() != to.index() {
-        let targets = ends(alloc, graph, last.node, EdgeDirection::Outgoing)?;
+        let targets = list_ends(alloc, graph, last.node, EdgeDirection::Outgoing)?;
         let Some(next) = nearest(steps, &targets) else {
             break;
         };

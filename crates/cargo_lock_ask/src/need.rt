@@ -7,6 +7,7 @@ ghost use Rattle.cargo_lock_ask.specs.Needers.{AreNeeders};
 ghost use Rattle.cargo_lock_ask.specs.Places.{IsPlaces};
 
 use cargo_lock_graph::graph::{EdgeDirection, Graph, NodeIndex};
+use cargo_lock_graph::listed::list_ends;
 use std::alloc::{AllocError, Global};
 
 /// The nodes of the packages that depend on the package of a node, each once and ascending. Fails
@@ -39,30 +40,8 @@ pub(crate) fn ends_once(
     ensures within { IfOk result (λ _.
         All (λ k. k < length graph.now.packages) (far_ends direction graph.now.edges node)) }
 {
-    let mut ends = ends(alloc, graph, node, direction)?;
+    let mut ends = list_ends(alloc, graph, node, direction)?;
     ends.sort_unstable();
     ends.dedup();
     Ok(ends)
-}
-
-// The nodes to which the edges of a node lead in a direction, newest edge first.
-pub(crate) fn ends(
-    alloc: Global,
-    graph: &Graph,
-    node: NodeIndex,
-    direction: EdgeDirection,
-) -> Result<Vec<NodeIndex>, AllocError>
-    ensures are { IfOk result (λ ends. ends.items ≡ far_ends direction graph.now.edges node) }
-    ensures within { IfOk result (λ ends. All (λ k. k < length graph.now.packages) ends.items) }
-{
-    match direction {
-        EdgeDirection::Outgoing => graph
-            .edges_directed(node, EdgeDirection::Outgoing)
-            .map(|edge| edge.target())
-            .collect(alloc),
-        EdgeDirection::Incoming => graph
-            .edges_directed(node, EdgeDirection::Incoming)
-            .map(|edge| edge.source())
-            .collect(alloc),
-    }
 }

@@ -14,6 +14,7 @@ use crate::chain::{chain_by_steps, chains_by_steps, is_one_counted};
 use crate::first::FirstChains;
 use crate::steps::steps_to;
 use cargo_lock_graph::graph::{EdgeDirection, Graph, NodeIndex};
+use cargo_lock_graph::listed::list_externals;
 use std::alloc::{AllocError, Global};
 
 /// Why the package of a node is there: a shortest chain of dependencies to it from a root, which is
@@ -153,7 +154,7 @@ fn starts(
 fn roots(alloc: Global, graph: &Graph) -> Result<Vec<NodeIndex>, AllocError>
     ensures { IfOk result (λ roots. roots.items ≡ spec.roots graph.now) }
 {
-    graph.externals(EdgeDirection::Incoming).collect(alloc)
+    list_externals(alloc, graph, EdgeDirection::Incoming)
 }
 
 // The nodes of the packages without a source, in order.

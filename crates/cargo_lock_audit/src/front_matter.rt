@@ -25,7 +25,11 @@ pub(crate) fn lines_from_first<'a>(
 fn lines_of<'a>(alloc: Global, text: &'a str) -> std::result::Result<Vec<&'a str>, AllocError>
     ensures { IfOk result (λ all. lines_at all.items ≡ lines text.now) }
 {
-    text.lines().collect(alloc)
+    let mut all = Vec::with_capacity(alloc, text.lines().count())?;
+    for line in text.lines() {
+        all.push(line)?;
+    }
+    Ok(all)
 }
 
 /// The lines after the first one, which begins the front matter.

@@ -17,6 +17,7 @@ use crate::reference::text_at;
 use crate::root::{Root, members};
 use crate::text::Text;
 use cargo_lock_graph::graph::{EdgeDirection, Graph, NodeIndex};
+use cargo_lock_graph::listed::list_ends;
 use std::alloc::{AllocError, Global};
 
 /// The nodes of an entry.
@@ -154,8 +155,10 @@ pub(crate) fn ends(alloc: Global, graph: &Graph, node: NodeIndex) -> Result<Vec<
     ensures are { IfOk result (λ ends. ends.items ≡ far_ends Outgoing graph.now.edges node) }
     ensures within { IfOk result (λ ends. All (λ k. k < length graph.now.packages) ends.items) }
 {
-    graph
-        .edges_directed(node, EdgeDirection::Outgoing)
-        .map(|edge| edge.target().index())
-        .collect(alloc)
+    let nodes = list_ends(alloc, graph, node, EdgeDirection::Outgoing)?;
+    let mut ends = Vec::with_capacity(alloc, nodes.len())?;
+    for end in &nodes {
+        ends.push(end.index())?;
+    }
+    Ok(ends)
 }

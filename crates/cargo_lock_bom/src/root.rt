@@ -2,8 +2,6 @@
 
 ghost use Rattle.std.specs.Prelude.{◌≡◌, ◌<◌, ◌↔◌, ℕ, true, IfOk, IfSome, IsTrue};
 ghost use Rattle.std.specs.Prelude.{MatchOption, None, length};
-ghost use Rattle.cargo_lock_graph.specs.declared.graph.EdgeDirection.TheVariants.{Incoming};
-ghost use Rattle.cargo_lock_graph.specs.Edges.{far_ends};
 ghost use Rattle.cargo_lock_bom.specs.declared.root.Root.TheVariants.{Package};
 ghost use Rattle.cargo_lock_bom.specs.Places.{IsPlaces};
 ghost use Rattle.cargo_lock_bom.specs.Root.{IsRootOf, IsTop, LeadsToAllButOrphans, LeadsToMembers};
@@ -13,6 +11,7 @@ ghost use Rattle.cargo_lock_bom.specs.Search.{HaveMarks};
 
 use crate::reach::reached_from;
 use cargo_lock_graph::graph::{EdgeDirection, Graph, NodeIndex};
+use cargo_lock_graph::listed::list_ends;
 use std::alloc::{AllocError, Global};
 
 /// The root of a bill of materials, which is what the bill describes.
@@ -173,19 +172,8 @@ pub(crate) fn is_application(
 fn is_needed(alloc: Global, graph: &Graph, node: NodeIndex) -> Result<bool, AllocError>
     ensures { IfOk result (λ is. is ≡ spec.is_needed graph.now.edges node) }
 {
-    let sources = sources(alloc, graph, node)?;
-    let own = node.index();
-    Ok(sources.iter().any(|other| *other != own))
-}
-
-// The nodes from which edges lead to a node, newest edge first.
-fn sources(alloc: Global, graph: &Graph, node: NodeIndex) -> Result<Vec<usize>, AllocError>
-    ensures { IfOk result (λ sources. sources.items ≡ far_ends Incoming graph.now.edges node) }
-{
-    graph
-        .edges_directed(node, EdgeDirection::Incoming)
-        .map(|edge| edge.source().index())
-        .collect(alloc)
+    let sources = list_ends(alloc, graph, node, EdgeDirection::Incoming)?;
+    Ok(sources.iter().any(|other| *other != node))
 }
 
 /// Whether a package is one of the workspace: it has no source.

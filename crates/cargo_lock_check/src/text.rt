@@ -58,7 +58,11 @@ pub(crate) fn first_other_line<'a>(
 fn lines_of<'a>(alloc: Global, text: &'a str) -> Result<Vec<&'a str>, AllocError>
     ensures { IfOk result (λ all. texts_at all.items ≡ lines text.now) }
 {
-    text.lines().collect(alloc)
+    let mut all = Vec::with_capacity(alloc, text.lines().count())?;
+    for line in text.lines() {
+        all.push(line)?;
+    }
+    Ok(all)
 }
 
 // The lines that Cargo writes.

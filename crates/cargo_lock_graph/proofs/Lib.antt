@@ -13,8 +13,10 @@ pub mod DrawingWords
 pub mod EdgeChains
 pub mod EdgeMatch
 pub mod EdgesOnce
+pub mod FrameCount
 pub mod FrameLevels
 pub mod GraphEnds
+pub mod Listing
 pub mod MadeChains
 pub mod ParsedVersions
 pub mod PrefixLemmas

@@ -14,6 +14,7 @@ pub mod Rendering
 pub mod Sinks
 pub mod Labels
 pub mod WalkState
+pub mod Frames
 pub mod Targets
 pub mod VersionText
 pub mod Candidates

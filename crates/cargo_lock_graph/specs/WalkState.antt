@@ -1,6 +1,7 @@
 -- What a walk over a graph has still to draw, and what it holds.
 use Rattle.std.specs.Prelude.{◌≡◌, ℕ, suc, ◌+◌, ◌≤◌, ◌<◌, Bool, List, [], ◌∷◌, ◌++◌, length, IfSome}
 use Rattle.std.specs.Prelude.{All, Option, is_some, vec_capacity, vec_len, ◌-◌, ◌*◌, take}
+use Rattle.std.specs.Prelude.{true, cond, get_or, set}
 use Rattle.cargo_lock_graph.specs.declared.graph.EdgeDirection.{EdgeDirection}
 use Rattle.cargo_lock_graph.specs.declared.drawing.entry.Entry.{Entry}
 use Rattle.cargo_lock_graph.specs.declared.drawing.walk.Walk.{Walk}
@@ -36,6 +37,12 @@ pub record IsHeld (nodes edges : ℕ) (marks : List Bool) (frames : List (Option
   pub known : All (λ f. IfSome f (λ edge. edge < edges)) frames
   pub room : length frames + unmarked_count marks ≤ nodes
   pub reserved : nodes ≤ capacity
+
+-- An entry of this node and depth was drawn: its node has a mark now, and there is a frame for each
+-- level above it, and one of its own if the node had no mark.
+pub record HasDrawn (old new : List Bool) (node depth frames : ℕ) : Type 0 where
+  pub marks : new ≡ cond (get_or old node true) old (set old node true)
+  pub frames_are : frames ≡ depth + cond (get_or old node true) 0 1
 
 -- the walk goes over this graph
 abbrev pub IsOn : GraphData → Walk → Type 0

@@ -1,6 +1,7 @@
 //! Drawings of graphs: the text of what is reachable from a node, written to a sink or a writer.
 
 pub mod entry;
+pub mod frames;
 mod label;
 pub mod laws;
 mod levels;

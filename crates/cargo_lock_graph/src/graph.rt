@@ -483,6 +483,14 @@ impl<'g> EdgeRef<'g> {
         edge.target
     }
 
+    // The node to which the edge leads in a direction.
+    pub(crate) fn far_end(&self, direction: EdgeDirection) -> NodeIndex
+        ensures { result ≡ far_end direction self.now }
+    {
+        let edge = self.edge;
+        edge.far_end(direction)
+    }
+
     /// The dependency that the edge represents.
     pub fn weight(&self) -> &'g Dependency
         ensures { result.now ≡ self.now.dependency }

@@ -7,5 +7,6 @@ pub mod building;
 pub mod drawing;
 pub mod graph;
 pub mod laws;
+pub mod listed;
 pub mod targets;
 pub mod versions;

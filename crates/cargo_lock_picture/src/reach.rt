@@ -7,6 +7,7 @@ ghost use Rattle.cargo_lock_picture.specs.Marks.{HasReached, IsMarked, IsReach};
 ghost use Rattle.cargo_lock_picture.specs.Reach.{IsReachedFrom};
 
 use cargo_lock_graph::graph::{EdgeDirection, Graph, NodeIndex};
+use cargo_lock_graph::listed::list_ends;
 use std::alloc::{AllocError, Global};
 
 // The nodes that are reached so far, and those whose edges are still to be followed.
@@ -31,7 +32,7 @@ pub(crate) fn marks_from(
 {
     let mut search = Reach::from(alloc, graph, starts)?;
     while let Some(node) = search.waiting.pop() {
-        let ends = ends(alloc, graph, node, direction)?;
+        let ends = list_ends(alloc, graph, node, direction)?;
         search.reach_all(&ends)?;
     }
     let Reach {
@@ -39,28 +40,6 @@ pub(crate) fn marks_from(
         waiting: _,
     } = search;
     Ok(reached)
-}
-
-// The nodes to which the edges of a node lead in a direction, newest edge first.
-pub(crate) fn ends(
-    alloc: Global,
-    graph: &Graph,
-    node: NodeIndex,
-    direction: EdgeDirection,
-) -> Result<Vec<NodeIndex>, AllocError>
-    ensures are { IfOk result (λ ends. ends.items ≡ far_ends direction graph.now.edges node) }
-    ensures within { IfOk result (λ ends. All (λ k. k < length graph.now.packages) ends.items) }
-{
-    match direction {
-        EdgeDirection::Outgoing => graph
-            .edges_directed(node, EdgeDirection::Outgoing)
-            .map(|edge| edge.target())
-            .collect(alloc),
-        EdgeDirection::Incoming => graph
-            .edges_directed(node, EdgeDirection::Incoming)
-            .map(|edge| edge.source())
-            .collect(alloc),
-    }
 }
 
 impl Reach {

@@ -10,8 +10,9 @@ ghost use Rattle.cargo_lock_picture.specs.Places.{IsPlaces};
 ghost use Rattle.cargo_lock_picture.specs.Reach.{IsReachedFrom};
 ghost use Rattle.cargo_lock_picture.specs.Scene.{AreEdgesAmong, needs};
 
-use crate::reach::{ends, marks_from};
+use crate::reach::marks_from;
 use cargo_lock_graph::graph::{EdgeDirection, Graph, NodeIndex};
+use cargo_lock_graph::listed::list_ends;
 use std::alloc::{AllocError, Global};
 
 /// An edge of a picture, from a package to one on which it depends.
@@ -113,7 +114,7 @@ fn targets(alloc: Global, graph: &Graph, node: NodeIndex) -> Result<Vec<NodeInde
     ensures { IfOk result (λ targets. IsPlaces (Contains (needs graph.now node))
         (length graph.now.packages) targets.items) }
 {
-    let mut targets = ends(alloc, graph, node, EdgeDirection::Outgoing)?;
+    let mut targets = list_ends(alloc, graph, node, EdgeDirection::Outgoing)?;
     targets.sort_unstable();
     targets.dedup();
     Ok(targets)

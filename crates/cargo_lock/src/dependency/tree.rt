@@ -18,6 +18,7 @@ use cargo_lock_graph::building::{graph_from, graph_of};
 use cargo_lock_graph::drawing::{Look, render_into, render_onto};
 pub use cargo_lock_graph::drawing::{Sink, Symbols, WriterSink, laws};
 use cargo_lock_graph::graph::{EdgeDirection, Graph, NodeIndex, Nodes};
+use cargo_lock_graph::listed::list_externals;
 use std::alloc::{AllocError, Global};
 use std::io::Write;
 use std::marker::Model;
@@ -81,7 +82,7 @@ pub fn roots_of(alloc: Global, graph: &Graph) -> Result<Vec<NodeIndex>>
         All (λ node. node < length graph.now.packages) roots.items) }
     ensures err { IsOkUnless result Memory }
 {
-    let roots = graph.externals(EdgeDirection::Incoming).collect(alloc)?;
+    let roots = list_externals(alloc, graph, EdgeDirection::Incoming)?;
     Ok(roots)
 }
 

@@ -76,7 +76,11 @@ fn folded(alloc: Global, name: &str) -> Result<Vec<u8>, AllocError>
     ensures { IfOk result (λ key. key.items ≡ folded name.now) }
 {
     let bytes = name.as_bytes();
-    bytes.iter().map(|byte| folded_byte(*byte)).collect(alloc)
+    let mut key = Vec::with_capacity(alloc, bytes.len())?;
+    for byte in bytes {
+        key.push(folded_byte(*byte))?;
+    }
+    Ok(key)
 }
 
 // A byte of a name as crates.io compares it.

@@ -2,10 +2,11 @@
 
 ghost use Rattle.std.specs.Prelude.{◌≡◌, List, ℕ, ◌<◌, ◌≤◌, [], ◌∷◌, ◌++◌, Option, Some, length};
 ghost use Rattle.std.specs.Prelude.{vec_capacity, vec_len, take, MatchOption, IfOk, IfSome};
+ghost use Rattle.std.specs.Prelude.{◌+◌, false, replicate};
 ghost use Rattle.cargo_lock_graph.specs.DrawingByLater.{goes_on};
 ghost use Rattle.cargo_lock_graph.specs.DrawingMade.{drawing, rest_of};
 ghost use Rattle.cargo_lock_graph.specs.Edges.{far_ends};
-ghost use Rattle.cargo_lock_graph.specs.WalkState.{HasLevels, IsAbove, IsHeld, IsOn};
+ghost use Rattle.cargo_lock_graph.specs.WalkState.{HasDrawn, HasLevels, IsAbove, IsHeld, IsOn};
 ghost use Rattle.cargo_lock_graph.specs.WalkState.{KeepsLevels, entries_to_come};
 ghost use Rattle.cargo_lock_graph.specs.WalkState.{entries_waiting, to_come};
 
@@ -50,6 +51,8 @@ impl Walk {
         ensures levels { IfOk result (λ walk. KeepsLevels graph.now walk) }
         ensures above { IfOk result (λ walk. IsAbove graph.now walk 0) }
         ensures direction { IfOk result (λ walk. walk.direction ≡ direction) }
+        ensures drawn { IfOk result (λ walk. HasDrawn (replicate (length graph.now.packages) false)
+            walk.visited.items start 0 (vec_len walk.stack)) }
         ensures all { IfOk result
             (λ walk. record { node = start; depth = 0 } ∷ to_come graph.now walk
             ≡ drawing (far_ends direction graph.now.edges) (length graph.now.packages) start) }
@@ -81,6 +84,8 @@ impl Walk {
             × (self.new.stack.items ≡ self.old.stack.items ++ more) }
         ensures direction { self.new.direction ≡ self.old.direction }
         ensures longer { vec_len self.old.stack ≤ vec_len self.new.stack }
+        ensures drawn { HasDrawn self.old.visited.items self.new.visited.items node
+            (vec_len self.old.stack) (vec_len self.new.stack) }
         ensures entry { (depth : ℕ) → depth ≡ vec_len self.old.stack
             → rest_of (far_ends self.old.direction graph.now.edges) self.old.visited.items
             (record { node = node; depth = depth }
@@ -107,6 +112,9 @@ impl Walk {
         ensures direction { self.new.direction ≡ self.old.direction }
         ensures fits { (0 < result.depth) × (result.depth ≤ vec_len self.new.stack)
             × (result.node < length graph.now.packages) }
+        ensures deep { result.depth ≡ vec_len self.old.stack + 1 }
+        ensures drawn { HasDrawn self.old.visited.items self.new.visited.items
+            result.node result.depth (vec_len self.new.stack) }
         ensures entry { entries_to_come self.old.direction graph.now.edges self.old.visited.items
             (self.old.stack.items ++ Some edge ∷ []) ≡ result ∷ to_come graph.now self.new }
     {
@@ -134,6 +142,9 @@ impl Walk {
         ensures fits { IfSome result
             (λ e. (0 < e.depth) × (e.depth ≤ vec_len self.new.stack)
             × (e.node < length graph.now.packages)) }
+        ensures deep { IfSome result (λ e. e.depth ≤ vec_len self.old.stack) }
+        ensures drawn { IfSome result (λ e. HasDrawn self.old.visited.items self.new.visited.items
+            e.node e.depth (vec_len self.new.stack)) }
         ensures entry { MatchOption result (to_come graph.now self.old ≡ [])
             (λ e. to_come graph.now self.old ≡ e ∷ to_come graph.now self.new) }
     {
@@ -144,6 +155,13 @@ impl Walk {
             }
         }
         None
+    }
+
+    // How many frames the stack has.
+    pub(crate) fn frame_count(&self) -> usize
+        ensures { result ≡ vec_len self.now.stack }
+    {
+        self.stack.len()
     }
 
     // The levels above the last entry.

@@ -4,6 +4,7 @@ use Rattle.std.proofs.lemmas.List.{length_push}
 use Rattle.cargo_lock_graph.specs.WalkState.{frames_text, to_come}
 use Rattle.cargo_lock_graph.specs.DrawingByLater.{levels_text}
 use Rattle.cargo_lock_graph.specs.DrawingText.{standard_symbols}
+use Rattle.cargo_lock_graph.proofs.FrameCount.{drawn-same}
 use Rattle.cargo_lock_graph.proofs.FrameLevels.{levels_first, levels_push, levels_room, text_first}
 use Rattle.cargo_lock_graph.proofs.WalkSteps.{ends_step, followed, held_on, held_pop, known_earlier}
 use Rattle.cargo_lock_graph.proofs.drawing.walk.Walk.follow.Goals as goal
@@ -54,3 +55,11 @@ returns-clause-above c =
       within = omega (arith, first.0, new.levels.ok.0);
       text_is = first.1 ∙ sym levels ∙ ap (λ (n : ℕ). levels_text standard_symbols n (to_come graph new)) (sym deep);
     }
+
+pub returns-clause-deep : goal.returns-clause-deep
+returns-clause-deep c =
+    let walk = c.args.self.now in
+    omega (arith, c.len-depth.ensures, c.put_frame.new.stack.ok.0, walk.stack.ok.0, ap length c.put_frame.ensures.items, length_push walk.stack.items c.older_edge-older_edge.result)
+
+pub returns-clause-drawn : goal.returns-clause-drawn
+returns-clause-drawn c = drawn-same _ _ _ _ _ _ _ c.index.ensures c.len-depth.ensures c.enter.ensures.drawn

@@ -1,5 +1,5 @@
 use Rattle.std.proofs.Common.{◌≡◌, ℕ, Bool, List, [], ◌∷◌, ◌++◌, length, Option, sym, ap, subst, ◌∙◌, vec_capacity, arith}
-use Rattle.std.proofs.lemmas.List.{nil_from_length}
+use Rattle.std.proofs.lemmas.List.{length_push, nil_from_length}
 use Rattle.cargo_lock_graph.specs.WalkState.{IsHeld, HasLevels, entries_to_come, frames_text}
 use Rattle.cargo_lock_graph.proofs.FrameLevels.{levels_before, levels_pop}
 use Rattle.cargo_lock_graph.proofs.WalkSteps.{coming_end, coming_done, held_pop}
@@ -19,6 +19,8 @@ loop-frame-preserved c =
       on = subst (λ (n : ℕ). IsHeld (length graph.packages) (length graph.edges) marks fs n) (sym c.in-Some.ensures.capacity) popped;
       levels = levels_pop _ walk.stack.items fs walk.levels.items c.pop_level.new.levels.items (vec_capacity walk.levels) _ (c.pop_level.ensures.items (frames_text fs) before) c.pop_level.ensures.capacity c.loop-frame.invariant.levels;
       direction = c.loop-frame.invariant.direction;
+      marks = c.loop-frame.invariant.marks;
+      fewer = omega (arith, c.loop-frame.invariant.fewer, walk.stack.ok.0, c.pop.new.self.ok.0, ap length split, length_push fs f);
       same = sym (coming_done walk.direction graph.edges marks walk.stack.items fs f split c.in_default-frame.is) ∙ c.loop-frame.invariant.same;
     }
 
