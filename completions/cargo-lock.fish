@@ -59,7 +59,7 @@ complete -c cargo-lock -n '__cargo_lock_runs bom' -s f -l file -r -F -d 'The loc
 complete -c cargo-lock -n '__cargo_lock_runs bom' -l any-size -d 'Reads a lockfile of 256 MiB or more too'
 complete -c cargo-lock -n '__cargo_lock_runs bom' -s o -l output -r -F -d 'The file that is written, - for standard output'
 complete -c cargo-lock -n '__cargo_lock_runs bom' -l root -x -a '(__cargo_lock_packages)' -d 'The package that the bill is about, as for tree'
-complete -c cargo-lock -n '__cargo_lock_runs bom' -l author -x -d 'Who writes the bill'
+complete -c cargo-lock -n '__cargo_lock_runs bom' -l author -x -d 'Names this author of the bill, and others that are given so'
 complete -c cargo-lock -n '__cargo_lock_runs bom' -l timestamp -d 'Adds the time: of SOURCE_DATE_EPOCH, or else of the clock'
 complete -c cargo-lock -n '__cargo_lock_runs bom' -l serial -d 'Adds a serial number, equal for equal bills'
 complete -c cargo-lock -n '__cargo_lock_runs bom' -l licenses -r -F -d 'Adds licences, by a folder of `cargo vendor` or of unpacked archives'

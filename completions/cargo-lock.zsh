@@ -65,7 +65,7 @@ _cargo-lock() {
             '--any-size[Reads a lockfile of 256 MiB or more too]' \
             '(-o --output)'{-o,--output}'[The file that is written, - for standard output]:PATH:_files' \
             '--root[The package that the bill is about, as for tree]:SPEC:_cargo-lock-packages' \
-            '--author[Who writes the bill]:NAME:' \
+            '*--author[Names this author of the bill, and others that are given so]:NAME:' \
             '--timestamp[Adds the time: of SOURCE_DATE_EPOCH, or else of the clock]' \
             '--serial[Adds a serial number, equal for equal bills]' \
             '--licenses[Adds licences, by a folder of `cargo vendor` or of unpacked archives]:FOLDER:_files -/' \

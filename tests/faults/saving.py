@@ -141,9 +141,16 @@ class Case:
             return f"another status or output: {answer}"
         if answer.status == 0:
             return f"a message of a success: {answer}" if answer.err else None
-        message = b"I/O operation failed: " + ERRORS[self.error] + b"\n"
-        is_printed = answer.err.startswith(b"*** error: ") and answer.err.endswith(message)
-        return None if is_printed and answer.err.count(b"\n") == 1 else f"another message: {answer}"
+        wanted = self.messages(b"I/O operation failed: " + ERRORS[self.error])
+        return None if answer.err in wanted else f"another message: {answer}"
+
+    def messages(self, words):
+        """The messages with these words about one of the files of the command: the file comes
+        first, or in a line of its own where the command is of the original."""
+        names = [name.encode() for name in (*dict(self.command.files), self.output.name)]
+        if self.command.status == 1:
+            return [b"*** error: " + words + b"\n  in " + name + b"\n" for name in names]
+        return [b"*** error: " + name + b": " + words + b"\n" for name in names]
 
 
 def one_fault(case, number):
@@ -163,13 +170,12 @@ def one_fault(case, number):
 
 def all_fail_from(case, number):
     """Runs a command with all calls failing from one on, as if it ended there, and then once more.
-    A file that did not exist may be left empty: the command creates one to see whether it may."""
+    A file that did not exist is not there."""
     case.start()
     answer = case.run(lasting(number, case.error, case.command.taken()))
     if fault := case.fault_of_answer(answer):
         return fault, answer
-    old = [case.output.old] if case.output.old is not None else [None, b""]
-    if not case.has(*([case.command.text] if answer.status == 0 else old)):
+    if not case.has(case.command.text if answer.status == 0 else case.output.old):
         return f"it holds {case.content(case.output.meant)!r} after {answer}", answer
     left = case.content(NEW_NAME)
     if not case.command.is_lockfile and case.output.meant == NAME:

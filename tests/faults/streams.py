@@ -76,9 +76,12 @@ def printed(faulty, words, files):
     return answer.out
 
 
-def fault_of(it, answer, calls, limit):
+def fault_of(it, answer, calls, limit, kind):
     """What is wrong with a run whose output takes some bytes and then fails, and whose standard
-    error takes no more than `limit`, or None."""
+    error takes no more than `limit`, or None. Where the reader went away, a command that the
+    original does not have has no fault."""
+    if kind == errno.EPIPE and it.status == 2:
+        return None if answer[:3] == (0, it.text[:calls], b"") else f"{answer}"
     if limit < len(MESSAGE):
         is_shown = answer.err == MESSAGE[:limit]
     else:
@@ -93,7 +96,7 @@ def cut_off(work):
     found = []
     for kind, limit in itertools.product(KINDS, LIMITS):
         turns = {"OUT": lasting(calls + 1, kind, 1), "ERR": lasting(limit + 1, kind, 1)}
-        fault = fault_of(it, faulty.run(it.words, folder, turns), calls, limit)
+        fault = fault_of(it, faulty.run(it.words, folder, turns), calls, limit, kind)
         what = f"{' '.join(it.words)}: error {kind} after {calls} bytes, {limit} of the message"
         found.append((what, fault))
     return found

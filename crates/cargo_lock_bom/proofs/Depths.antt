@@ -19,7 +19,7 @@ use Rattle.cargo_lock_bom.specs.Component.{AreComponents, base_members, componen
 use Rattle.cargo_lock_bom.specs.Dependencies.{AreEntries, AreOwnEntries, IsEntry, entry_with, node_reference}
 use Rattle.cargo_lock_bom.specs.Document.{IsAbout, IsBill, document_of}
 use Rattle.cargo_lock_bom.specs.Iri.{iri_text}
-use Rattle.cargo_lock_bom.specs.Metadata.{IsMetadata, authors_of, metadata_of, own_members}
+use Rattle.cargo_lock_bom.specs.Metadata.{IsMetadata, author_of, authors_if, metadata_of, own_members}
 use Rattle.cargo_lock_bom.specs.Options.{OptionsData}
 use Rattle.cargo_lock_bom.specs.Purl.{purl_of}
 use Rattle.cargo_lock_bom.specs.References.{workspace_reference}
@@ -161,13 +161,17 @@ root_low graph licenses (Package node) = component_at_low graph licenses node
 root_low graph licenses Workspace = lit≤ tt
 root_low graph licenses Nothing = tt
 
+authors_low : (names : List (List ℕ)) → IfLow (authors_if names) 3
+authors_low [] = tt
+authors_low (name ∷ names) = suc_low _ 2 (items_depth-map author_of 2 (λ n. lit≤ tt) (name ∷ names))
+
 metadata_low : (graph : GraphData) (root : Root) (options : OptionsData) (d : Data) → IsMetadata graph root options d → depth d ≤ 4
 unfolding metadata_of
 metadata_low graph root options d is =
     rw is.is (suc_low _ 3
     (put_some_low (codes "timestamp") (option_map string is.time) _ 3 (map_low string is.time 3 (λ t. lit≤ tt))
     (put_some_low (codes "component") (root_component graph options.licenses root) _ 3 (root_low graph options.licenses root)
-    (put_some_low (codes "authors") (option_map authors_of options.author) _ 3 (map_low authors_of options.author 3 (λ t. lit≤ tt))
+    (put_some_low (codes "authors") (authors_if options.authors) _ 3 (authors_low options.authors)
     (let own : members_depth (own_members options.tool_version) ≤ 3 = lit≤ tt in own)))))
 
 -- a bill nests less deep than a reader of JSON follows

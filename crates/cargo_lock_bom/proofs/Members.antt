@@ -13,7 +13,7 @@ use Rattle.cargo_lock_bom.specs.Component.{component_of, hashes_of, licenses_of,
 use Rattle.cargo_lock_bom.specs.Contents.{with_serial_if}
 use Rattle.cargo_lock_bom.specs.Document.{document_of}
 use Rattle.cargo_lock_bom.specs.Draft.{data_tokens, member_tokens}
-use Rattle.cargo_lock_bom.specs.Metadata.{authors_of, lifecycles, metadata_of, own_members, tools_of}
+use Rattle.cargo_lock_bom.specs.Metadata.{authors_if, lifecycles, metadata_of, own_members, tools_of}
 use Rattle.cargo_lock_bom.specs.Purl.{purl_of}
 use Rattle.cargo_lock_bom.specs.References.{package_reference}
 
@@ -109,16 +109,16 @@ component-tokens application license p =
     ∙ ap (λ ts. member_tokens (codes "licenses") l ++ token.key (codes "name") ∷ token.string p.name ∷ ts)
     (some-tokens (codes "purl") u _))))
 
-pub metadata-tokens : (version : List ℕ) (author : Option (List ℕ)) (component : Option Data) (time : Option (List ℕ))
-    → data_tokens (metadata_of version author component time)
-    ≡ token.begin_object ∷ (member_tokens (codes "authors") (option_map authors_of author)
+pub metadata-tokens : (version : List ℕ) (authors : List (List ℕ)) (component : Option Data) (time : Option (List ℕ))
+    → data_tokens (metadata_of version authors component time)
+    ≡ token.begin_object ∷ (member_tokens (codes "authors") (authors_if authors)
     ++ (member_tokens (codes "component") component
     ++ token.key (codes "lifecycles") ∷ (data_tokens lifecycles
     ++ (member_tokens (codes "timestamp") (option_map string time)
     ++ token.key (codes "tools") ∷ (data_tokens (tools_of version) ++ token.end_object ∷ [])))))
 unfolding metadata_of
-metadata-tokens version author component time =
-    let a = option_map authors_of author in
+metadata-tokens version authors component time =
+    let a = authors_if authors in
     let t = option_map string time in
     ap (λ ms. data_tokens (object ms)) (metadata-members version a component t)
     ∙ ap (λ ts. token.begin_object ∷ ts)

@@ -17,7 +17,7 @@ use Rattle.cargo_lock_bom.specs.Component.{AreComponents, component_at, componen
 use Rattle.cargo_lock_bom.specs.Dependencies.{AreEntries, AreOwnEntries, IsEntry, entry_with, node_reference}
 use Rattle.cargo_lock_bom.specs.Document.{IsBill, document_of}
 use Rattle.cargo_lock_bom.specs.Iri.{iri_text}
-use Rattle.cargo_lock_bom.specs.Metadata.{IsMetadata, authors_of, metadata_of, own_members}
+use Rattle.cargo_lock_bom.specs.Metadata.{IsMetadata, author_of, authors_if, metadata_of, own_members}
 use Rattle.cargo_lock_bom.specs.Options.{OptionsData}
 use Rattle.cargo_lock_bom.specs.Purl.{purl_of}
 use Rattle.cargo_lock_bom.specs.References.{workspace_reference}
@@ -168,12 +168,16 @@ metadata_order-members version a c t x y z =
       order-some (codes "timestamp") t _ z (refl, tt) (tt, (tt, (((refl, (refl, tt)), tt, ((refl, tt), tt, (tt, tt, tt))), tt), tt), tt),
     )))
 
+authors_order : (names : List (List ℕ)) → IfOrder (authors_if names)
+authors_order [] = tt
+authors_order (name ∷ names) = items-map author_of (λ n. (tt, tt, tt)) (name ∷ names)
+
 metadata_order : (graph : GraphData) (root : Root) (options : OptionsData) (d : Data) → IsMetadata graph root options d → InOrder d
 unfolding metadata_of
 metadata_order graph root options d is =
     subst InOrder (sym is.is)
-    (metadata_order-members options.tool_version (option_map authors_of options.author) (root_component graph options.licenses root) (option_map string is.time)
-    (map-order authors_of options.author (λ t. ((tt, tt, tt), tt))) (root_order graph options.licenses root) (map-order string is.time (λ t. tt)))
+    (metadata_order-members options.tool_version (authors_if options.authors) (root_component graph options.licenses root) (option_map string is.time)
+    (authors_order options.authors) (root_order graph options.licenses root) (map-order string is.time (λ t. tt)))
 
 -- ---- the document
 

@@ -60,7 +60,7 @@ pub record AreContents (graph : GraphData) (options : OptionsData) (contents : C
 
 -- the metadata of a bill with these contents
 abbrev pub metadata_with : GraphData → OptionsData → Contents → Data
-metadata_with graph options contents = metadata_of options.tool_version options.author
+metadata_with graph options contents = metadata_of options.tool_version options.authors
     (root_component graph options.licenses contents.root) (option_map string_bytes contents.time)
 
 -- the bill with these contents, without a serial number

@@ -1,12 +1,13 @@
 -- The metadata of a bill.
 -- The members are those of `metadata` in the JSON schema of CycloneDX 1.6.
-use Rattle.std.specs.Prelude.{◌≡◌, ℕ, ◌*◌, false, List, ◌++◌, codes, pos, Option, Some, None}
-use Rattle.std.specs.Prelude.{option_map}
+use Rattle.std.specs.Prelude.{◌≡◌, ℕ, ◌*◌, false, List, [], ◌∷◌, ◌++◌, codes, pos, Option, Some, None}
+use Rattle.std.specs.Prelude.{map, option_map}
 use Rattle.jiff_core.specs.declared.civil.datetime.DateTime.{DateTime}
 use Rattle.jiff_core.specs.DateTime.{civil_nanos}
 use Rattle.jiff_fmt.specs.Text.{datetime_text}
 use Rattle.serde_json.specs.Data.{Data, Members, string, array, object, item, no_items, member}
 use Rattle.serde_json.specs.Data.{no_members}
+use Rattle.serde_json.specs.View.{items_of}
 use Rattle.cargo_lock_graph.specs.Edges.{GraphData}
 use Rattle.cargo_lock_bom.specs.declared.root.Root.{Root}
 use Rattle.cargo_lock_bom.specs.Component.{put_some, root_component}
@@ -28,10 +29,18 @@ IsTimeTextIf (Some seconds) text = (t : List ℕ) × IsTimeText seconds t × (te
 
 -- ---- the metadata
 
--- the list with the one author
-abbrev pub authors_of : List ℕ → Data
-authors_of author =
-    array (item (object (member (codes "name") (string author) no_members)) no_items)
+-- an author of this name
+abbrev pub author_of : List ℕ → Data
+author_of name = object (member (codes "name") (string name) no_members)
+
+-- the list of the authors of these names
+abbrev pub authors_of : List (List ℕ) → Data
+authors_of names = array (items_of (map author_of names))
+
+-- that list, if there is an author
+abbrev pub authors_if : List (List ℕ) → Option Data
+authors_if [] = None
+authors_if (name ∷ names) = Some (authors_of (name ∷ names))
 
 -- the bill is made from a lockfile, before anything is built
 abbrev pub lifecycles : Data
@@ -52,17 +61,17 @@ abbrev pub own_members : List ℕ → Members
 own_members version = member (codes "lifecycles") lifecycles
     (member (codes "tools") (tools_of version) no_members)
 
--- these, and the author, the component of the root and the time, if there are any
-unfoldable pub metadata_of : List ℕ → Option (List ℕ) → Option Data → Option (List ℕ) → Data
-metadata_of version author component time = object
+-- these, and the authors, the component of the root and the time, if there are any
+unfoldable pub metadata_of : List ℕ → List (List ℕ) → Option Data → Option (List ℕ) → Data
+metadata_of version authors component time = object
     (put_some (codes "timestamp") (option_map string time)
     (put_some (codes "component") component
-    (put_some (codes "authors") (option_map authors_of author) (own_members version))))
+    (put_some (codes "authors") (authors_if authors) (own_members version))))
 
 -- the metadata of the bill of a graph with this root
 pub record IsMetadata (graph : GraphData) (root : Root) (options : OptionsData) (d : Data)
     : Type 0 where
   pub time : Option (List ℕ)
   pub is_time : IsTimeTextIf options.timestamp time
-  pub is : d ≡ metadata_of options.tool_version options.author
+  pub is : d ≡ metadata_of options.tool_version options.authors
       (root_component graph options.licenses root) time

@@ -3,13 +3,13 @@ use Rattle.std.specs.Prelude.{ℕ, Bool, List, length, nat_lt, Option, Some, Non
 use Rattle.cargo_lock_graph.specs.Edges.{GraphData}
 
 -- the node of the root, if it is given, the version of the program that writes the bill, the time
--- in seconds since 1970, if the bill has one, its author, if it names one, whether it has a serial
--- number, and the licence expressions of the packages that have one, by the place of the package
+-- in seconds since 1970, if the bill has one, its authors, whether it has a serial number, and the
+-- licence expressions of the packages that have one, by the place of the package
 pub record OptionsData : Type 0 where
   pub root : Option ℕ
   pub tool_version : List ℕ
   pub timestamp : Option ℕ
-  pub author : Option (List ℕ)
+  pub authors : List (List ℕ)
   pub has_serial : Bool
   pub licenses : List (Option (List ℕ))
 

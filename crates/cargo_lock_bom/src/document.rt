@@ -46,7 +46,7 @@ use std::alloc::{AllocError, Global};
 /// `{"bom-ref": "workspace", "name": "workspace", "type": "application"}`, whose entry depends on
 /// each package without a source. The member also has `"lifecycles": [{"phase": "pre-build"}]`, the
 /// program that wrote the bill, and what the options ask for: `"timestamp": "2024-06-19T17:30:05Z"`
-/// and `"authors": [{"name": AUTHOR}]`. The member `serialNumber`, if they ask for it, is
+/// and `"authors": [{"name": AUTHOR}, ..]`. The member `serialNumber`, if they ask for it, is
 /// `urn:uuid:ID`, where ID is computed from the document's text in one line without that member.
 ///
 /// `Parse` means that two packages have the same `bom-ref`, so the bill would refer to both:

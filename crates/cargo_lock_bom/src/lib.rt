@@ -3,7 +3,7 @@
 //!
 //! A lockfile has neither licences nor descriptions, and does not say whether a dependency is one
 //! of tests or of builds, of some target or of some feature. So the bill does not say these things,
-//! but for licences, which it has where the caller gives them. It has a time and an author only if
+//! but for licences, which it has where the caller gives them. It has a time and authors only if
 //! the caller gives them. So equal lockfiles have equal bills if the caller gives the same options.
 #![tactic(auto)]
 

@@ -1,12 +1,12 @@
 //! The metadata of a bill of materials.
 
-ghost use Rattle.std.specs.Prelude.{◌≡◌, ◌<◌, ◌*◌, ◌∷◌, IfOk, IfSome, Some, codes, option_copied};
+ghost use Rattle.std.specs.Prelude.{◌≡◌, ◌<◌, ◌*◌, ◌∷◌, IfOk, IfSome, Some, codes, map};
 ghost use Rattle.std.specs.Prelude.{option_map, pos, string_bytes};
 ghost use Rattle.json.specs.Token.{key};
 ghost use Rattle.cargo_lock_bom.specs.Contents.{AreContents, metadata_with};
 ghost use Rattle.cargo_lock_bom.specs.Draft.{Adds, data_tokens, member_tokens};
-ghost use Rattle.cargo_lock_bom.specs.Metadata.{IsTimeText, IsTimeTextIf, authors_of, lifecycles};
-ghost use Rattle.cargo_lock_bom.specs.Metadata.{tools_of};
+ghost use Rattle.cargo_lock_bom.specs.Metadata.{IsTimeText, IsTimeTextIf, author_of, authors_if};
+ghost use Rattle.cargo_lock_bom.specs.Metadata.{authors_of, lifecycles, tools_of};
 
 use crate::component::{put_root, put_text_if};
 use crate::contents::Contents;
@@ -31,7 +31,7 @@ pub(crate) fn put_metadata(
 {
     let texts = contents.texts.as_slice();
     out.begin_object()?;
-    put_authors(out, options.author)?;
+    put_authors(out, options.authors)?;
     put_root(out, alloc, graph, options.licenses, texts, &contents.root)?;
     put_lifecycles(out)?;
     put_text_if(out, "timestamp", &contents.time)?;
@@ -39,27 +39,35 @@ pub(crate) fn put_metadata(
     out.end_object()
 }
 
-// Writes the member with the one author, if there is one.
-fn put_authors(out: &mut Text, author: Option<&str>) -> Result<(), AllocError>
+// Writes the member with the authors of these names, if there is one.
+fn put_authors(out: &mut Text, names: &[&str]) -> Result<(), AllocError>
     ensures { Adds result out.old out.new (member_tokens (codes "authors")
-        (option_map authors_of (option_copied author.entry))) }
+        (authors_if (map (λ name. name.now) names.now))) }
 {
-    match author {
-        Some(author) => put_author(out, author),
-        None => Ok(()),
+    if names.is_empty() {
+        return Ok(());
     }
+    out.key("authors")?;
+    put_author_list(out, names)
 }
 
-fn put_author(out: &mut Text, author: &str) -> Result<(), AllocError>
-    ensures { Adds result out.old out.new (member_tokens (codes "authors")
-        (Some (authors_of author.now))) }
+fn put_author_list(out: &mut Text, names: &[&str]) -> Result<(), AllocError>
+    ensures { Adds result out.old out.new (data_tokens
+        (authors_of (map (λ name. name.now) names.now))) }
 {
-    out.key("authors")?;
     out.begin_array()?;
-    out.begin_object()?;
-    out.string_member("name", author)?;
-    out.end_object()?;
+    for name in names {
+        put_author(out, name)?;
+    }
     out.end_array()
+}
+
+fn put_author(out: &mut Text, name: &str) -> Result<(), AllocError>
+    ensures { Adds result out.old out.new (data_tokens (author_of name.now)) }
+{
+    out.begin_object()?;
+    out.string_member("name", name)?;
+    out.end_object()
 }
 
 // Writes the member with the phase in which the packages of the bill are chosen.

@@ -25,8 +25,8 @@ pub struct Options<'a> {
     /// it the bill has no time. A time after the year 9999, from 253402300800 on, is ignored.
     pub timestamp: Option<u64>,
 
-    /// The author of the bill. Without it the bill names no author.
-    pub author: Option<&'a str>,
+    /// The authors of the bill, in this order. Without one the bill names no author.
+    pub authors: &'a [&'a str],
 
     /// Whether the bill has a serial number.
     pub has_serial: bool,
@@ -38,7 +38,7 @@ pub struct Options<'a> {
 }
 
 impl<'a> Model for Options<'a> {
-    ghost use Rattle.std.specs.Prelude.{map, option_copied, option_map, string_bytes};
+    ghost use Rattle.std.specs.Prelude.{map, option_map, string_bytes};
     ghost use Rattle.cargo_lock_bom.specs.Options.{OptionsData};
 
     ghost Value = { OptionsData };
@@ -47,7 +47,7 @@ impl<'a> Model for Options<'a> {
       root = o.root;
       tool_version = o.tool_version.now;
       timestamp = o.timestamp;
-      author = option_copied o.author;
+      authors = map (λ author. author.now) o.authors.now;
       has_serial = o.has_serial;
       licenses = map (option_map string_bytes) o.licenses.now;
     } };
@@ -67,7 +67,7 @@ impl<'a> Options<'a> {
             root: node_below(self.root, graph.node_count()),
             tool_version: self.tool_version,
             timestamp: time_below(self.timestamp, YEAR_10000),
-            author: self.author,
+            authors: self.authors,
             has_serial: self.has_serial,
             licenses: self.licenses,
         }

@@ -19,7 +19,7 @@ own_options own = record {
   root = own;
   tool_version = VERSION.now;
   timestamp = None;
-  author = None;
+  authors = [];
   has_serial = false;
   licenses = [];
 }

@@ -95,7 +95,7 @@ fn options_of(own: Option<NodeIndex>) -> Options<'static>
         root: own,
         tool_version: VERSION,
         timestamp: None,
-        author: None,
+        authors: &[],
         has_serial: false,
         licenses: &[],
     }

@@ -18,7 +18,7 @@ use cli_lockfiles::load::{file, named_lockfile_of, named_text};
 use cli_support::output::put;
 use cli_support::{Fault, words};
 use std::alloc::{AllocError, Global};
-use std::io::Write;
+use std::io::{Input, Write};
 use std::process::ExitCode;
 use std::rt::Files;
 
@@ -50,15 +50,15 @@ pub(crate) fn command<'a>(alloc: Global) -> Result<Command<'a>, AllocError> {
         .about("Prints what is wrong with a lockfile")
         .after_help(FINDINGS_HELP)
         .arg(words::file(alloc))?
-        .arg(words::any_size(alloc))?
-        .arg(words::json(alloc))
+        .arg(words::any_size(alloc)?)?
+        .arg(words::json(alloc)?)
 }
 
 /// Prints what is wrong with the lockfile, a line for each finding, or, if the arguments ask for
 /// it, all as one line of JSON. The status is 1 if there is a finding, and otherwise 0. Fails if
 /// the lockfile is not read or `out` fails; a prefix of the text was then written in the last case,
 /// and nothing in the others.
-pub(crate) fn run<R: Files + AllocGlobal, W: Write>(
+pub(crate) fn run<R: Files + Input + AllocGlobal, W: Write>(
     rt: &R,
     options: &ArgMatches<'_>,
     out: &mut W,

@@ -31,7 +31,7 @@ use cli_views::{diff, duplicates, graph, list, translate, tree, why};
 use std::alloc::{AllocError, Global};
 use std::convert::AsStr;
 use std::env::Env;
-use std::io::Write;
+use std::io::{Input, Write};
 use std::process::ExitCode;
 use std::rt::Files;
 use std::time::Clock;
@@ -40,7 +40,7 @@ use std::time::Clock;
 /// goes to `out`, which is then flushed, and an error goes to `err`, as one message, as do the lines
 /// of `merge`. For each other command, if it returns success, nothing was written to `err`; if
 /// something was, the status is that of an error.
-pub fn run<R: Files + Env + Clock + AllocGlobal, S: AsStr, W: Write, E: Write>(
+pub fn run<R: Files + Input + Env + Clock + AllocGlobal, S: AsStr, W: Write, E: Write>(
     rt: &R,
     words: &[S],
     out: &mut W,
@@ -97,7 +97,7 @@ pub fn report<E: Write>(err: &mut E, fault: &Fault, status: ExitCode) -> ExitCod
 
 /// Reads the arguments, and runs their command or prints the help or the version that they ask for.
 /// Returns how it ended.
-fn execute<R: Files + Env + Clock + AllocGlobal, S: AsStr, W: Write>(
+fn execute<R: Files + Input + Env + Clock + AllocGlobal, S: AsStr, W: Write>(
     rt: &R,
     words: &[S],
     out: &mut W,
@@ -117,14 +117,15 @@ fn execute<R: Files + Env + Clock + AllocGlobal, S: AsStr, W: Write>(
     Ok(ended)
 }
 
-/// The parser of the arguments. If an option is given more than once, the last value counts, and a
-/// flag may be given more than once. Fails when out of memory.
+/// The parser of the arguments. If an option is given more than once, the last value counts for the
+/// commands of the original. The others refuse it, since the values before would be left out in
+/// silence, unless the option collects its values. A flag may be given more than once. Fails when out
+/// of memory.
 fn parser<'a>(alloc: Global) -> Result<Command<'a>, AllocError> {
     Command::new(alloc, "cargo-lock")
         .about("Looks into lockfiles")
         .version(VERSION)
         .subcommand_required(true)
-        .args_override_self(true)
         .subcommand(list::command(alloc)?)?
         .subcommand(translate::command(alloc)?)?
         .subcommand(tree::command(alloc)?)?
@@ -184,7 +185,7 @@ fn command_named(name: &str) -> Option<Chosen>
 }
 
 /// Runs the command that the parser found. Returns how it ended.
-fn dispatch<R: Files + Env + Clock + AllocGlobal, W: Write>(
+fn dispatch<R: Files + Input + Env + Clock + AllocGlobal, W: Write>(
     rt: &R,
     matches: &ArgMatches<'_>,
     out: &mut W,
@@ -203,7 +204,7 @@ fn dispatch<R: Files + Env + Clock + AllocGlobal, W: Write>(
 }
 
 /// Runs a command with its options. Returns how it ended.
-fn follow<R: Files + Env + Clock + AllocGlobal, W: Write>(
+fn follow<R: Files + Input + Env + Clock + AllocGlobal, W: Write>(
     rt: &R,
     command: Chosen,
     options: &ArgMatches<'_>,

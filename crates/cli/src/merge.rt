@@ -12,10 +12,10 @@ use cargo_lock_merge::moved::Moved;
 use clap::{Arg, ArgAction, ArgMatches, Command};
 use cli_lockfiles::load::{compared_lockfile, lockfile_without_packages};
 use cli_support::Fault;
-use cli_support::destination::put_out;
+use cli_support::destination::put_own_out;
 use cli_support::words::{any_size, is_standard, output};
 use std::alloc::{AllocError, Global};
-use std::io::{ErrorKind, Write};
+use std::io::{ErrorKind, Input, Write};
 use std::process::ExitCode;
 use std::rt::Files;
 
@@ -44,7 +44,7 @@ pub(crate) fn command<'a>(alloc: Global) -> Result<Command<'a>, AllocError> {
         .arg(path(alloc, "base", "BASE").help(BASE_HELP))?
         .arg(path(alloc, "ours", "OURS").help(OURS_HELP))?
         .arg(path(alloc, "theirs", "THEIRS").help(THEIRS_HELP))?
-        .arg(any_size(alloc))?
+        .arg(any_size(alloc)?)?
         .arg(output(alloc))
 }
 
@@ -68,7 +68,7 @@ struct Three {
 /// then 0. Where the sides are in conflict nothing is written, and the status is 1. What standard
 /// error is to have comes with the status: a line for each conflict, or for each dependency that
 /// neither side has. Fails if a lockfile is not read or cannot be merged, and if the output fails.
-pub(crate) fn run<R: Files + AllocGlobal, W: Write>(
+pub(crate) fn run<R: Files + Input + AllocGlobal, W: Write>(
     rt: &R,
     options: &ArgMatches<'_>,
     out: &mut W,
@@ -84,7 +84,10 @@ pub(crate) fn run<R: Files + AllocGlobal, W: Write>(
 
 /// The three lockfiles that the arguments name. Fails if one is not read, and if two of them are
 /// standard input.
-fn three_lockfiles<R: Files + AllocGlobal>(rt: &R, options: &ArgMatches<'_>) -> Result<Three, Fault>
+fn three_lockfiles<R: Files + Input + AllocGlobal>(
+    rt: &R,
+    options: &ArgMatches<'_>,
+) -> Result<Three, Fault>
     ensures { IfOk result AreCompared }
 {
     if are_two_standard(options) {
@@ -106,7 +109,7 @@ fn are_two_standard(options: &ArgMatches<'_>) -> bool {
 }
 
 /// The lockfile of the base. One that is not there has no packages.
-fn base_lockfile<R: Files + AllocGlobal>(
+fn base_lockfile<R: Files + Input + AllocGlobal>(
     rt: &R,
     options: &ArgMatches<'_>,
 ) -> Result<Lockfile, Fault>
@@ -156,7 +159,7 @@ fn put_merge<R: Files + AllocGlobal, W: Write>(
     match merge {
         LockfileMerge::Merged(_, text, moved) => {
             let lines = moved_lines(rt.alloc(), &moved)?;
-            put_out(rt, options, text.as_str(), "", out)?;
+            put_own_out(rt, options, text.as_str(), out)?;
             Ok(Ended {
                 status: ExitCode::SUCCESS,
                 lines: Some(lines),

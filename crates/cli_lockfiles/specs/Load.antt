@@ -1,19 +1,30 @@
 -- Lockfiles that are read, their graphs, and why a lockfile is not read.
-use Rattle.std.specs.Prelude.{◌≡◌}
+use Rattle.std.specs.Prelude.{◌≡◌, ℕ, List, string_bytes}
 use Rattle.cargo_lock.specs.CargoChecksums.{with_cargo_checksums_in}
 use Rattle.cargo_lock.specs.Loads.{IsMeant, IsOfFile}
 use Rattle.cargo_lock_encoding.specs.Lockfiles.{LockfileData}
 use Rattle.cargo_lock_references.specs.declared.version.ResolveVersion.{ResolveVersion}
+use Rattle.cargo_lock_parts.specs.declared.error.Error.TheVariants.{Memory}
 use Rattle.cargo_lock_graph.specs.Edges.{GraphData}
 use Rattle.cargo_lock_graph.specs.Targets.{AreEdgesOf}
 use Rattle.cli_support.specs.declared.fault.Fault.{Fault}
-use Rattle.cli_support.specs.declared.fault.Fault.TheVariants.{Library, TooLarge}
+use Rattle.cli_support.specs.declared.fault.Fault.TheVariants.{FileAfter, Library, TooLarge}
+use Rattle.cli_support.specs.Input.{IsInputShown}
 
--- the file is too long, the system does not read it, it is not a lockfile, or memory ran out
-abbrev pub IsOfLockfile : Fault → Type 0
-IsOfLockfile TooLarge = Unit {0}
-IsOfLockfile (Library error) = IsOfFile error
-IsOfLockfile other = ⊥
+-- the error for a lockfile of this argument: the file is too long, the system does not read it, it is
+-- not a lockfile, or memory ran out
+abbrev pub IsOfLockfileUnnamed : List ℕ → Fault → Type 0
+IsOfLockfileUnnamed argument (TooLarge name) = IsInputShown argument (string_bytes name)
+IsOfLockfileUnnamed argument (Library error) = IsOfFile error
+IsOfLockfileUnnamed argument other = ⊥
+
+-- the same with the name of the file, unless memory ran out
+abbrev pub IsOfLockfile : List ℕ → Fault → Type 0
+IsOfLockfile argument (TooLarge name) = IsInputShown argument (string_bytes name)
+IsOfLockfile argument (FileAfter name error) = IsInputShown argument (string_bytes name)
+    × IsOfFile error
+IsOfLockfile argument (Library Memory) = Unit {0}
+IsOfLockfile argument other = ⊥
 
 -- the lockfile is one that some text means, with the checksums that Cargo reads
 abbrev pub IsCompared : LockfileData → Type 0

@@ -1,38 +1,59 @@
 //! The lockfiles that the arguments name.
-ghost use Rattle.std.specs.Prelude.{◌≡◌, IfErr, IfOk};
+ghost use Rattle.std.specs.Prelude.{◌≡◌, IfErr, IfOk, List, ℕ};
 ghost use Rattle.clap.specs.Matches.{found_of};
 ghost use Rattle.cargo_lock.specs.Loads.{IsMeant};
 ghost use Rattle.cargo_lock_encoding.specs.Means.{TextMeans};
 ghost use Rattle.cli_lockfiles.specs.Json.{file_of};
-ghost use Rattle.cli_lockfiles.specs.Load.{IsCompared, IsGraphOf, IsOfLockfile, IsRead};
+ghost use Rattle.cli_lockfiles.specs.Load.{IsCompared, IsGraphOf, IsOfLockfile};
+ghost use Rattle.cli_lockfiles.specs.Load.{IsOfLockfileUnnamed, IsRead};
 ghost use Rattle.cli_support.specs.Input.{given_path_in};
 
 use cargo_lock::dependency::graph::Graph;
 use cargo_lock::{Error, Lockfile, ResolveVersion};
 use cargo_lock_json::File;
 use clap::ArgMatches;
-use cli_support::fault::path_shown;
 use cli_support::{Fault, words};
 use std::alloc::Global;
+use std::io::Input;
 use std::rt::Files;
 
-/// The lockfile at the path of the option `name`. Fails if it is not read.
-pub fn lockfile<R: Files + AllocGlobal>(
+/// The lockfile at the path of the option `name`. Fails if it is not read, with the path in the
+/// error, below the words of the library.
+pub fn lockfile<R: Files + Input + AllocGlobal>(
     rt: &R,
     options: &ArgMatches<'_>,
     name: &str,
 ) -> Result<Lockfile, Fault>
     ensures ok { IfOk result IsMeant }
-    ensures err { IfErr result IsOfLockfile }
+    ensures err { IfErr result (IsOfLockfile (given_path_in (found_of options.now) name.now)) }
+{
+    match unnamed_lockfile(rt, options, name) {
+        Ok(lockfile) => Ok(lockfile),
+        Err(fault) => Err(named(rt.alloc(), options, name, fault)),
+    }
+}
+
+/// The same without the path in the error, unless the file is too large.
+fn unnamed_lockfile<R: Files + Input + AllocGlobal>(
+    rt: &R,
+    options: &ArgMatches<'_>,
+    name: &str,
+) -> Result<Lockfile, Fault>
+    ensures ok { IfOk result IsMeant }
+    ensures err { IfErr result
+        (IsOfLockfileUnnamed (given_path_in (found_of options.now) name.now)) }
 {
     let text = words::text(rt, options, name)?;
-    let lockfile = lockfile_of(rt.alloc(), text.as_str())?;
-    Ok(lockfile)
+    match lockfile_of(rt.alloc(), text.as_str()) {
+        Ok(lockfile) => Ok(lockfile),
+        Err(fault) => Err(fault),
+    }
 }
 
 fn lockfile_of(alloc: Global, text: &str) -> Result<Lockfile, Fault>
     ensures ok { IfOk result (TextMeans text.now) }
-    ensures err { IfErr result IsOfLockfile }
+    ensures err { IfErr result (λ fault. (argument : List ℕ)
+        → IsOfLockfileUnnamed argument fault) }
 {
     match Lockfile::from_str(alloc, text) {
         Ok(lockfile) => Ok(lockfile),
@@ -41,8 +62,8 @@ fn lockfile_of(alloc: Global, text: &str) -> Result<Lockfile, Fault>
 }
 
 /// The lockfile at the path of the option or argument `name`. Fails if it is not read, with the
-/// path in the error.
-pub fn named_lockfile<R: Files + AllocGlobal>(
+/// path first in the error.
+pub fn named_lockfile<R: Files + Input + AllocGlobal>(
     rt: &R,
     options: &ArgMatches<'_>,
     name: &str,
@@ -51,13 +72,13 @@ pub fn named_lockfile<R: Files + AllocGlobal>(
 {
     match lockfile(rt, options, name) {
         Ok(lockfile) => Ok(lockfile),
-        Err(fault) => Err(named(rt.alloc(), options, name, fault)),
+        Err(fault) => Err(fault.with_file_first()),
     }
 }
 
 /// The lockfile whose path the argument `name` has, with the checksums that Cargo reads. Fails if it
 /// is not read, with the path in the error.
-pub fn compared_lockfile<R: Files + AllocGlobal>(
+pub fn compared_lockfile<R: Files + Input + AllocGlobal>(
     rt: &R,
     options: &ArgMatches<'_>,
     name: &str,
@@ -80,7 +101,7 @@ pub fn lockfile_without_packages(alloc: Global) -> Result<Lockfile, Fault>
 
 /// The format of the lockfile at the path of the option `file`, and the graph of its packages. Fails
 /// if it is not read, with the path in the error, or if no package matches a dependency.
-pub fn named_graph<R: Files + AllocGlobal>(
+pub fn named_graph<R: Files + Input + AllocGlobal>(
     rt: &R,
     options: &ArgMatches<'_>,
 ) -> Result<(ResolveVersion, Graph), Fault>
@@ -101,14 +122,14 @@ pub fn graph_of(alloc: Global, lockfile: Lockfile) -> Result<Graph, Error>
 
 /// The text of the lockfile at the path of the option `name`. Fails if it is not read, with the
 /// path in the error.
-pub fn named_text<R: Files + AllocGlobal>(
+pub fn named_text<R: Files + Input + AllocGlobal>(
     rt: &R,
     options: &ArgMatches<'_>,
     name: &str,
 ) -> Result<String, Fault> {
     match words::text(rt, options, name) {
         Ok(text) => Ok(text),
-        Err(fault) => Err(named(rt.alloc(), options, name, fault)),
+        Err(fault) => Err(named(rt.alloc(), options, name, fault).with_file_first()),
     }
 }
 
@@ -124,7 +145,7 @@ pub fn named_lockfile_of(
 {
     match lockfile_of(alloc, text) {
         Ok(lockfile) => Ok(lockfile),
-        Err(fault) => Err(named(alloc, options, name, fault)),
+        Err(fault) => Err(named(alloc, options, name, fault).with_file_first()),
     }
 }
 
@@ -148,14 +169,13 @@ pub fn file_in<'a>(options: &ArgMatches<'a>, name: &str, format: ResolveVersion)
     }
 }
 
-/// The error with the path of the option or argument `name`, if it is an error of a file.
-fn named(alloc: Global, options: &ArgMatches<'_>, name: &str, fault: Fault) -> Fault {
-    match fault {
-        Fault::Library(Error::Memory) => fault,
-        Fault::Library(error) => match path_shown(alloc, words::path_of(options, name)) {
-            Ok(path) => Fault::File(path, error),
-            Err(refused) => Fault::from(refused),
-        },
-        fault => fault,
+/// The error with the path of the option or argument `name`, or out of memory.
+fn named(alloc: Global, options: &ArgMatches<'_>, name: &str, fault: Fault) -> Fault
+    ensures { IsOfLockfileUnnamed (given_path_in (found_of options.now) name.now) fault
+        → IsOfLockfile (given_path_in (found_of options.now) name.now) result }
+{
+    match words::input_shown(alloc, options, name) {
+        Ok(path) => fault.in_file(path),
+        Err(refused) => Fault::from(refused),
     }
 }

@@ -29,7 +29,7 @@ pub fn some_fitting(
 {
     let nodes = fitting(alloc, packages, spec)?;
     if nodes.is_empty() {
-        return Err(Fault::of_spec(alloc, spec));
+        return Err(Fault::of_no_package(alloc, spec));
     }
     Ok(nodes)
 }

@@ -1,9 +1,10 @@
 -- The lockfile that a command reads.
-use Rattle.std.specs.Prelude.{◌≡◌, ◌≢◌, ℕ, List, codes, unwrap_or}
+use Rattle.std.specs.Prelude.{◌≡◌, ◌≢◌, ℕ, List, None, Option, Some, codes, string_bytes, unwrap_or}
 use Rattle.std.specs.declared.io.ErrorKind.TheVariants.{OutOfMemory}
 use Rattle.clap.specs.Matches.{first_value}
 use Rattle.clap.specs.declared.parser.matches.Found.{Found}
 use Rattle.cargo_lock_parts.specs.declared.error.Error.TheVariants.{Io, Memory}
+use Rattle.cli_support.specs.Terminal.{in_line}
 use Rattle.cli_support.specs.declared.fault.Fault.{Fault}
 use Rattle.cli_support.specs.declared.fault.Fault.TheVariants.{Library, TooLarge}
 
@@ -11,14 +12,20 @@ use Rattle.cli_support.specs.declared.fault.Fault.TheVariants.{Library, TooLarge
 abbrev pub given_path_in : Found → List ℕ → List ℕ
 given_path_in found name = unwrap_or (first_value found name) (codes "Cargo.lock")
 
--- the path that is read for an argument: `-` is standard input
-pub record IsInputPath (argument path : List ℕ) : Type 0 where
-  pub standard : argument ≡ codes "-" → path ≡ codes "/dev/stdin"
-  pub other : argument ≢ codes "-" → path ≡ argument
+-- the path that an argument names: `-` is standard input, which has none
+pub record IsInputPath (argument : List ℕ) (path : Option (List ℕ)) : Type 0 where
+  pub standard : argument ≡ codes "-" → path ≡ None
+  pub other : argument ≢ codes "-" → path ≡ Some argument
 
--- the error for a file that is not read: its length, memory, or another error of the system
-abbrev pub IsOfReading : Fault → Type 0
-IsOfReading TooLarge = Unit {0}
-IsOfReading (Library Memory) = Unit {0}
-IsOfReading (Library (Io kind)) = kind ≢ OutOfMemory
-IsOfReading other = ⊥
+-- what messages call a lockfile by its argument: the path as it is shown, or standard input
+pub record IsInputShown (argument text : List ℕ) : Type 0 where
+  pub standard : argument ≡ codes "-" → text ≡ codes "standard input"
+  pub other : argument ≢ codes "-" → text ≡ in_line argument
+
+-- the error for a lockfile of this argument that is not read: its length, memory, or another error of
+-- the system
+abbrev pub IsOfReading : Fault → List ℕ → Type 0
+IsOfReading (TooLarge name) argument = IsInputShown argument (string_bytes name)
+IsOfReading (Library Memory) argument = Unit {0}
+IsOfReading (Library (Io kind)) argument = kind ≢ OutOfMemory
+IsOfReading other argument = ⊥

@@ -1,5 +1,6 @@
 pub mod Destination
 pub mod Output
+pub mod Fault
 pub mod Input
 pub mod Status
 pub mod Terminal

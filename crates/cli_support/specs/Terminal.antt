@@ -32,6 +32,20 @@ visible_char c = if is_hidden c then shown Plain (encode_utf8 c) else encode_utf
 unfoldable pub visible : List ℕ → List ℕ
 visible text = flat_map visible_char (chars text)
 
+-- ---- one line of a message
+
+-- a hidden character, or the newline
+abbrev pub is_hidden_in_line : ℕ → Bool
+is_hidden_in_line c = c == 10 || is_hidden c
+
+-- a character unchanged, or by its number if it is one of these
+abbrev pub in_line_char : ℕ → List ℕ
+in_line_char c = if is_hidden_in_line c then shown Plain (encode_utf8 c) else encode_utf8 c
+
+-- the characters of a text, each as it is shown in one line of a message
+unfoldable pub in_line : List ℕ → List ℕ
+in_line text = flat_map in_line_char (chars text)
+
 -- ---- the law
 
 -- no hidden character is left

@@ -4,7 +4,7 @@ ghost use Rattle.std.specs.Io.KnownBytes.{Appends};
 ghost use Rattle.clap.specs.Matches.{first_value, found_of};
 ghost use Rattle.cli_support.specs.Destination.{TakesOutput};
 
-use crate::fault::Fault;
+use crate::fault::{Fault, path_shown};
 use crate::output::put;
 use crate::saving::save;
 use crate::words;
@@ -14,7 +14,7 @@ use std::path::Path;
 use std::rt::Files;
 
 /// Writes the text into the output file, or prints it and then its end. Fails if the file is not
-/// saved, or if `out` fails; a prefix of the text was then printed.
+/// saved, with its path in the error, or if `out` fails; a prefix of the text was then printed.
 pub fn put_out<R: Files + AllocGlobal, W: Write>(
     rt: &R,
     options: &ArgMatches<'_>,
@@ -26,8 +26,35 @@ pub fn put_out<R: Files + AllocGlobal, W: Write>(
         (text.now ++ end.now) (W.contents out.old) (W.contents out.new)) }
 {
     match words::output_file(options) {
-        Some(path) => save(rt, Path::new(path), text),
+        Some(path) => save_named(rt, Path::new(path), text),
         None => print(out, text, end),
+    }
+}
+
+/// The same for a command that the original does not have: the path comes first in the error.
+pub fn put_own_out<R: Files + AllocGlobal, W: Write>(
+    rt: &R,
+    options: &ArgMatches<'_>,
+    text: &str,
+    out: &mut W,
+) -> Result<(), Fault>
+    ensures { OnOk result (TakesOutput (first_value (found_of options.now) (codes "output"))
+        text.now (W.contents out.old) (W.contents out.new)) }
+{
+    match put_out(rt, options, text, "", out) {
+        Ok(()) => Ok(()),
+        Err(fault) => Err(fault.with_file_first()),
+    }
+}
+
+/// Saves the text in the file at this path. Fails as `save` does, with the path in the error.
+fn save_named<R: Files + AllocGlobal>(rt: &R, path: Path<'_>, text: &str) -> Result<(), Fault> {
+    match save(rt, path, text) {
+        Ok(()) => Ok(()),
+        Err(fault) => match path_shown(rt.alloc(), path) {
+            Ok(name) => Err(fault.in_file(name)),
+            Err(refused) => Err(Fault::from(refused)),
+        },
     }
 }
 

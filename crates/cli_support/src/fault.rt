@@ -3,14 +3,15 @@ ghost use Rattle.std.specs.Prelude.{◌≡◌, ◌≢◌, ◌⊎◌, IfOk, Strin
 ghost use Rattle.std.specs.Path.{path_bytes};
 ghost use Rattle.std.specs.declared.alloc.Global.{Global};
 ghost use Rattle.std.specs.IoError.{error_kind};
-ghost use Rattle.shown.specs.Shown.{shown};
-ghost use Rattle.shown.specs.declared.form.Form.TheVariants as form;
 ghost use Rattle.cargo_lock_parts.specs.declared.error.Error.TheVariants.{Io, Memory};
-ghost use Rattle.cli_support.specs.declared.fault.Fault.TheVariants.{Library, NoTime, Spec};
+ghost use Rattle.cli_support.specs.Fault.{in_file, with_file_first};
+ghost use Rattle.cli_support.specs.Terminal as terminal;
+ghost use Rattle.cli_support.specs.declared.fault.Fault.TheVariants.{Library, ManyPackages};
+ghost use Rattle.cli_support.specs.declared.fault.Fault.TheVariants.{NoPackage, NoTime, Spec};
 
+use crate::terminal::in_line;
 use cargo_lock_parts::error::Error;
 use clap::error::ErrorKind;
-use shown::Quoted;
 use std::alloc::{AllocError, AllocFailed, Global};
 use std::io;
 use std::path::Path;
@@ -28,6 +29,10 @@ pub enum Fault {
     #[error("error: {0}: {1}\n")]
     File(String, Error),
 
+    /// The same in a command of the original, whose first line is that of the library alone.
+    #[error("error: {1}\n  in {0}\n")]
+    FileAfter(String, Error),
+
     /// The parser does not accept the arguments. Its text also begins with `error: ` and ends with
     /// a newline.
     #[error("{0}")]
@@ -41,9 +46,17 @@ pub enum Fault {
     #[error("error: the text does not keep the lockfile in format `{0}`\n")]
     TextDoesNotSurvive(u32),
 
-    /// A lockfile has 256 MiB or more.
-    #[error("error: lockfile of 256 MiB or more\n")]
-    TooLarge,
+    /// The lockfile at this path has 256 MiB or more.
+    #[error("error: {0}: lockfile of 256 MiB or more; --any-size reads it\n")]
+    TooLarge(String),
+
+    /// The argument of this number, counted from 1, is not UTF-8.
+    #[error("error: I/O operation failed: invalid data in argument {0}\n")]
+    NotUtf8(usize),
+
+    /// The arguments name no folder of archives or manifests.
+    #[error("error: --cache <FOLDER> or --vendor <FOLDER> is needed\n")]
+    NoFolder,
 
     /// Two lockfiles were to be read from standard input.
     #[error("error: standard input cannot be two lockfiles\n")]
@@ -53,17 +66,17 @@ pub enum Fault {
     #[error("error: {0}\n")]
     Refused(String),
 
-    /// No package matches a specification.
+    /// No package matches a specification of `tree`, in the words of the original.
     #[error("error: invalid dependency name: `{0}`\n")]
     Spec(String),
 
-    /// No package matches the specification of a root.
-    #[error("error: no package is `{0}`\n")]
-    NoRoot(String),
+    /// No package matches a specification.
+    #[error("error: no package matches `{0}`\n")]
+    NoPackage(String),
 
-    /// This many packages, and not one, match the specification of a root.
-    #[error("error: {0} packages are `{1}`\n")]
-    ManyRoots(usize, String),
+    /// This many packages, and not one, match a specification.
+    #[error("error: {0} packages match `{1}`; name one as NAME@VERSION\n")]
+    ManyPackages(usize, String),
 
     /// The variable `SOURCE_DATE_EPOCH` has this text, as it is shown, which is not a time.
     #[error("error: SOURCE_DATE_EPOCH is no time: `{0}`\n")]
@@ -80,6 +93,11 @@ pub enum Fault {
     /// Another file than the one that was opened is at this path. Nothing is replaced.
     #[error("error: another file has taken the path `{0}`\n")]
     Replaced(String),
+
+    /// The file at this path, a mount point, was written in part. The file of this name in its folder
+    /// has the whole text.
+    #[error("error: {0}: written in part; the whole text is in {1} beside it\n")]
+    WrittenInPart(String, String),
 
     /// This folder has files with all of the names that a new one could have.
     #[error("error: the folder `{0}` has all of `.cargo-lock-0.new` to `.cargo-lock-99.new`\n")]
@@ -105,27 +123,69 @@ impl Fault {
         }
     }
 
-    /// The error for a specification of a root that this many packages match, or out of memory.
-    pub fn of_root(alloc: Global, count: usize, spec: &str) -> Fault {
+    /// The error for a specification that this many packages match, where one is asked for, or out
+    /// of memory.
+    pub fn of_count(alloc: Global, count: usize, spec: &str) -> Fault
+        ensures none { count ≡ 0 → (result ≡ Library Memory) ⊎ ((said : String Global)
+            × (result ≡ NoPackage said) × (string_bytes said ≡ spec.now)) }
+        ensures many { count ≢ 0 → (result ≡ Library Memory) ⊎ ((said : String Global)
+            × (result ≡ ManyPackages count said) × (string_bytes said ≡ spec.now)) }
+    {
+        if count == 0 {
+            return Fault::of_no_package(alloc, spec);
+        }
         match String::from_str(alloc, spec) {
-            Ok(spec) if count == 0 => Fault::NoRoot(spec),
-            Ok(spec) => Fault::ManyRoots(count, spec),
+            Ok(spec) => Fault::ManyPackages(count, spec),
             Err(_) => Fault::Library(Error::Memory),
+        }
+    }
+
+    /// The error for a specification that no package matches, or out of memory.
+    pub fn of_no_package(alloc: Global, spec: &str) -> Fault
+        ensures { (result ≡ Library Memory) ⊎ ((said : String Global)
+            × (result ≡ NoPackage said) × (string_bytes said ≡ spec.now)) }
+    {
+        match String::from_str(alloc, spec) {
+            Ok(spec) => Fault::NoPackage(spec),
+            Err(_) => Fault::Library(Error::Memory),
+        }
+    }
+
+    /// The same with the file of this name in the message, below the words of the library, if it is
+    /// an error of a file.
+    pub fn in_file(self, name: String) -> Fault
+        ensures { result ≡ in_file name self }
+    {
+        match self {
+            Fault::Library(Error::Memory) => self,
+            Fault::Library(error) => Fault::FileAfter(name, error),
+            fault => fault,
+        }
+    }
+
+    /// The same with the name of the file first, as the commands have it that the original does not
+    /// have.
+    pub fn with_file_first(self) -> Fault
+        ensures { result ≡ with_file_first self }
+    {
+        match self {
+            Fault::FileAfter(name, error) => Fault::File(name, error),
+            fault => fault,
         }
     }
 
     /// The error for a text of `SOURCE_DATE_EPOCH` that is not a time, or out of memory.
     pub fn of_time(alloc: Global, text: &str) -> Fault
         ensures { (result ≡ Library Memory) ⊎ ((said : String Global) × (result ≡ NoTime said)
-            × (string_bytes said ≡ shown form.Quoted text.now)) }
+            × (string_bytes said ≡ terminal.in_line text.now)) }
     {
-        match text_shown(alloc, text) {
+        match in_line(alloc, text) {
             Ok(text) => Fault::NoTime(text),
             Err(_) => Fault::Library(Error::Memory),
         }
     }
 
-    /// The error for a specification that no package matches, or out of memory.
+    /// The error of `tree` for a specification that no package matches, or out of memory.
     pub fn of_spec(alloc: Global, spec: &str) -> Fault
         ensures { (result ≡ Library Memory)
             ⊎ ((said : String Global) × (result ≡ Spec said) × (string_bytes said ≡ spec.now)) }
@@ -137,19 +197,11 @@ impl Fault {
     }
 }
 
-/// A path as it is shown between backquotes. Fails when out of memory.
+/// A path as messages show it, in one line. Fails when out of memory.
 pub fn path_shown(alloc: Global, path: Path<'_>) -> Result<String, AllocError>
-    ensures { IfOk result (λ text. string_bytes text ≡ shown form.Quoted (path_bytes path.entry)) }
+    ensures { IfOk result (λ text. string_bytes text ≡ terminal.in_line (path_bytes path.entry)) }
 {
-    text_shown(alloc, path.as_str())
-}
-
-// A text as it is shown between backquotes.
-fn text_shown(alloc: Global, text: &str) -> Result<String, AllocError>
-    ensures { IfOk result (λ all. string_bytes all ≡ shown form.Quoted text.now) }
-{
-    let text = Quoted(text);
-    format!(in alloc; "{text}")
+    in_line(alloc, path.as_str())
 }
 
 impl From<Error> for Fault {

@@ -5,6 +5,7 @@
 #![tactic(auto)]
 
 pub mod colours;
+pub mod departure;
 pub mod destination;
 pub mod fault;
 pub mod laws;
@@ -14,6 +15,7 @@ pub mod saving;
 pub mod status;
 pub mod terminal;
 pub mod time;
+pub mod unread;
 pub mod words;
 
 pub use crate::fault::Fault;

@@ -2,6 +2,7 @@
 
 use crate::fault::Fault;
 use crate::output::{put, put_all};
+use crate::terminal::is_hidden_in_line;
 use shown::Shown;
 use std::io::{ErrorKind, Write};
 use std::{fmt, io};
@@ -9,24 +10,53 @@ use std::{fmt, io};
 /// The beginning of each line of a message except the first.
 const NEXT_LINE: &str = "\n  | ";
 
-/// Prints `*** ` and what `Display` writes of the error: U+0020 to U+007E unchanged, and each other
-/// character by its number, as `shown` does. A newline inside the message begins a line with
-/// `  | `, and the newlines at its end become one. The parser of the arguments formats its own
-/// lines, which have no `  | `. Fails as the writer does.
+/// Prints `*** ` and what `Display` writes of the error: letters of each alphabet unchanged, and the
+/// characters that a terminal obeys or does not show by their numbers. A newline inside the message
+/// begins a line with `  | `, and the newlines at its end become one. The parser of the arguments
+/// formats its own lines, which have no `  | `, nor has the line that names a file after an error.
+/// Fails as the writer does.
 pub fn put_message<W: Write>(out: &mut W, fault: &Fault) -> io::Result<()> {
-    let separator = match fault {
-        Fault::Words(_) => "\n",
-        _ => NEXT_LINE,
-    };
+    match fault {
+        Fault::Words(words) => put_lines(out, Continued::Plain, format_args!("*** {words}"))?,
+        Fault::FileAfter(name, error) => {
+            put_lines(out, Continued::Marked, format_args!("*** error: {error}"))?;
+            put_all(out, b"\n  in ")?;
+            put_lines(out, Continued::Marked, format_args!("{name}"))?;
+        }
+        _ => put_lines(out, Continued::Marked, format_args!("*** {fault}"))?,
+    }
+    put_all(out, b"\n")
+}
+
+/// How a line begins that a newline inside a message makes.
+#[derive(Clone, Copy)]
+enum Continued {
+    Plain,
+    Marked,
+}
+
+impl Continued {
+    fn separator(self) -> &'static str {
+        match self {
+            Continued::Plain => "\n",
+            Continued::Marked => NEXT_LINE,
+        }
+    }
+}
+
+/// Prints a text as a message has it, without the newlines at its end.
+fn put_lines<W: Write, D: fmt::Display + Drop>(
+    out: &mut W,
+    continued: Continued,
+    text: D,
+) -> io::Result<()> {
     let mut message = Message {
         out,
-        separator,
+        separator: continued.separator(),
         newlines: 0,
     };
-    let result = fmt::Write::write(&mut message, format_args!("*** {fault}"));
-    let Message { out, .. } = message;
-    match result {
-        Ok(()) => put_all(out, b"\n"),
+    match fmt::Write::write(&mut message, text) {
+        Ok(()) => Ok(()),
         Err(_) => Err(io::Error::from(ErrorKind::Other)),
     }
 }
@@ -43,7 +73,7 @@ struct Message<'a, W> {
 
 impl<W: Write> fmt::Write for Message<'_, W> {
     fn write_str(&mut self, text: &str) -> fmt::Result {
-        for piece in text.split_inclusive(is_no_plain) {
+        for piece in text.split_inclusive(is_hidden_in_line) {
             match self.put_piece(piece) {
                 Ok(()) => {}
                 Err(_) => return Err(fmt::Error),
@@ -54,7 +84,7 @@ impl<W: Write> fmt::Write for Message<'_, W> {
 }
 
 impl<W: Write> Message<'_, W> {
-    /// Prints characters that are not escaped, except perhaps the last one.
+    /// Prints characters that are not hidden, except perhaps the last one.
     fn put_piece(&mut self, piece: &str) -> io::Result<()> {
         if let Some(plain) = piece.strip_suffix('\n') {
             self.put_text(plain)?;
@@ -73,16 +103,11 @@ impl<W: Write> Message<'_, W> {
             put_all(self.out, self.separator.as_bytes())?;
         }
         self.newlines = 0;
-        put_ended(self.out, text, text.strip_suffix(is_no_plain))
+        put_ended(self.out, text, text.strip_suffix(is_hidden_in_line))
     }
 }
 
-/// Whether a character is not one of U+0020 to U+007E.
-fn is_no_plain(c: char) -> bool {
-    !(' '..='~').contains(&c)
-}
-
-/// Prints a text. `plain` is all of it except its last character, if that is escaped.
+/// Prints a text. `plain` is all of it except its last character, if that is hidden.
 fn put_ended<W: Write>(out: &mut W, text: &str, plain: Option<&str>) -> io::Result<()> {
     match (plain, text.chars().next_back()) {
         (Some(plain), Some(last)) => {

@@ -19,8 +19,12 @@ const NAMES: u32 = 100;
 /// How many links are followed at the end of a path. The system follows no more than that.
 const LINKS: u32 = 40;
 
-/// The permissions of a new file until it has those of the file that it replaces.
+/// The permissions of a new file until it has those of the file that it replaces: no other user may
+/// open it.
 const OWN_RIGHTS: u32 = 0o600;
+
+/// The permissions of a new file that replaces none, but for those that the process masks.
+const NEW_RIGHTS: u32 = 0o666;
 
 /// The permissions to read, to write and to execute. This excludes the bits by which a program runs
 /// with the permissions of its owner or its group, and the sticky bit.
@@ -37,20 +41,18 @@ const STICKY: u32 = 0o1000;
 const OWN_PROCESS: &str = "/proc/self";
 
 /// Writes the text into the file at this path. The text goes into a new file beside it, which then
-/// takes the name. So an old file is complete until the new one is, and is unchanged if this fails.
-/// A path that is not a regular file, such as a terminal or a pipe, is written to directly. Fails
-/// if the file may not be written, the folder takes no new file, another file takes the path in the
-/// meantime, the path is that of a pipe of another user, or the system fails.
+/// takes the name. So an old file is complete until the new one is, and is unchanged if this fails,
+/// and where there was none there is none until the text is whole. A path that is not a regular
+/// file, such as a terminal or a pipe, is written to directly, and so is a file that is a mount
+/// point. Fails if the file may not be written, the folder takes no new file, another file takes the
+/// path in the meantime, the path is that of a pipe of another user, or the system fails.
 pub fn save<R: Files + AllocGlobal>(rt: &R, path: Path<'_>, text: &str) -> Result<(), Fault> {
     let target = follow_links(rt, path)?;
-    let is_new = !is_there(rt, path)?;
-    let file = open(rt, path)?;
-    match save_into(rt, target.as_path(), file, text) {
-        Err(fault) if is_new => {
-            remove_empty(rt, target.as_path());
-            Err(fault)
-        }
-        result => result,
+    if is_there(rt, path)? {
+        let file = open(rt, path)?;
+        save_into(rt, target.as_path(), file, text)
+    } else {
+        replace(rt, target.as_path(), None, text)
     }
 }
 
@@ -73,14 +75,10 @@ fn is_own<R: Files>(rt: &R, file: &Metadata) -> bool {
     fs::metadata(rt, Path::new(OWN_PROCESS)).is_ok_and(|process| process.uid() == file.uid())
 }
 
-/// Opens the file at this path to write, or creates an empty one there. The system follows the
-/// links, by its own rules about the links of other users.
+/// Opens the file at this path to write. The system follows the links, by its own rules about the
+/// links of other users.
 fn open<R: Files>(rt: &R, path: Path<'_>) -> io::Result<R::File> {
-    OpenOptions::new()
-        .write(true)
-        .create(true)
-        .truncate(false)
-        .open(rt, path)
+    OpenOptions::new().write(true).open(rt, path)
 }
 
 /// Replaces the content of an open file by the text. `target` is the path to which the links of its
@@ -95,7 +93,7 @@ fn save_into<R: Files + AllocGlobal>(
     if opened.is_file() {
         match found_at(rt, target)? {
             Some(found) if is_same(&found, &opened) => {
-                return replace(rt, target, &opened, text);
+                return replace(rt, target, Some(&opened), text);
             }
             Some(_) => return Err(Fault::Replaced(path_shown(rt.alloc(), target)?)),
             None => file.set_len(0)?,
@@ -104,16 +102,6 @@ fn save_into<R: Files + AllocGlobal>(
     let mut file = file;
     fill(&mut file, text)?;
     Ok(())
-}
-
-/// Removes the empty file that this process created. A link, and a file that is not empty, stay.
-fn remove_empty<R: Files>(rt: &R, target: Path<'_>) {
-    match found_at(rt, target) {
-        Ok(Some(found)) if found.is_file() && found.len() == 0 => {
-            let _ = fs::remove_file(rt, target);
-        }
-        _ => {}
-    }
 }
 
 /// The path to which the links at the end of a path lead, whether or not a file is there.
@@ -149,62 +137,126 @@ fn found_at<R: Files>(rt: &R, path: Path<'_>) -> io::Result<Option<Metadata>> {
     }
 }
 
-/// Puts a new file with the text at this path, in place of the old one. If that fails, or if
-/// another file has taken the path in the meantime, the new file is removed.
+/// Puts a new file with the text at this path, in place of the old one, if there was one. If that
+/// fails, or if another file has taken the path in the meantime, the new file is removed, unless it
+/// alone has the whole text.
 fn replace<R: Files + AllocGlobal>(
     rt: &R,
+    target: Path<'_>,
+    old: Option<&Metadata>,
+    text: &str,
+) -> Result<(), Fault> {
+    let (path, file) = new_beside(rt, target, first_rights(old))?;
+    match put_in_place(rt, path.as_path(), file, target, old, text) {
+        Err(Fault::WrittenInPart(target, name)) => Err(Fault::WrittenInPart(target, name)),
+        Err(fault) => {
+            let _ = fs::remove_file(rt, path.as_path());
+            Err(fault)
+        }
+        Ok(()) => Ok(()),
+    }
+}
+
+/// The permissions with which a new file is made. They are few until it has those of the old one.
+fn first_rights(old: Option<&Metadata>) -> u32 {
+    match old {
+        Some(_) => OWN_RIGHTS,
+        None => NEW_RIGHTS,
+    }
+}
+
+/// Completes a new file and gives it the name of the old one, if the old one still has it, or the
+/// name that no file had, if none has it yet.
+fn put_in_place<R: Files + AllocGlobal>(
+    rt: &R,
+    path: Path<'_>,
+    file: R::File,
+    target: Path<'_>,
+    old: Option<&Metadata>,
+    text: &str,
+) -> Result<(), Fault> {
+    complete(rt, path, file, old, text)?;
+    if !is_still(found_at(rt, target)?, old) {
+        return Err(Fault::Replaced(path_shown(rt.alloc(), target)?));
+    }
+    match (fs::rename(rt, path, target), old) {
+        (Err(error), Some(old)) if error.kind() == ErrorKind::ResourceBusy => {
+            overwrite(rt, path, target, old, text)
+        }
+        (Err(error), _) => Err(Fault::from(error)),
+        (Ok(()), _) => Ok(()),
+    }
+}
+
+/// Whether what is found at a path is the old file, or nothing if there was none.
+fn is_still(found: Option<Metadata>, old: Option<&Metadata>) -> bool {
+    match (found, old) {
+        (Some(found), Some(old)) => is_same(&found, old),
+        (None, None) => true,
+        _ => false,
+    }
+}
+
+/// Writes the text into the old file itself, since it is a mount point, whose name the system gives
+/// to no other file. The new file at `path`, which has the whole text, is then removed; it stays
+/// where writing fails.
+fn overwrite<R: Files + AllocGlobal>(
+    rt: &R,
+    path: Path<'_>,
     target: Path<'_>,
     old: &Metadata,
     text: &str,
 ) -> Result<(), Fault> {
-    let (path, file) = new_beside(rt, target)?;
-    match put_in_place(rt, path.as_path(), file, target, old, text) {
-        Ok(true) => Ok(()),
-        Ok(false) => {
-            let _ = fs::remove_file(rt, path.as_path());
-            Err(Fault::Replaced(path_shown(rt.alloc(), target)?))
+    let file = open(rt, target)?;
+    if !is_same(&file.metadata()?, old) {
+        return Err(Fault::Replaced(path_shown(rt.alloc(), target)?));
+    }
+    let in_part = written_in_part(rt.alloc(), path, target)?;
+    match rewrite::<R>(file, text) {
+        Ok(()) => {
+            let _ = fs::remove_file(rt, path);
+            Ok(())
         }
-        Err(error) => {
-            let _ = fs::remove_file(rt, path.as_path());
-            Err(Fault::from(error))
-        }
+        Err(_) => Err(in_part),
     }
 }
 
-/// Completes a new file and gives it the name of the old one, if the old one still has it.
-fn put_in_place<R: Files>(
-    rt: &R,
-    path: Path<'_>,
-    file: R::File,
-    target: Path<'_>,
-    old: &Metadata,
-    text: &str,
-) -> io::Result<bool> {
-    complete(rt, path, file, old, text)?;
-    if !found_at(rt, target)?.is_some_and(|found| is_same(&found, old)) {
-        return Ok(false);
-    }
-    fs::rename(rt, path, target)?;
-    Ok(true)
+/// The error for a file that was written in part. It is made before anything is written.
+fn written_in_part(alloc: Global, path: Path<'_>, target: Path<'_>) -> Result<Fault, AllocError> {
+    let name = match path.file_name() {
+        Some(name) => Path::new(name),
+        None => path,
+    };
+    Ok(Fault::WrittenInPart(path_shown(alloc, target)?, path_shown(alloc, name)?))
 }
 
-/// Gives a new file the text and the permissions of the old one, and waits until the system has
-/// stored them. The permissions come last, since a write removes some of them.
+/// Cuts an open file off, writes the text into it, and waits until the system has stored it.
+fn rewrite<R: Files>(file: R::File, text: &str) -> io::Result<()> {
+    let mut file = file;
+    file.set_len(0)?;
+    fill(&mut file, text)?;
+    file.sync_all()
+}
+
+/// Gives a new file the text, and the permissions of the old one if there was one, and waits until
+/// the system has stored them. The permissions come last, since a write removes some of them.
 fn complete<R: Files>(
     rt: &R,
     path: Path<'_>,
     file: R::File,
-    old: &Metadata,
+    old: Option<&Metadata>,
     text: &str,
 ) -> io::Result<()> {
     let mut file = file;
     fill(&mut file, text)?;
-    let new = file.metadata()?;
-    if is_safe_folder(rt, path, new.uid()) {
-        keep_owner(rt, path, old);
+    if let Some(old) = old {
+        let new = file.metadata()?;
+        if is_safe_folder(rt, path, new.uid()) {
+            keep_owner(rt, path, old);
+        }
+        let new = file.metadata()?;
+        file.set_permissions(Permissions::from_mode(rights(&new, old)))?;
     }
-    let new = file.metadata()?;
-    file.set_permissions(Permissions::from_mode(rights(&new, old)))?;
     file.sync_all()
 }
 
@@ -254,10 +306,11 @@ fn fill<W: Write>(file: &mut W, text: &str) -> io::Result<()>
 fn new_beside<R: Files + AllocGlobal>(
     rt: &R,
     target: Path<'_>,
+    rights: u32,
 ) -> Result<(PathBuf, R::File), Fault> {
     for number in 0..NAMES {
         let path = temporary_path(rt.alloc(), target, number)?;
-        match create_new(rt, path.as_path()) {
+        match create_new(rt, path.as_path(), rights) {
             Ok(file) => return Ok((path, file)),
             Err(error) if error.kind() == ErrorKind::AlreadyExists => {}
             Err(error) => return Err(Fault::from(error)),
@@ -276,11 +329,11 @@ fn temporary_path(alloc: Global, target: Path<'_>, number: u32) -> Result<PathBu
     target.with_file_name(alloc, name.as_str())
 }
 
-/// Creates a file that did not exist, which no other user may open.
-fn create_new<R: Files>(rt: &R, path: Path<'_>) -> io::Result<R::File> {
+/// Creates a file that did not exist, with these permissions but for those that the process masks.
+fn create_new<R: Files>(rt: &R, path: Path<'_>, rights: u32) -> io::Result<R::File> {
     OpenOptions::new()
         .write(true)
         .create_new(true)
-        .mode(OWN_RIGHTS)
+        .mode(rights)
         .open(rt, path)
 }

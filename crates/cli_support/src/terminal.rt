@@ -1,12 +1,13 @@
 //! Text for a terminal, without characters that it would obey or would not show.
 
-ghost use Rattle.std.specs.Prelude.{◌≡◌, OnOk};
+ghost use Rattle.std.specs.Prelude.{◌≡◌, ◌++◌, IfOk, OnOk, string_bytes};
 ghost use Rattle.std.specs.Io.KnownBytes.{Appends};
-ghost use Rattle.cli_support.specs.Terminal.{visible, visible_char};
+ghost use Rattle.cli_support.specs.Terminal.{in_line_char, visible, visible_char};
 ghost use Rattle.cli_support.specs.Terminal as spec;
 
 use crate::output::put;
 use shown::Shown;
+use std::alloc::{AllocError, Global};
 use std::io;
 use std::io::{ErrorKind, Write};
 
@@ -72,4 +73,35 @@ fn is_hidden(c: char) -> bool
         '\u{2060}'..='\u{2069}' | '\u{feff}' => true,
         _ => false,
     }
+}
+
+/// A text as it is shown in one line of a message: no character of it is hidden, and a newline too
+/// is printed by its number. Fails when out of memory.
+#[tactic(auto, unfolding(crate::specs::Terminal::in_line))]
+pub fn in_line(alloc: Global, text: &str) -> Result<String, AllocError>
+    ensures { IfOk result (λ line. string_bytes line ≡ spec.in_line text.now) }
+{
+    let mut line = String::new(alloc);
+    for c in text.chars() {
+        push_in_line(&mut line, alloc, c)?;
+    }
+    Ok(line)
+}
+
+fn push_in_line(line: &mut String, alloc: Global, c: char) -> Result<(), AllocError>
+    ensures { OnOk result (string_bytes line.new ≡ string_bytes line.old ++ in_line_char c) }
+{
+    if is_hidden_in_line(c) {
+        let c = Shown(c);
+        line.push_str(format!(in alloc; "{c}")?.as_str())
+    } else {
+        line.push(c)
+    }
+}
+
+/// Whether the character is hidden, or the newline.
+pub(crate) fn is_hidden_in_line(c: char) -> bool
+    ensures { result ≡ spec.is_hidden_in_line c }
+{
+    c == '\n' || is_hidden(c)
 }

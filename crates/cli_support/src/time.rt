@@ -6,9 +6,8 @@ ghost use Rattle.std.specs.List.{list_all};
 ghost use Rattle.std.specs.Option.{SomeIff};
 ghost use Rattle.std.specs.Str.Parse.{digits_value};
 ghost use Rattle.std.specs.declared.alloc.Global.{Global};
-ghost use Rattle.shown.specs.Shown.{shown};
-ghost use Rattle.shown.specs.declared.form.Form.TheVariants as form;
 ghost use Rattle.cargo_lock_parts.specs.declared.error.Error.TheVariants.{Memory};
+ghost use Rattle.cli_support.specs.Terminal.{in_line};
 ghost use Rattle.cli_support.specs.Time.{NamesTime};
 ghost use Rattle.cli_support.specs.declared.fault.Fault.TheVariants.{Library, NoTime};
 
@@ -50,7 +49,7 @@ pub fn time_of(alloc: Global, text: &str) -> Result<u64, Fault>
     ensures { MatchResult result
         (λ seconds. NamesTime text.now × (seconds ≡ digits_value 10 text.now))
         (λ fault. (fault ≡ Library Memory) ⊎ (¬ (NamesTime text.now) × (said : String Global)
-        × (fault ≡ NoTime said) × (string_bytes said ≡ shown form.Quoted text.now))) }
+        × (fault ≡ NoTime said) × (string_bytes said ≡ in_line text.now))) }
 {
     match seconds_of(text) {
         Some(seconds) => Ok(seconds),

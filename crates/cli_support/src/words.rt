@@ -1,19 +1,24 @@
 //! The arguments of the program.
-ghost use Rattle.std.specs.Prelude.{◌≡◌, ◌↔◌, IfErr, IfSome, IsTrue, None, Some, codes, map, option_map};
+ghost use Rattle.std.specs.Prelude.{◌≡◌, ◌↔◌, IfErr, IfOk, IfSome, IsTrue, None, Some, codes};
+ghost use Rattle.std.specs.Prelude.{map, option_map, string_bytes};
 ghost use Rattle.std.specs.Path.{path_bytes};
 ghost use Rattle.clap.specs.Matches.{first_value, found_of};
 ghost use Rattle.cli_support.specs.Destination.{IsPrinted};
-ghost use Rattle.cli_support.specs.Input.{IsInputPath, IsOfReading, given_path_in};
+ghost use Rattle.cli_support.specs.Input.{IsInputPath, IsInputShown, IsOfReading};
+ghost use Rattle.cli_support.specs.Input.{given_path_in};
 ghost use Rattle.cli_support.specs.Status as spec;
+ghost use Rattle.std.specs.declared.io.ErrorKind.TheVariants.{InvalidData};
+ghost use Rattle.cargo_lock_parts.specs.declared.error.Error.TheVariants.{Io};
+ghost use Rattle.cli_support.specs.declared.fault.Fault.TheVariants.{Library};
 
-use crate::fault::Fault;
+use crate::fault::{Fault, path_shown};
 use cargo_lock_parts::error::Error;
 use clap::{Arg, ArgAction, ArgMatches};
 use std::alloc::{AllocError, Global};
 use std::convert::AsStr;
 use std::fs::OpenOptions;
 use std::io;
-use std::io::{ErrorKind, Read};
+use std::io::{ErrorKind, Input, Read};
 use std::path::Path;
 use std::rt::Files;
 
@@ -27,8 +32,8 @@ const STANDARD: &str = "-";
 /// The options of the program itself.
 const OWN_OPTIONS: [&str; 4] = ["-h", "--help", "-V", "--version"];
 
-/// The path of standard input.
-const STANDARD_INPUT: &str = "/dev/stdin";
+/// What messages call standard input.
+const STANDARD_INPUT: &str = "standard input";
 
 /// The length in bytes from which on a lockfile is refused. It is that of some 900,000 packages.
 const LIMIT: u64 = 1 << 28;
@@ -79,38 +84,69 @@ fn is_option(word: &str) -> bool {
     word.starts_with('-') && !OWN_OPTIONS.contains(&word)
 }
 
-/// The text of the lockfile at the path of the option or argument `name`. Fails if the file is not
-/// read, and if it has 256 MiB or more, unless the options allow that.
-pub fn text<R: Files + AllocGlobal>(
+/// The text of the lockfile at the path of the option or argument `name`, or of standard input if
+/// that is `-`. Fails if it is not read, and if it has 256 MiB or more, unless the options allow
+/// that.
+pub fn text<R: Files + Input + AllocGlobal>(
     rt: &R,
     options: &ArgMatches<'_>,
     name: &str,
 ) -> Result<String, Fault>
-    ensures { IfErr result IsOfReading }
+    ensures { IfErr result
+        (λ fault. IsOfReading fault (given_path_in (found_of options.now) name.now)) }
 {
     let limit = if options.get_flag("any-size") {
         u64::MAX
     } else {
         LIMIT
     };
-    match bytes(rt, path_of(options, name), limit) {
+    let read = match input_path(options, name) {
+        Some(path) => file_bytes(rt, path, limit),
+        None => input_bytes(rt, limit),
+    };
+    match read {
         Ok(bytes) if (bytes.len() as u64) < limit => of_bytes(bytes),
-        Ok(_) => Err(Fault::TooLarge),
-        Err(error) => Err(Fault::of_system_call(error)),
+        Ok(_) => Err(too_large(rt.alloc(), options, name)),
+        Err(error) => Err(not_read(given_path(options, name), error)),
     }
 }
 
+/// The error where the system does not read the lockfile of this argument.
+fn not_read(argument: &str, error: io::Error) -> Fault
+    ensures { IsOfReading result argument.now }
+{
+    Fault::of_system_call(error)
+}
+
 /// The first bytes of a file, at most `limit` of them.
-fn bytes<R: Files + AllocGlobal>(rt: &R, path: Path<'_>, limit: u64) -> io::Result<Vec<u8>> {
+fn file_bytes<R: Files + AllocGlobal>(rt: &R, path: Path<'_>, limit: u64) -> io::Result<Vec<u8>> {
     let file = OpenOptions::new().read(true).open(rt, path)?;
     let mut bytes = Vec::new(rt.alloc());
     file.take(limit).read_to_end(&mut bytes)?;
     Ok(bytes)
 }
 
+/// The next bytes of standard input, at most `limit` of them. The stream is read as it was passed
+/// over: from where it is, whatever kind it has, and whoever may open its file.
+fn input_bytes<R: Input + AllocGlobal>(rt: &R, limit: u64) -> io::Result<Vec<u8>> {
+    let mut bytes = Vec::new(rt.alloc());
+    rt.reader().take(limit).read_to_end(&mut bytes)?;
+    Ok(bytes)
+}
+
+/// The error for a lockfile that is too large, or out of memory.
+fn too_large(alloc: Global, options: &ArgMatches<'_>, name: &str) -> Fault
+    ensures { IsOfReading result (given_path_in (found_of options.now) name.now) }
+{
+    match input_shown(alloc, options, name) {
+        Ok(name) => Fault::TooLarge(name),
+        Err(refused) => Fault::from(refused),
+    }
+}
+
 /// The text of bytes. Fails if they are not UTF-8.
 fn of_bytes(bytes: Vec<u8>) -> Result<String, Fault>
-    ensures { IfErr result IsOfReading }
+    ensures { IfErr result (λ fault. fault ≡ Library (Io InvalidData)) }
 {
     match String::from_utf8(bytes) {
         Ok(text) => Ok(text),
@@ -125,20 +161,37 @@ pub fn given_path<'a>(options: &ArgMatches<'a>, name: &str) -> &'a str
     options.get_str(name).unwrap_or(DEFAULT_PATH)
 }
 
-/// The path of the option or argument `name`, or `Cargo.lock` without one. For `-` it is that of
+/// The path of the option or argument `name`, or `Cargo.lock` without one. `-` is no path, but
 /// standard input.
-pub fn path_of<'a>(options: &ArgMatches<'a>, name: &str) -> Path<'a>
-    ensures { IsInputPath (given_path_in (found_of options.now) name.now) (path_bytes result) }
+pub fn input_path<'a>(options: &ArgMatches<'a>, name: &str) -> Option<Path<'a>>
+    ensures { IsInputPath (given_path_in (found_of options.now) name.now)
+        (option_map path_bytes result) }
 {
     match given_path(options, name) {
-        STANDARD => Path::new(STANDARD_INPUT),
-        path => Path::new(path),
+        STANDARD => None,
+        path => Some(Path::new(path)),
+    }
+}
+
+/// What messages call the lockfile of the option or argument `name`: its path as it is shown, or
+/// `standard input`. Fails when out of memory.
+pub fn input_shown(
+    alloc: Global,
+    options: &ArgMatches<'_>,
+    name: &str,
+) -> Result<String, AllocError>
+    ensures { IfOk result (λ text.
+        IsInputShown (given_path_in (found_of options.now) name.now) (string_bytes text)) }
+{
+    match input_path(options, name) {
+        Some(path) => path_shown(alloc, path),
+        None => String::from_str(alloc, STANDARD_INPUT),
     }
 }
 
 /// Whether the argument `name` is `-`, for standard input.
 pub fn is_standard(options: &ArgMatches<'_>, name: &str) -> bool {
-    options.get_str(name) == Some(STANDARD)
+    given_path(options, name) == STANDARD
 }
 
 /// The path of the file that a command writes, unless it prints.
@@ -162,13 +215,15 @@ pub fn file<'a>(alloc: Global) -> Arg<'a> {
 }
 
 /// The option to print JSON.
-pub fn json<'a>(alloc: Global) -> Arg<'a> {
-    long_flag(alloc, "json").help("Prints one line of JSON")
+pub fn json<'a>(alloc: Global) -> Result<Arg<'a>, AllocError> {
+    let flag = long_flag(alloc, "json")?;
+    Ok(flag.help("Prints one line of JSON"))
 }
 
 /// The option to read a lockfile of any length.
-pub fn any_size<'a>(alloc: Global) -> Arg<'a> {
-    long_flag(alloc, "any-size").help("Reads a lockfile of 256 MiB or more too")
+pub fn any_size<'a>(alloc: Global) -> Result<Arg<'a>, AllocError> {
+    let flag = long_flag(alloc, "any-size")?;
+    Ok(flag.help("Reads a lockfile of 256 MiB or more too"))
 }
 
 /// The option for the file that is written.
@@ -186,12 +241,16 @@ pub fn value<'a>(alloc: Global, name: &'a str, short: char, shown: &'a str) -> A
         .action(ArgAction::Set)
 }
 
-/// An option that takes no value.
-pub fn flag<'a>(alloc: Global, name: &'a str, short: char) -> Arg<'a> {
-    long_flag(alloc, name).short(short)
+/// An option that takes no value. Given several times it counts once.
+pub fn flag<'a>(alloc: Global, name: &'a str, short: char) -> Result<Arg<'a>, AllocError> {
+    let flag = long_flag(alloc, name)?;
+    Ok(flag.short(short))
 }
 
-/// An option that takes no value and has no short name.
-pub fn long_flag<'a>(alloc: Global, name: &'a str) -> Arg<'a> {
-    Arg::new(alloc, name).long(name).action(ArgAction::SetTrue)
+/// The same without a short name.
+pub fn long_flag<'a>(alloc: Global, name: &'a str) -> Result<Arg<'a>, AllocError> {
+    Arg::new(alloc, name)
+        .long(name)
+        .action(ArgAction::SetTrue)
+        .overrides_with(name)
 }

@@ -10,6 +10,7 @@ use Rattle.cargo_lock.specs.CargoChecksums.{with_cargo_checksums_in}
 use Rattle.cargo_lock.specs.Loads.{IsMeant}
 use Rattle.cli_support.specs.Destination.{TakesOutput}
 use Rattle.cli_tools.specs.BillLicenses.{AreLicensesBy}
+use Rattle.cli_tools.specs.Texts.{given_texts}
 use Rattle.cli_lockfiles.specs.Json.{IsAsked, IsFlag, IsUnasked}
 
 -- there is a time exactly if the arguments ask for one
@@ -18,13 +19,13 @@ pub record IsTimeAsked (found : Found) (time : Option ℕ) : Type 0 where
   pub unasked : IsUnasked found (codes "timestamp") → time ≡ None
 
 -- The options that the arguments give for the bill of packages: the root is the own one of the
--- lockfile, if it has one, unless they name one of the packages, the author is theirs, the time is
+-- lockfile, if it has one, unless they name one of the packages, the authors are theirs, the time is
 -- this one, if there is one, there is a serial number exactly if they ask for one, and there are
 -- licence expressions of the packages only if they have a folder of manifests.
 pub record IsSaid (found : Found) (time : Option ℕ) (packages : List PackageData)
     (own : Option ℕ) (o : OptionsData) : Type 0 where
   pub root : first_value found (codes "root") ≡ None → o.root ≡ own
-  pub author : o.author ≡ first_value found (codes "author")
+  pub authors : o.authors ≡ given_texts found (codes "author")
   pub timestamp : o.timestamp ≡ time
   pub serial : IsFlag found (codes "serial") o.has_serial
   pub licenses : AreLicensesBy (first_value found (codes "licenses")) packages o.licenses

@@ -25,7 +25,7 @@ use cli_support::output::put;
 use cli_support::words::{any_size, json};
 use cli_support::{Fault, words};
 use std::alloc::{AllocError, Global};
-use std::io::Write;
+use std::io::{Input, Write};
 use std::process::ExitCode;
 use std::rt::Files;
 
@@ -60,11 +60,11 @@ pub fn command<'a>(alloc: Global) -> Result<Command<'a>, AllocError> {
         .about("Prints the advisories that concern packages of a lockfile")
         .after_help(AUDIT_HELP)
         .arg(words::file(alloc))?
-        .arg(any_size(alloc))?
+        .arg(any_size(alloc)?)?
         .arg(database_option(alloc))?
         .arg(texts::option(alloc, "ignore", "ID").help(IGNORE_HELP))?
         .arg(texts::option(alloc, "deny", "KIND").help(DENY_HELP))?
-        .arg(json(alloc))
+        .arg(json(alloc)?)
 }
 
 /// The option for the folder of the advisories.
@@ -77,7 +77,7 @@ fn database_option<'a>(alloc: Global) -> Arg<'a> {
 /// kind that is denied, and otherwise 0. Fails if the lockfile, a folder or an advisory is not read,
 /// or if `out` fails; a prefix of the text was then written in the last case, and nothing in the
 /// others.
-pub fn run<R: Files + AllocGlobal, W: Write>(
+pub fn run<R: Files + Input + AllocGlobal, W: Write>(
     rt: &R,
     options: &ArgMatches<'_>,
     out: &mut W,

@@ -3,9 +3,10 @@ ghost use Rattle.std.specs.Prelude.{◌≡◌, None, IfOk, OnOk, codes, map, opt
 ghost use Rattle.clap.specs.Matches.{first_value, found_of};
 ghost use Rattle.cli_tools.specs.Bom.{IsAskedBill, IsAskedLine, IsBillOf, IsBillWith, IsTimeAsked};
 ghost use Rattle.cli_tools.specs.Bom.{PrintsBill};
+ghost use Rattle.cli_tools.specs.Texts.{given_texts};
 ghost use Rattle.cli_lockfiles.specs.Json.{IsFlag};
 
-use crate::bill_licenses;
+use crate::{bill_licenses, texts};
 use cargo_lock::dependency::graph::NodeIndex;
 use cargo_lock::{Lockfile, Package};
 use cargo_lock_ask::fitting;
@@ -13,12 +14,12 @@ use cargo_lock_bom::options::{Options, VERSION};
 use cargo_lock_bom::printed::{printed_bill, with_root};
 use clap::{Arg, ArgAction, ArgMatches, Command};
 use cli_lockfiles::load::named_lockfile;
-use cli_support::destination::put_out;
+use cli_support::destination::put_own_out;
 use cli_support::words::{any_size, file, long_flag, output};
 use cli_support::{Fault, time};
 use std::alloc::{AllocError, Global};
 use std::env::Env;
-use std::io::Write;
+use std::io::{Input, Write};
 use std::rt::Files;
 use std::time::Clock;
 
@@ -34,6 +35,9 @@ With --licenses, a package with a source has the expression that its manifests i
 /// The package that a bill is about, as help shows it.
 const ROOT_HELP: &str = "The package that the bill is about, as for tree; only one may fit";
 
+/// The authors of a bill, as help shows them.
+const AUTHOR_HELP: &str = "Names this author of the bill, and others that are given so";
+
 /// How the time is chosen, as help shows it.
 const TIME_HELP: &str = "Adds the time: of SOURCE_DATE_EPOCH, or else of the clock";
 
@@ -43,21 +47,21 @@ pub fn command<'a>(alloc: Global) -> Result<Command<'a>, AllocError> {
         .about("Writes a bill of materials, as CycloneDX 1.6 has it in JSON")
         .after_help(BOM_HELP)
         .arg(file(alloc))?
-        .arg(any_size(alloc))?
+        .arg(any_size(alloc)?)?
         .arg(output(alloc))?
-        .arg(named(alloc, "root", "SPEC").help(ROOT_HELP))?
-        .arg(named(alloc, "author", "NAME").help("Who writes the bill"))?
-        .arg(long_flag(alloc, "timestamp").help(TIME_HELP))?
-        .arg(long_flag(alloc, "serial").help("Adds a serial number, equal for equal bills"))?
+        .arg(root(alloc).help(ROOT_HELP))?
+        .arg(texts::option(alloc, "author", "NAME").help(AUTHOR_HELP))?
+        .arg(long_flag(alloc, "timestamp")?.help(TIME_HELP))?
+        .arg(long_flag(alloc, "serial")?.help("Adds a serial number, equal for equal bills"))?
         .arg(bill_licenses::option(alloc))?
-        .arg(long_flag(alloc, "compact").help("Writes one line, without spaces"))
+        .arg(long_flag(alloc, "compact")?.help("Writes one line, without spaces"))
 }
 
-/// An option with a value and no short name.
-fn named<'a>(alloc: Global, name: &'a str, shown: &'a str) -> Arg<'a> {
-    Arg::new(alloc, name)
-        .long(name)
-        .value_name(shown)
+/// The option for the package that the bill is about.
+fn root<'a>(alloc: Global) -> Arg<'a> {
+    Arg::new(alloc, "root")
+        .long("root")
+        .value_name("SPEC")
         .action(ArgAction::Set)
 }
 
@@ -66,7 +70,7 @@ fn named<'a>(alloc: Global, name: &'a str, shown: &'a str) -> Arg<'a> {
 /// package matches the root that the arguments name, if the folder of manifests that they name or a
 /// manifest is not read, if the same text would refer to two of its packages, and if the output
 /// fails.
-pub fn run<R: Files + Env + Clock + AllocGlobal, W: Write>(
+pub fn run<R: Files + Input + Env + Clock + AllocGlobal, W: Write>(
     rt: &R,
     options: &ArgMatches<'_>,
     out: &mut W,
@@ -77,7 +81,7 @@ pub fn run<R: Files + Env + Clock + AllocGlobal, W: Write>(
     let time = asked_time(rt, options)?;
     let lockfile = named_lockfile(rt, options, "file")?;
     let text = text_about(rt, options, time, lockfile)?;
-    put_out(rt, options, text.as_str(), "", out)
+    put_own_out(rt, options, text.as_str(), out)
 }
 
 /// The time, if the arguments ask for one.
@@ -96,7 +100,7 @@ fn asked_time<R: Env + Clock + AllocGlobal>(
 }
 
 /// The text of the bill of materials of a lockfile that the arguments ask for, and a newline.
-fn text_about<R: Files + AllocGlobal>(
+fn text_about<R: Files + Input + AllocGlobal>(
     rt: &R,
     options: &ArgMatches<'_>,
     time: Option<u64>,
@@ -165,7 +169,7 @@ fn only_fitting(alloc: Global, packages: &[Package], spec: &str) -> Result<NodeI
     let fitting = fitting(alloc, packages, spec)?;
     match fitting.as_slice() {
         [node] => Ok(*node),
-        others => Err(Fault::of_root(alloc, others.len(), spec)),
+        others => Err(Fault::of_count(alloc, others.len(), spec)),
     }
 }
 
@@ -179,7 +183,7 @@ fn said_of_bill<'a>(
 ) -> Options<'a>
     ensures root { «result».root ≡ given }
     ensures timestamp { «result».timestamp ≡ time }
-    ensures author { «result».author ≡ first_value (found_of options.now) (codes "author") }
+    ensures authors { «result».authors ≡ given_texts (found_of options.now) (codes "author") }
     ensures serial { IsFlag (found_of options.now) (codes "serial") «result».has_serial }
     ensures licenses { «result».licenses ≡ map (option_map string_bytes) licenses.now }
 {
@@ -187,7 +191,7 @@ fn said_of_bill<'a>(
         root: given,
         tool_version: VERSION,
         timestamp: time,
-        author: options.get_str("author"),
+        authors: texts::among(options, "author"),
         has_serial: options.get_flag("serial"),
         licenses,
     }

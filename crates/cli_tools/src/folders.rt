@@ -1,6 +1,12 @@
 //! The options for folders of packages.
 
-use clap::{Arg, ArgAction};
+ghost use Rattle.std.specs.Prelude.{◌≡◌, IfErr, OnOk};
+ghost use Rattle.clap.specs.Matches.{found_of};
+ghost use Rattle.cli_support.specs.declared.fault.Fault.TheVariants.{NoFolder};
+ghost use Rattle.cli_tools.specs.Folders.{IsFolderNamed};
+
+use clap::{Arg, ArgAction, ArgMatches};
+use cli_support::Fault;
 use std::alloc::{AllocError, Global};
 
 /// The option for the folder that `cargo vendor` made.
@@ -11,10 +17,20 @@ pub(crate) fn vendor<'a>(alloc: Global) -> Result<Arg<'a>, AllocError> {
 }
 
 /// The option for a folder that Cargo made, in place of the one that `cargo vendor` made.
-pub(crate) fn cache<'a>(alloc: Global, help: &'a str) -> Result<Arg<'a>, AllocError> {
-    folder(alloc, "cache")
-        .help(help)
-        .required_unless_present("vendor")
+pub(crate) fn cache<'a>(alloc: Global, help: &'a str) -> Arg<'a> {
+    folder(alloc, "cache").help(help)
+}
+
+/// Refuses arguments that name neither of the two folders.
+pub(crate) fn check_folder(options: &ArgMatches<'_>) -> Result<(), Fault>
+    ensures ok { OnOk result (IsFolderNamed (found_of options.now)) }
+    ensures err { IfErr result (λ fault. (fault ≡ NoFolder)
+        × (¬ IsFolderNamed (found_of options.now))) }
+{
+    match (options.get_str("cache"), options.get_str("vendor")) {
+        (None, None) => Err(Fault::NoFolder),
+        _ => Ok(()),
+    }
 }
 
 /// An option for a folder, whose path may begin with a hyphen.

@@ -13,7 +13,7 @@ use cli_support::Fault;
 use cli_support::output::put;
 use cli_support::words::{any_size, file};
 use std::alloc::{AllocError, Global};
-use std::io::Write;
+use std::io::{Input, Write};
 use std::rt::Files;
 
 /// What `json` prints, as help shows it.
@@ -27,12 +27,12 @@ pub fn command<'a>(alloc: Global) -> Result<Command<'a>, AllocError> {
         .about("Prints a lockfile as one line of JSON")
         .after_help(JSON_HELP)
         .arg(file(alloc))?
-        .arg(any_size(alloc))
+        .arg(any_size(alloc)?)
 }
 
 /// Prints the document of the lockfile, with the checksums that Cargo reads, as one line. Fails if the lockfile is not read or `out`
 /// fails; a prefix of the text was then written in the last case, and nothing in the other.
-pub fn run<R: Files + AllocGlobal, W: Write>(
+pub fn run<R: Files + Input + AllocGlobal, W: Write>(
     rt: &R,
     options: &ArgMatches<'_>,
     out: &mut W,

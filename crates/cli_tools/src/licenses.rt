@@ -10,7 +10,7 @@ ghost use Rattle.cli_lockfiles.specs.Json.{PrintsLine};
 ghost use Rattle.cli_tools.specs.Licenses.{AreLicensed, PrintsLicenses, PrintsLicensesOf};
 ghost use Rattle.cli_tools.specs.Licenses.{PrintsLicenseReport, PrintsVerdicts};
 
-use crate::folders::{cache, vendor};
+use crate::folders::{cache, check_folder, vendor};
 use crate::texts;
 use crate::verify::status_of;
 use cargo_lock::Lockfile;
@@ -24,7 +24,7 @@ use cli_support::output::put;
 use cli_support::words::{any_size, json};
 use cli_support::{Fault, words};
 use std::alloc::{AllocError, Global};
-use std::io::Write;
+use std::io::{Input, Write};
 use std::process::ExitCode;
 use std::rt::Files;
 
@@ -61,18 +61,19 @@ pub fn command<'a>(alloc: Global) -> Result<Command<'a>, AllocError> {
         .about("Prints the licences of packages, and which are not allowed")
         .after_help(LICENSES_HELP)
         .arg(words::file(alloc))?
-        .arg(any_size(alloc))?
-        .arg(cache(alloc, CACHE_HELP)?)?
+        .arg(any_size(alloc)?)?
+        .arg(cache(alloc, CACHE_HELP))?
         .arg(vendor(alloc)?)?
         .arg(texts::option(alloc, "allow", "TERM").help(ALLOW_HELP))?
-        .arg(json(alloc))
+        .arg(json(alloc)?)
 }
 
 /// Prints what is found of the licences of the packages of the lockfile, a line for each, or, if
 /// the arguments ask for it, all as one line of JSON. The status is 1 if one is not allowed or not
-/// known, and otherwise 0. Fails if the lockfile, a folder or a manifest is not read, or if `out`
-/// fails; a prefix of the text was then written in the last case, and nothing in the others.
-pub fn run<R: Files + AllocGlobal, W: Write>(
+/// known, and otherwise 0. Fails if the arguments name no folder, if the lockfile, a folder or a
+/// manifest is not read, or if `out` fails; a prefix of the text was then written in the last case,
+/// and nothing in the others.
+pub fn run<R: Files + Input + AllocGlobal, W: Write>(
     rt: &R,
     options: &ArgMatches<'_>,
     out: &mut W,
@@ -81,6 +82,7 @@ pub fn run<R: Files + AllocGlobal, W: Write>(
         (W.contents out.old) (W.contents out.new)
         (status ≡ ExitCode.FAILURE) (status ≡ ExitCode.SUCCESS)) }
 {
+    check_folder(options)?;
     let lockfile = named_lockfile(rt, options, "file")?;
     let file = file(options, "file", &lockfile);
     print_licenses(rt, options, &file, &lockfile, out)

@@ -14,7 +14,14 @@ pub(crate) fn option<'a>(alloc: Global, name: &'a str, shown: &'a str) -> Arg<'a
         .action(ArgAction::Append)
 }
 
-/// The texts that are given for this option.
+/// The texts that are given for this option, as they stand among the arguments.
+pub(crate) fn among<'a>(options: &'a ArgMatches<'_>, name: &str) -> &'a [&'a str]
+    ensures { map (λ text. text.now) result.now ≡ given_texts (found_of options.now) name.now }
+{
+    options.get_strs(name).unwrap_or(&[])
+}
+
+/// The same as texts of their own. Fails when out of memory.
 pub(crate) fn given(
     alloc: Global,
     options: &ArgMatches<'_>,

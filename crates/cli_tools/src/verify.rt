@@ -15,7 +15,7 @@ ghost use Rattle.cli_tools.specs.Verify.{PrintsFolders};
 ghost use Rattle.cli_tools.specs.Verify.{PrintsReport, PrintsVendorReport, PrintsVerified};
 ghost use Rattle.cli_tools.specs.Verify.{PrintsVerifiedOf};
 
-use crate::folders::{cache, vendor};
+use crate::folders::{cache, check_folder, vendor};
 use cargo_lock::Lockfile;
 use cargo_lock::package::Package;
 use cargo_lock_json::{File, archives_json, folders_json};
@@ -27,7 +27,7 @@ use cli_support::output::put;
 use cli_support::words::{any_size, json, long_flag};
 use cli_support::{Fault, words};
 use std::alloc::{AllocError, Global};
-use std::io::Write;
+use std::io::{Input, Write};
 use std::process::ExitCode;
 use std::rt::Files;
 
@@ -63,26 +63,26 @@ pub fn command<'a>(alloc: Global) -> Result<Command<'a>, AllocError> {
         .about("Compares archives, or vendored folders, with the checksums of a lockfile")
         .after_help(VERIFY_HELP)
         .arg(words::file(alloc))?
-        .arg(any_size(alloc))?
-        .arg(cache(alloc, CACHE_HELP)?)?
+        .arg(any_size(alloc)?)?
+        .arg(cache(alloc, CACHE_HELP))?
         .arg(vendor(alloc)?)?
         .arg(all(alloc)?)?
-        .arg(json(alloc))
+        .arg(json(alloc)?)
 }
 
 /// The option to report packages without an archive.
 fn all<'a>(alloc: Global) -> Result<Arg<'a>, AllocError> {
-    long_flag(alloc, "all")
+    long_flag(alloc, "all")?
         .help(ALL_HELP)
         .conflicts_with("vendor")
 }
 
 /// Prints which packages of the lockfile have no archive with their checksum, or no folder that is
 /// as its list says, and how many have one, or, if the arguments ask for it, all as one line of
-/// JSON. The status is 1 if something is found of a package, and otherwise 0. Fails if the lockfile,
-/// a folder or a file is not read, or if `out` fails; a prefix of the text was then written in the
-/// last case, and nothing in the others.
-pub fn run<R: Files + AllocGlobal, W: Write>(
+/// JSON. The status is 1 if something is found of a package, and otherwise 0. Fails if the arguments
+/// name no folder, if the lockfile, a folder or a file is not read, or if `out` fails; a prefix of
+/// the text was then written in the last case, and nothing in the others.
+pub fn run<R: Files + Input + AllocGlobal, W: Write>(
     rt: &R,
     options: &ArgMatches<'_>,
     out: &mut W,
@@ -91,6 +91,7 @@ pub fn run<R: Files + AllocGlobal, W: Write>(
         (W.contents out.old) (W.contents out.new)
         (status ≡ ExitCode.FAILURE) (status ≡ ExitCode.SUCCESS)) }
 {
+    check_folder(options)?;
     let lockfile = compared_lockfile(rt, options, "file")?;
     let file = file(options, "file", &lockfile);
     print_verified(rt, options, &file, &lockfile, out)

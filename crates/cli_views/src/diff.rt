@@ -18,7 +18,7 @@ use cli_support::Fault;
 use cli_support::output::put;
 use cli_support::words::{any_size, flag, is_standard, json, long_flag};
 use std::alloc::{AllocError, Global};
-use std::io::Write;
+use std::io::{Input, Write};
 use std::process::ExitCode;
 use std::rt::Files;
 
@@ -52,12 +52,12 @@ pub fn command<'a>(alloc: Global) -> Result<Command<'a>, AllocError> {
         .after_help(DIFF_HELP)
         .arg(path(alloc, "old", "OLD").help(OLD_HELP))?
         .arg(path(alloc, "new", "NEW").help(NEW_HELP))?
-        .arg(any_size(alloc))?
-        .arg(flag(alloc, "dependencies", 'd').help("Shows other dependencies of packages too"))?
-        .arg(long_flag(alloc, "exit-code").help(
+        .arg(any_size(alloc)?)?
+        .arg(flag(alloc, "dependencies", 'd')?.help("Shows other dependencies of packages too"))?
+        .arg(long_flag(alloc, "exit-code")?.help(
             "Ends with status 1 where anything differs, dependencies only with -d",
         ))?
-        .arg(json(alloc))
+        .arg(json(alloc)?)
 }
 
 /// The path of a lockfile, which help shows as `shown`.
@@ -73,7 +73,7 @@ fn path<'a>(alloc: Global, name: &'a str, shown: &'a str) -> Arg<'a> {
 /// The status is 1 if there is an alarm, or, if the arguments ask for it, if anything differs.
 /// Otherwise it is 0. Fails if a lockfile is not read or `out` fails; a prefix of the text was then
 /// written in the last case, and nothing in the others.
-pub fn run<R: Files + AllocGlobal, W: Write>(
+pub fn run<R: Files + Input + AllocGlobal, W: Write>(
     rt: &R,
     options: &ArgMatches<'_>,
     out: &mut W,

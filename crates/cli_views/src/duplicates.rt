@@ -16,7 +16,7 @@ use cli_support::output::put;
 use cli_support::words::{any_size, json, long_flag};
 use cli_support::{Fault, words};
 use std::alloc::{AllocError, Global};
-use std::io::Write;
+use std::io::{Input, Write};
 use std::process::ExitCode;
 use std::rt::Files;
 
@@ -38,9 +38,9 @@ pub fn command<'a>(alloc: Global) -> Result<Command<'a>, AllocError> {
         .about("Lists the names that several packages have, and what needs each package")
         .after_help(DUPLICATES_HELP)
         .arg(words::file(alloc))?
-        .arg(any_size(alloc))?
-        .arg(long_flag(alloc, "exit-code").help(STATUS_HELP))?
-        .arg(json(alloc))
+        .arg(any_size(alloc)?)?
+        .arg(long_flag(alloc, "exit-code")?.help(STATUS_HELP))?
+        .arg(json(alloc)?)
 }
 
 /// Prints the names that several packages of the lockfile have, with these packages and what needs
@@ -48,7 +48,7 @@ pub fn command<'a>(alloc: Global) -> Result<Command<'a>, AllocError> {
 /// status is 1 if there is such a name and the arguments ask for it, and otherwise 0. Fails if the
 /// lockfile is not read or has no tree, or if `out` fails; a prefix of the text was then written in
 /// the last case, and nothing in the others.
-pub fn run<R: Files + AllocGlobal, W: Write>(
+pub fn run<R: Files + Input + AllocGlobal, W: Write>(
     rt: &R,
     options: &ArgMatches<'_>,
     out: &mut W,

@@ -18,7 +18,7 @@ use cli_support::Fault;
 use cli_support::output::put;
 use cli_support::words::{any_size, file, flag};
 use std::alloc::{AllocError, Global};
-use std::io::Write;
+use std::io::{Input, Write};
 use std::rt::Files;
 
 /// The names of the formats: the text is for Graphviz, or for Mermaid.
@@ -40,9 +40,9 @@ pub fn command<'a>(alloc: Global) -> Result<Command<'a>, AllocError> {
         .about("Writes a picture of packages, for Graphviz or Mermaid")
         .after_help(GRAPH_HELP)
         .arg(file(alloc))?
-        .arg(any_size(alloc))?
+        .arg(any_size(alloc)?)?
         .arg(format(alloc))?
-        .arg(flag(alloc, "invert", 'i').help("Shows what depends on each package"))?
+        .arg(flag(alloc, "invert", 'i')?.help("Shows what depends on each package"))?
         .arg(specs(alloc).help(SPEC_HELP))
 }
 
@@ -61,7 +61,7 @@ fn format<'a>(alloc: Global) -> Arg<'a> {
 /// none, and of what they lead to. Fails if the lockfile is not read or has no tree, if a
 /// specification matches no package, or if `out` fails; a prefix of the text was then written in
 /// the last case, and nothing in the others.
-pub fn run<R: Files + AllocGlobal, W: Write>(
+pub fn run<R: Files + Input + AllocGlobal, W: Write>(
     rt: &R,
     options: &ArgMatches<'_>,
     out: &mut W,

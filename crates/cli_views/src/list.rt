@@ -16,18 +16,19 @@ use cli_support::Fault;
 use cli_support::output::put;
 use cli_support::words::{any_size, file, flag, value};
 use std::alloc::{AllocError, Global};
-use std::io::Write;
+use std::io::{Input, Write};
 use std::rt::Files;
 
 /// The parser of this command: its options.
 pub fn command<'a>(alloc: Global) -> Result<Command<'a>, AllocError> {
     Command::new(alloc, "list")
+        .args_override_self(true)
         .about("Lists the packages of a lockfile")
         .arg(file(alloc))?
-        .arg(any_size(alloc))?
+        .arg(any_size(alloc)?)?
         .arg(value(alloc, "package", 'p', "NAME").help("Lists only the packages of this name"))?
-        .arg(flag(alloc, "dependencies", 'd').help("Lists the dependencies of each package"))?
-        .arg(flag(alloc, "sources", 's').help("Shows where each comes from"))
+        .arg(flag(alloc, "dependencies", 'd')?.help("Lists the dependencies of each package"))?
+        .arg(flag(alloc, "sources", 's')?.help("Shows where each comes from"))
 }
 
 /// What is printed of a package besides its name and version.
@@ -39,7 +40,7 @@ struct Detail {
 
 /// Prints each package of the lockfile in list order, or each with the name that is asked for.
 /// Fails if the lockfile is not read or `out` fails; a prefix of the text was then written.
-pub fn run<R: Files + AllocGlobal, W: Write>(
+pub fn run<R: Files + Input + AllocGlobal, W: Write>(
     rt: &R,
     options: &ArgMatches<'_>,
     out: &mut W,

@@ -20,7 +20,7 @@ use cli_support::Fault;
 use cli_support::destination::put_out;
 use cli_support::words::{any_size, file, long_flag, output, value};
 use std::alloc::{AllocError, Global};
-use std::io::Write;
+use std::io::{Input, Write};
 use std::rt::Files;
 
 /// The format that is written if the arguments name none.
@@ -38,17 +38,18 @@ root, and the replacement of a package with dependencies, are in the table and i
 /// The parser of this command: its options.
 pub fn command<'a>(alloc: Global) -> Result<Command<'a>, AllocError> {
     Command::new(alloc, "translate")
+        .args_override_self(true)
         .about("Writes a lockfile in another format")
         .arg(file(alloc))?
-        .arg(any_size(alloc))?
+        .arg(any_size(alloc)?)?
         .arg(output(alloc))?
         .arg(
             value(alloc, "version", 'v', "FORMAT")
                 .default_value(DEFAULT_FORMAT)
                 .help("The format, 1 to 4"),
         )?
-        .arg(long_flag(alloc, "check").help(CHECK_HELP))?
-        .arg(long_flag(alloc, "check-text").help(CHECK_TEXT_HELP))
+        .arg(long_flag(alloc, "check")?.help(CHECK_HELP))?
+        .arg(long_flag(alloc, "check-text")?.help(CHECK_TEXT_HELP))
 }
 
 /// The text of the format that is written.
@@ -63,7 +64,7 @@ fn format_text<'a>(options: &ArgMatches<'a>) -> &'a str
 /// more newline. The format is read before the file. Fails if either is not read, if the arguments
 /// ask for a check and the lockfile does not survive the format or its text does not read back, and
 /// if the output fails.
-pub fn run<R: Files + AllocGlobal, W: Write>(
+pub fn run<R: Files + Input + AllocGlobal, W: Write>(
     rt: &R,
     options: &ArgMatches<'_>,
     out: &mut W,

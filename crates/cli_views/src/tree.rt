@@ -15,16 +15,17 @@ ghost use Rattle.cli_views.specs.Tree.{PrintsTreesOf, after_empty_lines, directi
 use cargo_lock::dependency::graph::{EdgeDirection, Graph, NodeIndex};
 use cargo_lock::dependency::tree::{Symbols, roots_of};
 use cargo_lock::{Lockfile, Package};
+use cargo_lock_ask::fitting;
 use cargo_lock_graph::drawing::{Look, render_onto};
 use cargo_lock_graph::targets::Candidates;
 use clap::{ArgMatches, Command};
 use cli_lockfiles::load::{graph_of, lockfile};
-use cli_lockfiles::spec::{some_fitting, specs};
+use cli_lockfiles::spec::specs;
 use cli_support::Fault;
 use cli_support::output::put;
 use cli_support::words::{any_size, file, flag};
 use std::alloc::{AllocError, Global};
-use std::io::Write;
+use std::io::{Input, Write};
 use std::rt::Files;
 
 /// The specifications, as help shows them.
@@ -33,11 +34,12 @@ const SPEC_HELP: &str = "Packages, by name, version, both as NAME@VERSION, check
 /// The parser of this command: its options and its specifications.
 pub fn command<'a>(alloc: Global) -> Result<Command<'a>, AllocError> {
     Command::new(alloc, "tree")
+        .args_override_self(true)
         .about("Draws the trees of packages")
         .arg(file(alloc))?
-        .arg(any_size(alloc))?
-        .arg(flag(alloc, "exact", 'x').help("Shows checksums, or else where each comes from"))?
-        .arg(flag(alloc, "invert", 'i').help("Draws what depends on each package"))?
+        .arg(any_size(alloc)?)?
+        .arg(flag(alloc, "exact", 'x')?.help("Shows checksums, or else where each comes from"))?
+        .arg(flag(alloc, "invert", 'i')?.help("Draws what depends on each package"))?
         .arg(specs(alloc).help(SPEC_HELP))
 }
 
@@ -52,7 +54,7 @@ struct Style {
 /// trees. If there are no specifications, it prints the trees of all roots. Fails if the lockfile
 /// is not read or has no tree, if a specification matches no package, or if `out` fails. Only in
 /// the last case a part of the text has been written.
-pub fn run<R: Files + AllocGlobal, W: Write>(
+pub fn run<R: Files + Input + AllocGlobal, W: Write>(
     rt: &R,
     options: &ArgMatches<'_>,
     out: &mut W,
@@ -146,7 +148,7 @@ fn start_of<'a>(
     requires { candidates.now ≡ packages.now }
     ensures { IfOk result (IsStartOf packages.now spec.now) }
 {
-    let fitting = some_fitting(alloc, packages, spec)?;
+    let fitting = fitting(alloc, packages, spec)?;
     match first_of(packages, &fitting) {
         Some(package) => node_of(alloc, candidates, package, spec),
         None => Err(Fault::of_spec(alloc, spec)),

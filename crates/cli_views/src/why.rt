@@ -19,7 +19,7 @@ use cli_support::output::put;
 use cli_support::words::{any_size, json, long_flag};
 use cli_support::{Fault, words};
 use std::alloc::{AllocError, Global};
-use std::io::Write;
+use std::io::{Input, Write};
 use std::rt::Files;
 
 /// The lines of `why`, as help shows them.
@@ -46,9 +46,9 @@ pub fn command<'a>(alloc: Global) -> Result<Command<'a>, AllocError> {
         .about("Shows why a package is in a lockfile")
         .after_help(WHY_HELP)
         .arg(words::file(alloc))?
-        .arg(any_size(alloc))?
-        .arg(long_flag(alloc, "all").help(ALL_HELP))?
-        .arg(json(alloc))?
+        .arg(any_size(alloc)?)?
+        .arg(long_flag(alloc, "all")?.help(ALL_HELP))?
+        .arg(json(alloc)?)?
         .arg(spec(alloc))
 }
 
@@ -66,7 +66,7 @@ fn spec<'a>(alloc: Global) -> Arg<'a> {
 /// JSON, it is all one line. Fails if the lockfile is not read or has no tree, if the specification
 /// matches no package, or if `out` fails; a prefix of the text was then written in the last case,
 /// and nothing in the others.
-pub fn run<R: Files + AllocGlobal, W: Write>(
+pub fn run<R: Files + Input + AllocGlobal, W: Write>(
     rt: &R,
     options: &ArgMatches<'_>,
     out: &mut W,

@@ -1,5 +1,4 @@
-use Rattle.std.proofs.Common.{List, ℕ, codes, refl, string_bytes, subst, sym, ◌∙◌, ◌≡◌}
-use Rattle.std.proofs.lemmas.List.{append-nil}
+use Rattle.std.proofs.Common.{List, ℕ, codes, refl, string_bytes, subst, sym}
 use Rattle.clap.specs.Matches.{first_value, found_of}
 use Rattle.cargo_lock_merge.specs.declared.lockfiles.LockfileMerge.{LockfileMerge}
 use Rattle.cli.specs.Merge.{PrintsMergeOf}
@@ -10,6 +9,6 @@ pub returns-in-Merged : goal.returns-in-Merged
 returns-in-Merged g c =
     let output = first_value (found_of c.args.options.now) (codes "output") in
     let old = g.W.Write.contents c.args.out.now in
-    let new = g.W.Write.contents c.put_out.new.out in
-    let taken = subst (λ (text : List ℕ). TakesOutput output text old new) (append-nil c.as_str.result.now ∙ c.as_str.ensures.value) c.in_ok-put_out-in-Merged.ensures in
+    let new = g.W.Write.contents c.put_own_out.new.out in
+    let taken = subst (λ (text : List ℕ). TakesOutput output text old new) c.as_str.ensures.value c.in_ok-put_own_out-in-Merged.ensures in
     subst (λ (m : LockfileMerge). PrintsMergeOf (found_of c.args.options.now) m old new _ _) (sym c.in-Merged.is) (taken, refl)
