@@ -77,8 +77,8 @@ def functions_of(file, text):
 
 
 def end_of(lines, at, outer):
-    """Returns the place of the last line of the function that begins at a line. A declaration, which
-    has no body, may end with its last clause."""
+    """Returns the place of the last line of the function that begins at a line. A declaration,
+    which has no body, may end with its last clause."""
     closes, has_body = (outer + "}", outer + ";"), False
     while not lines[at].startswith(closes) and not is_whole(lines[at], outer):
         has_body = has_body or lines[at].endswith("{")

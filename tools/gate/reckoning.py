@@ -82,8 +82,8 @@ def schedule(uses, takes, lanes):
 
 
 def alone(uses, takes, lanes):
-    """Returns the crates at the beginning of a schedule, and those at its end, beside which at least
-    half of the lanes have nothing to do. A crate of the beginning has the longest chain."""
+    """Returns the crates at the beginning of a schedule, and those at its end, beside which at
+    least half of the lanes have nothing to do. A crate of the beginning has the longest chain."""
     at, behind = placed(uses, takes, lanes), chains(uses, takes)
 
     def is_alone(name):
@@ -91,7 +91,8 @@ def alone(uses, takes, lanes):
         worked = sum(max(0, min(end, there[1]) - max(begin, there[0])) for there in at.values())
         return worked <= (end - begin) * lanes / 2
 
-    longest = [it for it in sorted(uses, key=at.get) if behind[it] + at[it][0] == max(behind.values())]
+    whole = max(behind.values())
+    longest = [it for it in sorted(uses, key=at.get) if behind[it] + at[it][0] == whole]
     first = [*itertools.takewhile(is_alone, longest)]
     last = [*itertools.takewhile(is_alone, sorted(uses, key=lambda it: -at[it][1]))]
     return first, [it for it in reversed(last) if it not in first]

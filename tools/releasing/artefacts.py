@@ -59,7 +59,8 @@ def own(path):
 
 def oldest_glibc(path, least=(2, 0)):
     """Returns the oldest version of glibc that has each symbol that a file needs."""
-    said = subprocess.run(["readelf", "-V", path], capture_output=True, text=True, check=True).stdout
+    words = ["readelf", "-V", path]
+    said = subprocess.run(words, capture_output=True, text=True, check=True).stdout
     found = [tuple(map(int, it.split("."))) for it in re.findall(r"GLIBC_([0-9.]+)", said)]
     return ".".join(map(str, max([least, *found])[:2]))
 
@@ -124,10 +125,11 @@ def python_wheel(built):
     major, minor = oldest_glibc(built.shared, (2, 17)).split(".")
     tag = f"py3-none-manylinux_{major}_{minor}_x86_64"
     info = f"proved_cargo_lock-{built.version}.dist-info"
+    metadata = METADATA.replace("VERSION", built.version).encode() + own("README.md")
     files = [
         *(text(f"cargo_lock/{it}", own(f"bindings/python/cargo_lock/{it}")) for it in MODULE),
         File(f"cargo_lock/{SHARED}", 0o755, read(built.shared)),
-        text(f"{info}/METADATA", METADATA.replace("VERSION", built.version).encode() + own("README.md")),
+        text(f"{info}/METADATA", metadata),
         text(f"{info}/WHEEL", WHEEL.replace("TAG", tag)),
         *below(f"{info}/licenses", licences(built)),
     ]
