@@ -11,6 +11,6 @@ loop-init c = refl
 pub loop-preserved : goal.loop-preserved
 loop-preserved c =
     elim c.if-is_taken.branch [
-      then-is_taken w ↦ rw w.left-is (zero_taken c.args.remainder c.loop.left c.loop.counter c.loop.invariant (omega arith))
-    | else-is_taken w ↦ rw w.left-is (zero_left c.args.remainder c.loop.left c.loop.counter c.loop.invariant (omega arith))
+      | then-is_taken w ↦ rw w.left-is (zero_taken c.args.remainder c.loop.left c.loop.counter c.loop.invariant (omega arith))
+      | else-is_taken w ↦ rw w.left-is (zero_left c.args.remainder c.loop.left c.loop.counter c.loop.invariant (omega arith))
     ]
