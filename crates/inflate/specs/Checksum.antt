@@ -1,6 +1,6 @@
 -- CRC-32 (RFC 1952, 8; ITU-T V.42, 8.1.1.6.2): the bits of some bytes, each byte's lowest first,
 -- are the coefficients of a polynomial, the highest first. It is divided by another one, and what
--- is left is the checksum. Coefficients are 0 or 1, and sums and differences are those of `bit_xor`.
+-- is left is the checksum. Coefficients are 0 or 1, and are added and taken away by `bit_xor`.
 use Rattle.std.specs.Prelude.{ℕ, zero, suc, ◌+◌, ◌-◌, ◌*◌, ◌/◌, ◌%◌, ◌^◌, ◌==◌, if◌then◌else◌}
 use Rattle.std.specs.Prelude.{List, bit_xor, length}
 use Rattle.inflate.specs.Bits.{bit_at}

@@ -1,4 +1,4 @@
-use Rattle.std.proofs.Common.{ℕ, List, ◌*◌, ◌+◌, ◌/◌, ◌%◌, ◌<◌, ◌≡◌, ◌∙◌, ap, ap₂, sym, arith, slice_index, bit_xor}
+use Rattle.std.proofs.Common.{ℕ, List, ◌*◌, ◌/◌, ◌%◌, ◌≡◌, ◌∙◌, ap, ap₂, sym, arith, slice_index, bit_xor}
 use Rattle.inflate.specs.Checksum.{past_zeros, remainder}
 use Rattle.inflate.proofs.Remainders.{byte_more, no_bit}
 use Rattle.inflate.proofs.checksum.crc32.Goals as goal

@@ -1,7 +1,6 @@
-use Rattle.std.proofs.Common.{ℕ, below_more, slice_index, slice_set, length, ◌<◌, ◌≡◌, ◌∙◌, arith}
+use Rattle.std.proofs.Common.{ℕ, below_more, ◌∙◌, arith}
 use Rattle.std.proofs.Math.ListN.{length-set}
 use Rattle.std.proofs.lemmas.List.{get_or-set_same, get_or-set_other}
-use Rattle.inflate.specs.Checksum.{past_zeros}
 use Rattle.inflate.proofs.checksum.table.Goals as goal
 
 pub loop-k-preserved : goal.loop-k-preserved
