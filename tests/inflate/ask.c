@@ -4,8 +4,8 @@
    A question is `i` for a stream or `g` for a member, then the limit, the number of the growth that
    is refused or 0, 1 if it is refused alone, how many bytes the input has, and these.
 
-   An answer is its name and zeros up to 24 bytes, then the place behind the stream or the member, how
-   many growths there were, how many blocks were left over, how many bytes there are, and these. */
+   An answer is its name and zeros up to 24 bytes, then the place behind the stream or the member,
+   how many growths there were, how many blocks were left over, how many bytes there are, and these. */
 #include "../operations/operations.h"
 #include <stdio.h>
 #include <stdlib.h>
