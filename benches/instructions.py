@@ -16,9 +16,12 @@ COMMANDS = {
     "diff": ["diff"],
     "check": ["check", "-f"],
     "bom": ["bom", "-f"],
+    "json": ["json", "-f"],
 }
-# `list` reads what Cargo wrote by its words. By its table it takes 1.7 times the TOML alone.
-LIST_AT_MOST = 1.4
+# `list` makes what Cargo wrote from its words: in V4 by 0.61 times the TOML alone, and in V1, whose
+# values are made first, by 0.98 times. By its table it takes 1.7 times the TOML alone.
+LIST_AT_MOST = 0.75
+LIST_AT_MOST_IN_V1 = 1.1
 
 
 def count(words):
@@ -72,10 +75,11 @@ def is_by_words(found, bench):
     """Whether no `list` takes as much as one by the table of TOML. Says which ones do."""
     kept = True
     for (names, form, size), (alone, of_list, *_) in found.items():
-        if of_list > LIST_AT_MOST * alone:
+        most = LIST_AT_MOST_IN_V1 if form == 1 else LIST_AT_MOST
+        if of_list > most * alone:
             kept = False
             print(f"\nV{form}, {bench.NAMES[names][0]}, {size:,} packages: `list` takes over "
-                  f"{LIST_AT_MOST} times the TOML alone")
+                  f"{most} times the TOML alone")
     return kept
 
 

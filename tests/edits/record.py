@@ -2,9 +2,10 @@
 
 For each logic it has a line `logic LOGIC`. Below it is for each crate a line `CRATE BASE`, and
 below that a line `    NAME EDIT` for each refused edit, sorted. EDIT is the sum of the edit's
-bytes. BASE is the sum of all else that a refusal rests on beside the logic: the rule, the crate's
-files, and what can be seen of each crate of this repository below it. A line counts while both
-sums are those of the files at hand, under the logic of the kit at hand. No name of a kit counts.
+bytes. BASE is the sum of all else that a refusal rests on beside the logic: the rule and how copies
+are tried, the crate's files, and what can be seen of each crate of this repository below it. A line
+counts while both sums are those of the files at hand, under the logic of the kit at hand. No name
+of a kit counts.
 """
 import functools
 import hashlib
@@ -12,6 +13,7 @@ import os
 import re
 import subprocess
 
+import copies
 import rule
 from kit import ROOT, rt
 
@@ -117,7 +119,8 @@ def state(logics, crate, base, edit):
 def base_of(crate):
     """Returns the sum of all but the edit and the logic that a refusal in the crate rests on."""
     found = hashlib.sha256()
-    add(found, "rule.py", bytes_of(rule.__file__))
+    for it in (rule, copies):
+        add(found, it.__name__, bytes_of(it.__file__))
     for path in rt.rtlib.files_of(crate.folder):
         add(found, os.path.relpath(path, crate.folder), bytes_of(path))
     for below in sorted(crate.below(), key=lambda it: it.name):

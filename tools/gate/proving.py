@@ -16,6 +16,8 @@ KEPT = re.compile(r"^rt: (\w+) is kept")
 # The parts of a crate that its program and its libraries are made of, and what programs are run on.
 LEFT_OUT = ("edits", "must-fail", "out")
 TICKS = os.sysconf("SC_CLK_TCK")
+# The folder of a crate, or one below it.
+INSIDE = re.compile(r"/crates/(\w+)(?:/|$)")
 
 
 def lines_of(top):
@@ -49,12 +51,13 @@ def copy_crates(names, folder):
 
 
 class Watch(threading.Thread):
-    """Looks once a second at the processes that prove a crate, which work in its folder, and notes
-    for how long and with how many seconds of processors each crate was at work."""
+    """Looks once a second at the processes of some sessions, which prove a crate where they work in
+    its folder, and notes for how long and with how many seconds of processors each crate was at
+    work. The folder may be one in a copy of the repository: `rt ci NAME` makes one."""
 
-    def __init__(self, folder):
+    def __init__(self, names):
         super().__init__(daemon=True)
-        self.top, self.ended = f"{os.path.realpath(folder)}/crates/", threading.Event()
+        self.names, self.sessions, self.ended = set(names), set(), threading.Event()
         self.began, self.worked = {}, {}
 
     def run(self):
@@ -64,18 +67,19 @@ class Watch(threading.Thread):
 
     def look(self, process):
         try:
-            at = os.readlink(f"/proc/{process}/cwd")
-            if not at.startswith(self.top):
-                return
             with open(f"/proc/{process}/stat", encoding="utf-8") as file:
                 fields = file.read().rpartition(")")[2].split()
+            if int(fields[3]) not in self.sessions:
+                return
+            inside = INSIDE.search(os.readlink(f"/proc/{process}/cwd"))
         except OSError:
             # (it has ended)
             return
-        name = at.removeprefix(self.top).split("/")[0]
-        self.began.setdefault(name, time.monotonic())
-        key = (name, process, fields[19])
-        self.worked[key] = (int(fields[11]) + int(fields[12])) / TICKS
+        if inside and inside[1] in self.names:
+            name = inside[1]
+            self.began.setdefault(name, time.monotonic())
+            key = (name, process, fields[19])
+            self.worked[key] = (int(fields[11]) + int(fields[12])) / TICKS
 
     def seconds(self):
         """Returns the seconds of processors that each crate took, once all has ended."""
@@ -121,8 +125,9 @@ class Prover:
 
     def __init__(self, top, log):
         self.top, self.out, self.worked = top, open(log, "w", encoding="utf-8"), 0
-        self.watch = Watch(top)
-        self.progress = Progress(len(reckoning.uses_of(lines_of(top))), self.watch)
+        names = reckoning.uses_of(lines_of(top))
+        self.watch = Watch(names)
+        self.progress = Progress(len(names), self.watch)
         self.watch.start()
 
     def run(self, words, has_jobs, started=lambda child: None):
@@ -134,6 +139,7 @@ class Prover:
                                  errors="replace", start_new_session=True,
                                  stdout=subprocess.PIPE, stderr=subprocess.STDOUT,
                                  stdin=subprocess.DEVNULL)
+        self.watch.sessions.add(child.pid)
         started(child)
         for line in child.stdout:
             self.out.write(line)

@@ -33,6 +33,7 @@ BESIDE = [
     of("refused-memory", "tests/refused-memory/run", ["operations"], "each growth refused"),
     of("fuzz", "tests/fuzz/run 20000", ["operations"], "texts that are made from lockfiles"),
     of("callers", "tests/callers/run", ["operations"], "callers in C, Rust and Python"),
+    of("inflate-test", "tests/inflate/run", [], "streams and members of gzip, against zlib"),
     of("edits-runner", "tests/edits/failing/run", [], "the runner of edits finds planted faults"),
     of("contracts-test", "tests/contracts/run", [], "planted changes show in docs/CONTRACTS"),
     of("gate-test", "tests/gate/run", [], "stages, schedules and counts of the gate itself"),
