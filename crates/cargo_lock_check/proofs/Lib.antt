@@ -1,16 +1,3 @@
-pub mod Places
-pub mod PackagePlaces
-pub mod AlikePlaces
-pub mod Parts
-pub mod SeenBefore
-pub mod DependencyPlaces
-pub mod DependencySeen
-pub mod GroupMatch
-pub mod OnlyOnes
-pub mod Grouping
-pub mod Searching
-pub mod Asking
-pub mod StaleKeys
 pub mod Lines
 pub mod Carets
 pub mod OwnChecksums

@@ -13,20 +13,20 @@ use Rattle.cargo_lock_references.specs.declared.version.ResolveVersion.TheVarian
 use Rattle.cargo_lock_parts.specs.Identity.{Identity}
 use Rattle.cargo_lock.specs.CargoChecksums.{cargo_checksum, with_checksum}
 use Rattle.std.proofs.lemmas.List.{length-map}
-use Rattle.cargo_lock_check.specs.Dependencies.{AreDependencies, HoldsAt, HoldsOfDependency, IsMisplacedAt, IsRepeatedAt, IsSameDependency}
+use Rattle.cargo_lock_flaws.specs.Dependencies.{AreDependencies, HoldsAt, HoldsOfDependency, IsMisplacedAt, IsRepeatedAt, IsSameDependency}
 use Rattle.cargo_lock_check.specs.Finding.{Alike, BadName, FindingData, LookAlike, LossySource, LostDependency, Misplaced, MisplacedDependency, NoChecksum, NoChecksums, NoRoot, Orphan, OtherLine, RepeatedDependency, StaleChecksum, Twice, UserInfo}
 use Rattle.cargo_lock_check.specs.Findings.{AreFindings, AreLossy, FindingsData, HasNoFindings, IsLostIn, IsOther, IsOtherLine, IsWrittenByCargo, alike_at, checked_packages, dependency_at, misplaced_at, misplaced_dependency_at, flawed_at, source_at, told_of, told_of_checksums, told_of_format, told_of_formats, told_of_misleading, told_of_order, told_of_orphans, told_of_twice, with_next}
-use Rattle.cargo_lock_check.specs.Alike.{AreAlikeAt, ArePairsAlike, IsFirstAlike}
-use Rattle.cargo_lock_check.specs.Lost.{IsLostAt}
-use Rattle.cargo_lock_check.specs.Names.{IsBadlyNamed}
-use Rattle.cargo_lock_check.specs.Packages.{IsFirstUnchecked, IsMisplaced, IsTwice, IsUnchecked, IsWithoutChecksum, source_unless}
-use Rattle.cargo_lock_check.specs.Places.{IsPlaces}
-use Rattle.cargo_lock_check.specs.Reach.{IsOrphan}
+use Rattle.cargo_lock_flaws.specs.Alike.{AreAlikeAt, ArePairsAlike, IsFirstAlike}
+use Rattle.cargo_lock_flaws.specs.Lost.{IsLostAt}
+use Rattle.cargo_lock_flaws.specs.Names.{IsBadlyNamed}
+use Rattle.cargo_lock_flaws.specs.Packages.{IsFirstUnchecked, IsMisplaced, IsTwice, IsUnchecked, IsWithoutChecksum, source_unless}
+use Rattle.cargo_lock_flaws.specs.Places.{IsPlaces}
+use Rattle.cargo_lock_flaws.specs.Reach.{IsOrphan}
 use Rattle.cargo_lock_check.specs.Sound.{EmptyIfSound, NoneToldIfEmpty}
-use Rattle.cargo_lock_check.specs.Sources.{HasUserInfo, IsFrom, IsFromAt, IsLookAlike}
-use Rattle.cargo_lock_check.specs.Stale.{stale_keys}
+use Rattle.cargo_lock_flaws.specs.Sources.{HasUserInfo, IsFrom, IsFromAt, IsLookAlike}
+use Rattle.cargo_lock_flaws.specs.Stale.{stale_keys}
 use Rattle.cargo_lock_check.specs.Text.{OtherLineData}
-use Rattle.cargo_lock_check.proofs.StaleKeys.{cons-here, nothing-there, stale_keys_are_exact}
+use Rattle.cargo_lock_flaws.proofs.StaleKeys.{cons-here, nothing-there, stale_keys_are_exact}
 
 -- ---- lists without members
 

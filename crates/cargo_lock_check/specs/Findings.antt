@@ -20,15 +20,15 @@ use Rattle.cargo_lock_check.specs.declared.findings.Flaw.{Flaw}
 use Rattle.cargo_lock_check.specs.declared.findings.Flaw.TheVariants as flaw
 use Rattle.cargo_lock_check.specs.declared.findings.SourceFlaw.{SourceFlaw}
 use Rattle.cargo_lock_check.specs.declared.findings.SourceFlaw.TheVariants as source_flaw
-use Rattle.cargo_lock_check.specs.Alike.{ArePairsAlike}
-use Rattle.cargo_lock_check.specs.Dependencies.{AreDependencies, IsMisplacedAt, IsRepeatedAt}
-use Rattle.cargo_lock_check.specs.Lost.{AreLost}
-use Rattle.cargo_lock_check.specs.Names.{IsBadlyNamed}
-use Rattle.cargo_lock_check.specs.Packages.{IsMisplaced, IsTwice, IsUnchecked, IsWithoutChecksum}
-use Rattle.cargo_lock_check.specs.Places.{IsPlaces}
-use Rattle.cargo_lock_check.specs.Reach.{IsOrphan}
-use Rattle.cargo_lock_check.specs.Sources.{HasUserInfo, IsFromAt, IsLookAlike}
-use Rattle.cargo_lock_check.specs.Stale.{stale_keys}
+use Rattle.cargo_lock_flaws.specs.Alike.{ArePairsAlike}
+use Rattle.cargo_lock_flaws.specs.Dependencies.{AreDependencies, IsMisplacedAt, IsRepeatedAt}
+use Rattle.cargo_lock_flaws.specs.Lost.{AreLost}
+use Rattle.cargo_lock_flaws.specs.Names.{IsBadlyNamed}
+use Rattle.cargo_lock_flaws.specs.Packages.{IsMisplaced, IsTwice, IsUnchecked, IsWithoutChecksum}
+use Rattle.cargo_lock_flaws.specs.Places.{IsPlaces}
+use Rattle.cargo_lock_flaws.specs.Reach.{IsOrphan}
+use Rattle.cargo_lock_flaws.specs.Sources.{HasUserInfo, IsFromAt, IsLookAlike}
+use Rattle.cargo_lock_flaws.specs.Stale.{stale_keys}
 use Rattle.cargo_lock_check.specs.Text.{AreSameLines, IsFirstOther, OtherLineData, cargo_lines}
 
 -- what is found, with the packages and the format to which it refers

@@ -2,15 +2,15 @@
 use Rattle.std.specs.Prelude.{◌≡◌, ◌↔◌, ◌<◌, ℕ, List, [], None, length}
 use Rattle.cargo_lock_encoding.specs.Lockfiles.{LockfileData}
 use Rattle.cargo_lock_encoding.specs.Survives.{Survives}
-use Rattle.cargo_lock_check.specs.Alike.{AreAlikeAt}
-use Rattle.cargo_lock_check.specs.Dependencies.{IsMisplacedAt, IsRepeatedAt}
+use Rattle.cargo_lock_flaws.specs.Alike.{AreAlikeAt}
+use Rattle.cargo_lock_flaws.specs.Dependencies.{IsMisplacedAt, IsRepeatedAt}
 use Rattle.cargo_lock_check.specs.Findings.{AreFindings, FindingsData, HasNoFindings, IsLostIn, IsWrittenByCargo, checked_packages, told_of}
-use Rattle.cargo_lock_check.specs.Lost.{IsLostAt}
-use Rattle.cargo_lock_check.specs.Names.{IsBadlyNamed}
-use Rattle.cargo_lock_check.specs.Packages.{IsMisplaced, IsTwice, IsUnchecked, IsWithoutChecksum}
-use Rattle.cargo_lock_check.specs.Reach.{IsOrphan}
-use Rattle.cargo_lock_check.specs.Sources.{HasUserInfo, IsFromAt, IsLookAlike}
-use Rattle.cargo_lock_check.specs.Stale.{IsStale}
+use Rattle.cargo_lock_flaws.specs.Lost.{IsLostAt}
+use Rattle.cargo_lock_flaws.specs.Names.{IsBadlyNamed}
+use Rattle.cargo_lock_flaws.specs.Packages.{IsMisplaced, IsTwice, IsUnchecked, IsWithoutChecksum}
+use Rattle.cargo_lock_flaws.specs.Reach.{IsOrphan}
+use Rattle.cargo_lock_flaws.specs.Sources.{HasUserInfo, IsFromAt, IsLookAlike}
+use Rattle.cargo_lock_flaws.specs.Stale.{IsStale}
 
 -- The format keeps the tag, branch or revision of each source. A package matches each dependency.
 -- No package has the identity of an earlier one, lists a dependency more than once, has a name that

@@ -7,21 +7,21 @@ ghost use Rattle.cargo_lock_parts.specs.declared.error.Error.TheVariants.{Memory
 ghost use Rattle.cargo_lock_check.specs.Finding.{finding_of};
 ghost use Rattle.cargo_lock_check.specs.Finding as told;
 ghost use Rattle.cargo_lock_check.specs.Findings.{AreFindings, alike_at, dependency_at, dependency_finding_by, finding_by, has_workspace, is_bare_root, misplaced_at, misplaced_dependency_at, no_root, flawed_at, source_at, source_finding_by, told_of_format, told_of_orphans};
-ghost use Rattle.cargo_lock_check.specs.Alike.{ArePairsAlike};
-ghost use Rattle.cargo_lock_check.specs.Dependencies.{AreDependencies, IsMisplacedAt, IsRepeatedAt};
-ghost use Rattle.cargo_lock_check.specs.Names.{IsBadlyNamed};
-ghost use Rattle.cargo_lock_check.specs.Packages.{IsMisplaced, IsTwice};
-ghost use Rattle.cargo_lock_check.specs.Places.{IsPlaces};
-ghost use Rattle.cargo_lock_check.specs.Sources.{HasUserInfo, IsFromAt, IsLookAlike};
+ghost use Rattle.cargo_lock_flaws.specs.Alike.{ArePairsAlike};
+ghost use Rattle.cargo_lock_flaws.specs.Dependencies.{AreDependencies, IsMisplacedAt, IsRepeatedAt};
+ghost use Rattle.cargo_lock_flaws.specs.Names.{IsBadlyNamed};
+ghost use Rattle.cargo_lock_flaws.specs.Packages.{IsMisplaced, IsTwice};
+ghost use Rattle.cargo_lock_flaws.specs.Places.{IsPlaces};
+ghost use Rattle.cargo_lock_flaws.specs.Sources.{HasUserInfo, IsFromAt, IsLookAlike};
 
 use crate::asked::TextFindings;
 use crate::finding::Finding;
-use crate::flaws::{
+use crate::text::OtherLine;
+use cargo_lock::Lockfile;
+use cargo_lock_flaws::{
     badly_named_packages, look_alike_sources, misplaced_dependencies, misplaced_packages,
     packages_alike, packages_twice, repeated_dependencies, sources_with_user_info,
 };
-use crate::text::OtherLine;
-use cargo_lock::Lockfile;
 use cargo_lock_parts::error::Result;
 use cargo_lock_parts::package::Package;
 use cargo_lock_references::{MetadataKey, ResolveVersion};

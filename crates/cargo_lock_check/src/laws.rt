@@ -2,7 +2,7 @@
 
 ghost use Rattle.cargo_lock_check.specs.Finding.{EachIsOneLine};
 ghost use Rattle.cargo_lock_check.specs.Sound.{EmptyIfSound, NoneToldIfEmpty};
-ghost use Rattle.cargo_lock_check.specs.Stale.{StaleKeysAreExact};
+ghost use Rattle.cargo_lock_flaws.specs.Stale.{StaleKeysAreExact};
 
 /// Nothing is found in a text and its lockfile exactly if nothing is wrong.
 pub fn nothing_is_found_where_nothing_is_wrong()

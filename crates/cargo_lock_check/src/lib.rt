@@ -31,12 +31,11 @@
 mod asked;
 pub mod finding;
 pub mod findings;
-pub mod flaws;
 pub mod laws;
 pub mod text;
 mod written;
 
 pub use crate::finding::Finding;
 pub use crate::findings::Findings;
-pub use crate::flaws::{dependency_order, package_order};
 pub use crate::text::OtherLine;
+pub use cargo_lock_order::{dependency_order, package_order};

@@ -1,5 +1,0 @@
-use Rattle.cargo_lock_check.specs.Dependencies.{AreDependenciesBefore, IsMisplacedAt}
-use Rattle.cargo_lock_check.proofs.flaws.dependencies.misplaced_dependencies.Given as goal
-
-abbrev pub invariant-loop-place : goal.invariant-loop-place
-invariant-loop-place l = AreDependenciesBefore (IsMisplacedAt l.packages) l.place 0 l.places.items

@@ -1,5 +1,0 @@
-use Rattle.cargo_lock_check.specs.Dependencies.{AreDependenciesBefore, IsMisplacedAt}
-use Rattle.cargo_lock_check.proofs.flaws.dependencies.put_misplaced.Given as goal
-
-abbrev pub invariant-loop-at : goal.invariant-loop-at
-invariant-loop-at l = AreDependenciesBefore (IsMisplacedAt l.packages) l.place l.at l.places.items

@@ -1,5 +1,0 @@
-use Rattle.cargo_lock_check.specs.Dependencies.{AreDependenciesBefore, IsRepeatedAt}
-use Rattle.cargo_lock_check.proofs.flaws.dependencies.repeated_dependencies.Given as goal
-
-abbrev pub invariant-loop-place : goal.invariant-loop-place
-invariant-loop-place l = AreDependenciesBefore (IsRepeatedAt l.packages) l.place 0 l.places.items

@@ -1,6 +1,0 @@
-use Rattle.cargo_lock_check.specs.Dependencies.{AreDependenciesBefore}
-use Rattle.cargo_lock_check.specs.Lost.{IsLostAt}
-use Rattle.cargo_lock_check.proofs.flaws.lost.put_lost.Given as goal
-
-abbrev pub invariant-loop-at : goal.invariant-loop-at
-invariant-loop-at l = AreDependenciesBefore (IsLostAt l.groups.packages) l.place l.at l.lost.items

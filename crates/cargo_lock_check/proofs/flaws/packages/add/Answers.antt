@@ -1,4 +1,0 @@
-use Rattle.cargo_lock_check.proofs.flaws.packages.add.Goals as goal
-
-pub returns : goal.returns
-returns c = λ s. c.in_ok-insert.ensures.updates.0 record c.args.source { now = s }

@@ -1,5 +1,0 @@
-use Rattle.cargo_lock_check.specs.Seen.{AreChecked}
-use Rattle.cargo_lock_check.proofs.flaws.packages.checked_sources.Given as goal
-
-abbrev pub invariant-loop-package : goal.invariant-loop-package
-invariant-loop-package l = AreChecked l.packages l.package-index l.sources

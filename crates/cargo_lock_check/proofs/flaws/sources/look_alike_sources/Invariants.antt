@@ -1,6 +1,0 @@
-use Rattle.cargo_lock_check.specs.Places.{IsPlaces}
-use Rattle.cargo_lock_check.specs.Sources.{IsFromAt, IsLookAlike}
-use Rattle.cargo_lock_check.proofs.flaws.sources.look_alike_sources.Given as goal
-
-abbrev pub invariant-loop-place : goal.invariant-loop-place
-invariant-loop-place l = IsPlaces (IsFromAt IsLookAlike l.packages) l.place l.places.items

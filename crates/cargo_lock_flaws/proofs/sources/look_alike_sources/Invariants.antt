@@ -1,0 +1,6 @@
+use Rattle.cargo_lock_flaws.specs.Places.{IsPlaces}
+use Rattle.cargo_lock_flaws.specs.Sources.{IsFromAt, IsLookAlike}
+use Rattle.cargo_lock_flaws.proofs.sources.look_alike_sources.Given as goal
+
+abbrev pub invariant-loop-place : goal.invariant-loop-place
+invariant-loop-place l = IsPlaces (IsFromAt IsLookAlike l.packages) l.place l.places.items

@@ -1,0 +1,14 @@
+pub mod Places
+pub mod Packages
+pub mod Names
+pub mod Alike
+pub mod Namesakes
+pub mod Sources
+pub mod Stale
+pub mod Dependencies
+pub mod Seen
+pub mod Lost
+pub mod Reach
+pub mod Group
+pub mod Groups
+pub mod Search

@@ -1,0 +1,581 @@
+//! The packages that match a dependency best, found without a walk over the list.
+//!
+//! An index finds the packages of a dependency's name and version. Most often there is one at most.
+//! If there are several, they are in groups, which find those that match without a look at each of
+//! them.
+
+ghost use Rattle.std.specs.Prelude.{◌≡◌, ◌≤◌, ℕ, cond, IfOk, MatchOption, OnOk, Some, length};
+ghost use Rattle.std.specs.Prelude.{List, option_copied, slice_get, unwrap_or};
+ghost use Rattle.std.specs.Bool.{Decides};
+ghost use Rattle.std.specs.BTreeMap.{get, is_at};
+ghost use Rattle.cargo_lock_parts.specs.Identity.{PackageData, identity_of};
+ghost use Rattle.cargo_lock_parts.specs.Rank as rank;
+ghost use Rattle.cargo_lock_parts.specs.Rank.{commit_of};
+ghost use Rattle.cargo_lock_parts.specs.Source.{kind_of};
+ghost use Rattle.cargo_lock_parts.specs.SourceKey.{git_reference_text, kind_number};
+ghost use Rattle.cargo_lock_index.specs.Near.{IsIndexOf};
+ghost use Rattle.cargo_lock_graph.specs.Candidates.{identity_as_key, versions_of};
+ghost use Rattle.cargo_lock_graph.specs.Targets as target;
+ghost use Rattle.cargo_lock_graph.specs.Targets.{IsLost, Matches, MatchesAt};
+ghost use Rattle.cargo_lock_flaws.specs.Group as spec;
+ghost use Rattle.cargo_lock_flaws.specs.Group.{group_cmp, group_of};
+ghost use Rattle.cargo_lock_flaws.specs.Groups.{AreGroups, AreOnly, AreShared, HasAdded};
+ghost use Rattle.cargo_lock_flaws.specs.Groups.{HasGrouped, HasMatch, HasMatches, HasPut, IsBest};
+ghost use Rattle.cargo_lock_flaws.specs.Groups.{IsBestGroup, IsNamedAt, IsNumbered, fits_source};
+ghost use Rattle.cargo_lock_flaws.specs.Groups.{group_places, is_only_one};
+ghost use Rattle.cargo_lock_flaws.specs.Places.{IsMarked};
+
+use crate::dependencies::identity;
+use crate::index::{package_key, version_places};
+use cargo_lock_index::places::Places;
+use cargo_lock_parts::dependency::Dependency;
+use cargo_lock_parts::package::{GitReference, Package, PartialIdentity, SourceId, SourceKind};
+use std::alloc::{AllocError, Global};
+use std::cmp::Ordering;
+use std::collections::BTreeMap;
+use std::marker::Model;
+
+/// The packages of a list, an index of their names and versions, whether each is the only one of its
+/// name and version, and the groups of those that are not. There is a group for each rank of a
+/// match, with the packages that can match a dependency with it.
+#[derive(Drop)]
+pub(crate) struct Groups<'a> {
+    packages: &'a [Package],
+    places: Places<'a>,
+    only: Vec<bool>,
+    numbered: Numbered<'a>,
+}
+
+impl<'a> Model for Groups<'a> {
+    ghost use Rattle.std.specs.Prelude.{length, map};
+    ghost use Rattle.cargo_lock_flaws.specs.Groups.{AreIndexed, Grouping};
+
+    ghost Value = { Grouping };
+
+    ghost view = { λ g. record {
+      packages = g.packages.now;
+      only = g.only.items;
+      places = map (λ places. places.items) g.numbered.places.items;
+    } };
+
+    ghost invariant = { λ g. AreIndexed g.packages.now g.places g.only.items g.numbered };
+}
+
+/// The packages that match a dependency best.
+#[derive(Clone, Copy)]
+pub(crate) enum BestMatch {
+    /// The package at this place alone.
+    One(usize),
+
+    /// Those of a group that match with its rank.
+    Many(BestGroup),
+}
+
+/// The group of the packages that match a dependency best, and the rank of the match.
+#[derive(Clone, Copy)]
+pub(crate) struct BestGroup {
+    pub(crate) rank: u8,
+    pub(crate) number: usize,
+}
+
+// The number of each group, and by that number the places of its packages.
+#[derive(Drop)]
+struct Numbered<'a> {
+    numbers: BTreeMap<Group<'a>, usize>,
+    places: Vec<Vec<usize>>,
+}
+
+// What the packages of a group have in common: the name and the version, and for rank 1 the whole
+// source, or for another rank the URL and what the rank compares beside it. The packages of an open
+// group have no precise text.
+#[derive(Drop)]
+struct Group<'a> {
+    identity: PartialIdentity<'a>,
+    rank: u8,
+    is_open: bool,
+    kind: u8,
+    url: &'a str,
+    text: &'a str,
+}
+
+impl<'a> Model for Group<'a> {
+    ghost use Rattle.cargo_lock_flaws.specs.Group.{Group};
+
+    ghost Value = { Group };
+
+    ghost view = { λ g. record {
+      identity = g.identity;
+      rank = g.rank;
+      is_open = g.is_open;
+      kind = g.kind;
+      url = g.url.now;
+      text = g.text.now;
+    } };
+}
+
+impl<'a> PartialEq for Group<'a> {
+    ghost use Rattle.std.specs.Cmp.{partial_equiv_from_equiv, eq_by_cmp_equiv};
+    ghost use Rattle.cargo_lock_flaws.specs.Group.{group_total, is_same_group};
+
+    ghost eq = { is_same_group };
+
+    ghost laws = { partial_equiv_from_equiv (eq_by_cmp_equiv group_total) };
+
+    fn eq(&self, other: &Group<'a>) -> bool {
+        self.cmp(other) == Ordering::Equal
+    }
+}
+
+impl<'a> Eq for Group<'a> {
+    ghost use Rattle.std.specs.Cmp.{eq_by_cmp_equiv};
+    ghost use Rattle.cargo_lock_flaws.specs.Group.{group_total};
+
+    ghost laws = { eq_by_cmp_equiv group_total };
+}
+
+impl<'a> PartialOrd for Group<'a> {
+    ghost use Rattle.std.specs.Ordering.{as_partial_cmp};
+    ghost use Rattle.std.specs.Cmp.{partial_order_from_total};
+    ghost use Rattle.cargo_lock_flaws.specs.Group.{group_cmp, group_total};
+
+    ghost partial_cmp = { as_partial_cmp group_cmp };
+
+    ghost laws = { partial_order_from_total group_total };
+
+    fn partial_cmp(&self, other: &Group<'a>) -> Option<Ordering> {
+        Some(self.cmp(other))
+    }
+}
+
+impl<'a> Ord for Group<'a> {
+    ghost use Rattle.std.specs.Prelude.{refl};
+    ghost use Rattle.cargo_lock_flaws.specs.Group.{group_cmp, group_total};
+
+    ghost cmp = { group_cmp };
+
+    ghost total = { group_total };
+
+    ghost matches_partial_cmp = { λ a b. refl };
+
+    ghost matches_eq = { λ a b. refl };
+
+    fn cmp(&self, other: &Group<'a>) -> Ordering {
+        let identities = self.identity.cmp(&other.identity);
+        let ranks = identities.then(self.rank.cmp(&other.rank));
+        let openness = ranks.then(self.is_open.cmp(&other.is_open));
+        match openness.then(self.kind.cmp(&other.kind)) {
+            Ordering::Less => Ordering::Less,
+            Ordering::Equal => self.url.cmp(other.url).then(self.text.cmp(other.text)),
+            Ordering::Greater => Ordering::Greater,
+        }
+    }
+}
+
+impl<'a> Groups<'a> {
+    /// These packages in their groups. Fails when out of memory.
+    pub(crate) fn of(alloc: Global, packages: &'a [Package]) -> Result<Groups<'a>, AllocError>
+        ensures { IfOk result (λ groups. groups.packages ≡ packages.now) }
+    {
+        let places = version_places(alloc, packages)?;
+        let only = only_ones(alloc, packages, &places)?;
+        let numbered = Numbered::of(alloc, packages, &only)?;
+        Ok(Groups {
+            packages,
+            places,
+            only,
+            numbered,
+        })
+    }
+
+    /// How many groups there are.
+    pub(crate) fn count(&self) -> usize
+        ensures { result ≡ length self.now.places }
+    {
+        self.numbered.places.len()
+    }
+
+    /// The packages that match a dependency best. `None` if no package matches.
+    pub(crate) fn best(&self, dependency: &'a Dependency) -> Option<BestMatch>
+        ensures { MatchOption result
+            (IsLost self.now.packages dependency.now)
+            (IsBest self.now dependency.now) }
+    {
+        let place = self.first_named(dependency)?;
+        if !is_marked(&self.only, place) {
+            let best = self.best_group(dependency)?;
+            return Some(BestMatch::Many(best));
+        }
+        if self.fits(dependency, place) {
+            return Some(BestMatch::One(place));
+        }
+        None
+    }
+
+    // The first package with the name and the version of a dependency.
+    fn first_named(&self, dependency: &'a Dependency) -> Option<usize>
+        ensures { MatchOption result
+            ((k : ℕ) → ¬ IsNamedAt self.now.packages dependency.now k)
+            (IsNamedAt self.now.packages dependency.now) }
+    {
+        let Dependency { name, version, .. } = dependency;
+        self.places
+            .first(PartialIdentity::name_and_version(name, version))
+    }
+
+    // Whether there is a package at a place, and its source matches that of a dependency.
+    fn fits(&self, dependency: &Dependency, place: usize) -> bool
+        ensures { result ≡ fits_source dependency.now (slice_get self.now.packages place) }
+    {
+        match self.packages.get(place) {
+            Some(package) => rank_between(&dependency.source, &package.source).is_some(),
+            None => false,
+        }
+    }
+
+    // The group of the packages that match a dependency best. `None` if no package matches.
+    fn best_group(&self, dependency: &'a Dependency) -> Option<BestGroup>
+        requires { AreShared self.now dependency.now }
+        ensures { MatchOption result
+            (IsLost self.now.packages dependency.now)
+            (IsBestGroup self.now dependency.now) }
+    {
+        for rank in 1..5 {
+            if let Some(number) = self.group_with_match(rank, dependency) {
+                return Some(BestGroup { rank, number });
+            }
+        }
+        None
+    }
+
+    // The group of the packages that match a dependency with a rank. `None` if no package does.
+    fn group_with_match(&self, rank: u8, dependency: &'a Dependency) -> Option<usize>
+        requires { AreShared self.now dependency.now }
+        ensures { MatchOption result
+            ((k : ℕ) → ¬ MatchesAt self.now.packages dependency.now k rank)
+            (λ number. HasMatch self.now.packages dependency.now rank
+            × HasMatches self.now dependency.now rank number) }
+    {
+        let number = self.group(rank, dependency)?;
+        for place in self.places(number) {
+            if self.is_match(rank, dependency, *place) {
+                return Some(number);
+            }
+        }
+        None
+    }
+
+    // The group of the packages that can match a dependency with a rank. `None` if it is empty.
+    fn group(&self, rank: u8, dependency: &'a Dependency) -> Option<usize>
+        requires { AreShared self.now dependency.now }
+        ensures { MatchOption result
+            ((k : ℕ) → ¬ MatchesAt self.now.packages dependency.now k rank)
+            (HasMatches self.now dependency.now rank) }
+    {
+        let numbers = &self.numbered.numbers;
+        match group_for(rank, dependency) {
+            Some(group) => numbers.get(&group).copied(),
+            None => None,
+        }
+    }
+
+    /// The places of the packages of a group. There are none if no group has the number.
+    pub(crate) fn places(&self, number: usize) -> &[usize]
+        ensures { result.now ≡ group_places self.now number }
+    {
+        match self.numbered.places.get(number) {
+            Some(places) => places.as_slice(),
+            None => &[],
+        }
+    }
+
+    /// Whether the package at a place matches a dependency with a rank.
+    pub(crate) fn is_match(&self, rank: u8, dependency: &Dependency, place: usize) -> bool
+        ensures { Decides result (MatchesAt self.now.packages dependency.now place rank) }
+    {
+        match self.packages.get(place) {
+            Some(package) => is_match(rank, dependency, package),
+            None => false,
+        }
+    }
+}
+
+impl<'a> Numbered<'a> {
+    // The groups of those packages that are not the only ones.
+    fn of(alloc: Global, packages: &'a [Package], only: &[bool]) -> Result<Numbered<'a>, AllocError>
+        ensures { IfOk result (AreGroups packages.now (length packages.now) only.now) }
+    {
+        let mut numbered = Numbered {
+            numbers: BTreeMap::new(alloc),
+            places: Vec::new(alloc),
+        };
+        for (place, package) in packages.iter().enumerate() {
+            if !is_marked(only, place) {
+                numbered.put_package(alloc, place, package)?;
+            }
+        }
+        Ok(numbered)
+    }
+
+    // Adds the package at a place to each of its groups.
+    fn put_package(
+        &mut self,
+        alloc: Global,
+        place: usize,
+        package: &'a Package,
+    ) -> Result<(), AllocError>
+        requires { IsNumbered self.old }
+        ensures { OnOk result (HasGrouped self.old self.new «package».now place) }
+    {
+        self.put_at(alloc, 1, false, place, package)?;
+        self.put_at(alloc, 2, false, place, package)?;
+        self.put_at(alloc, 3, false, place, package)?;
+        self.put_at(alloc, 4, false, place, package)?;
+        if !has_precise(&package.source) {
+            self.put_at(alloc, 3, true, place, package)?;
+            self.put_at(alloc, 4, true, place, package)?;
+        }
+        Ok(())
+    }
+
+    // Adds the package at a place to its group for a rank, if it has one.
+    fn put_at(
+        &mut self,
+        alloc: Global,
+        rank: u8,
+        is_open: bool,
+        place: usize,
+        package: &'a Package,
+    ) -> Result<(), AllocError>
+        requires { IsNumbered self.old }
+        ensures { OnOk result (HasPut self.old self.new
+            (group_of rank is_open (identity_as_key (identity_of «package».now))) place) }
+    {
+        match group_of(rank, is_open, package_key(package)) {
+            Some(group) => self.put(alloc, group, place),
+            None => Ok(()),
+        }
+    }
+
+    // Adds a place to a group.
+    fn put(&mut self, alloc: Global, group: Group<'a>, place: usize) -> Result<(), AllocError>
+        requires { IsNumbered self.old }
+        ensures { OnOk result (HasPut self.old self.new (Some group.entry) place) }
+    {
+        let next = self.places.len();
+        let number = number_of(&mut self.numbers, group, next)?;
+        add(alloc, &mut self.places, number, place)?;
+        Ok(())
+    }
+}
+
+// For each package, whether it is the only one of its name and version.
+fn only_ones<'a>(
+    alloc: Global,
+    packages: &'a [Package],
+    places: &Places<'a>,
+) -> Result<Vec<bool>, AllocError>
+    requires { IsIndexOf (versions_of packages.now) places.now }
+    ensures { IfOk result (λ only. AreOnly packages.now only.items) }
+{
+    let mut only = Vec::new(alloc);
+    for place in 0..packages.len() {
+        only.push(is_only(places, &packages[place]))?;
+    }
+    Ok(only)
+}
+
+// Whether exactly one of the packages of the index has the name and the version of this one.
+fn is_only<'a>(places: &Places<'a>, package: &'a Package) -> bool
+    ensures { (packages : List PackageData) → IsIndexOf (versions_of packages) places.now
+        → result ≡ is_only_one packages «package».now }
+{
+    places.is_only(PartialIdentity::name_and_version(&package.name, &package.version))
+}
+
+// Whether the place has a mark.
+fn is_marked(marks: &[bool], place: usize) -> bool
+    ensures { Decides result (IsMarked marks.now place) }
+{
+    match marks.get(place) {
+        Some(mark) => *mark,
+        None => false,
+    }
+}
+
+// Adds a place to the group with a number, which may be the next one.
+fn add(
+    alloc: Global,
+    places: &mut Vec<Vec<usize>>,
+    number: usize,
+    place: usize,
+) -> Result<(), AllocError>
+    requires { number ≤ length places.old.items }
+    ensures { OnOk result (HasAdded places.old.items places.new.items number place) }
+{
+    if number == places.len() {
+        places.push(vec![in alloc; place]?)?;
+    } else {
+        places[number].push(place)?;
+    }
+    Ok(())
+}
+
+// The number of a group. It is `next` if the group has none yet.
+fn number_of<'a>(
+    numbers: &mut BTreeMap<Group<'a>, usize>,
+    group: Group<'a>,
+    next: usize,
+) -> Result<usize, AllocError>
+    ensures number { IfOk result (λ number.
+        number ≡ unwrap_or (get group_cmp numbers.old group.entry) next) }
+    ensures numbers { IfOk result (λ number. (q : spec.Group) → get group_cmp numbers.new q
+        ≡ cond (is_at (group_cmp group.entry) q) (Some number) (get group_cmp numbers.old q)) }
+{
+    Ok(*numbers.entry(group)?.or_insert(next))
+}
+
+fn is_match(rank: u8, dependency: &Dependency, package: &Package) -> bool
+    ensures { Decides result (Matches dependency.now rank «package».now) }
+{
+    package.name == dependency.name
+        && package.version == dependency.version
+        && rank_between(&dependency.source, &package.source) == Some(rank)
+}
+
+// The rank of two sources that may be absent.
+fn rank_between(a: &Option<SourceId>, b: &Option<SourceId>) -> Option<u8>
+    ensures { result ≡ target.rank_between a.now b.now }
+{
+    match (a, b) {
+        (None, None) => Some(1),
+        (Some(a), Some(b)) => a.match_rank(b),
+        _ => None,
+    }
+}
+
+// The group of the packages that can match a dependency with a rank.
+fn group_for<'a>(rank: u8, dependency: &'a Dependency) -> Option<Group<'a>>
+    ensures { result ≡ spec.group_for rank dependency.now }
+{
+    group_of(rank, asks_open(rank, dependency), identity(dependency))
+}
+
+// Whether the packages that can match a dependency with a rank have no precise text.
+fn asks_open(rank: u8, dependency: &Dependency) -> bool
+    ensures { result ≡ spec.asks_open rank dependency.now }
+{
+    rank > 2 && has_precise(&dependency.source)
+}
+
+fn has_precise(source: &Option<SourceId>) -> bool
+    ensures { result ≡ spec.has_precise source.now }
+{
+    match source {
+        Some(source) => source.precise().is_some(),
+        None => false,
+    }
+}
+
+// The group of an identity for a rank.
+fn group_of<'a>(rank: u8, is_open: bool, identity: PartialIdentity<'a>) -> Option<Group<'a>>
+    ensures { result ≡ spec.group_of rank is_open identity.entry }
+{
+    if rank == 1 {
+        return Some(Group {
+            identity,
+            rank,
+            is_open: false,
+            kind: 0,
+            url: "",
+            text: "",
+        });
+    }
+    let source = identity.source?;
+    let text = text_at(rank, source)?;
+    Some(Group {
+        identity: PartialIdentity {
+            name: identity.name,
+            version: identity.version,
+            source: None,
+        },
+        rank,
+        is_open,
+        kind: kind_at(rank, source),
+        url: source.url().as_str(),
+        text,
+    })
+}
+
+// The sort of the reference, if the rank compares the reference.
+fn kind_at(rank: u8, source: &SourceId) -> u8
+    ensures { result ≡ spec.kind_at rank source.now }
+{
+    if rank == 3 {
+        kind_number(source.kind())
+    } else {
+        0
+    }
+}
+
+// The place of a kind in the order of sources.
+fn kind_number(kind: &SourceKind) -> u8
+    ensures { result ≡ kind_number (kind_of kind.now) }
+{
+    match kind {
+        SourceKind::Git(GitReference::DefaultBranch) => 0,
+        SourceKind::Git(GitReference::Tag(_)) => 1,
+        SourceKind::Git(GitReference::Branch(_)) => 2,
+        SourceKind::Git(GitReference::Rev(_)) => 3,
+        SourceKind::Path => 4,
+        SourceKind::Registry => 5,
+        SourceKind::SparseRegistry => 6,
+        SourceKind::LocalRegistry => 7,
+        SourceKind::Directory => 8,
+    }
+}
+
+// What a rank compares of a repository beside its URL: the commit, the reference, or nothing.
+fn text_at(rank: u8, source: &SourceId) -> Option<&str>
+    ensures { option_copied result ≡ spec.text_at rank source.now }
+{
+    if !source.is_git() {
+        return None;
+    }
+    match rank {
+        2 => commit(source),
+        3 => Some(reference_text(source.kind())),
+        _ => Some(""),
+    }
+}
+
+// The commit: the precise text, or else the value of `Rev`.
+fn commit(source: &SourceId) -> Option<&str>
+    ensures { option_copied result ≡ commit_of source.now }
+{
+    match source.precise() {
+        Some(precise) => Some(precise),
+        None => revision(source.kind()),
+    }
+}
+
+// The value of `Rev`.
+fn revision(kind: &SourceKind) -> Option<&str>
+    ensures { option_copied result ≡ rank.revision (kind_of kind.now) }
+{
+    match kind {
+        SourceKind::Git(GitReference::Rev(text)) => Some(text.as_str()),
+        _ => None,
+    }
+}
+
+// The text of the reference, empty if there is none.
+fn reference_text(kind: &SourceKind) -> &str
+    ensures { result.now ≡ git_reference_text (kind_of kind.now) }
+{
+    match kind {
+        SourceKind::Git(GitReference::Tag(text)) => text.as_str(),
+        SourceKind::Git(GitReference::Branch(text)) => text.as_str(),
+        SourceKind::Git(GitReference::Rev(text)) => text.as_str(),
+        _ => "",
+    }
+}
