@@ -20,6 +20,7 @@ MODULE = f"{HERE}/out/operations.bc"
 NAMED = ["cli", "cli_lockfiles", "cli_views", "cli_tools", "cli_support", "cargo_lock"]
 NAMED += ["cargo_lock_graph", "cargo_lock_encoding", "cargo_lock_lines"]
 NAMED += ["cargo_lock_references", "cargo_lock_parts", "cargo_lock_bom", "cargo_lock_check"]
+NAMED += ["cargo_lock_flaws"]
 NAMED += ["cargo_lock_diff", "cargo_lock_json", "cargo_lock_ask", "cargo_lock_merge"]
 NAMED += ["cargo_lock_merging", "cargo_lock_picture", "cargo_lock_verify"]
 NAMED += ["cargo_lock_audit", "cargo_lock_licenses", "cli_folders", "json_line"]
