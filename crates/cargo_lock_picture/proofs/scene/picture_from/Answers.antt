@@ -1,11 +1,11 @@
 use Rattle.std.proofs.Common.{Bool, List, ℕ, length, subst}
 use Rattle.cargo_lock_graph.specs.Edges.{far_ends}
+use Rattle.lists.specs.Marks.{IsMarked}
+use Rattle.lists.specs.Places.{IsPlaces}
+use Rattle.lists.proofs.Places.{places-alike, places-end}
 use Rattle.cargo_lock_picture.specs.Arrows.{AreArrows}
-use Rattle.cargo_lock_picture.specs.Marks.{IsMarked}
-use Rattle.cargo_lock_picture.specs.Places.{IsPlaces}
 use Rattle.cargo_lock_picture.specs.Reach.{IsReachedFrom}
 use Rattle.cargo_lock_picture.proofs.Arrowing.{edges-among}
-use Rattle.cargo_lock_picture.proofs.Placing.{places-alike, places-end}
 use Rattle.cargo_lock_picture.proofs.scene.picture_from.Goals as goal
 
 pub returns-clause-nodes : goal.returns-clause-nodes
