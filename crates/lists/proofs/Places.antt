@@ -1,8 +1,8 @@
 -- Places of a list at which something holds, one place after another.
-use Rattle.std.proofs.Common.{◌≡◌, ◌<◌, ◌+◌, ◌-◌, All, inl, inr, ℕ, List, [], ◌∷◌, ◌++◌, length, get_or, sym, ap, subst, ◌∙◌, arith, length-append}
+use Rattle.std.proofs.Common.{◌≡◌, ◌<◌, ◌+◌, ◌-◌, All, inl, inr, ℕ, List, [], ◌∷◌, ◌++◌, ◌↔◌, Bool, true, false, cond, length, get_or, refl, sym, ap, subst, ◌∙◌, arith, length-append}
 use Rattle.std.specs.List.{Contains}
 use Rattle.std.specs.List.Sorted.{IsStrictlyIncreasing}
-use Rattle.std.proofs.lemmas.Bool.{cases_eq}
+use Rattle.std.proofs.lemmas.Bool.{cases_eq, false≢true}
 use Rattle.std.proofs.lemmas.List.{get_or_append_left, get_or-append_right}
 use Rattle.std.proofs.lemmas.List.Elements.{Contains-append_left, Contains-get_or, Contains-push, Contains-push_cases}
 use Rattle.lists.specs.Places.{IsPlaces}
@@ -60,6 +60,11 @@ places-pass P n m xs is miss e =
         ],
       );
     }
+
+-- one more place, at which P was tested
+pub places-tested : (P : ℕ → Type 0) (n m : ℕ) (xs ys : List ℕ) (b : Bool) → IsPlaces P n xs → (b ≡ true) ↔ P n → m ≡ n + 1 → ys ≡ cond b (xs ++ n ∷ []) xs → IsPlaces P m ys
+places-tested P n m xs ys true is tells e f = places-put P n m xs ys is (tells.0 refl) e f
+places-tested P n m xs ys false is tells e f = rw f (places-pass P n m xs is (λ h. false≢true (tells.1 h)) e)
 
 -- the same places, up to the same bound
 pub places-end : (P : ℕ → Type 0) (n m : ℕ) (xs : List ℕ) → IsPlaces P n xs → n ≡ m → IsPlaces P m xs

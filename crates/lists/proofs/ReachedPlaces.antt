@@ -7,7 +7,6 @@ use Rattle.std.proofs.lemmas.List.Elements.{Contains-append_left, Contains-push,
 use Rattle.std.proofs.Math.ListN.{length-set}
 use Rattle.lists.specs.Chains.{OneLeadsTo}
 use Rattle.lists.specs.Marks.{IsMarked, unmarked_count}
-use Rattle.lists.specs.Places.{HoldsBelow}
 use Rattle.lists.specs.Reach.{HasReached, ReachData}
 use Rattle.lists.proofs.MarkedPlaces.{marked-before, marked-here, marked-kept, unmarked_count-set}
 use Rattle.lists.proofs.Members.{none-in, taken-before, taken-cases, taken-last}
@@ -139,6 +138,10 @@ each-is xs a b f =
     f
 
 -- ---- the places at which P holds, one place after another
+
+-- P holds at the place, which is below the bound
+abbrev pub HoldsBelow : (ℕ → Type 0) → ℕ → ℕ → Type 0
+HoldsBelow P bound place = (place < bound) × P place
 
 pub below-none : (P : ℕ → Type 0) (s : ReachData) → HasReached (HoldsBelow P 0) s s
 below-none P s = reached-none (HoldsBelow P 0) s (λ k h. let low = h.0 in omega (arith, low))
