@@ -1,0 +1,23 @@
+-- A place that is put into a group.
+use Rattle.std.proofs.Common.{◌≡◌, ◌<◌, ◌++◌, ◌∷◌, [], ◌∙◌, ℕ, List, Vec, Some, ap, arith, get_or, length, map, option_map, refl, slice_get, slice_set, subst}
+use Rattle.std.specs.declared.cmp.Ordering.{Ordering}
+use Rattle.std.proofs.lemmas.List.{length-map}
+use Rattle.std.proofs.lemmas.Option.{slice_get-map, slice_get_read}
+use Rattle.lists.specs.Groups.{Grouping, HasPut, number_of}
+
+-- the key has a number
+pub put-grown : {K : Type 0} (cmp : K → K → Ordering) (old seen new : Grouping K) (key : K) (place n : ℕ) (places : List ℕ)
+    → seen ≡ old → number_of cmp seen key ≡ Some n → slice_get seen.groups n ≡ Some places
+    → new.groups ≡ slice_set seen.groups n (places ++ place ∷ []) → new.numbers ≡ seen.numbers
+    → HasPut cmp old new key place
+put-grown cmp old seen new key place n places is number at groups numbers =
+    subst (λ s. HasPut cmp s new key place) is
+    (rw number record { places = places; at = at; groups = groups; numbers = numbers })
+
+-- the places of the group with a number
+pub places-at : {Z : Type 0} (groups : List (Vec ℕ Z)) (n : ℕ) (group : Vec ℕ Z) → n < length (map (λ (v : Vec ℕ Z). v.items) groups) → group ≡ get_or groups n group
+    → slice_get (map (λ (v : Vec ℕ Z). v.items) groups) n ≡ Some group.items
+places-at {Z} groups n group low is =
+    let items : Vec ℕ Z → List ℕ = λ (v : Vec ℕ Z). v.items in
+    let count = length-map groups items in
+    slice_get-map items groups n ∙ ap (option_map items) (slice_get_read groups (length groups) n group refl (omega (arith, low, count)) is)
