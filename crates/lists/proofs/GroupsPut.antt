@@ -1,7 +1,7 @@
 -- A place that is put into a group.
-use Rattle.std.proofs.Common.{◌≡◌, ◌<◌, ◌++◌, ◌∷◌, [], ◌∙◌, ℕ, List, Vec, Some, ap, arith, get_or, length, map, option_map, refl, slice_get, slice_set, subst}
+use Rattle.std.proofs.Common.{◌≡◌, ◌<◌, ◌++◌, ◌∷◌, [], ◌∙◌, ℕ, List, Vec, Some, ap, arith, get_or, length, map, option_map, refl, set, slice_get, slice_set, subst}
 use Rattle.std.specs.declared.cmp.Ordering.{Ordering}
-use Rattle.std.proofs.lemmas.List.{length-map}
+use Rattle.std.proofs.lemmas.List.{length-map, map-set}
 use Rattle.std.proofs.lemmas.Option.{slice_get-map, slice_get_read}
 use Rattle.lists.specs.Groups.{Grouping, HasPut, number_of}
 
@@ -21,3 +21,8 @@ places-at {Z} groups n group low is =
     let items : Vec ℕ Z → List ℕ = λ (v : Vec ℕ Z). v.items in
     let count = length-map groups items in
     slice_get-map items groups n ∙ ap (option_map items) (slice_get_read groups (length groups) n group refl (omega (arith, low, count)) is)
+
+-- a group takes more places
+pub groups-set : {Z : Type 0} (groups : List (Vec ℕ Z)) (n : ℕ) (group : Vec ℕ Z) (places : List ℕ) → group.items ≡ places
+    → map (λ (v : Vec ℕ Z). v.items) (set groups n group) ≡ set (map (λ (v : Vec ℕ Z). v.items) groups) n places
+groups-set {Z} groups n group places is = map-set (λ (v : Vec ℕ Z). v.items) groups n group ∙ ap (set (map (λ (v : Vec ℕ Z). v.items) groups) n) is

@@ -1,6 +1,6 @@
--- What is in a list: in an empty one, behind a first element, in a filtered one, and among the
--- elements up to a place.
-use Rattle.std.proofs.Common.{◌≡◌, ◌<◌, ◌+◌, ◌⊎◌, ◌∙◌, inl, inr, ℕ, zero, suc, Bool, true, false, cond, List, [], ◌∷◌, ◌++◌, length, get_or, slice_get, Some, take, refl, sym, ap, subst, arith}
+-- What is in a list, and at a place of it: of an empty list, behind a first element, in a filtered
+-- list, where an element is put, and among the elements up to a place.
+use Rattle.std.proofs.Common.{◌≡◌, ◌<◌, ◌+◌, ◌⊎◌, ◌∙◌, inl, inr, ℕ, zero, suc, Bool, true, false, cond, List, [], ◌∷◌, ◌++◌, length, get_or, set, slice_get, Some, take, refl, sym, ap, subst, arith}
 use Rattle.std.specs.List.{Contains, filter}
 use Rattle.std.proofs.lemmas.List.{take_more}
 use Rattle.std.proofs.lemmas.List.Elements.{All-contains, All-contains_itself, All-filter, Contains-append_left, Contains-push, Contains-push_cases, filter_passes}
@@ -49,6 +49,38 @@ same-read xs i x d low is = get_or_from_slice_get xs i x d (slice_get_read xs (l
 
 pub same-place : {X : Type 0} (xs : List X) (i : ℕ) (d e : X) → i < length xs → get_or xs i e ≡ get_or xs i d
 same-place xs i d e low = get_or_from_slice_get xs i (get_or xs i d) e (slice_get-get_or xs i d low)
+
+-- ---- an element that is put at a place, or behind the last one
+
+pub slice_get-set_other : {X : Type 0} (xs : List X) (i k : ℕ) (v : X) → ¬ (k ≡ i) → slice_get (set xs i v) k ≡ slice_get xs k
+slice_get-set_other [] i k v h = refl
+slice_get-set_other (x ∷ xs) zero zero v h = absurd (h refl)
+slice_get-set_other (x ∷ xs) zero (suc k) v h = refl
+slice_get-set_other (x ∷ xs) (suc i) zero v h = refl
+slice_get-set_other (x ∷ xs) (suc i) (suc k) v h = slice_get-set_other xs i k v (λ e. h (ap suc e))
+
+pub slice_get-set_same : {X : Type 0} (xs : List X) (i : ℕ) (v : X) → i < length xs → slice_get (set xs i v) i ≡ Some v
+slice_get-set_same [] i v h = absurd (omega (arith, h))
+slice_get-set_same (x ∷ xs) zero v h = refl
+slice_get-set_same (x ∷ xs) (suc i) v h = slice_get-set_same xs i v (omega (arith, h))
+
+pub get-push : {X : Type 0} (xs : List X) (x y : X) (k : ℕ) → slice_get (xs ++ x ∷ []) k ≡ Some y → (slice_get xs k ≡ Some y) ⊎ ((k ≡ length xs) × (x ≡ y))
+get-push [] x y zero h = inr (refl, same_Some x y h)
+get-push [] x y (suc k) h = cc h
+get-push (z ∷ xs) x y zero h = inl h
+get-push (z ∷ xs) x y (suc k) h = elim (get-push xs x y k h) [
+  | inl before ↦ inl before
+  | inr last ↦ inr (ap suc last.0, last.1)
+]
+
+pub get-before : {X : Type 0} (xs : List X) (x y : X) (k : ℕ) → slice_get xs k ≡ Some y → slice_get (xs ++ x ∷ []) k ≡ Some y
+get-before [] x y k h = cc h
+get-before (z ∷ xs) x y zero h = h
+get-before (z ∷ xs) x y (suc k) h = get-before xs x y k h
+
+pub get-last : {X : Type 0} (xs : List X) (x : X) → slice_get (xs ++ x ∷ []) (length xs) ≡ Some x
+get-last [] x = refl
+get-last (z ∷ xs) x = get-last xs x
 
 -- ---- the elements up to a place
 

@@ -1,9 +1,12 @@
 -- Places in groups, by a key of each.
-use Rattle.std.specs.Prelude.{◌≡◌, ◌<◌, ◌++◌, [], ◌∷◌, ℕ, List, Option, Some, IfSome, MatchOption}
-use Rattle.std.specs.Prelude.{if◌then◌else◌, length, slice_get, slice_set}
+use Rattle.std.specs.Prelude.{◌≡◌, ◌<◌, ◌++◌, [], ◌∷◌, ℕ, List, AllPairs, Option, None, Some}
+use Rattle.std.specs.Prelude.{IfSome, MatchOption, if◌then◌else◌, length, slice_get, slice_index}
+use Rattle.std.specs.Prelude.{slice_set, unwrap_or}
 use Rattle.std.specs.BTreeMap.{is_at}
 use Rattle.std.specs.Map.{lookup}
 use Rattle.std.specs.declared.cmp.Ordering.{Ordering}
+use Rattle.std.specs.declared.cmp.Ordering.TheVariants.{Equal}
+use Rattle.lists.specs.Places.{IsPlaces}
 
 -- keys with the numbers of their groups, and the places of each group
 pub record Grouping (K : Type 0) : Type 0 where
@@ -13,6 +16,15 @@ pub record Grouping (K : Type 0) : Type 0 where
 -- the number of the group of the key, if it has one
 abbrev pub number_of : {K : Type 0} → (K → K → Ordering) → Grouping K → K → Option ℕ
 number_of cmp grouping key = lookup (is_at (cmp key)) grouping.numbers
+
+-- the places of a group, none where there is no group
+abbrev pub places_in : List (List ℕ) → Option ℕ → List ℕ
+places_in groups None = []
+places_in groups (Some n) = unwrap_or (slice_get groups n) []
+
+-- the places that were put by the key
+abbrev pub places_of : {K : Type 0} → (K → K → Ordering) → Grouping K → K → List ℕ
+places_of cmp grouping key = places_in grouping.groups (number_of cmp grouping key)
 
 -- each number is that of a group
 abbrev pub AreNumbered : {K : Type 0} → (K → K → Ordering) → Grouping K → Type 0
@@ -38,3 +50,26 @@ abbrev pub HasPut : {K : Type 0} → (K → K → Ordering) → (old new : Group
     → (place : ℕ) → Type 0
 HasPut cmp old new key place = MatchOption (number_of cmp old key)
     (HasBegun cmp old new key place) (λ n. HasGrown old new n place)
+
+-- ---- the groups of all places below a bound
+
+-- the keys of a place, at which `has` holds, are those that are equal to one of them
+pub record AreKeys {K : Type 0} (cmp : K → K → Ordering) (has : ℕ → K → Type 0) : Type 0 where
+  pub one : (place : ℕ) (a b : K) → has place a → has place b → cmp a b ≡ Equal
+  pub same : (place : ℕ) (a b : K) → cmp a b ≡ Equal → has place a → has place b
+
+-- Each key that a place below the bound has is that of a group, which has exactly the places that
+-- have the key, and each group is that of a key. The groups are in the order of their first places.
+pub record HaveGrouped {K : Type 0} (has : ℕ → K → Type 0) (bound : ℕ) (number : K → Option ℕ)
+    (groups : List (List ℕ)) : Type 0 where
+  pub found : (key : K) (n : ℕ) → number key ≡ Some n → (places : List ℕ)
+      × (slice_get groups n ≡ Some places) × (0 < length places)
+      × IsPlaces (λ k. has k key) bound places
+  pub none : (key : K) → number key ≡ None → (k : ℕ) → k < bound → ¬ has k key
+  pub named : (n : ℕ) (places : List ℕ) → slice_get groups n ≡ Some places
+      → (key : K) × (number key ≡ Some n)
+  pub in_order : AllPairs (λ a b. slice_index a 0 < slice_index b 0) groups
+
+-- the groups of the places below the bound, by the keys that they have
+abbrev pub AreGroups : {K : Type 0} → (K → K → Ordering) → (ℕ → K → Type 0) → ℕ → Grouping K → Type 0
+AreGroups cmp has bound grouping = HaveGrouped has bound (number_of cmp grouping) grouping.groups

@@ -1,6 +1,5 @@
-use Rattle.std.proofs.Common.{◌<◌, ◌∙◌, ℕ, List, Vec, Global, IfSome, ap, length, map, refl, subst, sym, slice_set}
-use Rattle.std.proofs.lemmas.List.{map-set}
-use Rattle.lists.proofs.GroupsPut.{places-at, put-grown}
+use Rattle.std.proofs.Common.{◌<◌, ◌∙◌, ℕ, List, Vec, Global, IfSome, length, map, refl, subst, sym}
+use Rattle.lists.proofs.GroupsPut.{groups-set, places-at, put-grown}
 use Rattle.lists.proofs.grouped.Grouped.put.Goals as goal
 
 pub returns-in_ok-push-in-Some : goal.returns-in_ok-push-in-Some
@@ -12,4 +11,4 @@ returns-in_ok-push-in-Some g c =
     let low : n < length (map items groups) = subst (λ o. IfSome o (λ m. m < length (map items groups))) number (c.self.invariant c.args.key) in
     put-grown g.K.Ord.cmp _ _ _ c.args.key c.args.place n c.index_mut.result.now.items c.self.view_is number
     (places-at groups n c.index_mut.result.now low c.index_mut.ensures.value)
-    (map-set items groups n c.push.new.self ∙ ap (slice_set (map items groups) n) c.in_ok-push-in-Some.ensures.items) refl
+    (groups-set groups n c.push.new.self _ c.in_ok-push-in-Some.ensures.items) refl
