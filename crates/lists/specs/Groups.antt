@@ -71,5 +71,6 @@ pub record HaveGrouped {K : Type 0} (has : ℕ → K → Type 0) (bound : ℕ) (
   pub in_order : AllPairs (λ a b. slice_index a 0 < slice_index b 0) groups
 
 -- the groups of the places below the bound, by the keys that they have
-abbrev pub AreGroups : {K : Type 0} → (K → K → Ordering) → (ℕ → K → Type 0) → ℕ → Grouping K → Type 0
+abbrev pub AreGroups : {K : Type 0} → (K → K → Ordering) → (ℕ → K → Type 0) → ℕ → Grouping K
+    → Type 0
 AreGroups cmp has bound grouping = HaveGrouped has bound (number_of cmp grouping) grouping.groups
