@@ -12,7 +12,7 @@ use Rattle.std.proofs.lemmas.List.Elements.{Contains-append_left, Contains-get_o
 use Rattle.std.proofs.lemmas.List.Quantifiers.{all_pairs_push}
 use Rattle.std.proofs.lemmas.Option.{get_or_from_slice_get, same_Some, slice_get-get_or, slice_get_within}
 use Rattle.std.proofs.Math.ListN.{length-set}
-use Rattle.lists.specs.Groups.{AreGroups, AreKeys, Grouping, HasBegun, HasGrown, HasPut, HaveGrouped, number_of, places_in, places_of}
+use Rattle.lists.specs.Groups.{AreGroups, AreKeys, GroupedData, HasBegun, HasGrown, HasPutByKey, HaveGrouped, group_number, places_or_none, key_places}
 use Rattle.lists.specs.Places.{IsPlaces}
 use Rattle.lists.proofs.Members.{first-in, get-before, get-last, get-push, none-in, same-at, slice_get-set_other, slice_get-set_same}
 use Rattle.lists.proofs.Places.{places-alike, places-pass, places-put}
@@ -23,22 +23,22 @@ equal-back : {K : Type 0} (cmp : K → K → Ordering) → IsTotalOrder cmp → 
 equal-back cmp o a b e = o.antisymm b a ∙ ap ordering_reverse e
 
 -- equal keys have one number
-pub equal-number : {K : Type 0} (cmp : K → K → Ordering) → IsTotalOrder cmp → (g : Grouping K) (a b : K) → cmp a b ≡ Equal → number_of cmp g a ≡ number_of cmp g b
+pub equal-number : {K : Type 0} (cmp : K → K → Ordering) → IsTotalOrder cmp → (g : GroupedData K) (a b : K) → cmp a b ≡ Equal → group_number cmp g a ≡ group_number cmp g b
 equal-number {K} cmp o g a b e = ap (λ (c : K → Ordering). lookup (is_at c) g.numbers) (λ i z. o.congr a b z e i)
 
 -- what a key has after another one was put under a number
-pub begun-number : {K : Type 0} (cmp : K → K → Ordering) (old new : Grouping K) (key : K) (place : ℕ) → HasBegun cmp old new key place → (other : K)
-    → ((cmp key other ≡ Equal) × (number_of cmp new other ≡ Some (length old.groups))) ⊎ ((¬ (cmp key other ≡ Equal)) × (number_of cmp new other ≡ number_of cmp old other))
+pub begun-number : {K : Type 0} (cmp : K → K → Ordering) (old new : GroupedData K) (key : K) (place : ℕ) → HasBegun cmp old new key place → (other : K)
+    → ((cmp key other ≡ Equal) × (group_number cmp new other ≡ Some (length old.groups))) ⊎ ((¬ (cmp key other ≡ Equal)) × (group_number cmp new other ≡ group_number cmp old other))
 begun-number cmp old new key place h other = go (is_eq (cmp key other)) (Equal-is (cmp key other)) (h.numbers other) where
-  go : (b : Bool) → (b ≡ true) ↔ (cmp key other ≡ Equal) → number_of cmp new other ≡ cond b (Some (length old.groups)) (number_of cmp old other)
-      → ((cmp key other ≡ Equal) × (number_of cmp new other ≡ Some (length old.groups))) ⊎ ((¬ (cmp key other ≡ Equal)) × (number_of cmp new other ≡ number_of cmp old other))
+  go : (b : Bool) → (b ≡ true) ↔ (cmp key other ≡ Equal) → group_number cmp new other ≡ cond b (Some (length old.groups)) (group_number cmp old other)
+      → ((cmp key other ≡ Equal) × (group_number cmp new other ≡ Some (length old.groups))) ⊎ ((¬ (cmp key other ≡ Equal)) × (group_number cmp new other ≡ group_number cmp old other))
   go true same is = inl (same.0 refl, is)
   go false same is = inr (λ e. let w : false ≡ true = same.1 e in cc w, is)
 
 -- the key has a number or none
-pub put-cases : {K : Type 0} (cmp : K → K → Ordering) (old new : Grouping K) (key : K) (place : ℕ) → HasPut cmp old new key place
-    → ((number_of cmp old key ≡ None) × HasBegun cmp old new key place) ⊎ ((n : ℕ) × (number_of cmp old key ≡ Some n) × HasGrown old new n place)
-put-cases cmp old new key place h = elim (number_of cmp old key) as (λ o. number_of cmp old key ≡ o → ((number_of cmp old key ≡ None) × HasBegun cmp old new key place) ⊎ ((n : ℕ) × (number_of cmp old key ≡ Some n) × HasGrown old new n place)) [
+pub put-cases : {K : Type 0} (cmp : K → K → Ordering) (old new : GroupedData K) (key : K) (place : ℕ) → HasPutByKey cmp old new key place
+    → ((group_number cmp old key ≡ None) × HasBegun cmp old new key place) ⊎ ((n : ℕ) × (group_number cmp old key ≡ Some n) × HasGrown old new n place)
+put-cases cmp old new key place h = elim (group_number cmp old key) as (λ o. group_number cmp old key ≡ o → ((group_number cmp old key ≡ None) × HasBegun cmp old new key place) ⊎ ((n : ℕ) × (group_number cmp old key ≡ Some n) × HasGrown old new n place)) [
   | None ↦ λ e. inl (e, subst (λ o. MatchOption o (HasBegun cmp old new key place) (λ m. HasGrown old new m place)) e h)
   | Some n ↦ λ e. inr (n, e, subst (λ o. MatchOption o (HasBegun cmp old new key place) (λ m. HasGrown old new m place)) e h)
 ] refl
@@ -51,14 +51,14 @@ in-group groups n k h = elim (slice_get groups n) as (λ o. slice_get groups n �
   | Some places ↦ λ e g. (places, e, g)
 ] refl h
 
-kept-before : (groups : List (List ℕ)) (more : List ℕ) (o : Option ℕ) (k : ℕ) → Contains (places_in groups o) k → Contains (places_in (groups ++ more ∷ []) o) k
+kept-before : (groups : List (List ℕ)) (more : List ℕ) (o : Option ℕ) (k : ℕ) → Contains (places_or_none groups o) k → Contains (places_or_none (groups ++ more ∷ []) o) k
 kept-before groups more None k h = h
 kept-before groups more (Some n) k h =
     let (places, at, among) = in-group groups n k h in
     rw (get-before groups more places n at) among
 
-kept-grown : (groups : List (List ℕ)) (n : ℕ) (places : List ℕ) (place : ℕ) (o : Option ℕ) (k : ℕ) → slice_get groups n ≡ Some places → Contains (places_in groups o) k
-    → Contains (places_in (set groups n (places ++ place ∷ [])) o) k
+kept-grown : (groups : List (List ℕ)) (n : ℕ) (places : List ℕ) (place : ℕ) (o : Option ℕ) (k : ℕ) → slice_get groups n ≡ Some places → Contains (places_or_none groups o) k
+    → Contains (places_or_none (set groups n (places ++ place ∷ [])) o) k
 kept-grown groups n places place None k at h = h
 kept-grown groups n places place (Some m) k at h = elim (cases_eq m n) [
   | inl same ↦
@@ -70,33 +70,33 @@ kept-grown groups n places place (Some m) k at h = elim (cases_eq m n) [
 ]
 
 -- the place is one of those of the key
-pub put-added : {K : Type 0} (cmp : K → K → Ordering) (old new : Grouping K) (key other : K) (place : ℕ) → IsTotalOrder cmp → HasPut cmp old new key place → cmp key other ≡ Equal
-    → Contains (places_of cmp new other) place
+pub put-added : {K : Type 0} (cmp : K → K → Ordering) (old new : GroupedData K) (key other : K) (place : ℕ) → IsTotalOrder cmp → HasPutByKey cmp old new key place → cmp key other ≡ Equal
+    → Contains (key_places cmp new other) place
 put-added cmp old new key other place o put same = elim (put-cases cmp old new key place put) [
   | inl (bare, begun) ↦
-      let number : number_of cmp new other ≡ Some (length old.groups) = elim (begun-number cmp old new key place begun other) [
+      let number : group_number cmp new other ≡ Some (length old.groups) = elim (begun-number cmp old new key place begun other) [
         | inl mine ↦ mine.1
         | inr else ↦ absurd (else.0 same)
       ] in
       rw (number, begun.groups, get-last old.groups (place ∷ [])) (first-in place [])
   | inr (n, is, grown) ↦
-      let number : number_of cmp new other ≡ Some n = ap (λ ns. lookup (is_at (cmp other)) ns) grown.numbers ∙ sym (equal-number cmp o old key other same) ∙ is in
+      let number : group_number cmp new other ≡ Some n = ap (λ ns. lookup (is_at (cmp other)) ns) grown.numbers ∙ sym (equal-number cmp o old key other same) ∙ is in
       rw (number, grown.groups, slice_get-set_same old.groups n (grown.places ++ place ∷ []) (slice_get_within old.groups n grown.places grown.at)) (Contains-push grown.places place)
 ]
 
 -- no place is lost
-pub put-kept : {K : Type 0} (cmp : K → K → Ordering) (old new : Grouping K) (key other : K) (place k : ℕ) → IsTotalOrder cmp → HasPut cmp old new key place
-    → Contains (places_of cmp old other) k → Contains (places_of cmp new other) k
+pub put-kept : {K : Type 0} (cmp : K → K → Ordering) (old new : GroupedData K) (key other : K) (place k : ℕ) → IsTotalOrder cmp → HasPutByKey cmp old new key place
+    → Contains (key_places cmp old other) k → Contains (key_places cmp new other) k
 put-kept cmp old new key other place k o put h = elim (put-cases cmp old new key place put) [
   | inl (bare, begun) ↦ elim (begun-number cmp old new key place begun other) [
-    | inl mine ↦ absurd (none-in k (subst (λ n. Contains (places_in old.groups n) k) (sym (equal-number cmp o old key other mine.0) ∙ bare) h))
-    | inr else ↦ subst (λ n. Contains (places_in new.groups n) k) (sym else.1)
-        (subst (λ gs. Contains (places_in gs (number_of cmp old other)) k) (sym begun.groups) (kept-before old.groups (place ∷ []) (number_of cmp old other) k h))
+    | inl mine ↦ absurd (none-in k (subst (λ n. Contains (places_or_none old.groups n) k) (sym (equal-number cmp o old key other mine.0) ∙ bare) h))
+    | inr else ↦ subst (λ n. Contains (places_or_none new.groups n) k) (sym else.1)
+        (subst (λ gs. Contains (places_or_none gs (group_number cmp old other)) k) (sym begun.groups) (kept-before old.groups (place ∷ []) (group_number cmp old other) k h))
   ]
   | inr (n, is, grown) ↦
-      let same : number_of cmp new other ≡ number_of cmp old other = ap (λ ns. lookup (is_at (cmp other)) ns) grown.numbers in
-      subst (λ m. Contains (places_in new.groups m) k) (sym same)
-      (subst (λ gs. Contains (places_in gs (number_of cmp old other)) k) (sym grown.groups) (kept-grown old.groups n grown.places place (number_of cmp old other) k grown.at h))
+      let same : group_number cmp new other ≡ group_number cmp old other = ap (λ ns. lookup (is_at (cmp other)) ns) grown.numbers in
+      subst (λ m. Contains (places_or_none new.groups m) k) (sym same)
+      (subst (λ gs. Contains (places_or_none gs (group_number cmp old other)) k) (sym grown.groups) (kept-grown old.groups n grown.places place (group_number cmp old other) k grown.at h))
 ]
 
 -- ---- the order of groups
@@ -256,7 +256,7 @@ group-begun {K} cmp has bound x number more groups longer keys alike itself here
 -- ---- groups
 
 -- no place is below 0
-pub groups-none : {K : Type 0} (cmp : K → K → Ordering) (has : ℕ → K → Type 0) (g : Grouping K) → g.numbers ≡ [] → g.groups ≡ [] → AreGroups cmp has 0 g
+pub groups-none : {K : Type 0} (cmp : K → K → Ordering) (has : ℕ → K → Type 0) (g : GroupedData K) → g.numbers ≡ [] → g.groups ≡ [] → AreGroups cmp has 0 g
 groups-none cmp has g bare empty = rw empty (record {
   found = λ key n is. absurd (let e : None ≡ Some n = sym (ap (λ ns. lookup (is_at (cmp key)) ns) bare) ∙ is in cc e);
   none = λ key is k low. absurd (omega (arith, low));
@@ -265,16 +265,16 @@ groups-none cmp has g bare empty = rw empty (record {
 })
 
 -- the place at the bound is put by its key
-pub groups-put : {K : Type 0} (cmp : K → K → Ordering) (has : ℕ → K → Type 0) (bound : ℕ) (key : K) (old new : Grouping K) → IsTotalOrder cmp → AreKeys cmp has
-    → has bound key → HasPut cmp old new key bound → AreGroups cmp has bound old → AreGroups cmp has (bound + 1) new
+pub groups-put : {K : Type 0} (cmp : K → K → Ordering) (has : ℕ → K → Type 0) (bound : ℕ) (key : K) (old new : GroupedData K) → IsTotalOrder cmp → AreKeys cmp has
+    → has bound key → HasPutByKey cmp old new key bound → AreGroups cmp has bound old → AreGroups cmp has (bound + 1) new
 groups-put {K} cmp has bound key old new o keys here put h = elim (put-cases cmp old new key bound put) [
   | inl (bare, begun) ↦
-      group-begun cmp has bound key (number_of cmp old) (number_of cmp new) old.groups new.groups keys (equal-number cmp o old) (keys.one bound key key here here)
+      group-begun cmp has bound key (group_number cmp old) (group_number cmp new) old.groups new.groups keys (equal-number cmp o old) (keys.one bound key key here here)
       here bare (begun-number cmp old new key bound begun) begun.groups h
   | inr (n, is, grown) ↦
-      let numbers : number_of cmp old ≡ number_of cmp new = λ i k. lookup (is_at (cmp k)) (sym grown.numbers i) in
-      let after : HaveGrouped has (bound + 1) (number_of cmp old) (set old.groups n (grown.places ++ bound ∷ [])) =
-      group-grown cmp has bound key (number_of cmp old) old.groups n grown.places (grown.places ++ bound ∷ []) keys (equal-number cmp o old) here is grown.at refl h in
-      subst (λ gs. HaveGrouped has (bound + 1) (number_of cmp new) gs) (sym grown.groups)
+      let numbers : group_number cmp old ≡ group_number cmp new = λ i k. lookup (is_at (cmp k)) (sym grown.numbers i) in
+      let after : HaveGrouped has (bound + 1) (group_number cmp old) (set old.groups n (grown.places ++ bound ∷ [])) =
+      group-grown cmp has bound key (group_number cmp old) old.groups n grown.places (grown.places ++ bound ∷ []) keys (equal-number cmp o old) here is grown.at refl h in
+      subst (λ gs. HaveGrouped has (bound + 1) (group_number cmp new) gs) (sym grown.groups)
       (subst (λ f. HaveGrouped has (bound + 1) f (set old.groups n (grown.places ++ bound ∷ []))) numbers after)
 ]

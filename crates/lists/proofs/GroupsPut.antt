@@ -3,15 +3,15 @@ use Rattle.std.proofs.Common.{◌≡◌, ◌<◌, ◌++◌, ◌∷◌, [], ◌�
 use Rattle.std.specs.declared.cmp.Ordering.{Ordering}
 use Rattle.std.proofs.lemmas.List.{length-map, map-set}
 use Rattle.std.proofs.lemmas.Option.{slice_get-map, slice_get_read}
-use Rattle.lists.specs.Groups.{Grouping, HasPut, number_of}
+use Rattle.lists.specs.Groups.{GroupedData, HasPutByKey, group_number}
 
 -- the key has a number
-pub put-grown : {K : Type 0} (cmp : K → K → Ordering) (old seen new : Grouping K) (key : K) (place n : ℕ) (places : List ℕ)
-    → seen ≡ old → number_of cmp seen key ≡ Some n → slice_get seen.groups n ≡ Some places
+pub put-grown : {K : Type 0} (cmp : K → K → Ordering) (old seen new : GroupedData K) (key : K) (place n : ℕ) (places : List ℕ)
+    → seen ≡ old → group_number cmp seen key ≡ Some n → slice_get seen.groups n ≡ Some places
     → new.groups ≡ slice_set seen.groups n (places ++ place ∷ []) → new.numbers ≡ seen.numbers
-    → HasPut cmp old new key place
+    → HasPutByKey cmp old new key place
 put-grown cmp old seen new key place n places is number at groups numbers =
-    subst (λ s. HasPut cmp s new key place) is
+    subst (λ s. HasPutByKey cmp s new key place) is
     (rw number record { places = places; at = at; groups = groups; numbers = numbers })
 
 -- the places of the group with a number

@@ -6,7 +6,7 @@ use Rattle.std.proofs.lemmas.List.Elements.{Contains-append_left, Contains-push,
 use Rattle.std.proofs.lemmas.Option.{slice_get_within}
 use Rattle.lists.specs.Chains.{IsChain, IsReachedFrom}
 use Rattle.lists.specs.Marks.{IsMarked, unmarked_count}
-use Rattle.lists.specs.Reach.{HasReached, IsSearch, IsTaken, ReachData, fresh, left_count}
+use Rattle.lists.specs.Reach.{HasReached, IsSearch, TakesNext, ReachData, fresh, left_count}
 use Rattle.lists.proofs.MarkedPlaces.{none-marked}
 use Rattle.lists.proofs.Members.{none-in}
 
@@ -50,7 +50,7 @@ search-start P leads count a b none f =
 
 -- what the place that was taken out leads to is reached
 pub search-next : (P : ℕ → Type 0) (leads : ℕ → ℕ → Type 0) (count : ℕ) (before popped after : ReachData) (place : ℕ)
-    → IsSearch P leads count before → IsTaken before popped (Some place)
+    → IsSearch P leads count before → TakesNext before popped (Some place)
     → HasReached (leads place) popped after → IsSearch P leads count after
 search-next P leads count before popped after place h taken f =
     let same = taken.0 in
@@ -93,7 +93,7 @@ chain-reached P leads count s h empty a (n ∷ ns) b marked chain =
     ] in chain-reached P leads count s h empty n ns b next chain.1
 
 -- nothing waits, so exactly what a chain leads to has a mark
-pub search-end : (P : ℕ → Type 0) (leads : ℕ → ℕ → Type 0) (count : ℕ) (s t : ReachData) → IsSearch P leads count s → IsTaken s t None
+pub search-end : (P : ℕ → Type 0) (leads : ℕ → ℕ → Type 0) (count : ℕ) (s t : ReachData) → IsSearch P leads count s → TakesNext s t None
     → (k : ℕ) → IsMarked t.marks k ↔ IsReachedFrom P leads k
 search-end P leads count s t h taken k =
     let same : t.marks ≡ s.marks = ap (λ (d : ReachData). d.marks) taken.0 in (
@@ -102,18 +102,18 @@ search-end P leads count s t h taken k =
     )
 
 -- the marks are those of as many places at the end
-pub search-long : (P : ℕ → Type 0) (leads : ℕ → ℕ → Type 0) (count : ℕ) (s t : ReachData) → IsSearch P leads count s → IsTaken s t None → length t.marks ≡ count
+pub search-long : (P : ℕ → Type 0) (leads : ℕ → ℕ → Type 0) (count : ℕ) (s t : ReachData) → IsSearch P leads count s → TakesNext s t None → length t.marks ≡ count
 search-long P leads count s t h taken = ap (λ (d : ReachData). length d.marks) taken.0 ∙ h.long
 
 -- a place that waits is one of the places
-pub waits-within : (P : ℕ → Type 0) (leads : ℕ → ℕ → Type 0) (count : ℕ) (s t : ReachData) (place : ℕ) → IsSearch P leads count s → IsTaken s t (Some place) → place < count
+pub waits-within : (P : ℕ → Type 0) (leads : ℕ → ℕ → Type 0) (count : ℕ) (s t : ReachData) (place : ℕ) → IsSearch P leads count s → TakesNext s t (Some place) → place < count
 waits-within P leads count s t place h taken =
     let low = slice_get_within s.marks place true (h.waits place (subst (λ (ws : List ℕ). Contains ws place) (sym taken.1) (Contains-push t.waiting place))) in
     let long = h.long in
     omega (arith, low, long)
 
 -- less is left once a place was taken out and what it leads to was reached
-pub less-left : (P : ℕ → Type 0) (a b c : ReachData) (place : ℕ) → IsTaken a b (Some place) → HasReached P b c → left_count c < left_count a
+pub less-left : (P : ℕ → Type 0) (a b c : ReachData) (place : ℕ) → TakesNext a b (Some place) → HasReached P b c → left_count c < left_count a
 less-left P a b c place taken f =
     let left = f.left in
     let marks = ap unmarked_count taken.0 in

@@ -9,46 +9,46 @@ use Rattle.std.specs.declared.cmp.Ordering.TheVariants.{Equal}
 use Rattle.lists.specs.Places.{IsPlaces}
 
 -- keys with the numbers of their groups, and the places of each group
-pub record Grouping (K : Type 0) : Type 0 where
+pub record GroupedData (K : Type 0) : Type 0 where
   pub numbers : List (K × ℕ)
   pub groups : List (List ℕ)
 
 -- the number of the group of the key, if it has one
-abbrev pub number_of : {K : Type 0} → (K → K → Ordering) → Grouping K → K → Option ℕ
-number_of cmp grouping key = lookup (is_at (cmp key)) grouping.numbers
+abbrev pub group_number : {K : Type 0} → (K → K → Ordering) → GroupedData K → K → Option ℕ
+group_number cmp grouped key = lookup (is_at (cmp key)) grouped.numbers
 
 -- the places of a group, none where there is no group
-abbrev pub places_in : List (List ℕ) → Option ℕ → List ℕ
-places_in groups None = []
-places_in groups (Some n) = unwrap_or (slice_get groups n) []
+abbrev pub places_or_none : List (List ℕ) → Option ℕ → List ℕ
+places_or_none groups None = []
+places_or_none groups (Some n) = unwrap_or (slice_get groups n) []
 
 -- the places that were put by the key
-abbrev pub places_of : {K : Type 0} → (K → K → Ordering) → Grouping K → K → List ℕ
-places_of cmp grouping key = places_in grouping.groups (number_of cmp grouping key)
+abbrev pub key_places : {K : Type 0} → (K → K → Ordering) → GroupedData K → K → List ℕ
+key_places cmp grouped key = places_or_none grouped.groups (group_number cmp grouped key)
 
 -- each number is that of a group
-abbrev pub AreNumbered : {K : Type 0} → (K → K → Ordering) → Grouping K → Type 0
-AreNumbered {K = K} cmp grouping = (key : K) → IfSome (number_of cmp grouping key)
-    (λ n. n < length grouping.groups)
+abbrev pub AreGroupNumbers : {K : Type 0} → (K → K → Ordering) → GroupedData K → Type 0
+AreGroupNumbers {K = K} cmp grouped = (key : K) → IfSome (group_number cmp grouped key)
+    (λ n. n < length grouped.groups)
 
 -- the place is behind the others of the group with the number, and all else is as before
-pub record HasGrown {K : Type 0} (old new : Grouping K) (n place : ℕ) : Type 0 where
+pub record HasGrown {K : Type 0} (old new : GroupedData K) (n place : ℕ) : Type 0 where
   pub places : List ℕ
   pub at : slice_get old.groups n ≡ Some places
   pub groups : new.groups ≡ slice_set old.groups n (places ++ place ∷ [])
   pub numbers : new.numbers ≡ old.numbers
 
 -- the place alone is a group behind the others, that of the key
-pub record HasBegun {K : Type 0} (cmp : K → K → Ordering) (old new : Grouping K) (key : K)
+pub record HasBegun {K : Type 0} (cmp : K → K → Ordering) (old new : GroupedData K) (key : K)
     (place : ℕ) : Type 0 where
   pub groups : new.groups ≡ old.groups ++ (place ∷ []) ∷ []
-  pub numbers : (other : K) → number_of cmp new other
-      ≡ (if is_at (cmp key) other then Some (length old.groups) else number_of cmp old other)
+  pub numbers : (other : K) → group_number cmp new other
+      ≡ (if is_at (cmp key) other then Some (length old.groups) else group_number cmp old other)
 
 -- the place is put into the group of the key, or begins it
-abbrev pub HasPut : {K : Type 0} → (K → K → Ordering) → (old new : Grouping K) → (key : K)
+abbrev pub HasPutByKey : {K : Type 0} → (K → K → Ordering) → (old new : GroupedData K) → (key : K)
     → (place : ℕ) → Type 0
-HasPut cmp old new key place = MatchOption (number_of cmp old key)
+HasPutByKey cmp old new key place = MatchOption (group_number cmp old key)
     (HasBegun cmp old new key place) (λ n. HasGrown old new n place)
 
 -- ---- the groups of all places below a bound
@@ -71,6 +71,6 @@ pub record HaveGrouped {K : Type 0} (has : ℕ → K → Type 0) (bound : ℕ) (
   pub in_order : AllPairs (λ a b. slice_index a 0 < slice_index b 0) groups
 
 -- the groups of the places below the bound, by the keys that they have
-abbrev pub AreGroups : {K : Type 0} → (K → K → Ordering) → (ℕ → K → Type 0) → ℕ → Grouping K
+abbrev pub AreGroups : {K : Type 0} → (K → K → Ordering) → (ℕ → K → Type 0) → ℕ → GroupedData K
     → Type 0
-AreGroups cmp has bound grouping = HaveGrouped has bound (number_of cmp grouping) grouping.groups
+AreGroups cmp has bound grouped = HaveGrouped has bound (group_number cmp grouped) grouped.groups

@@ -2,7 +2,7 @@
 
 ghost use Rattle.std.specs.Prelude.{◌≡◌, ◌<◌, [], IfSome, None, OnOk, length, map, slice_get};
 ghost use Rattle.std.specs.Prelude.{unwrap_or};
-ghost use Rattle.lists.specs.Groups.{HasBegun, HasPut, number_of};
+ghost use Rattle.lists.specs.Groups.{HasBegun, HasPutByKey, group_number};
 
 use std::alloc::{AllocError, Global};
 use std::collections::BTreeMap;
@@ -20,16 +20,16 @@ pub struct Grouped<K: Ord + Drop> {
 
 impl<K: Ord + Drop> Model for Grouped<K> {
     ghost use Rattle.std.specs.Prelude.{map};
-    ghost use Rattle.lists.specs.Groups.{AreNumbered, Grouping};
+    ghost use Rattle.lists.specs.Groups.{AreGroupNumbers, GroupedData};
 
-    ghost Value = { Grouping K };
+    ghost Value = { GroupedData K };
 
     ghost view = { λ s. record {
       numbers = s.numbers.entries;
       groups = map (λ group. group.items) s.groups.items;
     } };
 
-    ghost invariant = { λ s. AreNumbered K.cmp (record {
+    ghost invariant = { λ s. AreGroupNumbers K.cmp (record {
       numbers = s.numbers.entries;
       groups = map (λ group. group.items) s.groups.items;
     }) };
@@ -56,7 +56,7 @@ impl<K: Ord + Drop> Grouped<K> {
 
     /// The number of the group of a key. `None` if no place was put by it.
     pub fn number(&self, key: &K) -> Option<usize>
-        ensures number { result ≡ number_of K.cmp self.now key.now }
+        ensures number { result ≡ group_number K.cmp self.now key.now }
         ensures within { IfSome result (λ n. n < length self.now.groups) }
     {
         self.numbers.get(key).copied()
@@ -83,7 +83,7 @@ impl<K: Ord + Drop> Grouped<K> {
     /// Puts a place into the group of a key, behind those that are in it. If the key has no group,
     /// the place begins one, behind the others. Fails when out of memory.
     pub fn put(&mut self, alloc: Global, key: K, place: usize) -> Result<(), AllocError>
-        ensures { OnOk result (HasPut K.cmp self.old self.new key place) }
+        ensures { OnOk result (HasPutByKey K.cmp self.old self.new key place) }
     {
         match self.numbers.get(&key).copied() {
             Some(number) => self.groups[number].push(place)?,
@@ -94,7 +94,7 @@ impl<K: Ord + Drop> Grouped<K> {
 
     // Begins the group of a key that has none.
     fn begin(&mut self, alloc: Global, key: K, place: usize) -> Result<(), AllocError>
-        requires { number_of K.cmp self.old key ≡ None }
+        requires { group_number K.cmp self.old key ≡ None }
         ensures { OnOk result (HasBegun K.cmp self.old self.new key place) }
     {
         let number = self.groups.len();
