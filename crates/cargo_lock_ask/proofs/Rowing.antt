@@ -7,7 +7,7 @@ use Rattle.std.proofs.lemmas.Grind.{flat_map-append}
 use Rattle.std.proofs.lemmas.List.{length-map, length-take-le, map_push, take_all, take_more}
 use Rattle.std.proofs.lemmas.List.Elements.{All-push, All-weaker, Contains-append_left, Contains-push, filter_map-append}
 use Rattle.cargo_lock_parts.specs.Identity.{PackageData}
-use Rattle.cargo_lock_ask.specs.Lines.{named_text}
+use Rattle.cargo_lock_display.specs.Line.{named_text}
 use Rattle.cargo_lock_ask.specs.Listing.{IsWidest, RowData, listed_text, needers_text, row_of}
 use Rattle.cargo_lock_ask.specs.declared.listing.Row.{Row}
 

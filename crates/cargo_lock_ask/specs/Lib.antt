@@ -12,3 +12,5 @@ pub mod Listing
 pub mod Duplicates
 pub mod Groups
 pub mod Tally
+pub mod WhyDocument
+pub mod DuplicatesDocument

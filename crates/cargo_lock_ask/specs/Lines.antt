@@ -2,12 +2,10 @@
 use Rattle.std.specs.Prelude.{ℕ, List}
 use Rattle.std.specs.Prelude.{◌++◌, codes, drop, map, reverse, slice_get}
 use Rattle.std.specs.List.{filter_map, flat_map}
-use Rattle.semver.specs.Identifiers.{parts_text}
 use Rattle.cargo_lock_parts.specs.Identity.{PackageData}
+use Rattle.cargo_lock_display.specs.Line.{named_text}
 use Rattle.cargo_lock_ask.specs.declared.lines.Answer.{Answer}
 use Rattle.cargo_lock_ask.specs.declared.lines.Answer.TheVariants as variant
-use Rattle.shown.specs.Shown.{shown}
-use Rattle.shown.specs.declared.form.Form.TheVariants.{Plain}
 
 -- Why a package is there: the packages of a chain, each of which needs the one before it, the first
 -- one the package itself; or nothing leads to the package.
@@ -29,10 +27,6 @@ abbrev pub needers_in : List PackageData → List ℕ → List PackageData
 needers_in packages chain = drop 1 (reverse (packages_at packages chain))
 
 -- ---- lines
-
--- the name and the version
-abbrev pub named_text : PackageData → List ℕ
-named_text p = shown Plain p.name ++ (codes " " ++ shown Plain (parts_text p.version))
 
 -- the line of a package that needs the one of the line before
 abbrev pub needer_line : PackageData → List ℕ

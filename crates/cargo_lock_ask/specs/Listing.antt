@@ -2,14 +2,11 @@
 use Rattle.std.specs.Prelude.{◌≡◌, ◌-◌, ◌≤◌, ◌⊎◌, ℕ, All, Contains, List, [], ◌∷◌, ◌++◌}
 use Rattle.std.specs.Prelude.{Option, None}
 use Rattle.std.specs.Prelude.{Some, codes, if◌then◌else◌, length, map, option_map, replicate}
-use Rattle.std.specs.Prelude.{slice_get, string_bytes, true}
+use Rattle.std.specs.Prelude.{slice_get, string_bytes}
 use Rattle.std.specs.List.{flat_map}
-use Rattle.semver.specs.Identifiers.{parts_text}
 use Rattle.cargo_lock_parts.specs.Identity.{PackageData}
-use Rattle.cargo_lock_parts.specs.Source.{Source}
-use Rattle.cargo_lock_parts.specs.SourceShown.{is_default_registry}
-use Rattle.cargo_lock_parts.specs.SourceText.{text_of}
-use Rattle.cargo_lock_ask.specs.Lines.{named_text, packages_at}
+use Rattle.cargo_lock_ask.specs.Lines.{packages_at}
+use Rattle.cargo_lock_display.specs.Line.{named_text, source_behind, version_shown}
 use Rattle.cargo_lock_ask.specs.declared.listing.Row.{Row}
 use Rattle.cargo_lock_ask.specs.declared.repeated.Duplicate.{Duplicate}
 use Rattle.shown.specs.Shown.{shown}
@@ -29,16 +26,9 @@ row_of row = record {
   needers = map (λ p. p.now) row.needers.items;
 }
 
--- the source in round brackets after a version: `(path)` if there is none, and nothing for the
--- registry of crates.io
-abbrev pub source_behind : Option Source → List ℕ
-source_behind None = codes " (path)"
-source_behind (Some source) = if is_default_registry source then []
-    else codes " (" ++ (shown Plain (text_of true source) ++ codes ")")
-
 -- the version and the source after it
 abbrev pub version_text : PackageData → List ℕ
-version_text p = shown Plain (parts_text p.version) ++ source_behind p.source
+version_text p = version_shown p.version ++ source_behind p.source
 
 -- the row of a package and the nodes of those that depend on it
 abbrev pub row_with : List PackageData → List ℕ → PackageData → RowData

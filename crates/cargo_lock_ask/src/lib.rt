@@ -4,6 +4,7 @@
 
 pub mod answers;
 pub mod chain;
+pub mod duplicates_document;
 mod first;
 pub mod lines;
 pub mod listing;
@@ -13,9 +14,11 @@ pub mod repeated;
 pub mod spec;
 mod steps;
 pub mod tally;
+pub mod why_document;
 
 pub use crate::answers::Answers;
 pub use crate::chain::{chains_of_each, shortest_chain};
+pub use crate::duplicates_document::groups_json;
 pub use crate::lines::{Answer, needers_of_chain};
 pub use crate::listing::{Row, Rows};
 pub use crate::need::needers;
@@ -23,3 +26,4 @@ pub use crate::reason::{why, why_each};
 pub use crate::repeated::{Duplicate, duplicates};
 pub use crate::spec::fitting;
 pub use crate::tally::Listing;
+pub use crate::why_document::answers_json;

@@ -4,9 +4,9 @@ ghost use Rattle.std.specs.Prelude.{◌≡◌, IfOk, map};
 ghost use Rattle.cargo_lock_ask.specs.Lines.{needers_in};
 ghost use Rattle.cargo_lock_ask.specs.Lines as spec;
 
+use cargo_lock_display::NameVersion;
 use cargo_lock_graph::graph::{Graph, NodeIndex};
 use cargo_lock_parts::package::Package;
-use shown::Shown;
 use std::alloc::{AllocError, Global};
 use std::fmt;
 
@@ -36,12 +36,12 @@ impl fmt::Display for Answer<'_> {
     fn fmt<W: fmt::Write>(&self, f: &mut fmt::Formatter<W>) -> fmt::Result {
         match self {
             Answer::Needed(package, needers) => {
-                let package = Named(package);
+                let package = NameVersion(package);
                 let needers = Needers(needers);
                 write!(f, "{package}{needers}")
             }
             Answer::Nothing(package) => {
-                let package = Named(package);
+                let package = NameVersion(package);
                 write!(f, "nothing leads to {package}")
             }
         }
@@ -84,24 +84,6 @@ pub(crate) fn packages_at<'a>(
     Ok(packages)
 }
 
-// The name and the version.
-#[derive(Clone, Copy)]
-pub(crate) struct Named<'a>(pub(crate) &'a Package);
-
-impl fmt::Display for Named<'_> {
-    ghost use Rattle.std.specs.Prelude.{Some};
-    ghost use Rattle.cargo_lock_ask.specs.Lines.{named_text};
-
-    ghost output = { λ shown. Some (named_text shown.0.now) };
-
-    fn fmt<W: fmt::Write>(&self, f: &mut fmt::Formatter<W>) -> fmt::Result {
-        let Named(package) = *self;
-        let name = Shown(&package.name);
-        let version = Shown(&package.version);
-        write!(f, "{name} {version}")
-    }
-}
-
 // Packages each of which needs the one of the line before.
 #[derive(Clone, Copy)]
 struct Needers<'a>(&'a Vec<&'a Package>);
@@ -116,7 +98,7 @@ impl fmt::Display for Needers<'_> {
     fn fmt<W: fmt::Write>(&self, f: &mut fmt::Formatter<W>) -> fmt::Result {
         let Needers(needers) = *self;
         for needer in needers {
-            let needer = Named(needer);
+            let needer = NameVersion(needer);
             write!(f, "\n  needed by {needer}")?;
         }
         Ok(())

@@ -6,10 +6,11 @@ ghost use Rattle.cargo_lock_ask.specs.Listing.{IsWidest, row_for, row_of};
 ghost use Rattle.cargo_lock_ask.specs.Listing.{version_text};
 ghost use Rattle.cargo_lock_ask.specs.Listing as spec;
 
-use crate::lines::{Named, packages_at};
+use crate::lines::packages_at;
 use crate::repeated::Duplicate;
+use cargo_lock_display::{NameVersion, SourceBehind};
 use cargo_lock_graph::graph::{Graph, NodeIndex};
-use cargo_lock_parts::package::{Package, SourceId};
+use cargo_lock_parts::package::Package;
 use shown::Shown;
 use std::alloc::{AllocError, Global};
 use std::fmt;
@@ -246,35 +247,9 @@ impl fmt::Display for Listed<'_> {
         let Listed(packages) = *self;
         for (place, one) in packages.iter().enumerate() {
             let comma = if place == 0 { "" } else { ", " };
-            let one = Named(one);
+            let one = NameVersion(one);
             write!(f, "{comma}{one}")?;
         }
         Ok(())
-    }
-}
-
-// The source in round brackets after a version.
-#[derive(Clone, Copy)]
-struct SourceBehind<'a>(&'a Option<SourceId>);
-
-impl fmt::Display for SourceBehind<'_> {
-    ghost use Rattle.std.specs.Prelude.{Some};
-    ghost use Rattle.cargo_lock_ask.specs.Listing.{source_behind};
-
-    ghost output = { λ shown. Some (source_behind shown.0.now) };
-
-    fn fmt<W: fmt::Write>(&self, f: &mut fmt::Formatter<W>) -> fmt::Result {
-        let SourceBehind(source) = *self;
-        match source {
-            Some(source) => {
-                if source.is_default_registry() {
-                    return Ok(());
-                }
-                let url = source.as_url(true);
-                let source = Shown(&url);
-                write!(f, " ({source})")
-            }
-            None => f.write_str(" (path)"),
-        }
     }
 }

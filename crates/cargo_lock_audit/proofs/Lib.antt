@@ -4,3 +4,4 @@ mod OneLine
 mod Ordered
 pub mod Strips
 mod Walk
+pub mod DocumentDepth

@@ -10,7 +10,7 @@ use Rattle.shown.specs.Shown.{backquote}
 use Rattle.shown.specs.declared.form.Form.TheVariants.{Plain, Quoted}
 use Rattle.shown.proofs.LinesOf.{printable-lines}
 use Rattle.shown.proofs.Printable.{Prints, either_text, join, join_each, literal, shown-prints, words}
-use Rattle.cargo_lock_diff.proofs.OneLine.{package-prints}
+use Rattle.cargo_lock_display.proofs.Printed.{package-prints}
 use Rattle.cargo_lock_audit.specs.declared.database.DatabaseFault.TheVariants as fault
 use Rattle.cargo_lock_audit.specs.Advisory.{AdvisoryData}
 use Rattle.cargo_lock_audit.specs.Findings.{FindingData}

@@ -8,7 +8,7 @@ use Rattle.shown.specs.Laws.{IsPrintable}
 use Rattle.shown.specs.Shown.{backquote, shown}
 use Rattle.shown.specs.declared.form.Form.TheVariants.{Plain, Quoted}
 use Rattle.cargo_lock_parts.specs.Ascii.{newline}
-use Rattle.cargo_lock_diff.specs.Change.{package_text}
+use Rattle.cargo_lock_display.specs.Line.{package_text}
 use Rattle.cargo_lock_audit.specs.declared.database.AdvisoryFile.{AdvisoryFile}
 use Rattle.cargo_lock_audit.specs.declared.database.DatabaseFault.{DatabaseFault}
 use Rattle.cargo_lock_audit.specs.declared.database.DatabaseFault.TheVariants as fault

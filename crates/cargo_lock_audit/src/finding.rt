@@ -6,7 +6,7 @@ ghost use Rattle.cargo_lock_audit.specs.Lines.{mark_text, or_texts, title_char, 
 
 use crate::advisory::Advisory;
 use crate::requirement::Requirement;
-use cargo_lock_diff::PackageText;
+use cargo_lock_display::PackageText;
 use cargo_lock_parts::package::Package;
 use shown::{Quoted, Shown};
 use std::fmt;

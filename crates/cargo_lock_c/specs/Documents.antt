@@ -10,13 +10,13 @@ use Rattle.cargo_lock_ask.specs.Tally.{AreGroupsOf, GroupData}
 use Rattle.cargo_lock_parts.specs.Ascii.{newline}
 use Rattle.cargo_lock_graph.specs.Edges.{GraphData}
 use Rattle.cargo_lock_graph.specs.Targets.{AreEdgesOf}
-use Rattle.cargo_lock_document.specs.Document.{IsDocumentOf}
+use Rattle.cargo_lock_json.specs.Document.{IsDocumentOf}
 use Rattle.cargo_lock_encoding.specs.Lockfiles.{LockfileData}
 use Rattle.cargo_lock_encoding.specs.Means.{TextMeans}
-use Rattle.cargo_lock_json.specs.Duplicates.{groups_json}
-use Rattle.cargo_lock_json.specs.File.{FileData}
+use Rattle.cargo_lock_ask.specs.DuplicatesDocument.{groups_json}
+use Rattle.cargo_lock_display.specs.File.{FileData}
 use Rattle.json_line.specs.Text.{IsJsonText}
-use Rattle.cargo_lock_json.specs.Why.{answers_json}
+use Rattle.cargo_lock_ask.specs.WhyDocument.{answers_json}
 
 -- the lockfile as a document has it: its path is that of standard input
 abbrev pub file_of : LockfileData → FileData

@@ -7,7 +7,7 @@ ghost use Rattle.cargo_lock_c.specs.Documents as spec;
 
 use crate::refusal::Refusal;
 use cargo_lock::Lockfile;
-use cargo_lock_json::File;
+use cargo_lock_display::File;
 
 /// The lockfile as a document has it. Its text comes from the caller, so its path is that of
 /// standard input.

@@ -2,7 +2,7 @@
 
 ghost use Rattle.std.specs.Prelude.{◌≡◌, ◌≤◌, ◌⊎◌, IfErr, IfOk, string_bytes};
 ghost use Rattle.cargo_lock.specs.CargoChecksums.{with_cargo_checksums_in};
-ghost use Rattle.cargo_lock_document.specs.Document.{IsDocumentOf};
+ghost use Rattle.cargo_lock_json.specs.Document.{IsDocumentOf};
 ghost use Rattle.cargo_lock_c.specs.declared.refusal.Refusal.TheVariants.{NoMemory};
 ghost use Rattle.cargo_lock_c.specs.Answers.{IsHandedOut};
 ghost use Rattle.cargo_lock_c.specs.Documents.{IsLine, IsLockfileText};
@@ -15,7 +15,7 @@ use crate::handing::hand_out;
 use crate::reading::read;
 use crate::refusal::Refusal;
 use cargo_lock::Lockfile;
-use cargo_lock_document::lockfile_json;
+use cargo_lock_json::lockfile_json;
 use std::alloc::Global;
 
 /// The lockfile of a text as a document, as `cargo-lock json -f -` prints it: its packages, and the

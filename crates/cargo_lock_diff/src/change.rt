@@ -7,11 +7,9 @@ ghost use Rattle.cargo_lock_diff.specs.Change as spec;
 ghost use Rattle.cargo_lock_diff.specs.Difference.{packages_at, referred_pairs};
 
 use crate::dependencies::Targets;
-use crate::parts::{
-    ChecksumMark, Checksums, DowngradeMark, Named, PackageText, ReplacementText, Signed, Sources,
-    UpdatedSources,
-};
+use crate::parts::{ChecksumMark, Checksums, DowngradeMark, Signed, Sources, UpdatedSources};
 use crate::same::{have_one_place, have_one_replacement, have_one_version};
+use cargo_lock_display::{NameVersion, PackageText, ReplacementText};
 use cargo_lock_parts::dependency::Dependency;
 use cargo_lock_parts::package::Package;
 use shown::Shown;
@@ -75,7 +73,7 @@ impl fmt::Display for Change<'_> {
                 write!(f, "! {package}{checksums}")
             }
             Change::Moved(old, new) => {
-                let package = Named(new);
+                let package = NameVersion(new);
                 let sources = Sources(old, new);
                 write!(f, "> {package}{sources}")
             }
@@ -91,7 +89,7 @@ impl fmt::Display for Change<'_> {
                 write!(f, "@ {package}: replacement {from} -> {to}")
             }
             Change::Updated(old, new) => {
-                let package = Named(old);
+                let package = NameVersion(old);
                 let version = Shown(&new.version);
                 let sources = UpdatedSources(old, new);
                 let mark = DowngradeMark(old, new);

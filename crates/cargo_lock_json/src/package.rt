@@ -1,112 +1,166 @@
-//! Packages and dependencies in JSON.
+//! Packages in JSON.
 
-ghost use Rattle.std.specs.Prelude.{◌∷◌, codes, map, option_map, true};
-ghost use Rattle.semver.specs.Identifiers.{parts_of, parts_text};
-ghost use Rattle.json.specs.Token.{begin_object, key, string};
+ghost use Rattle.std.specs.Prelude.{◌∷◌, [], codes, decimal, is_none, map};
+ghost use Rattle.std.specs.Prelude.{if◌then◌else◌};
+ghost use Rattle.std.specs.List.{flat_map};
+ghost use Rattle.std.specs.Option.{option_to_list};
+ghost use Rattle.json.specs.Json.{array};
+ghost use Rattle.json.specs.Token.{key, number};
 ghost use Rattle.json.specs.Tree.{json_tokens};
-ghost use Rattle.json_line.specs.Text.{Adds};
-ghost use Rattle.cargo_lock_parts.specs.SourceText.{text_of};
-ghost use Rattle.cargo_lock_json.specs.Package.{dependency_json, package_json, package_or_null};
-ghost use Rattle.cargo_lock_json.specs.Package.{packages_json};
-ghost use Rattle.json_line.specs.Value.{text_or_null};
+ghost use Rattle.cargo_lock_json.specs.Linked.{places, unresolved};
+ghost use Rattle.cargo_lock_json.specs.Package.{dependencies_json, package_json};
+ghost use Rattle.cargo_lock_json.specs.Package.{package_or_null, places_json};
+ghost use Rattle.cargo_lock_json.specs.Source.{dependency_json};
+ghost use Rattle.json_line.specs.Text.{Adds, items_of};
 
+use crate::linked::{Lead, Linked};
+use crate::source::{begin_identity, put_dependency, put_dependency_or_null};
 use cargo_lock_parts::dependency::Dependency;
-use cargo_lock_parts::package::{Name, Package, SourceId, Version};
+use cargo_lock_parts::package::Package;
 use json_line::{Text, put_digest_or_null};
 use std::alloc::{AllocError, Global};
 
-/// Writes a member whose value is a package, or null. Fails when out of memory.
-pub fn put_package_or_null(
-    out: &mut Text,
-    alloc: Global,
-    name: &str,
-    package: Option<&Package>,
-) -> Result<(), AllocError>
-    ensures { Adds result out.old out.new (key name.now
-        ∷ json_tokens (package_or_null (option_map (λ p. p.now) «package».entry))) }
-{
-    match package {
-        Some(package) => {
-            out.key(name)?;
-            put_package(out, alloc, package)
-        }
-        None => out.null_member(name),
-    }
-}
-
-/// Writes a package: name, version, source and checksum. Fails when out of memory.
-#[tactic(auto, unfolding(crate::specs::Package::identity_json))]
-pub fn put_package(out: &mut Text, alloc: Global, package: &Package) -> Result<(), AllocError>
-    ensures { Adds result out.old out.new (json_tokens (package_json «package».now)) }
-{
-    put_identity(out, alloc, &package.name, &package.version, &package.source)?;
-    put_digest_or_null(out, alloc, "checksum", &package.checksum)?;
-    out.end_object()
-}
-
-// Writes the array of packages.
+// Writes the member with the packages.
 pub(crate) fn put_packages(
     out: &mut Text,
     alloc: Global,
-    packages: &[&Package],
+    packages: &[Linked<'_>],
+) -> Result<(), AllocError>
+    ensures { Adds result out.old out.new (key (codes "packages")
+        ∷ json_tokens (array (items_of (map package_json packages.now)))) }
+{
+    out.key("packages")?;
+    put_each_package(out, alloc, packages)
+}
+
+fn put_each_package(
+    out: &mut Text,
+    alloc: Global,
+    packages: &[Linked<'_>],
 ) -> Result<(), AllocError>
     ensures { Adds result out.old out.new
-        (json_tokens (packages_json (map (λ p. p.now) packages.now))) }
+        (json_tokens (array (items_of (map package_json packages.now)))) }
 {
     out.begin_array()?;
-    for one in packages {
-        put_package(out, alloc, one)?;
+    for linked in packages {
+        put_package(out, alloc, linked)?;
     }
     out.end_array()
 }
 
-/// Writes a dependency as a package without a checksum. Fails when out of memory.
-#[tactic(auto, unfolding(crate::specs::Package::identity_json))]
-pub fn put_dependency(
+// Writes the member with the root, or null.
+pub(crate) fn put_root(
     out: &mut Text,
     alloc: Global,
-    dependency: &Dependency,
+    root: &Option<Linked<'_>>,
 ) -> Result<(), AllocError>
-    ensures { Adds result out.old out.new (json_tokens (dependency_json dependency.now)) }
+    ensures { Adds result out.old out.new (key (codes "root")
+        ∷ json_tokens (package_or_null root.now)) }
 {
-    put_identity(
-        out,
-        alloc,
-        &dependency.name,
-        &dependency.version,
-        &dependency.source,
-    )?;
-    out.null_member("checksum")?;
+    out.key("root")?;
+    match root {
+        Some(root) => put_package(out, alloc, root),
+        None => out.null(),
+    }
+}
+
+fn put_package(out: &mut Text, alloc: Global, linked: &Linked<'_>) -> Result<(), AllocError>
+    ensures { Adds result out.old out.new (json_tokens (package_json linked.now)) }
+{
+    put_parts(out, alloc, linked.package, linked.leads.as_slice())
+}
+
+#[tactic(auto, unfolding(crate::specs::Package::package_json))]
+fn put_parts(
+    out: &mut Text,
+    alloc: Global,
+    package: &Package,
+    leads: &[Lead<'_>],
+) -> Result<(), AllocError>
+    ensures { Adds result out.old out.new (json_tokens
+        (package_json (record { listed = «package».now; leads = leads.now }))) }
+{
+    begin_identity(out, alloc, &package.name, &package.version, &package.source)?;
+    put_digest_or_null(out, alloc, "checksum", &package.checksum)?;
+    put_dependencies_of(out, leads)?;
+    put_unresolved_of(out, alloc, leads)?;
+    out.key("replace")?;
+    put_dependency_or_null(out, alloc, &package.replace)?;
     out.end_object()
 }
 
-// Begins an object, and writes a name, a version and a source.
-fn put_identity(
-    out: &mut Text,
-    alloc: Global,
-    name: &Name,
-    version: &Version,
-    source: &Option<SourceId>,
-) -> Result<(), AllocError>
-    ensures { Adds result out.old out.new (begin_object
-        ∷ key (codes "name") ∷ string name.now
-        ∷ key (codes "version") ∷ string (parts_text (parts_of version.now))
-        ∷ key (codes "source")
-        ∷ json_tokens (text_or_null (option_map (text_of true) source.now))) }
+// Writes the member with the places to which dependencies lead.
+fn put_dependencies_of(out: &mut Text, leads: &[Lead<'_>]) -> Result<(), AllocError>
+    ensures { Adds result out.old out.new (key (codes "dependencies")
+        ∷ json_tokens (places_json (places leads.now))) }
 {
-    out.begin_object()?;
-    out.string_member("name", name.as_str())?;
-    out.displayed_member(alloc, "version", version)?;
-    put_source(out, alloc, source)
+    out.key("dependencies")?;
+    put_places(out, leads)
 }
 
-// Writes the member with a source.
-fn put_source(out: &mut Text, alloc: Global, source: &Option<SourceId>) -> Result<(), AllocError>
-    ensures { Adds result out.old out.new (key (codes "source")
-        ∷ json_tokens (text_or_null (option_map (text_of true) source.now))) }
+fn put_places(out: &mut Text, leads: &[Lead<'_>]) -> Result<(), AllocError>
+    ensures { Adds result out.old out.new (json_tokens (places_json (places leads.now))) }
 {
-    match source {
-        Some(source) => out.displayed_member(alloc, "source", &source.as_url(true)),
-        None => out.null_member("source"),
+    out.begin_array()?;
+    for lead in leads {
+        put_place(out, lead)?;
     }
+    out.end_array()
+}
+
+// Writes the place to which a dependency leads, if it leads to one.
+fn put_place(out: &mut Text, lead: &Lead<'_>) -> Result<(), AllocError>
+    ensures { Adds result out.old out.new
+        (flat_map (λ n. number (decimal n) ∷ []) (option_to_list lead.now.place)) }
+{
+    match lead.place {
+        Some(place) => out.number(place as u64),
+        None => Ok(()),
+    }
+}
+
+// Writes the member with the dependencies that lead nowhere.
+fn put_unresolved_of(out: &mut Text, alloc: Global, leads: &[Lead<'_>]) -> Result<(), AllocError>
+    ensures { Adds result out.old out.new (key (codes "unresolved")
+        ∷ json_tokens (dependencies_json (unresolved leads.now))) }
+{
+    out.key("unresolved")?;
+    put_unresolved(out, alloc, leads)
+}
+
+fn put_unresolved(out: &mut Text, alloc: Global, leads: &[Lead<'_>]) -> Result<(), AllocError>
+    ensures { Adds result out.old out.new
+        (json_tokens (dependencies_json (unresolved leads.now))) }
+{
+    out.begin_array()?;
+    for lead in leads {
+        put_if_unresolved(out, alloc, lead)?;
+    }
+    out.end_array()
+}
+
+// Writes a dependency if it leads nowhere.
+fn put_if_unresolved(out: &mut Text, alloc: Global, lead: &Lead<'_>) -> Result<(), AllocError>
+    ensures { Adds result out.old out.new (if is_none lead.now.place
+        then json_tokens (dependency_json lead.now.dependency) else []) }
+{
+    match lead.place {
+        Some(_) => Ok(()),
+        None => put_dependency(out, alloc, lead.dependency),
+    }
+}
+
+// Writes dependencies.
+pub(crate) fn put_dependencies(
+    out: &mut Text,
+    alloc: Global,
+    dependencies: &[Dependency],
+) -> Result<(), AllocError>
+    ensures { Adds result out.old out.new (json_tokens (dependencies_json dependencies.now)) }
+{
+    out.begin_array()?;
+    for dependency in dependencies {
+        put_dependency(out, alloc, dependency)?;
+    }
+    out.end_array()
 }

@@ -3,7 +3,7 @@ use Rattle.std.proofs.Common.{codes, refl}
 use Rattle.shown.specs.declared.form.Form.TheVariants.{Quoted}
 use Rattle.shown.proofs.LinesOf.{each-is-line}
 use Rattle.shown.proofs.Printable.{Prints, join, literal, shown-prints, words}
-use Rattle.cargo_lock_diff.proofs.OneLine.{package-prints}
+use Rattle.cargo_lock_display.proofs.Printed.{package-prints}
 use Rattle.cargo_lock_licenses.specs.Lines.{EachIsOneLine, verdict_line}
 use Rattle.cargo_lock_licenses.specs.Verdicts.{Allowed, Differ, NoExpression, NoLicense, NoManifest, NotAllowed, OnlyFile, VerdictData}
 

@@ -6,7 +6,7 @@ use Rattle.shown.specs.Shown.{shown}
 use Rattle.shown.specs.declared.form.Form.TheVariants.{Quoted}
 use Rattle.cargo_lock_parts.specs.Ascii.{newline}
 use Rattle.cargo_lock_parts.specs.Identity.{PackageData}
-use Rattle.cargo_lock_diff.specs.Change.{package_text}
+use Rattle.cargo_lock_display.specs.Line.{package_text}
 use Rattle.cargo_lock_licenses.specs.Verdicts.{VerdictData, Allowed, Differ, NoExpression}
 use Rattle.cargo_lock_licenses.specs.Verdicts.{NoLicense, NoManifest, NotAllowed, OnlyFile}
 

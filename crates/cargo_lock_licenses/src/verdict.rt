@@ -12,7 +12,7 @@ ghost use Rattle.cargo_lock_licenses.specs.Verdicts.{Permits, is_finding, verdic
 
 use crate::expression::Expression;
 use crate::subject::{Manifest, Subject};
-use cargo_lock_diff::PackageText;
+use cargo_lock_display::PackageText;
 use cargo_lock_parts::package::Package;
 use shown::Quoted;
 use std::alloc::{AllocError, Global};

@@ -20,10 +20,8 @@ use Rattle.cargo_lock_merge.specs.declared.words.Value.{Value}
 use Rattle.cargo_lock_merge.specs.declared.words.Value.TheVariants as value
 use Rattle.cargo_lock_merge.specs.declared.words.Values.{Values}
 use Rattle.cargo_lock_merge.specs.Lines.{ConflictsAreLines, MovedAreLines, RefusalsAreLines, before_text, commit_values, conflict_line, line_of, moved_line, moved_text, one_place_text, reason_text, refused_line, role_text, subject_text}
-use Rattle.cargo_lock_merge.specs.Words.{bare_text, both_text, checksum_text, commit_mark, commit_text, identity_text, mark_of, named_text, query_of, reference_text, replacement_text, source_behind, source_text, value_text, values_by, values_text, with_commit_text}
-
-named-prints : (p : PackageData) → Prints (named_text p)
-named-prints p = join (shown-prints Plain p.name) (words (codes " ") refl (shown-prints Plain _))
+use Rattle.cargo_lock_merge.specs.Words.{bare_text, both_text, commit_mark, commit_text, identity_text, mark_of, query_of, reference_text, replacement_text, source_behind, source_text, value_text, values_by, values_text, with_commit_text}
+use Rattle.cargo_lock_display.proofs.Printed.{checksum-prints, named-prints}
 
 mark-prints : (c : Option (List ℕ)) → Prints (mark_of c)
 mark-prints None = empty
@@ -66,10 +64,6 @@ source-prints s = either_text (is_git s.kind) (bare-prints s) (shown-prints Plai
 behind-prints : (s : Option Source) → Prints (source_behind s)
 behind-prints None = empty
 behind-prints (Some s) = words (codes " (") refl (join (source-prints s) (literal (codes ")") refl))
-
-checksum-prints : (c : Option (List ℕ)) → Prints (checksum_text c)
-checksum-prints None = literal (codes "none") refl
-checksum-prints (Some digest) = shown-prints Plain _
 
 replacement-prints : (i : Option Identity) → Prints (replacement_text i)
 replacement-prints None = literal (codes "none") refl

@@ -34,7 +34,8 @@ use Rattle.cargo_lock_merge.specs.declared.words.Value.TheVariants as value
 use Rattle.cargo_lock_merge.specs.declared.words.Values.{Values}
 use Rattle.cargo_lock_references.specs.Format.{number_of}
 use Rattle.cargo_lock_references.specs.declared.version.ResolveVersion.{ResolveVersion}
-use Rattle.cargo_lock_merge.specs.Words.{bare_text, commit_text, named_text, source_behind}
+use Rattle.cargo_lock_merge.specs.Words.{bare_text, commit_text, source_behind}
+use Rattle.cargo_lock_display.specs.Line.{named_text}
 use Rattle.cargo_lock_merge.specs.Words.{values_text, with_commit_text}
 use Rattle.shown.specs.Shown.{shown}
 use Rattle.shown.specs.declared.form.Form.TheVariants.{Plain, Quoted}

@@ -5,12 +5,12 @@ use Rattle.std.specs.List.{flat_map}
 use Rattle.std.specs.Str.{chars}
 use Rattle.semver.specs.Identifiers.{parts_text}
 use Rattle.url.specs.Parts.{serialize}
-use Rattle.cargo_lock_parts.specs.Checksum.{digest_text}
 use Rattle.cargo_lock_parts.specs.Identity.{Identity, PackageData}
 use Rattle.cargo_lock_parts.specs.Source.{Branch, DefaultBranch, Directory, Git, GitReference, Kind}
 use Rattle.cargo_lock_parts.specs.Source.{LocalRegistry, Path, Registry, Rev, Source}
 use Rattle.cargo_lock_parts.specs.Source.{SparseRegistry, Tag, is_git}
 use Rattle.cargo_lock_parts.specs.SourceText.{pair_text, text_of}
+use Rattle.cargo_lock_display.specs.Line.{checksum_text, named_text}
 use Rattle.cargo_lock_merge.specs.declared.words.Value.{Value}
 use Rattle.cargo_lock_merge.specs.declared.words.Value.TheVariants.{Absent, Checksum, Commit}
 use Rattle.cargo_lock_merge.specs.declared.words.Value.TheVariants.{Replacement, Version}
@@ -21,10 +21,6 @@ use Rattle.shown.specs.declared.form.Form.TheVariants.{Plain}
 -- the first eight characters of a text
 unfoldable pub start_of : List ℕ → List ℕ
 start_of text = flat_map encode_utf8 (take 8 (chars text))
-
--- the name and the version
-abbrev pub named_text : PackageData → List ℕ
-named_text p = shown Plain p.name ++ (codes " " ++ shown Plain (parts_text p.version))
 
 -- the beginning of a commit, after `#`, if there is one
 abbrev pub mark_of : Option (List ℕ) → List ℕ
@@ -78,11 +74,6 @@ source_text s = if is_git s.kind then bare_text s else shown Plain (text_of fals
 abbrev pub source_behind : Option Source → List ℕ
 source_behind None = []
 source_behind (Some s) = codes " (" ++ (source_text s ++ codes ")")
-
--- a checksum, or `none`
-abbrev pub checksum_text : Option (List ℕ) → List ℕ
-checksum_text None = codes "none"
-checksum_text (Some digest) = shown Plain (digest_text digest)
 
 -- a replacement, or `none`
 abbrev pub replacement_text : Option Identity → List ℕ

@@ -11,7 +11,8 @@ ghost use Rattle.cargo_lock_merge.specs.Lines.{absent, checksum_value, commit_va
 ghost use Rattle.cargo_lock_merge.specs.Lines.{line_of, replacement_value, same_if, source_line};
 ghost use Rattle.cargo_lock_merge.specs.declared.words.Value.TheVariants.{Version};
 
-use crate::words::{BareSource, NamedPackage, Value, Values};
+use crate::words::{BareSource, Value, Values};
+use cargo_lock_display::NameVersion;
 use cargo_lock_merging::commits::{Commits, SourceCommits};
 use cargo_lock_merging::conflicts::{Conflict as PlaceConflict, Kind, conflicts};
 use cargo_lock_merging::disputes::disputes;
@@ -183,11 +184,11 @@ impl fmt::Display for Subject<'_> {
                 write!(f, "source of {name}")
             }
             Subject::Checksum(package) => {
-                let package = NamedPackage(package);
+                let package = NameVersion(package);
                 write!(f, "checksum of {package}")
             }
             Subject::Replacement(package) => {
-                let package = NamedPackage(package);
+                let package = NameVersion(package);
                 write!(f, "replacement of {package}")
             }
             Subject::Nothing => f.write_str("none"),

@@ -6,8 +6,9 @@ use Rattle.std.specs.List.{flat_map}
 use Rattle.std.specs.Str.{chars}
 use Rattle.std.proofs.lemmas.List.Elements.{All-head, All-tail}
 use Rattle.std.proofs.lemmas.Str.{chars-IsAscii, encode_ascii}
-use Rattle.cargo_lock_parts.specs.Identity.{PackageData}
-use Rattle.cargo_lock_picture.specs.Diagram.{after_label, arrow_sign, before_label, named_text, shape_of}
+use Rattle.cargo_lock_picture.specs.Diagram.{after_label, arrow_sign, before_label, shape_of}
+use Rattle.cargo_lock_display.proofs.Printed.{named-prints}
+use Rattle.cargo_lock_display.specs.Line.{named_text}
 use Rattle.cargo_lock_picture.specs.DiagramLaws.{EachArrowIsOneLine, EachPackageIsOneLine}
 use Rattle.cargo_lock_picture.specs.Labels.{ampersand, escaped, escaped_char, is_plain, quote}
 use Rattle.cargo_lock_picture.specs.declared.diagram.Shape.{Shape}
@@ -15,10 +16,9 @@ use Rattle.cargo_lock_picture.specs.declared.diagram.Shape.TheVariants.{Hexagon,
 use Rattle.cargo_lock_picture.specs.declared.label.Target.{Target}
 use Rattle.cargo_lock_picture.specs.declared.label.Target.TheVariants.{Dot, Mermaid}
 use Rattle.cargo_lock_picture.proofs.Quoting.{printable-ascii}
-use Rattle.shown.proofs.Printable.{Prints, cons, decimal-prints, either_text, empty, join, join_each, literal, shown-prints, words}
+use Rattle.shown.proofs.Printable.{Prints, cons, decimal-prints, either_text, empty, join, join_each, literal, words}
 use Rattle.shown.specs.Laws.{IsPrintable, newline}
 use Rattle.shown.specs.Shown.{backslash}
-use Rattle.shown.specs.declared.form.Form.TheVariants.{Plain}
 
 -- ---- labels
 
@@ -42,9 +42,6 @@ pub escaped-prints : (target : Target) (text : List ℕ) → IsPrintable text �
 unfolding escaped
 escaped-prints Dot text h = rw (chars-IsAscii text (printable-ascii text h)) (bytes-print text h)
 escaped-prints Mermaid text h = join_each (escaped_char Mermaid) (λ c. plain-prints c (is_plain c) (plain-range c)) (chars text)
-
-pub named-prints : (p : PackageData) → Prints (named_text p)
-named-prints p = join (shown-prints Plain p.name) (words (codes " ") refl (shown-prints Plain _))
 
 -- ---- lines
 

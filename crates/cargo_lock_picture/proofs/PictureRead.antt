@@ -9,7 +9,9 @@ use Rattle.std.proofs.lemmas.Grind.{flat_map-append}
 use Rattle.std.proofs.lemmas.List.Elements.{All-head, All-tail, filter_map-append}
 use Rattle.std.proofs.lemmas.Str.Parse.{digit_from_value}
 use Rattle.cargo_lock_parts.specs.Identity.{PackageData}
-use Rattle.cargo_lock_picture.specs.Diagram.{after_label, arrow_line, arrow_sign, before_label, diagram_text, first_line, last_line, named_text, node_line, shape_of}
+use Rattle.cargo_lock_picture.specs.Diagram.{after_label, arrow_line, arrow_sign, before_label, diagram_text, first_line, last_line, node_line, shape_of}
+use Rattle.cargo_lock_display.proofs.Printed.{named-prints}
+use Rattle.cargo_lock_display.specs.Line.{named_text}
 use Rattle.cargo_lock_picture.specs.Labels.{escaped, with_byte}
 use Rattle.cargo_lock_picture.specs.Pictures.{EdgeOf, NodeOf, PictureIsRead, Said, behind, cut_digits, number_in, read_line, read_picture, said_of}
 use Rattle.cargo_lock_picture.specs.declared.diagram.Shape.{Shape}
@@ -17,7 +19,7 @@ use Rattle.cargo_lock_picture.specs.declared.diagram.Shape.TheVariants.{Hexagon,
 use Rattle.cargo_lock_picture.specs.declared.label.Target.{Target}
 use Rattle.cargo_lock_picture.specs.declared.label.Target.TheVariants.{Dot, Mermaid}
 use Rattle.cargo_lock_picture.specs.declared.scene.Arrow.{Arrow}
-use Rattle.cargo_lock_picture.proofs.DiagramLines.{before-prints, escaped-prints, named-prints, sign-prints}
+use Rattle.cargo_lock_picture.proofs.DiagramLines.{before-prints, escaped-prints, sign-prints}
 use Rattle.shown.proofs.LinesOf.{each-is-line}
 use Rattle.shown.proofs.Printable.{Prints, decimal-prints, join, literal, words}
 use Rattle.shown.specs.Laws.{newline}

@@ -3,17 +3,15 @@
 use Rattle.std.specs.Prelude.{ℕ, List, [], ◌++◌, Option, Some, None, codes, decimal}
 use Rattle.std.specs.Prelude.{if◌then◌else◌, slice_get}
 use Rattle.std.specs.List.{flat_map}
-use Rattle.semver.specs.Identifiers.{parts_text}
 use Rattle.cargo_lock_parts.specs.Identity.{PackageData}
 use Rattle.cargo_lock_parts.specs.Source.{Source, is_git}
+use Rattle.cargo_lock_display.specs.Line.{named_text}
 use Rattle.cargo_lock_picture.specs.Labels.{escaped}
 use Rattle.cargo_lock_picture.specs.declared.diagram.Shape.{Shape}
 use Rattle.cargo_lock_picture.specs.declared.diagram.Shape.TheVariants.{Rectangle, Hexagon, Rounded}
 use Rattle.cargo_lock_picture.specs.declared.label.Target.{Target}
 use Rattle.cargo_lock_picture.specs.declared.label.Target.TheVariants.{Dot, Mermaid}
 use Rattle.cargo_lock_picture.specs.declared.scene.Arrow.{Arrow}
-use Rattle.shown.specs.Shown.{shown}
-use Rattle.shown.specs.declared.form.Form.TheVariants.{Plain}
 
 -- the shape of a package: a rectangle for one without a source, a hexagon for one of a git
 -- repository, and a rounded shape for any other
@@ -36,10 +34,6 @@ after_label Dot Rounded = codes "\" shape=ellipse]\n"
 after_label Mermaid Rectangle = codes "\"]\n"
 after_label Mermaid Hexagon = codes "\"}}\n"
 after_label Mermaid Rounded = codes "\"])\n"
-
--- the name and the version, the text of a label
-abbrev pub named_text : PackageData → List ℕ
-named_text p = shown Plain p.name ++ (codes " " ++ shown Plain (parts_text p.version))
 
 -- the line of a package, whose node is named after its place
 abbrev pub package_line : Target → ℕ → PackageData → List ℕ

@@ -5,9 +5,9 @@ ghost use Rattle.cargo_lock_picture.specs.Diagram as spec;
 
 use crate::label::{Label, Target};
 use crate::scene::{Arrow, Picture};
+use cargo_lock_display::NameVersion;
 use cargo_lock_graph::graph::{Graph, NodeIndex};
 use cargo_lock_parts::package::{Package, SourceId};
-use shown::Shown;
 use std::fmt;
 
 /// The text of a picture of a graph. `Display` writes a line for each package and one for each
@@ -133,27 +133,9 @@ impl fmt::Display for PackageLine<'_> {
         let place = node.index();
         let shape = Shape::of(&package.source);
         let before = shape.before_label(target);
-        let label = Label(target, Named(package));
+        let label = Label(target, NameVersion(package));
         let after = shape.after_label(target);
         write!(f, "  n{place}{before}{label}{after}")
-    }
-}
-
-// The name and the version.
-#[derive(Clone, Copy)]
-struct Named<'a>(&'a Package);
-
-impl fmt::Display for Named<'_> {
-    ghost use Rattle.std.specs.Prelude.{Some};
-    ghost use Rattle.cargo_lock_picture.specs.Diagram.{named_text};
-
-    ghost output = { λ shown. Some (named_text shown.0.now) };
-
-    fn fmt<W: fmt::Write>(&self, f: &mut fmt::Formatter<W>) -> fmt::Result {
-        let Named(package) = *self;
-        let name = Shown(&package.name);
-        let version = Shown(&package.version);
-        write!(f, "{name} {version}")
     }
 }
 

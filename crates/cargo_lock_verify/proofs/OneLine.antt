@@ -3,7 +3,7 @@ use Rattle.std.proofs.Common.{ℕ, List, codes, option_map, refl, string_bytes}
 use Rattle.shown.specs.declared.form.Form.TheVariants.{Plain, Quoted}
 use Rattle.shown.proofs.LinesOf.{each-is-line}
 use Rattle.shown.proofs.Printable.{Prints, join, literal, shown-prints, words}
-use Rattle.cargo_lock_diff.proofs.OneLine.{checksum-prints, package-prints}
+use Rattle.cargo_lock_display.proofs.Printed.{checksum-prints, package-prints}
 use Rattle.cargo_lock_verify.specs.Archives.{Changed, FindingData, Missing}
 use Rattle.cargo_lock_parts.specs.Identity.{PackageData}
 use Rattle.cargo_lock_verify.specs.Lines.{EachIsOneLine, finding_line}

@@ -6,7 +6,7 @@ use Rattle.shown.specs.Shown.{shown}
 use Rattle.shown.specs.declared.form.Form.TheVariants.{Plain, Quoted}
 use Rattle.cargo_lock_parts.specs.Ascii.{newline}
 use Rattle.cargo_lock_parts.specs.Checksum.{digest_text}
-use Rattle.cargo_lock_diff.specs.Change.{checksum_text, package_text}
+use Rattle.cargo_lock_display.specs.Line.{checksum_text, package_text}
 use Rattle.cargo_lock_verify.specs.Archives.{FindingData, Changed, Missing}
 
 -- the line of a finding

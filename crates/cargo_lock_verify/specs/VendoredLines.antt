@@ -7,7 +7,7 @@ use Rattle.shown.specs.declared.form.Form.TheVariants.{Plain, Quoted}
 use Rattle.cargo_lock_parts.specs.Ascii.{newline}
 use Rattle.cargo_lock_parts.specs.Checksum.{digest_of, digest_text}
 use Rattle.cargo_lock_parts.specs.Identity.{PackageData}
-use Rattle.cargo_lock_diff.specs.Change.{checksum_text, package_text}
+use Rattle.cargo_lock_display.specs.Line.{checksum_text, package_text}
 use Rattle.cargo_lock_verify.specs.declared.folder.Folder.{Folder}
 use Rattle.cargo_lock_verify.specs.Vendored.{FindingData, Absent, Link, NoFolder, OtherArchive}
 use Rattle.cargo_lock_verify.specs.Vendored.{OtherFile, Unlisted}

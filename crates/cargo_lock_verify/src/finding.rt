@@ -1,6 +1,6 @@
 //! What is found of packages and their archives, each as a line.
 
-use cargo_lock_diff::{ChecksumText, PackageText};
+use cargo_lock_display::{ChecksumText, PackageText};
 use cargo_lock_parts::package::{Checksum, Package};
 use shown::{Quoted, Shown};
 use std::fmt;

@@ -5,7 +5,7 @@ ghost use Rattle.std.specs.Fmt.{DisplaysOnOk};
 ghost use Rattle.cargo_lock_parts.specs.Checksum.{digest_of};
 ghost use Rattle.cargo_lock_verify.specs.VendoredLines.{other_archive_line, other_file_line};
 
-use cargo_lock_diff::{ChecksumText, PackageText};
+use cargo_lock_display::{ChecksumText, PackageText};
 use cargo_lock_parts::package::{Checksum, Package};
 use shown::{Quoted, Shown};
 use std::collections::BTreeMap;
@@ -171,7 +171,7 @@ struct DigestText<'a>(&'a Option<Checksum>);
 impl fmt::Display for DigestText<'_> {
     ghost use Rattle.std.specs.Prelude.{Some, option_map};
     ghost use Rattle.cargo_lock_parts.specs.Checksum.{digest_of};
-    ghost use Rattle.cargo_lock_diff.specs.Change.{checksum_text};
+    ghost use Rattle.cargo_lock_display.specs.Line.{checksum_text};
 
     ghost output = { λ shown. Some (checksum_text (option_map digest_of shown.0.now)) };
 

@@ -6,8 +6,8 @@ use Rattle.cargo_lock_check.specs.Finding.{FindingData, findings_text}
 use Rattle.cargo_lock_check.specs.Findings.{AreFindings, FindingsData, told_of}
 use Rattle.cargo_lock_encoding.specs.Lockfiles.{LockfileData}
 use Rattle.cargo_lock_encoding.specs.Means.{TextMeans}
-use Rattle.cargo_lock_json.specs.File.{FileData}
-use Rattle.cargo_lock_findings.specs.Findings.{findings_json}
+use Rattle.cargo_lock_display.specs.File.{FileData}
+use Rattle.cargo_lock_check.specs.Document.{findings_json}
 use Rattle.json_line.specs.Text.{IsJsonText}
 use Rattle.cli_lockfiles.specs.Json.{IsAsked, IsUnasked, PrintsLine, file_of}
 

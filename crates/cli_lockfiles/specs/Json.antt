@@ -6,7 +6,7 @@ use Rattle.clap.specs.Matches.{one_text}
 use Rattle.clap.specs.declared.parser.matches.Found.{Found}
 use Rattle.cargo_lock_parts.specs.Ascii.{newline}
 use Rattle.cargo_lock_encoding.specs.Lockfiles.{LockfileData}
-use Rattle.cargo_lock_json.specs.File.{FileData}
+use Rattle.cargo_lock_display.specs.File.{FileData}
 use Rattle.cli_support.specs.Input.{given_path_in}
 
 -- the arguments have the flag of this name

@@ -10,7 +10,7 @@ ghost use Rattle.cli_support.specs.Input.{given_path_in};
 
 use cargo_lock::dependency::graph::Graph;
 use cargo_lock::{Error, Lockfile, ResolveVersion};
-use cargo_lock_json::File;
+use cargo_lock_display::File;
 use clap::ArgMatches;
 use cli_support::{Fault, words};
 use std::alloc::Global;

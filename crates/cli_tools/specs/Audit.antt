@@ -10,8 +10,8 @@ use Rattle.cargo_lock_audit.specs.Findings.{FindingData, findings, unmet}
 use Rattle.cargo_lock_audit.specs.Lines.{report_text}
 use Rattle.cargo_lock_audit.specs.Pairs.{pairs}
 use Rattle.cargo_lock_encoding.specs.Lockfiles.{LockfileData}
-use Rattle.cargo_lock_json.specs.Audit.{advisories_json}
-use Rattle.cargo_lock_json.specs.File.{FileData}
+use Rattle.cargo_lock_audit.specs.Document.{advisories_json}
+use Rattle.cargo_lock_display.specs.File.{FileData}
 use Rattle.json_line.specs.Text.{IsJsonText}
 use Rattle.cargo_lock_parts.specs.Identity.{PackageData}
 use Rattle.cli_lockfiles.specs.Json.{IsAsked, IsUnasked, PrintsLine, file_of}

@@ -1,6 +1,6 @@
 -- What `json` prints.
 use Rattle.std.specs.Prelude.{ℕ, List, Option}
-use Rattle.cargo_lock_document.specs.Document.{IsDocumentOf}
+use Rattle.cargo_lock_json.specs.Document.{IsDocumentOf}
 use Rattle.cargo_lock_encoding.specs.Lockfiles.{LockfileData}
 use Rattle.cli_lockfiles.specs.Json.{PrintsLine}
 use Rattle.cli_lockfiles.specs.Load.{IsCompared}

@@ -4,8 +4,8 @@ use Rattle.std.specs.List.{list_any}
 use Rattle.std.specs.Io.KnownBytes.{Appends}
 use Rattle.clap.specs.declared.parser.matches.Found.{Found}
 use Rattle.cargo_lock_encoding.specs.Lockfiles.{LockfileData}
-use Rattle.cargo_lock_json.specs.File.{FileData}
-use Rattle.cargo_lock_json.specs.Licenses.{verdicts_json}
+use Rattle.cargo_lock_display.specs.File.{FileData}
+use Rattle.cargo_lock_licenses.specs.Document.{verdicts_json}
 use Rattle.json_line.specs.Text.{IsJsonText}
 use Rattle.cargo_lock_licenses.specs.Lines.{report_text}
 use Rattle.cargo_lock_licenses.specs.Report.{AreVerdicts}

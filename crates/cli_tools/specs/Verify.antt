@@ -5,9 +5,9 @@ use Rattle.std.specs.Io.KnownBytes.{Appends}
 use Rattle.clap.specs.Matches.{first_value}
 use Rattle.clap.specs.declared.parser.matches.Found.{Found}
 use Rattle.cargo_lock_encoding.specs.Lockfiles.{LockfileData}
-use Rattle.cargo_lock_json.specs.Archives.{archives_json}
-use Rattle.cargo_lock_json.specs.File.{FileData}
-use Rattle.cargo_lock_json.specs.Folders.{folders_json}
+use Rattle.cargo_lock_verify.specs.ArchivesDocument.{archives_json}
+use Rattle.cargo_lock_display.specs.File.{FileData}
+use Rattle.cargo_lock_verify.specs.FoldersDocument.{folders_json}
 use Rattle.json_line.specs.Text.{IsJsonText}
 use Rattle.cargo_lock_parts.specs.Identity.{PackageData}
 use Rattle.cargo_lock_verify.specs.Archives.{FindingData, SubjectData, findings}

@@ -1,12 +1,12 @@
 //! The command `json`: a lockfile as one document of JSON.
 
 ghost use Rattle.std.specs.Prelude.{OnOk};
-ghost use Rattle.cargo_lock_document.specs.Document.{IsDocumentOf};
+ghost use Rattle.cargo_lock_json.specs.Document.{IsDocumentOf};
 ghost use Rattle.cli_lockfiles.specs.Json.{PrintsLine};
 ghost use Rattle.cli_tools.specs.Json.{PrintsLockfile};
 
 use cargo_lock::Lockfile;
-use cargo_lock_document::lockfile_json;
+use cargo_lock_json::lockfile_json;
 use clap::{ArgMatches, Command};
 use cli_lockfiles::load::compared_lockfile;
 use cli_support::Fault;

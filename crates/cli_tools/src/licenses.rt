@@ -2,7 +2,7 @@
 //! are not allowed.
 ghost use Rattle.std.specs.Prelude.{◌≡◌, IfOk, OnOk, map};
 ghost use Rattle.clap.specs.Matches.{found_of};
-ghost use Rattle.cargo_lock_json.specs.Licenses.{verdicts_json};
+ghost use Rattle.cargo_lock_licenses.specs.Document.{verdicts_json};
 ghost use Rattle.json_line.specs.Text.{IsJsonText};
 ghost use Rattle.cargo_lock_licenses.specs.Subjects.{subject_of};
 ghost use Rattle.cargo_lock_licenses.specs.Verdicts.{verdict_of};
@@ -15,8 +15,8 @@ use crate::texts;
 use crate::verify::status_of;
 use cargo_lock::Lockfile;
 use cargo_lock::package::Package;
-use cargo_lock_json::{File, verdicts_json};
-use cargo_lock_licenses::{Report, Subject, Verdict};
+use cargo_lock_display::File;
+use cargo_lock_licenses::{Report, Subject, Verdict, verdicts_json};
 use clap::{ArgMatches, Command};
 use cli_folders::{Entries, Vendor};
 use cli_lockfiles::load::{file, named_lockfile};

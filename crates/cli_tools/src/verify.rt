@@ -2,8 +2,8 @@
 //! folders that `cargo vendor` made are as their lists say.
 ghost use Rattle.std.specs.Prelude.{◌≡◌, IfOk, OnOk, false, map, true};
 ghost use Rattle.clap.specs.Matches.{found_of};
-ghost use Rattle.cargo_lock_json.specs.Archives.{archives_json};
-ghost use Rattle.cargo_lock_json.specs.Folders.{folders_json};
+ghost use Rattle.cargo_lock_verify.specs.ArchivesDocument.{archives_json};
+ghost use Rattle.cargo_lock_verify.specs.FoldersDocument.{folders_json};
 ghost use Rattle.json_line.specs.Text.{IsJsonText};
 ghost use Rattle.cargo_lock_verify.specs.Archives as archive;
 ghost use Rattle.cargo_lock_verify.specs.Archives.{subject_of};
@@ -18,8 +18,8 @@ ghost use Rattle.cli_tools.specs.Verify.{PrintsVerifiedOf};
 use crate::folders::{cache, check_folder, vendor};
 use cargo_lock::Lockfile;
 use cargo_lock::package::Package;
-use cargo_lock_json::{File, archives_json, folders_json};
-use cargo_lock_verify::{Report, Subject, VendorReport, Vendored};
+use cargo_lock_display::File;
+use cargo_lock_verify::{Report, Subject, VendorReport, Vendored, archives_json, folders_json};
 use clap::{Arg, ArgMatches, Command};
 use cli_folders::{Entries, Vendor};
 use cli_lockfiles::load::{compared_lockfile, file};

@@ -8,8 +8,8 @@ use Rattle.cargo_lock_diff.specs.Change.{ChangeData, changes_text, all_changes_o
 use Rattle.cargo_lock_diff.specs.Difference.{DifferenceData, IsDifference}
 use Rattle.cargo_lock_diff.specs.Summary.{summary_of, summary_text}
 use Rattle.cargo_lock_encoding.specs.Lockfiles.{LockfileData}
-use Rattle.cargo_lock_json.specs.Difference.{difference_json}
-use Rattle.cargo_lock_json.specs.File.{FileData}
+use Rattle.cargo_lock_diff.specs.Document.{difference_json}
+use Rattle.cargo_lock_display.specs.File.{FileData}
 use Rattle.json_line.specs.Text.{IsJsonText}
 use Rattle.cli_lockfiles.specs.Json.{IsAsked, IsUnasked, PrintsLine, file_of}
 use Rattle.cli_lockfiles.specs.Load.{IsCompared}

@@ -6,8 +6,8 @@ use Rattle.cargo_lock_ask.specs.Tally.{AreGroupsOf, GroupData, listing_text}
 use Rattle.cargo_lock_encoding.specs.Lockfiles.{LockfileData}
 use Rattle.cargo_lock_graph.specs.Edges.{GraphData}
 use Rattle.cargo_lock.specs.Loads.{IsMeant}
-use Rattle.cargo_lock_json.specs.Duplicates.{groups_json}
-use Rattle.cargo_lock_json.specs.File.{FileData}
+use Rattle.cargo_lock_ask.specs.DuplicatesDocument.{groups_json}
+use Rattle.cargo_lock_display.specs.File.{FileData}
 use Rattle.json_line.specs.Text.{IsJsonText}
 use Rattle.cli_lockfiles.specs.Json.{IsAsked, IsUnasked, PrintsLine, file_of}
 use Rattle.cli_lockfiles.specs.Load.{IsGraphOf}

@@ -9,9 +9,9 @@ use Rattle.cargo_lock_ask.specs.Places.{IsPlaces}
 use Rattle.cargo_lock_encoding.specs.Lockfiles.{LockfileData}
 use Rattle.cargo_lock_graph.specs.Edges.{GraphData}
 use Rattle.cargo_lock.specs.Loads.{IsMeant}
-use Rattle.cargo_lock_json.specs.File.{FileData}
+use Rattle.cargo_lock_display.specs.File.{FileData}
 use Rattle.json_line.specs.Text.{IsJsonText}
-use Rattle.cargo_lock_json.specs.Why.{answers_json}
+use Rattle.cargo_lock_ask.specs.WhyDocument.{answers_json}
 use Rattle.cli_lockfiles.specs.Json.{IsAsked, IsFlag, IsUnasked, PrintsLine, file_of}
 use Rattle.cargo_lock_ask.specs.Spec.{Fits}
 use Rattle.cli_lockfiles.specs.Load.{IsGraphOf}

@@ -3,15 +3,15 @@ ghost use Rattle.std.specs.Prelude.{◌≡◌, IfOk, OnOk, map};
 ghost use Rattle.std.specs.Io.KnownBytes.{Appends};
 ghost use Rattle.clap.specs.Matches.{found_of};
 ghost use Rattle.cargo_lock_diff.specs.Change.{change_of, changes_text};
-ghost use Rattle.cargo_lock_json.specs.Difference.{difference_json};
+ghost use Rattle.cargo_lock_diff.specs.Document.{difference_json};
 ghost use Rattle.json_line.specs.Text.{IsJsonText};
 ghost use Rattle.cli_views.specs.Diff.{IsStatus, IsTold, PrintsTold, PrintsChanges};
 ghost use Rattle.cli_views.specs.Diff.{PrintsDifference, PrintsDifferenceOf, last_line, told_text};
 ghost use Rattle.cli_lockfiles.specs.Json.{PrintsLine};
 
 use cargo_lock::Lockfile;
-use cargo_lock_diff::{Change, Difference, Summary};
-use cargo_lock_json::{File, difference_json};
+use cargo_lock_diff::{Change, Difference, Summary, difference_json};
+use cargo_lock_display::File;
 use clap::{Arg, ArgAction, ArgMatches, Command};
 use cli_lockfiles::load::{compared_lockfile, file};
 use cli_support::Fault;

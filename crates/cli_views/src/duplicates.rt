@@ -2,14 +2,14 @@
 ghost use Rattle.std.specs.Prelude.{◌≡◌, IfOk, OnOk, map};
 ghost use Rattle.clap.specs.Matches.{found_of};
 ghost use Rattle.cargo_lock_ask.specs.Tally.{group_of};
-ghost use Rattle.cargo_lock_json.specs.Duplicates.{groups_json};
+ghost use Rattle.cargo_lock_ask.specs.DuplicatesDocument.{groups_json};
 ghost use Rattle.json_line.specs.Text.{IsJsonText};
 ghost use Rattle.cli_views.specs.Duplicates.{IsGroupsStatus, PrintsDuplicates, PrintsGroups, PrintsNames};
 ghost use Rattle.cli_lockfiles.specs.Json.{PrintsLine};
 
 use cargo_lock::dependency::graph::Graph;
-use cargo_lock_ask::{Listing, Rows};
-use cargo_lock_json::{File, groups_json};
+use cargo_lock_ask::{Listing, Rows, groups_json};
+use cargo_lock_display::File;
 use clap::{ArgMatches, Command};
 use cli_lockfiles::load::{file_in, named_graph};
 use cli_support::output::put;

@@ -3,15 +3,15 @@ ghost use Rattle.std.specs.Prelude.{◌≡◌, IfOk, OnOk, map};
 ghost use Rattle.clap.specs.Matches.{found_of};
 ghost use Rattle.cargo_lock_ask.specs.Lines.{answer_of};
 ghost use Rattle.json_line.specs.Text.{IsJsonText};
-ghost use Rattle.cargo_lock_json.specs.Why.{answers_json};
+ghost use Rattle.cargo_lock_ask.specs.WhyDocument.{answers_json};
 ghost use Rattle.cli_lockfiles.specs.Json.{PrintsLine};
 ghost use Rattle.cli_views.specs.Why.{AreAsked, PrintsAnswers, PrintsAsked, PrintsWhy};
 ghost use Rattle.cli_views.specs.Why as spec;
 
 use cargo_lock::Package;
 use cargo_lock::dependency::graph::Graph;
-use cargo_lock_ask::{Answer, Answers};
-use cargo_lock_json::{File, answers_json};
+use cargo_lock_ask::{Answer, Answers, answers_json};
+use cargo_lock_display::File;
 use clap::{Arg, ArgAction, ArgMatches, Command};
 use cli_lockfiles::load::{file_in, named_graph};
 use cli_lockfiles::spec::some_fitting;

@@ -6,8 +6,8 @@ use crate::print_line;
 use cargo_lock::dependency::Tree;
 use cargo_lock::dependency::graph::{Graph, NodeIndex};
 use cargo_lock::{Error, ResolveVersion};
-use cargo_lock_ask::{Answer, Answers, chains_of_each, needers, shortest_chain, why, why_each};
-use cargo_lock_json::{File, answers_json};
+use cargo_lock_ask::{Answer, Answers, answers_json, chains_of_each, needers, shortest_chain, why, why_each};
+use cargo_lock_display::File;
 
 /// Prints why each package of a tree is there.
 pub fn print_reasons(rt: &HostRuntime, tree: &Tree) -> Result<(), Error> {

@@ -1,7 +1,7 @@
 use Rattle.std.proofs.Common.{subst}
 use Rattle.clap.specs.Matches.{found_of}
 use Rattle.cargo_lock_check.specs.Findings.{told_of}
-use Rattle.cargo_lock_json.specs.File.{FileData}
+use Rattle.cargo_lock_display.specs.File.{FileData}
 use Rattle.cli.specs.Check.{PrintsFound}
 use Rattle.cli_support.proofs.Writes.{if_ok_weaken}
 use Rattle.cli.proofs.check.report.Goals as goal

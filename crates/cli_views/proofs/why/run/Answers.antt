@@ -1,6 +1,6 @@
 use Rattle.std.proofs.Common.{◌≡◌, ◌∙◌, ap, codes, subst, sym}
 use Rattle.clap.specs.Matches.{found_of}
-use Rattle.cargo_lock_json.specs.File.{FileData}
+use Rattle.cargo_lock_display.specs.File.{FileData}
 use Rattle.cargo_lock_references.specs.declared.version.ResolveVersion.{ResolveVersion}
 use Rattle.cli_support.proofs.Writes.{on_ok_weaken}
 use Rattle.cli_support.specs.Input.{given_path_in}

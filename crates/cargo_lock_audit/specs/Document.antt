@@ -1,0 +1,38 @@
+-- What is found of packages by advisories, in JSON: the document that `audit --json` prints.
+use Rattle.std.specs.Prelude.{ℕ, List, codes, decimal, map, unwrap_or}
+use Rattle.json.specs.Json.{Json, array, boolean, number, string, object, member, no_members}
+use Rattle.cargo_lock_audit.specs.Advisory.{AdvisoryData}
+use Rattle.cargo_lock_audit.specs.Findings.{FindingData}
+use Rattle.cargo_lock_audit.specs.Lines.{finding_line}
+use Rattle.cargo_lock_references.specs.Format.{number_of}
+use Rattle.cargo_lock_display.specs.File.{FileData}
+use Rattle.cargo_lock_display.specs.PackageJson.{package_json}
+use Rattle.json_line.specs.Text.{items_of}
+
+-- the kind of an advisory: that of an informational one, or else a vulnerability
+abbrev pub kind_text : AdvisoryData → List ℕ
+kind_text a = unwrap_or a.informational (codes "vulnerability")
+
+-- texts, in their order
+abbrev pub texts_json : List (List ℕ) → Json
+texts_json texts = array (items_of (map string texts))
+
+-- the JSON of a finding
+unfoldable pub finding_json : FindingData → Json
+finding_json f = object
+    (member (codes "kind") (string (kind_text f.advisory))
+    (member (codes "denied") (boolean f.is_denied)
+    (member (codes "message") (string (finding_line f))
+    (member (codes "package") (package_json f.content)
+    (member (codes "id") (string f.advisory.id)
+    (member (codes "title") (string f.advisory.title)
+    (member (codes "patched") (texts_json (map (λ r. r.text) f.advisory.patched)) no_members)))))))
+
+-- the findings, each once and in order, and the ids of which no package has the advisory
+unfoldable pub advisories_json : FileData → List FindingData → List (List ℕ) → Json
+advisories_json file findings ids = object
+    (member (codes "schema") (string (codes "cargo-lock-audit/1"))
+    (member (codes "path") (string file.path)
+    (member (codes "format") (number (decimal (number_of file.format)))
+    (member (codes "findings") (array (items_of (map finding_json findings)))
+    (member (codes "unmet") (texts_json ids) no_members)))))

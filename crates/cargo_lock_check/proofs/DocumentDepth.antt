@@ -1,0 +1,56 @@
+-- The depth of the document of findings.
+use Rattle.std.proofs.Common.{◌≤◌, List, None, arith}
+use Rattle.json.specs.Tree.{depth}
+use Rattle.cargo_lock_check.specs.Finding.{Alike, BadName, FindingData, LookAlike, LossySource, LostDependency, Misplaced, MisplacedDependency, NoChecksum, NoChecksums, NoRoot, NotKept, Orphan, OtherLine, RepeatedDependency, StaleChecksum, Twice, UserInfo}
+use Rattle.cargo_lock_parts.specs.Identity.{identity_of}
+use Rattle.cargo_lock_display.specs.File.{FileData}
+use Rattle.cargo_lock_check.specs.Document.{finding_json, findings_json, line_json, other_json, package_of}
+use Rattle.cargo_lock_display.proofs.Depth.{identity-depth, package-depth}
+use Rattle.json_line.proofs.Depth.{array-depth}
+
+line-depth : (f : FindingData) → depth (line_json f) ≤ 0
+line-depth (OtherLine line) = omega arith
+line-depth (LostDependency p d) = omega arith
+line-depth (Twice p) = omega arith
+line-depth (RepeatedDependency p d) = omega arith
+line-depth (BadName p) = omega arith
+line-depth (Alike p q) = omega arith
+line-depth (LookAlike source) = omega arith
+line-depth (UserInfo source) = omega arith
+line-depth NoRoot = omega arith
+line-depth (Orphan p) = omega arith
+line-depth (NoChecksum p) = omega arith
+line-depth (NoChecksums source) = omega arith
+line-depth (StaleChecksum key) = omega arith
+line-depth (Misplaced p next) = omega arith
+line-depth (MisplacedDependency p d next) = omega arith
+line-depth (LossySource version text) = omega arith
+line-depth (NotKept version) = omega arith
+
+other-depth : (f : FindingData) → depth (other_json f) ≤ 1
+other-depth (LostDependency p d) = identity-depth d None
+other-depth (RepeatedDependency p d) = identity-depth d None
+other-depth (Alike p q) = identity-depth (identity_of q) q.checksum
+other-depth (Misplaced p next) = identity-depth (identity_of next) next.checksum
+other-depth (MisplacedDependency p d next) = identity-depth d None
+other-depth (Twice p) = omega arith
+other-depth (BadName p) = omega arith
+other-depth (LookAlike source) = omega arith
+other-depth (UserInfo source) = omega arith
+other-depth NoRoot = omega arith
+other-depth (Orphan p) = omega arith
+other-depth (NoChecksum p) = omega arith
+other-depth (NoChecksums source) = omega arith
+other-depth (StaleChecksum key) = omega arith
+other-depth (LossySource version text) = omega arith
+other-depth (NotKept version) = omega arith
+other-depth (OtherLine line) = omega arith
+
+finding-depth : (f : FindingData) → depth (finding_json f) ≤ 2
+unfolding finding_json
+finding-depth f = omega (arith, line-depth f, package-depth (package_of f), other-depth f)
+
+pub findings-depth : (file : FileData) (findings : List FindingData)
+    → depth (findings_json file findings) ≤ 4
+unfolding findings_json
+findings-depth file findings = omega (arith, array-depth 2 finding_json finding-depth findings)
