@@ -1,4 +1,4 @@
-//! A merge of lockfiles by packages: three finite maps from places to packages.
+//! The core of a merge of lockfiles: three finite maps from places to packages, and their merge.
 #![tactic(auto)]
 
 pub mod choices;
