@@ -112,3 +112,11 @@ finish() {
     echo "$passed passed, $failed failed$left_out"
     exit $((failed > 0 || passed + ${#skipped[@]} == 0))
 }
+
+# The JSON of the origin of this source, which is that of a registry.
+origin_json() {
+    local url=${1#registry+} is_crates_io=false
+    [ "$url" != https://github.com/rust-lang/crates.io-index ] || is_crates_io=true
+    printf '{"kind":"registry","url":"%s","reference":null,"precise":null,"crates_io":%s}' "$url" \
+        $is_crates_io
+}

@@ -25,6 +25,6 @@ group_json group = object
 unfoldable pub groups_json : FileData → List GroupData → Json
 groups_json file groups = object
     (member (codes "schema") (string (codes "cargo-lock-duplicates/1"))
-    (member (codes "path") (string file.path)
+    (member (codes "path") (text_or_null file.path)
     (member (codes "format") (number (decimal (number_of file.format)))
     (member (codes "names") (array (items_of (map group_json groups))) no_members))))

@@ -7,6 +7,7 @@ use Rattle.cargo_lock_references.specs.Format.{number_of}
 use Rattle.cargo_lock_display.specs.File.{FileData}
 use Rattle.cargo_lock_display.specs.PackageJson.{package_json, packages_json}
 use Rattle.json_line.specs.Text.{items_of}
+use Rattle.json_line.specs.Value.{text_or_null}
 
 -- the package that an answer is about
 abbrev pub package_in : AnswerData → PackageData
@@ -29,6 +30,6 @@ answer_json answer = object
 unfoldable pub answers_json : FileData → List AnswerData → Json
 answers_json file answers = object
     (member (codes "schema") (string (codes "cargo-lock-why/1"))
-    (member (codes "path") (string file.path)
+    (member (codes "path") (text_or_null file.path)
     (member (codes "format") (number (decimal (number_of file.format)))
     (member (codes "answers") (array (items_of (map answer_json answers))) no_members))))

@@ -8,12 +8,12 @@ use Rattle.cargo_lock_parts.specs.Identity.{identity_of}
 use Rattle.cargo_lock_audit.specs.Document.{advisories_json, finding_json, texts_json}
 use Rattle.cargo_lock_display.specs.File.{FileData}
 use Rattle.cargo_lock_display.proofs.Depth.{identity-depth}
-use Rattle.json_line.proofs.Depth.{array-depth}
+use Rattle.json_line.proofs.Depth.{array-depth, text-depth}
 
 texts-depth : (texts : List (List ℕ)) → depth (texts_json texts) ≤ 1
 texts-depth = array-depth 0 string (λ (text : List ℕ). omega arith)
 
-finding-depth : (f : FindingData) → depth (finding_json f) ≤ 2
+finding-depth : (f : FindingData) → depth (finding_json f) ≤ 4
 unfolding finding_json
 finding-depth f = omega (
   arith,
@@ -22,6 +22,6 @@ finding-depth f = omega (
 )
 
 pub advisories-depth : (file : FileData) (findings : List FindingData) (ids : List (List ℕ))
-    → depth (advisories_json file findings ids) ≤ 4
+    → depth (advisories_json file findings ids) ≤ 6
 unfolding advisories_json
-advisories-depth file findings ids = omega (arith, array-depth 2 finding_json finding-depth findings, texts-depth ids)
+advisories-depth file findings ids = omega (arith, text-depth file.path, array-depth 4 finding_json finding-depth findings, texts-depth ids)

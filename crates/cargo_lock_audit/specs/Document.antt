@@ -8,6 +8,7 @@ use Rattle.cargo_lock_references.specs.Format.{number_of}
 use Rattle.cargo_lock_display.specs.File.{FileData}
 use Rattle.cargo_lock_display.specs.PackageJson.{package_json}
 use Rattle.json_line.specs.Text.{items_of}
+use Rattle.json_line.specs.Value.{text_or_null}
 
 -- the kind of an advisory: that of an informational one, or else a vulnerability
 abbrev pub kind_text : AdvisoryData → List ℕ
@@ -32,7 +33,7 @@ finding_json f = object
 unfoldable pub advisories_json : FileData → List FindingData → List (List ℕ) → Json
 advisories_json file findings ids = object
     (member (codes "schema") (string (codes "cargo-lock-audit/1"))
-    (member (codes "path") (string file.path)
+    (member (codes "path") (text_or_null file.path)
     (member (codes "format") (number (decimal (number_of file.format)))
     (member (codes "findings") (array (items_of (map finding_json findings)))
     (member (codes "unmet") (texts_json ids) no_members)))))

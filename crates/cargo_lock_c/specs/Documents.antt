@@ -1,6 +1,6 @@
 -- Documents of JSON about a lockfile, as callers get them: as the program prints them for the
 -- lockfile on standard input.
-use Rattle.std.specs.Prelude.{◌≡◌, ◌≢◌, ◌++◌, ◌∷◌, ℕ, Bool, List, [], codes, length}
+use Rattle.std.specs.Prelude.{◌≡◌, ◌≢◌, ◌++◌, ◌∷◌, ℕ, Bool, List, [], None, length}
 use Rattle.cargo_lock.specs.CargoChecksums.{with_cargo_checksums_in}
 use Rattle.cargo_lock_ask.specs.Answers.{AreAnswers}
 use Rattle.cargo_lock_ask.specs.Lines.{AnswerData}
@@ -18,9 +18,9 @@ use Rattle.cargo_lock_display.specs.File.{FileData}
 use Rattle.json_line.specs.Text.{IsJsonText}
 use Rattle.cargo_lock_ask.specs.WhyDocument.{answers_json}
 
--- the lockfile as a document has it: its path is that of standard input
+-- the lockfile as a document has it, without a path
 abbrev pub file_of : LockfileData → FileData
-file_of l = record { path = codes "-"; format = l.version }
+file_of l = record { path = None; format = l.version }
 
 -- a text for which this holds, and a newline
 abbrev pub IsLine : (List ℕ → Type 0) → List ℕ → Type 0
@@ -72,4 +72,4 @@ IsDuplicatesText text bytes = (l : LockfileData) × (graph : GraphData) × TextM
 -- reads
 abbrev pub IsLockfileText : List ℕ → List ℕ → Type 0
 IsLockfileText text bytes = (l : LockfileData) × TextMeans text l
-    × IsLine (IsDocumentOf (with_cargo_checksums_in l)) bytes
+    × IsLine (IsDocumentOf None (with_cargo_checksums_in l)) bytes

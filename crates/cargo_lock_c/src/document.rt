@@ -9,13 +9,12 @@ use crate::refusal::Refusal;
 use cargo_lock::Lockfile;
 use cargo_lock_display::File;
 
-/// The lockfile as a document has it. Its text comes from the caller, so its path is that of
-/// standard input.
+/// The lockfile as a document has it. Its text comes from the caller, so it has no path.
 pub(crate) fn file_of(lockfile: &Lockfile) -> File<'static>
     ensures { «result» ≡ spec.file_of lockfile.now }
 {
     File {
-        path: "-",
+        path: None,
         format: lockfile.version,
     }
 }

@@ -6,7 +6,7 @@ use Rattle.cargo_lock_parts.specs.Identity.{identity_of}
 use Rattle.cargo_lock_display.specs.File.{FileData}
 use Rattle.cargo_lock_check.specs.Document.{finding_json, findings_json, line_json, other_json, package_of}
 use Rattle.cargo_lock_display.proofs.Depth.{identity-depth, package-depth}
-use Rattle.json_line.proofs.Depth.{array-depth}
+use Rattle.json_line.proofs.Depth.{array-depth, text-depth}
 
 line-depth : (f : FindingData) → depth (line_json f) ≤ 0
 line-depth (OtherLine line) = omega arith
@@ -27,7 +27,7 @@ line-depth (MisplacedDependency p d next) = omega arith
 line-depth (LossySource version text) = omega arith
 line-depth (NotKept version) = omega arith
 
-other-depth : (f : FindingData) → depth (other_json f) ≤ 1
+other-depth : (f : FindingData) → depth (other_json f) ≤ 3
 other-depth (LostDependency p d) = identity-depth d None
 other-depth (RepeatedDependency p d) = identity-depth d None
 other-depth (Alike p q) = identity-depth (identity_of q) q.checksum
@@ -46,11 +46,11 @@ other-depth (LossySource version text) = omega arith
 other-depth (NotKept version) = omega arith
 other-depth (OtherLine line) = omega arith
 
-finding-depth : (f : FindingData) → depth (finding_json f) ≤ 2
+finding-depth : (f : FindingData) → depth (finding_json f) ≤ 4
 unfolding finding_json
 finding-depth f = omega (arith, line-depth f, package-depth (package_of f), other-depth f)
 
 pub findings-depth : (file : FileData) (findings : List FindingData)
-    → depth (findings_json file findings) ≤ 4
+    → depth (findings_json file findings) ≤ 6
 unfolding findings_json
-findings-depth file findings = omega (arith, array-depth 2 finding_json finding-depth findings)
+findings-depth file findings = omega (arith, text-depth file.path, array-depth 4 finding_json finding-depth findings)

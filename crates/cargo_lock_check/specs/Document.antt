@@ -11,6 +11,7 @@ use Rattle.cargo_lock_check.specs.Finding.{finding_line}
 use Rattle.cargo_lock_display.specs.File.{FileData}
 use Rattle.cargo_lock_display.specs.PackageJson.{dependency_json, package_json, package_or_null}
 use Rattle.json_line.specs.Text.{items_of}
+use Rattle.json_line.specs.Value.{text_or_null}
 
 -- the kind of a finding
 abbrev pub kind_text : FindingData → List ℕ
@@ -72,6 +73,6 @@ finding_json f = object
 unfoldable pub findings_json : FileData → List FindingData → Json
 findings_json file findings = object
     (member (codes "schema") (string (codes "cargo-lock-check/1"))
-    (member (codes "path") (string file.path)
+    (member (codes "path") (text_or_null file.path)
     (member (codes "format") (number (decimal (number_of file.format)))
     (member (codes "findings") (array (items_of (map finding_json findings))) no_members))))

@@ -22,7 +22,7 @@ use std::alloc::{AllocError, Global};
 ///
 /// ```
 /// let file = File {
-///     path: "Cargo.lock",
+///     path: Some("Cargo.lock"),
 ///     format: lockfile.version,
 /// };
 /// let all = findings.all(rt.alloc())?;

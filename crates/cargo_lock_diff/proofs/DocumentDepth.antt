@@ -12,7 +12,7 @@ counts-depth : (s : Summary) → depth (counts_json s) ≤ 1
 unfolding counts_json
 counts-depth s = omega arith
 
-change-depth : (c : ChangeData) → depth (change_json c) ≤ 3
+change-depth : (c : ChangeData) → depth (change_json c) ≤ 5
 unfolding change_json
 change-depth c = omega (
   arith,
@@ -23,12 +23,12 @@ change-depth c = omega (
 )
 
 pub difference-depth : (old new : FileData) (s : Summary) (changes : List ChangeData)
-    → depth (document_of old new s changes) ≤ 5
+    → depth (document_of old new s changes) ≤ 7
 unfolding document_of
 difference-depth old new s changes = omega (
   arith,
   file-depth old,
   file-depth new,
   counts-depth s,
-  array-depth 3 change_json change-depth changes,
+  array-depth 5 change_json change-depth changes,
 )

@@ -22,11 +22,11 @@ use std::alloc::{AllocError, Global};
 ///
 /// ```
 /// let old = File {
-///     path: "old.lock",
+///     path: Some("old.lock"),
 ///     format: ResolveVersion::V3,
 /// };
 /// let new = File {
-///     path: "Cargo.lock",
+///     path: Some("Cargo.lock"),
 ///     format: ResolveVersion::V4,
 /// };
 /// let changes = difference.all_changes(rt.alloc(), false)?;

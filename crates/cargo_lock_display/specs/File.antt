@@ -1,16 +1,28 @@
 -- The lockfiles that a document describes, in JSON.
-use Rattle.std.specs.Prelude.{ℕ, List, codes, decimal}
+use Rattle.std.specs.Prelude.{ℕ, List, ◌∷◌, ◌++◌, Option, codes, decimal}
 use Rattle.json.specs.Json.{Json, number, string, object, member, no_members}
+use Rattle.json.specs.Token as token
+use Rattle.json.specs.Token.{Token}
+use Rattle.json.specs.Tree.{json_tokens}
 use Rattle.cargo_lock_references.specs.declared.version.ResolveVersion.{ResolveVersion}
 use Rattle.cargo_lock_references.specs.Format.{number_of}
+use Rattle.json_line.specs.Value.{text_or_null}
 
--- the path as it was given, and the format
+-- the path as it was given, which standard input does not have, and the format
 pub record FileData : Type 0 where
-  pub path : List ℕ
+  pub path : Option (List ℕ)
   pub format : ResolveVersion
 
 -- the members of a lockfile: its path, and the number of its format
 unfoldable pub file_json : FileData → Json
 file_json f = object
-    (member (codes "path") (string f.path)
+    (member (codes "path") (text_or_null f.path)
     (member (codes "format") (number (decimal (number_of f.format))) no_members))
+
+-- the tokens with which a document about one lockfile begins, its schema, path and format, and
+-- those that follow
+abbrev pub document_begins : List ℕ → FileData → List Token → List Token
+document_begins schema f following = token.begin_object
+    ∷ token.key (codes "schema") ∷ token.string schema
+    ∷ token.key (codes "path") ∷ (json_tokens (text_or_null f.path)
+    ++ (token.key (codes "format") ∷ token.number (decimal (number_of f.format)) ∷ following))

@@ -5,16 +5,19 @@ use Rattle.json.specs.Json.{Json, array, null, string, object, member, no_member
 use Rattle.cargo_lock_parts.specs.Checksum.{digest_text}
 use Rattle.cargo_lock_parts.specs.Identity.{Identity, PackageData, identity_of}
 use Rattle.cargo_lock_parts.specs.SourceText.{text_of}
+use Rattle.cargo_lock_display.specs.SourceJson.{origin_or_null}
 use Rattle.json_line.specs.Text.{items_of}
 use Rattle.json_line.specs.Value.{text_or_null}
 
--- a name, a version, a source as a V4 lockfile has it, and a checksum; the last two may be null
+-- a name, a version, a source as a V4 lockfile has it, what the source is, and a checksum; the
+-- last three may be null
 unfoldable pub identity_json : Identity → Option (List ℕ) → Json
 identity_json i checksum = object
     (member (codes "name") (string i.name)
     (member (codes "version") (string (parts_text i.version))
     (member (codes "source") (text_or_null (option_map (text_of true) i.source))
-    (member (codes "checksum") (text_or_null (option_map digest_text checksum)) no_members))))
+    (member (codes "origin") (origin_or_null i.source)
+    (member (codes "checksum") (text_or_null (option_map digest_text checksum)) no_members)))))
 
 -- the JSON of a package
 abbrev pub package_json : PackageData → Json

@@ -10,6 +10,7 @@ ghost use Rattle.cargo_lock_display.specs.PackageJson.{dependency_json, package_
 ghost use Rattle.cargo_lock_display.specs.PackageJson.{packages_json};
 ghost use Rattle.json_line.specs.Value.{text_or_null};
 
+use crate::source_json::put_origin;
 use cargo_lock_parts::dependency::Dependency;
 use cargo_lock_parts::package::{Name, Package, SourceId, Version};
 use json_line::{Text, put_digest_or_null};
@@ -34,12 +35,13 @@ pub fn put_package_or_null(
     }
 }
 
-/// Writes a package: name, version, source and checksum. Fails when out of memory.
+/// Writes a package: name, version, source, origin and checksum. Fails when out of memory.
 #[tactic(auto, unfolding(crate::specs::PackageJson::identity_json))]
 pub fn put_package(out: &mut Text, alloc: Global, package: &Package) -> Result<(), AllocError>
     ensures { Adds result out.old out.new (json_tokens (package_json «package».now)) }
 {
-    put_identity(out, alloc, &package.name, &package.version, &package.source)?;
+    begin_identity(out, alloc, &package.name, &package.version, &package.source)?;
+    put_origin(out, &package.source)?;
     put_digest_or_null(out, alloc, "checksum", &package.checksum)?;
     out.end_object()
 }
@@ -69,19 +71,20 @@ pub fn put_dependency(
 ) -> Result<(), AllocError>
     ensures { Adds result out.old out.new (json_tokens (dependency_json dependency.now)) }
 {
-    put_identity(
+    begin_identity(
         out,
         alloc,
         &dependency.name,
         &dependency.version,
         &dependency.source,
     )?;
+    put_origin(out, &dependency.source)?;
     out.null_member("checksum")?;
     out.end_object()
 }
 
-// Begins an object, and writes a name, a version and a source.
-fn put_identity(
+/// Begins an object, and writes a name, a version and the text of a source. Fails when out of memory.
+pub fn begin_identity(
     out: &mut Text,
     alloc: Global,
     name: &Name,

@@ -1,39 +1,23 @@
 -- How deep the document of a lockfile nests.
-use Rattle.std.proofs.Common.{◌≤◌, ℕ, List, [], ◌∷◌, Option, None, Some, arith, decimal, option_map}
+use Rattle.std.proofs.Common.{◌≤◌, ℕ, List, [], ◌∷◌, Option, None, Some, arith, decimal, option_map, true}
 use Rattle.std.specs.FinMap.{entries}
 use Rattle.json.specs.Json.{Json, number}
 use Rattle.json.specs.Tree.{depth, members_depth}
 use Rattle.cargo_lock_parts.specs.Checksum.{digest_text}
 use Rattle.cargo_lock_parts.specs.Identity.{Identity}
-use Rattle.cargo_lock_parts.specs.Source.{Kind, Source, DefaultBranch, Tag, Branch, Rev, Git, Path, Registry, SparseRegistry, LocalRegistry, Directory}
-use Rattle.cargo_lock_parts.specs.SourceKey.{precise_if_git}
+use Rattle.cargo_lock_parts.specs.SourceText.{text_of}
 use Rattle.cargo_lock_encoding.specs.Lockfiles.{LockfileData}
 use Rattle.cargo_lock_json.specs.Document.{lockfile_json, patch_json, texts_members}
 use Rattle.cargo_lock_json.specs.Linked.{LinkedData, places, unresolved}
 use Rattle.cargo_lock_json.specs.Package.{dependencies_json, package_json, package_or_null, places_json}
-use Rattle.cargo_lock_json.specs.Source.{dependency_json, dependency_or_null, reference_json, reference_or_null, source_json, source_or_null}
+use Rattle.cargo_lock_json.specs.Dependency.{dependency_json, dependency_or_null}
+use Rattle.cargo_lock_display.specs.File.{FileData}
+use Rattle.cargo_lock_display.proofs.Depth.{origin-depth}
 use Rattle.json_line.proofs.Depth.{array-depth, text-depth}
-
-reference-depth : (k : Kind) → depth (reference_or_null k) ≤ 1
-unfolding reference_json
-reference-depth (Git DefaultBranch) = omega arith
-reference-depth (Git (Tag value)) = omega arith
-reference-depth (Git (Branch value)) = omega arith
-reference-depth (Git (Rev value)) = omega arith
-reference-depth Path = omega arith
-reference-depth Registry = omega arith
-reference-depth SparseRegistry = omega arith
-reference-depth LocalRegistry = omega arith
-reference-depth Directory = omega arith
-
-source-depth : (s : Option Source) → depth (source_or_null s) ≤ 2
-unfolding source_json
-source-depth None = omega arith
-source-depth (Some s) = omega (arith, reference-depth s.kind, text-depth (precise_if_git s.kind s.precise))
 
 dependency-depth : (d : Identity) → depth (dependency_json d) ≤ 3
 unfolding dependency_json
-dependency-depth d = omega (arith, source-depth d.source)
+dependency-depth d = omega (arith, text-depth (option_map (text_of true) d.source), origin-depth d.source)
 
 dependency_or_null-depth : (d : Option Identity) → depth (dependency_or_null d) ≤ 3
 dependency_or_null-depth None = omega arith
@@ -49,7 +33,8 @@ package-depth : (linked : LinkedData) → depth (package_json linked) ≤ 5
 unfolding package_json
 package-depth linked = omega (
   arith,
-  source-depth linked.listed.source,
+  text-depth (option_map (text_of true) linked.listed.source),
+  origin-depth linked.listed.source,
   text-depth (option_map digest_text linked.listed.checksum),
   places-depth (places linked.leads),
   dependencies-depth (unresolved linked.leads),
@@ -68,11 +53,12 @@ patch-depth : (unused : List Identity) → depth (patch_json unused) ≤ 5
 unfolding patch_json
 patch-depth unused = omega (arith, dependencies-depth unused)
 
-pub lockfile-depth : (l : LockfileData) (packages : List LinkedData) (root : Option LinkedData)
-    → depth (lockfile_json l packages root) ≤ 7
+pub lockfile-depth : (file : FileData) (l : LockfileData) (packages : List LinkedData) (root : Option LinkedData)
+    → depth (lockfile_json file l packages root) ≤ 7
 unfolding lockfile_json
-lockfile-depth l packages root = omega (
+lockfile-depth file l packages root = omega (
   arith,
+  text-depth file.path,
   array-depth 5 package_json package-depth packages,
   package_or_null-depth root,
   texts-depth (entries l.metadata),

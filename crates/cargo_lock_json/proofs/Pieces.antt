@@ -7,7 +7,7 @@ use Rattle.json.specs.Json.{Json}
 use Rattle.json.specs.Token.{Token, end_array, number}
 use Rattle.json.specs.Tree.{items_tokens, json_tokens}
 use Rattle.cargo_lock_json.specs.Linked.{LeadData, places, unresolved}
-use Rattle.cargo_lock_json.specs.Source.{dependency_json}
+use Rattle.cargo_lock_json.specs.Dependency.{dependency_json}
 use Rattle.json_line.specs.Text.{items_of}
 
 -- the tokens of the place of a lead, if it has one

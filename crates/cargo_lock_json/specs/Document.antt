@@ -6,10 +6,12 @@ use Rattle.json.specs.Json.{Json, Members, array, number, string, object, member
 use Rattle.cargo_lock_parts.specs.Identity.{Identity}
 use Rattle.cargo_lock_references.specs.Format.{number_of}
 use Rattle.cargo_lock_encoding.specs.Lockfiles.{LockfileData}
+use Rattle.cargo_lock_display.specs.File.{FileData}
 use Rattle.cargo_lock_json.specs.Leads.{IsLinked, IsLinkedRoot}
 use Rattle.cargo_lock_json.specs.Linked.{LinkedData}
 use Rattle.cargo_lock_json.specs.Package.{dependencies_json, package_json, package_or_null}
 use Rattle.json_line.specs.Text.{IsJsonText, items_of}
+use Rattle.json_line.specs.Value.{text_or_null}
 
 -- texts, each at its key
 abbrev pub texts_members : List (List ℕ × List ℕ) → Members
@@ -20,21 +22,23 @@ texts_members (pair ∷ pairs) = member pair.0 (string pair.1) (texts_members pa
 unfoldable pub patch_json : List Identity → Json
 patch_json unused = object (member (codes "unused") (dependencies_json unused) no_members)
 
--- a lockfile, with its packages and its root linked
-unfoldable pub lockfile_json : LockfileData → List LinkedData → Option LinkedData → Json
-lockfile_json l packages root = object
+-- a lockfile at a path, with its packages and its root linked
+unfoldable pub lockfile_json : FileData → LockfileData → List LinkedData → Option LinkedData → Json
+lockfile_json file l packages root = object
     (member (codes "schema") (string (codes "cargo-lock-lockfile/1"))
-    (member (codes "format") (number (decimal (number_of l.version)))
+    (member (codes "path") (text_or_null file.path)
+    (member (codes "format") (number (decimal (number_of file.format)))
     (member (codes "packages") (array (items_of (map package_json packages)))
     (member (codes "root") (package_or_null root)
     (member (codes "metadata") (object (texts_members (entries l.metadata)))
-    (member (codes "patch") (patch_json l.patch) no_members))))))
+    (member (codes "patch") (patch_json l.patch) no_members)))))))
 
--- The text is the document of the lockfile, in which each dependency leads where it resolves: it
--- reads as the document, by the reader's own definition.
-pub record IsDocumentOf (l : LockfileData) (text : List ℕ) : Type 0 where
+-- The text is the document of the lockfile at a path, in which each dependency leads where it
+-- resolves: it reads as the document, by the reader's own definition.
+pub record IsDocumentOf (path : Option (List ℕ)) (l : LockfileData) (text : List ℕ) : Type 0 where
   pub packages : List LinkedData
   pub root : Option LinkedData
   pub linked : AllZip (IsLinked l.packages) l.packages packages
   pub is_root : IsLinkedRoot l.packages l.root root
-  pub reads : IsJsonText (lockfile_json l packages root) text
+  pub reads : IsJsonText
+      (lockfile_json (record { path = path; format = l.version }) l packages root) text

@@ -1,4 +1,4 @@
-pub mod Source
+pub mod Dependency
 pub mod Linked
 pub mod Package
 pub mod Leads

@@ -1,11 +1,13 @@
 -- Packages in JSON, with the places of the packages on which they depend.
-use Rattle.std.specs.Prelude.{ℕ, List, Option, None, Some, codes, decimal, map, option_map}
+use Rattle.std.specs.Prelude.{ℕ, List, Option, None, Some, codes, decimal, map, option_map, true}
 use Rattle.semver.specs.Identifiers.{parts_text}
 use Rattle.json.specs.Json.{Json, array, null, number, string, object, member, no_members}
 use Rattle.cargo_lock_parts.specs.Checksum.{digest_text}
 use Rattle.cargo_lock_parts.specs.Identity.{Identity}
+use Rattle.cargo_lock_parts.specs.SourceText.{text_of}
 use Rattle.cargo_lock_json.specs.Linked.{LinkedData, places, unresolved}
-use Rattle.cargo_lock_json.specs.Source.{dependency_json, dependency_or_null, source_or_null}
+use Rattle.cargo_lock_json.specs.Dependency.{dependency_json, dependency_or_null}
+use Rattle.cargo_lock_display.specs.SourceJson.{origin_or_null}
 use Rattle.json_line.specs.Text.{items_of}
 use Rattle.json_line.specs.Value.{text_or_null}
 
@@ -23,11 +25,12 @@ unfoldable pub package_json : LinkedData → Json
 package_json linked = object
     (member (codes "name") (string linked.listed.name)
     (member (codes "version") (string (parts_text linked.listed.version))
-    (member (codes "source") (source_or_null linked.listed.source)
+    (member (codes "source") (text_or_null (option_map (text_of true) linked.listed.source))
+    (member (codes "origin") (origin_or_null linked.listed.source)
     (member (codes "checksum") (text_or_null (option_map digest_text linked.listed.checksum))
     (member (codes "dependencies") (places_json (places linked.leads))
     (member (codes "unresolved") (dependencies_json (unresolved linked.leads))
-    (member (codes "replace") (dependency_or_null linked.listed.replace) no_members)))))))
+    (member (codes "replace") (dependency_or_null linked.listed.replace) no_members))))))))
 
 -- a package, or null if there is none
 abbrev pub package_or_null : Option LinkedData → Json

@@ -1,11 +1,10 @@
 //! The document of a lockfile.
 
-ghost use Rattle.std.specs.Prelude.{◌∷◌, [], IfOk, codes, decimal, string_bytes};
+ghost use Rattle.std.specs.Prelude.{◌∷◌, IfOk, codes, option_map, string_bytes};
 ghost use Rattle.std.specs.FinMap.{entries};
 ghost use Rattle.json.specs.Json.{object};
-ghost use Rattle.json.specs.Token.{begin_object, key, number, string};
+ghost use Rattle.json.specs.Token.{key};
 ghost use Rattle.json.specs.Tree.{json_tokens};
-ghost use Rattle.cargo_lock_references.specs.Format.{number_of};
 ghost use Rattle.cargo_lock_references.specs.Records.{texts_of};
 ghost use Rattle.cargo_lock_json.specs.Document as spec;
 ghost use Rattle.cargo_lock_json.specs.Document.{IsDocumentOf, patch_json, texts_members};
@@ -15,7 +14,8 @@ use crate::leads::{link_each, link_root};
 use crate::linked::Linked;
 use crate::package::{put_dependencies, put_packages, put_root};
 use cargo_lock::metadata::Metadata;
-use cargo_lock::{Lockfile, ResolveVersion};
+use cargo_lock::Lockfile;
+use cargo_lock_display::{File, begin_document};
 use cargo_lock_graph::targets::Candidates;
 use cargo_lock_parts::patch::Patch;
 use cargo_lock_references::checksums::keys_ascend;
@@ -23,64 +23,64 @@ use json_line::Text;
 use std::alloc::{AllocError, Global};
 
 /// The document of a lockfile, in one line:
-/// `{"schema":"cargo-lock-lockfile/1","format":4,"packages":[..],"root":..,"metadata":..,"patch":..}`.
-/// No lockfile is refused: a dependency that no package fits is in `unresolved` of its package.
+/// `{"schema":"cargo-lock-lockfile/1","path":..,"format":4,"packages":[..],"root":..,..}`. The path is
+/// that of its file, if it has one. No lockfile is refused: a dependency that no package fits is in `unresolved` of its package.
 /// Fails when out of memory.
 ///
 /// ```
-/// let text = lockfile_json(rt.alloc(), lockfile)?;
+/// let text = lockfile_json(rt.alloc(), Some("Cargo.lock"), lockfile)?;
 /// ```
-pub fn lockfile_json(alloc: Global, lockfile: &Lockfile) -> Result<String, AllocError>
-    ensures { IfOk result (λ text. IsDocumentOf lockfile.now (string_bytes text)) }
+pub fn lockfile_json(
+    alloc: Global,
+    path: Option<&str>,
+    lockfile: &Lockfile,
+) -> Result<String, AllocError>
+    ensures { IfOk result
+        (λ text. IsDocumentOf (option_map (λ t. t.now) path.entry) lockfile.now (string_bytes text)) }
 {
     let candidates = Candidates::of(alloc, lockfile.packages.as_slice())?;
     let packages = link_each(alloc, &candidates, lockfile.packages.as_slice())?;
     let root = link_root(alloc, &candidates, &lockfile.root)?;
-    text_of(alloc, lockfile, packages.as_slice(), &root)
+    let file = File {
+        path,
+        format: lockfile.version,
+    };
+    text_of(alloc, &file, lockfile, packages.as_slice(), &root)
 }
 
 // The text of a lockfile that is linked.
 fn text_of(
     alloc: Global,
+    file: &File<'_>,
     lockfile: &Lockfile,
     packages: &[Linked<'_>],
     root: &Option<Linked<'_>>,
 ) -> Result<String, AllocError>
     ensures { IfOk result (λ text. IsJsonText
-        (spec.lockfile_json lockfile.now packages.now root.now) (string_bytes text)) }
+        (spec.lockfile_json file.now lockfile.now packages.now root.now) (string_bytes text)) }
 {
     let mut out = Text::new(alloc)?;
-    put_lockfile(&mut out, alloc, lockfile, packages, root)?;
+    put_lockfile(&mut out, alloc, file, lockfile, packages, root)?;
     Ok(out.into_string())
 }
 
 fn put_lockfile(
     out: &mut Text,
     alloc: Global,
+    file: &File<'_>,
     lockfile: &Lockfile,
     packages: &[Linked<'_>],
     root: &Option<Linked<'_>>,
 ) -> Result<(), AllocError>
     ensures { Adds result out.old out.new (json_tokens
-        (spec.lockfile_json lockfile.now packages.now root.now)) }
+        (spec.lockfile_json file.now lockfile.now packages.now root.now)) }
 {
-    begin_document(out, lockfile.version)?;
+    begin_document(out, "cargo-lock-lockfile/1", file)?;
     put_packages(out, alloc, packages)?;
     put_root(out, alloc, root)?;
     put_metadata(out, &lockfile.metadata)?;
     put_patch(out, alloc, &lockfile.patch)?;
     out.end_object()
-}
-
-// Opens the document: its schema, and the number of the format.
-fn begin_document(out: &mut Text, format: ResolveVersion) -> Result<(), AllocError>
-    ensures { Adds result out.old out.new (begin_object
-        ∷ key (codes "schema") ∷ string (codes "cargo-lock-lockfile/1")
-        ∷ key (codes "format") ∷ number (decimal (number_of format)) ∷ []) }
-{
-    out.begin_object()?;
-    out.string_member("schema", "cargo-lock-lockfile/1")?;
-    out.number_member("format", u32::from(format) as u64)
 }
 
 // Writes the member with the metadata.

@@ -4,10 +4,10 @@
 //! `docs/JSON.md` has the document.
 #![tactic(auto)]
 
+mod dependency;
 pub mod document;
 pub mod leads;
 pub mod linked;
 mod package;
-mod source;
 
 pub use crate::document::lockfile_json;

@@ -10,11 +10,12 @@ ghost use Rattle.json.specs.Tree.{json_tokens};
 ghost use Rattle.cargo_lock_json.specs.Linked.{places, unresolved};
 ghost use Rattle.cargo_lock_json.specs.Package.{dependencies_json, package_json};
 ghost use Rattle.cargo_lock_json.specs.Package.{package_or_null, places_json};
-ghost use Rattle.cargo_lock_json.specs.Source.{dependency_json};
+ghost use Rattle.cargo_lock_json.specs.Dependency.{dependency_json};
 ghost use Rattle.json_line.specs.Text.{Adds, items_of};
 
+use crate::dependency::{put_dependency, put_dependency_or_null};
 use crate::linked::{Lead, Linked};
-use crate::source::{begin_identity, put_dependency, put_dependency_or_null};
+use cargo_lock_display::{begin_identity, put_origin};
 use cargo_lock_parts::dependency::Dependency;
 use cargo_lock_parts::package::Package;
 use json_line::{Text, put_digest_or_null};
@@ -81,6 +82,7 @@ fn put_parts(
         (package_json (record { listed = «package».now; leads = leads.now }))) }
 {
     begin_identity(out, alloc, &package.name, &package.version, &package.source)?;
+    put_origin(out, &package.source)?;
     put_digest_or_null(out, alloc, "checksum", &package.checksum)?;
     put_dependencies_of(out, leads)?;
     put_unresolved_of(out, alloc, leads)?;

@@ -8,7 +8,7 @@ use Rattle.cargo_lock_licenses.specs.Document.{expression_of, package_of, verdic
 use Rattle.cargo_lock_display.proofs.Depth.{identity-depth}
 use Rattle.json_line.proofs.Depth.{array-depth, text-depth}
 
-verdict-depth : (v : VerdictData) → depth (verdict_json v) ≤ 2
+verdict-depth : (v : VerdictData) → depth (verdict_json v) ≤ 4
 unfolding verdict_json
 verdict-depth v = omega (
   arith,
@@ -16,6 +16,6 @@ verdict-depth v = omega (
   text-depth (expression_of v),
 )
 
-pub verdicts-depth : (file : FileData) (verdicts : List VerdictData) → depth (verdicts_json file verdicts) ≤ 4
+pub verdicts-depth : (file : FileData) (verdicts : List VerdictData) → depth (verdicts_json file verdicts) ≤ 6
 unfolding verdicts_json
-verdicts-depth file verdicts = omega (arith, array-depth 2 verdict_json verdict-depth verdicts)
+verdicts-depth file verdicts = omega (arith, text-depth file.path, array-depth 4 verdict_json verdict-depth verdicts)

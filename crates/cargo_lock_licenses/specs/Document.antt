@@ -53,6 +53,6 @@ verdict_json v = object
 unfoldable pub verdicts_json : FileData → List VerdictData → Json
 verdicts_json file verdicts = object
     (member (codes "schema") (string (codes "cargo-lock-licenses/1"))
-    (member (codes "path") (string file.path)
+    (member (codes "path") (text_or_null file.path)
     (member (codes "format") (number (decimal (number_of file.format)))
     (member (codes "packages") (array (items_of (map verdict_json verdicts))) no_members))))

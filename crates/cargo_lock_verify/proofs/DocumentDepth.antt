@@ -9,7 +9,7 @@ use Rattle.cargo_lock_verify.specs.Document.{FoundData, found_json, verified_jso
 use Rattle.cargo_lock_display.proofs.Depth.{identity-depth}
 use Rattle.json_line.proofs.Depth.{array-depth, text-depth}
 
-pub found-depth : (f : FoundData) → depth (found_json f) ≤ 2
+pub found-depth : (f : FoundData) → depth (found_json f) ≤ 4
 unfolding found_json
 found-depth f = omega (
   arith,
@@ -19,7 +19,7 @@ found-depth f = omega (
   text-depth (option_map digest_text f.expected),
 )
 
-pub verified-depth : {A : Type 0} (finding_json : A → Json) → ((f : A) → depth (finding_json f) ≤ 2)
-    → (file : FileData) (verified : ℕ) (findings : List A) → depth (verified_json file verified (map finding_json findings)) ≤ 4
+pub verified-depth : {A : Type 0} (finding_json : A → Json) → ((f : A) → depth (finding_json f) ≤ 4)
+    → (file : FileData) (verified : ℕ) (findings : List A) → depth (verified_json file verified (map finding_json findings)) ≤ 6
 unfolding verified_json
-verified-depth finding_json each file verified findings = omega (arith, array-depth 2 finding_json each findings)
+verified-depth finding_json each file verified findings = omega (arith, text-depth file.path, array-depth 4 finding_json each findings)

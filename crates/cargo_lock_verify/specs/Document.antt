@@ -34,7 +34,7 @@ found_json f = object
 unfoldable pub verified_json : FileData → ℕ → List Json → Json
 verified_json file verified findings = object
     (member (codes "schema") (string (codes "cargo-lock-verify/1"))
-    (member (codes "path") (string file.path)
+    (member (codes "path") (text_or_null file.path)
     (member (codes "format") (number (decimal (number_of file.format)))
     (member (codes "verified") (number (decimal verified))
     (member (codes "findings") (array (items_of findings)) no_members)))))

@@ -1,9 +1,9 @@
 //! What the documents of `verify` have in common.
 
 ghost use Rattle.std.specs.Prelude.{◌∷◌, [], codes, decimal};
-ghost use Rattle.json.specs.Token.{begin_object, key, number, string};
+ghost use Rattle.json.specs.Token.{key, number};
 ghost use Rattle.json_line.specs.Text.{Adds};
-ghost use Rattle.cargo_lock_references.specs.Format.{number_of};
+ghost use Rattle.cargo_lock_display.specs.File.{document_begins};
 
 use cargo_lock_display::{File, begin_document};
 use json_line::Text;
@@ -15,12 +15,8 @@ pub(crate) fn begin_verified(
     file: &File<'_>,
     verified: usize,
 ) -> Result<(), AllocError>
-    ensures { Adds result out.old out.new (begin_object
-        ∷ key (codes "schema") ∷ string (codes "cargo-lock-verify/1")
-        ∷ key (codes "path") ∷ string file.now.path
-        ∷ key (codes "format") ∷ number (decimal (number_of file.now.format))
-        ∷ key (codes "verified") ∷ number (decimal verified)
-        ∷ key (codes "findings") ∷ []) }
+    ensures { Adds result out.old out.new (document_begins (codes "cargo-lock-verify/1") file.now
+        (key (codes "verified") ∷ number (decimal verified) ∷ key (codes "findings") ∷ [])) }
 {
     begin_document(out, "cargo-lock-verify/1", file)?;
     out.number_member("verified", verified as u64)?;

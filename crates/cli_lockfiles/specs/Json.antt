@@ -1,6 +1,6 @@
 -- What the arguments ask for by a flag, and documents of JSON that are printed.
 use Rattle.std.specs.Prelude.{◌≡◌, ℕ, Bool, true, false, List, [], ◌∷◌, ◌++◌, ◌⊎◌, Option, Some}
-use Rattle.std.specs.Prelude.{None, codes}
+use Rattle.std.specs.Prelude.{None, bytes_eq, codes, if◌then◌else◌}
 use Rattle.std.specs.Io.KnownBytes.{Appends}
 use Rattle.clap.specs.Matches.{one_text}
 use Rattle.clap.specs.declared.parser.matches.Found.{Found}
@@ -22,9 +22,16 @@ pub record IsFlag (found : Found) (name : List ℕ) (flag : Bool) : Type 0 where
   pub asked : IsAsked found name → flag ≡ true
   pub unasked : IsUnasked found name → flag ≡ false
 
+-- the path of a document: that of the option or argument, none for standard input, `-`
+abbrev pub document_path : List ℕ → Option (List ℕ)
+document_path path = if bytes_eq path (codes "-") then None else Some path
+
 -- a lockfile as a document has it: the path of an option or argument, and its format
 abbrev pub file_of : Found → List ℕ → LockfileData → FileData
-file_of found name l = record { path = given_path_in found name; format = l.version }
+file_of found name l = record {
+  path = document_path (given_path_in found name);
+  format = l.version;
+}
 
 -- one more line is printed: a text for which this holds, and a newline
 abbrev pub PrintsLine : (List ℕ → Type 0) → Option (List ℕ) → Option (List ℕ) → Type 0

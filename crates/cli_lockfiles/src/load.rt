@@ -1,9 +1,9 @@
 //! The lockfiles that the arguments name.
-ghost use Rattle.std.specs.Prelude.{◌≡◌, IfErr, IfOk, List, ℕ};
+ghost use Rattle.std.specs.Prelude.{◌≡◌, IfErr, IfOk, List, ℕ, option_map};
 ghost use Rattle.clap.specs.Matches.{found_of};
 ghost use Rattle.cargo_lock.specs.Loads.{IsMeant};
 ghost use Rattle.cargo_lock_encoding.specs.Means.{TextMeans};
-ghost use Rattle.cli_lockfiles.specs.Json.{file_of};
+ghost use Rattle.cli_lockfiles.specs.Json.{document_path, file_of};
 ghost use Rattle.cli_lockfiles.specs.Load.{IsCompared, IsGraphOf, IsOfLockfile};
 ghost use Rattle.cli_lockfiles.specs.Load.{IsOfLockfileUnnamed, IsRead};
 ghost use Rattle.cli_support.specs.Input.{given_path_in};
@@ -159,14 +159,23 @@ pub fn file<'a>(options: &ArgMatches<'a>, name: &str, lockfile: &Lockfile) -> Fi
 /// The lockfile of this format at the path of the option or argument `name`, as a document has it.
 pub fn file_in<'a>(options: &ArgMatches<'a>, name: &str, format: ResolveVersion) -> File<'a>
     ensures { result ≡ record {
-      path = given_path_in (found_of options.now) name.now;
+      path = document_path (given_path_in (found_of options.now) name.now);
       format = format;
     } }
 {
     File {
-        path: words::given_path(options, name),
+        path: path_in_documents(options, name),
         format,
     }
+}
+
+/// The path of the option or argument `name` as a document has it. Standard input has none.
+pub fn path_in_documents<'a>(options: &ArgMatches<'a>, name: &str) -> Option<&'a str>
+    ensures { option_map (λ t. t.now) result
+        ≡ document_path (given_path_in (found_of options.now) name.now) }
+{
+    let path = words::given_path(options, name);
+    if path == "-" { None } else { Some(path) }
 }
 
 /// The error with the path of the option or argument `name`, or out of memory.

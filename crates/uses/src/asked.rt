@@ -98,7 +98,7 @@ pub fn print_answers(rt: &HostRuntime, tree: &Tree, nodes: &[NodeIndex]) -> Resu
 /// Prints the document of answers.
 pub fn print_answers_document(rt: &HostRuntime, answers: &Answers<'_>) -> Result<(), Error> {
     let file = File {
-        path: "Cargo.lock",
+        path: Some("Cargo.lock"),
         format: ResolveVersion::V3,
     };
     let text = answers_json(rt.alloc(), &file, &answers.answers)?;

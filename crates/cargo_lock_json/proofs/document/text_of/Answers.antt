@@ -8,8 +8,8 @@ use Rattle.cargo_lock_json.proofs.document.text_of.Goals as goal
 
 pub returns : goal.returns
 returns c =
-    let document = lockfile_json c.args.lockfile.now c.args.packages.now c.args.root.now in
+    let document = lockfile_json c.args.file.now c.args.lockfile.now c.args.packages.now c.args.root.now in
     json_text document c.put_lockfile.new.out (string_bytes c.into_string.result)
-    (omega (arith, lockfile-depth c.args.lockfile.now c.args.packages.now c.args.root.now))
+    (omega (arith, lockfile-depth c.args.file.now c.args.lockfile.now c.args.packages.now c.args.root.now))
     (c.in_ok-put_lockfile.ensures.is ∙ ap (λ (ts : List Token). ts ++ json_tokens document) c.in_ok-out.ensures)
     c.into_string.ensures.text c.into_string.ensures.tokens c.into_string.ensures.numbers

@@ -4,7 +4,7 @@ use Rattle.std.specs.List.{flat_map}
 use Rattle.json.specs.Token.{begin_array}
 use Rattle.json.specs.Tree.{json_tokens}
 use Rattle.cargo_lock_parts.specs.Identity.{Identity}
-use Rattle.cargo_lock_json.specs.Source.{dependency_json}
+use Rattle.cargo_lock_json.specs.Dependency.{dependency_json}
 use Rattle.json_line.proofs.Arrays.{array_ends, items-flat_map_of}
 use Rattle.cargo_lock_json.proofs.package.put_dependencies.Goals as goal
 

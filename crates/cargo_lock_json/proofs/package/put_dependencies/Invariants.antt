@@ -2,7 +2,7 @@ use Rattle.std.proofs.Common.{◌≡◌, ◌++◌, ◌∷◌, take}
 use Rattle.std.specs.List.{flat_map}
 use Rattle.json.specs.Token.{begin_array}
 use Rattle.json.specs.Tree.{json_tokens}
-use Rattle.cargo_lock_json.specs.Source.{dependency_json}
+use Rattle.cargo_lock_json.specs.Dependency.{dependency_json}
 use Rattle.cargo_lock_json.proofs.package.put_dependencies.Given as goal
 
 abbrev pub invariant-loop-dependency : goal.invariant-loop-dependency

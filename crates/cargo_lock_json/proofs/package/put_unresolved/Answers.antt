@@ -4,7 +4,7 @@ use Rattle.std.specs.List.{flat_map}
 use Rattle.json.specs.Json as json
 use Rattle.json.specs.Token.{begin_array}
 use Rattle.cargo_lock_json.specs.Linked.{LeadData, places, unresolved}
-use Rattle.cargo_lock_json.specs.Source.{dependency_json}
+use Rattle.cargo_lock_json.specs.Dependency.{dependency_json}
 use Rattle.cargo_lock_json.proofs.Pieces.{lost_tokens, unresolved-pieces}
 use Rattle.json_line.proofs.Arrays.{array_ends}
 use Rattle.cargo_lock_json.proofs.package.put_unresolved.Goals as goal

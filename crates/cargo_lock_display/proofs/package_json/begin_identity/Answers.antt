@@ -1,6 +1,6 @@
 use Rattle.std.proofs.Common.{sym}
 use Rattle.json_line.proofs.Behind.{then}
-use Rattle.cargo_lock_display.proofs.package_json.put_identity.Goals as goal
+use Rattle.cargo_lock_display.proofs.package_json.begin_identity.Goals as goal
 
 pub returns : goal.returns
 returns c = rw (sym c.as_str.ensures) (then c.in_ok-begin_object.ensures

@@ -1,14 +1,11 @@
--- Sources and dependencies in JSON.
-use Rattle.std.specs.Prelude.{ℕ, List, Option, None, Some, codes, true}
-use Rattle.semver.specs.Identifiers.{parts_text}
+-- Sources in JSON.
+use Rattle.std.specs.Prelude.{ℕ, List, Option, None, Some, codes}
 use Rattle.url.specs.Parts.{serialize}
 use Rattle.json.specs.Json.{Json, boolean, null, string, object, member, no_members}
-use Rattle.cargo_lock_parts.specs.Identity.{Identity}
 use Rattle.cargo_lock_parts.specs.Source.{Kind, Source, DefaultBranch, Tag, Branch, Rev, Git, Path}
 use Rattle.cargo_lock_parts.specs.Source.{Registry, SparseRegistry, LocalRegistry, Directory}
 use Rattle.cargo_lock_parts.specs.SourceKey.{precise_if_git}
 use Rattle.cargo_lock_parts.specs.SourceShown.{is_default_registry}
-use Rattle.cargo_lock_parts.specs.SourceText.{text_of}
 use Rattle.json_line.specs.Value.{text_or_null}
 
 -- the kind of a source
@@ -33,30 +30,17 @@ reference_or_null (Git (Branch value)) = reference_json (codes "branch") value
 reference_or_null (Git (Rev value)) = reference_json (codes "rev") value
 reference_or_null other = null
 
--- a source: its text in a V4 lockfile, its kind, its URL, what it asks for, the commit of a git
--- source, and whether it is the registry of crates.io
-unfoldable pub source_json : Source → Json
-source_json s = object
-    (member (codes "text") (string (text_of true s))
+-- what a source is: its kind, its URL, what it asks for, the commit of a git source, and whether it
+-- is the registry of crates.io
+unfoldable pub origin_json : Source → Json
+origin_json s = object
     (member (codes "kind") (string (kind_text s.kind))
     (member (codes "url") (string (serialize s.url))
     (member (codes "reference") (reference_or_null s.kind)
     (member (codes "precise") (text_or_null (precise_if_git s.kind s.precise))
-    (member (codes "crates_io") (boolean (is_default_registry s)) no_members))))))
+    (member (codes "crates_io") (boolean (is_default_registry s)) no_members)))))
 
--- a source, or null if there is none
-abbrev pub source_or_null : Option Source → Json
-source_or_null None = null
-source_or_null (Some s) = source_json s
-
--- a dependency
-unfoldable pub dependency_json : Identity → Json
-dependency_json d = object
-    (member (codes "name") (string d.name)
-    (member (codes "version") (string (parts_text d.version))
-    (member (codes "source") (source_or_null d.source) no_members)))
-
--- a dependency, or null if there is none
-abbrev pub dependency_or_null : Option Identity → Json
-dependency_or_null None = null
-dependency_or_null (Some d) = dependency_json d
+-- what a source is, or null if there is none
+abbrev pub origin_or_null : Option Source → Json
+origin_or_null None = null
+origin_or_null (Some s) = origin_json s

@@ -1,0 +1,27 @@
+-- What is written behind the beginning of a document.
+use Rattle.std.proofs.Common.{◌≡◌, ◌∙◌, ℕ, List, ◌∷◌, ◌++◌, Result, Ok, Err, ap, append_assoc, codes, decimal}
+use Rattle.json.specs.Token.{Token, begin_object, key, number, string}
+use Rattle.json.specs.Tree.{json_tokens}
+use Rattle.cargo_lock_references.specs.Format.{number_of}
+use Rattle.cargo_lock_display.specs.File.{FileData, document_begins}
+use Rattle.json_line.specs.Text.{Adds}
+use Rattle.json_line.specs.Value.{text_or_null}
+
+begins-append : (schema : List ℕ) (f : FileData) (more rest : List Token)
+    → document_begins schema f more ++ rest ≡ document_begins schema f (more ++ rest)
+begins-append schema f more rest =
+    ap (λ l. begin_object ∷ key (codes "schema") ∷ string schema ∷ key (codes "path") ∷ l)
+        (append_assoc (json_tokens (text_or_null f.path))
+        (key (codes "format") ∷ number (decimal (number_of f.format)) ∷ more) rest)
+
+-- the beginning, and a piece behind it, where the call that adds the second may fail
+pub begins : {E F : Type 0} {u : Unit {0}} {r : Result (Unit {0}) F} {a b c more rest : List Token}
+    (schema : List ℕ) (f : FileData)
+    → Adds {E = E} (Ok u) a b (document_begins schema f more) → Adds r b c rest
+    → Adds r a c (document_begins schema f (more ++ rest))
+begins {r = Ok v} {a} {b} {c} {more} {rest} schema f first second = record {
+  is = second.is ∙ ap (λ l. l ++ rest) first.is
+      ∙ append_assoc a (document_begins schema f more) rest
+      ∙ ap (λ l. a ++ l) (begins-append schema f more rest);
+}
+begins {r = Err e} schema f first second = record { is = tt }
