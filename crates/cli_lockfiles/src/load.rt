@@ -175,7 +175,10 @@ pub fn path_in_documents<'a>(options: &ArgMatches<'a>, name: &str) -> Option<&'a
         ≡ document_path (given_path_in (found_of options.now) name.now) }
 {
     let path = words::given_path(options, name);
-    if path == "-" { None } else { Some(path) }
+    if path == "-" {
+        return None;
+    }
+    Some(path)
 }
 
 /// The error with the path of the option or argument `name`, or out of memory.
