@@ -1,10 +1,12 @@
 -- The URL of a source in the form in which Cargo compares packages.
 -- The rule is that of Cargo's `src/cargo/util/canonical_url.rs`, measured on the lockfiles in
 -- `tests/cargo`, which Cargo 1.95.0 wrote.
-use Rattle.std.specs.Prelude.{◌++◌, ◌-◌, ℕ, nat_lt, Bool, false, if◌then◌else◌, List, length, map, take, codes, bytes_eq, Option, None, Some, option_map, eqb}
+use Rattle.std.specs.Prelude.{◌++◌, ◌-◌, ℕ, nat_lt, Bool, false, if◌then◌else◌, List, length, map}
+use Rattle.std.specs.Prelude.{take, codes, bytes_eq, Option, None, Some, option_map, eqb, Ok, Err}
 use Rattle.std.specs.Char.{to_ascii_lowercase}
 use Rattle.std.specs.List.{ends_with}
 use Rattle.url.specs.Host.{host_text}
+use Rattle.url.specs.Parser.{Parsed, parse_url}
 use Rattle.url.specs.Parts.{Parts, nonempty_host, text_between}
 use Rattle.url.specs.declared.slicing.Position.TheVariants.{AfterScheme, BeforePath, AfterPath, AfterFragment}
 
@@ -26,14 +28,30 @@ is_github (Some host) = bytes_eq host (codes "github.com")
 abbrev pub is_at_github : Parts → Bool
 is_at_github url = is_github (option_map host_text (nonempty_host url))
 
--- the path without a `/` at its end, in lower case at GitHub, and then without `.git` at its end
-abbrev pub canonical_path : Parts → List ℕ
-canonical_path url = without_end (codes ".git")
-    (if is_at_github url then map to_ascii_lowercase (without_slash url.path)
-    else without_slash url.path)
+-- the URL that was read, or else this one
+abbrev pub read_or : Parts → Parsed Parts → Parts
+read_or url (Ok read) = read
+read_or url (Err e) = url
 
--- the text of a URL with this path and, at GitHub, the scheme `https`
+-- the URL as it is read again with the scheme `https`, as Cargo does at GitHub: so a port 443 goes,
+-- and a backslash is a `/`
+abbrev pub with_https : Parts → Parts
+with_https url =
+    read_or url (parse_url None (codes "https" ++ text_between url AfterScheme AfterFragment))
+
+-- the path of the second URL in lower case, without a `/` at its end if the first URL has one there
+abbrev pub path_at_github : Parts → Parts → List ℕ
+path_at_github url read = map to_ascii_lowercase
+    (if ends_with eqb url.path (codes "/") then without_slash read.path else read.path)
+
+-- the text of a URL with this path, less `.git` at its end
+abbrev pub text_with_path : Parts → List ℕ → List ℕ
+text_with_path url path = url.scheme ++ (text_between url AfterScheme BeforePath
+    ++ (without_end (codes ".git") path ++ text_between url AfterPath AfterFragment))
+
+-- the text of a URL as Cargo compares it: the path is without a `/` and then without `.git` at its
+-- end; at GitHub the URL is read again with `https`, and its path is in lower case
 abbrev pub canonical : Parts → List ℕ
-canonical url = (if is_at_github url then codes "https" else url.scheme)
-    ++ (text_between url AfterScheme BeforePath
-    ++ (canonical_path url ++ text_between url AfterPath AfterFragment))
+canonical url = if is_at_github url
+    then text_with_path (with_https url) (path_at_github url (with_https url))
+    else text_with_path url (without_slash url.path)
