@@ -9,6 +9,7 @@ use Rattle.url.specs.Host.{host_text}
 use Rattle.url.specs.Parser.{Parsed, parse_url}
 use Rattle.url.specs.Parts.{Parts, nonempty_host, text_between}
 use Rattle.url.specs.declared.slicing.Position.TheVariants.{AfterScheme, BeforePath, AfterPath, AfterFragment}
+use Rattle.cargo_lock_parts.specs.Source.{Kind, Source, Registry, SparseRegistry}
 
 -- a text without this end, if it has it
 abbrev pub without_end : List ℕ → List ℕ → List ℕ
@@ -55,3 +56,18 @@ abbrev pub canonical : Parts → List ℕ
 canonical url = if is_at_github url
     then text_with_path (with_https url) (path_at_github url (with_https url))
     else text_with_path url (without_slash url.path)
+
+-- the URL of crates.io among the sources of a kind: its index in git, or its sparse one
+abbrev pub index_of_crates_io : Kind → Option (List ℕ)
+index_of_crates_io Registry = Some (codes "https://github.com/rust-lang/crates.io-index")
+index_of_crates_io SparseRegistry = Some (codes "https://index.crates.io/")
+index_of_crates_io other = None
+
+-- the text is this URL, if there is one
+abbrev pub is_text_of : Option (List ℕ) → List ℕ → Bool
+is_text_of None text = false
+is_text_of (Some url) text = bytes_eq text url
+
+-- Cargo takes the source for crates.io: its URL, as Cargo compares it, is that of an index
+abbrev pub is_canonically_crates_io : Source → Bool
+is_canonically_crates_io s = is_text_of (index_of_crates_io s.kind) (canonical s.url)
