@@ -8,7 +8,7 @@ use Rattle.std.proofs.lemmas.List.Folds.{list_any-append}
 use Rattle.semver.specs.Parse.{Parts}
 use Rattle.cargo_lock_parts.specs.Identity.{PackageData}
 use Rattle.cargo_lock_parts.specs.Source.{Source}
-use Rattle.cargo_lock_audit.specs.Advisory.{AdvisoryData, ConcernIsExact, Concerns, LiesIn, affects, concerns, is_about_crates, is_crates_io, is_of_collection}
+use Rattle.cargo_lock_audit.specs.Advisory.{AdvisoryData, ConcernIsExact, Concerns, LiesIn, affects, concerns, fits, is_about_crates, is_crates_io, is_of_collection, is_of_source}
 use Rattle.cargo_lock_audit.specs.Findings.{FindingData, FindingsAreExact, IgnoringLeavesOut, NoneIfUnconcerned, NoneWithoutCratesIo}
 use Rattle.cargo_lock_audit.specs.Findings.{finding_if, findings, findings_of, is_denied_kind, is_kept, is_listed, judged}
 use Rattle.cargo_lock_audit.specs.Pairs.{PairData, pair_if, pairs, pairs_of}
@@ -32,11 +32,11 @@ is-outside v rs h = ap not (none-any (lies_in v) rs
 
 -- ---- what an advisory is about
 
-source-is : (s : Option Source) → (is_none s || is_crates_io s) ≡ true → (s ≡ None) ⊎ (is_crates_io s ≡ true)
+source-is : (s : Option Source) → is_of_source s ≡ true → (s ≡ None) ⊎ (is_crates_io s ≡ true)
 source-is None e = inl refl
 source-is (Some s) e = inr e
 
-is-source : (s : Option Source) → (s ≡ None) ⊎ (is_crates_io s ≡ true) → (is_none s || is_crates_io s) ≡ true
+is-source : (s : Option Source) → (s ≡ None) ⊎ (is_crates_io s ≡ true) → is_of_source s ≡ true
 is-source None h = refl
 is-source (Some s) (inl e) = absurd (true≢false (ap is_some e))
 is-source (Some s) (inr e) = e
@@ -50,28 +50,7 @@ is-collection None h = refl
 is-collection (Some c) (inl e) = absurd (true≢false (ap is_some e))
 is-collection (Some c) (inr e) = (bytes_eq-Decides c (codes "crates")).1 (same_Some c (codes "crates") e)
 
--- ---- five tests
-
-record Five (a b c d e : Bool) : Type 0 where
-  one : a ≡ true
-  two : b ≡ true
-  three : c ≡ true
-  four : d ≡ true
-  five : e ≡ true
-
-all-five : (a b c d e : Bool) → (a && b && c && d && e) ≡ true → Five a b c d e
-all-five false b c d e h = absurd (true≢false (sym h))
-all-five true false c d e h = absurd (true≢false (sym h))
-all-five true true false d e h = absurd (true≢false (sym h))
-all-five true true true false e h = absurd (true≢false (sym h))
-all-five true true true true e h = record { one = refl; two = refl; three = refl; four = refl; five = h }
-
-five-all : (a b c d e : Bool) → Five a b c d e → (a && b && c && d && e) ≡ true
-five-all false b c d e h = h.one
-five-all true false c d e h = h.two
-five-all true true false d e h = h.three
-five-all true true true false e h = h.four
-five-all true true true true e h = h.five
+-- ---- two tests
 
 record Two (a b : Bool) : Type 0 where
   one : a ≡ true
@@ -89,30 +68,31 @@ pub concern-is-exact : ConcernIsExact
 concern-is-exact a p = (to, back)
   where
     to : concerns a p ≡ true → Concerns a p
-    to e = let h = all-five (is_crates_io p.source) (bytes_eq a.name p.name) (is_about_crates a) (not a.is_withdrawn) (affects a p.version) e in
-        let about = both (is_none a.source || is_crates_io a.source) (is_of_collection a.collection) h.three in
-        let off = both (not (list_any (lies_in p.version) a.patched)) (not (list_any (lies_in p.version) a.unaffected)) h.five in
+    to e = let h = both (fits a p) (is_about_crates a && is_crates_io p.source) e in
+        let named = both (bytes_eq a.name p.name) (not a.is_withdrawn && affects a p.version) h.one in
+        let stays = both (not a.is_withdrawn) (affects a p.version) named.two in
+        let of = both (is_about_crates a) (is_crates_io p.source) h.two in
+        let about = both (is_of_collection a.collection) (is_of_source a.source) of.one in
+        let off = both (not (list_any (lies_in p.version) a.patched)) (not (list_any (lies_in p.version) a.unaffected)) stays.two in
         record {
-          registry = h.one;
-          name = (bytes_eq-Decides a.name p.name).0 h.two;
-          source = source-is a.source about.one;
-          collection = collection-is a.collection about.two;
-          not_withdrawn = is-not a.is_withdrawn h.four;
+          registry = of.two;
+          name = (bytes_eq-Decides a.name p.name).0 named.one;
+          source = source-is a.source about.two;
+          collection = collection-is a.collection about.one;
+          not_withdrawn = is-not a.is_withdrawn stays.one;
           not_patched = outside p.version a.patched off.one;
           affected = outside p.version a.unaffected off.two;
         }
 
     back : Concerns a p → concerns a p ≡ true
-    back h = five-all (is_crates_io p.source) (bytes_eq a.name p.name) (is_about_crates a) (not a.is_withdrawn) (affects a p.version)
-        (record {
-          one = h.registry;
-          two = (bytes_eq-Decides a.name p.name).1 h.name;
-          three = and-both (is_none a.source || is_crates_io a.source) (is_of_collection a.collection)
-              (is-source a.source h.source) (is-collection a.collection h.collection);
-          four = ap not h.not_withdrawn;
-          five = and-both (not (list_any (lies_in p.version) a.patched)) (not (list_any (lies_in p.version) a.unaffected))
-              (is-outside p.version a.patched h.not_patched) (is-outside p.version a.unaffected h.affected);
-        })
+    back h = and-both (fits a p) (is_about_crates a && is_crates_io p.source)
+        (and-both (bytes_eq a.name p.name) (not a.is_withdrawn && affects a p.version) ((bytes_eq-Decides a.name p.name).1 h.name)
+        (and-both (not a.is_withdrawn) (affects a p.version) (ap not h.not_withdrawn)
+        (and-both (not (list_any (lies_in p.version) a.patched)) (not (list_any (lies_in p.version) a.unaffected))
+        (is-outside p.version a.patched h.not_patched) (is-outside p.version a.unaffected h.affected))))
+        (and-both (is_about_crates a) (is_crates_io p.source)
+        (and-both (is_of_collection a.collection) (is_of_source a.source) (is-collection a.collection h.collection) (is-source a.source h.source))
+        h.registry)
 
 -- ---- pairs and findings
 

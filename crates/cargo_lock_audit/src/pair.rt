@@ -33,13 +33,14 @@ pub fn pairs<'p, 'a>(
 {
     let mut pairs = Vec::new(alloc);
     for package in packages {
-        put_pairs(&mut pairs, package, advisories)?;
+        put_pairs(alloc, &mut pairs, package, advisories)?;
     }
     Ok(pairs)
 }
 
 // Adds the package with each advisory that concerns it.
 fn put_pairs<'p, 'a>(
+    alloc: Global,
     pairs: &mut Vec<Pair<'p, 'a>>,
     package: &'p Package,
     advisories: &'a [Advisory],
@@ -48,13 +49,14 @@ fn put_pairs<'p, 'a>(
         ≡ map pair_of pairs.old.items ++ pairs_of advisories.now «package».now) }
 {
     for advisory in advisories {
-        put_pair(pairs, package, advisory)?;
+        put_pair(alloc, pairs, package, advisory)?;
     }
     Ok(())
 }
 
 // Adds the package with the advisory if it concerns it.
 fn put_pair<'p, 'a>(
+    alloc: Global,
     pairs: &mut Vec<Pair<'p, 'a>>,
     package: &'p Package,
     advisory: &'a Advisory,
@@ -62,7 +64,7 @@ fn put_pair<'p, 'a>(
     ensures { OnOk result (map pair_of pairs.new.items
         ≡ map pair_of pairs.old.items ++ pair_if «package».now advisory.now) }
 {
-    if advisory.concerns(package) {
+    if advisory.concerns(alloc, package)? {
         pairs.push(Pair { package, advisory })?;
     }
     Ok(())
