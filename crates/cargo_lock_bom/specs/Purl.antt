@@ -12,7 +12,7 @@ use Rattle.cargo_lock_parts.specs.Identity.{Identity}
 use Rattle.cargo_lock_parts.specs.Source.{Kind, GitReference, Source, DefaultBranch, Tag, Branch}
 use Rattle.cargo_lock_parts.specs.Source.{Rev, Git, Path, Registry, SparseRegistry, LocalRegistry}
 use Rattle.cargo_lock_parts.specs.Source.{Directory}
-use Rattle.cargo_lock_parts.specs.SourceShown.{is_default_registry}
+use Rattle.cargo_lock_order.specs.Canonical.{is_canonically_crates_io}
 use Rattle.cargo_lock_bom.specs.UserInfo.{without_user_info}
 
 -- ---- escapes
@@ -72,7 +72,7 @@ qualifiers_by Directory url precise = codes "?repository_url=" ++ escaped_url ur
 -- without user name and password
 unfoldable pub qualifiers : Source → List ℕ
 qualifiers s =
-    if is_default_registry s then []
+    if is_canonically_crates_io s then []
     else qualifiers_by s.kind (serialize (without_user_info s.url)) s.precise
 
 -- ---- the URL

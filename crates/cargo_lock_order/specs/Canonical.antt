@@ -1,7 +1,7 @@
 -- The URL of a source in the form in which Cargo compares packages.
 -- The rule is that of Cargo's `src/cargo/util/canonical_url.rs`, measured on the lockfiles in
 -- `tests/cargo`, which Cargo 1.95.0 wrote.
-use Rattle.std.specs.Prelude.{◌++◌, ◌-◌, ℕ, nat_lt, Bool, false, if◌then◌else◌, List, length, map}
+use Rattle.std.specs.Prelude.{◌++◌, ◌-◌, ◌||◌, ℕ, nat_lt, Bool, false, if◌then◌else◌, List, length, map}
 use Rattle.std.specs.Prelude.{take, codes, bytes_eq, Option, None, Some, option_map, eqb, Ok, Err}
 use Rattle.std.specs.Char.{to_ascii_lowercase}
 use Rattle.std.specs.List.{ends_with}
@@ -10,6 +10,7 @@ use Rattle.url.specs.Parser.{Parsed, parse_url}
 use Rattle.url.specs.Parts.{Parts, nonempty_host, text_between}
 use Rattle.url.specs.declared.slicing.Position.TheVariants.{AfterScheme, BeforePath, AfterPath, AfterFragment}
 use Rattle.cargo_lock_parts.specs.Source.{Kind, Source, Registry, SparseRegistry}
+use Rattle.cargo_lock_parts.specs.SourceShown.{is_default_registry}
 
 -- a text without this end, if it has it
 abbrev pub without_end : List ℕ → List ℕ → List ℕ
@@ -68,6 +69,8 @@ abbrev pub is_text_of : Option (List ℕ) → List ℕ → Bool
 is_text_of None text = false
 is_text_of (Some url) text = bytes_eq text url
 
--- Cargo takes the source for crates.io: its URL, as Cargo compares it, is that of an index
+-- Cargo takes the source for crates.io: it is that as Cargo writes it, or its URL, as Cargo compares
+-- it, is that of an index
 abbrev pub is_canonically_crates_io : Source → Bool
-is_canonically_crates_io s = is_text_of (index_of_crates_io s.kind) (canonical s.url)
+is_canonically_crates_io s =
+    is_default_registry s || is_text_of (index_of_crates_io s.kind) (canonical s.url)

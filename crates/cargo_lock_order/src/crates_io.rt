@@ -1,13 +1,15 @@
 //! Which sources Cargo takes for crates.io.
 
-ghost use Rattle.std.specs.Prelude.{◌≡◌, IfOk, option_copied};
+ghost use Rattle.std.specs.Prelude.{◌≡◌, IfOk, bytes_eq, option_copied};
 ghost use Rattle.cargo_lock_parts.specs.Source.{kind_of};
+ghost use Rattle.cargo_lock_order.specs.Canonical.{canonical};
 ghost use Rattle.cargo_lock_order.specs.Canonical as spec;
 
 use crate::canonical::canonical;
 use cargo_lock_parts::package::SourceId;
 use cargo_lock_parts::package::source::SourceKind;
 use std::alloc::{AllocError, Global};
+use url::Url;
 
 /// Whether Cargo takes the source for crates.io: it is a registry whose URL is that of the index of
 /// crates.io, in git or sparse, as Cargo compares URLs. So `http`, `git` and `ssh` at github.com
@@ -29,13 +31,21 @@ use std::alloc::{AllocError, Global};
 pub fn is_canonically_crates_io(alloc: Global, source: &SourceId) -> Result<bool, AllocError>
     ensures { IfOk result (λ is_it. is_it ≡ spec.is_canonically_crates_io source.now) }
 {
+    if source.is_default_registry() {
+        return Ok(true);
+    }
     match index_of(source.kind()) {
-        Some(index) => {
-            let text = canonical(alloc, source.url())?;
-            Ok(text.as_slice() == index.as_bytes())
-        }
+        Some(index) => is_canonically(alloc, source.url(), index),
         None => Ok(false),
     }
+}
+
+// Whether this is the text of the URL as Cargo compares it.
+fn is_canonically(alloc: Global, url: &Url, text: &str) -> Result<bool, AllocError>
+    ensures { IfOk result (λ is_it. is_it ≡ bytes_eq (canonical url.now) text.now) }
+{
+    let found = canonical(alloc, url)?;
+    Ok(found.as_slice() == text.as_bytes())
 }
 
 // The URL of crates.io among the sources of this kind.
