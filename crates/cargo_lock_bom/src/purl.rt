@@ -29,10 +29,11 @@ const SEGMENT: AsciiSet = ascii_set!(
 pub(crate) const VALUE: AsciiSet = ascii_set!(SEGMENT.remove(b'/'));
 
 /// The package URL of a package: `pkg:cargo/serde@1.0.203`. After `?` it says where the package
-/// comes from, unless Cargo takes that for crates.io: `vcs_url=git%2Bhttps://example.org/lib%40COMMIT` for a
-/// repository, with the commit, or else the tag, the branch or the revision, `repository_url=URL`
-/// for another registry, and `download_url=URL` for a folder. The URL is written without user name
-/// and password, since a bill is published.
+/// comes from, unless Cargo takes that for crates.io:
+/// `vcs_url=git%2Bhttps://example.org/lib%40COMMIT` for a repository, with the commit, or else the
+/// tag, the branch or the revision, `repository_url=URL` for another registry, and
+/// `download_url=URL` for a folder. The URL is written without user name and password, since a bill
+/// is published.
 ///
 /// A package without a source has no package URL: `pkg:cargo/NAME@VERSION` is the package of
 /// crates.io, a different package. Fails when out of memory.
