@@ -145,5 +145,3 @@ impl fmt::Display for Signed<'_> {
         Ok(())
     }
 }
-
-

@@ -11,8 +11,8 @@ begins-append : (schema : List ℕ) (f : FileData) (more rest : List Token)
     → document_begins schema f more ++ rest ≡ document_begins schema f (more ++ rest)
 begins-append schema f more rest =
     ap (λ l. begin_object ∷ key (codes "schema") ∷ string schema ∷ key (codes "path") ∷ l)
-        (append_assoc (json_tokens (text_or_null f.path))
-        (key (codes "format") ∷ number (decimal (number_of f.format)) ∷ more) rest)
+    (append_assoc (json_tokens (text_or_null f.path))
+    (key (codes "format") ∷ number (decimal (number_of f.format)) ∷ more) rest)
 
 -- the beginning, and a piece behind it, where the call that adds the second may fail
 pub begins : {E F : Type 0} {u : Unit {0}} {r : Result (Unit {0}) F} {a b c more rest : List Token}

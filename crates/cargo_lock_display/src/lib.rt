@@ -9,8 +9,11 @@ pub mod package_json;
 pub mod source_json;
 
 pub use crate::file::{File, begin_document, put_file};
-pub use crate::line::{ChecksumText, DependencyText, NameVersion, PackageText, ReplacementText};
-pub use crate::line::{SourceBehind, SourceText};
-pub use crate::package_json::{begin_identity, put_dependency, put_package};
-pub use crate::package_json::{put_package_or_null, put_packages};
+pub use crate::line::{
+    ChecksumText, DependencyText, NameVersion, PackageText, ReplacementText, SourceBehind,
+    SourceText,
+};
+pub use crate::package_json::{
+    begin_identity, put_dependency, put_package, put_package_or_null, put_packages,
+};
 pub use crate::source_json::put_origin;

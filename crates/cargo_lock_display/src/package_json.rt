@@ -47,11 +47,7 @@ pub fn put_package(out: &mut Text, alloc: Global, package: &Package) -> Result<(
 }
 
 /// Writes the array of packages. Fails when out of memory.
-pub fn put_packages(
-    out: &mut Text,
-    alloc: Global,
-    packages: &[&Package],
-) -> Result<(), AllocError>
+pub fn put_packages(out: &mut Text, alloc: Global, packages: &[&Package]) -> Result<(), AllocError>
     ensures { Adds result out.old out.new
         (json_tokens (packages_json (map (λ p. p.now) packages.now))) }
 {
