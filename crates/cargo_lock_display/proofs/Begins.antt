@@ -15,13 +15,13 @@ begins-append schema f more rest =
     (key (codes "format") ∷ number (decimal (number_of f.format)) ∷ more) rest)
 
 -- the beginning, and a piece behind it, where the call that adds the second may fail
-pub begins : {E F : Type 0} {u : Unit {0}} {r : Result (Unit {0}) F} {a b c more rest : List Token}
-    (schema : List ℕ) (f : FileData)
+pub begins : {E F : Type 0} {u : Unit {0}} {r : Result (Unit {0}) F} {a b c rest : List Token}
+    (schema : List ℕ) (f : FileData) (more : List Token)
     → Adds {E = E} (Ok u) a b (document_begins schema f more) → Adds r b c rest
     → Adds r a c (document_begins schema f (more ++ rest))
-begins {r = Ok v} {a} {b} {c} {more} {rest} schema f first second = record {
+begins {r = Ok v} {a} {b} {c} {rest} schema f more first second = record {
   is = second.is ∙ ap (λ l. l ++ rest) first.is
       ∙ append_assoc a (document_begins schema f more) rest
       ∙ ap (λ l. a ++ l) (begins-append schema f more rest);
 }
-begins {r = Err e} schema f first second = record { is = tt }
+begins {r = Err e} schema f more first second = record { is = tt }

@@ -6,5 +6,5 @@ use Rattle.cargo_lock_ask.proofs.duplicates_document.put_groups.Goals as goal
 
 pub returns : goal.returns
 unfolding groups_json
-returns c = begins (codes "cargo-lock-duplicates/1") c.args.file.now c.in_ok-begin_document.ensures
+returns c = begins (codes "cargo-lock-duplicates/1") c.args.file.now _ c.in_ok-begin_document.ensures
     (then c.in_ok-key.ensures (then c.in_ok-put_array.ensures c.end_object.ensures))

@@ -7,6 +7,6 @@ use Rattle.cargo_lock_json.proofs.document.put_lockfile.Goals as goal
 pub returns : goal.returns
 unfolding lockfile_json
 returns c = rw (sym c.lockfile.view_is)
-    (begins (codes "cargo-lock-lockfile/1") c.args.file.now c.in_ok-begin_document.ensures
+    (begins (codes "cargo-lock-lockfile/1") c.args.file.now _ c.in_ok-begin_document.ensures
     (then c.in_ok-put_packages.ensures (then c.in_ok-put_root.ensures
     (then c.in_ok-put_metadata.ensures (then c.in_ok-put_patch.ensures c.end_object.ensures)))))
