@@ -2,21 +2,21 @@
 -- lockfile on standard input.
 use Rattle.std.specs.Prelude.{◌≡◌, ◌≢◌, ◌++◌, ◌∷◌, ℕ, Bool, List, [], None, length}
 use Rattle.cargo_lock.specs.CargoChecksums.{with_cargo_checksums_in}
-use Rattle.cargo_lock_ask.specs.Answers.{AreAnswers}
-use Rattle.cargo_lock_ask.specs.Lines.{AnswerData}
-use Rattle.cargo_lock_ask.specs.Places.{IsPlaces}
-use Rattle.cargo_lock_ask.specs.Spec.{Fits}
-use Rattle.cargo_lock_ask.specs.Tally.{AreGroupsOf, GroupData}
+use Rattle.cargo_lock_query.specs.Answers.{AreAnswers}
+use Rattle.cargo_lock_query.specs.Lines.{AnswerData}
+use Rattle.cargo_lock_query.specs.Places.{IsPlaces}
+use Rattle.cargo_lock_query.specs.Spec.{Fits}
+use Rattle.cargo_lock_query.specs.Tally.{AreGroupsOf, GroupData}
 use Rattle.cargo_lock_parts.specs.Ascii.{newline}
 use Rattle.cargo_lock_graph.specs.Edges.{GraphData}
 use Rattle.cargo_lock_graph.specs.Targets.{AreEdgesOf}
 use Rattle.cargo_lock_json.specs.Document.{IsDocumentOf}
 use Rattle.cargo_lock_encoding.specs.Lockfiles.{LockfileData}
 use Rattle.cargo_lock_encoding.specs.Means.{TextMeans}
-use Rattle.cargo_lock_ask.specs.DuplicatesDocument.{groups_json}
+use Rattle.cargo_lock_query.specs.DuplicatesDocument.{groups_json}
 use Rattle.cargo_lock_display.specs.File.{FileData}
 use Rattle.json_line.specs.Text.{IsJsonText}
-use Rattle.cargo_lock_ask.specs.WhyDocument.{answers_json}
+use Rattle.cargo_lock_query.specs.WhyDocument.{answers_json}
 
 -- the lockfile as a document has it, without a path
 abbrev pub file_of : LockfileData → FileData

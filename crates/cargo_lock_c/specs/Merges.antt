@@ -13,8 +13,8 @@ use Rattle.cargo_lock_merge.specs.declared.lockfiles.LockfileMerge.TheVariants a
 use Rattle.cargo_lock_merge.specs.declared.lockfiles.MergeError.{MergeError}
 use Rattle.cargo_lock_merge.specs.declared.lockfiles.MergeError.TheVariants as error
 use Rattle.cargo_lock_merge.specs.declared.moved.Moved.{Moved as Reference}
-use Rattle.cargo_lock_merging.specs.declared.triple.Role.{Role}
-use Rattle.cargo_lock_merging.specs.declared.triple.Role.TheVariants.{Base, Ours, Theirs}
+use Rattle.cargo_lock_merge_core.specs.declared.triple.Role.{Role}
+use Rattle.cargo_lock_merge_core.specs.declared.triple.Role.TheVariants.{Base, Ours, Theirs}
 use Rattle.cargo_lock_parts.specs.Ascii.{newline}
 use Rattle.cargo_lock_c.specs.declared.merge.Ending.{Ending}
 use Rattle.cargo_lock_c.specs.declared.merge.Ending.TheVariants.{InConflict, Merged, Refused}

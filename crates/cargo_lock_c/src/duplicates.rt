@@ -1,8 +1,8 @@
 //! The names that several packages of a lockfile have, as a document of JSON.
 
 ghost use Rattle.std.specs.Prelude.{◌≡◌, ◌≤◌, ◌⊎◌, IfErr, IfOk, map, string_bytes};
-ghost use Rattle.cargo_lock_ask.specs.Tally.{group_of};
-ghost use Rattle.cargo_lock_ask.specs.DuplicatesDocument.{groups_json};
+ghost use Rattle.cargo_lock_query.specs.Tally.{group_of};
+ghost use Rattle.cargo_lock_query.specs.DuplicatesDocument.{groups_json};
 ghost use Rattle.json_line.specs.Text.{IsJsonText};
 ghost use Rattle.cargo_lock_c.specs.declared.refusal.Refusal.TheVariants.{NoMemory};
 ghost use Rattle.cargo_lock_c.specs.Answers.{IsHandedOut};
@@ -18,7 +18,7 @@ use crate::refusal::Refusal;
 use crate::tree::tree_of;
 use cargo_lock::Lockfile;
 use cargo_lock::dependency::graph::Graph;
-use cargo_lock_ask::{Listing, groups_json};
+use cargo_lock_query::{Listing, groups_json};
 use std::alloc::Global;
 
 /// The names that several packages of the lockfile of a text have, with these packages and what

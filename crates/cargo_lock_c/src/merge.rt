@@ -12,7 +12,7 @@ use crate::refusal::{DONE, Refusal};
 use crate::three::{Three, read_three};
 use cargo_lock_merge::lockfiles::{LockfileMerge, MergeError, merge_lockfiles};
 use cargo_lock_merge::moved::Moved;
-use cargo_lock_merging::triple::Role;
+use cargo_lock_merge_core::triple::Role;
 use std::alloc::Global;
 
 /// What is asked of a merge.

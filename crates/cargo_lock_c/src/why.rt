@@ -2,10 +2,10 @@
 
 ghost use Rattle.std.specs.Prelude.{◌≡◌, ◌≤◌, ◌↔◌, ◌⊎◌, ℕ, IfErr, IfOk, map, string_bytes};
 ghost use Rattle.std.specs.Str.{IsUtf8};
-ghost use Rattle.cargo_lock_ask.specs.Lines.{answer_of};
-ghost use Rattle.cargo_lock_ask.specs.Spec.{Fits};
+ghost use Rattle.cargo_lock_query.specs.Lines.{answer_of};
+ghost use Rattle.cargo_lock_query.specs.Spec.{Fits};
 ghost use Rattle.json_line.specs.Text.{IsJsonText};
-ghost use Rattle.cargo_lock_ask.specs.WhyDocument.{answers_json};
+ghost use Rattle.cargo_lock_query.specs.WhyDocument.{answers_json};
 ghost use Rattle.cargo_lock_c.specs.declared.refusal.Refusal.TheVariants.{NoMemory, NothingFits};
 ghost use Rattle.cargo_lock_c.specs.Answers.{IsHandedOut};
 ghost use Rattle.cargo_lock_c.specs.Documents.{FitsNone, IsLine, IsWhyOf, IsWhyText, file_of};
@@ -20,7 +20,7 @@ use crate::refusal::Refusal;
 use crate::tree::tree_of;
 use cargo_lock::Lockfile;
 use cargo_lock::dependency::graph::Graph;
-use cargo_lock_ask::{Answers, answers_json, fitting};
+use cargo_lock_query::{Answers, answers_json, fitting};
 use std::alloc::Global;
 use std::str;
 

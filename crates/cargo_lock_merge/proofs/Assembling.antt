@@ -8,16 +8,16 @@ use Rattle.std.proofs.lemmas.List.Sorted.{IsPermutation-keeps, IsPermutation-ref
 use Rattle.std.proofs.lemmas.Slice.Zip.{AllZip-long}
 use Rattle.std.proofs.lemmas.Option.{get_or_from_slice_get, slice_get_within}
 use Rattle.cargo_lock_parts.specs.Identity.{Identity, PackageData, identity_of}
-use Rattle.cargo_lock_merging.specs.declared.merged.Merged.{Merged}
-use Rattle.cargo_lock_merging.specs.Assembled.{IsIdentityAt}
-use Rattle.cargo_lock_merging.specs.Merged.{merged_data}
-use Rattle.cargo_lock_merging.specs.Numbered.{places_of}
-use Rattle.cargo_lock_merging.specs.Placed.{HasAt, PlacedData}
-use Rattle.cargo_lock_merging.proofs.Members.{in-map, map-in}
-use Rattle.cargo_lock_merging.proofs.Once.{one-at}
-use Rattle.cargo_lock_merging.proofs.Planning.{map-push}
+use Rattle.cargo_lock_merge_core.specs.declared.merged.Merged.{Merged}
+use Rattle.cargo_lock_merge_core.specs.Assembled.{IsIdentityAt}
+use Rattle.cargo_lock_merge_core.specs.Merged.{merged_data}
+use Rattle.cargo_lock_merge_core.specs.Numbered.{places_of}
+use Rattle.cargo_lock_merge_core.specs.Placed.{HasAt, PlacedData}
+use Rattle.cargo_lock_merge_core.proofs.Members.{in-map, map-in}
+use Rattle.cargo_lock_merge_core.proofs.Once.{one-at}
+use Rattle.cargo_lock_merge_core.proofs.Planning.{map-push}
 use Rattle.cargo_lock_graph.proofs.Zipped.{zip-push}
-use Rattle.cargo_lock_merging.specs.Kept.{merged_places}
+use Rattle.cargo_lock_merge_core.specs.Kept.{merged_places}
 
 -- no merged package is at a place that is none of theirs
 pub none-at : (ms : List Merged) (n : ℕ) → ¬ Contains (merged_places ms) n → (y : PlacedData ℕ) → ¬ HasAt (map merged_data ms) n y

@@ -5,22 +5,22 @@ use Rattle.std.proofs.lemmas.List.Elements.{Contains-get_or}
 use Rattle.std.proofs.lemmas.Option.{same_Some}
 use Rattle.std.proofs.lemmas.Simd.{map-map}
 use Rattle.cargo_lock_parts.specs.Identity.{PackageData}
-use Rattle.cargo_lock_merging.specs.declared.conflicts.Kind.{Kind}
-use Rattle.cargo_lock_merging.specs.declared.conflicts.Kind.TheVariants.{Checksum, Package, Replacement}
-use Rattle.cargo_lock_merging.specs.ByPlaces.{IsMovedBetween}
-use Rattle.cargo_lock_merging.specs.Commits.{Lockfiles}
-use Rattle.cargo_lock_merging.specs.Conflicts.{conflict_of}
-use Rattle.cargo_lock_merging.specs.Lists.{IsNumber, place_at}
-use Rattle.cargo_lock_merging.specs.Merge.{ConflictData, IsConflict, IsMovedReference, Triple}
-use Rattle.cargo_lock_merging.specs.Moved.{IsMoved}
-use Rattle.cargo_lock_merging.specs.Placed.{PlacedData}
-use Rattle.cargo_lock_merging.specs.Places.{Place}
-use Rattle.cargo_lock_merging.specs.Renaming.{rename_conflict, rename_triple}
-use Rattle.cargo_lock_merging.proofs.Assembling.{IsAssembledMerge, assembled-at, used-number}
-use Rattle.cargo_lock_merging.proofs.Backwards.{conflict-one, conflicts-of-places, no-merge-of-places}
-use Rattle.cargo_lock_merging.proofs.ByPlaces.{commits-placed, conflict-placed, merged-number, moved-back, moved-placed, pairs-mapped}
-use Rattle.cargo_lock_merging.proofs.Members.{first-in, in-map, later-in, map-in}
-use Rattle.cargo_lock_merging.proofs.Slotting.{numbers-one}
+use Rattle.cargo_lock_merge_core.specs.declared.conflicts.Kind.{Kind}
+use Rattle.cargo_lock_merge_core.specs.declared.conflicts.Kind.TheVariants.{Checksum, Package, Replacement}
+use Rattle.cargo_lock_merge_core.specs.ByPlaces.{IsMovedBetween}
+use Rattle.cargo_lock_merge_core.specs.Commits.{Lockfiles}
+use Rattle.cargo_lock_merge_core.specs.Conflicts.{conflict_of}
+use Rattle.cargo_lock_merge_core.specs.Lists.{IsNumber, place_at}
+use Rattle.cargo_lock_merge_core.specs.Merge.{ConflictData, IsConflict, IsMovedReference, Triple}
+use Rattle.cargo_lock_merge_core.specs.Moved.{IsMoved}
+use Rattle.cargo_lock_merge_core.specs.Placed.{PlacedData}
+use Rattle.cargo_lock_merge_core.specs.Places.{Place}
+use Rattle.cargo_lock_merge_core.specs.Renaming.{rename_conflict, rename_triple}
+use Rattle.cargo_lock_merge_core.proofs.Assembling.{IsAssembledMerge, assembled-at, used-number}
+use Rattle.cargo_lock_merge_core.proofs.Backwards.{conflict-one, conflicts-of-places, no-merge-of-places}
+use Rattle.cargo_lock_merge_core.proofs.ByPlaces.{commits-placed, conflict-placed, merged-number, moved-back, moved-placed, pairs-mapped}
+use Rattle.cargo_lock_merge_core.proofs.Members.{first-in, in-map, later-in, map-in}
+use Rattle.cargo_lock_merge_core.proofs.Slotting.{numbers-one}
 use Rattle.cargo_lock_merge.specs.declared.conflict.Conflict.{Conflict}
 use Rattle.cargo_lock_merge.specs.declared.conflict.Conflict.TheVariants.{AtPlace, OfSource}
 use Rattle.cargo_lock_merge.specs.declared.lockfiles.LockfileMerge.{LockfileMerge}

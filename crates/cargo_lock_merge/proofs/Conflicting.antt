@@ -7,17 +7,17 @@ use Rattle.std.proofs.lemmas.List.Elements.{All-append, All-map, Contains-append
 use Rattle.std.proofs.lemmas.List.Sorted.{All-permutation, Contains-permutation, IsPermutation-sym}
 use Rattle.std.proofs.lemmas.Simd.{map-map}
 use Rattle.cargo_lock_parts.specs.SourceKey.{Key}
-use Rattle.cargo_lock_merging.specs.declared.commits.SourceCommits.{SourceCommits}
-use Rattle.cargo_lock_merging.specs.declared.conflicts.Conflict as merging
-use Rattle.cargo_lock_merging.specs.declared.conflicts.Kind.{Kind}
-use Rattle.cargo_lock_merging.specs.declared.conflicts.Kind.TheVariants.{Checksum, Package, Replacement}
-use Rattle.cargo_lock_merging.specs.Conflicts.{AreConflicts, IsConflictAt, conflict_of, conflict_places}
-use Rattle.cargo_lock_merging.specs.Disputes.{AreDisputes, AreInDispute, HasCommits, source_key}
-use Rattle.cargo_lock_merging.specs.Merge.{ConflictData, IsConflict, OfChecksum, OfPackage, OfReplacement, OfSource, Triple, lockfiles_of}
-use Rattle.cargo_lock_merging.proofs.Ascending.{far-below}
-use Rattle.cargo_lock_merging.proofs.Members.{in-map, map-in}
-use Rattle.cargo_lock_merging.proofs.Moving.{map-append, pairs-append}
-use Rattle.cargo_lock_merging.proofs.Permuting.{map-permuted, pairs-permuted}
+use Rattle.cargo_lock_merge_core.specs.declared.commits.SourceCommits.{SourceCommits}
+use Rattle.cargo_lock_merge_core.specs.declared.conflicts.Conflict as merging
+use Rattle.cargo_lock_merge_core.specs.declared.conflicts.Kind.{Kind}
+use Rattle.cargo_lock_merge_core.specs.declared.conflicts.Kind.TheVariants.{Checksum, Package, Replacement}
+use Rattle.cargo_lock_merge_core.specs.Conflicts.{AreConflicts, IsConflictAt, conflict_of, conflict_places}
+use Rattle.cargo_lock_merge_core.specs.Disputes.{AreDisputes, AreInDispute, HasCommits, source_key}
+use Rattle.cargo_lock_merge_core.specs.Merge.{ConflictData, IsConflict, OfChecksum, OfPackage, OfReplacement, OfSource, Triple, lockfiles_of}
+use Rattle.cargo_lock_merge_core.proofs.Ascending.{far-below}
+use Rattle.cargo_lock_merge_core.proofs.Members.{in-map, map-in}
+use Rattle.cargo_lock_merge_core.proofs.Moving.{map-append, pairs-append}
+use Rattle.cargo_lock_merge_core.proofs.Permuting.{map-permuted, pairs-permuted}
 use Rattle.cargo_lock_merge.specs.declared.conflict.Conflict.{Conflict}
 use Rattle.cargo_lock_merge.specs.declared.conflict.Conflict.TheVariants as variant
 use Rattle.cargo_lock_merge.specs.Conflict.{AreConflictsAtPlaces, AreConflictsOf, HasSubject, IsAtPlace, subject_at, subject_of}

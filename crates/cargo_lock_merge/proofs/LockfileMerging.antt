@@ -17,7 +17,7 @@ use Rattle.cargo_lock.proofs.PrintedTexts.{text-means-one}
 use Rattle.cargo_lock.specs.CargoChecksums.{with_cargo_checksums_in}
 use Rattle.cargo_lock_encoding.specs.Lockfiles.{LockfileData}
 use Rattle.cargo_lock_encoding.specs.Means.{TextMeans}
-use Rattle.cargo_lock_merging.specs.Commits.{Lockfiles}
+use Rattle.cargo_lock_merge_core.specs.Commits.{Lockfiles}
 use Rattle.cargo_lock_merge.specs.MergedLockfiles.{AreConflictingPackages, HaveNoRoots, IsMergedLockfile, IsMetadataMergeOf, IsRestOf, IsSameLockfile, IsUnread, LockfileTriple, TextIsOf, is_same_but_metadata, lockfile_of, packages_of}
 use Rattle.cargo_lock_merge.proofs.Once.{referring-once}
 use Rattle.cargo_lock_merge.proofs.Sorting.{referring-in-order}
@@ -30,8 +30,8 @@ use Rattle.cargo_lock_merge.specs.declared.lockfiles.Rest.{Rest}
 use Rattle.cargo_lock_merge.specs.OwnMetadata.{AreMetadataConflicts, AreMetadataOf, IsConflictAt, IsMergedAt, own_metadata, value_at}
 use Rattle.cargo_lock_merge.specs.declared.metadata.MetadataConflict.{MetadataConflict}
 use Rattle.cargo_lock_merge.specs.declared.metadata.MetadataMerge.{MetadataMerge}
-use Rattle.cargo_lock_merging.proofs.Agreeing.{agreed-apart}
-use Rattle.cargo_lock_merging.specs.Rule3.{IsAgreed}
+use Rattle.cargo_lock_merge_core.proofs.Agreeing.{agreed-apart}
+use Rattle.cargo_lock_merge_core.specs.Rule3.{IsAgreed}
 use Rattle.cargo_lock_parts.specs.Error.{IsLong, RefusesUrls}
 use Rattle.cargo_lock_parts.specs.Identity.{PackageData, identity_key, package_key}
 use Rattle.cargo_lock_parts.specs.IdentityLaws.{is_same_identity-Decides, is_same_package-Decides}

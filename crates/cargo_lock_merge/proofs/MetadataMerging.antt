@@ -15,8 +15,8 @@ use Rattle.cargo_lock_merge.specs.OwnMetadata.{ChangesAt, IsMergedAt, IsMergedKe
 use Rattle.cargo_lock_merge.specs.declared.metadata.MetadataConflict.{MetadataConflict}
 use Rattle.cargo_lock_merge.specs.declared.metadata.MetadataMerge.{MetadataMerge}
 use Rattle.cargo_lock_merge.specs.declared.metadata.MetadataSides.{MetadataSides}
-use Rattle.cargo_lock_merging.proofs.Agreeing.{agreed-apart, agreed-once}
-use Rattle.cargo_lock_merging.specs.Rule3.{IsAgreed, IsInConflict}
+use Rattle.cargo_lock_merge_core.proofs.Agreeing.{agreed-apart, agreed-once}
+use Rattle.cargo_lock_merge_core.specs.Rule3.{IsAgreed, IsInConflict}
 use Rattle.cargo_lock_parts.specs.Identity.{PackageData}
 use Rattle.cargo_lock_parts.specs.Source.{Source}
 use Rattle.cargo_lock_encoding.specs.Lockfiles.{LockfileData}

@@ -12,12 +12,12 @@ use Rattle.std.proofs.lemmas.Option.{slice_get_within}
 use Rattle.std.proofs.lemmas.Simd.{map-map}
 use Rattle.cargo_lock_parts.specs.Identity.{HasNameAndVersion, Identity, PackageData, identity_of}
 use Rattle.cargo_lock_graph.specs.Targets.{HoldsOf, IsLastBelow}
-use Rattle.cargo_lock_merging.specs.declared.moved.Moved as merging
-use Rattle.cargo_lock_merging.specs.Moved.{AreMoved, IsBefore, IsMoved, places_of_moved}
-use Rattle.cargo_lock_merging.specs.Placed.{PlacedData}
-use Rattle.cargo_lock_merging.proofs.Members.{in-map}
-use Rattle.cargo_lock_merging.proofs.Permuting.{map-permuted, pairs-permuted}
-use Rattle.cargo_lock_merging.proofs.Planning.{all-in}
+use Rattle.cargo_lock_merge_core.specs.declared.moved.Moved as merging
+use Rattle.cargo_lock_merge_core.specs.Moved.{AreMoved, IsBefore, IsMoved, places_of_moved}
+use Rattle.cargo_lock_merge_core.specs.Placed.{PlacedData}
+use Rattle.cargo_lock_merge_core.proofs.Members.{in-map}
+use Rattle.cargo_lock_merge_core.proofs.Permuting.{map-permuted, pairs-permuted}
+use Rattle.cargo_lock_merge_core.proofs.Planning.{all-in}
 use Rattle.cargo_lock_merge.specs.declared.moved.Moved.{Moved}
 use Rattle.cargo_lock_merge.specs.declared.moved.Named.{Named}
 use Rattle.cargo_lock_merge.specs.Order.{moved_order}

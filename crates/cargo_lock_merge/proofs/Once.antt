@@ -8,17 +8,17 @@ use Rattle.std.proofs.lemmas.Slice.Zip.{AllZip-long}
 use Rattle.cargo_lock.specs.CargoChecksums.{unpinned}
 use Rattle.cargo_lock_parts.specs.Identity.{Identity, PackageData, identity_of}
 use Rattle.cargo_lock_parts.specs.Source.{Source}
-use Rattle.cargo_lock_merging.specs.Assembled.{AreSides, IsIdentityAt}
-use Rattle.cargo_lock_merging.specs.Commits.{Lockfiles, key_without_commit}
-use Rattle.cargo_lock_merging.specs.Lists.{place_at}
-use Rattle.cargo_lock_merging.specs.Merge.{IsMerge, Triple}
-use Rattle.cargo_lock_merging.specs.Placed.{HasAt, PlacedData}
-use Rattle.cargo_lock_merging.specs.Places.{Place, place_of}
-use Rattle.cargo_lock_merging.proofs.Assembling.{merged-place}
-use Rattle.cargo_lock_merging.proofs.ByPlaces.{merged-number}
-use Rattle.cargo_lock_merging.proofs.Kept.{AreKept, kept-pass, kept-push, kept-start}
-use Rattle.cargo_lock_merging.proofs.Permuting.{pairs-permuted}
-use Rattle.cargo_lock_merging.proofs.Slotting.{numbers-one, place-stated}
+use Rattle.cargo_lock_merge_core.specs.Assembled.{AreSides, IsIdentityAt}
+use Rattle.cargo_lock_merge_core.specs.Commits.{Lockfiles, key_without_commit}
+use Rattle.cargo_lock_merge_core.specs.Lists.{place_at}
+use Rattle.cargo_lock_merge_core.specs.Merge.{IsMerge, Triple}
+use Rattle.cargo_lock_merge_core.specs.Placed.{HasAt, PlacedData}
+use Rattle.cargo_lock_merge_core.specs.Places.{Place, place_of}
+use Rattle.cargo_lock_merge_core.proofs.Assembling.{merged-place}
+use Rattle.cargo_lock_merge_core.proofs.ByPlaces.{merged-number}
+use Rattle.cargo_lock_merge_core.proofs.Kept.{AreKept, kept-pass, kept-push, kept-start}
+use Rattle.cargo_lock_merge_core.proofs.Permuting.{pairs-permuted}
+use Rattle.cargo_lock_merge_core.proofs.Slotting.{numbers-one, place-stated}
 use Rattle.cargo_lock_graph.proofs.Zipped.{zip-push}
 use Rattle.cargo_lock_merge.specs.Once.{AreApart, DependsApart, HasEachOnce, ReferToOne}
 use Rattle.cargo_lock_merge.specs.Referring.{IsReferenceTo, IsReferring}

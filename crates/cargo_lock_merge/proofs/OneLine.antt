@@ -6,11 +6,11 @@ use Rattle.shown.proofs.Printable.{Prints, either_text, empty, join, literal, sh
 use Rattle.cargo_lock_parts.specs.Identity.{Identity, PackageData, identity_of}
 use Rattle.cargo_lock_parts.specs.IdentityOrder.{is_same_identity}
 use Rattle.cargo_lock_parts.specs.Source.{Branch, DefaultBranch, Directory, Git, GitReference, Kind, LocalRegistry, Path, Registry, Rev, Source, SparseRegistry, Tag, is_git}
-use Rattle.cargo_lock_merging.specs.declared.moved.Reference.{Reference}
-use Rattle.cargo_lock_merging.specs.declared.refusal.Refusal.{Refusal}
-use Rattle.cargo_lock_merging.specs.declared.refusal.Refusal.TheVariants.{Lost, OnePlace, TwoCommits, Unreplaced}
-use Rattle.cargo_lock_merging.specs.declared.triple.Role.{Role}
-use Rattle.cargo_lock_merging.specs.declared.triple.Role.TheVariants as role
+use Rattle.cargo_lock_merge_core.specs.declared.moved.Reference.{Reference}
+use Rattle.cargo_lock_merge_core.specs.declared.refusal.Refusal.{Refusal}
+use Rattle.cargo_lock_merge_core.specs.declared.refusal.Refusal.TheVariants.{Lost, OnePlace, TwoCommits, Unreplaced}
+use Rattle.cargo_lock_merge_core.specs.declared.triple.Role.{Role}
+use Rattle.cargo_lock_merge_core.specs.declared.triple.Role.TheVariants as role
 use Rattle.cargo_lock_merge.specs.declared.conflict.Conflict.{Conflict}
 use Rattle.cargo_lock_merge.specs.declared.conflict.Conflict.TheVariants.{AtPlace, OfSource}
 use Rattle.cargo_lock_merge.specs.declared.conflict.Subject.{Subject}

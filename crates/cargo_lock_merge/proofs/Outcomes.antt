@@ -5,18 +5,18 @@ use Rattle.std.specs.List.Sorted.{IsPermutation}
 use Rattle.std.proofs.lemmas.List.Sorted.{Contains-permutation}
 use Rattle.std.proofs.lemmas.Option.{same_Some}
 use Rattle.cargo_lock_parts.specs.Identity.{Identity, PackageData}
-use Rattle.cargo_lock_merging.specs.declared.plan.Plan.{Plan}
-use Rattle.cargo_lock_merging.specs.Assembled.{IsAssembled, IsIdentityAt, IsIdentityAtIf}
-use Rattle.cargo_lock_merging.specs.Commits.{Lockfiles}
-use Rattle.cargo_lock_merging.specs.Merge.{AreInConflict, IsMerge, Triple}
-use Rattle.cargo_lock_merging.specs.Merged.{HasPlan}
-use Rattle.cargo_lock_merging.specs.Placed.{PlacedData}
-use Rattle.cargo_lock_merging.specs.Moved.{AreListed}
-use Rattle.cargo_lock_merging.specs.Plans.{IsNumbered, IsPlan}
-use Rattle.cargo_lock_merging.specs.Triples.{AreSidesOf}
-use Rattle.cargo_lock_merging.proofs.Assembling.{assembled-merge, list-closed, list-numbered}
-use Rattle.cargo_lock_merging.proofs.Members.{none-in}
-use Rattle.cargo_lock_merging.proofs.Zipping.{zip-left, zip-right}
+use Rattle.cargo_lock_merge_core.specs.declared.plan.Plan.{Plan}
+use Rattle.cargo_lock_merge_core.specs.Assembled.{IsAssembled, IsIdentityAt, IsIdentityAtIf}
+use Rattle.cargo_lock_merge_core.specs.Commits.{Lockfiles}
+use Rattle.cargo_lock_merge_core.specs.Merge.{AreInConflict, IsMerge, Triple}
+use Rattle.cargo_lock_merge_core.specs.Merged.{HasPlan}
+use Rattle.cargo_lock_merge_core.specs.Placed.{PlacedData}
+use Rattle.cargo_lock_merge_core.specs.Moved.{AreListed}
+use Rattle.cargo_lock_merge_core.specs.Plans.{IsNumbered, IsPlan}
+use Rattle.cargo_lock_merge_core.specs.Triples.{AreSidesOf}
+use Rattle.cargo_lock_merge_core.proofs.Assembling.{assembled-merge, list-closed, list-numbered}
+use Rattle.cargo_lock_merge_core.proofs.Members.{none-in}
+use Rattle.cargo_lock_merge_core.proofs.Zipping.{zip-left, zip-right}
 use Rattle.cargo_lock_merge.specs.declared.conflict.Conflict.{Conflict}
 use Rattle.cargo_lock_merge.specs.declared.outcome.Outcome.{Outcome}
 use Rattle.cargo_lock_merge.specs.declared.outcome.Outcome.TheVariants.{Conflicts, Merged}

@@ -17,7 +17,7 @@ use Rattle.cargo_lock.specs.CargoChecksums.{unpinned}
 use Rattle.cargo_lock_order.specs.Order.{by_kind_and_url, dependency_order, package_order}
 use Rattle.cargo_lock_merge.specs.declared.moved.Moved.{Moved}
 use Rattle.cargo_lock_merge.specs.declared.moved.Named.{Named}
-use Rattle.cargo_lock_merging.specs.declared.moved.Moved as merging
+use Rattle.cargo_lock_merge_core.specs.declared.moved.Moved as merging
 use Rattle.cargo_lock_merge.specs.Moved.{AreMarked, AreNamed}
 use Rattle.cargo_lock_merge.specs.Order.{AreInOrder, HasSortedDependencies, moved_order, named_order, patch_order}
 use Rattle.cargo_lock_merge.specs.Referring.{IsReferenceTo, IsReferring, unpinned_identity}

@@ -3,15 +3,15 @@ use Rattle.std.specs.Prelude.{◌≡◌, ◌≢◌, ◌↔◌, All, List, [], �
 use Rattle.std.specs.Prelude.{option_map}
 use Rattle.std.specs.List.{AllPairs, AllZip, Contains}
 use Rattle.cargo_lock_parts.specs.Identity.{PackageData}
-use Rattle.cargo_lock_merging.specs.ByPlaces.{AreAllPlaced, HasPackagesAt, IsMovedBetween, place_in}
-use Rattle.cargo_lock_merging.specs.ByPlaces.{places_between}
-use Rattle.cargo_lock_merging.specs.Commits.{Lockfiles}
-use Rattle.cargo_lock_merging.specs.Conflicts.{conflict_of}
-use Rattle.cargo_lock_merging.specs.Disputes.{AreInDispute, HasCommits, source_key}
-use Rattle.cargo_lock_merging.specs.Merge.{ConflictData, IsConflict, IsMerge, IsMovedReference, Triple}
-use Rattle.cargo_lock_merging.specs.Merge as merge
-use Rattle.cargo_lock_merging.specs.Placed.{PlacedData}
-use Rattle.cargo_lock_merging.specs.Places.{IsMergeOf, Place}
+use Rattle.cargo_lock_merge_core.specs.ByPlaces.{AreAllPlaced, HasPackagesAt, IsMovedBetween, place_in}
+use Rattle.cargo_lock_merge_core.specs.ByPlaces.{places_between}
+use Rattle.cargo_lock_merge_core.specs.Commits.{Lockfiles}
+use Rattle.cargo_lock_merge_core.specs.Conflicts.{conflict_of}
+use Rattle.cargo_lock_merge_core.specs.Disputes.{AreInDispute, HasCommits, source_key}
+use Rattle.cargo_lock_merge_core.specs.Merge.{ConflictData, IsConflict, IsMerge, IsMovedReference, Triple}
+use Rattle.cargo_lock_merge_core.specs.Merge as merge
+use Rattle.cargo_lock_merge_core.specs.Placed.{PlacedData}
+use Rattle.cargo_lock_merge_core.specs.Places.{IsMergeOf, Place}
 use Rattle.cargo_lock_merge.specs.declared.conflict.Conflict.{Conflict}
 use Rattle.cargo_lock_merge.specs.declared.conflict.Conflict.TheVariants.{AtPlace, OfSource}
 use Rattle.cargo_lock_merge.specs.declared.lockfiles.LockfileMerge.{LockfileMerge}

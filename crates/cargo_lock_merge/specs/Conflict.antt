@@ -1,11 +1,11 @@
 -- What the two sides of a merge of three lists are in conflict about.
 use Rattle.std.specs.Prelude.{◌≢◌, ◌↔◌, ℕ, All, List, map}
 use Rattle.std.specs.List.{AllPairs, Contains}
-use Rattle.cargo_lock_merging.specs.declared.conflicts.Conflict as merging
-use Rattle.cargo_lock_merging.specs.Conflicts.{IsConflictAt, conflict_of}
-use Rattle.cargo_lock_merging.specs.Disputes.{AreInDispute, HasCommits, source_key}
-use Rattle.cargo_lock_merging.specs.Merge.{ConflictData, IsConflict, Triple, lockfiles_of}
-use Rattle.cargo_lock_merging.specs.Merge as merge
+use Rattle.cargo_lock_merge_core.specs.declared.conflicts.Conflict as merging
+use Rattle.cargo_lock_merge_core.specs.Conflicts.{IsConflictAt, conflict_of}
+use Rattle.cargo_lock_merge_core.specs.Disputes.{AreInDispute, HasCommits, source_key}
+use Rattle.cargo_lock_merge_core.specs.Merge.{ConflictData, IsConflict, Triple, lockfiles_of}
+use Rattle.cargo_lock_merge_core.specs.Merge as merge
 use Rattle.cargo_lock_merge.specs.declared.conflict.Conflict.{Conflict}
 use Rattle.cargo_lock_merge.specs.declared.conflict.Conflict.TheVariants.{AtPlace, OfSource}
 

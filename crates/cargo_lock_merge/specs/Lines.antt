@@ -9,16 +9,16 @@ use Rattle.cargo_lock_parts.specs.Ascii.{newline}
 use Rattle.cargo_lock_parts.specs.Identity.{PackageData, identity_of}
 use Rattle.cargo_lock_parts.specs.IdentityOrder.{is_same_identity}
 use Rattle.cargo_lock_parts.specs.Source.{Source}
-use Rattle.cargo_lock_merging.specs.declared.commits.SourceCommits.{SourceCommits}
-use Rattle.cargo_lock_merging.specs.declared.conflicts.Conflict as merging
-use Rattle.cargo_lock_merging.specs.declared.conflicts.Kind.{Kind}
-use Rattle.cargo_lock_merging.specs.declared.conflicts.Kind.TheVariants as kind
-use Rattle.cargo_lock_merging.specs.declared.moved.Reference.{Reference}
-use Rattle.cargo_lock_merging.specs.declared.refusal.Refusal.{Refusal}
-use Rattle.cargo_lock_merging.specs.declared.refusal.Refusal.TheVariants.{Lost, OnePlace, TwoCommits}
-use Rattle.cargo_lock_merging.specs.declared.refusal.Refusal.TheVariants.{Unreplaced}
-use Rattle.cargo_lock_merging.specs.declared.triple.Role.{Role}
-use Rattle.cargo_lock_merging.specs.declared.triple.Role.TheVariants as role
+use Rattle.cargo_lock_merge_core.specs.declared.commits.SourceCommits.{SourceCommits}
+use Rattle.cargo_lock_merge_core.specs.declared.conflicts.Conflict as merging
+use Rattle.cargo_lock_merge_core.specs.declared.conflicts.Kind.{Kind}
+use Rattle.cargo_lock_merge_core.specs.declared.conflicts.Kind.TheVariants as kind
+use Rattle.cargo_lock_merge_core.specs.declared.moved.Reference.{Reference}
+use Rattle.cargo_lock_merge_core.specs.declared.refusal.Refusal.{Refusal}
+use Rattle.cargo_lock_merge_core.specs.declared.refusal.Refusal.TheVariants.{Lost, OnePlace, TwoCommits}
+use Rattle.cargo_lock_merge_core.specs.declared.refusal.Refusal.TheVariants.{Unreplaced}
+use Rattle.cargo_lock_merge_core.specs.declared.triple.Role.{Role}
+use Rattle.cargo_lock_merge_core.specs.declared.triple.Role.TheVariants as role
 use Rattle.cargo_lock_merge.specs.declared.conflict.Conflict.{Conflict}
 use Rattle.cargo_lock_merge.specs.declared.conflict.Conflict.TheVariants.{AtPlace, OfSource}
 use Rattle.cargo_lock_merge.specs.declared.conflict.Line.{Line}

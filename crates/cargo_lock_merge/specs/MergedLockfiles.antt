@@ -28,11 +28,11 @@ use Rattle.cargo_lock_merge.specs.declared.lockfiles.MergeError.TheVariants.{Mem
 use Rattle.cargo_lock_merge.specs.declared.lockfiles.Rest.{Rest}
 use Rattle.cargo_lock_merge.specs.declared.moved.Moved.{Moved}
 use Rattle.cargo_lock_merge.specs.declared.metadata.MetadataMerge.{MetadataMerge}
-use Rattle.cargo_lock_merging.specs.Commits.{Lockfiles}
-use Rattle.cargo_lock_merging.specs.Triples.{IsStop}
-use Rattle.cargo_lock_merging.specs.declared.triple.Role.{Role}
-use Rattle.cargo_lock_merging.specs.declared.triple.Role.TheVariants.{Base, Ours, Theirs}
-use Rattle.cargo_lock_merging.specs.declared.triple.Stop.TheVariants as stop
+use Rattle.cargo_lock_merge_core.specs.Commits.{Lockfiles}
+use Rattle.cargo_lock_merge_core.specs.Triples.{IsStop}
+use Rattle.cargo_lock_merge_core.specs.declared.triple.Role.{Role}
+use Rattle.cargo_lock_merge_core.specs.declared.triple.Role.TheVariants.{Base, Ours, Theirs}
+use Rattle.cargo_lock_merge_core.specs.declared.triple.Stop.TheVariants as stop
 use Rattle.cargo_lock_parts.specs.Error.{too_long}
 use Rattle.cargo_lock_parts.specs.Identity.{PackageData}
 use Rattle.cargo_lock_parts.specs.IdentityOrder.{is_same_package, is_same_patch}

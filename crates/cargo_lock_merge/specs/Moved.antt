@@ -5,10 +5,10 @@ use Rattle.std.specs.List.{AllPairs, AllZip, Contains}
 use Rattle.std.specs.List.Sorted.{IsSorted}
 use Rattle.cargo_lock_parts.specs.Identity.{HasNameAndVersion, Identity, PackageData, identity_of}
 use Rattle.cargo_lock_graph.specs.Targets.{HoldsOf}
-use Rattle.cargo_lock_merging.specs.declared.moved.Moved as merging
-use Rattle.cargo_lock_merging.specs.Merge.{IsMovedReference}
-use Rattle.cargo_lock_merging.specs.Moved.{IsMoved, places_of_moved, sides}
-use Rattle.cargo_lock_merging.specs.Placed.{PlacedData}
+use Rattle.cargo_lock_merge_core.specs.declared.moved.Moved as merging
+use Rattle.cargo_lock_merge_core.specs.Merge.{IsMovedReference}
+use Rattle.cargo_lock_merge_core.specs.Moved.{IsMoved, places_of_moved, sides}
+use Rattle.cargo_lock_merge_core.specs.Placed.{PlacedData}
 use Rattle.cargo_lock_merge.specs.declared.moved.Moved.{Moved}
 use Rattle.cargo_lock_merge.specs.declared.moved.Named.{Named}
 use Rattle.cargo_lock_merge.specs.Order.{moved_order}

@@ -2,15 +2,15 @@
 use Rattle.std.specs.Prelude.{◌≡◌, ◌≢◌, ◌⊎◌, ℕ, All, List, [], Some}
 use Rattle.std.specs.List.{Contains}
 use Rattle.cargo_lock_parts.specs.Identity.{Identity, PackageData, identity_of}
-use Rattle.cargo_lock_merging.specs.declared.triple.Sides.{Sides}
-use Rattle.cargo_lock_merging.specs.Assembled.{AreAssembled, AreSides}
-use Rattle.cargo_lock_merging.specs.Commits.{Lockfiles}
-use Rattle.cargo_lock_merging.specs.LawsOfMerges.{HaveOneCommitEach}
-use Rattle.cargo_lock_merging.specs.Merge.{IsMerge, Triple}
-use Rattle.cargo_lock_merging.specs.Placed.{PlacedData}
-use Rattle.cargo_lock_merging.specs.Places.{IsMergeOf, Place}
-use Rattle.cargo_lock_merging.specs.Plans.{IsClosed, IsNumbered}
-use Rattle.cargo_lock_merging.specs.Triples.{AreSidesOf, triple_in}
+use Rattle.cargo_lock_merge_core.specs.declared.triple.Sides.{Sides}
+use Rattle.cargo_lock_merge_core.specs.Assembled.{AreAssembled, AreSides}
+use Rattle.cargo_lock_merge_core.specs.Commits.{Lockfiles}
+use Rattle.cargo_lock_merge_core.specs.LawsOfMerges.{HaveOneCommitEach}
+use Rattle.cargo_lock_merge_core.specs.Merge.{IsMerge, Triple}
+use Rattle.cargo_lock_merge_core.specs.Placed.{PlacedData}
+use Rattle.cargo_lock_merge_core.specs.Places.{IsMergeOf, Place}
+use Rattle.cargo_lock_merge_core.specs.Plans.{IsClosed, IsNumbered}
+use Rattle.cargo_lock_merge_core.specs.Triples.{AreSidesOf, triple_in}
 use Rattle.cargo_lock_merge.specs.declared.conflict.Conflict.{Conflict}
 use Rattle.cargo_lock_merge.specs.declared.moved.Moved.{Moved}
 use Rattle.cargo_lock_merge.specs.declared.outcome.Outcome.{Outcome}

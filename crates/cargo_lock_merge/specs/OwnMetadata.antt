@@ -14,7 +14,7 @@ use Rattle.cargo_lock_merge.specs.declared.metadata.MetadataConflict.{MetadataCo
 use Rattle.cargo_lock_merge.specs.declared.metadata.MetadataMerge.{MetadataMerge}
 use Rattle.cargo_lock_merge.specs.declared.metadata.MetadataSides.{MetadataSides}
 use Rattle.cargo_lock_merge.specs.declared.metadata.MetadataValues.{MetadataValues}
-use Rattle.cargo_lock_merging.specs.Rule3.{IsAgreed, IsInConflict}
+use Rattle.cargo_lock_merge_core.specs.Rule3.{IsAgreed, IsInConflict}
 use Rattle.cargo_lock_parts.specs.Identity.{PackageData}
 use Rattle.cargo_lock_references.specs.Records.{Texts}
 use Rattle.cargo_lock_references.specs.declared.version.ResolveVersion.{ResolveVersion}

@@ -2,9 +2,9 @@
 
 ghost use Rattle.std.specs.Prelude.{◌≡◌, ◌++◌, ℕ, IfOk, IsOkUnless, OnOk, is_some, map, option_map};
 ghost use Rattle.cargo_lock_parts.specs.declared.error.Error.TheVariants.{Memory};
-ghost use Rattle.cargo_lock_merging.specs.Merge.{Triple, lockfiles_of};
-ghost use Rattle.cargo_lock_merging.specs.Merged.{HasPlan};
-ghost use Rattle.cargo_lock_merging.specs.Plans.{triple_of};
+ghost use Rattle.cargo_lock_merge_core.specs.Merge.{Triple, lockfiles_of};
+ghost use Rattle.cargo_lock_merge_core.specs.Merged.{HasPlan};
+ghost use Rattle.cargo_lock_merge_core.specs.Plans.{triple_of};
 ghost use Rattle.cargo_lock_merge.specs.Conflict.{AreConflictsAtPlaces, AreConflictsOf};
 ghost use Rattle.cargo_lock_merge.specs.declared.conflict.Conflict.TheVariants.{AtPlace, OfSource};
 ghost use Rattle.cargo_lock_merge.specs.Lines.{absent, checksum_value, commit_value, commit_values};
@@ -13,11 +13,11 @@ ghost use Rattle.cargo_lock_merge.specs.declared.words.Value.TheVariants.{Versio
 
 use crate::words::{BareSource, Value, Values};
 use cargo_lock_display::NameVersion;
-use cargo_lock_merging::commits::{Commits, SourceCommits};
-use cargo_lock_merging::conflicts::{Conflict as PlaceConflict, Kind, conflicts};
-use cargo_lock_merging::disputes::disputes;
-use cargo_lock_merging::placed::{Placed, are_same, cmp_identities};
-use cargo_lock_merging::plan::Plan;
+use cargo_lock_merge_core::commits::{Commits, SourceCommits};
+use cargo_lock_merge_core::conflicts::{Conflict as PlaceConflict, Kind, conflicts};
+use cargo_lock_merge_core::disputes::disputes;
+use cargo_lock_merge_core::placed::{Placed, are_same, cmp_identities};
+use cargo_lock_merge_core::plan::Plan;
 use cargo_lock_parts::error::Result;
 use cargo_lock_parts::package::{Package, SourceId};
 use shown::Shown;

@@ -7,13 +7,13 @@ ghost use Rattle.cargo_lock.specs.CargoChecksums.{key_from};
 ghost use Rattle.cargo_lock_merge.specs.OwnMetadata.{ChangesAt, IsMergedKey, IsReadyKey, IsSameAt};
 ghost use Rattle.cargo_lock_merge.specs.OwnMetadata.{conflict_of, is_checksum_at, own_metadata};
 ghost use Rattle.cargo_lock_merge.specs.OwnMetadata.{value_at, without_packages};
-ghost use Rattle.cargo_lock_merging.specs.Agreed.{AreEqual};
-ghost use Rattle.cargo_lock_merging.specs.Rule3.{IsAgreed, IsInConflict};
+ghost use Rattle.cargo_lock_merge_core.specs.Agreed.{AreEqual};
+ghost use Rattle.cargo_lock_merge_core.specs.Rule3.{IsAgreed, IsInConflict};
 ghost use Rattle.cargo_lock_parts.specs.declared.error.Error.TheVariants.{Memory};
 ghost use Rattle.cargo_lock_references.specs.Records.{texts_of};
 
 use cargo_lock::{Lockfile, Metadata, MetadataKey, MetadataValue, ResolveVersion};
-use cargo_lock_merging::rule3::{Equal, Side, agreed_side};
+use cargo_lock_merge_core::rule3::{Equal, Side, agreed_side};
 use cargo_lock_parts::dependency::Dependency;
 use cargo_lock_parts::error::Result;
 use cargo_lock_parts::package::{Package, SourceId};

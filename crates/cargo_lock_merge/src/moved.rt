@@ -3,18 +3,18 @@
 ghost use Rattle.std.specs.Prelude.{◌≡◌, ◌⊎◌, IfOk, IsOkUnless, map};
 ghost use Rattle.std.specs.Bool.{Decides};
 ghost use Rattle.cargo_lock_parts.specs.declared.error.Error.TheVariants.{Memory};
-ghost use Rattle.cargo_lock_merging.specs.Kept.{AreInPlace};
-ghost use Rattle.cargo_lock_merging.specs.Merged.{merged_data};
-ghost use Rattle.cargo_lock_merging.specs.Moved.{AreListed};
-ghost use Rattle.cargo_lock_merging.specs.Numbered.{all_data};
+ghost use Rattle.cargo_lock_merge_core.specs.Kept.{AreInPlace};
+ghost use Rattle.cargo_lock_merge_core.specs.Merged.{merged_data};
+ghost use Rattle.cargo_lock_merge_core.specs.Moved.{AreListed};
+ghost use Rattle.cargo_lock_merge_core.specs.Numbered.{all_data};
 ghost use Rattle.cargo_lock_merge.specs.Moved.{AreMarked, AreMovedReferences, AreNamed, HasNamesake};
 
 use crate::order::{Ordered, put_in_order};
 use crate::words::{SourceBehind, WithCommit};
 use cargo_lock_graph::versions::Versions;
-use cargo_lock_merging::merged::Merged;
-use cargo_lock_merging::moved::{Moved as Found, Reference, moved_references};
-use cargo_lock_merging::placed::Placed;
+use cargo_lock_merge_core::merged::Merged;
+use cargo_lock_merge_core::moved::{Moved as Found, Reference, moved_references};
+use cargo_lock_merge_core::placed::Placed;
 use cargo_lock_order::{dependency_order, package_order};
 use cargo_lock_parts::dependency::Dependency;
 use cargo_lock_parts::error::Result;

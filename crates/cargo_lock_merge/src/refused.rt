@@ -6,9 +6,9 @@ ghost use Rattle.cargo_lock_merge.specs.Lines.{one_place_text};
 
 use crate::words::{BareSource, CommitText};
 use cargo_lock_display::NameVersion;
-use cargo_lock_merging::placed::are_same;
-use cargo_lock_merging::refusal::Refusal;
-use cargo_lock_merging::triple::Role;
+use cargo_lock_merge_core::placed::are_same;
+use cargo_lock_merge_core::refusal::Refusal;
+use cargo_lock_merge_core::triple::Role;
 use cargo_lock_parts::package::Package;
 use shown::Quoted;
 use std::fmt;

@@ -9,7 +9,7 @@ use Rattle.cargo_lock_encoding.specs.Means.{TextMeans}
 use Rattle.cargo_lock_display.specs.File.{FileData}
 use Rattle.cargo_lock_check.specs.Document.{findings_json}
 use Rattle.json_line.specs.Text.{IsJsonText}
-use Rattle.cli_lockfiles.specs.Json.{IsAsked, IsUnasked, PrintsLine, file_of}
+use Rattle.cli_input.specs.Json.{IsAsked, IsUnasked, PrintsLine, file_of}
 
 -- the status is a failure exactly if there is a finding, and otherwise a success
 pub record IsFindingsStatus (told : List FindingData) (failure success : Type 0) : Type 0 where

@@ -7,7 +7,7 @@ use Rattle.cargo_lock_encoding.specs.Lockfiles.{LockfileData}
 use Rattle.cargo_lock_merge.specs.MergedLockfiles.{LockfileTriple, MergesTo, triple_of}
 use Rattle.cargo_lock_merge.specs.declared.lockfiles.LockfileMerge.{LockfileMerge}
 use Rattle.cargo_lock_merge.specs.declared.lockfiles.LockfileMerge.TheVariants.{InConflict, Merged}
-use Rattle.cli_lockfiles.specs.Load.{IsCompared}
+use Rattle.cli_input.specs.Load.{IsCompared}
 use Rattle.cli.specs.declared.merge.Three.{Three}
 use Rattle.cli_support.specs.Destination.{TakesOutput}
 

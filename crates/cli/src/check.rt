@@ -7,13 +7,13 @@ ghost use Rattle.cargo_lock_check.specs.Document.{findings_json};
 ghost use Rattle.json_line.specs.Text.{IsJsonText};
 ghost use Rattle.cli.specs.Check.{IsFindingsStatus, PrintsFound, PrintsCheck, PrintsFindings};
 ghost use Rattle.cli.specs.Check.{PrintsFindingsOf};
-ghost use Rattle.cli_lockfiles.specs.Json.{PrintsLine};
+ghost use Rattle.cli_input.specs.Json.{PrintsLine};
 
 use cargo_lock::Lockfile;
 use cargo_lock_check::{Finding, Findings, findings_json};
 use cargo_lock_display::File;
 use clap::{ArgMatches, Command};
-use cli_lockfiles::load::{file, named_lockfile_of, named_text};
+use cli_input::load::{file, named_lockfile_of, named_text};
 use cli_support::output::put;
 use cli_support::{Fault, words};
 use std::alloc::{AllocError, Global};

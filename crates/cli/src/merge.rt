@@ -2,7 +2,7 @@
 ghost use Rattle.std.specs.Prelude.{◌≡◌, IfOk};
 ghost use Rattle.clap.specs.Matches.{found_of};
 ghost use Rattle.cargo_lock_merge.specs.MergedLockfiles.{MergesTo};
-ghost use Rattle.cli_lockfiles.specs.Load.{IsCompared};
+ghost use Rattle.cli_input.specs.Load.{IsCompared};
 ghost use Rattle.cli.specs.Merge.{AreCompared, PrintsMerge, PrintsMergeOf, triple_in};
 
 use crate::ending::Ended;
@@ -10,7 +10,7 @@ use cargo_lock::{Error, Lockfile};
 use cargo_lock_merge::lockfiles::{LockfileMerge, MergeError, merge_lockfiles};
 use cargo_lock_merge::moved::Moved;
 use clap::{Arg, ArgAction, ArgMatches, Command};
-use cli_lockfiles::load::{compared_lockfile, lockfile_without_packages};
+use cli_input::load::{compared_lockfile, lockfile_without_packages};
 use cli_support::Fault;
 use cli_support::destination::put_own_out;
 use cli_support::words::{any_size, is_standard, output};

@@ -1,7 +1,7 @@
 use Rattle.std.proofs.Common.{◌≡◌, ◌∙◌, ◌<◌, ℕ, List, All, ap, arith, inr, length, refl, subst, sym}
 use Rattle.std.proofs.lemmas.Bool.{eqb-true}
-use Rattle.cargo_lock_ask.proofs.Placing.{places-within}
-use Rattle.cargo_lock_ask.specs.Spec.{Fits}
+use Rattle.cargo_lock_query.proofs.Placing.{places-within}
+use Rattle.cargo_lock_query.specs.Spec.{Fits}
 use Rattle.cargo_lock_encoding.specs.Lockfiles.{LockfileData}
 use Rattle.cargo_lock_parts.specs.Identity.{PackageData}
 use Rattle.cargo_lock_c.proofs.Unanswered.{none-fits}

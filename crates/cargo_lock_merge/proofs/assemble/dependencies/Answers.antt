@@ -3,10 +3,10 @@ use Rattle.std.specs.List.{Contains}
 use Rattle.std.proofs.lemmas.List.{get_or_default, take_all}
 use Rattle.std.proofs.lemmas.List.Sorted.{Contains-permutation, IsPermutation-sym}
 use Rattle.cargo_lock_parts.specs.Identity.{Identity}
-use Rattle.cargo_lock_merging.specs.Assembled.{IsIdentityAt}
-use Rattle.cargo_lock_merging.specs.Merged.{merged_data}
-use Rattle.cargo_lock_merging.specs.Placed.{PlacedData}
-use Rattle.cargo_lock_merging.proofs.Members.{none-in}
+use Rattle.cargo_lock_merge_core.specs.Assembled.{IsIdentityAt}
+use Rattle.cargo_lock_merge_core.specs.Merged.{merged_data}
+use Rattle.cargo_lock_merge_core.specs.Placed.{PlacedData}
+use Rattle.cargo_lock_merge_core.proofs.Members.{none-in}
 use Rattle.cargo_lock_merge.proofs.Assembling.{looked-up, only-at, passed-by}
 use Rattle.cargo_lock_merge.proofs.Once.{AreSoFar, apart-at-end, more-so-far, none-so-far, passed-so-far}
 use Rattle.cargo_lock_merge.proofs.assemble.dependencies.Goals as goal

@@ -1,6 +1,6 @@
 use Rattle.std.proofs.Common.{◌≡◌, ◌∙◌, ◌++◌, map}
-use Rattle.cargo_lock_merging.specs.Merge.{Triple, lockfiles_of}
-use Rattle.cargo_lock_merging.specs.Plans.{triple_of}
+use Rattle.cargo_lock_merge_core.specs.Merge.{Triple, lockfiles_of}
+use Rattle.cargo_lock_merge_core.specs.Plans.{triple_of}
 use Rattle.cargo_lock_merge.specs.declared.conflict.Conflict.TheVariants.{AtPlace, OfSource}
 use Rattle.cargo_lock_merge.proofs.Conflicting.{are-conflicts}
 use Rattle.cargo_lock_merge.proofs.conflict.conflicts_of.Goals as goal

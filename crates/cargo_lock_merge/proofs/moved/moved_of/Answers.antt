@@ -1,7 +1,7 @@
 use Rattle.std.proofs.Common.{List, map, subst}
-use Rattle.cargo_lock_merging.specs.declared.moved.Moved as merging
-use Rattle.cargo_lock_merging.specs.Merged.{merged_data}
-use Rattle.cargo_lock_merging.specs.Numbered.{all_data}
+use Rattle.cargo_lock_merge_core.specs.declared.moved.Moved as merging
+use Rattle.cargo_lock_merge_core.specs.Merged.{merged_data}
+use Rattle.cargo_lock_merge_core.specs.Numbered.{all_data}
 use Rattle.cargo_lock_merge.specs.declared.moved.Moved.{Moved}
 use Rattle.cargo_lock_merge.specs.declared.moved.Named.{Named}
 use Rattle.cargo_lock_merge.specs.Moved.{AreMarked, AreNamed, IsNamed}

@@ -1,12 +1,12 @@
 use Rattle.std.proofs.Common.{◌≡◌, ℕ, IfSome, List, MatchOption, Option, Some, None, map, subst, sym}
 use Rattle.std.proofs.lemmas.Result.{IfOk-weaker}
-use Rattle.cargo_lock_merging.specs.declared.merged.Merged.{Merged}
-use Rattle.cargo_lock_merging.specs.Kept.{AreInPlace}
-use Rattle.cargo_lock_merging.specs.Merge.{AreInConflict, IsMerge, Triple}
-use Rattle.cargo_lock_merging.specs.Merged.{merged_data}
-use Rattle.cargo_lock_merging.specs.Numbered.{all_data}
-use Rattle.cargo_lock_merging.specs.Placed.{PlacedData}
-use Rattle.cargo_lock_merging.specs.Plans.{triple_of}
+use Rattle.cargo_lock_merge_core.specs.declared.merged.Merged.{Merged}
+use Rattle.cargo_lock_merge_core.specs.Kept.{AreInPlace}
+use Rattle.cargo_lock_merge_core.specs.Merge.{AreInConflict, IsMerge, Triple}
+use Rattle.cargo_lock_merge_core.specs.Merged.{merged_data}
+use Rattle.cargo_lock_merge_core.specs.Numbered.{all_data}
+use Rattle.cargo_lock_merge_core.specs.Placed.{PlacedData}
+use Rattle.cargo_lock_merge_core.specs.Plans.{triple_of}
 use Rattle.cargo_lock_merge.specs.Outcome.{IsMergedOf}
 use Rattle.cargo_lock_merge.proofs.Outcomes.{has-plan, is-outcome, listed, some-listed}
 use Rattle.cargo_lock_merge.proofs.outcome.merge_placed.Goals as goal

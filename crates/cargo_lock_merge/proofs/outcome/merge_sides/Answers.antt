@@ -1,12 +1,12 @@
 use Rattle.std.proofs.Common.{◌≡◌, ◌∙◌, ℕ, List, ap, subst, sym}
 use Rattle.std.proofs.lemmas.Result.{IfOk-weaker}
-use Rattle.cargo_lock_merging.specs.declared.lists.Numbered.{Numbered}
-use Rattle.cargo_lock_merging.specs.declared.placed.Placed.{Placed}
-use Rattle.cargo_lock_merging.specs.Lists.{all_numbered}
-use Rattle.cargo_lock_merging.specs.Merge.{Triple}
-use Rattle.cargo_lock_merging.specs.Numbered.{all_data}
-use Rattle.cargo_lock_merging.specs.Plans.{triple_of}
-use Rattle.cargo_lock_merging.specs.Triples.{triple_in}
+use Rattle.cargo_lock_merge_core.specs.declared.lists.Numbered.{Numbered}
+use Rattle.cargo_lock_merge_core.specs.declared.placed.Placed.{Placed}
+use Rattle.cargo_lock_merge_core.specs.Lists.{all_numbered}
+use Rattle.cargo_lock_merge_core.specs.Merge.{Triple}
+use Rattle.cargo_lock_merge_core.specs.Numbered.{all_data}
+use Rattle.cargo_lock_merge_core.specs.Plans.{triple_of}
+use Rattle.cargo_lock_merge_core.specs.Triples.{triple_in}
 use Rattle.cargo_lock_merge.specs.Outcome.{AreReady, IsOutcomeOf}
 use Rattle.cargo_lock_merge.proofs.Outcomes.{finds, ready}
 use Rattle.cargo_lock_merge.proofs.outcome.merge_sides.Goals as goal

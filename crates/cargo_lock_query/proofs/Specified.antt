@@ -1,0 +1,17 @@
+-- The places of packages that a specification fits, one package after another.
+use Rattle.std.proofs.Common.{◌≡◌, ◌∙◌, ◌<◌, ◌+◌, ◌++◌, ◌∷◌, [], ℕ, Bool, true, false, cond, List, Some, get_or, length, refl, slice_get, sym}
+use Rattle.std.proofs.lemmas.Option.{slice_get_read}
+use Rattle.cargo_lock_parts.specs.Identity.{PackageData}
+use Rattle.cargo_lock_query.specs.Places.{IsPlaces}
+use Rattle.cargo_lock_query.specs.Spec.{Fits, fits, spec_in}
+use Rattle.cargo_lock_query.proofs.Placing.{places-pass, places-put, same-at}
+
+-- one more package, tested
+pub fitting-tested : (spec : List ℕ) (packages : List PackageData) (place : ℕ) (p : PackageData) (is : Bool) (xs ys : List ℕ) → place < length packages → p ≡ get_or packages place p
+    → is ≡ fits (spec_in spec) p → ys ≡ cond is (xs ++ place ∷ []) xs → IsPlaces (Fits spec packages) place xs → IsPlaces (Fits spec packages) (place + 1) ys
+fitting-tested spec packages place p true xs ys low at says grows so_far =
+    places-put (Fits spec packages) place (place + 1) xs ys so_far (p, slice_get_read packages (length packages) place p refl low at, sym says) refl grows
+fitting-tested spec packages place p false xs ys low at says grows so_far =
+    let there : slice_get packages place ≡ Some p = slice_get_read packages (length packages) place p refl low at in
+    rw grows (places-pass (Fits spec packages) place (place + 1) xs so_far
+    (λ h. let same : h.0 ≡ p = same-at packages place h.0 p h.1 there in let e : false ≡ true = says ∙ rw (← same) h.2 in cc e) refl)

@@ -1,0 +1,53 @@
+-- What `audit` prints, and its status.
+use Rattle.std.specs.Prelude.{◌≡◌, ℕ, List, Option, codes, false, true}
+use Rattle.std.specs.List.{list_any}
+use Rattle.std.specs.Io.KnownBytes.{Appends}
+use Rattle.clap.specs.declared.parser.matches.Found.{Found}
+use Rattle.cargo_lock.specs.Loads.{IsMeant}
+use Rattle.cargo_lock_audit.specs.Advisory.{AdvisoryData}
+use Rattle.cargo_lock_audit.specs.Database.{AreInOrder}
+use Rattle.cargo_lock_audit.specs.Findings.{FindingData, findings, unmet}
+use Rattle.cargo_lock_audit.specs.Lines.{report_text}
+use Rattle.cargo_lock_audit.specs.Pairs.{pairs}
+use Rattle.cargo_lock_encoding.specs.Lockfiles.{LockfileData}
+use Rattle.cargo_lock_audit.specs.Document.{advisories_json}
+use Rattle.cargo_lock_display.specs.File.{FileData}
+use Rattle.json_line.specs.Text.{IsJsonText}
+use Rattle.cargo_lock_parts.specs.Identity.{PackageData}
+use Rattle.cli_input.specs.Json.{IsAsked, IsUnasked, PrintsLine, file_of}
+use Rattle.cli_folder_commands.specs.Texts.{given_texts}
+
+-- what is printed of findings, and of the ids that are ignored in vain: their document if the
+-- arguments ask for JSON, and otherwise their lines
+pub record PrintsAdvisories (found : Found) (file : FileData) (told : List FindingData)
+    (ids : List (List ℕ)) (old new : Option (List ℕ)) : Type 0 where
+  pub asked : IsAsked found (codes "json")
+      → PrintsLine (IsJsonText (advisories_json file told ids)) old new
+  pub unasked : IsUnasked found (codes "json") → Appends old new (report_text told ids)
+
+-- they are printed, with the status of these findings
+pub record PrintsAudited (found : Found) (file : FileData) (told : List FindingData)
+    (ids : List (List ℕ)) (old new : Option (List ℕ)) (failure success : Type 0) : Type 0 where
+  pub printed : PrintsAdvisories found file told ids old new
+  pub some : list_any (λ f. f.is_denied) told ≡ true → failure
+  pub none : list_any (λ f. f.is_denied) told ≡ false → success
+
+-- what is found of the packages by these advisories is printed, as the arguments ask for
+abbrev pub PrintsAuditReport : Found → FileData → List PackageData → List AdvisoryData
+    → Option (List ℕ) → Option (List ℕ) → Type 0 → Type 0 → Type 0
+PrintsAuditReport found file packages advisories = PrintsAudited found file
+    (findings packages advisories (given_texts found (codes "ignore"))
+    (given_texts found (codes "deny")))
+    (unmet (pairs packages advisories) (given_texts found (codes "ignore")))
+
+-- the same by some advisories, in the order of their ids
+abbrev pub PrintsAuditOf : Found → FileData → List PackageData → Option (List ℕ) → Option (List ℕ)
+    → Type 0 → Type 0 → Type 0
+PrintsAuditOf found file packages old new failure success = (advisories : List AdvisoryData)
+    × AreInOrder advisories
+    × PrintsAuditReport found file packages advisories old new failure success
+
+-- the same of the packages of a lockfile that some text means
+abbrev pub PrintsAudit : Found → Option (List ℕ) → Option (List ℕ) → Type 0 → Type 0 → Type 0
+PrintsAudit found old new failure success = (l : LockfileData) × IsMeant l
+    × PrintsAuditOf found (file_of found (codes "file") l) l.packages old new failure success
