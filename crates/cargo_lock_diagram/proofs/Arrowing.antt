@@ -1,18 +1,18 @@
 -- The arrows of a picture, from one node after another.
 use Rattle.std.proofs.Common.{◌≡◌, ◌<◌, ◌+◌, inl, inr, ℕ, Bool, true, false, List, [], ◌∷◌, ◌++◌, length, get_or, map, take, slice_get, unwrap_or, Option, Some, None, refl, sym, ap, subst, ◌∙◌, arith, append-nil, append_assoc}
 use Rattle.std.specs.List.{AllPairs, Contains, filter}
-use Rattle.std.proofs.lemmas.Bool.{cases_eq}
+use Rattle.std.proofs.lemmas.Bool.{cases_Bool, cases_eq}
 use Rattle.std.proofs.lemmas.List.{map-append, take_more}
 use Rattle.std.proofs.lemmas.List.Elements.{Contains-append_cases, Contains-append_left, Contains-append_right, filter-append}
 use Rattle.std.proofs.lemmas.List.Kept.{AllPairs-filter, AllPairs-from_increasing}
 use Rattle.std.proofs.lemmas.Option.{slice_get_within}
 use Rattle.cargo_lock_graph.specs.Edges.{GraphData}
 use Rattle.cargo_lock_diagram.specs.Arrows.{AreArrows, arrows_to, is_marked}
-use Rattle.cargo_lock_diagram.specs.Marks.{IsMarked}
-use Rattle.cargo_lock_diagram.specs.Places.{IsPlaces}
+use Rattle.lists.specs.Marks.{IsMarked}
+use Rattle.lists.specs.Places.{IsPlaces}
 use Rattle.cargo_lock_diagram.specs.Scene.{AreEdgesAmong, ComesBefore, needs}
 use Rattle.cargo_lock_diagram.specs.declared.scene.Arrow.{Arrow}
-use Rattle.cargo_lock_diagram.proofs.Members.{in-kept, kept-in, none-in}
+use Rattle.lists.proofs.Members.{in-kept, kept-in, none-in}
 use Rattle.cargo_lock_diagram.proofs.Pairs.{from-map, in-map, pairs-append, pairs-map, pairs-weaker}
 
 -- ---- marks
@@ -25,6 +25,12 @@ marked-is marks k h = go (slice_get marks k) h where
 
 pub is-marked : (marks : List Bool) (k : ℕ) → IsMarked marks k → is_marked marks k ≡ true
 is-marked marks k h = ap (λ o. unwrap_or o false) h
+
+pub is-unmarked : (marks : List Bool) (k : ℕ) → ¬ IsMarked marks k → is_marked marks k ≡ false
+is-unmarked marks k bare = elim (cases_Bool (is_marked marks k)) [
+  | inl marked ↦ absurd (bare (marked-is marks k marked))
+  | inr without ↦ without
+]
 
 -- ---- one target more
 
@@ -107,12 +113,12 @@ node-put graph marks node targets arrows longer count marked places long h = sub
       let is = (to-cases marks node targets f.from f.to new).0 in
       inl (omega (arith, low, is))
 
-pub node-pass : (graph : GraphData) (marks : List Bool) (node : ℕ) (arrows : List Arrow) → is_marked marks node ≡ false → AreArrows graph marks node arrows → AreArrows graph marks (node + 1) arrows
+pub node-pass : (graph : GraphData) (marks : List Bool) (node : ℕ) (arrows : List Arrow) → ¬ IsMarked marks node → AreArrows graph marks node arrows → AreArrows graph marks (node + 1) arrows
 node-pass graph marks node arrows bare h = record {
   listed = λ a b. (
     λ c. let (low, marked_a, marked_b, leads) = (h.listed a b).0 c in (omega (arith, low), marked_a, marked_b, leads),
     λ r. elim (cases_eq a node) [
-      | inl same ↦ absurd (let e : false ≡ true = sym bare ∙ is-marked marks node (subst (IsMarked marks) same r.1) in cc e)
+      | inl same ↦ absurd (bare (subst (IsMarked marks) same r.1))
       | inr other ↦ (h.listed a b).1 ((let low = r.0 in omega (arith, low, other)), r.1, r.2, r.3)
     ],
   );

@@ -1,6 +1,4 @@
-pub mod Members
-pub mod Reaching
-pub mod Placing
+pub mod ReachedNodes
 pub mod Pairs
 pub mod Arrowing
 pub mod Escaping

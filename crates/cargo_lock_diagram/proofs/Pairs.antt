@@ -3,7 +3,7 @@ use Rattle.std.proofs.Common.{◌≡◌, All, inl, inr, suc, List, [], ◌∷◌
 use Rattle.std.specs.List.{AllPairs, Contains}
 use Rattle.std.proofs.lemmas.List.Elements.{All-append, All-contains, Contains-get_or}
 use Rattle.std.proofs.lemmas.List.Kept.{AllPairs-cons}
-use Rattle.cargo_lock_diagram.proofs.Members.{contains-cases, first-in, later-in, none-in}
+use Rattle.lists.proofs.Members.{contains-cases, first-in, later-in, none-in}
 
 -- ---- each element
 

@@ -3,9 +3,9 @@ use Rattle.std.specs.Prelude.{◌<◌, ◌↔◌, ℕ, Bool, false, List, AllPai
 use Rattle.std.specs.Prelude.{slice_get, unwrap_or}
 use Rattle.std.specs.List.{Contains, filter}
 use Rattle.cargo_lock_graph.specs.Edges.{GraphData}
-use Rattle.cargo_lock_diagram.specs.Marks.{IsMarked}
 use Rattle.cargo_lock_diagram.specs.Scene.{ComesBefore, needs}
 use Rattle.cargo_lock_diagram.specs.declared.scene.Arrow.{Arrow}
+use Rattle.lists.specs.Marks.{IsMarked}
 
 -- the node has a mark
 abbrev pub is_marked : List Bool → ℕ → Bool

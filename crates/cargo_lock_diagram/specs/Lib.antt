@@ -1,6 +1,4 @@
-pub mod Places
 pub mod Reach
-pub mod Marks
 pub mod Scene
 pub mod Arrows
 pub mod Labels

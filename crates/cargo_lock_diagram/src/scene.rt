@@ -1,18 +1,18 @@
 //! What a picture of a graph shows: packages, and the edges among them.
 
-ghost use Rattle.std.specs.Prelude.{◌≡◌, ◌+◌, ◌++◌, ◌<◌, All, IfOk, OnOk, length};
+ghost use Rattle.std.specs.Prelude.{◌≡◌, ◌+◌, ◌++◌, ◌<◌, ◌↔◌, All, IfOk, IsTrue, OnOk, length};
 ghost use Rattle.std.specs.List.{Contains};
 ghost use Rattle.cargo_lock_graph.specs.Edges.{far_ends};
 ghost use Rattle.cargo_lock_diagram.specs.Arrows.{AreArrows, arrows_to};
-ghost use Rattle.cargo_lock_diagram.specs.Arrows as spec;
-ghost use Rattle.cargo_lock_diagram.specs.Marks.{IsMarked};
-ghost use Rattle.cargo_lock_diagram.specs.Places.{IsPlaces};
 ghost use Rattle.cargo_lock_diagram.specs.Reach.{IsReachedFrom};
 ghost use Rattle.cargo_lock_diagram.specs.Scene.{AreEdgesAmong, needs};
+ghost use Rattle.lists.specs.Marks.{IsMarked};
+ghost use Rattle.lists.specs.Places.{IsPlaces};
 
 use crate::reach::marks_from;
 use cargo_lock_graph::graph::{EdgeDirection, Graph, NodeIndex};
 use cargo_lock_graph::listed::list_ends;
+use lists::marks::is_marked;
 use std::alloc::{AllocError, Global};
 
 /// An edge of a picture, from a package to one on which it depends.
@@ -70,7 +70,7 @@ fn marked(alloc: Global, marks: &[bool]) -> Result<Vec<NodeIndex>, AllocError>
     let mut nodes = Vec::new(alloc);
     for place in 0..marks.len() {
         let node = NodeIndex::new(place);
-        if is_marked(marks, node) {
+        if has_mark(marks, node) {
             nodes.push(node)?;
         }
     }
@@ -102,7 +102,7 @@ fn add_arrows_from(
     requires arrows { AreArrows graph.now marks.now node arrows.old.items }
     ensures { OnOk result (AreArrows graph.now marks.now (node + 1) arrows.new.items) }
 {
-    if is_marked(marks, node) {
+    if has_mark(marks, node) {
         let targets = targets(alloc, graph, node)?;
         add_arrows(marks, node, &targets, arrows)?;
     }
@@ -131,7 +131,7 @@ fn add_arrows(
         (arrows.new.items ≡ arrows.old.items ++ arrows_to marks.now node targets.now) }
 {
     for target in targets {
-        if is_marked(marks, *target) {
+        if has_mark(marks, *target) {
             arrows.push(Arrow {
                 from: node,
                 to: *target,
@@ -142,11 +142,8 @@ fn add_arrows(
 }
 
 // Whether a node has a mark.
-fn is_marked(marks: &[bool], node: NodeIndex) -> bool
-    ensures { result ≡ spec.is_marked marks.now node }
+fn has_mark(marks: &[bool], node: NodeIndex) -> bool
+    ensures { IsTrue result ↔ (IsMarked marks.now node) }
 {
-    match marks.get(node.index()) {
-        Some(mark) => *mark,
-        None => false,
-    }
+    is_marked(marks, node.index())
 }

@@ -3,11 +3,11 @@ use Rattle.std.specs.Prelude.{◌≡◌, ◌≢◌, ◌↔◌, ◌<◌, ℕ, Boo
 use Rattle.std.specs.Prelude.{bytes_eq, length, unwrap_or}
 use Rattle.std.specs.Io.KnownBytes.{Appends}
 use Rattle.std.specs.List.{Contains}
+use Rattle.lists.specs.Places.{IsPlaces}
 use Rattle.clap.specs.Matches.{first_value}
 use Rattle.clap.specs.declared.parser.matches.Found.{Found}
 use Rattle.cargo_lock_parts.specs.Identity.{PackageData}
 use Rattle.cargo_lock_diagram.specs.Diagram.{diagram_text}
-use Rattle.cargo_lock_diagram.specs.Places.{IsPlaces}
 use Rattle.cargo_lock_diagram.specs.Reach.{IsReachedFrom}
 use Rattle.cargo_lock_diagram.specs.Scene.{AreEdgesAmong}
 use Rattle.cargo_lock_diagram.specs.declared.label.Target.{Target}

@@ -1,5 +1,5 @@
-use Rattle.cargo_lock_diagram.specs.Marks.{IsMarked}
-use Rattle.cargo_lock_diagram.specs.Places.{IsPlaces}
+use Rattle.lists.specs.Marks.{IsMarked}
+use Rattle.lists.specs.Places.{IsPlaces}
 use Rattle.cargo_lock_diagram.proofs.scene.marked.Given as goal
 
 -- the nodes so far

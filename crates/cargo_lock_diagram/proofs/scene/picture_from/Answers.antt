@@ -1,11 +1,11 @@
 use Rattle.std.proofs.Common.{Bool, List, ℕ, length, subst}
 use Rattle.cargo_lock_graph.specs.Edges.{far_ends}
+use Rattle.lists.specs.Marks.{IsMarked}
+use Rattle.lists.specs.Places.{IsPlaces}
+use Rattle.lists.proofs.Places.{places-alike, places-end}
 use Rattle.cargo_lock_diagram.specs.Arrows.{AreArrows}
-use Rattle.cargo_lock_diagram.specs.Marks.{IsMarked}
-use Rattle.cargo_lock_diagram.specs.Places.{IsPlaces}
 use Rattle.cargo_lock_diagram.specs.Reach.{IsReachedFrom}
 use Rattle.cargo_lock_diagram.proofs.Arrowing.{edges-among}
-use Rattle.cargo_lock_diagram.proofs.Placing.{places-alike, places-end}
 use Rattle.cargo_lock_diagram.proofs.scene.picture_from.Goals as goal
 
 pub returns-clause-nodes : goal.returns-clause-nodes

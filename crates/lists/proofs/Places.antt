@@ -1,17 +1,13 @@
 -- Places of a list at which something holds, one place after another.
-use Rattle.std.proofs.Common.{◌≡◌, ◌<◌, ◌+◌, ◌-◌, All, inl, inr, ℕ, List, [], ◌∷◌, ◌++◌, length, get_or, slice_get, Some, sym, ap, subst, ◌∙◌, arith, length-append}
+use Rattle.std.proofs.Common.{◌≡◌, ◌<◌, ◌+◌, ◌-◌, All, inl, inr, ℕ, List, [], ◌∷◌, ◌++◌, ◌↔◌, Bool, true, false, cond, length, get_or, refl, sym, ap, subst, ◌∙◌, arith, length-append}
 use Rattle.std.specs.List.{Contains}
 use Rattle.std.specs.List.Sorted.{IsStrictlyIncreasing}
-use Rattle.std.proofs.lemmas.Bool.{cases_eq}
+use Rattle.std.proofs.lemmas.Bool.{cases_eq, false≢true}
 use Rattle.std.proofs.lemmas.List.{get_or_append_left, get_or-append_right}
 use Rattle.std.proofs.lemmas.List.Elements.{Contains-append_left, Contains-get_or, Contains-push, Contains-push_cases}
-use Rattle.std.proofs.lemmas.Option.{same_Some}
-use Rattle.cargo_lock_diagram.specs.Places.{IsPlaces}
+use Rattle.lists.specs.Places.{IsPlaces}
 
--- a place of a list has one element
-pub same-at : {X : Type 0} (xs : List X) (k : ℕ) (x y : X) → slice_get xs k ≡ Some x → slice_get xs k ≡ Some y → x ≡ y
-same-at xs k x y f g = same_Some x y (sym f ∙ g)
-
+-- no place is below 0
 pub places-none : (P : ℕ → Type 0) → IsPlaces P 0 []
 places-none P = record {
   ascending = λ k lt. absurd (omega arith);
@@ -65,6 +61,12 @@ places-pass P n m xs is miss e =
       );
     }
 
+-- one more place, at which P was tested
+pub places-tested : (P : ℕ → Type 0) (n m : ℕ) (xs ys : List ℕ) (b : Bool) → IsPlaces P n xs → (b ≡ true) ↔ P n → m ≡ n + 1 → ys ≡ cond b (xs ++ n ∷ []) xs → IsPlaces P m ys
+places-tested P n m xs ys true is tells e f = places-put P n m xs ys is (tells.0 refl) e f
+places-tested P n m xs ys false is tells e f = rw f (places-pass P n m xs is (λ h. false≢true (tells.1 h)) e)
+
+-- the same places, up to the same bound
 pub places-end : (P : ℕ → Type 0) (n m : ℕ) (xs : List ℕ) → IsPlaces P n xs → n ≡ m → IsPlaces P m xs
 places-end P n m xs is e = subst (λ k. IsPlaces P k xs) e is
 
