@@ -1,5 +1,5 @@
 -- What is found is exactly what the relations say.
-use Rattle.std.proofs.Common.{◌≡◌, ◌⊎◌, ◌&&◌, ◌||◌, ◌++◌, ℕ, Bool, true, false, true≢false, cond, filter, List, [], ◌∷◌, Option, None, Some, is_none, is_some, not, refl, ap, sym, ◌∙◌, inl, inr, subst, if◌then◌else◌, bytes_eq, codes}
+use Rattle.std.proofs.Common.{◌≡◌, ◌⊎◌, ◌&&◌, ◌||◌, ◌++◌, ℕ, Bool, true, false, true≢false, cond, filter, List, [], ◌∷◌, Option, None, Some, is_some, not, refl, ap, sym, ◌∙◌, inl, inr, subst, if◌then◌else◌, bytes_eq, codes}
 use Rattle.std.specs.List.{Contains, list_any}
 use Rattle.std.proofs.lemmas.Slice.Eq.{bytes_eq-Decides}
 use Rattle.std.proofs.lemmas.Option.{same_Some}
@@ -13,7 +13,8 @@ use Rattle.cargo_lock_audit.specs.Findings.{FindingData, FindingsAreExact, Ignor
 use Rattle.cargo_lock_audit.specs.Findings.{finding_if, findings, findings_of, is_denied_kind, is_kept, is_listed, judged}
 use Rattle.cargo_lock_audit.specs.Pairs.{PairData, pair_if, pairs, pairs_of}
 use Rattle.cargo_lock_audit.specs.Requirement.{RequirementData, lies_in, meets}
-use Rattle.cargo_lock_audit.proofs.Lists.{all-passes, and-both, any-none, any-one, first, from-flat, in-flat, is-false, no-element, no-elements, none-any, not-both, only, passes-all}
+use Rattle.lists.proofs.Members.{first-in as first, in-joined as in-flat, joined-in as from-flat, none-in as no-element}
+use Rattle.lists.proofs.Tests.{all-passes, and-both, any-none, any-one, is-false, no-elements, none-any, not-both, only, passes-all}
 
 -- ---- requirements
 

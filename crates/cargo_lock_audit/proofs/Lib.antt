@@ -1,5 +1,4 @@
 mod Exact
-mod Lists
 mod OneLine
 mod Ordered
 pub mod Strips

@@ -27,13 +27,9 @@ use Rattle.cargo_lock_flaws.specs.Sources.{HasUserInfo, IsFrom, IsFromAt, IsLook
 use Rattle.cargo_lock_flaws.specs.Stale.{stale_keys}
 use Rattle.cargo_lock_check.specs.Text.{OtherLineData}
 use Rattle.cargo_lock_flaws.proofs.StaleKeys.{cons-here, nothing-there, stale_keys_are_exact}
+use Rattle.lists.proofs.Tests.{append-none, map-none, no-elements as none-left}
 
 -- ---- lists without members
-
--- a list that has no member is empty
-none-left : {X : Type 0} (xs : List X) → ((x : X) → ¬ Contains xs x) → xs ≡ []
-none-left [] h = refl
-none-left (x ∷ xs) h = absurd (h x (cons-here x xs))
 
 none-in : {X : Type 0} (xs : List X) (x : X) → xs ≡ [] → ¬ Contains xs x
 none-in xs x e c = nothing-there x (subst (λ ys. Contains ys x) e c)
@@ -139,14 +135,6 @@ empty_if_sound text l f is = (
 )
 
 -- ---- what is told
-
-append-none : {X : Type 0} (xs ys : List X) → xs ++ ys ≡ [] → (xs ≡ []) × (ys ≡ [])
-append-none [] ys e = (refl, e)
-append-none (x ∷ xs) ys e = cc e
-
-map-none : {X Y : Type 0} (f : X → Y) (xs : List X) → map f xs ≡ [] → xs ≡ []
-map-none f [] e = refl
-map-none f (x ∷ xs) e = cc e
 
 -- nothing is told of places at each of which there is something
 filter_map-none : {X Y : Type 0} (h : X → Option Y) (xs : List X) → ((x : X) → Contains xs x → ¬ (h x ≡ None)) → filter_map h xs ≡ [] → xs ≡ []

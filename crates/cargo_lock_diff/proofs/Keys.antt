@@ -22,6 +22,7 @@ use Rattle.cargo_lock_diff.specs.Difference.{DifferenceData, EmptyIfPermuted, Is
 use Rattle.cargo_lock_diff.proofs.Orders.{likeness_total}
 use Rattle.cargo_lock_diff.proofs.Counts.{count-cons, count-permutation, left-counts}
 use Rattle.cargo_lock_diff.proofs.Pairs.{AreAlike, news-told, olds-told, told-apart}
+use Rattle.lists.proofs.Tests.{append-none, map-none}
 
 pub whole_laws : IsEquivalence (is_alike Whole)
 whole_laws = eq_by_cmp_equiv (likeness_total Whole)
@@ -120,14 +121,6 @@ none-there [] h = refl
 none-there (x ∷ xs) h =
     let e : count_of x (x ∷ xs) ≡ 1 + count_of x xs = count-cons (is_alike Whole x) x xs ∙ ap (λ b. cond b 1 0 + count_of x xs) (whole_laws.refl x) in
     absurd (omega (arith, e, h x))
-
-pub append-none : {X : Type 0} (xs ys : List X) → xs ++ ys ≡ [] → (xs ≡ []) × (ys ≡ [])
-append-none [] ys e = (refl, e)
-append-none (x ∷ xs) ys e = cc e
-
-pub map-none : {X Y : Type 0} (f : X → Y) (xs : List X) → map f xs ≡ [] → xs ≡ []
-map-none f [] e = refl
-map-none f (x ∷ xs) e = cc e
 
 -- lists whose keys are permuted have each package as often
 pub same-counts : (xs ys : List PackageData) → IsPermutation (map whole_key xs) (map whole_key ys) → (p : PackageData) → count_of p xs ≡ count_of p ys

@@ -23,7 +23,7 @@ use Rattle.cargo_lock_diff.specs.Pairing.{exchanged}
 use Rattle.cargo_lock_diff.specs.Place.{target_cmp}
 use Rattle.cargo_lock_diff.specs.Targets.{dependencies_cmp, pairs_cmp, targets_of}
 use Rattle.cargo_lock_diff.proofs.Merging.{one-more}
-use Rattle.cargo_lock_diff.proofs.Once.{map-there}
+use Rattle.lists.proofs.Members.{in-map as map-there}
 use Rattle.cargo_lock_diff.proofs.Orders.{target_total, targets_total}
 use Rattle.cargo_lock_diff.proofs.Vouched.{any-there}
 

@@ -1,9 +1,8 @@
 -- Pairing by what stands once.
-use Rattle.std.proofs.Common.{append_assoc, length, get_or, ◌≡◌, ℕ, ◌+◌, ◌<◌, ◌≤◌, zero, suc, Bool, true, false, cond, List, [], ◌∷◌, ◌++◌, count_by, map, refl, ap, sym, ◌∙◌, subst, arith, IsPermutation, All}
+use Rattle.std.proofs.Common.{append_assoc, ◌≡◌, ℕ, ◌+◌, ◌<◌, ◌≤◌, zero, suc, Bool, true, false, cond, List, [], ◌∷◌, ◌++◌, count_by, map, refl, ap, sym, ◌∙◌, subst, arith, IsPermutation, All}
 use Rattle.std.specs.Cmp.{IsEquivalence}
-use Rattle.std.proofs.lemmas.List.{length-map, get_or-map}
 use Rattle.std.specs.List.{Contains}
-use Rattle.std.proofs.lemmas.List.Elements.{All-contains, All-head, All-tail, All-nil, All-cons, All-weaker, All-map, Contains-get_or}
+use Rattle.std.proofs.lemmas.List.Elements.{All-contains, All-head, All-tail, All-nil, All-cons, All-weaker, All-map}
 use Rattle.std.proofs.lemmas.List.Sorted.{IsPermutation-append_left, IsPermutation-append_right, IsPermutation-trans, All-permutation}
 use Rattle.cargo_lock_diff.specs.Matching.{AreMatched, PassesWithNone, firsts, seconds}
 use Rattle.cargo_lock_diff.specs.Pairing.{ArePaired, AreSplit, StandsOnce, NoneOnBothSides, IsFiner, exchanged}
@@ -108,17 +107,6 @@ paired {X} same laws olds news old_alone new_alone old_others new_others pairs o
 }
 
 -- ---- exactly
-
--- what is among the images is the image of a member
-pub map-back : {X Y : Type 0} (f : X → Y) (xs : List X) (y : Y) → Contains (map f xs) y → (x : X) × Contains xs x × (f x ≡ y)
-map-back f [] y there = absurd (omega (arith, there.1))
-map-back {X} {Y} f (x ∷ xs) y there =
-    let within : there.0 < length (x ∷ xs) = omega (arith, there.1, length-map (x ∷ xs) f) in
-    (get_or (x ∷ xs) there.0 x, Contains-get_or (x ∷ xs) there.0 x within, sym (get_or-map f (x ∷ xs) there.0 x y within) ∙ there.2)
-
--- the image of a member is among the images
-pub map-there : {X Y : Type 0} (f : X → Y) (xs : List X) (x : X) → Contains xs x → Contains (map f xs) (f x)
-map-there f xs x there = (there.0, omega (arith, there.1, length-map xs f), get_or-map f xs there.0 x (f x) there.1 ∙ ap f there.2)
 
 -- what stands once in a whole list is in no two parts of it
 pub in-one-part : {X : Type 0} (same : X → X → Bool) → (all front back : List X) (x y z : X) → IsPermutation all (front ++ back) → StandsOnce same x all

@@ -14,7 +14,7 @@ use Rattle.cargo_lock_diff.specs.Matching.{AreMatched, PassesWithNone, is_alike_
 use Rattle.cargo_lock_diff.specs.Pairing.{ArePairedInTurn}
 use Rattle.cargo_lock_diff.specs.Difference.{IsPairing, packages_at, referred_pairs, turns}
 use Rattle.cargo_lock_diff.proofs.Matched.{matched-map}
-use Rattle.cargo_lock_diff.proofs.Once.{map-there}
+use Rattle.lists.proofs.Members.{in-map as map-there}
 use Rattle.cargo_lock_diff.proofs.InTurn.{all_pairs, in-turn-news, in-turn-olds, paired-map}
 
 -- the packages of each pair are so much alike

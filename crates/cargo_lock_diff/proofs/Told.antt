@@ -24,8 +24,10 @@ use Rattle.cargo_lock_diff.specs.Same.{have_one_checksum, have_one_place, have_o
 use Rattle.cargo_lock_diff.proofs.Exact.{mirrored_in_turn, none_is_left_in_turn}
 use Rattle.cargo_lock_diff.proofs.Finer.{eq-both, names-in-turn, none-name, none-origin, none-place}
 use Rattle.cargo_lock_diff.proofs.InTurn.{all_pairs}
-use Rattle.cargo_lock_diff.proofs.Keys.{append-none, empty_if_permuted, map-none, whole_laws}
+use Rattle.cargo_lock_diff.proofs.Keys.{empty_if_permuted, whole_laws}
+use Rattle.lists.proofs.Tests.{append-none, map-none}
 use Rattle.cargo_lock_diff.proofs.Pairs.{AreAlike, told-apart}
+use Rattle.lists.proofs.Tests.{not-false, or-left as or-first}
 
 -- ---- mirrored
 
@@ -105,14 +107,6 @@ filter-head {X} q x xs e = go (q x) refl
 
 no-change : (one : Aspect) (p : PackageData × PackageData) (ps : List (PackageData × PackageData)) → changes_in one (p ∷ ps) ≡ [] → differs_in one p ≡ false
 no-change one p ps e = filter-head (differs_in one) p ps (map-none (change_in one) (filter (differs_in one) (p ∷ ps)) e)
-
-or-first : (a b : Bool) → (a || b) ≡ false → a ≡ false
-or-first true b h = cc h
-or-first false b h = refl
-
-not-false : (b : Bool) → not b ≡ false → b ≡ true
-not-false true h = refl
-not-false false h = cc h
 
 and-second : (a b : Bool) → a ≡ true → (a && b) ≡ false → b ≡ false
 and-second true b h e = e

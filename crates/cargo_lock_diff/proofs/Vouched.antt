@@ -27,12 +27,9 @@ use Rattle.cargo_lock_diff.specs.Same.{have_one_version}
 use Rattle.cargo_lock_diff.specs.Vouchers.{AreVouchers, cmp_at}
 use Rattle.cargo_lock_diff.proofs.Finer.{eq-both, place-version}
 use Rattle.cargo_lock_diff.proofs.Merging.{one-more}
-use Rattle.cargo_lock_diff.proofs.Once.{map-there}
+use Rattle.lists.proofs.Members.{in-map as map-there}
 use Rattle.cargo_lock_diff.proofs.Orders.{likeness_total}
-
-and-first : (a b : Bool) → (a && b) ≡ true → a ≡ true
-and-first true b h = refl
-and-first false b h = cc h
+use Rattle.lists.proofs.Tests.{and-left as and-first}
 
 vouched-among : (likeness : Likeness) (olds known : List PackageData) (p : PackageData) → IsPermutation (filter has_checksum olds) known
     → is_vouched likeness known p ≡ is_vouched likeness olds p

@@ -1,48 +1,18 @@
 -- What is found is exactly what the relations say.
-use Rattle.std.proofs.Common.{◌≡◌, ◌≢◌, ◌⊎◌, ℕ, Bool, true, false, true≢false, List, [], ◌∷◌, Option, None, Some, is_some, map, refl, ap, sym, ◌∙◌, inl, inr, subst, if◌then◌else◌, arith}
+use Rattle.std.proofs.Common.{◌≡◌, ◌≢◌, ◌⊎◌, ℕ, Bool, true, false, true≢false, List, [], ◌∷◌, Option, None, Some, is_some, map, refl, ap, sym, ◌∙◌, subst, if◌then◌else◌}
 use Rattle.std.specs.List.{All, Contains, flat_map, list_any}
 use Rattle.std.proofs.lemmas.Slice.Eq.{bytes_eq-Decides}
 use Rattle.std.proofs.lemmas.Option.{same_Some}
 use Rattle.std.proofs.lemmas.List.Folds.{Any-from_list_any, list_any-from_Any}
-use Rattle.std.proofs.lemmas.List.Elements.{All-append, All-cons, All-contains, All-contains_itself, All-head, All-map, All-nil, All-tail, All-weaker, Contains-append_cases, Contains-append_left, Contains-append_right, Contains-push, Contains-push_cases}
+use Rattle.std.proofs.lemmas.List.Elements.{All-append, All-cons, All-contains, All-contains_itself, All-head, All-map, All-nil, All-tail, All-weaker}
 use Rattle.cargo_lock_parts.specs.Identity.{PackageData}
 use Rattle.cargo_lock_verify.specs.Archives.{ArchiveData, Changed, FindingData, FindingsAreExact, IsFound, IsFoundOf, IsVerified, Missing, NoneIfVerified, SubjectData}
 use Rattle.cargo_lock_verify.specs.Archives.{findings, found_by, found_in, found_of, is_digest}
+use Rattle.lists.proofs.Members.{first-in as first, in-joined as in-flat, none-in as no-element}
+use Rattle.lists.proofs.Tests.{no-elements}
+use Rattle.lists.proofs.Members.{in-map}
 
 -- ---- elements of lists
-
-pub no-element : {X : Type 0} (x : X) → ¬ Contains [] x
-no-element x h = let low = h.1 in absurd (omega (arith, low))
-
-pub cases : {X : Type 0} (y : X) (ys : List X) (x : X) → Contains (y ∷ ys) x → (y ≡ x) ⊎ Contains ys x
-cases y ys x h = elim (Contains-append_cases (y ∷ []) ys x h) [
-  | inl here ↦ elim (Contains-push_cases [] y x here) [
-    | inl none ↦ absurd (no-element x none)
-    | inr same ↦ inl same
-  ]
-  | inr there ↦ inr there
-]
-
-pub first : {X : Type 0} (y : X) (ys : List X) → Contains (y ∷ ys) y
-first y ys = Contains-append_left (y ∷ []) ys y (Contains-push [] y)
-
-pub later : {X : Type 0} (y : X) (ys : List X) (x : X) → Contains ys x → Contains (y ∷ ys) x
-later y ys x h = Contains-append_right (y ∷ []) ys x h
-
-pub in-map : {X Y : Type 0} (f : X → Y) (xs : List X) (x : X) → Contains xs x → Contains (map f xs) (f x)
-in-map f [] x h = absurd (no-element x h)
-in-map f (y ∷ ys) x h = elim (cases y ys x h) [
-  | inl same ↦ subst (λ z. Contains (f y ∷ map f ys) z) (ap f same) (first (f y) (map f ys))
-  | inr there ↦ later (f y) (map f ys) (f x) (in-map f ys x there)
-]
-
-pub in-flat : {X Y : Type 0} (f : X → List Y) (xs : List X) (x : X) (y : Y) → Contains xs x → Contains (f x) y
-    → Contains (flat_map f xs) y
-in-flat f [] x y h here = absurd (no-element x h)
-in-flat f (z ∷ zs) x y h here = elim (cases z zs x h) [
-  | inl same ↦ Contains-append_left (f z) (flat_map f zs) y (subst (λ w. Contains (f w) y) (sym same) here)
-  | inr there ↦ Contains-append_right (f z) (flat_map f zs) y (in-flat f zs x y there here)
-]
 
 -- ---- which packages are verified
 
@@ -135,10 +105,6 @@ findings-are-exact subjects f = (
 some-found : (p : PackageData) (all : List ArchiveData) → (f : FindingData) × Contains (found_of p all) f
 some-found p [] = (Missing p, first (Missing p) [])
 some-found p (a ∷ rest) = (Changed p a, first (Changed p a) (map (Changed p) rest))
-
-pub no-elements : {X : Type 0} (xs : List X) → ((x : X) → ¬ Contains xs x) → xs ≡ []
-no-elements [] h = refl
-no-elements (x ∷ xs) h = absurd (h x (first x xs))
 
 verified-if-none : (subjects : List SubjectData) → findings subjects ≡ [] → (s : SubjectData) → Contains subjects s
     → s.content.checksum ≢ None → IsVerified s

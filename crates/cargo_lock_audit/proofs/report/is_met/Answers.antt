@@ -1,7 +1,7 @@
 use Rattle.std.proofs.Common.{◌∙◌, sym}
 use Rattle.cargo_lock_audit.specs.Findings.{is_pair_with}
 use Rattle.cargo_lock_audit.specs.Pairs.{pair_of}
-use Rattle.cargo_lock_audit.proofs.Lists.{any-map}
+use Rattle.lists.proofs.Tests.{any-map}
 use Rattle.cargo_lock_audit.proofs.report.is_met.Goals as goal
 
 pub returns : goal.returns

@@ -7,7 +7,7 @@ use Rattle.cargo_lock_diff.specs.declared.likeness.Likeness.TheVariants.{Name}
 use Rattle.cargo_lock_diff.specs.Alarm.{has_checksum}
 use Rattle.cargo_lock_diff.specs.Difference.{referred_pairs}
 use Rattle.cargo_lock_diff.specs.Likeness.{is_alike}
-use Rattle.cargo_lock_diff.proofs.Once.{map-there}
+use Rattle.lists.proofs.Members.{in-map as map-there}
 use Rattle.cargo_lock_diff.proofs.Vouched.{AlarmsSo, own-hit, own-miss, pairs-hit, pairs-miss}
 use Rattle.cargo_lock_diff.proofs.alarm.alarms_of_pairs.Goals as goal
 use Rattle.cargo_lock_diff.proofs.alarm.alarms_of_pairs.Goals.{in-Some+in_ok-push, in_default}

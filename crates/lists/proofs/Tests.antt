@@ -1,9 +1,9 @@
--- Elements of lists, and tests of them.
-use Rattle.std.proofs.Common.{◌≡◌, ◌⊎◌, ◌&&◌, ◌||◌, Bool, true, false, true≢false, List, [], ◌∷◌, map, refl, ap, sym, ◌∙◌, inl, inr, subst, arith}
-use Rattle.std.specs.List.{Contains, flat_map, list_all, list_any}
-use Rattle.std.proofs.lemmas.List.Elements.{Contains-append_cases, Contains-append_left, Contains-append_right, Contains-push, Contains-push_cases}
+-- Truth values, and tests of the elements of a list.
+use Rattle.std.proofs.Common.{◌≡◌, ◌⊎◌, ◌&&◌, ◌||◌, ◌++◌, Bool, true, false, true≢false, List, [], ◌∷◌, map, not, refl, ap, sym, ◌∙◌, inl, inr, subst}
+use Rattle.std.specs.List.{Contains, list_all, list_any}
+use Rattle.lists.proofs.Members.{contains-cases as cases, first-in as first, later-in as later, none-in as no-element}
 
--- ---- tests
+-- ---- truth values
 
 pub and-left : (a b : Bool) → (a && b) ≡ true → a ≡ true
 and-left true b e = refl
@@ -36,44 +36,25 @@ is-false false h = refl
 pub not-both : (b : Bool) → b ≡ true → b ≡ false → ⊥
 not-both b t f = true≢false (sym t ∙ f)
 
+pub and-parts : (a b : Bool) → (a && b) ≡ true → (a ≡ true) × (b ≡ true)
+and-parts a b e = (and-left a b e, and-right a b e)
+
+pub or-cases : (a b : Bool) → (a || b) ≡ true → (a ≡ true) ⊎ (b ≡ true)
+or-cases true b e = inl refl
+or-cases false b e = inr e
+
+pub not-false : (b : Bool) → not b ≡ false → b ≡ true
+not-false true e = refl
+not-false false e = absurd (true≢false e)
+
+pub not-true : (b : Bool) → not b ≡ true → b ≡ false
+not-true true e = absurd (true≢false (sym e))
+not-true false e = refl
+
 -- ---- elements
-
-pub no-element : {X : Type 0} (x : X) → ¬ Contains [] x
-no-element x h = let low = h.1 in absurd (omega (arith, low))
-
-pub cases : {X : Type 0} (y : X) (ys : List X) (x : X) → Contains (y ∷ ys) x → (y ≡ x) ⊎ Contains ys x
-cases y ys x h = elim (Contains-append_cases (y ∷ []) ys x h) [
-  | inl here ↦ elim (Contains-push_cases [] y x here) [
-    | inl none ↦ absurd (no-element x none)
-    | inr same ↦ inl same
-  ]
-  | inr there ↦ inr there
-]
-
-pub first : {X : Type 0} (y : X) (ys : List X) → Contains (y ∷ ys) y
-first y ys = Contains-append_left (y ∷ []) ys y (Contains-push [] y)
-
-pub later : {X : Type 0} (y : X) (ys : List X) (x : X) → Contains ys x → Contains (y ∷ ys) x
-later y ys x h = Contains-append_right (y ∷ []) ys x h
 
 pub only : {X : Type 0} (y x : X) → Contains (y ∷ []) x → y ≡ x
 only y x h = elim (cases y [] x h) [ inl same ↦ same | inr none ↦ absurd (no-element x none) ]
-
-pub in-flat : {X Y : Type 0} (f : X → List Y) (xs : List X) (x : X) (y : Y) → Contains xs x → Contains (f x) y
-    → Contains (flat_map f xs) y
-in-flat f [] x y h here = absurd (no-element x h)
-in-flat f (z ∷ zs) x y h here = elim (cases z zs x h) [
-  | inl same ↦ Contains-append_left (f z) (flat_map f zs) y (subst (λ w. Contains (f w) y) (sym same) here)
-  | inr there ↦ Contains-append_right (f z) (flat_map f zs) y (in-flat f zs x y there here)
-]
-
-pub from-flat : {X Y : Type 0} (f : X → List Y) (xs : List X) (y : Y) → Contains (flat_map f xs) y
-    → (x : X) × Contains xs x × Contains (f x) y
-from-flat f [] y h = absurd (no-element y h)
-from-flat f (x ∷ xs) y h = elim (Contains-append_cases (f x) (flat_map f xs) y h) [
-  | inl here ↦ (x, first x xs, here)
-  | inr there ↦ let (z, among, has) = from-flat f xs y there in (z, later x xs z among, has)
-]
 
 pub no-elements : {X : Type 0} (xs : List X) → ((x : X) → ¬ Contains xs x) → xs ≡ []
 no-elements [] h = refl
@@ -119,3 +100,13 @@ any-one test (y ∷ ys) e = by (test y) refl (any-one test ys)
 pub any-map : {X Y : Type 0} (f : X → Y) (test : Y → Bool) (xs : List X) → list_any test (map f xs) ≡ list_any (λ x. test (f x)) xs
 any-map f test [] = refl
 any-map f test (x ∷ xs) = ap (λ b. test (f x) || b) (any-map f test xs)
+
+-- ---- lists without elements
+
+pub append-none : {X : Type 0} (xs ys : List X) → xs ++ ys ≡ [] → (xs ≡ []) × (ys ≡ [])
+append-none [] ys e = (refl, e)
+append-none (x ∷ xs) ys e = cc e
+
+pub map-none : {X Y : Type 0} (f : X → Y) (xs : List X) → map f xs ≡ [] → xs ≡ []
+map-none f [] e = refl
+map-none f (x ∷ xs) e = cc e
