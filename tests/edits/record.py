@@ -25,8 +25,6 @@ HEAD = """\
 LIMIT = re.compile(r"ran out of|could not tell|no verdict|too many steps|out of memory")
 # The files of proofs/ that hold the proof of one function, which no other crate can read.
 OF_FUNCTION = ("Answers.antt", "Invariants.antt", "Proof.antt")
-# The files that decide what a refusal is, and how an edit is tried.
-RULE = ("copies.py", "rule.py")
 # How a line of the record holds.
 STATES = HOLDS, OTHER_LOGIC, VOID = "holds", "of another logic", "void"
 
@@ -119,8 +117,7 @@ def state(logics, crate, base, edit):
 def base_of(crate):
     """Returns the sum of all but the edit and the logic that a refusal in the crate rests on."""
     found = hashlib.sha256()
-    for file in RULE:
-        add(found, file, bytes_of(os.path.join(os.path.dirname(rule.__file__), file)))
+    add(found, "rule.py", bytes_of(rule.__file__))
     for path in rt.rtlib.files_of(crate.folder):
         add(found, os.path.relpath(path, crate.folder), bytes_of(path))
     for below in sorted(crate.below(), key=lambda it: it.name):
