@@ -11,8 +11,6 @@ use Rattle.cargo_lock_licenses.proofs.Complete.{value}
 use Rattle.lists.proofs.Members.{contains-cases as cases, first-in as first, in-joined as in-flat, in-map, joined-in as of-flat, map-in as of-map, none-in as no-element}
 use Rattle.lists.proofs.Tests.{and-both, and-parts as both-true, or-cases as either-true}
 
--- ---- elements of lists
-
 all-left : {X : Type 0} (P : X → Type 0) (xs ys : List X) → All P (xs ++ ys) → All P xs
 all-left P [] ys h = All-nil P
 all-left P (x ∷ xs) ys h = All-cons P x xs (All-head P x (xs ++ ys) h) (all-left P xs ys (All-tail P x (xs ++ ys) h))

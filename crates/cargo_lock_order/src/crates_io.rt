@@ -25,7 +25,8 @@ use url::Url;
 /// Fails when out of memory.
 ///
 /// ```
-/// let source = SourceId::from_url(alloc, "registry+git://github.com/Rust-Lang/crates.io-index.git")?;
+/// let url = "registry+git://github.com/Rust-Lang/crates.io-index.git";
+/// let source = SourceId::from_url(alloc, url)?;
 /// let is_it = is_canonically_crates_io(alloc, &source)?;
 /// ```
 pub fn is_canonically_crates_io(alloc: Global, source: &SourceId) -> Result<bool, AllocError>

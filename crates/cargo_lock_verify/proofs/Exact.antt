@@ -12,8 +12,6 @@ use Rattle.lists.proofs.Members.{first-in as first, in-joined as in-flat, none-i
 use Rattle.lists.proofs.Tests.{no-elements}
 use Rattle.lists.proofs.Members.{in-map}
 
--- ---- elements of lists
-
 -- ---- which packages are verified
 
 verified-is : (s : SubjectData) (c : List ℕ) → s.content.checksum ≡ Some c → IsVerified s → list_any (is_digest c) s.archives ≡ true

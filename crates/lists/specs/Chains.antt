@@ -12,6 +12,10 @@ abbrev pub IsReachedFrom : {X : Type 0} → (X → Type 0) → (X → X → Type
 IsReachedFrom {X = X} P leads x = (start : X) × (chain : List X) × P start
     × IsChain leads start chain x
 
+-- x leads to each element of its list
+abbrev pub LeadsToEach : {X Y : Type 0} → (X → List Y) → X → Y → Type 0
+LeadsToEach list x = Contains (list x)
+
 -- one of these leads to y
 abbrev pub OneLeadsTo : {X Y : Type 0} → (X → Y → Type 0) → List X → Y → Type 0
 OneLeadsTo {X = X} leads xs y = (x : X) × Contains xs x × leads x y
