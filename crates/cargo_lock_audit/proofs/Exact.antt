@@ -14,7 +14,8 @@ use Rattle.cargo_lock_audit.specs.Findings.{finding_if, findings, findings_of, i
 use Rattle.cargo_lock_audit.specs.Pairs.{PairData, pair_if, pairs, pairs_of}
 use Rattle.cargo_lock_audit.specs.Requirement.{RequirementData, lies_in, meets}
 use Rattle.lists.proofs.Members.{first-in as first, in-joined as in-flat, joined-in as from-flat, none-in as no-element}
-use Rattle.lists.proofs.Tests.{all-passes, and-both, any-none, any-one, is-false, no-elements, none-any, not-both, only, passes-all}
+use Rattle.lists.proofs.Tests.{all-passes, and-both, any-none, any-one, is-false, none-any, not-both, only, passes-all}
+use Rattle.lists.proofs.Members.{none-left as no-elements}
 
 -- ---- requirements
 

@@ -17,7 +17,7 @@ use Rattle.cargo_lock_bom.specs.Document.{document_of}
 use Rattle.cargo_lock_bom.specs.Draft.{data_tokens}
 use Rattle.cargo_lock_bom.specs.Metadata.{IsTimeTextIf, metadata_of}
 use Rattle.cargo_lock_bom.specs.Options.{OptionsData}
-use Rattle.cargo_lock_bom.specs.Places.{IsPlaces}
+use Rattle.lists.specs.Places.{IsPlaces}
 use Rattle.cargo_lock_bom.specs.References.{package_reference, workspace_reference}
 use Rattle.cargo_lock_bom.specs.Root.{IsRootOf, IsWithin}
 use Rattle.cargo_lock_bom.specs.Serial.{with_serial}

@@ -11,7 +11,7 @@ use Rattle.cargo_lock_graph.specs.declared.graph.EdgeDirection.TheVariants.{Outg
 use Rattle.cargo_lock_graph.specs.Edges.{GraphData, far_ends}
 use Rattle.cargo_lock_bom.specs.declared.root.Root.{Root}
 use Rattle.cargo_lock_bom.specs.declared.root.Root.TheVariants.{Package, Workspace, Nothing}
-use Rattle.cargo_lock_bom.specs.Places.{IsPlaces}
+use Rattle.lists.specs.Places.{IsPlaces}
 use Rattle.cargo_lock_bom.specs.References.{package_reference, workspace_reference}
 use Rattle.cargo_lock_bom.specs.Root.{is_member}
 

@@ -1,5 +1,4 @@
 pub mod UserInfo
-pub mod Places
 pub mod Root
 pub mod Search
 pub mod Purl

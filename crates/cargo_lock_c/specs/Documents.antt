@@ -4,7 +4,7 @@ use Rattle.std.specs.Prelude.{◌≡◌, ◌≢◌, ◌++◌, ◌∷◌, ℕ, Bo
 use Rattle.cargo_lock.specs.CargoChecksums.{with_cargo_checksums_in}
 use Rattle.cargo_lock_query.specs.Answers.{AreAnswers}
 use Rattle.cargo_lock_query.specs.Lines.{AnswerData}
-use Rattle.cargo_lock_query.specs.Places.{IsPlaces}
+use Rattle.lists.specs.Places.{IsPlaces}
 use Rattle.cargo_lock_query.specs.Spec.{Fits}
 use Rattle.cargo_lock_query.specs.Tally.{AreGroupsOf, GroupData}
 use Rattle.cargo_lock_parts.specs.Ascii.{newline}

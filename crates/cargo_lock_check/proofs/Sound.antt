@@ -20,25 +20,26 @@ use Rattle.cargo_lock_flaws.specs.Alike.{AreAlikeAt, ArePairsAlike, IsFirstAlike
 use Rattle.cargo_lock_flaws.specs.Lost.{IsLostAt}
 use Rattle.cargo_lock_flaws.specs.Names.{IsBadlyNamed}
 use Rattle.cargo_lock_flaws.specs.Packages.{IsFirstUnchecked, IsMisplaced, IsTwice, IsUnchecked, IsWithoutChecksum, source_unless}
-use Rattle.cargo_lock_flaws.specs.Places.{IsPlaces}
+use Rattle.lists.specs.Places.{IsPlaces}
 use Rattle.cargo_lock_flaws.specs.Reach.{IsOrphan}
 use Rattle.cargo_lock_check.specs.Sound.{EmptyIfSound, NoneToldIfEmpty}
 use Rattle.cargo_lock_flaws.specs.Sources.{HasUserInfo, IsFrom, IsFromAt, IsLookAlike}
 use Rattle.cargo_lock_flaws.specs.Stale.{stale_keys}
 use Rattle.cargo_lock_check.specs.Text.{OtherLineData}
-use Rattle.cargo_lock_flaws.proofs.StaleKeys.{cons-here, nothing-there, stale_keys_are_exact}
-use Rattle.lists.proofs.Tests.{append-none, map-none, no-elements as none-left}
+use Rattle.lists.proofs.Members.{first-in, none-in, none-left}
+use Rattle.lists.proofs.Tests.{append-none, map-none}
+use Rattle.cargo_lock_flaws.proofs.StaleKeys.{stale_keys_are_exact}
 
 -- ---- lists without members
 
-none-in : {X : Type 0} (xs : List X) (x : X) → xs ≡ [] → ¬ Contains xs x
-none-in xs x e c = nothing-there x (subst (λ ys. Contains ys x) e c)
+not-in : {X : Type 0} (xs : List X) (x : X) → xs ≡ [] → ¬ Contains xs x
+not-in xs x e c = none-in x (subst (λ ys. Contains ys x) e c)
 
 -- places at which P holds of a package
 places-empty : (P : ℕ → Type 0) (n : ℕ) (places : List ℕ) → IsPlaces P n places → (places ≡ []) ↔ ((k : ℕ) → k < n → ¬ P k)
 places-empty P n places is = (
-  λ e k lt p. none-in places k e ((is.told k).1 (lt, p)),
-  λ h. none-left places (λ k c. let both = (is.told k).0 c in h k both.0 both.1),
+  λ e k lt p. not-in places k e ((is.listed k).1 (lt, p)),
+  λ h. none-left places (λ k c. let both = (is.listed k).0 c in h k both.0 both.1),
 )
 
 within : (P : PackageData → Type 0) (packages : List PackageData) (k : ℕ) → HoldsOf P packages k → k < length packages
@@ -47,7 +48,7 @@ within P packages k h = slice_get_within packages k h.0 h.1
 -- dependencies at places
 dependencies-empty : (P : ℕ → ℕ → Type 0) (places : List (ℕ × ℕ)) → AreDependencies P places → (places ≡ []) ↔ ((place at : ℕ) → ¬ P place at)
 dependencies-empty P places are = (
-  λ e place at h. none-in places (place, at) e ((are.told place at).1 h),
+  λ e place at h. not-in places (place, at) e ((are.told place at).1 h),
   λ h. none-left places (λ k c. h k.0 k.1 ((are.told k.0 k.1).0 c)),
 )
 
@@ -60,9 +61,9 @@ within-checked P l k h = (let low = within P (checked_packages l) k h in let lon
 
 -- sources that the format loses
 lossy-empty : (version : ResolveVersion) (text : List ℕ) (lossy : List (List ℕ)) → AreLossy version text lossy → (lossy ≡ []) ↔ ((source : List ℕ) → ¬ IsLostIn version text source)
-lossy-empty V1 text lossy are = (λ e s h. none-in lossy s e ((are.told s).1 h), λ h. none-left lossy (λ s c. h s ((are.told s).0 c)))
-lossy-empty V2 text lossy are = (λ e s h. none-in lossy s e ((are.told s).1 h), λ h. none-left lossy (λ s c. h s ((are.told s).0 c)))
-lossy-empty V3 text lossy are = (λ e s h. none-in lossy s e ((are.told s).1 h), λ h. none-left lossy (λ s c. h s ((are.told s).0 c)))
+lossy-empty V1 text lossy are = (λ e s h. not-in lossy s e ((are.told s).1 h), λ h. none-left lossy (λ s c. h s ((are.told s).0 c)))
+lossy-empty V2 text lossy are = (λ e s h. not-in lossy s e ((are.told s).1 h), λ h. none-left lossy (λ s c. h s ((are.told s).0 c)))
+lossy-empty V3 text lossy are = (λ e s h. not-in lossy s e ((are.told s).1 h), λ h. none-left lossy (λ s c. h s ((are.told s).0 c)))
 lossy-empty V4 text lossy are = (λ e s h. h, λ h. are)
 
 -- two packages are alike where one has a first one alike
@@ -73,7 +74,7 @@ no-first packages j none (suc bound) i low under h =
 
 alike-empty : (packages : List PackageData) (pairs : List (ℕ × ℕ)) → ArePairsAlike packages pairs → (pairs ≡ []) ↔ ((i j : ℕ) → i < j → ¬ AreAlikeAt packages i j)
 alike-empty packages pairs are = (
-  λ e i j low. no-first packages j (λ k h. none-in pairs (k, j) e ((are.told k j).1 h)) (suc i) i (omega arith) low,
+  λ e i j low. no-first packages j (λ k h. not-in pairs (k, j) e ((are.told k j).1 h)) (suc i) i (omega arith) low,
   λ h. none-left pairs (λ k c. let first = (are.told k.0 k.1).0 c in h k.0 k.1 first.0 first.1),
 )
 
@@ -106,7 +107,7 @@ empty_if_sound text l f is = (
     needed = (places-empty (IsOrphan l.packages l.root) (length l.packages) f.orphans (is.orphans.asked e.lossy)).0 e.orphans;
     checksums = λ k h. (places-empty (IsWithoutChecksum (checked_packages l)) (length l.packages) f.without_checksum is.without_checksum).0 e.without_checksum k (within-checked _ l k h) h;
     checked = λ k h. (places-empty (IsUnchecked (checked_packages l)) (length l.packages) f.unchecked is.unchecked).0 e.unchecked k (within-checked _ l k h) h;
-    metadata = λ key h. none-in (stale_keys l.metadata l.packages) key (sym is.stale ∙ e.stale) ((stale_keys_are_exact l.metadata l.packages key).1 h);
+    metadata = λ key h. not-in (stale_keys l.metadata l.packages) key (sym is.stale ∙ e.stale) ((stale_keys_are_exact l.metadata l.packages key).1 h);
     ordered = λ k h. (places-empty (IsMisplaced l.packages) (length l.packages) f.misplaced is.misplaced).0 e.misplaced k (within _ l.packages k h) h;
     listed_in_order = (dependencies-empty (IsMisplacedAt l.packages) f.misplaced_dependencies is.misplaced_dependencies).0 e.misplaced_dependencies;
     kept = (is.is_kept.asked e.lossy).0 e.is_kept;
@@ -142,7 +143,7 @@ filter_map-none h [] there e = refl
 filter_map-none {X} {Y} h (x ∷ xs) there e = go (h x) refl e
   where
     go : (o : Option Y) → h x ≡ o → cons_option o (filter_map h xs) ≡ [] → x ∷ xs ≡ []
-    go None none e = absurd (there x (cons-here x xs) none)
+    go None none e = absurd (there x (first-in x xs) none)
     go (Some y) some e = cc e
 
 some-package : (finding : PackageData → FindingData) (packages : List PackageData) (k : ℕ) → k < length packages → ¬ (flawed_at finding packages k ≡ None)
@@ -221,13 +222,13 @@ unchecked-there l k h none =
 sources-none : (P : Source → Type 0) (finding : Source → FindingData) (packages : List PackageData) (places : List ℕ) → IsPlaces (IsFromAt P packages) (length packages) places
     → filter_map (source_at finding packages) places ≡ [] → places ≡ []
 sources-none P finding packages places is e =
-    filter_map-none (source_at finding packages) places (λ k c. source-there P finding packages k ((is.told k).0 c).1) e
+    filter_map-none (source_at finding packages) places (λ k c. source-there P finding packages k ((is.listed k).0 c).1) e
 
 -- places of packages at each of which one is told
 told-none : (P : ℕ → Type 0) (finding : PackageData → FindingData) (packages : List PackageData) (places : List ℕ) → IsPlaces P (length packages) places
     → filter_map (flawed_at finding packages) places ≡ [] → places ≡ []
 told-none P finding packages places is e =
-    filter_map-none (flawed_at finding packages) places (λ k c. some-package finding packages k ((is.told k).0 c).0) e
+    filter_map-none (flawed_at finding packages) places (λ k c. some-package finding packages k ((is.listed k).0 c).0) e
 
 orphans-none : (root : Option PackageData) (has_workspace : Bool) (packages : List PackageData) (orphans : List ℕ) → IsPlaces (IsOrphan packages root) (length packages) orphans
     → told_of_orphans has_workspace packages orphans ≡ [] → orphans ≡ []
@@ -288,10 +289,10 @@ told-nothing text l f is e =
       without_checksum = told-none (IsWithoutChecksum (checked_packages l)) NoChecksum l.packages f.without_checksum is.without_checksum
           (subst (λ ps. filter_map (flawed_at NoChecksum ps) f.without_checksum ≡ []) here u.0);
       unchecked = filter_map-none (source_at NoChecksums l.packages) f.unchecked
-          (λ k c. unchecked-there l k ((is.unchecked.told k).0 c).1) (subst (λ ps. filter_map (source_at NoChecksums ps) f.unchecked ≡ []) here u.1);
+          (λ k c. unchecked-there l k ((is.unchecked.listed k).0 c).1) (subst (λ ps. filter_map (source_at NoChecksums ps) f.unchecked ≡ []) here u.1);
       stale = map-none StaleChecksum f.stale e5.0;
       misplaced = filter_map-none (misplaced_at l.packages) f.misplaced
-          (λ k c. misplaced-there l.packages k ((is.misplaced.told k).0 c).1) (subst (λ ps. filter_map (misplaced_at ps) f.misplaced ≡ []) here o.0);
+          (λ k c. misplaced-there l.packages k ((is.misplaced.listed k).0 c).1) (subst (λ ps. filter_map (misplaced_at ps) f.misplaced ≡ []) here o.0);
       misplaced_dependencies = filter_map-none (misplaced_dependency_at l.packages) f.misplaced_dependencies
           (λ k c. misplaced-dependency-there l.packages k ((is.misplaced_dependencies.told k.0 k.1).0 c))
           (subst (λ ps. filter_map (misplaced_dependency_at ps) f.misplaced_dependencies ≡ []) here o.1);

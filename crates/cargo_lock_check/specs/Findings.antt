@@ -25,7 +25,7 @@ use Rattle.cargo_lock_flaws.specs.Dependencies.{AreDependencies, IsMisplacedAt, 
 use Rattle.cargo_lock_flaws.specs.Lost.{AreLost}
 use Rattle.cargo_lock_flaws.specs.Names.{IsBadlyNamed}
 use Rattle.cargo_lock_flaws.specs.Packages.{IsMisplaced, IsTwice, IsUnchecked, IsWithoutChecksum}
-use Rattle.cargo_lock_flaws.specs.Places.{IsPlaces}
+use Rattle.lists.specs.Places.{IsPlaces}
 use Rattle.cargo_lock_flaws.specs.Reach.{IsOrphan}
 use Rattle.cargo_lock_flaws.specs.Sources.{HasUserInfo, IsFromAt, IsLookAlike}
 use Rattle.cargo_lock_flaws.specs.Stale.{stale_keys}

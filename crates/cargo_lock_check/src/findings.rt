@@ -11,7 +11,7 @@ ghost use Rattle.cargo_lock_flaws.specs.Alike.{ArePairsAlike};
 ghost use Rattle.cargo_lock_flaws.specs.Dependencies.{AreDependencies, IsMisplacedAt, IsRepeatedAt};
 ghost use Rattle.cargo_lock_flaws.specs.Names.{IsBadlyNamed};
 ghost use Rattle.cargo_lock_flaws.specs.Packages.{IsMisplaced, IsTwice};
-ghost use Rattle.cargo_lock_flaws.specs.Places.{IsPlaces};
+ghost use Rattle.lists.specs.Places.{IsPlaces};
 ghost use Rattle.cargo_lock_flaws.specs.Sources.{HasUserInfo, IsFromAt, IsLookAlike};
 
 use crate::asked::TextFindings;

@@ -12,8 +12,8 @@ use Rattle.lists.specs.Marks.{IsMarked}
 use Rattle.lists.specs.Places.{IsPlaces}
 use Rattle.cargo_lock_diagram.specs.Scene.{AreEdgesAmong, ComesBefore, needs}
 use Rattle.cargo_lock_diagram.specs.declared.scene.Arrow.{Arrow}
-use Rattle.lists.proofs.Members.{in-kept, kept-in, none-in}
-use Rattle.cargo_lock_diagram.proofs.Pairs.{from-map, in-map, pairs-append, pairs-map, pairs-weaker}
+use Rattle.lists.proofs.Members.{in-kept, in-map, kept-in, map-in, none-in}
+use Rattle.lists.proofs.Pairs.{pairs-append, pairs-map, pairs-weaker}
 
 -- ---- marks
 
@@ -63,7 +63,7 @@ arrows-pass marks node targets i target old so low is bare are =
 to-cases : (marks : List Bool) (node : ℕ) (targets : List ℕ) (a b : ℕ) → Contains (arrows_to marks node targets) (record { from = a; to = b })
     → (node ≡ a) × Contains targets b × (is_marked marks b ≡ true)
 to-cases marks node targets a b h =
-    let (target, among, is) = from-map (λ (t : ℕ). let e : Arrow = record { from = node; to = t } in e) (filter (is_marked marks) targets) (record { from = a; to = b }) h in
+    let (target, among, is) = map-in (λ (t : ℕ). let e : Arrow = record { from = node; to = t } in e) (filter (is_marked marks) targets) (record { from = a; to = b }) h in
     let same : target ≡ b = ap (λ (e : Arrow). e.to) is in
     let (there, marked) = kept-in (is_marked marks) targets b (subst (λ t. Contains (filter (is_marked marks) targets) t) same among) in
     (ap (λ (e : Arrow). e.from) is, there, marked)

@@ -1,5 +1,4 @@
 pub mod ReachedNodes
-pub mod Pairs
 pub mod Arrowing
 pub mod Escaping
 pub mod Quoting

@@ -5,12 +5,8 @@ use Rattle.std.proofs.lemmas.Bool.{eq-eqb, eqb-true, or_cases, or_left, or_right
 use Rattle.cargo_lock_graph.specs.Drawing.{is_one_of}
 use Rattle.cargo_lock_graph.specs.Paths.{IsPath}
 use Rattle.cargo_lock_diagram.specs.Reach as nodes
-use Rattle.lists.specs.Chains.{IsChain, IsReachedFrom}
+use Rattle.lists.specs.Chains.{IsChain, IsReachedFrom, LeadsToEach}
 use Rattle.lists.proofs.Members.{contains-cases, first-in, later-in, none-in}
-
--- the far ends of the edges of a
-abbrev pub leads_by : (ℕ → List ℕ) → ℕ → ℕ → Type 0
-leads_by far a = Contains (far a)
 
 one-of-in : (b : ℕ) (ns : List ℕ) → is_one_of b ns ≡ true → Contains ns b
 one-of-in b [] h = absurd cc
@@ -26,16 +22,16 @@ in-one-of b (n ∷ ns) h = elim (contains-cases n ns b h) [
   | inr later ↦ or_right (eqb b n) (is_one_of b ns) (in-one-of b ns later)
 ]
 
-path-of : (far : ℕ → List ℕ) (a : ℕ) (chain : List ℕ) (b : ℕ) → IsChain (leads_by far) a chain b → IsPath far a chain b
+path-of : (far : ℕ → List ℕ) (a : ℕ) (chain : List ℕ) (b : ℕ) → IsChain (LeadsToEach far) a chain b → IsPath far a chain b
 path-of far a [] b same = same
 path-of far a (n ∷ ns) b (leads, more) = (in-one-of n (far a) leads, path-of far n ns b more)
 
-chain-of : (far : ℕ → List ℕ) (a : ℕ) (path : List ℕ) (b : ℕ) → IsPath far a path b → IsChain (leads_by far) a path b
+chain-of : (far : ℕ → List ℕ) (a : ℕ) (path : List ℕ) (b : ℕ) → IsPath far a path b → IsChain (LeadsToEach far) a path b
 chain-of far a [] b same = same
 chain-of far a (n ∷ ns) b (leads, more) = (one-of-in n (far a) leads, chain-of far n ns b more)
 
 -- edges lead to what a chain leads to
-pub reached-is : (far : ℕ → List ℕ) (starts : List ℕ) (k : ℕ) → IsReachedFrom (Contains starts) (leads_by far) k ↔ nodes.IsReachedFrom far starts k
+pub reached-is : (far : ℕ → List ℕ) (starts : List ℕ) (k : ℕ) → IsReachedFrom (Contains starts) (LeadsToEach far) k ↔ nodes.IsReachedFrom far starts k
 reached-is far starts k = (
   λ r. (r.0, r.2, (r.1, path-of far r.0 r.1 k r.3)),
   λ r. (r.0, r.2.0, r.1, chain-of far r.0 r.2.0 k r.2.1),

@@ -23,9 +23,9 @@ use Rattle.cargo_lock_parts.specs.SourceKey.{git_reference_text, key_of, kind_nu
 use Rattle.cargo_lock_parts.proofs.RankLemmas.{rank_one_is_equal_keys}
 use Rattle.cargo_lock_graph.specs.Candidates.{identity_as_key}
 use Rattle.cargo_lock_graph.specs.Targets.{Matches, rank_between}
+use Rattle.lists.specs.Groups.{GroupedData}
 use Rattle.cargo_lock_flaws.specs.Group.{Group, asks_open, group_cmp, group_for, group_of, group_total, group_with, has_precise, kind_at, source_group, text_at}
 use Rattle.cargo_lock_flaws.specs.Groups.{IsGrouped, IsPut, places_of}
-use Rattle.cargo_lock_flaws.specs.declared.groups.Numbered.{Numbered}
 use Rattle.cargo_lock_flaws.proofs.DependencySeen.{same-identity}
 
 -- ---- groups that tie
@@ -37,14 +37,14 @@ AreTied (Some g) None = ⊥
 AreTied (Some g) (Some h) = is_at (group_cmp g) h ≡ true
 
 -- the group is there, and has the place
-abbrev pub IsIn : Numbered → Option Group → ℕ → Type 0
+abbrev pub IsIn : GroupedData Group → Option Group → ℕ → Type 0
 IsIn s None place = ⊥
 IsIn s (Some g) place = Contains (places_of s g) place
 
 tied-equal : (g h : Group) → g ≡ h → is_at (group_cmp g) h ≡ true
 tied-equal g h e = ap is_eq (subst (λ x. group_cmp g x ≡ Equal) e (tied_itself group_total g))
 
-put-tied : (s : Numbered) (x y : Option Group) (place : ℕ) → AreTied x y → IsPut s x place
+put-tied : (s : GroupedData Group) (x y : Option Group) (place : ℕ) → AreTied x y → IsPut s x place
     → IsIn s y place
 put-tied s None y place tied put = absurd tied
 put-tied s (Some g) None place tied put = absurd tied
@@ -314,13 +314,13 @@ same-tie d p o same =
 
 -- ---- the place is in the group
 
-put-3 : (s : Numbered) (p : PackageData) (place : ℕ) (o : Bool) → IsGrouped s p place
+put-3 : (s : GroupedData Group) (p : PackageData) (place : ℕ) (o : Bool) → IsGrouped s p place
     → (o ≡ true → has_precise p.source ≡ false)
     → IsPut s (group_of 3 o (identity_as_key (identity_of p))) place
 put-3 s p place true g bare = g.open_reference (bare refl)
 put-3 s p place false g bare = g.reference
 
-put-4 : (s : Numbered) (p : PackageData) (place : ℕ) (o : Bool) → IsGrouped s p place
+put-4 : (s : GroupedData Group) (p : PackageData) (place : ℕ) (o : Bool) → IsGrouped s p place
     → (o ≡ true → has_precise p.source ≡ false)
     → IsPut s (group_of 4 o (identity_as_key (identity_of p))) place
 put-4 s p place true g bare = g.open_repository (bare refl)
@@ -364,7 +364,7 @@ by-rank d p (Some a) (Some b) rank named h = elim (rank-cases (has_rank_1 a b) (
       ]
     ]
 
-pub in-group : (s : Numbered) (d : Identity) (p : PackageData) (place rank : ℕ)
+pub in-group : (s : GroupedData Group) (d : Identity) (p : PackageData) (place rank : ℕ)
     → IsGrouped s p place → Matches d rank p → IsIn s (group_for rank d) place
 in-group s d p place rank g f =
     let to : (r : ℕ) → rank ≡ r → IsIn s (group_for r d) place → IsIn s (group_for rank d) place =

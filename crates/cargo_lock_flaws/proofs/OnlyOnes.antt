@@ -14,7 +14,7 @@ use Rattle.cargo_lock_graph.specs.Candidates.{versions_of}
 use Rattle.cargo_lock_graph.specs.Targets.{IsLost, Matches, MatchesAt, rank_between}
 use Rattle.cargo_lock_graph.proofs.BestCandidates.{same-version}
 use Rattle.cargo_lock_flaws.specs.Groups.{AreOnly, IsNamedAt, IsOnlyPlace, fits_source, is_only_one}
-use Rattle.cargo_lock_flaws.specs.Places.{IsMarked}
+use Rattle.lists.specs.Marks.{IsMarked}
 use Rattle.cargo_lock_flaws.specs.Reach.{IsOneOfBest}
 
 -- ---- keys that pass a test

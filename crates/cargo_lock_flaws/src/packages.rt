@@ -2,7 +2,7 @@
 
 ghost use Rattle.std.specs.Prelude.{◌≡◌, ◌↔◌, ◌<◌, if◌then◌else◌, true, IfOk, IsTrue, OnOk, length, option_copied};
 ghost use Rattle.cargo_lock_flaws.specs.Packages.{IsMisplaced, IsTwice, IsUnchecked, IsWithoutChecksum, own_source};
-ghost use Rattle.cargo_lock_flaws.specs.Places.{IsPlaces};
+ghost use Rattle.lists.specs.Places.{IsPlaces};
 ghost use Rattle.cargo_lock_flaws.specs.Seen.{AreChecked, LacksChecksumAmong, has_source, is_new};
 ghost use Rattle.cargo_lock_parts.specs.Source.{Source};
 ghost use Rattle.cargo_lock_parts.specs.SourceKey.{is_same_source};

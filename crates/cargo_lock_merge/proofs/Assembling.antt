@@ -13,7 +13,7 @@ use Rattle.cargo_lock_merge_core.specs.Assembled.{IsIdentityAt}
 use Rattle.cargo_lock_merge_core.specs.Merged.{merged_data}
 use Rattle.cargo_lock_merge_core.specs.Numbered.{places_of}
 use Rattle.cargo_lock_merge_core.specs.Placed.{HasAt, PlacedData}
-use Rattle.cargo_lock_merge_core.proofs.Members.{in-map, map-in}
+use Rattle.lists.proofs.Members.{in-map, map-in}
 use Rattle.cargo_lock_merge_core.proofs.Once.{one-at}
 use Rattle.cargo_lock_merge_core.proofs.Planning.{map-push}
 use Rattle.cargo_lock_graph.proofs.Zipped.{zip-push}

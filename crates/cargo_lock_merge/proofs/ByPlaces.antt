@@ -19,7 +19,7 @@ use Rattle.cargo_lock_merge_core.specs.Renaming.{rename_conflict, rename_triple}
 use Rattle.cargo_lock_merge_core.proofs.Assembling.{IsAssembledMerge, assembled-at, used-number}
 use Rattle.cargo_lock_merge_core.proofs.Backwards.{conflict-one, conflicts-of-places, no-merge-of-places}
 use Rattle.cargo_lock_merge_core.proofs.ByPlaces.{commits-placed, conflict-placed, merged-number, moved-back, moved-placed, pairs-mapped}
-use Rattle.cargo_lock_merge_core.proofs.Members.{first-in, in-map, later-in, map-in}
+use Rattle.lists.proofs.Members.{first-in, in-map, later-in, map-in}
 use Rattle.cargo_lock_merge_core.proofs.Slotting.{numbers-one}
 use Rattle.cargo_lock_merge.specs.declared.conflict.Conflict.{Conflict}
 use Rattle.cargo_lock_merge.specs.declared.conflict.Conflict.TheVariants.{AtPlace, OfSource}

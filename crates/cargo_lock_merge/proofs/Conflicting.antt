@@ -2,11 +2,12 @@
 use Rattle.std.proofs.Common.{◌≡◌, ◌≢◌, ◌⊎◌, ◌↔◌, ◌<◌, ◌++◌, inl, inr, ℕ, suc, All, List, [], ◌∷◌, get_or, length, map, refl, sym, ap, subst, ◌∙◌, arith}
 use Rattle.std.specs.List.{AllPairs, Contains}
 use Rattle.std.specs.List.Sorted.{IsPermutation}
-use Rattle.std.proofs.lemmas.List.{get_or-map, length-map}
+use Rattle.std.proofs.lemmas.List.{get_or-map, length-map, map-append}
 use Rattle.std.proofs.lemmas.List.Elements.{All-append, All-map, Contains-append_cases, Contains-append_left, Contains-append_right}
 use Rattle.std.proofs.lemmas.List.Sorted.{All-permutation, Contains-permutation, IsPermutation-sym}
 use Rattle.std.proofs.lemmas.Simd.{map-map}
 use Rattle.cargo_lock_parts.specs.SourceKey.{Key}
+use Rattle.lists.proofs.Pairs.{pairs-append}
 use Rattle.cargo_lock_merge_core.specs.declared.commits.SourceCommits.{SourceCommits}
 use Rattle.cargo_lock_merge_core.specs.declared.conflicts.Conflict as merging
 use Rattle.cargo_lock_merge_core.specs.declared.conflicts.Kind.{Kind}
@@ -15,8 +16,7 @@ use Rattle.cargo_lock_merge_core.specs.Conflicts.{AreConflicts, IsConflictAt, co
 use Rattle.cargo_lock_merge_core.specs.Disputes.{AreDisputes, AreInDispute, HasCommits, source_key}
 use Rattle.cargo_lock_merge_core.specs.Merge.{ConflictData, IsConflict, OfChecksum, OfPackage, OfReplacement, OfSource, Triple, lockfiles_of}
 use Rattle.cargo_lock_merge_core.proofs.Ascending.{far-below}
-use Rattle.cargo_lock_merge_core.proofs.Members.{in-map, map-in}
-use Rattle.cargo_lock_merge_core.proofs.Moving.{map-append, pairs-append}
+use Rattle.lists.proofs.Members.{in-map, map-in}
 use Rattle.cargo_lock_merge_core.proofs.Permuting.{map-permuted, pairs-permuted}
 use Rattle.cargo_lock_merge.specs.declared.conflict.Conflict.{Conflict}
 use Rattle.cargo_lock_merge.specs.declared.conflict.Conflict.TheVariants as variant

@@ -6,7 +6,7 @@ use Rattle.std.specs.List.{AllPairs, AllZip, Contains}
 use Rattle.std.specs.List.Sorted.{IsPermutation, IsSorted}
 use Rattle.std.proofs.lemmas.Bool.{cases_order}
 use Rattle.std.proofs.lemmas.List.{take_more}
-use Rattle.std.proofs.lemmas.List.Elements.{All-cons, Contains-get_or}
+use Rattle.std.proofs.lemmas.List.Elements.{All-cons, Contains-get_or, All-contains}
 use Rattle.std.proofs.lemmas.List.Sorted.{All-permutation, Contains-permutation}
 use Rattle.std.proofs.lemmas.Option.{slice_get_within}
 use Rattle.std.proofs.lemmas.Simd.{map-map}
@@ -15,9 +15,8 @@ use Rattle.cargo_lock_graph.specs.Targets.{HoldsOf, IsLastBelow}
 use Rattle.cargo_lock_merge_core.specs.declared.moved.Moved as merging
 use Rattle.cargo_lock_merge_core.specs.Moved.{AreMoved, IsBefore, IsMoved, places_of_moved}
 use Rattle.cargo_lock_merge_core.specs.Placed.{PlacedData}
-use Rattle.cargo_lock_merge_core.proofs.Members.{in-map}
+use Rattle.lists.proofs.Members.{in-map}
 use Rattle.cargo_lock_merge_core.proofs.Permuting.{map-permuted, pairs-permuted}
-use Rattle.cargo_lock_merge_core.proofs.Planning.{all-in}
 use Rattle.cargo_lock_merge.specs.declared.moved.Moved.{Moved}
 use Rattle.cargo_lock_merge.specs.declared.moved.Named.{Named}
 use Rattle.cargo_lock_merge.specs.Order.{moved_order}
@@ -47,7 +46,7 @@ are-moved o t m packages old new all h perm same sorted shown = record {
     from : (P : merging.Moved → Type 0) → All P old → All (λ (r : Moved). P r.found) all
     from P each k d low =
         let r : Moved = get_or all k d in
-        all-in P new r.found (All-permutation P old new perm each)
+        All-contains P new r.found (All-permutation P old new perm each)
         (subst (λ (zs : List merging.Moved). Contains zs r.found) same (in-map (λ (w : Moved). w.found) all r (Contains-get_or all k d low)))
 
 -- what is marked of named references

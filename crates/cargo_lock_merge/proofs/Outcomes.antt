@@ -15,7 +15,7 @@ use Rattle.cargo_lock_merge_core.specs.Moved.{AreListed}
 use Rattle.cargo_lock_merge_core.specs.Plans.{IsNumbered, IsPlan}
 use Rattle.cargo_lock_merge_core.specs.Triples.{AreSidesOf}
 use Rattle.cargo_lock_merge_core.proofs.Assembling.{assembled-merge, list-closed, list-numbered}
-use Rattle.cargo_lock_merge_core.proofs.Members.{none-in}
+use Rattle.lists.proofs.Members.{none-in}
 use Rattle.cargo_lock_merge_core.proofs.Zipping.{zip-left, zip-right}
 use Rattle.cargo_lock_merge.specs.declared.conflict.Conflict.{Conflict}
 use Rattle.cargo_lock_merge.specs.declared.outcome.Outcome.{Outcome}

@@ -6,6 +6,7 @@ use Rattle.std.proofs.lemmas.Bool.{cases_eq, cases_lt}
 use Rattle.std.proofs.lemmas.List.{get_or_append_left, get_or-append_right, get_or_default, get_or-drop, take_more, drop_all, take-append-drop, append-nil}
 use Rattle.std.proofs.lemmas.List.Elements.{Contains-append_left, Contains-append_right, Contains-append_cases, Contains-push, Contains-push_cases}
 use Rattle.std.proofs.lemmas.List.Kept.{AllPairs-from_increasing}
+use Rattle.lists.proofs.Members.{none-in}
 use Rattle.cargo_lock_merge_core.specs.Sets.{AreBelow}
 
 -- earlier places are below later ones
@@ -81,9 +82,6 @@ pub record IsUnion (xs ys : List ℕ) (i j : ℕ) (all : List ℕ) : Type 0 wher
   pub xs_above : (k : ℕ) → k < length all → i < length xs → get_or all k 0 < get_or xs i 0
   pub ys_above : (k : ℕ) → k < length all → j < length ys → get_or all k 0 < get_or ys j 0
   pub holds : (p : ℕ) → Contains all p ↔ (Contains (take i xs) p ⊎ Contains (take j ys) p)
-
-pub none-in : {X : Type 0} (x : X) → ¬ Contains [] x
-none-in x h = let low = h.1 in omega (arith, low)
 
 pub union-start : (xs ys : List ℕ) → IsUnion xs ys 0 0 []
 union-start xs ys = record {

@@ -6,6 +6,7 @@ use Rattle.std.proofs.lemmas.List.Elements.{Contains-get_or}
 use Rattle.std.proofs.lemmas.List.Sorted.{Contains-permutation, IsPermutation-sym}
 use Rattle.std.proofs.lemmas.List.{get_or-map, length-map}
 use Rattle.cargo_lock_parts.specs.Identity.{Identity, PackageData, identity_key, identity_of}
+use Rattle.lists.proofs.Searches.{chain-on}
 use Rattle.cargo_lock_merge_core.specs.Assembled.{AreAssembled, AreSides, AssembledAreMerge, IsAssembled, IsIdentityAt, IsIdentityAtIf}
 use Rattle.cargo_lock_merge_core.specs.Choices.{IsChecksum, IsOfSide, IsReplacement}
 use Rattle.cargo_lock_merge_core.specs.Commits.{HasCommit, HasOneCommitEach, Lockfiles, key_without_commit}
@@ -17,9 +18,8 @@ use Rattle.cargo_lock_merge_core.specs.Places.{ArePlaced, IsMergeOf, IsPlaced, I
 use Rattle.cargo_lock_merge_core.specs.Plans.{IsClosed, IsNumbered}
 use Rattle.cargo_lock_merge_core.specs.Renaming.{IsOneToOne, IsUsed, rename, rename_all, rename_triple}
 use Rattle.cargo_lock_merge_core.proofs.Counting.{one-permuted}
-use Rattle.cargo_lock_merge_core.proofs.Members.{contains-cases, first-in, got-in, in-got, in-map, later-in, map-in, none-in}
+use Rattle.lists.proofs.Members.{contains-cases, first-in, got-in, in-got, in-map, later-in, map-in, none-in}
 use Rattle.cargo_lock_merge_core.proofs.Renamed.{merge-renamed}
-use Rattle.cargo_lock_merge_core.proofs.Sides.{chain-more}
 use Rattle.cargo_lock_merge_core.proofs.Slotting.{numbers-one, place-of-key}
 
 -- ---- the packages of a merge at their places
@@ -119,7 +119,7 @@ module _ (all : Lockfiles) (places : List Place) (s : Triple ℕ) (sides : AreSi
     leads-merged : (x : PlacedData ℕ) (d : ℕ) → Contains m x → LeadsTo s x.place d → (y : PlacedData ℕ) × HasAt m d y
     leads-merged x d among leads =
         let r = (h.holds x.place).0 (x, (among, refl)) in
-        (h.holds d).1 (r.0, r.1 ++ d ∷ [], r.2, chain-more (LeadsTo s) r.0 r.1 x.place d r.3 leads)
+        (h.holds d).1 (r.0, r.1 ++ d ∷ [], r.2, chain-on (LeadsTo s) r.0 r.1 x.place d r.3 leads)
 
     pub depends-merged : (x : PlacedData ℕ) (d : ℕ) → Contains m x → Contains x.dependencies d → (y : PlacedData ℕ) × HasAt m d y
     depends-merged x d among depends =

@@ -18,8 +18,7 @@ use Rattle.cargo_lock_merge_core.specs.Conflicts.{IsChosenIf, conflict_of}
 use Rattle.cargo_lock_parts.specs.Identity.{PackageData}
 use Rattle.cargo_lock_merge_core.specs.Places.{Place}
 use Rattle.cargo_lock_merge_core.specs.Renaming.{Has, IsOneToOne, IsUsed, rename, rename_all, rename_conflict, rename_triple}
-use Rattle.cargo_lock_merge_core.proofs.Planning.{image-in}
-use Rattle.cargo_lock_merge_core.proofs.Members.{first-in, later-in}
+use Rattle.lists.proofs.Members.{first-in, later-in, map-in}
 use Rattle.cargo_lock_merge_core.proofs.Renamed.{conflict-renamed, have-to, lockfiles-same, merge-renamed, side-used}
 use Rattle.cargo_lock_merge_core.proofs.Renaming.{chosen-of, chosen-to}
 use Rattle.cargo_lock_merge_core.proofs.Sides.{side-at}
@@ -116,13 +115,13 @@ module _ (places : List Place) where
 
   has-from : (xs : List (PlacedData ℕ)) (p : Place) → Has (rename_all to xs) p → (n : ℕ) × Has xs n × (to n ≡ p)
   has-from xs p (y, among, how) =
-      let (x, there, same) = image-in (rename to) xs y among in
+      let (x, there, same) = map-in (rename to) xs y among in
       by x there same how
     where
       by : (x : PlacedData ℕ) → Contains xs x → rename to x ≡ y → (y.place ≡ p) ⊎ (Contains y.dependencies p ⊎ (y.replacement ≡ Some p)) → (n : ℕ) × Has xs n × (to n ≡ p)
       by x there same (inl is) = (x.place, (x, there, inl refl), ap (λ (z : PlacedData Place). z.place) same ∙ is)
       by x there same (inr (inl depends)) =
-          let (n, listed, is) = image-in to x.dependencies p (subst (λ (z : PlacedData Place). Contains z.dependencies p) (sym same) depends) in
+          let (n, listed, is) = map-in to x.dependencies p (subst (λ (z : PlacedData Place). Contains z.dependencies p) (sym same) depends) in
           (n, (x, there, inr (inl listed)), is)
       by x there same (inr (inr replaced)) = option x.replacement refl (ap (λ (z : PlacedData Place). z.replacement) same ∙ replaced)
         where

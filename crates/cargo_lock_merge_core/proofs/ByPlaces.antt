@@ -23,7 +23,7 @@ use Rattle.cargo_lock_merge_core.specs.Places.{Place, place_of}
 use Rattle.cargo_lock_merge_core.specs.Renaming.{IsUsed, rename, rename_all, rename_triple}
 use Rattle.cargo_lock_merge_core.proofs.Assembling.{IsPut, content-from, content-in, content-to, depends-merged, merged-place, number-of, used-number}
 use Rattle.cargo_lock_merge_core.proofs.Backwards.{chosen-at, conflict-number}
-use Rattle.cargo_lock_merge_core.proofs.Members.{in-map, map-in}
+use Rattle.lists.proofs.Members.{in-map, map-in}
 use Rattle.cargo_lock_merge_core.proofs.Once.{one-at}
 use Rattle.cargo_lock_merge_core.proofs.Renamed.{side-used}
 use Rattle.cargo_lock_merge_core.proofs.Slotting.{numbers-one}

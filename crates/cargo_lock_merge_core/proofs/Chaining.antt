@@ -1,6 +1,6 @@
 -- What is reached, by facts that hold at the same places.
 use Rattle.std.proofs.Common.{◌↔◌, ℕ, List, [], ◌∷◌}
-use Rattle.cargo_lock_merge_core.specs.Merge.{IsChain, IsReachedFrom}
+use Rattle.lists.specs.Chains.{IsChain, IsReachedFrom}
 
 module _ (F G : ℕ → Type 0) (a b : ℕ → ℕ → Type 0) (roots : (p : ℕ) → F p ↔ G p) (leads : (p d : ℕ) → a p d ↔ b p d) where
   chain-to : (p : ℕ) (chain : List ℕ) (q : ℕ) → IsChain a p chain q → IsChain b p chain q

@@ -5,6 +5,7 @@ use Rattle.std.proofs.lemmas.List.{get_or_default}
 use Rattle.std.proofs.lemmas.List.Elements.{All-push}
 use Rattle.std.proofs.lemmas.Option.{get_or_from_slice_get, slice_get-get_or, slice_get_within}
 use Rattle.cargo_lock_parts.specs.SourceKey.{Key}
+use Rattle.lists.proofs.Members.{map-in}
 use Rattle.cargo_lock_merge_core.specs.declared.conflicts.Conflict.{Conflict}
 use Rattle.cargo_lock_merge_core.specs.declared.conflicts.Kind.{Kind}
 use Rattle.cargo_lock_merge_core.specs.declared.conflicts.Kind.TheVariants.{Package, Checksum, Replacement}
@@ -22,12 +23,12 @@ use Rattle.cargo_lock_merge_core.specs.Merged.{HasPlan, IsUnsettled}
 use Rattle.cargo_lock_merge_core.specs.Numbered.{IsChecksumChoice, IsReplacementChoice, IsRowOf, data_if, data_of, place_of, places_of}
 use Rattle.cargo_lock_merge_core.specs.Placed.{HasAt, IsAt, PlacedData}
 use Rattle.cargo_lock_merge_core.specs.Plans.{entry_places}
-use Rattle.cargo_lock_merge_core.specs.Reach.{IsMarked}
+use Rattle.lists.specs.Marks.{IsMarked}
 use Rattle.cargo_lock_merge_core.proofs.Indexing.{at-once}
 use Rattle.cargo_lock_merge_core.proofs.Kept.{AreKept, kept-end, kept-pass, kept-push}
 use Rattle.cargo_lock_merge_core.proofs.Landing.{reached-there}
 use Rattle.cargo_lock_merge_core.proofs.Once.{at-same, checksum-alike, chosen-once, replacement-alike}
-use Rattle.cargo_lock_merge_core.proofs.Planning.{image-in, map-push}
+use Rattle.cargo_lock_merge_core.proofs.Planning.{map-push}
 use Rattle.cargo_lock_merge_core.proofs.SoFar.{entry-at, long, place-at, row-of, slice-at, value-apart}
 
 -- the conflicts of the first entries
@@ -75,7 +76,7 @@ module _ (s : Triple ℕ) (plan : Plan) (h : HasPlan s plan) where
   -- ---- what the places are
 
   side-there : (xs : List (PlacedData ℕ)) (p : ℕ) → Contains (places_of xs) p → (x : PlacedData ℕ) × HasAt xs p x
-  side-there xs p c = let k = image-in place_of xs p c in (k.0, (k.1, k.2))
+  side-there xs p c = let k = map-in place_of xs p c in (k.0, (k.1, k.2))
 
   pub row-at : (e : Entry) (p : ℕ) → e.row.place ≡ p → IsRowOf s.base s.ours s.theirs e.row → HaveAt s p (data_if e.row.base) (data_if e.row.ours) (data_if e.row.theirs)
   row-at e p here r = record {
@@ -106,7 +107,7 @@ module _ (s : Triple ℕ) (plan : Plan) (h : HasPlan s plan) where
   -- and a place that is reached has such an entry
   pub reached-entry : (p : ℕ) → IsReached s p → (k : ℕ) × (e : Entry) × (slice_get plan.entries.items k ≡ Some e) × (e.row.place ≡ p) × IsMarked plan.reached.items k
   reached-entry p reached =
-      let m = image-in (λ (e : Entry). e.row.place) plan.entries.items p ((h.plan.entries.holds p).1 (reached-there s h.ours_closed h.theirs_closed p reached)) in
+      let m = map-in (λ (e : Entry). e.row.place) plan.entries.items p ((h.plan.entries.holds p).1 (reached-there s h.ours_closed h.theirs_closed p reached)) in
       let e : Entry = m.0 in
       let k : ℕ = m.1.0 in
       let low : k < length plan.entries.items = m.1.1 in

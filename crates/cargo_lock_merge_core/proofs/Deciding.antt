@@ -19,8 +19,8 @@ use Rattle.cargo_lock_parts.specs.SourceLaws.{key_total}
 use Rattle.cargo_lock_merge_core.specs.Commits.{HasCommit, IsCommitIn, commit_in, git_in}
 use Rattle.cargo_lock_merge_core.specs.Placed.{HasAt, IsAt, PlacedData, key}
 use Rattle.cargo_lock_merge_core.specs.Places.{Place}
-use Rattle.cargo_lock_merge_core.proofs.Ascending.{none-in}
-use Rattle.cargo_lock_merge_core.proofs.Zipping.{at-head, head-or}
+use Rattle.lists.proofs.Members as members
+use Rattle.lists.proofs.Members.{first-in, none-in}
 
 -- ---- one value or two
 
@@ -58,20 +58,20 @@ some-cases (Some k) g = elim (same-cases _ key_total key_cmp-anti k g) [
 pub contains-cases : (xs : List Place) (d : Place) → Contains xs d ⊎ (¬ Contains xs d)
 contains-cases [] d = inr (none-in d)
 contains-cases (x ∷ xs) d = elim (place-cases x d) [
-  | inl here ↦ inl (subst (λ (y : Place). Contains (x ∷ xs) y) here (at-head x xs))
+  | inl here ↦ inl (subst (λ (y : Place). Contains (x ∷ xs) y) here (first-in x xs))
   | inr other ↦ elim (contains-cases xs d) [
     | inl rest ↦ inl (Contains-append_right (x ∷ []) xs d rest)
-    | inr none ↦ inr (λ h. elim (head-or x xs d h) [ inl e ↦ other e | inr rest ↦ none rest ])
+    | inr none ↦ inr (λ h. elim (members.contains-cases x xs d h) [ inl e ↦ other e | inr rest ↦ none rest ])
   ]
 ]
 
 pub at-cases : (xs : List (PlacedData Place)) (p : Place) → ((x : PlacedData Place) × HasAt xs p x) ⊎ ((x : PlacedData Place) → ¬ HasAt xs p x)
 at-cases [] p = inr (λ x h. none-in x h.0)
 at-cases (y ∷ ys) p = elim (place-cases y.place p) [
-  | inl here ↦ inl (y, (at-head y ys, here))
+  | inl here ↦ inl (y, (first-in y ys, here))
   | inr other ↦ elim (at-cases ys p) [
     | inl rest ↦ inl (rest.0, (Contains-append_right (y ∷ []) ys rest.0 rest.1.0, rest.1.1))
-    | inr none ↦ inr (λ x h. elim (head-or y ys x h.0) [
+    | inr none ↦ inr (λ x h. elim (members.contains-cases y ys x h.0) [
       | inl e ↦ other (ap (λ (z : PlacedData Place). z.place) e ∙ h.1)
       | inr rest ↦ none x (rest, h.1)
     ])
@@ -84,10 +84,10 @@ at-option xs p = elim (at-cases xs p) [ inl some ↦ (Some some.0, some.1) | inr
 commit-cases : (ps : List PackageData) (g : Key) → ((c : Option (List ℕ)) × HasCommit ps g c) ⊎ ((c : Option (List ℕ)) → ¬ HasCommit ps g c)
 commit-cases [] g = inr (λ c h. none-in h.0 h.1)
 commit-cases (p ∷ ps) g = elim (some-cases (git_in p.source) g) [
-  | inl is ↦ inl (commit_in p.source, (p, at-head p ps, (is, refl)))
+  | inl is ↦ inl (commit_in p.source, (p, first-in p ps, (is, refl)))
   | inr other ↦ elim (commit-cases ps g) [
     | inl rest ↦ inl (rest.0, (rest.1.0, Contains-append_right (p ∷ []) ps rest.1.0 rest.1.1, rest.1.2))
-    | inr none ↦ inr (λ c h. elim (head-or p ps h.0 h.1) [
+    | inr none ↦ inr (λ c h. elim (members.contains-cases p ps h.0 h.1) [
       | inl e ↦ other (subst (λ (q : PackageData). git_in q.source ≡ Some g) (sym e) h.2.0)
       | inr rest ↦ none c (h.0, rest, h.2)
     ])

@@ -20,11 +20,11 @@ use Rattle.cargo_lock_merge_core.specs.Merge.{IsConflict, OfSource, Triple, lock
 use Rattle.cargo_lock_merge_core.specs.Merged.{HasPlan}
 use Rattle.cargo_lock_merge_core.specs.Numbered.{data_if}
 use Rattle.cargo_lock_merge_core.specs.Placed.{PlacedData}
-use Rattle.cargo_lock_merge_core.specs.Reach.{IsMarked}
+use Rattle.lists.specs.Marks.{IsMarked}
 use Rattle.cargo_lock_merge_core.specs.Rule3.{IsDisputed}
 use Rattle.cargo_lock_merge_core.proofs.Conflicting.{dispute-conflict, entry-among, marked-entry, reached-entry, row-at}
 use Rattle.cargo_lock_merge_core.proofs.Merging.{bare-key}
-use Rattle.cargo_lock_merge_core.proofs.Members.{none-in}
+use Rattle.lists.proofs.Members.{none-in}
 use Rattle.cargo_lock_merge_core.proofs.Once.{at-same}
 use Rattle.cargo_lock_merge_core.proofs.Planning.{map-push}
 use Rattle.cargo_lock_merge_core.proofs.SoFar.{row-of}

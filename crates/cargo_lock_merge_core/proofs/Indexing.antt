@@ -1,21 +1,21 @@
 -- Places and their indices.
-use Rattle.std.proofs.Common.{◌≡◌, ◌<◌, ◌≤◌, inl, inr, ℕ, List, [], ◌∷◌, length, get_or, slice_get, Some, Result, Ok, Err, ◌↔◌, refl, sym, ap, subst, ◌∙◌, arith, MatchOption}
+use Rattle.std.proofs.Common.{◌≡◌, ◌<◌, ◌≤◌, inl, inr, ℕ, true, false, List, [], ◌∷◌, length, get_or, slice_get, Some, Result, Ok, Err, ◌↔◌, refl, sym, ap, subst, ◌∙◌, arith, MatchOption}
 use Rattle.std.specs.Prelude.{option_map}
 use Rattle.std.specs.List.{Contains}
 use Rattle.std.specs.List.Sorted.{IsBinarySearchResult, IsStrictlyIncreasing}
 use Rattle.std.specs.Ordering.{nat_cmp}
 use Rattle.std.specs.Result.{result_ok}
-use Rattle.std.proofs.lemmas.Bool.{cases_eq, cases_lt, cases_order}
+use Rattle.std.proofs.lemmas.Bool.{cases_eq, cases_lt, cases_order, false≢true}
 use Rattle.std.proofs.lemmas.List.{get_or_default}
 use Rattle.std.proofs.lemmas.List.Sorted.{searched}
 use Rattle.std.proofs.lemmas.Option.{get_or_from_slice_get, slice_get-get_or, slice_get-map, slice_get_within, same_Some}
+use Rattle.lists.specs.Chains.{IsChain, IsReachedFrom, OneLeadsTo}
+use Rattle.lists.specs.Reach.{HasReached, ReachData}
+use Rattle.lists.proofs.Members.{got-in, in-got}
+use Rattle.lists.proofs.ReachedPlaces.{reached-alike, reached-none}
 use Rattle.cargo_lock_merge_core.specs.declared.reach.Node.{Node}
-use Rattle.cargo_lock_merge_core.specs.declared.reach.Search.{Search}
-use Rattle.cargo_lock_merge_core.specs.Merge.{IsChain, IsReachedFrom}
 use Rattle.cargo_lock_merge_core.specs.Reach.{EdgeAt, IsRootPlace, LeadsToPlace, RootAt, places_in}
-use Rattle.cargo_lock_merge_core.specs.Search.{HasReached}
 use Rattle.cargo_lock_merge_core.proofs.Ascending.{far-below}
-use Rattle.cargo_lock_merge_core.proofs.Searching.{reached-alike}
 
 -- what a binary search says
 pub found-index : (xs : List ℕ) (x : ℕ) → IsStrictlyIncreasing xs → (r : Result ℕ ℕ) → IsBinarySearchResult (λ y. nat_cmp y x) xs r
@@ -60,23 +60,42 @@ at-once xs p up i j at at' =
     ]
 
 -- the index of a node
-node-at : (nodes : List Node) (n : Node) → Contains nodes n → (j : ℕ) × (slice_get nodes j ≡ Some n)
-node-at nodes n h = (h.0, slice_get-get_or nodes h.0 n h.1 ∙ ap Some h.2)
-
-node-in : (nodes : List Node) (j : ℕ) (n : Node) → slice_get nodes j ≡ Some n → Contains nodes n
-node-in nodes j n at = (j, slice_get_within nodes j n at, get_or_from_slice_get nodes j n n at)
-
 place-of-node : (nodes : List Node) (j : ℕ) (n : Node) → slice_get nodes j ≡ Some n → slice_get (places_in nodes) j ≡ Some n.place
 place-of-node nodes j n at = slice_get-map (λ (m : Node). m.place) nodes j ∙ ap (option_map (λ (m : Node). m.place)) at
 
--- what a node leads to
-pub edges-of : (nodes : List Node) (at : ℕ) (n : Node) (a b : Search) → slice_get nodes at ≡ Some n
-    → HasReached (λ k. (d : ℕ) × Contains n.targets.now d × (slice_get (places_in nodes) k ≡ Some d)) a b → HasReached (EdgeAt nodes at) a b
-edges-of nodes at n a b is f =
-    reached-alike (λ k. (d : ℕ) × Contains n.targets.now d × (slice_get (places_in nodes) k ≡ Some d)) (EdgeAt nodes at) a b
-    (λ k h. (n, is, h))
-    (λ k h. subst (λ (m : Node). (d : ℕ) × Contains m.targets.now d × (slice_get (places_in nodes) k ≡ Some d)) (same_Some h.0 n (sym h.1 ∙ is)) h.2)
+-- ---- what a search reaches
+
+-- the place is at the index
+pub place-reached : (places : List ℕ) (d at : ℕ) (a b : ReachData) → IsStrictlyIncreasing places → slice_get places at ≡ Some d
+    → HasReached (λ k. k ≡ at) a b → HasReached (λ k. slice_get places k ≡ Some d) a b
+place-reached places d at a b up here f =
+    reached-alike (λ k. k ≡ at) (λ k. slice_get places k ≡ Some d) a b
+    (λ k same. ap (slice_get places) same ∙ here)
+    (λ k h. at-once places d up k at h here)
     f
+
+-- it is none of the places
+pub place-passed : (places : List ℕ) (d : ℕ) (s : ReachData) → ¬ Contains places d → HasReached (λ k. slice_get places k ≡ Some d) s s
+place-passed places d s none = reached-none (λ k. slice_get places k ≡ Some d) s (λ k h. none (got-in places k d h))
+
+-- what a node leads to
+pub edges-of : (nodes : List Node) (at : ℕ) (n : Node) (a b : ReachData) → slice_get nodes at ≡ Some n
+    → HasReached (OneLeadsTo (λ d k. slice_get (places_in nodes) k ≡ Some d) n.targets.now) a b → HasReached (EdgeAt nodes at) a b
+edges-of nodes at n a b is f =
+    reached-alike (OneLeadsTo (λ d k. slice_get (places_in nodes) k ≡ Some d) n.targets.now) (EdgeAt nodes at) a b
+    (λ k h. (n, is, h))
+    (λ k h. subst (λ (m : Node). OneLeadsTo (λ d j. slice_get (places_in nodes) j ≡ Some d) m.targets.now k) (same_Some h.0 n (sym h.1 ∙ is)) h.2)
+    f
+
+pub root-here : (nodes : List Node) (i : ℕ) (n : Node) → slice_get nodes i ≡ Some n → n.is_root ≡ true → RootAt nodes i
+root-here nodes i n at is = (n, at, is)
+
+pub root-not : (nodes : List Node) (i : ℕ) (n : Node) → slice_get nodes i ≡ Some n → n.is_root ≡ false → ¬ RootAt nodes i
+root-not nodes i n at is h =
+    let same : h.0 ≡ n = same_Some h.0 n (sym h.1 ∙ at) in
+    false≢true (sym is ∙ ap (λ (r : Node). r.is_root) (sym same) ∙ h.2)
+
+-- ---- chains
 
 module _ (nodes : List Node) (up : IsStrictlyIncreasing (places_in nodes)) where
   to-places : (a : ℕ) (chain : List ℕ) (k p q : ℕ) → slice_get (places_in nodes) a ≡ Some q → slice_get (places_in nodes) k ≡ Some p
@@ -87,14 +106,14 @@ module _ (nodes : List Node) (up : IsStrictlyIncreasing (places_in nodes)) where
       let d : ℕ = chain.0.2.0 in
       let place : n.place ≡ q = same_Some n.place q (sym (place-of-node nodes a n chain.0.1) ∙ from) in
       let rest = to-places b bs k p d chain.0.2.2 to chain.1 in
-      (d ∷ rest.0, ((n, node-in nodes a n chain.0.1, place, chain.0.2.1), rest.1))
+      (d ∷ rest.0, ((n, got-in nodes a n chain.0.1, place, chain.0.2.1), rest.1))
 
   -- the first place of a chain to a place of a node is that of a node
   head-at : (d : ℕ) (chain : List ℕ) (p k : ℕ) → slice_get (places_in nodes) k ≡ Some p → IsChain (LeadsToPlace nodes) d chain p → (b : ℕ) × (slice_get (places_in nodes) b ≡ Some d)
   head-at d [] p k to same = (k, to ∙ ap Some (sym same))
   head-at d (e ∷ es) p k to chain =
       let n : Node = chain.0.0 in
-      let j = node-at nodes n chain.0.1 in
+      let j = in-got nodes n chain.0.1 in
       (j.0, place-of-node nodes j.0 n j.1 ∙ ap Some chain.0.2)
 
   to-indices : (q : ℕ) (chain : List ℕ) (p a k : ℕ) → slice_get (places_in nodes) a ≡ Some q → slice_get (places_in nodes) k ≡ Some p
@@ -102,7 +121,7 @@ module _ (nodes : List Node) (up : IsStrictlyIncreasing (places_in nodes)) where
   to-indices q [] p a k from to same = ([], at-once (places_in nodes) p up a k (from ∙ ap Some same) to)
   to-indices q (d ∷ ds) p a k from to chain =
       let n : Node = chain.0.0 in
-      let j = node-at nodes n chain.0.1 in
+      let j = in-got nodes n chain.0.1 in
       let here : j.0 ≡ a = at-once (places_in nodes) q up j.0 a (place-of-node nodes j.0 n j.1 ∙ ap Some chain.0.2) from in
       let next = head-at d ds p k to chain.1 in
       let rest = to-indices d ds p next.0 k next.1 to chain.1 in
@@ -114,10 +133,10 @@ module _ (nodes : List Node) (up : IsStrictlyIncreasing (places_in nodes)) where
     λ r.
         let n : Node = r.2.0 in
         let chain = to-places r.0 r.1 k p n.place (place-of-node nodes r.0 n r.2.1) at r.3 in
-        (n.place, chain.0, (n, node-in nodes r.0 n r.2.1, refl, r.2.2), chain.1),
+        (n.place, chain.0, (n, got-in nodes r.0 n r.2.1, refl, r.2.2), chain.1),
     λ r.
         let n : Node = r.2.0 in
-        let j = node-at nodes n r.2.1 in
+        let j = in-got nodes n r.2.1 in
         let chain = to-indices r.0 r.1 p j.0 k (place-of-node nodes j.0 n j.1 ∙ ap Some r.2.2) at r.3 in
         (j.0, chain.0, (n, j.1, r.2.3), chain.1),
   )

@@ -6,7 +6,8 @@ use Rattle.std.proofs.lemmas.List.{take_all}
 use Rattle.std.proofs.lemmas.List.Elements.{Contains-append_left, Contains-push, Contains-push_cases}
 use Rattle.cargo_lock_merge_core.specs.Sets.{AreBelow}
 use Rattle.cargo_lock_merge_core.specs.Rule3.{IsKept}
-use Rattle.cargo_lock_merge_core.proofs.Ascending.{far-below, none-in, pushed-below, taken-more, up-push}
+use Rattle.lists.proofs.Members.{none-in}
+use Rattle.cargo_lock_merge_core.proofs.Ascending.{far-below, pushed-below, taken-more, up-push}
 
 -- Of the first places those are kept at which P holds; they are below the next.
 pub record AreKept (P : ℕ → Type 0) (places : List ℕ) (i : ℕ) (merged : List ℕ) : Type 0 where

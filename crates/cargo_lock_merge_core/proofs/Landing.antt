@@ -5,7 +5,8 @@ use Rattle.std.specs.List.Sorted.{IsStrictlyIncreasing}
 use Rattle.std.proofs.lemmas.List.{get_or-map, length-map}
 use Rattle.std.proofs.lemmas.Option.{same_Some}
 use Rattle.cargo_lock_merge_core.specs.Choices.{DependsOn, IsDependencyOf, IsOfSide, IsReplacement, if_same, replacement_if}
-use Rattle.cargo_lock_merge_core.specs.Merge.{IsChain, IsReached, IsRoot, LeadsTo, Triple}
+use Rattle.lists.specs.Chains.{IsChain}
+use Rattle.cargo_lock_merge_core.specs.Merge.{IsReached, IsRoot, LeadsTo, Triple}
 use Rattle.cargo_lock_merge_core.specs.Numbered.{places_of}
 use Rattle.cargo_lock_merge_core.specs.Placed.{HasAt, HasOneAtEach, IsAt, PlacedData}
 use Rattle.cargo_lock_merge_core.specs.Plans.{IsClosed}

@@ -1,16 +1,18 @@
 -- Where the packages of a merge lead: what they refer to is what is reached.
 use Rattle.std.proofs.Common.{inl, inr, List, [], ◌∷◌, ◌++◌, Some, refl, subst}
 use Rattle.std.specs.List.{Contains}
+use Rattle.lists.proofs.Searches.{chain-on}
 use Rattle.cargo_lock_merge_core.specs.Choices.{IsReplacement}
 use Rattle.cargo_lock_merge_core.specs.Laws.{HaveOneAtEach}
 use Rattle.cargo_lock_merge_core.specs.LawsOfMerges.{RefersTo}
-use Rattle.cargo_lock_merge_core.specs.Merge.{IsChain, IsMerge, IsMergedPackage, IsReached, IsReachedFrom, IsRoot, LeadsTo, Triple, lockfiles_of}
+use Rattle.lists.specs.Chains.{IsChain, IsReachedFrom}
+use Rattle.cargo_lock_merge_core.specs.Merge.{IsMerge, IsMergedPackage, IsReached, IsRoot, LeadsTo, Triple, lockfiles_of}
 use Rattle.cargo_lock_merge_core.specs.Placed.{HasAt, HasOneAtEach, PlacedData}
 use Rattle.cargo_lock_merge_core.specs.Places.{Place}
 use Rattle.cargo_lock_merge_core.specs.Plans.{IsClosed}
 use Rattle.cargo_lock_merge_core.proofs.Alike.{value-once}
 use Rattle.cargo_lock_merge_core.proofs.Once.{chosen-once, depends-alike, replacement-alike}
-use Rattle.cargo_lock_merge_core.proofs.Sides.{chain-flip, chain-more}
+use Rattle.cargo_lock_merge_core.proofs.Sides.{chain-flip}
 use Rattle.cargo_lock_merge_core.proofs.Staying.{from-at}
 
 -- a list has a package at the place
@@ -58,7 +60,7 @@ module _ (s : Triple Place) (m : List (PlacedData Place)) (h : IsMerge s m) wher
   pub refers-there : (p d : Place) → RefersTo m p d → IsThere m d
   refers-there p d refers =
       let r = (h.holds p).0 (refers.0, refers.1) in
-      (h.holds d).1 (r.0, r.1 ++ d ∷ [], r.2, chain-more (LeadsTo s) r.0 r.1 p d r.3 (refers-leads s m h.each p d refers))
+      (h.holds d).1 (r.0, r.1 ++ d ∷ [], r.2, chain-on (LeadsTo s) r.0 r.1 p d r.3 (refers-leads s m h.each p d refers))
 
   -- each dependency and each replacement has its package
   pub merge-refers : IsClosed m

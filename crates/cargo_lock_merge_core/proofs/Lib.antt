@@ -1,4 +1,3 @@
-pub mod Members
 pub mod Linking
 pub mod Slotting
 pub mod Counting
@@ -8,7 +7,6 @@ pub mod Triples
 pub mod Assembling
 pub mod Ascending
 pub mod Kept
-pub mod Searching
 pub mod Indexing
 pub mod Finding
 pub mod Sources

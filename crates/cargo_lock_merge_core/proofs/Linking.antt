@@ -9,7 +9,7 @@ use Rattle.cargo_lock_graph.specs.Edges.{Edge, GraphData, edges_at, is_at}
 use Rattle.cargo_lock_graph.specs.Targets.{HoldsOf, IsEdgeOf, IsLastBelow, IsTarget, Link, MatchesAt, links, links_of}
 use Rattle.cargo_lock_graph.specs.declared.graph.EdgeDirection.TheVariants.{Outgoing}
 use Rattle.cargo_lock_merge_core.specs.Linked.{AreLinked, AreStatedOnce, AreTargetsAt, IsAlone, IsStatedAt, RefersTo}
-use Rattle.cargo_lock_merge_core.proofs.Members.{first-in, from-reverse, got-in, in-got, in-joined, in-kept, in-map, in-reverse, joined-in, kept-in, map-in}
+use Rattle.lists.proofs.Members.{first-in, from-reverse, got-in, in-got, in-joined, in-kept, in-map, in-reverse, joined-in, kept-in, map-in}
 use Rattle.cargo_lock_merge_core.proofs.Zipping.{zip-left, zip-right}
 
 pub target-one : (packages : List PackageData) (d : Identity) (j k : ℕ) → IsTarget packages d j → IsTarget packages d k → j ≡ k
@@ -36,9 +36,6 @@ pub either-refers : (packages : List PackageData) (i d : Identity) (o : Option �
     → MatchOption o ((j : ℕ) → ¬ IsStatedAt packages d j) (IsStatedAt packages d) → IsTarget packages i to → RefersTo packages i k
 either-refers packages i d (Some a) to k is same h target = inl (subst (λ (e : Identity). IsStatedAt packages e k) same (subst (IsStatedAt packages d) (sym is) h))
 either-refers packages i d None to k is same h target = inr (subst (λ (e : Identity). (j : ℕ) → ¬ IsStatedAt packages e j) same h, subst (IsTarget packages i) (sym is) target)
-
-pub joined-next : (front : List Edge) (e : Edge) (rest left all : List Edge) → left ≡ e ∷ rest → front ++ left ≡ all → (front ++ e ∷ []) ++ rest ≡ all
-joined-next front e rest left all is joined = append_assoc front (e ∷ []) rest ∙ ap (λ (es : List Edge). front ++ es) (sym is) ∙ joined
 
 module _ (packages : List PackageData) (graph : GraphData) (are : AreLinked packages graph) where
   abbrev link-of : PackageData → Identity → Link

@@ -19,7 +19,7 @@ use Rattle.cargo_lock_merge_core.specs.Rule3.{IsAgreed, IsDisputed, IsInConflict
 use Rattle.cargo_lock_merge_core.proofs.Alike.{merge-once}
 use Rattle.cargo_lock_merge_core.proofs.Kept.{kept-alike}
 use Rattle.cargo_lock_merge_core.proofs.Linking.{target-one}
-use Rattle.cargo_lock_merge_core.proofs.Members.{in-map, map-in}
+use Rattle.lists.proofs.Members.{in-map, map-in}
 use Rattle.cargo_lock_merge_core.proofs.Relisted.{are-placed}
 use Rattle.cargo_lock_merge_core.proofs.Sides.{chain-flip, merge-flip}
 use Rattle.cargo_lock_merge_core.proofs.Slotting.{place-stated}

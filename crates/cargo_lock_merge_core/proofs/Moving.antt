@@ -1,12 +1,12 @@
 -- The references that a merge moved.
-use Rattle.std.proofs.Common.{◌≡◌, ◌⊎◌, ◌↔◌, ◌<◌, ◌≤◌, ◌+◌, ◌++◌, ◌∷◌, [], inl, inr, ℕ, suc, All, List, length, get_or, map, slice_get, take, Option, Some, None, refl, sym, ap, subst, ◌∙◌, arith}
+use Rattle.std.proofs.Common.{◌≡◌, ◌⊎◌, ◌↔◌, ◌<◌, ◌≤◌, ◌+◌, ◌++◌, ◌∷◌, [], inl, inr, ℕ, All, List, length, get_or, map, slice_get, take, Option, Some, None, refl, sym, ap, subst, ◌∙◌, arith}
 use Rattle.std.specs.List.{AllPairs, Contains}
 use Rattle.std.specs.List.Sorted.{IsStrictlyIncreasing}
-use Rattle.std.proofs.lemmas.List.{get_or-map, length-map, take_all, take_more}
-use Rattle.std.proofs.lemmas.List.Elements.{All-append, All-push, Contains-append_left, Contains-append_right, Contains-get_or, Contains-push_cases}
-use Rattle.std.proofs.lemmas.List.Kept.{AllPairs-cons}
+use Rattle.std.proofs.lemmas.List.{get_or-map, length-map, take_all, take_more, map-append}
+use Rattle.std.proofs.lemmas.List.Elements.{All-append, All-push, Contains-append_left, Contains-append_right, Contains-get_or, Contains-push_cases, All-contains}
 use Rattle.std.proofs.lemmas.Option.{get_or_from_slice_get, slice_get_within}
 use Rattle.cargo_lock_parts.specs.Identity.{Identity, PackageData, identity_key, identity_of}
+use Rattle.lists.proofs.Pairs.{pairs-append}
 use Rattle.cargo_lock_merge_core.specs.declared.merged.Merged.{Merged}
 use Rattle.cargo_lock_merge_core.specs.declared.moved.Moved.{Moved}
 use Rattle.cargo_lock_merge_core.specs.declared.moved.Reference.{Reference}
@@ -20,31 +20,9 @@ use Rattle.cargo_lock_merge_core.specs.Placed.{HasAt, IsAt, PlacedData, key}
 use Rattle.cargo_lock_merge_core.proofs.Ascending.{far-below}
 use Rattle.cargo_lock_merge_core.proofs.Finding.{length-places, place-among, place-at}
 use Rattle.cargo_lock_merge_core.proofs.Kept.{AreKept, kept-end, kept-pass, kept-push}
-use Rattle.cargo_lock_merge_core.proofs.Members.{in-map, map-in}
+use Rattle.lists.proofs.Members.{in-map, map-in}
 use Rattle.cargo_lock_merge_core.proofs.Once.{one-at}
-use Rattle.cargo_lock_merge_core.proofs.Planning.{all-in, map-push}
-
--- ---- lists
-
-pairs-tail : {X : Type 0} (R : X → X → Type 0) (x : X) (xs : List X) → AllPairs R (x ∷ xs) → AllPairs R xs
-pairs-tail R x xs h i j d less low = h (suc i) (suc j) d (omega (arith, less)) (omega (arith, low))
-
-pairs-head : {X : Type 0} (R : X → X → Type 0) (x : X) (xs : List X) → AllPairs R (x ∷ xs) → All (R x) xs
-pairs-head R x xs h k d low = h 0 (suc k) d (omega arith) (omega (arith, low))
-
-all-from : {X : Type 0} (P : X → Type 0) (xs : List X) → ((x : X) → Contains xs x → P x) → All P xs
-all-from P xs h k d low = h (get_or xs k d) (Contains-get_or xs k d low)
-
-pub pairs-append : {X : Type 0} (R : X → X → Type 0) (xs ys : List X) → AllPairs R xs → AllPairs R ys → ((x y : X) → Contains xs x → Contains ys y → R x y) → AllPairs R (xs ++ ys)
-pairs-append R [] ys h k across = k
-pairs-append R (x ∷ xs) ys h k across =
-    AllPairs-cons R x (xs ++ ys)
-    (All-append (R x) xs ys (pairs-head R x xs h) (all-from (R x) ys (λ y c. across x y (0, omega arith, refl) c)))
-    (pairs-append R xs ys (pairs-tail R x xs h) k (λ z y a b. across z y (Contains-append_right (x ∷ []) xs z a) b))
-
-pub map-append : {X Y : Type 0} (f : X → Y) (xs ys : List X) → map f (xs ++ ys) ≡ map f xs ++ map f ys
-map-append f [] ys = refl
-map-append f (x ∷ xs) ys = ap (λ zs. f x ∷ zs) (map-append f xs ys)
+use Rattle.cargo_lock_merge_core.proofs.Planning.{map-push}
 
 -- ---- packages at places
 
@@ -60,7 +38,7 @@ none-at xs n none x h = none (subst (λ k. Contains (places_of xs) k) h.1 (place
 
 pub ascends-at : (xs : List (PlacedData ℕ)) (n : ℕ) (o : Option (PlacedData ℕ)) → AreListed xs → IsAt xs n o → HasAscending o
 ascends-at xs n None listed at = tt
-ascends-at xs n (Some x) listed at = all-in (λ (z : PlacedData ℕ). IsStrictlyIncreasing z.dependencies) xs x listed.each at.0
+ascends-at xs n (Some x) listed at = All-contains (λ (z : PlacedData ℕ). IsStrictlyIncreasing z.dependencies) xs x listed.each at.0
 
 merged-same : (ms : List Merged) → places_of (map merged_data ms) ≡ merged_places ms
 merged-same [] = refl
@@ -276,7 +254,7 @@ module _ (o t : List (PlacedData ℕ)) (ms : List Merged) where
       by x y moved (inr same) =
           let moved' = subst (λ (z : PlacedData ℕ). IsMovedReference (sides o t) (map merged_data ms) z y) (sym same) moved in
           let (r, among, to) = map-in (λ (m : Moved). m.to) part y.place (h.all_there y.place (y, refl, moved')) in
-          let from : r.from ≡ x.place = (all-in (IsFrom o t ms one) part r h.each among).1.2.from ∙ ap (λ (z : PlacedData ℕ). z.place) same in
+          let from : r.from ≡ x.place = (All-contains (IsFrom o t ms one) part r h.each among).1.2.from ∙ ap (λ (z : PlacedData ℕ). z.place) same in
           Contains-append_right (map places_of_moved all) (map places_of_moved part) (x.place, y.place)
           (subst (λ (a : ℕ × ℕ). Contains (map places_of_moved part) a) (λ i. (from i, to i)) (in-map places_of_moved part r among))
 
@@ -284,8 +262,8 @@ module _ (o t : List (PlacedData ℕ)) (ms : List Merged) where
       across long here a b ca cb =
           let (r, among, ea) = map-in places_of_moved all a ca in
           let (w, among', eb) = map-in places_of_moved part b cb in
-          let (j, less, fa) = all-in (λ (m : Moved). (j : ℕ) × (j < k) × (m.from ≡ get_or (merged_places ms) j 0)) all r f.below among in
-          let fb : w.from ≡ one.place = (all-in (IsFrom o t ms one) part w h.each among').1.2.from in
+          let (j, less, fa) = All-contains (λ (m : Moved). (j : ℕ) × (j < k) × (m.from ≡ get_or (merged_places ms) j 0)) all r f.below among in
+          let fb : w.from ≡ one.place = (All-contains (IsFrom o t ms one) part w h.each among').1.2.from in
           let up' = far-below (merged_places ms) up.order j k less (omega (arith, low, long)) in
           subst (λ (z : ℕ × ℕ). IsBefore z b) ea (subst (λ (z : ℕ × ℕ). IsBefore (places_of_moved r) z) eb (inl (omega (arith, fa, fb, up', here))))
 

@@ -3,7 +3,8 @@ use Rattle.std.proofs.Common.{◌≡◌, ◌⊎◌, ◌↔◌, inl, inr, ℕ, Li
 use Rattle.std.specs.List.{Contains}
 use Rattle.std.specs.List.Sorted.{IsStrictlyIncreasing}
 use Rattle.std.proofs.lemmas.List.{get_or-map, length-map}
-use Rattle.std.proofs.lemmas.List.Elements.{Contains-append_right}
+use Rattle.std.proofs.lemmas.List.Elements.{All-contains}
+use Rattle.lists.proofs.Members.{map-in}
 use Rattle.cargo_lock_merge_core.specs.declared.entry.Chosen.{Chosen}
 use Rattle.cargo_lock_merge_core.specs.declared.entry.Entry.{Entry}
 use Rattle.cargo_lock_merge_core.specs.declared.rows.Row.{Row}
@@ -16,7 +17,6 @@ use Rattle.cargo_lock_merge_core.specs.Placed.{HasAt, IsAt, PlacedData}
 use Rattle.cargo_lock_merge_core.specs.Plans.{AreEntries, HasEntries, IsRootEntry, IsRootRow, LeadsToEntry, entry_places}
 use Rattle.cargo_lock_merge_core.proofs.Finding.{place-among}
 use Rattle.cargo_lock_merge_core.proofs.Once.{at-same, chosen-once, depends-alike, kept-iff, member-same, replacement-alike}
-use Rattle.cargo_lock_merge_core.proofs.Zipping.{at-head, head-or, nothing-in}
 
 pub map-push : {X Y : Type 0} (f : X → Y) (xs : List X) (x : X) → map f (xs ++ x ∷ []) ≡ map f xs ++ f x ∷ []
 map-push f [] x = refl
@@ -48,17 +48,6 @@ entries-of-rows s rs es up holds exact h =
     }
 
 -- ---- what the entries have
-
--- an element at whose image a list has a value
-pub image-in : {X Y : Type 0} (f : X → Y) (xs : List X) (p : Y) → Contains (map f xs) p → (x : X) × Contains xs x × (f x ≡ p)
-image-in f [] p h = absurd (nothing-in p h)
-image-in f (x ∷ xs) p h = elim (head-or (f x) (map f xs) p h) [
-  | inl here ↦ (x, at-head x xs, here)
-  | inr rest ↦ let k = image-in f xs p rest in (k.0, Contains-append_right (x ∷ []) xs k.0 k.1, k.2)
-]
-
-pub all-in : {X : Type 0} (P : X → Type 0) (xs : List X) (x : X) → All P xs → Contains xs x → P x
-all-in P xs x h (k, low, is) = subst P is (h k x low)
 
 -- what leads on from a place
 abbrev pub Leads : Lockfiles → Option (PlacedData ℕ) → Option (PlacedData ℕ) → Option (PlacedData ℕ) → ℕ → Type 0
@@ -96,11 +85,11 @@ leads-side all b o t d (inr h) = (h.0, h.1.0)
 
 module _ (s : Triple ℕ) (es : List Entry) (base : IsInOrder s.base) (ours : IsInOrder s.ours) (theirs : IsInOrder s.theirs) (are : AreEntries s es) where
   row-of : (e : Entry) → Contains es e → IsRowOf s.base s.ours s.theirs e.row
-  row-of e h = all-in (λ (e : Entry). IsRowOf s.base s.ours s.theirs e.row) es e are.rows h
+  row-of e h = All-contains (λ (e : Entry). IsRowOf s.base s.ours s.theirs e.row) es e are.rows h
 
   -- a place of a side has its entry
   entry-of : (p : ℕ) → Contains (places_of s.ours) p ⊎ Contains (places_of s.theirs) p → (e : Entry) × Contains es e × (e.row.place ≡ p)
-  entry-of p h = image-in (λ (e : Entry). e.row.place) es p ((are.holds p).1 h)
+  entry-of p h = map-in (λ (e : Entry). e.row.place) es p ((are.holds p).1 h)
 
   place-of-at : (xs : List (PlacedData ℕ)) (p : ℕ) (x : PlacedData ℕ) → HasAt xs p x → Contains (places_of xs) p
   place-of-at xs p x h = subst (λ n. Contains (places_of xs) n) h.1 (place-among xs x h.0)
@@ -131,7 +120,7 @@ module _ (s : Triple ℕ) (es : List Entry) (base : IsInOrder s.base) (ours : Is
   leads-row : (e : Entry) (d : ℕ) → Contains es e → Contains e.targets.items d ↔ LeadsTo s e.row.place d
   leads-row e d h =
       let r = row-of e h in
-      let i = all-in (IsEntry (lockfiles_of s)) es e are.each h in
+      let i = All-contains (IsEntry (lockfiles_of s)) es e are.each h in
       let p = e.row.place in (
         λ k. (
           data_if e.row.base,

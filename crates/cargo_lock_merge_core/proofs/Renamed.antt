@@ -6,18 +6,16 @@ use Rattle.std.proofs.lemmas.List.Elements.{Contains-get_or}
 use Rattle.std.proofs.lemmas.Option.{same_Some}
 use Rattle.cargo_lock_parts.specs.Identity.{PackageData, identity_of}
 use Rattle.cargo_lock_parts.specs.IdentityOrder.{is_same_identity}
+use Rattle.lists.proofs.Members.{in-map, map-in}
 use Rattle.cargo_lock_merge_core.specs.Choices.{Counts, DependsOn, IsChecksum, IsChecksumConflict, IsChosen, IsClash, IsDependency, IsDependencyOf, IsOfSide, IsReplacement, IsReplacementConflict, checksum_if, if_same, replacement_if}
 use Rattle.cargo_lock_merge_core.specs.Commits.{IsSourceConflict, Lockfiles, git_in}
-use Rattle.cargo_lock_merge_core.specs.Merge.{ConflictData, HasReference, HaveAt, IsChain, IsConflict, IsMerge, IsMergedPackage, IsReached, IsRoot, LeadsTo, OfChecksum, OfPackage, OfReplacement, OfSource, Triple, lockfiles_of}
+use Rattle.lists.specs.Chains.{IsChain}
+use Rattle.cargo_lock_merge_core.specs.Merge.{ConflictData, HasReference, HaveAt, IsConflict, IsMerge, IsMergedPackage, IsReached, IsRoot, LeadsTo, OfChecksum, OfPackage, OfReplacement, OfSource, Triple, lockfiles_of}
 use Rattle.cargo_lock_merge_core.specs.Placed.{HasAt, HasMember, HasOneAtEach, IsAt, PlacedData, contents_of}
 use Rattle.cargo_lock_merge_core.specs.Renaming.{Has, IsOneToOne, IsUsed, rename, rename_all, rename_conflict, rename_triple}
 use Rattle.cargo_lock_merge_core.specs.Rule3.{IsDisputed, IsKept, IsMergedValue}
 use Rattle.cargo_lock_merge_core.proofs.Once.{kept-iff}
-use Rattle.cargo_lock_merge_core.proofs.Planning.{image-in}
 use Rattle.cargo_lock_merge_core.proofs.Renaming.{chosen-of, chosen-to, clash-same, key-same, side-of, side-to}
-
-pub map-in : {X Y : Type 0} (g : X → Y) (xs : List X) (x : X) → Contains xs x → Contains (map g xs) (g x)
-map-in g xs x (k, low, is) = (k, omega (arith, low, length-map xs g), get_or-map g xs k x (g x) low ∙ ap g is)
 
 contents-same : {P Q : Type 0} (f : P → Q) (xs : List (PlacedData P)) → contents_of (rename_all f xs) ≡ contents_of xs
 contents-same f [] = refl
@@ -56,27 +54,27 @@ module _ {P Q : Type 0} (f : P → Q) (s : Triple P) (inj : IsOneToOne s f) wher
   -- ---- what is at a place
 
   at-to : (xs : List (PlacedData P)) → IsList xs → (p : P) → IsUsed s p → (o : Option (PlacedData P)) → IsAt xs p o → IsAt (rename_all f xs) (f p) (option_map (rename f) o)
-  at-to xs l p u (Some x) h = (map-in (rename f) xs x h.0, ap f h.1)
+  at-to xs l p u (Some x) h = (in-map (rename f) xs x h.0, ap f h.1)
   at-to xs l p u None h = λ x k.
-      let y = image-in (rename f) xs x k.0 in
+      let y = map-in (rename f) xs x k.0 in
       let e : f y.0.place ≡ f p = ap (λ (z : PlacedData Q). z.place) y.2 ∙ k.1 in
       h y.0 (y.1, inj y.0.place p (place-used xs l y.0 y.1) u e)
 
   at-of : (xs : List (PlacedData P)) → IsList xs → (p : P) → IsUsed s p → (o : Option (PlacedData Q)) → IsAt (rename_all f xs) (f p) o
       → (a : Option (PlacedData P)) × IsAt xs p a × (option_map (rename f) a ≡ o)
-  at-of xs l p u None h = (None, λ x k. h (rename f x) (map-in (rename f) xs x k.0, ap f k.1), refl)
+  at-of xs l p u None h = (None, λ x k. h (rename f x) (in-map (rename f) xs x k.0, ap f k.1), refl)
   at-of xs l p u (Some x) h =
-      let y = image-in (rename f) xs x h.0 in
+      let y = map-in (rename f) xs x h.0 in
       let e : f y.0.place ≡ f p = ap (λ (z : PlacedData Q). z.place) y.2 ∙ h.1 in
       (Some y.0, (y.1, inj y.0.place p (place-used xs l y.0 y.1) u e), ap Some y.2)
 
   member-to : (xs : List (PlacedData P)) (p : P) → HasMember xs p → HasMember (rename_all f xs) (f p)
-  member-to xs p (x, h, n) = (rename f x, (map-in (rename f) xs x h.0, ap f h.1), n)
+  member-to xs p (x, h, n) = (rename f x, (in-map (rename f) xs x h.0, ap f h.1), n)
 
   member-of : (xs : List (PlacedData P)) → IsList xs → (p : P) → IsUsed s p → HasMember (rename_all f xs) (f p) → HasMember xs p
   member-of xs l p u (x, h, n) =
       let k = at-of xs l p u (Some x) h in
-      let y = image-in (rename f) xs x h.0 in
+      let y = map-in (rename f) xs x h.0 in
       let e : f y.0.place ≡ f p = ap (λ (z : PlacedData Q). z.place) y.2 ∙ h.1 in
       (y.0, (y.1, inj y.0.place p (place-used xs l y.0 y.1) u e), ap (λ (z : PlacedData Q). z.content.source) y.2 ∙ n)
 
@@ -96,7 +94,7 @@ module _ {P Q : Type 0} (f : P → Q) (s : Triple P) (inj : IsOneToOne s f) wher
 
   named : (xs : List (PlacedData P)) → IsList xs → (q : Q) (x : PlacedData Q) → HasAt (rename_all f xs) q x → (p : P) × IsUsed s p × (f p ≡ q)
   named xs l q x h =
-      let y = image-in (rename f) xs x h.0 in
+      let y = map-in (rename f) xs x h.0 in
       (y.0.place, place-used xs l y.0 y.1, ap (λ (z : PlacedData Q). z.place) y.2 ∙ h.1)
 
   root-of : (q : Q) → IsRoot (rename_triple f s) q → (p : P) × IsRoot s p × (f p ≡ q)
@@ -112,13 +110,13 @@ module _ {P Q : Type 0} (f : P → Q) (s : Triple P) (inj : IsOneToOne s f) wher
 
   depends-to : (o : Option (PlacedData P)) (d : P) → DependsOn o d → DependsOn (option_map (rename f) o) (f d)
   depends-to None d h = h
-  depends-to (Some x) d h = map-in f x.dependencies d h
+  depends-to (Some x) d h = in-map f x.dependencies d h
 
   depends-of : (xs : List (PlacedData P)) → IsList xs → (o : Option (PlacedData P)) → IsOf xs o → (q : Q) → DependsOn (option_map (rename f) o) q
       → (d : P) × IsUsed s d × DependsOn o d × (f d ≡ q)
   unfolding IsOf
   depends-of xs l None of q h = absurd h
-  depends-of xs l (Some x) of q h = let k = image-in f x.dependencies q h in (k.0, depends-used xs l x k.0 (of x refl) k.1, k.1, k.2)
+  depends-of xs l (Some x) of q h = let k = map-in f x.dependencies q h in (k.0, depends-used xs l x k.0 (of x refl) k.1, k.1, k.2)
 
   depends-iff : (xs : List (PlacedData P)) → IsList xs → (o : Option (PlacedData P)) → IsOf xs o → (d : P) → IsUsed s d → DependsOn o d ↔ DependsOn (option_map (rename f) o) (f d)
   depends-iff xs l o of d u = (
@@ -450,12 +448,12 @@ module _ {P Q : Type 0} (f : P → Q) (s : Triple P) (inj : IsOneToOne s f) wher
           identity = from.identity;
           checksum = checksum-to x y z c m.content.checksum from.checksum;
           dependencies = λ q. (
-            λ h. let d = image-in f m.dependencies q h in
+            λ h. let d = map-in f m.dependencies q h in
                 let dep = (from.dependencies d.0).0 d.1 in
                 subst (IsDependencyOf (option_map (rename f) x) (option_map (rename f) y) (option_map (rename f) z) (rename f c)) d.2
                 ((dependency-iff x y z ob oo ot c d.0 (depends-is-used y z oo ot d.0 (own-depends x y z c d.0 dep))).0 dep),
             λ h. let d = dependency-named x y z ob oo ot c q h in
-                subst (Contains (map f m.dependencies)) d.3 (map-in f m.dependencies d.0 ((from.dependencies d.0).1 d.2)),
+                subst (Contains (map f m.dependencies)) d.3 (in-map f m.dependencies d.0 ((from.dependencies d.0).1 d.2)),
           );
           replacement = replacement-to x y z c m.replacement from.replacement;
         },
@@ -484,13 +482,13 @@ module _ {P Q : Type 0} (f : P → Q) (s : Triple P) (inj : IsOneToOne s f) wher
   merge-renamed ms h = record {
     one = one-to ms h.each h.one;
     holds = λ q. (
-      λ k. let x = image-in (rename f) ms k.0 k.1.0 in
+      λ k. let x = map-in (rename f) ms k.0 k.1.0 in
           subst (IsReached (rename_triple f s)) (ap (λ (z : PlacedData Q). z.place) x.2 ∙ k.1.1) (reached-to x.0.place ((h.holds x.0.place).0 (x.0, (x.1, refl)))),
       λ r. let p = reached-of q r in
           let x = (h.holds p.0).1 p.1 in
-          (rename f x.0, (map-in (rename f) ms x.0 x.1.0, ap f x.1.1 ∙ p.2)),
+          (rename f x.0, (in-map (rename f) ms x.0 x.1.0, ap f x.1.1 ∙ p.2)),
     );
-    each = λ y k. let x = image-in (rename f) ms y k in subst (IsMergedPackage (rename_triple f s)) x.2 (merged-to x.0 (h.each x.0 x.1));
+    each = λ y k. let x = map-in (rename f) ms y k in subst (IsMergedPackage (rename_triple f s)) x.2 (merged-to x.0 (h.each x.0 x.1));
   }
 
   -- ---- conflicts
@@ -596,10 +594,10 @@ module _ {P Q : Type 0} (f : P → Q) (s : Triple P) (inj : IsOneToOne s f) wher
 pub reference-renamed : {P Q : Type 0} (f : P → Q) (side : List (PlacedData P)) (x y : PlacedData P) → HasReference side x y → HasReference (rename_all f side) (rename f x) (rename f y)
 reference-renamed f side x y h = record {
   from = rename f h.from;
-  from_at = (map-in (rename f) side h.from h.from_at.0, ap f h.from_at.1);
+  from_at = (in-map (rename f) side h.from h.from_at.0, ap f h.from_at.1);
   same = h.same;
-  depends = map-in f h.from.dependencies y.place h.depends;
+  depends = in-map f h.from.dependencies y.place h.depends;
   to = rename f h.to;
-  to_at = (map-in (rename f) side h.to h.to_at.0, ap f h.to_at.1);
+  to_at = (in-map (rename f) side h.to h.to_at.0, ap f h.to_at.1);
   target = h.target;
 }

@@ -2,9 +2,11 @@
 use Rattle.std.proofs.Common.{◌≡◌, ◌⊎◌, ◌++◌, inl, inr, List, [], ◌∷◌, Option, Some, None, option_map, refl, sym, ap, subst, ◌∙◌}
 use Rattle.std.specs.List.{Contains}
 use Rattle.cargo_lock_parts.specs.Identity.{PackageData, identity_key}
+use Rattle.lists.proofs.Searches.{chain-on}
 use Rattle.cargo_lock_merge_core.specs.Choices.{AreAbove, AreOfGit, DependsOn, IsByRule, IsChosen, IsClash, IsDependencyOf, IsOfSide}
 use Rattle.cargo_lock_merge_core.specs.Commits.{IsAtMergedCommit, Lockfiles}
-use Rattle.cargo_lock_merge_core.specs.Merge.{HaveAt, IsChain, IsMerge, IsMergedPackage, IsReached, LeadsTo, Triple, lockfiles_of}
+use Rattle.lists.specs.Chains.{IsChain}
+use Rattle.cargo_lock_merge_core.specs.Merge.{HaveAt, IsMerge, IsMergedPackage, IsReached, LeadsTo, Triple, lockfiles_of}
 use Rattle.cargo_lock_merge_core.specs.Placed.{HasAt, IsAt, PlacedData, key, key_if}
 use Rattle.cargo_lock_merge_core.specs.Rule3.{IsAgreed, IsDisputed, IsInConflict, IsKept, IsMergedValue}
 use Rattle.cargo_lock_merge_core.specs.Merge.{ConflictData, OfPackage, OfChecksum, OfReplacement, OfSource, IsConflict, IsMovedReference}
@@ -196,16 +198,12 @@ module _ {P : Type 0} where
         | inr t ↦ inr (depends-at s.theirs x.place f.2 d f.4.at.theirs t)
       ]
 
-  pub chain-more : (leads : P → P → Type 0) (a : P) (chain : List P) (b c : P) → IsChain leads a chain b → leads b c → IsChain leads a (chain ++ c ∷ []) c
-  chain-more leads a [] b c h l = (subst (λ (z : P). leads z c) (sym h) l, refl)
-  chain-more leads a (r ∷ rs) b c h l = (h.0, chain-more leads r rs b c h.1 l)
-
   pub merge-closed : (s : Triple P) (m : List (PlacedData P)) (x : PlacedData P) (d : P) → IsMerge s m → Contains m x → Contains x.dependencies d → (y : PlacedData P) × HasAt m d y
   merge-closed s m x d h among k =
       let r = (h.holds x.place).0 (x, (among, refl)) in
       let f = h.each x among in
       let leads : LeadsTo s x.place d = (f.0, f.1, f.2, f.4.at, inl (inl (f.3, f.4.chosen, (f.4.dependencies d).0 k))) in
-      (h.holds d).1 (r.0, r.1 ++ d ∷ [], r.2, chain-more (LeadsTo s) r.0 r.1 x.place d r.3 leads)
+      (h.holds d).1 (r.0, r.1 ++ d ∷ [], r.2, chain-on (LeadsTo s) r.0 r.1 x.place d r.3 leads)
 
 -- ---- conflicts and moved references
 

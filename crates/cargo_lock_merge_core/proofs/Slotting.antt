@@ -25,7 +25,7 @@ use Rattle.cargo_lock_merge_core.specs.declared.lists.Replaced.TheVariants.{At, 
 use Rattle.cargo_lock_merge_core.specs.Renaming.{Has, rename, rename_all}
 use Rattle.cargo_lock_merge_core.proofs.Ascending.{far-below, up-push}
 use Rattle.cargo_lock_merge_core.proofs.Linking.{refers-within}
-use Rattle.cargo_lock_merge_core.proofs.Members.{contains-cases, first-in, got-in, in-got, in-map, map-in, none-in}
+use Rattle.lists.proofs.Members.{contains-cases, first-in, got-in, in-got, in-map, map-in, none-in}
 use Rattle.cargo_lock_merge_core.proofs.Planning.{map-push}
 
 one-order : (a b : ℕ) → ¬ (a < b) → ¬ (b < a) → a ≡ b

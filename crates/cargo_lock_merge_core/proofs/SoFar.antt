@@ -3,9 +3,10 @@ use Rattle.std.proofs.Common.{◌≡◌, ◌↔◌, ◌<◌, ◌≤◌, ◌+◌,
 use Rattle.std.specs.List.{Contains}
 use Rattle.std.specs.List.Sorted.{IsStrictlyIncreasing}
 use Rattle.std.proofs.lemmas.List.{get_or-map, length-map}
-use Rattle.std.proofs.lemmas.List.Elements.{All-nil, All-push}
+use Rattle.std.proofs.lemmas.List.Elements.{All-nil, All-push, All-contains}
 use Rattle.std.proofs.lemmas.Option.{get_or_from_slice_get, slice_get-get_or, slice_get_within}
 use Rattle.cargo_lock_parts.specs.Identity.{identity_of}
+use Rattle.lists.proofs.Members.{map-in}
 use Rattle.cargo_lock_merge_core.specs.declared.entry.Chosen.{Chosen}
 use Rattle.cargo_lock_merge_core.specs.declared.entry.Entry.{Entry}
 use Rattle.cargo_lock_merge_core.specs.declared.merged.Merged.{Merged}
@@ -18,7 +19,7 @@ use Rattle.cargo_lock_merge_core.specs.Merged.{HasPlan, IsMergedEntry, IsUnsettl
 use Rattle.cargo_lock_merge_core.specs.Numbered.{IsChecksumChoice, IsReplacementChoice, IsRowOf, data_if, data_of, places_of}
 use Rattle.cargo_lock_merge_core.specs.Placed.{PlacedData}
 use Rattle.cargo_lock_merge_core.specs.Plans.{entry_places}
-use Rattle.cargo_lock_merge_core.specs.Reach.{IsMarked}
+use Rattle.lists.specs.Marks.{IsMarked}
 use Rattle.cargo_lock_merge_core.specs.Rule3.{IsDisputed, IsMergedValue}
 use Rattle.cargo_lock_merge_core.proofs.Agreeing.{agreed-apart}
 use Rattle.cargo_lock_merge_core.proofs.Finding.{place-among}
@@ -26,7 +27,7 @@ use Rattle.cargo_lock_merge_core.proofs.Indexing.{at-once}
 use Rattle.cargo_lock_merge_core.proofs.Kept.{AreKept, kept-end, kept-pass, kept-push, kept-start}
 use Rattle.cargo_lock_merge_core.proofs.Landing.{one-each, reached-there}
 use Rattle.cargo_lock_merge_core.proofs.Once.{at-same, checksum-alike, chosen-once, replacement-alike}
-use Rattle.cargo_lock_merge_core.proofs.Planning.{all-in, image-in, map-push}
+use Rattle.cargo_lock_merge_core.proofs.Planning.{map-push}
 
 to-kept : (plan : Plan) (i : ℕ) (ms : List Merged) → AreSoFar plan i ms → AreKept (IsMarkedPlace plan) (entry_places plan.entries.items) i (merged_places ms)
 to-kept plan i ms h = record {
@@ -84,10 +85,10 @@ module _ (s : Triple ℕ) (plan : Plan) (h : HasPlan s plan) where
   -- ---- at the end
 
   pub row-of : (e : Entry) → Contains plan.entries.items e → IsRowOf s.base s.ours s.theirs e.row
-  row-of e k = all-in (λ (e : Entry). IsRowOf s.base s.ours s.theirs e.row) plan.entries.items e h.plan.entries.rows k
+  row-of e k = All-contains (λ (e : Entry). IsRowOf s.base s.ours s.theirs e.row) plan.entries.items e h.plan.entries.rows k
 
   pub entry-at : (e : Entry) → Contains plan.entries.items e → IsEntry (lockfiles_of s) e
-  entry-at e k = all-in (IsEntry (lockfiles_of s)) plan.entries.items e h.plan.entries.each k
+  entry-at e k = All-contains (IsEntry (lockfiles_of s)) plan.entries.items e h.plan.entries.each k
 
   merged-from : (e : Entry) (m : Merged) → Contains plan.entries.items e → IsMergedEntry e m → IsMergedPackage s (merged_data m)
   merged-from e m among merged =
@@ -141,11 +142,11 @@ module _ (s : Triple ℕ) (plan : Plan) (h : HasPlan s plan) where
         holds = λ p. (
           λ k. (marked-reached p).0 ((kept p).0 (subst (λ (ns : List ℕ). Contains ns p) (merged-places ms)
               (subst (λ n. Contains (places_of (map merged_data ms)) n) k.1.1 (place-among (map merged_data ms) k.0 k.1.0)))),
-          λ r. let m = image-in (λ (m : Merged). m.place) ms p ((kept p).1 ((marked-reached p).1 r)) in
+          λ r. let m = map-in (λ (m : Merged). m.place) ms p ((kept p).1 ((marked-reached p).1 r)) in
               (merged_data m.0, (map-in merged_data ms m.0 m.1, m.2)),
         );
-        each = λ x k. let m = image-in merged_data ms x k in
-            let e = all-in (IsOfEntry plan) ms m.0 f.each m.1 in
+        each = λ x k. let m = map-in merged_data ms x k in
+            let e = All-contains (IsOfEntry plan) ms m.0 f.each m.1 in
             subst (IsMergedPackage s) m.2 (merged-from e.0 m.0 e.1 e.2);
       }
 

@@ -5,6 +5,7 @@ use Rattle.std.proofs.lemmas.Option.{same_Some}
 use Rattle.cargo_lock_parts.specs.Identity.{Identity, PackageData}
 use Rattle.cargo_lock_parts.specs.Source.{Source}
 use Rattle.cargo_lock_parts.specs.SourceKey.{Key}
+use Rattle.lists.proofs.Members.{in-map, map-in}
 use Rattle.cargo_lock_merge_core.specs.Commits.{HasOneCommitEach, IsMergedCommit, Lockfiles, commit_in, git_in, key_without_commit}
 use Rattle.cargo_lock_merge_core.specs.Laws.{HaveOneAtEach}
 use Rattle.cargo_lock_merge_core.specs.LawsOfMerges.{AreLockfiles, HasNoOrphan, HaveOneCommitEach, IsLockfile, IsSound}
@@ -13,8 +14,6 @@ use Rattle.cargo_lock_merge_core.specs.Placed.{HasMember, PlacedData, contents_o
 use Rattle.cargo_lock_merge_core.specs.Places.{ArePlaced, IsMergeOf, Place}
 use Rattle.cargo_lock_merge_core.specs.Rule3.{IsMergedValue}
 use Rattle.cargo_lock_merge_core.proofs.Leading.{merge-needed, merge-refers}
-use Rattle.cargo_lock_merge_core.proofs.Planning.{image-in}
-use Rattle.cargo_lock_merge_core.proofs.Renamed.{map-in}
 use Rattle.cargo_lock_merge_core.proofs.Sides.{kept-of, side-at}
 use Rattle.cargo_lock_merge_core.proofs.Sourced.{HasSources, bare-at, bare_source, commit-once, commits-same, git-same, member-at}
 use Rattle.cargo_lock_merge_core.proofs.Staying.{no-checksum, no-package, no-replacement, value-apart}
@@ -29,7 +28,7 @@ placed-lockfile all packages xs one h = record {
   where
     listed : (p : PackageData) → Contains (contents_of xs) p → Contains packages p
     listed p among =
-        let (x, there, here) = image-in (λ (z : PlacedData Place). z.content) xs p among in
+        let (x, there, here) = map-in (λ (z : PlacedData Place). z.content) xs p among in
         let (q, in', is) = h.each x there in
         subst (Contains packages) (sym is.content ∙ here) in'
 
@@ -67,8 +66,8 @@ module _ (s : Triple Place) (are : AreLockfiles s) (m : List (PlacedData Place))
   pub merged-commits : HasOneCommitEach (contents_of m)
   merged-commits g c d (p, in', (is, at)) (q, among', (is', at')) =
       let content : PlacedData Place → PackageData = λ z. z.content in
-      let (x, there, ex) = image-in content m p in' in
-      let (y, there', ey) = image-in content m q among' in
+      let (x, there, ex) = map-in content m p in' in
+      let (y, there', ey) = map-in content m q among' in
       let git : (z : PlacedData Place) (r : PackageData) → z.content ≡ r → git_in r.source ≡ Some g → git_in z.content.source ≡ Some g =
       λ z r e k. ap (λ (w : PackageData). git_in w.source) e ∙ k in
       sym at ∙ ap (λ (w : PackageData). commit_in w.source) (sym ex)
@@ -134,4 +133,4 @@ lists-sound all m h one =
     listed : (p : PackageData) → Contains m p → Contains (contents_of h.merged) p
     listed p among =
         let (x, there, is) = h.packages.all_there p among in
-        subst (Contains (contents_of h.merged)) is.content (map-in (λ (z : PlacedData Place). z.content) h.merged x there)
+        subst (Contains (contents_of h.merged)) is.content (in-map (λ (z : PlacedData Place). z.content) h.merged x there)

@@ -19,7 +19,7 @@ use Rattle.cargo_lock_merge_core.specs.Rule3.{IsAgreed, IsInConflict, IsMergedVa
 use Rattle.cargo_lock_merge_core.proofs.Deciding.{key-cases}
 use Rattle.cargo_lock_merge_core.proofs.Leading.{IsThere, IsWhole, merge-needed, merge-refers, whole-merge}
 use Rattle.cargo_lock_merge_core.proofs.Once.{checksum-alike, counts-alike, replacement-alike}
-use Rattle.cargo_lock_merge_core.proofs.Renamed.{map-in}
+use Rattle.lists.proofs.Members.{in-map}
 use Rattle.cargo_lock_merge_core.proofs.Sides.{merge-flip}
 use Rattle.cargo_lock_merge_core.proofs.Sourced.{bare-at, commit-once, git-same}
 use Rattle.cargo_lock_merge_core.proofs.Soundness.{each-commit, each-one, merge-sound, merged-sources, root-member}
@@ -169,7 +169,7 @@ module _ (s : Triple Place) (are : AreLockfiles s) (m : List (PlacedData Place))
       b',
       Some (commit_in z.content.source),
       t',
-      record { base = commits.base; ours = (z.content, map-in (λ (x : PlacedData Place). x.content) m z among, (is, refl)); theirs = commits.theirs },
+      record { base = commits.base; ours = (z.content, in-map (λ (x : PlacedData Place). x.content) m z among, (is, refl)); theirs = commits.theirs },
       value-again b' (option_map Some o') (option_map Some t') (Some (commit_in z.content.source)) v,
     )
 

@@ -15,7 +15,7 @@ use Rattle.cargo_lock_merge_core.specs.Rule3.{IsKept, IsMergedValue}
 use Rattle.cargo_lock_merge_core.proofs.Alike.{merge-once}
 use Rattle.cargo_lock_merge_core.proofs.Deciding.{at-cases, at-option, commit-option, contains-cases}
 use Rattle.cargo_lock_merge_core.proofs.Leading.{IsWhole, whole-merge}
-use Rattle.cargo_lock_merge_core.proofs.Renamed.{map-in}
+use Rattle.lists.proofs.Members.{in-map}
 use Rattle.cargo_lock_merge_core.proofs.Sides.{merge-flip}
 use Rattle.cargo_lock_merge_core.proofs.Sourced.{bare-at, commit-once, git-same}
 use Rattle.cargo_lock_merge_core.proofs.Soundness.{each-commit, each-one, no-conflict}
@@ -118,7 +118,7 @@ module _ (b x : List (PlacedData Place)) (base : IsLockfile b) (side : IsSound x
     this-commit : (g : Key) → git_in y.content.source ≡ Some g → IsMergedCommit (lockfiles_of (triple b x b)) g (commit_in y.content.source)
     this-commit g is =
         let v = commit-option (contents_of b) g in
-        (v.0, Some (commit_in y.content.source), v.0, record { base = v.1; ours = (y.content, map-in (λ (z : PlacedData Place). z.content) x y among, (is, refl)); theirs = v.1 }, merged v.0)
+        (v.0, Some (commit_in y.content.source), v.0, record { base = v.1; ours = (y.content, in-map (λ (z : PlacedData Place). z.content) x y among, (is, refl)); theirs = v.1 }, merged v.0)
       where
         merged : (v : Option (Option (List ℕ))) → IsMergedValue v (Some (Some (commit_in y.content.source))) (option_map Some v) (Some (commit_in y.content.source))
         merged None = refl
@@ -194,7 +194,7 @@ module _ (b x : List (PlacedData Place)) (base : IsLockfile b) (side : IsSound x
     both-commit : (g : Key) → git_in y.content.source ≡ Some g → IsMergedCommit (lockfiles_of (triple b x x)) g (commit_in y.content.source)
     both-commit g is =
         let v = commit-option (contents_of b) g in
-        let here : HasCommit (contents_of x) g (commit_in y.content.source) = (y.content, map-in (λ (z : PlacedData Place). z.content) x y among, (is, refl)) in
+        let here : HasCommit (contents_of x) g (commit_in y.content.source) = (y.content, in-map (λ (z : PlacedData Place). z.content) x y among, (is, refl)) in
         (v.0, Some (commit_in y.content.source), Some (commit_in y.content.source), record { base = v.1; ours = here; theirs = here }, inl (refl, refl))
 
     chosen-both : IsChosen (lockfiles_of (triple b x x)) o (Some y) (Some y) y
@@ -248,8 +248,8 @@ base-agrees b x base side h p w y aw ay (g, is) e =
     let all : Lockfiles = lockfiles_of (triple b x b) in
     let (c, from) = from-at (triple b x b) base.one side.one base.one p y (Some w) (Some y) (Some w) ay.1 (record { base = aw; ours = ay; theirs = aw }) (h.each y ay.0) in
     let is' : git_in y.content.source ≡ Some g = git-same y.content w.content (bare-at x b side.sources base.sources p y w ay aw) ∙ is in
-    let has-w : HasCommit (contents_of b) g (commit_in w.content.source) = (w.content, map-in (λ (z : PlacedData Place). z.content) b w aw.0, (is, refl)) in
-    let has-y : HasCommit (contents_of x) g (commit_in y.content.source) = (y.content, map-in (λ (z : PlacedData Place). z.content) x y ay.0, (is', refl)) in
+    let has-w : HasCommit (contents_of b) g (commit_in w.content.source) = (w.content, in-map (λ (z : PlacedData Place). z.content) b w aw.0, (is, refl)) in
+    let has-y : HasCommit (contents_of x) g (commit_in y.content.source) = (y.content, in-map (λ (z : PlacedData Place). z.content) x y ay.0, (is', refl)) in
     let at-w : IsMergedCommit all g (commit_in w.content.source) =
     (Some (commit_in w.content.source), Some (commit_in y.content.source), Some (commit_in w.content.source), record { base = has-w; ours = has-y; theirs = has-w }, inr (inl (ap Some (sym e), refl))) in
     elim from.chosen.1 [

@@ -1,40 +1,28 @@
 -- Lists of entries and of nodes, place by place.
-use Rattle.std.proofs.Common.{◌≡◌, ◌<◌, ◌+◌, ◌⊎◌, inl, inr, ◌↔◌, ℕ, List, [], ◌∷◌, ◌++◌, length, get_or, take, refl, sym, ap, subst, ◌∙◌, arith}
+use Rattle.std.proofs.Common.{◌≡◌, inl, inr, ◌↔◌, ℕ, List, [], ◌∷◌, refl, sym, subst, ◌∙◌}
 use Rattle.std.specs.List.{AllZip, Contains}
-use Rattle.std.proofs.lemmas.List.{take_more}
-use Rattle.std.proofs.lemmas.List.Elements.{Contains-append_cases, Contains-append_right, Contains-push_cases}
+use Rattle.std.proofs.lemmas.List.Elements.{Contains-append_right}
+use Rattle.lists.proofs.Members.{contains-cases, first-in, none-in}
 use Rattle.cargo_lock_merge_core.specs.declared.entry.Entry.{Entry}
 use Rattle.cargo_lock_merge_core.specs.declared.reach.Node.{Node}
 use Rattle.cargo_lock_merge_core.specs.Plans.{IsNodeOf, IsRootEntry, LeadsToEntry, entry_places}
 use Rattle.cargo_lock_merge_core.specs.Reach.{IsRootPlace, LeadsToPlace, places_in}
 
-pub nothing-in : {X : Type 0} (x : X) → Contains [] x → ⊥
-nothing-in x h = let low = h.1 in absurd (omega (arith, low))
-
-pub head-or : {X : Type 0} (y : X) (ys : List X) (x : X) → Contains (y ∷ ys) x → (y ≡ x) ⊎ Contains ys x
-head-or y ys x h = elim (Contains-append_cases (y ∷ []) ys x h) [
-  | inl first ↦ elim (Contains-push_cases [] y x first) [ inl none ↦ absurd (nothing-in x none) | inr same ↦ inl same ]
-  | inr rest ↦ inr rest
-]
-
-pub at-head : {X : Type 0} (x : X) (xs : List X) → Contains (x ∷ xs) x
-at-head x xs = (0, omega arith, refl)
-
 pub zip-right : {A B : Type 0} (R : A → B → Type 0) (xs : List A) (ys : List B) (y : B) → AllZip R xs ys → Contains ys y → (x : A) × Contains xs x × R x y
-zip-right R [] [] y h c = absurd (nothing-in y c)
+zip-right R [] [] y h c = absurd (none-in y c)
 zip-right R [] (b ∷ ys) y h c = absurd h
 zip-right R (a ∷ xs) [] y h c = absurd h
-zip-right R (a ∷ xs) (b ∷ ys) y h c = elim (head-or b ys y c) [
-  | inl same ↦ (a, at-head a xs, subst (R a) same h.0)
+zip-right R (a ∷ xs) (b ∷ ys) y h c = elim (contains-cases b ys y c) [
+  | inl same ↦ (a, first-in a xs, subst (R a) same h.0)
   | inr rest ↦ let k = zip-right R xs ys y h.1 rest in (k.0, Contains-append_right (a ∷ []) xs k.0 k.1, k.2)
 ]
 
 pub zip-left : {A B : Type 0} (R : A → B → Type 0) (xs : List A) (ys : List B) (x : A) → AllZip R xs ys → Contains xs x → (y : B) × Contains ys y × R x y
-zip-left R [] [] x h c = absurd (nothing-in x c)
+zip-left R [] [] x h c = absurd (none-in x c)
 zip-left R [] (b ∷ ys) x h c = absurd h
 zip-left R (a ∷ xs) [] x h c = absurd h
-zip-left {A = A} R (a ∷ xs) (b ∷ ys) x h c = elim (head-or a xs x c) [
-  | inl same ↦ (b, at-head b ys, subst (λ (z : A). R z b) same h.0)
+zip-left {A = A} R (a ∷ xs) (b ∷ ys) x h c = elim (contains-cases a xs x c) [
+  | inl same ↦ (b, first-in b ys, subst (λ (z : A). R z b) same h.0)
   | inr rest ↦ let k = zip-left R xs ys x h.1 rest in (k.0, Contains-append_right (b ∷ []) ys k.0 k.1, k.2)
 ]
 

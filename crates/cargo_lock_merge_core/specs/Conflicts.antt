@@ -21,7 +21,7 @@ use Rattle.cargo_lock_merge_core.specs.Merge.{ConflictData, OfChecksum, OfPackag
 use Rattle.cargo_lock_merge_core.specs.Merge.{HaveAt, IsConflict, Triple, lockfiles_of}
 use Rattle.cargo_lock_merge_core.specs.Numbered.{data_if}
 use Rattle.cargo_lock_merge_core.specs.Placed.{PlacedData}
-use Rattle.cargo_lock_merge_core.specs.Reach.{IsMarked}
+use Rattle.lists.specs.Marks.{IsMarked}
 
 -- the conflict about this at a place
 abbrev pub conflict_of : {P : Type 0} → Kind → P → ConflictData P

@@ -17,7 +17,7 @@ use Rattle.cargo_lock_merge_core.specs.LawsOfMerges.{HaveOneCommitEach}
 use Rattle.cargo_lock_merge_core.specs.Merge.{IsConflict, OfSource, Triple, lockfiles_of}
 use Rattle.cargo_lock_merge_core.specs.Numbered.{data_if}
 use Rattle.cargo_lock_merge_core.specs.Placed.{PlacedData}
-use Rattle.cargo_lock_merge_core.specs.Reach.{IsMarked}
+use Rattle.lists.specs.Marks.{IsMarked}
 use Rattle.cargo_lock_merge_core.specs.Rule3.{IsDisputed}
 
 -- what distinguishes the git source from others, without its commit

@@ -8,7 +8,7 @@ use Rattle.cargo_lock_merge_core.specs.declared.merged.Merged.{Merged}
 use Rattle.cargo_lock_merge_core.specs.declared.plan.Plan.{Plan}
 use Rattle.cargo_lock_merge_core.specs.Merged.{IsMergedEntry}
 use Rattle.cargo_lock_merge_core.specs.Plans.{entry_places}
-use Rattle.cargo_lock_merge_core.specs.Reach.{IsMarked}
+use Rattle.lists.specs.Marks.{IsMarked}
 
 -- the place is that of an entry with a mark
 abbrev pub IsMarkedPlace : Plan → ℕ → Type 0

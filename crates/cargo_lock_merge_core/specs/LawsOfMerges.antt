@@ -3,12 +3,13 @@
 use Rattle.std.specs.Prelude.{◌≡◌, ◌≢◌, ◌⊎◌, ◌↔◌, ℕ, false, List, Some, None, option_map}
 use Rattle.std.specs.List.{Contains}
 use Rattle.cargo_lock_parts.specs.Identity.{PackageData}
+use Rattle.lists.specs.Chains.{IsReachedFrom}
 use Rattle.cargo_lock_merge_core.specs.Choices.{IsOfGit}
 use Rattle.cargo_lock_merge_core.specs.Commits.{HasOneCommitEach, Lockfiles, commit_in}
 use Rattle.cargo_lock_merge_core.specs.Commits.{key_without_commit}
 use Rattle.cargo_lock_merge_core.specs.Laws.{HaveOneAtEach}
 use Rattle.cargo_lock_merge_core.specs.Merge.{ConflictData, IsConflict, IsMerge, IsMovedReference}
-use Rattle.cargo_lock_merge_core.specs.Merge.{IsReached, IsReachedFrom, Triple}
+use Rattle.cargo_lock_merge_core.specs.Merge.{IsReached, Triple}
 use Rattle.cargo_lock_merge_core.specs.Placed.{HasAt, HasMember, HasOneAtEach, PlacedData, contents_of}
 use Rattle.cargo_lock_merge_core.specs.Placed.{key}
 use Rattle.cargo_lock_merge_core.specs.Places.{ArePlaced, IsMergeOf, Place, has_several}

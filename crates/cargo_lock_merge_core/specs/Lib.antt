@@ -5,7 +5,6 @@ pub mod Choices
 pub mod Merge
 pub mod Sets
 pub mod Reach
-pub mod Search
 pub mod Agreed
 pub mod Numbered
 pub mod CommitMaps

@@ -1,8 +1,9 @@
 -- The merge of two sides over a base, by places.
-use Rattle.std.specs.Prelude.{◌≡◌, ◌≢◌, ◌⊎◌, ◌↔◌, List, [], ◌∷◌, Option, Some, None}
+use Rattle.std.specs.Prelude.{◌≡◌, ◌≢◌, ◌⊎◌, ◌↔◌, List, Option, Some, None}
 use Rattle.std.specs.List.{Contains}
 use Rattle.cargo_lock_parts.specs.Identity.{identity_of}
 use Rattle.cargo_lock_parts.specs.SourceKey.{Key}
+use Rattle.lists.specs.Chains.{IsReachedFrom}
 use Rattle.cargo_lock_merge_core.specs.Choices.{IsChecksum, IsChecksumConflict, IsChosen, IsDependency}
 use Rattle.cargo_lock_merge_core.specs.Choices.{IsDependencyOf, IsOfSide, IsPackageConflict}
 use Rattle.cargo_lock_merge_core.specs.Choices.{IsReplacement, IsReplacementConflict}
@@ -31,16 +32,6 @@ abbrev pub HaveAt : {P : Type 0} → Triple P → P → Option (PlacedData P) �
 HaveAt s = AreAt s.base s.ours s.theirs
 
 -- ---- what is reached
-
--- a chain from a place over these places to the last of them, where each leads to the next
-abbrev pub IsChain : {P : Type 0} → (P → P → Type 0) → P → List P → P → Type 0
-IsChain leads a [] end = a ≡ end
-IsChain leads a (b ∷ bs) end = leads a b × IsChain leads b bs end
-
--- a chain leads to the place from one at which F holds
-abbrev pub IsReachedFrom : {P : Type 0} → (P → Type 0) → (P → P → Type 0) → P → Type 0
-IsReachedFrom {P = P} F leads p = (root : P) × (chain : List P) × F root
-    × IsChain leads root chain p
 
 -- a place is a root where a member of the workspace is kept there
 abbrev pub IsRoot : {P : Type 0} → Triple P → P → Type 0

@@ -14,7 +14,7 @@ use Rattle.cargo_lock_merge_core.specs.Entries.{IsEntry}
 use Rattle.cargo_lock_merge_core.specs.Merge.{IsReached, Triple, lockfiles_of}
 use Rattle.cargo_lock_merge_core.specs.Numbered.{IsInOrder, IsRowOf, all_data, data_if, places_of}
 use Rattle.cargo_lock_merge_core.specs.Placed.{HasAt, PlacedData, contents_of}
-use Rattle.cargo_lock_merge_core.specs.Reach.{IsMarked}
+use Rattle.lists.specs.Marks.{IsMarked}
 use Rattle.cargo_lock_merge_core.specs.Rule3.{IsKept}
 
 -- the three lists

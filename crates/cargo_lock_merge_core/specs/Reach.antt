@@ -1,5 +1,5 @@
 -- Places that lead to others.
-use Rattle.std.specs.Prelude.{◌≡◌, ℕ, Bool, true, List, Some, map, slice_get}
+use Rattle.std.specs.Prelude.{◌≡◌, ℕ, true, List, Some, map, slice_get}
 use Rattle.std.specs.List.{Contains}
 use Rattle.cargo_lock_merge_core.specs.declared.reach.Node.{Node}
 
@@ -14,10 +14,6 @@ IsRootPlace nodes p = (n : Node) × Contains nodes n × (n.place ≡ p) × (n.is
 -- the node at the place p has the target d
 abbrev pub LeadsToPlace : List Node → ℕ → ℕ → Type 0
 LeadsToPlace nodes p d = (n : Node) × Contains nodes n × (n.place ≡ p) × Contains n.targets.now d
-
--- the place has a mark
-abbrev pub IsMarked : List Bool → ℕ → Type 0
-IsMarked marks k = slice_get marks k ≡ Some true
 
 -- ---- the same by the indices of nodes. No public contract cites these.
 

@@ -14,12 +14,12 @@ ghost use Rattle.cargo_lock_merge_core.specs.Numbered.{data_if};
 use crate::commits::{Commits, SourceCommits};
 use crate::disputes::disputed;
 use crate::entry::{Chosen, Entry};
-use crate::merged::is_marked;
 use crate::placed::Placed;
 use crate::plan::Plan;
 use crate::rows::Row;
 use cargo_lock_parts::error::Result;
 use cargo_lock_parts::package::Package;
+use lists::marks::is_marked;
 use std::alloc::Global;
 
 /// What the sides can be in conflict about at a place.

@@ -13,12 +13,12 @@ ghost use Rattle.cargo_lock_merge_core.specs.Merged.{HasPlan};
 ghost use Rattle.cargo_lock_merge_core.specs.Numbered.{data_if};
 
 use crate::commits::{Commits, SourceCommits, equality};
-use crate::merged::is_marked;
 use crate::placed::Placed;
 use crate::plan::Plan;
 use crate::rule3::agreed_side;
 use cargo_lock_parts::error::Result;
 use cargo_lock_parts::package::SourceId;
+use lists::marks::is_marked;
 use std::alloc::Global;
 use std::collections::BTreeMap;
 

@@ -7,7 +7,6 @@ ghost use Rattle.cargo_lock_merge_core.specs.Numbered.{all_data};
 ghost use Rattle.cargo_lock_merge_core.specs.Places.{Place};
 ghost use Rattle.cargo_lock_merge_core.specs.Plans.{IsClosed, IsNumbered, triple_of};
 ghost use Rattle.cargo_lock_merge_core.specs.Renaming.{IsOneToOne, rename_all, rename_triple};
-ghost use Rattle.std.specs.Bool.{Decides};
 ghost use Rattle.cargo_lock_parts.specs.Checksum.{digest_of};
 ghost use Rattle.cargo_lock_merge_core.specs.Commits.{Lockfiles};
 ghost use Rattle.cargo_lock_merge_core.specs.Entries.{IsSettled};
@@ -16,12 +15,12 @@ ghost use Rattle.cargo_lock_merge_core.specs.Merge.{AreInConflict, IsMerge, Trip
 ghost use Rattle.cargo_lock_merge_core.specs.Merged.{AreValues, HasPlan, IsMergedEntry, IsUnsettled};
 ghost use Rattle.cargo_lock_merge_core.specs.Merged.{merged_data};
 ghost use Rattle.cargo_lock_merge_core.specs.Placed.{PlacedData};
-ghost use Rattle.cargo_lock_merge_core.specs.Reach.{IsMarked};
 
 use crate::entry::{Entry, package_of};
 use crate::placed::Placed;
 use crate::plan::Plan;
 use cargo_lock_parts::package::{Checksum, Package};
+use lists::marks::is_marked;
 use std::alloc::{AllocError, Global};
 
 /// A merged package at its place.
@@ -102,16 +101,6 @@ pub fn merged_packages<'a, 'd>(
         }
     }
     Ok(Some(all))
-}
-
-// Whether the place has a mark.
-pub(crate) fn is_marked(marks: &[bool], at: usize) -> bool
-    ensures { Decides result (IsMarked marks.now at) }
-{
-    match marks.get(at) {
-        Some(mark) => *mark,
-        None => false,
-    }
 }
 
 // The merged package of the entry. `None` if the sides are in conflict about it.

@@ -7,12 +7,12 @@ ghost use Rattle.std.specs.List.{AllZip};
 ghost use Rattle.std.specs.List.Sorted.{IsStrictlyIncreasing};
 ghost use Rattle.cargo_lock_parts.specs.declared.error.Error.TheVariants.{Memory};
 ghost use Rattle.cargo_lock_merge_core.specs.Entries.{IsRowInOrder};
-ghost use Rattle.cargo_lock_merge_core.specs.Merge.{IsReachedFrom};
 ghost use Rattle.cargo_lock_merge_core.specs.Numbered.{all_data, data_if};
 ghost use Rattle.cargo_lock_merge_core.specs.Plans.{AreEntries, HasEntries, IsMemberIf, IsNodeOf};
 ghost use Rattle.cargo_lock_merge_core.specs.Plans.{IsNumbered, IsPlan, IsRootEntry, IsRootRow};
 ghost use Rattle.cargo_lock_merge_core.specs.Plans.{LeadsToEntry, entry_places, triple_of};
-ghost use Rattle.cargo_lock_merge_core.specs.Reach.{IsMarked};
+ghost use Rattle.lists.specs.Chains.{IsReachedFrom};
+ghost use Rattle.lists.specs.Marks.{IsMarked};
 
 use crate::commits::Commits;
 use crate::entry::{Entry, entry_at};

@@ -1,14 +1,15 @@
 //! Which places are reached from the roots.
 
-ghost use Rattle.std.specs.Prelude.{◌≡◌, ◌<◌, ◌↔◌, ℕ, false, true, IfOk, OnOk, MatchOption};
-ghost use Rattle.std.specs.Prelude.{length, slice_get};
+ghost use Rattle.std.specs.Prelude.{◌≡◌, ◌↔◌, ℕ, IfOk, OnOk, MatchOption, Some, length};
+ghost use Rattle.std.specs.Prelude.{slice_get};
 ghost use Rattle.std.specs.List.{Contains};
 ghost use Rattle.std.specs.List.Sorted.{IsStrictlyIncreasing};
-ghost use Rattle.cargo_lock_merge_core.specs.Merge.{IsReachedFrom};
-ghost use Rattle.cargo_lock_merge_core.specs.Reach.{IsMarked, IsRootPlace, LeadsToPlace, RootAt, EdgeAt};
-ghost use Rattle.cargo_lock_merge_core.specs.Reach.{places_in};
-ghost use Rattle.cargo_lock_merge_core.specs.Search.{HasReached, IsSearch};
+ghost use Rattle.cargo_lock_merge_core.specs.Reach.{IsRootPlace, LeadsToPlace, RootAt, places_in};
+ghost use Rattle.lists.specs.Chains.{IsReachedFrom, OneLeadsTo};
+ghost use Rattle.lists.specs.Marks.{IsMarked};
+ghost use Rattle.lists.specs.Reach.{HasReached, fresh};
 
+use lists::reach::Reach;
 use std::alloc::{AllocError, Global};
 
 /// A place, whether it is a root, and the places that it leads to.
@@ -17,13 +18,6 @@ pub struct Node<'a> {
     pub place: usize,
     pub is_root: bool,
     pub targets: &'a [usize],
-}
-
-// Which places are reached so far, and those whose targets are still to be followed.
-#[derive(Drop)]
-struct Search {
-    reached: Vec<bool>,
-    waiting: Vec<usize>,
 }
 
 /// For each place whether a chain leads to it from a root. A target that is none of the places
@@ -36,15 +30,11 @@ pub fn reached(alloc: Global, nodes: &[Node]) -> Result<Vec<bool>, AllocError>
         ↔ IsReachedFrom (IsRootPlace nodes.now) (LeadsToPlace nodes.now) p) }
 {
     let places = places_of_nodes(alloc, nodes)?;
-    let mut search = Search::from_roots(alloc, nodes)?;
-    while let Some(at) = search.waiting.pop() {
-        search.follow(&places, nodes[at].targets)?;
+    let mut search = from_roots(alloc, nodes)?;
+    while let Some(at) = search.next() {
+        follow(&mut search, &places, nodes[at].targets)?;
     }
-    let Search {
-        reached,
-        waiting: _,
-    } = search;
-    Ok(reached)
+    Ok(search.into_marks())
 }
 
 // The places of the nodes.
@@ -67,49 +57,30 @@ pub fn index_of(places: &[usize], place: usize) -> Option<usize>
     places.binary_search(&place).ok()
 }
 
-impl Search {
-    // A search that has reached the roots.
-    fn from_roots(alloc: Global, nodes: &[Node]) -> Result<Search, AllocError>
-        ensures { IfOk result
-            (IsSearch (RootAt nodes.now) (EdgeAt nodes.now) (length nodes.now)) }
-    {
-        let mut search = Search {
-            reached: vec![in alloc; false; nodes.len()]?,
-            waiting: Vec::new(alloc),
-        };
-        for (at, node) in nodes.iter().enumerate() {
-            if node.is_root {
-                search.reach(at)?;
-            }
+// A search that has reached the roots.
+fn from_roots(alloc: Global, nodes: &[Node]) -> Result<Reach, AllocError>
+    ensures { IfOk result (HasReached (RootAt nodes.now) (fresh (length nodes.now))) }
+{
+    let mut search = Reach::new(alloc, nodes.len())?;
+    for (at, node) in nodes.iter().enumerate() {
+        if node.is_root {
+            search.reach(at)?;
         }
-        Ok(search)
     }
+    Ok(search)
+}
 
-    // Reaches the targets that are among the places.
-    fn follow(&mut self, places: &[usize], targets: &[usize]) -> Result<(), AllocError>
-        requires ascending { IsStrictlyIncreasing places.now }
-        requires count { length self.old.reached.items ≡ length places.now }
-        ensures { OnOk result (HasReached
-            (λ k. (d : ℕ) × Contains targets.now d × (slice_get places.now k ≡ Some d))
-            self.old self.new) }
-    {
-        for target in targets {
-            if let Some(at) = index_of(places, *target) {
-                self.reach(at)?;
-            }
+// Reaches the targets that are among the places.
+fn follow(search: &mut Reach, places: &[usize], targets: &[usize]) -> Result<(), AllocError>
+    requires ascending { IsStrictlyIncreasing places.now }
+    requires count { length search.old.marks ≡ length places.now }
+    ensures { OnOk result (HasReached
+        (OneLeadsTo (λ d k. slice_get places.now k ≡ Some d) targets.now) search.old search.new) }
+{
+    for target in targets {
+        if let Some(at) = index_of(places, *target) {
+            search.reach(at)?;
         }
-        Ok(())
     }
-
-    // Reaches a place. It waits where it was not reached before.
-    fn reach(&mut self, at: usize) -> Result<(), AllocError>
-        requires { at < length self.old.reached.items }
-        ensures { OnOk result (HasReached (λ k. k ≡ at) self.old self.new) }
-    {
-        if !self.reached[at] {
-            self.reached[at] = true;
-            self.waiting.push(at)?;
-        }
-        Ok(())
-    }
+    Ok(())
 }

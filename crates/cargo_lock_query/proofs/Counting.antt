@@ -10,24 +10,12 @@ use Rattle.cargo_lock_graph.specs.Drawing.{is_one_of}
 use Rattle.cargo_lock_graph.specs.Edges.{Edge, GraphData, edges_at}
 use Rattle.cargo_lock_graph.specs.declared.graph.EdgeDirection.TheVariants.{Incoming}
 use Rattle.cargo_lock_graph.specs.Paths.{IsPath}
+use Rattle.lists.proofs.Members.{none-in, slice_get-set_other, slice_get-set_same}
 use Rattle.cargo_lock_query.specs.Chains.{needs}
 use Rattle.cargo_lock_query.specs.Steps.{AreSteps, HasCounted, HasSteps, IsSearch, Met, NeedsOneOf, none_newest, uncounted}
-use Rattle.cargo_lock_query.proofs.Members.{none-in}
 use Rattle.cargo_lock_query.proofs.Needing.{Starts, edge-needer, needer-edge}
 
 -- ---- counts
-
-pub slice_get-set_other : {X : Type 0} (xs : List X) (i k : ℕ) (v : X) → ¬ (k ≡ i) → slice_get (set xs i v) k ≡ slice_get xs k
-slice_get-set_other [] i k v h = refl
-slice_get-set_other (x ∷ xs) zero zero v h = absurd (h refl)
-slice_get-set_other (x ∷ xs) zero (suc k) v h = refl
-slice_get-set_other (x ∷ xs) (suc i) zero v h = refl
-slice_get-set_other (x ∷ xs) (suc i) (suc k) v h = slice_get-set_other xs i k v (λ e. h (ap suc e))
-
-pub slice_get-set_same : {X : Type 0} (xs : List X) (i : ℕ) (v : X) → i < length xs → slice_get (set xs i v) i ≡ Some v
-slice_get-set_same [] i v h = absurd (omega (arith, h))
-slice_get-set_same (x ∷ xs) zero v h = refl
-slice_get-set_same (x ∷ xs) (suc i) v h = slice_get-set_same xs i v (omega (arith, h))
 
 pub uncounted-set : (steps : List (Option ℕ)) (place n : ℕ) → slice_get steps place ≡ Some None
     → uncounted steps ≡ suc (uncounted (set steps place (Some n)))

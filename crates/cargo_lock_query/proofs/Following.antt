@@ -6,38 +6,20 @@ use Rattle.std.proofs.lemmas.Bool.{cases_eq, cases_lt}
 use Rattle.std.proofs.lemmas.List.{get_or-take, length-map, length-replicate, length-take-le, map_push, reverse-append, take_all, take_more}
 use Rattle.std.proofs.lemmas.List.Elements.{Contains-append_left, Contains-push, Contains-push_cases}
 use Rattle.std.proofs.lemmas.List.Kept.{AllPairs-from_increasing}
-use Rattle.std.proofs.lemmas.Option.{get_or_from_slice_get, same_Some, slice_get-get_or, slice_get-map, slice_get_read, slice_get_within}
+use Rattle.std.proofs.lemmas.Option.{same_Some, slice_get-get_or, slice_get-map, slice_get_within}
 use Rattle.std.proofs.Math.ListN.{length-set}
 use Rattle.cargo_lock_graph.specs.Drawing.{is_one_of}
 use Rattle.cargo_lock_graph.specs.Edges.{GraphData}
 use Rattle.cargo_lock_graph.specs.Paths.{IsPath}
-use Rattle.cargo_lock_graph.proofs.MadeChains.{slice_get-left, slice_get-seam}
+use Rattle.lists.proofs.Members.{get-before, get-last, get-push, none-in, same-read, slice_get-set_other, slice_get-set_same}
 use Rattle.cargo_lock_query.specs.Chains.{IsChain, IsNoWorse, IsShortestChain, IsUnreached, needs}
 use Rattle.cargo_lock_query.specs.FirstChains.{AreFirstChains, AreFollowed, Entry, GoesOnFrom, HasLinked, IsEarlier, IsFoundBy, IsFromBelow, IsLinkAdded, IsTrail, Linked}
 use Rattle.cargo_lock_query.specs.Steps.{uncounted}
 use Rattle.cargo_lock_query.specs.declared.first.Link.{Link}
-use Rattle.cargo_lock_query.proofs.Counting.{none-counted, slice_get-set_other, slice_get-set_same, uncounted-none, uncounted-set}
+use Rattle.cargo_lock_query.proofs.Counting.{none-counted, uncounted-none, uncounted-set}
 use Rattle.cargo_lock_query.proofs.Earlier.{earlier-alone, earlier-last, earlier-no-worse, earlier-on, no-worse-both, no-worse-on, no-worse-self}
-use Rattle.cargo_lock_query.proofs.Members.{none-in}
 
 -- ---- one element more
-
--- what is read at a place of the list does not turn on the value for places beyond it
-same-read : {X : Type 0} (xs : List X) (i : ℕ) (x d : X) → i < length xs → x ≡ get_or xs i x → get_or xs i d ≡ x
-same-read xs i x d low is = get_or_from_slice_get xs i x d (slice_get_read xs (length xs) i x refl low is)
-
-at-last : {X : Type 0} (xs : List X) (x : X) (i : ℕ) (y : X) → slice_get (xs ++ x ∷ []) i ≡ Some y → (slice_get xs i ≡ Some y) ⊎ ((i ≡ length xs) × (x ≡ y))
-at-last xs x i y at = elim (cases_lt i (length xs)) [
-  | inl low ↦ inl (sym (slice_get-left xs (x ∷ []) i low) ∙ at)
-  | inr past ↦
-      let within = slice_get_within (xs ++ x ∷ []) i y at in
-      let long = length-append xs (x ∷ []) in
-      let last : i ≡ length xs = omega (arith, past, within, long) in
-      inr (last, same_Some x y (sym (slice_get-seam xs [] x) ∙ ap (slice_get (xs ++ x ∷ [])) (sym last) ∙ at))
-]
-
-at-kept : {X : Type 0} (xs : List X) (x : X) (i : ℕ) (y : X) → slice_get xs i ≡ Some y → slice_get (xs ++ x ∷ []) i ≡ Some y
-at-kept xs x i y at = slice_get-left xs (x ∷ []) i (slice_get_within xs i y at) ∙ at
 
 -- each number is above those before it
 above-taken : (xs : List ℕ) (i n v : ℕ) → IsStrictlyIncreasing xs → i < length xs → n ≡ get_or xs i n → Contains (take i xs) v → v < n
@@ -59,7 +41,7 @@ pub record IsGrown (trail grown : List Entry) (node : ℕ) (from : Option ℕ) (
 
 goes-kept : (trail : List Entry) (more : Entry) (i : ℕ) (e : Entry) (from : Option ℕ) → GoesOnFrom trail i e from → GoesOnFrom (trail ++ more ∷ []) i e from
 goes-kept trail more i e None h = h
-goes-kept trail more i e (Some p) h = (h.0, h.1, at-kept trail more p h.1 h.2, h.3)
+goes-kept trail more i e (Some p) h = (h.0, h.1, get-before trail more h.1 p h.2, h.3)
 
 trail-more : (graph : GraphData) (starts : List ℕ) (trail : List Entry) (old new : Linked) (node : ℕ) (from : Option ℕ) (chain : List ℕ)
     → IsTrail graph starts old trail → IsLinkAdded node from old new
@@ -74,36 +56,36 @@ trail-more graph starts trail old new node from chain is more goes leads before 
     λ k i at same. (let e : None ≡ Some i = same_Some None (Some i) (sym more.bare ∙ ap (slice_get old.places) (sym same) ∙ at) in cc e) in
     record {
       links = more.links ∙ ap (λ (ls : List Link). ls ++ last.link ∷ []) is.links ∙ sym (map_push (λ (e : Entry). e.link) trail last);
-      leads = λ i e at. elim (at-last trail last i e at) [
+      leads = λ i e at. elim (get-push trail last e i at) [
         | inl old ↦ is.leads i e old
         | inr new ↦ subst (λ (x : Entry). IsChain graph starts x.link.node x.chain) new.1 leads
       ];
-      goes_on = λ i e at. elim (at-last trail last i e at) [
+      goes_on = λ i e at. elim (get-push trail last e i at) [
         | inl old ↦ goes-kept trail last i e e.link.from (is.goes_on i e old)
         | inr new ↦ subst (λ (n : ℕ). GoesOnFrom (trail ++ last ∷ []) n e e.link.from) (sym new.0)
             (subst (λ (x : Entry). GoesOnFrom (trail ++ last ∷ []) (length trail) x x.link.from) new.1 (goes-kept trail last (length trail) last from goes))
       ];
-      ordered = λ i j e f less at of. elim (at-last trail last j f of) [
-        | inl old ↦ elim (at-last trail last i e at) [
+      ordered = λ i j e f less at of. elim (get-push trail last f j of) [
+        | inl old ↦ elim (get-push trail last e i at) [
           | inl older ↦ is.ordered i j e f less older old
           | inr new ↦ absurd (let low = slice_get_within trail j f old in let end = new.0 in omega (arith, low, end, less))
         ]
-        | inr new ↦ elim (at-last trail last i e at) [
+        | inr new ↦ elim (get-push trail last e i at) [
           | inl older ↦ subst (λ (x : Entry). IsEarlier e.chain x.chain) new.1 (before i e older)
           | inr newer ↦ absurd (let one = new.0 in let end = newer.0 in omega (arith, one, end, less))
         ]
       ];
-      has_place = λ i e at. elim (at-last trail last i e at) [
+      has_place = λ i e at. elim (get-push trail last e i at) [
         | inl old ↦ let has = is.has_place i e old in more.others e.link.node (other e.link.node i has) ∙ has
         | inr added ↦ subst (λ (x : Entry). slice_get new.places x.link.node ≡ Some (Some i)) added.1 (here ∙ ap (λ (n : ℕ). Some (Some n)) (sym added.0))
       ];
       placed = λ k i at. elim (cases_eq k node) [
         | inl same ↦
             let place : length trail ≡ i = same_Some (length trail) i (same_Some (Some (length trail)) (Some i) (sym here ∙ ap (slice_get new.places) (sym same) ∙ at)) in
-            (last, subst (λ (n : ℕ). slice_get (trail ++ last ∷ []) n ≡ Some last) place (slice_get-seam trail [] last), sym same)
+            (last, subst (λ (n : ℕ). slice_get (trail ++ last ∷ []) n ≡ Some last) place (get-last trail last), sym same)
         | inr differ ↦
             let (e, there, named) = is.placed k i (sym (more.others k differ) ∙ at) in
-            (e, at-kept trail last i e there, named)
+            (e, get-before trail last e i there, named)
       ];
       room =
           let a = is.room in
@@ -133,12 +115,12 @@ trail-next graph starts trail old new node from chain is (inr more) goes leads b
       trail ++ last ∷ [],
       trail-more graph starts trail old new node from chain is more goes leads before,
       record {
-        kept = λ i e h. at-kept trail last i e h;
-        added = λ i e h. elim (at-last trail last i e h) [
+        kept = λ i e h. get-before trail last e i h;
+        added = λ i e h. elim (get-push trail last e i h) [
           | inl old ↦ inl old
           | inr new ↦ inr (ap (λ (x : Entry). x.chain) (sym new.1), ap (λ (x : Entry). x.link.from) (sym new.1))
         ];
-        found = (length trail, last, slice_get-seam trail [] last, refl, no-worse-self chain);
+        found = (length trail, last, get-last trail last, refl, no-worse-self chain);
       },
     )
 

@@ -5,7 +5,6 @@ pub mod Walking
 pub mod Earlier
 pub mod Following
 pub mod Reasoning
-pub mod Placing
 pub mod Starting
 pub mod Specified
 pub mod Grouping

@@ -1,5 +1,5 @@
 -- The edges of a graph from both sides.
-use Rattle.std.proofs.Common.{◌≡◌, ◌<◌, ℕ, true, List, [], ◌∷◌, ◌++◌, append_assoc, refl, subst, sym, ap, ◌∙◌}
+use Rattle.std.proofs.Common.{◌≡◌, ◌<◌, ℕ, true, List, ◌∷◌, ◌++◌, refl, subst, sym}
 use Rattle.std.specs.List.{Contains, filter}
 use Rattle.std.proofs.lemmas.Bool.{eq-eqb, eqb-true}
 use Rattle.std.proofs.lemmas.List.Elements.{All-contains, Contains-append_right}
@@ -7,8 +7,9 @@ use Rattle.cargo_lock_graph.specs.Chains.{AreBetween}
 use Rattle.cargo_lock_graph.specs.Drawing.{is_one_of}
 use Rattle.cargo_lock_graph.specs.Edges.{Edge, GraphData, edges_at, far_end, far_ends, is_at}
 use Rattle.cargo_lock_graph.specs.declared.graph.EdgeDirection.TheVariants.{Incoming, Outgoing}
+use Rattle.lists.proofs.Members.{first-in, from-reverse, in-kept, in-reverse, kept-in}
 use Rattle.cargo_lock_query.specs.Chains.{needs}
-use Rattle.cargo_lock_query.proofs.Members.{from-reverse, in-kept, in-one-of, in-reverse, first-in, kept-in, map-one-of, one-of-in, one-of-map}
+use Rattle.cargo_lock_query.proofs.Members.{in-one-of, map-one-of, one-of-in, one-of-map}
 
 -- what needs a node has an edge that enters it
 pub needer-edge : (graph : GraphData) (a b : ℕ) → is_one_of b (needs graph a) ≡ true
@@ -41,11 +42,6 @@ needers-sources graph b k h =
 -- the node is the start of one of these edges
 abbrev pub Starts : List Edge → ℕ → Type 0
 Starts edges k = (e : Edge) × Contains edges e × (e.from ≡ k)
-
--- the next edge joins those so far
-pub joined-next : (front : List Edge) (e : Edge) (rest left all : List Edge) → left ≡ e ∷ rest → front ++ left ≡ all
-    → (front ++ e ∷ []) ++ rest ≡ all
-joined-next front e rest left all is joined = append_assoc front (e ∷ []) rest ∙ ap (λ (es : List Edge). front ++ es) (sym is) ∙ joined
 
 -- the next edge starts at a node
 pub start-within : (count : ℕ) (front : List Edge) (e : Edge) (rest left all : List Edge) → left ≡ e ∷ rest → front ++ left ≡ all

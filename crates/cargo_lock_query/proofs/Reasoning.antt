@@ -7,7 +7,7 @@ use Rattle.std.proofs.lemmas.List.FromFn.{get_or-range_with_len, length-range_wi
 use Rattle.cargo_lock_graph.specs.Edges.{GraphData, is_at}
 use Rattle.cargo_lock_graph.specs.declared.graph.EdgeDirection.TheVariants.{Incoming}
 use Rattle.cargo_lock_query.specs.Chains.{IsShortestChain, IsUnreached}
-use Rattle.cargo_lock_query.specs.Places.{IsPlaces}
+use Rattle.lists.specs.Places.{IsPlaces}
 use Rattle.cargo_lock_query.specs.Starts.{AreStarts, IsMember, roots}
 
 range-increasing : (a n : ℕ) → IsStrictlyIncreasing (range_with_len a n)

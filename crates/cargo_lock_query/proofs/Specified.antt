@@ -2,9 +2,10 @@
 use Rattle.std.proofs.Common.{◌≡◌, ◌∙◌, ◌<◌, ◌+◌, ◌++◌, ◌∷◌, [], ℕ, Bool, true, false, cond, List, Some, get_or, length, refl, slice_get, sym}
 use Rattle.std.proofs.lemmas.Option.{slice_get_read}
 use Rattle.cargo_lock_parts.specs.Identity.{PackageData}
-use Rattle.cargo_lock_query.specs.Places.{IsPlaces}
+use Rattle.lists.specs.Places.{IsPlaces}
 use Rattle.cargo_lock_query.specs.Spec.{Fits, fits, spec_in}
-use Rattle.cargo_lock_query.proofs.Placing.{places-pass, places-put, same-at}
+use Rattle.lists.proofs.Members.{same-at}
+use Rattle.lists.proofs.Places.{places-pass, places-put}
 
 -- one more package, tested
 pub fitting-tested : (spec : List ℕ) (packages : List PackageData) (place : ℕ) (p : PackageData) (is : Bool) (xs ys : List ℕ) → place < length packages → p ≡ get_or packages place p

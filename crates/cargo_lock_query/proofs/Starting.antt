@@ -2,7 +2,7 @@
 use Rattle.std.proofs.Common.{◌≡◌, inl, inr, ℕ, List, [], ◌∷◌, Option, length, subst}
 use Rattle.cargo_lock_graph.specs.Edges.{GraphData}
 use Rattle.cargo_lock_query.specs.Chains.{IsUnreached}
-use Rattle.cargo_lock_query.specs.Places.{IsPlaces}
+use Rattle.lists.specs.Places.{IsPlaces}
 use Rattle.cargo_lock_query.specs.Starts.{AreStarts, IsMember, IsReached, roots}
 use Rattle.cargo_lock_query.specs.Steps.{AreSteps, IsOneCounted}
 

@@ -7,10 +7,11 @@ use Rattle.std.proofs.lemmas.List.{take_all, take_more}
 use Rattle.std.proofs.lemmas.Option.{same_Some}
 use Rattle.cargo_lock_graph.specs.Edges.{GraphData}
 use Rattle.cargo_lock_graph.specs.Paths.{IsPath}
+use Rattle.lists.proofs.Members.{none-in}
 use Rattle.cargo_lock_query.specs.Chains.{AreChainsOfEach, IsChain, IsNoWorse, IsShortestChain, IsUnreached, needs}
 use Rattle.cargo_lock_query.specs.Steps.{AreNearest, AreSteps, HasSteps, IsFirstChain, IsFirstPath, IsNearerOf, IsNearest, IsNoFarther}
 use Rattle.cargo_lock_query.specs.declared.chain.Found.{Found}
-use Rattle.cargo_lock_query.proofs.Members.{in-one-of, none-in, one-of-in}
+use Rattle.cargo_lock_query.proofs.Members.{in-one-of, one-of-in}
 use Rattle.cargo_lock_query.proofs.Counting.{one-count}
 
 -- ---- the nearest of some nodes

@@ -3,7 +3,7 @@ use Rattle.std.specs.Prelude.{◌≡◌, ◌<◌, ℕ, List, All, AllPairs, leng
 use Rattle.std.specs.List.{Contains}
 use Rattle.cargo_lock_parts.specs.Identity.{PackageData}
 use Rattle.cargo_lock_graph.specs.Targets.{HoldsOf}
-use Rattle.cargo_lock_query.specs.Places.{IsPlaces}
+use Rattle.lists.specs.Places.{IsPlaces}
 
 -- the package at the place has the name
 abbrev pub IsNamed : List PackageData → List ℕ → ℕ → Type 0

@@ -1,4 +1,3 @@
-pub mod Places
 pub mod Spec
 pub mod Chains
 pub mod Starts

@@ -3,7 +3,7 @@ use Rattle.std.specs.Prelude.{ℕ, List, length}
 use Rattle.std.specs.List.{Contains}
 use Rattle.cargo_lock_graph.specs.Edges.{GraphData}
 use Rattle.cargo_lock_query.specs.Chains.{needs}
-use Rattle.cargo_lock_query.specs.Places.{IsPlaces}
+use Rattle.lists.specs.Places.{IsPlaces}
 
 -- the nodes with an edge to the node, each once and ascending
 abbrev pub AreNeeders : GraphData → ℕ → List ℕ → Type 0

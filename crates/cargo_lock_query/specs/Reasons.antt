@@ -3,7 +3,7 @@
 use Rattle.std.specs.Prelude.{ℕ, List, length}
 use Rattle.cargo_lock_graph.specs.Edges.{GraphData}
 use Rattle.cargo_lock_query.specs.FirstChains.{AreFirstChains, linked_by}
-use Rattle.cargo_lock_query.specs.Places.{IsPlaces}
+use Rattle.lists.specs.Places.{IsPlaces}
 use Rattle.cargo_lock_query.specs.Starts.{IsMember, roots}
 use Rattle.cargo_lock_query.specs.declared.reason.Reasons.{Reasons}
 

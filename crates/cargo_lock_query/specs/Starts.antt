@@ -4,7 +4,7 @@ use Rattle.cargo_lock_graph.specs.Edges.{GraphData, externals}
 use Rattle.cargo_lock_graph.specs.Targets.{HoldsOf}
 use Rattle.cargo_lock_graph.specs.declared.graph.EdgeDirection.TheVariants.{Incoming}
 use Rattle.cargo_lock_query.specs.Chains.{IsChain, IsUnreached}
-use Rattle.cargo_lock_query.specs.Places.{IsPlaces}
+use Rattle.lists.specs.Places.{IsPlaces}
 
 -- the roots: the nodes of the packages on which no package depends
 abbrev pub roots : GraphData → List ℕ

@@ -4,7 +4,7 @@ ghost use Rattle.std.specs.Prelude.{◌≡◌, ◌<◌, All, IfOk, length};
 ghost use Rattle.std.specs.List.{Contains};
 ghost use Rattle.cargo_lock_graph.specs.Edges.{far_ends};
 ghost use Rattle.cargo_lock_query.specs.Needers.{AreNeeders};
-ghost use Rattle.cargo_lock_query.specs.Places.{IsPlaces};
+ghost use Rattle.lists.specs.Places.{IsPlaces};
 
 use cargo_lock_graph::graph::{EdgeDirection, Graph, NodeIndex};
 use cargo_lock_graph::listed::list_ends;

@@ -4,7 +4,7 @@ ghost use Rattle.std.specs.Prelude.{◌≡◌, ◌<◌, ℕ, List, IfOk, MatchOp
 ghost use Rattle.cargo_lock_graph.specs.Edges.{GraphData};
 ghost use Rattle.cargo_lock_query.specs.Chains.{AreChainsOfEach, IsShortestChain, IsUnreached};
 ghost use Rattle.cargo_lock_query.specs.FirstChains.{AreFirstChains, linked_by};
-ghost use Rattle.cargo_lock_query.specs.Places.{IsPlaces};
+ghost use Rattle.lists.specs.Places.{IsPlaces};
 ghost use Rattle.cargo_lock_query.specs.Reasons.{AreReasons};
 ghost use Rattle.cargo_lock_query.specs.Starts.{AreStarts, IsMember};
 ghost use Rattle.cargo_lock_query.specs.Starts as spec;

@@ -3,7 +3,7 @@
 ghost use Rattle.std.specs.Prelude.{◌≡◌, IfOk, bytes_eq, length, option_map};
 ghost use Rattle.std.specs.List.{before_first};
 ghost use Rattle.semver.specs.Identifiers.{parts_of};
-ghost use Rattle.cargo_lock_query.specs.Places.{IsPlaces};
+ghost use Rattle.lists.specs.Places.{IsPlaces};
 ghost use Rattle.cargo_lock_query.specs.Spec.{Fits, data_of, fits, has_at_sign, has_checksum};
 ghost use Rattle.cargo_lock_query.specs.Spec.{has_precise, is_at_sign, part_fits, second_part};
 ghost use Rattle.cargo_lock_query.specs.Spec.{spec_in};

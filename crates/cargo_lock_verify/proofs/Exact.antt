@@ -9,7 +9,7 @@ use Rattle.cargo_lock_parts.specs.Identity.{PackageData}
 use Rattle.cargo_lock_verify.specs.Archives.{ArchiveData, Changed, FindingData, FindingsAreExact, IsFound, IsFoundOf, IsVerified, Missing, NoneIfVerified, SubjectData}
 use Rattle.cargo_lock_verify.specs.Archives.{findings, found_by, found_in, found_of, is_digest}
 use Rattle.lists.proofs.Members.{first-in as first, in-joined as in-flat, none-in as no-element}
-use Rattle.lists.proofs.Tests.{no-elements}
+use Rattle.lists.proofs.Members.{none-left as no-elements}
 use Rattle.lists.proofs.Members.{in-map}
 
 -- ---- which packages are verified

@@ -13,7 +13,7 @@ use Rattle.cargo_lock_verify.specs.declared.folder.Folder.{Folder}
 use Rattle.cargo_lock_verify.specs.Vendored.{Absent, FindingData, FolderFindingsAreExact, IsAsListed, IsFoundIn, IsFoundOf, IsVendored, Link, ListedData, NoFolder, NoneIfVendored, OtherArchive, OtherFile, Unlisted, VendoredData}
 use Rattle.cargo_lock_verify.specs.Vendored.{archive_found, digest_at, files_found, files_of, findings, folder_found, folders_found, found_by, is_same_archive, links_found, listed_by, listed_found, of_file, of_listed, vendored_found}
 use Rattle.lists.proofs.Members.{contains-cases as cases, first-in as first, in-joined as in-flat, in-map, later-in as later, none-in as no-element}
-use Rattle.lists.proofs.Tests.{no-elements}
+use Rattle.lists.proofs.Members.{none-left as no-elements}
 
 -- ---- digests that may be absent
 

@@ -1,6 +1,6 @@
 //! Specifications of packages, as arguments of `tree`, `bom`, `why` and `graph`.
 ghost use Rattle.std.specs.Prelude.{◌≢◌, [], IfOk, length};
-ghost use Rattle.cargo_lock_query.specs.Places.{IsPlaces};
+ghost use Rattle.lists.specs.Places.{IsPlaces};
 ghost use Rattle.cargo_lock_query.specs.Spec.{Fits};
 
 use cargo_lock::Package;

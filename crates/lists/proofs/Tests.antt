@@ -56,10 +56,6 @@ not-true false e = refl
 pub only : {X : Type 0} (y x : X) → Contains (y ∷ []) x → y ≡ x
 only y x h = elim (cases y [] x h) [ inl same ↦ same | inr none ↦ absurd (no-element x none) ]
 
-pub no-elements : {X : Type 0} (xs : List X) → ((x : X) → ¬ Contains xs x) → xs ≡ []
-no-elements [] h = refl
-no-elements (x ∷ xs) h = absurd (h x (first x xs))
-
 -- ---- tests of elements
 
 pub all-passes : {X : Type 0} (test : X → Bool) (xs : List X) → list_all test xs ≡ true → (x : X) → Contains xs x → test x ≡ true

@@ -9,7 +9,7 @@ use Rattle.cargo_lock_bom.specs.Component.{component_at}
 use Rattle.cargo_lock_bom.specs.Contents.{entry_by, entry_for, metadata_with}
 use Rattle.cargo_lock_bom.specs.Draft.{Adds, data_tokens}
 use Rattle.cargo_lock_bom.specs.Options.{OptionsData}
-use Rattle.cargo_lock_bom.proofs.Chosen.{places-within}
+use Rattle.lists.proofs.Places.{places-within}
 use Rattle.cargo_lock_bom.proofs.Members.{bill-tokens}
 use Rattle.cargo_lock_bom.proofs.Texts.{entries_same}
 use Rattle.cargo_lock_bom.proofs.Writing.{as_tokens, then}

@@ -1,6 +1,6 @@
 use Rattle.std.proofs.Common.{◌≡◌, ◌∙◌, ◌<◌, ℕ, List, All, ap, arith, inr, length, refl, subst, sym}
 use Rattle.std.proofs.lemmas.Bool.{eqb-true}
-use Rattle.cargo_lock_query.proofs.Placing.{places-within}
+use Rattle.lists.proofs.Places.{places-within}
 use Rattle.cargo_lock_query.specs.Spec.{Fits}
 use Rattle.cargo_lock_encoding.specs.Lockfiles.{LockfileData}
 use Rattle.cargo_lock_parts.specs.Identity.{PackageData}

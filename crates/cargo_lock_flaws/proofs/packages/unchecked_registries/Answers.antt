@@ -3,7 +3,7 @@ use Rattle.std.proofs.lemmas.Bool.{false≢true}
 use Rattle.std.proofs.lemmas.Option.{slice_get_read}
 use Rattle.std.specs.Option.{option_copied}
 use Rattle.cargo_lock_flaws.specs.Packages.{IsUnchecked, own_source}
-use Rattle.cargo_lock_flaws.proofs.Places.{places-end, places-pass, places-put}
+use Rattle.lists.proofs.Places.{places-end, places-pass, places-put}
 use Rattle.cargo_lock_flaws.proofs.SeenBefore.{none-unchecked, own-more, own-same, unchecked-known}
 use Rattle.cargo_lock_flaws.proofs.packages.unchecked_registries.Goals as goal
 use Rattle.cargo_lock_flaws.proofs.packages.unchecked_registries.Goals.{in-Some+in_ok-see+then-branch+in_ok-push, in-Some+in_ok-see+else-branch, in_default}

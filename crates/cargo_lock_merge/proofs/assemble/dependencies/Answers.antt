@@ -6,7 +6,7 @@ use Rattle.cargo_lock_parts.specs.Identity.{Identity}
 use Rattle.cargo_lock_merge_core.specs.Assembled.{IsIdentityAt}
 use Rattle.cargo_lock_merge_core.specs.Merged.{merged_data}
 use Rattle.cargo_lock_merge_core.specs.Placed.{PlacedData}
-use Rattle.cargo_lock_merge_core.proofs.Members.{none-in}
+use Rattle.lists.proofs.Members.{none-in}
 use Rattle.cargo_lock_merge.proofs.Assembling.{looked-up, only-at, passed-by}
 use Rattle.cargo_lock_merge.proofs.Once.{AreSoFar, apart-at-end, more-so-far, none-so-far, passed-so-far}
 use Rattle.cargo_lock_merge.proofs.assemble.dependencies.Goals as goal

@@ -4,7 +4,7 @@ use Rattle.cargo_lock_merge_core.specs.declared.conflicts.Kind.{Kind}
 use Rattle.cargo_lock_merge_core.specs.declared.entry.Entry.{Entry}
 use Rattle.cargo_lock_merge_core.specs.declared.plan.Plan.{Plan}
 use Rattle.cargo_lock_merge_core.specs.Commits.{Lockfiles}
-use Rattle.cargo_lock_merge_core.specs.Reach.{IsMarked}
+use Rattle.lists.specs.Marks.{IsMarked}
 use Rattle.cargo_lock_merge_core.proofs.Conflicting.{AreFound, conflict-pass, conflict-push, conflicts-end}
 use Rattle.cargo_lock_merge_core.proofs.conflicts.conflicts.Goals as goal
 use Rattle.cargo_lock_merge_core.proofs.conflicts.conflicts.Goals.{then-is_marked+in_ok-put_conflict, else-is_marked}

@@ -5,7 +5,7 @@ use Rattle.cargo_lock_parts.specs.Source.{Source}
 use Rattle.cargo_lock_merge_core.specs.declared.commits.SourceCommits.{SourceCommits}
 use Rattle.cargo_lock_merge_core.specs.declared.entry.Entry.{Entry}
 use Rattle.cargo_lock_merge_core.specs.declared.plan.Plan.{Plan}
-use Rattle.cargo_lock_merge_core.specs.Reach.{IsMarked}
+use Rattle.lists.specs.Marks.{IsMarked}
 use Rattle.cargo_lock_merge_core.proofs.Disputing.{AreSourcesSoFar, sources-end, sources-more, sources-pass}
 use Rattle.cargo_lock_merge_core.proofs.disputes.disputes.Goals as goal
 use Rattle.cargo_lock_merge_core.proofs.disputes.disputes.Goals.{then-is_marked+in_ok-put_dispute+in_ok-put_dispute-2, else-is_marked}

@@ -5,7 +5,8 @@ use Rattle.std.proofs.lemmas.Option.{slice_get_within}
 use Rattle.cargo_lock_parts.specs.Identity.{PackageData}
 use Rattle.cargo_lock_graph.specs.Edges.{Edge}
 use Rattle.cargo_lock_merge_core.specs.Linked.{AreLinked, RefersTo}
-use Rattle.cargo_lock_merge_core.proofs.Linking.{edge-target, either-refers, joined-next, refers-within}
+use Rattle.lists.proofs.Members.{joined-next}
+use Rattle.cargo_lock_merge_core.proofs.Linking.{edge-target, either-refers, refers-within}
 use Rattle.cargo_lock_graph.proofs.Zipped.{zip-push}
 use Rattle.cargo_lock_merge_core.proofs.linked.targets.Goals as goal
 

@@ -5,7 +5,7 @@ use Rattle.cargo_lock_merge_core.specs.declared.plan.Plan.{Plan}
 use Rattle.cargo_lock_merge_core.specs.Kept.{AreSoFar}
 use Rattle.cargo_lock_merge_core.specs.Merge.{lockfiles_of}
 use Rattle.cargo_lock_merge_core.specs.Merged.{IsMergedEntry, IsUnsettled}
-use Rattle.cargo_lock_merge_core.specs.Reach.{IsMarked}
+use Rattle.lists.specs.Marks.{IsMarked}
 use Rattle.cargo_lock_merge_core.proofs.Conflicting.{some-conflict}
 use Rattle.cargo_lock_merge_core.proofs.SoFar.{entry-settled, in-place, no-merge, so-far-end, so-far-pass, so-far-push, so-far-start}
 use Rattle.cargo_lock_merge_core.proofs.merged.merged_packages.Goals as goal

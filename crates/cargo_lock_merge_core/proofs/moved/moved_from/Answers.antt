@@ -1,14 +1,13 @@
 use Rattle.std.proofs.Common.{◌≡◌, ◌∙◌, ◌+◌, ◌<◌, ℕ, List, MatchOption, Option, ap, arith, get_or, length, map, subst, sym}
 use Rattle.std.specs.List.{Contains}
 use Rattle.std.specs.List.Sorted.{IsStrictlyIncreasing}
-use Rattle.std.proofs.lemmas.List.Elements.{Contains-get_or}
+use Rattle.std.proofs.lemmas.List.Elements.{Contains-get_or, All-contains}
 use Rattle.cargo_lock_merge_core.specs.declared.merged.Merged.{Merged}
 use Rattle.cargo_lock_merge_core.specs.declared.moved.Moved.{Moved}
 use Rattle.cargo_lock_merge_core.specs.Merged.{merged_data}
 use Rattle.cargo_lock_merge_core.specs.Moved.{IsMovedFrom, IsMovedTo}
 use Rattle.cargo_lock_merge_core.specs.Placed.{PlacedData}
 use Rattle.cargo_lock_merge_core.proofs.Moving.{AreFirst, first-end, first-pass, first-push}
-use Rattle.cargo_lock_merge_core.proofs.Planning.{all-in}
 use Rattle.cargo_lock_merge_core.proofs.moved.moved_from.Goals as goal
 use Rattle.cargo_lock_merge_core.proofs.moved.moved_from.Goals.{in-Some+in_ok-push, in_default}
 
@@ -22,7 +21,7 @@ loop-to-preserved c =
     let k = c.loop-to.to-index in
     let q : ℕ = get_or ds k 0 in
     let low = subst (λ (es : List ℕ). k < length es) c.deref-to-items.ensures.value c.loop-to-test.true in
-    let up = all-in (λ (m : Merged). IsStrictlyIncreasing m.dependencies.items) ms one c.requires.merged.each c.requires.one in
+    let up = All-contains (λ (m : Merged). IsStrictlyIncreasing m.dependencies.items) ms one c.requires.merged.each c.requires.one in
     let e : get_or c.deref-to-items.result.now k 0 ≡ q = ap (λ (es : List ℕ). get_or es k 0) c.deref-to-items.ensures.value in
     let found = subst (λ (n : ℕ). Contains ds n → MatchOption c.moved_to.result (¬ IsMovedTo o t (map merged_data ms) (merged_data one) n) (IsMovedFrom o t (map merged_data ms) (merged_data one) n)) e c.moved_to.ensures (Contains-get_or ds k 0 low) in
     let all : List Moved = c.loop-to.all.items in

@@ -5,7 +5,7 @@ use Rattle.cargo_lock_graph.specs.Edges.{far_ends}
 use Rattle.cargo_lock_graph.specs.declared.graph.EdgeDirection.TheVariants.{Incoming}
 use Rattle.cargo_lock_query.specs.Chains.{needs}
 use Rattle.cargo_lock_query.proofs.Needing.{needers-sources, sources-needers}
-use Rattle.cargo_lock_query.proofs.Placing.{places-alike}
+use Rattle.lists.proofs.Places.{places-alike}
 use Rattle.cargo_lock_query.proofs.need.needers.Goals as goal
 
 pub returns : goal.returns

@@ -1,5 +1,5 @@
 use Rattle.std.proofs.Common.{◌<◌, ℕ, List, All, length, subst, sym}
-use Rattle.cargo_lock_query.proofs.Placing.{places-within}
+use Rattle.lists.proofs.Places.{places-within}
 use Rattle.cargo_lock_query.proofs.reason.from_members.Goals as goal
 
 pub from-requires-clause-within : goal.from-requires-clause-within

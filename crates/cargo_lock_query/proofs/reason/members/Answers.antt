@@ -2,8 +2,8 @@ use Rattle.std.proofs.Common.{◌≡◌, ◌∙◌, ◌+◌, ◌++◌, ◌∷◌
 use Rattle.cargo_lock_parts.specs.Identity.{PackageData}
 use Rattle.cargo_lock_query.specs.Starts.{IsMember}
 use Rattle.cargo_lock_query.proofs.Counting.{none-of, some-of}
-use Rattle.cargo_lock_query.proofs.Placing.{places-end, places-pass, places-put}
-use Rattle.cargo_lock_query.proofs.Placing.{same-at}
+use Rattle.lists.proofs.Places.{places-end, places-pass, places-put}
+use Rattle.lists.proofs.Members.{same-at}
 use Rattle.cargo_lock_query.proofs.reason.members.Goals as goal
 use Rattle.cargo_lock_query.proofs.reason.members.Goals.{then-is_none+in_ok-push, else-is_none}
 

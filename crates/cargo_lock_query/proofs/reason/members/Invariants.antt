@@ -1,4 +1,4 @@
-use Rattle.cargo_lock_query.specs.Places.{IsPlaces}
+use Rattle.lists.specs.Places.{IsPlaces}
 use Rattle.cargo_lock_query.specs.Starts.{IsMember}
 use Rattle.cargo_lock_query.proofs.reason.members.Given as goal
 

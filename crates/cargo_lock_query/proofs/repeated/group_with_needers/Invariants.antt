@@ -3,7 +3,7 @@ use Rattle.cargo_lock_query.specs.Needers.{AreNeeders}
 use Rattle.cargo_lock_query.specs.declared.repeated.Duplicate.{Duplicate}
 use Rattle.cargo_lock_query.proofs.repeated.group_with_needers.Given as goal
 
--- the nodes so far, each with its needers
-abbrev pub invariant-loop-node : goal.invariant-loop-node
-invariant-loop-node l = (map (λ (one : Duplicate). one.node) l.group.items ≡ take l.node-index l.nodes)
+-- the packages so far, each with its needers
+abbrev pub invariant-loop-place : goal.invariant-loop-place
+invariant-loop-place l = (map (λ (one : Duplicate). one.node) l.group.items ≡ take l.place-index l.places)
     × All (λ (one : Duplicate). AreNeeders l.graph one.node one.needers.items) l.group.items

@@ -1,5 +1,5 @@
 use Rattle.std.proofs.Common.{◌∙◌, ◌++◌, ◌∷◌, [], ℕ, List, ap, arith, length, refl}
-use Rattle.cargo_lock_query.proofs.Placing.{places-end}
+use Rattle.lists.proofs.Places.{places-end}
 use Rattle.cargo_lock_query.specs.Spec.{Fits, SpecData, fits}
 use Rattle.cargo_lock_query.proofs.Specified.{fitting-tested}
 use Rattle.cargo_lock_query.proofs.spec.fitting.Goals as goal

@@ -2,8 +2,8 @@ use Rattle.std.proofs.Common.{◌<◌, ℕ, All, List, codes, length, map, subst
 use Rattle.clap.specs.Matches.{found_of}
 use Rattle.cargo_lock_query.specs.Answers.{AreAnswers}
 use Rattle.cargo_lock_query.specs.Lines.{answer_of}
-use Rattle.cargo_lock_query.specs.Places.{IsPlaces}
-use Rattle.cargo_lock_query.proofs.Placing.{places-within}
+use Rattle.lists.specs.Places.{IsPlaces}
+use Rattle.lists.proofs.Places.{places-within}
 use Rattle.cargo_lock_parts.specs.Identity.{PackageData}
 use Rattle.cargo_lock_query.specs.Spec.{Fits}
 use Rattle.cli_lockfile_commands.specs.Why.{given_spec}

@@ -5,7 +5,7 @@ use Rattle.std.proofs.lemmas.Option.{slice_get_read}
 use Rattle.cargo_lock_graph.specs.Drawing.{is_one_of}
 use Rattle.cargo_lock_query.specs.Chains.{needs}
 use Rattle.cargo_lock_query.specs.FirstChains.{linked_by}
-use Rattle.cargo_lock_query.specs.Places.{IsPlaces}
+use Rattle.lists.specs.Places.{IsPlaces}
 use Rattle.cargo_lock_query.specs.declared.first.Link.{Link}
 use Rattle.cargo_lock_query.proofs.Following.{entry-of, following-all, following-next, following-none, link-of, linked-count}
 use Rattle.cargo_lock_query.proofs.Members.{in-one-of, one-of-in}

@@ -1,6 +1,6 @@
 use Rattle.std.proofs.Common.{[], ◌∷◌, ◌++◌}
 use Rattle.cargo_lock_query.specs.Steps.{met_by}
-use Rattle.cargo_lock_query.proofs.Needing.{joined-next}
+use Rattle.lists.proofs.Members.{joined-next}
 use Rattle.cargo_lock_query.proofs.Counting.{starts-all, starts-next}
 use Rattle.cargo_lock_query.proofs.steps.Search.meet_needers.Goals as goal
 
