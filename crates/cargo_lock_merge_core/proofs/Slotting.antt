@@ -20,8 +20,8 @@ use Rattle.cargo_lock_merge_core.specs.Numbered as numbered
 use Rattle.cargo_lock_merge_core.specs.Placed.{HasOneAtEach, PlacedData}
 use Rattle.cargo_lock_merge_core.specs.Places.{IsPlaced, IsReplacementIn, Place, has_several, line_of, place_of, version_in}
 use Rattle.cargo_lock_merge_core.specs.Refusals.{AreAtOnePlace, IsUnreplaced}
-use Rattle.cargo_lock_merge_core.specs.declared.lists.Replaced.{Replaced}
-use Rattle.cargo_lock_merge_core.specs.declared.lists.Replaced.TheVariants.{At, Lost, Not}
+use Rattle.cargo_lock_merge_core.specs.declared.numbered.Replaced.{Replaced}
+use Rattle.cargo_lock_merge_core.specs.declared.numbered.Replaced.TheVariants.{At, Lost, Not}
 use Rattle.cargo_lock_merge_core.specs.Renaming.{Has, rename, rename_all}
 use Rattle.cargo_lock_merge_core.proofs.Ascending.{far-below, up-push}
 use Rattle.cargo_lock_merge_core.proofs.Linking.{refers-within}

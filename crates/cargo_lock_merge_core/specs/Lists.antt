@@ -5,9 +5,9 @@ use Rattle.std.specs.List.{All, Contains}
 use Rattle.std.specs.List.Sorted.{IsStrictlyIncreasing}
 use Rattle.cargo_lock_parts.specs.Identity.{Identity, PackageData}
 use Rattle.cargo_lock_graph.specs.Targets.{IsLastBelow}
-use Rattle.cargo_lock_merge_core.specs.declared.lists.Numbered.{Numbered}
-use Rattle.cargo_lock_merge_core.specs.declared.lists.Replaced.{Replaced}
-use Rattle.cargo_lock_merge_core.specs.declared.lists.Replaced.TheVariants.{At, Lost, Not}
+use Rattle.cargo_lock_merge_core.specs.declared.numbered.Numbered.{Numbered}
+use Rattle.cargo_lock_merge_core.specs.declared.numbered.Replaced.{Replaced}
+use Rattle.cargo_lock_merge_core.specs.declared.numbered.Replaced.TheVariants.{At, Lost, Not}
 use Rattle.cargo_lock_merge_core.specs.Commits.{Lockfiles}
 use Rattle.cargo_lock_merge_core.specs.Linked.{AreStatedOnce, IsAlone, IsStatedAt, IsTargetOf, RefersTo}
 use Rattle.cargo_lock_merge_core.specs.Numbered.{IsInOrder}

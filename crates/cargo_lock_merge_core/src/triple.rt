@@ -8,7 +8,7 @@ ghost use Rattle.cargo_lock_merge_core.specs.Triples.{AreSidesOf, BeginAt, IsSid
 ghost use Rattle.cargo_lock_merge_core.specs.Refusals.{IsFaultFrom};
 ghost use Rattle.cargo_lock_merge_core.specs.Triples.{triple_in};
 
-use crate::lists::{Numbered, numbered_list};
+use crate::numbered::{Numbered, numbered_list};
 use crate::numbers::{Numbers, spots};
 use crate::place::Lists;
 use crate::refusal::{Fault, Refusal};

@@ -1,6 +1,6 @@
 use Rattle.std.proofs.Common.{◌≡◌, ◌∙◌, ℕ, List, ap, subst, sym}
 use Rattle.std.proofs.lemmas.Result.{IfOk-weaker}
-use Rattle.cargo_lock_merge_core.specs.declared.lists.Numbered.{Numbered}
+use Rattle.cargo_lock_merge_core.specs.declared.numbered.Numbered.{Numbered}
 use Rattle.cargo_lock_merge_core.specs.declared.placed.Placed.{Placed}
 use Rattle.cargo_lock_merge_core.specs.Lists.{all_numbered}
 use Rattle.cargo_lock_merge_core.specs.Merge.{Triple}

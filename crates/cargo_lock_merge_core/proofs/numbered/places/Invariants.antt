@@ -1,7 +1,7 @@
 use Rattle.std.proofs.Common.{◌+◌, take}
 use Rattle.std.specs.List.{AllZip}
 use Rattle.cargo_lock_merge_core.specs.Lists.{IsNumberAt}
-use Rattle.cargo_lock_merge_core.proofs.lists.places.Given as goal
+use Rattle.cargo_lock_merge_core.proofs.numbered.places.Given as goal
 
 -- the numbers so far
 abbrev pub invariant-loop-at : goal.invariant-loop-at

@@ -2,7 +2,7 @@ use Rattle.std.proofs.Common.{◌∙◌, List, subst}
 use Rattle.std.proofs.lemmas.Result.{IfOk-weaker}
 use Rattle.cargo_lock_parts.specs.Identity.{PackageData}
 use Rattle.cargo_lock_merge_core.specs.Lists.{AreNumberedFrom, all_numbered}
-use Rattle.cargo_lock_merge_core.proofs.lists.numbered_list.Goals as goal
+use Rattle.cargo_lock_merge_core.proofs.numbered.numbered_list.Goals as goal
 
 pub returns-clause-ok : goal.returns-clause-ok
 returns-clause-ok c =

@@ -4,7 +4,7 @@ use Rattle.cargo_lock_parts.specs.Identity.{PackageData}
 use Rattle.cargo_lock_merge_core.specs.Lists.{AreSlots, IsLastAt, IsNumberAt}
 use Rattle.cargo_lock_merge_core.specs.Places.{Place}
 use Rattle.cargo_lock_merge_core.proofs.Slotting.{number-made, slot-other, slot-fault, slots-more}
-use Rattle.cargo_lock_merge_core.proofs.lists.slots.Goals as goal
+use Rattle.cargo_lock_merge_core.proofs.numbered.slots.Goals as goal
 
 -- the number of the package at an index
 number-at : (places : List Place) (offset count i n : ℕ) → offset + count ≤ length places → i < count → ((p : Place) → slice_get places (offset + i) ≡ Some p → IsLastAt places p n) → IsNumberAt places (offset + i) n

@@ -5,10 +5,10 @@ use Rattle.cargo_lock_parts.specs.Identity.{PackageData}
 use Rattle.cargo_lock_merge_core.specs.Places.{Place}
 use Rattle.cargo_lock_merge_core.specs.Refusals.{IsFault, IsFaultFrom}
 use Rattle.cargo_lock_merge_core.specs.Lists.{HasReplacement, IsReplaced}
-use Rattle.cargo_lock_merge_core.specs.declared.lists.Replaced.{Replaced}
+use Rattle.cargo_lock_merge_core.specs.declared.numbered.Replaced.{Replaced}
 use Rattle.cargo_lock_merge_core.proofs.Faults.{passed}
 use Rattle.cargo_lock_merge_core.proofs.Slotting.{number-made, replaced-has, replaced-lost}
-use Rattle.cargo_lock_merge_core.proofs.lists.numbered_at.Goals as goal
+use Rattle.cargo_lock_merge_core.proofs.numbered.numbered_at.Goals as goal
 
 pub returns-clause-ok : goal.returns-clause-ok
 returns-clause-ok c =

@@ -11,7 +11,7 @@ ghost use Rattle.cargo_lock_merge_core.specs.Lists.{IsNumberAt, IsNumberedAt, Is
 ghost use Rattle.cargo_lock_merge_core.specs.Lists.{all_numbered, numbered_data};
 ghost use Rattle.cargo_lock_merge_core.specs.Numbered.{all_data};
 ghost use Rattle.cargo_lock_merge_core.specs.Refusals.{IsFaultFrom};
-ghost use Rattle.cargo_lock_merge_core.specs.declared.lists.Replaced.TheVariants.{Lost};
+ghost use Rattle.cargo_lock_merge_core.specs.declared.numbered.Replaced.TheVariants.{Lost};
 ghost use Rattle.cargo_lock_merge_core.specs.declared.refusal.Fault.TheVariants.{Refused};
 ghost use Rattle.cargo_lock_merge_core.specs.declared.refusal.Refusal.TheVariants.{Unreplaced};
 

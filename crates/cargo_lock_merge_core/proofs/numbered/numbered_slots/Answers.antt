@@ -1,14 +1,14 @@
 use Rattle.std.proofs.Common.{◌≡◌, ◌∙◌, ◌+◌, ◌<◌, ℕ, List, Option, Some, ap, arith, length, subst, sym}
 use Rattle.std.proofs.lemmas.Option.{slice_get-get_or}
 use Rattle.cargo_lock_parts.specs.Identity.{PackageData}
-use Rattle.cargo_lock_merge_core.specs.declared.lists.Numbered.{Numbered}
+use Rattle.cargo_lock_merge_core.specs.declared.numbered.Numbered.{Numbered}
 use Rattle.cargo_lock_merge_core.specs.Lists.{all_numbered, numbered_data}
 use Rattle.cargo_lock_merge_core.specs.Placed.{PlacedData}
 use Rattle.cargo_lock_merge_core.specs.Places.{Place}
 use Rattle.cargo_lock_merge_core.proofs.Planning.{map-push}
 use Rattle.cargo_lock_merge_core.proofs.Slotting.{AreFirst, are-numbered, first-pass, first-push}
-use Rattle.cargo_lock_merge_core.proofs.lists.numbered_slots.Goals as goal
-use Rattle.cargo_lock_merge_core.proofs.lists.numbered_slots.Goals.{in-Some+in_ok-numbered+in_ok-push, in_default}
+use Rattle.cargo_lock_merge_core.proofs.numbered.numbered_slots.Goals as goal
+use Rattle.cargo_lock_merge_core.proofs.numbered.numbered_slots.Goals.{in-Some+in_ok-numbered+in_ok-push, in_default}
 
 pub numbered_at-requires-clause-at : goal.numbered_at-requires-clause-at
 numbered_at-requires-clause-at c =

@@ -5,7 +5,7 @@ use Rattle.cargo_lock_merge_core.specs.Linked.{IsStatedAt}
 use Rattle.cargo_lock_merge_core.specs.Lists.{HasReplacement}
 use Rattle.cargo_lock_merge_core.specs.Places.{Place}
 use Rattle.cargo_lock_merge_core.proofs.Slotting.{number-made}
-use Rattle.cargo_lock_merge_core.proofs.lists.replaced_of.Goals as goal
+use Rattle.cargo_lock_merge_core.proofs.numbered.replaced_of.Goals as goal
 
 pub returns-in-Some-2-clause-ok : goal.returns-in-Some-2-clause-ok
 returns-in-Some-2-clause-ok c =

@@ -10,7 +10,7 @@ use Rattle.cargo_lock_merge_core.specs.Places.{Place}
 use Rattle.cargo_lock_merge_core.proofs.Slotting.{number-made, number-one}
 use Rattle.cargo_lock_merge_core.proofs.Zipping.{zip-left, zip-right}
 use Rattle.cargo_lock_graph.proofs.Zipped.{zip-more}
-use Rattle.cargo_lock_merge_core.proofs.lists.places.Goals as goal
+use Rattle.cargo_lock_merge_core.proofs.numbered.places.Goals as goal
 
 pub loop-at-preserved : goal.loop-at-preserved
 loop-at-preserved c =
