@@ -3,6 +3,7 @@ ghost use Rattle.std.specs.Prelude.{◌≡◌, IfOk};
 ghost use Rattle.clap.specs.Matches.{found_of};
 ghost use Rattle.cargo_lock_merge.specs.MergedLockfiles.{MergesTo};
 ghost use Rattle.cli_input.specs.Load.{IsCompared};
+ghost use Rattle.cli.specs.Ending.{status_in};
 ghost use Rattle.cli.specs.Merge.{AreCompared, PrintsMerge, PrintsMergeOf, triple_in};
 
 use crate::ending::Ended;
@@ -75,7 +76,7 @@ pub(crate) fn run<R: Files + Input + AllocGlobal, W: Write>(
 ) -> Result<Ended, Fault>
     ensures { IfOk result (λ ended. PrintsMerge (found_of options.now)
         (W.contents out.old) (W.contents out.new)
-        (ended.status ≡ ExitCode.FAILURE) (ended.status ≡ ExitCode.SUCCESS)) }
+        (status_in ended ≡ ExitCode.FAILURE) (status_in ended ≡ ExitCode.SUCCESS)) }
 {
     let three = three_lockfiles(rt, options)?;
     let merge = merge_of(rt.alloc(), &three)?;
@@ -154,23 +155,17 @@ fn put_merge<R: Files + AllocGlobal, W: Write>(
 ) -> Result<Ended, Fault>
     ensures { IfOk result (λ ended. PrintsMergeOf (found_of options.now) merge.entry
         (W.contents out.old) (W.contents out.new)
-        (ended.status ≡ ExitCode.FAILURE) (ended.status ≡ ExitCode.SUCCESS)) }
+        (status_in ended ≡ ExitCode.FAILURE) (status_in ended ≡ ExitCode.SUCCESS)) }
 {
     match merge {
         LockfileMerge::Merged(_, text, moved) => {
             let lines = moved_lines(rt.alloc(), &moved)?;
             put_own_out(rt, options, text.as_str(), out)?;
-            Ok(Ended {
-                status: ExitCode::SUCCESS,
-                lines: Some(lines),
-            })
+            Ok(Ended::WithLines(ExitCode::SUCCESS, lines))
         }
         LockfileMerge::InConflict(conflicts) => {
             let lines = format!(in rt.alloc(); "{conflicts}")?;
-            Ok(Ended {
-                status: ExitCode::FAILURE,
-                lines: Some(lines),
-            })
+            Ok(Ended::WithLines(ExitCode::FAILURE, lines))
         }
     }
 }

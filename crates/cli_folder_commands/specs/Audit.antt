@@ -1,7 +1,6 @@
 -- What `audit` prints, and its status.
 use Rattle.std.specs.Prelude.{◌≡◌, ℕ, List, Option, codes, false, true}
 use Rattle.std.specs.List.{list_any}
-use Rattle.std.specs.Io.KnownBytes.{Appends}
 use Rattle.clap.specs.declared.parser.matches.Found.{Found}
 use Rattle.cargo_lock.specs.Loads.{IsMeant}
 use Rattle.cargo_lock_audit.specs.Advisory.{AdvisoryData}
@@ -12,23 +11,14 @@ use Rattle.cargo_lock_audit.specs.Pairs.{pairs}
 use Rattle.cargo_lock_encoding.specs.Lockfiles.{LockfileData}
 use Rattle.cargo_lock_audit.specs.Document.{advisories_json}
 use Rattle.cargo_lock_display.specs.File.{FileData}
-use Rattle.json_line.specs.Text.{IsJsonText}
 use Rattle.cargo_lock_parts.specs.Identity.{PackageData}
-use Rattle.cli_input.specs.Json.{IsAsked, IsUnasked, PrintsLine, file_of}
+use Rattle.cli_input.specs.Json.{PrintsAnswer, file_of}
 use Rattle.cli_folder_commands.specs.Texts.{given_texts}
 
--- what is printed of findings, and of the ids that are ignored in vain: their document if the
--- arguments ask for JSON, and otherwise their lines
-pub record PrintsAdvisories (found : Found) (file : FileData) (told : List FindingData)
-    (ids : List (List ℕ)) (old new : Option (List ℕ)) : Type 0 where
-  pub asked : IsAsked found (codes "json")
-      → PrintsLine (IsJsonText (advisories_json file told ids)) old new
-  pub unasked : IsUnasked found (codes "json") → Appends old new (report_text told ids)
-
--- they are printed, with the status of these findings
+-- findings, and the ids that are ignored in vain, are printed, with the status of the findings
 pub record PrintsAudited (found : Found) (file : FileData) (told : List FindingData)
     (ids : List (List ℕ)) (old new : Option (List ℕ)) (failure success : Type 0) : Type 0 where
-  pub printed : PrintsAdvisories found file told ids old new
+  pub printed : PrintsAnswer found (advisories_json file told ids) (report_text told ids) old new
   pub some : list_any (λ f. f.is_denied) told ≡ true → failure
   pub none : list_any (λ f. f.is_denied) told ≡ false → success
 

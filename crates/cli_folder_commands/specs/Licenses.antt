@@ -1,37 +1,27 @@
 -- What `licenses` prints, and its status.
 use Rattle.std.specs.Prelude.{◌≡◌, ℕ, List, Option, codes, false, map, true}
 use Rattle.std.specs.List.{list_any}
-use Rattle.std.specs.Io.KnownBytes.{Appends}
 use Rattle.clap.specs.declared.parser.matches.Found.{Found}
 use Rattle.cargo_lock_encoding.specs.Lockfiles.{LockfileData}
 use Rattle.cargo_lock_display.specs.File.{FileData}
 use Rattle.cargo_lock_licenses.specs.Document.{verdicts_json}
-use Rattle.json_line.specs.Text.{IsJsonText}
 use Rattle.cargo_lock_licenses.specs.Lines.{report_text}
 use Rattle.cargo_lock_licenses.specs.Report.{AreVerdicts}
 use Rattle.cargo_lock_licenses.specs.Subjects.{SubjectData}
 use Rattle.cargo_lock_licenses.specs.Verdicts.{VerdictData, is_finding}
 use Rattle.cargo_lock_parts.specs.Identity.{PackageData}
 use Rattle.cargo_lock.specs.Loads.{IsMeant}
-use Rattle.cli_input.specs.Json.{IsAsked, IsUnasked, PrintsLine, file_of}
+use Rattle.cli_input.specs.Json.{PrintsAnswer, file_of}
 use Rattle.cli_folder_commands.specs.Texts.{given_texts}
 
 -- the subjects are these packages, each once and in their order, each with some manifests
 abbrev pub AreLicensed : List PackageData → List SubjectData → Type 0
 AreLicensed packages subjects = map (λ s. s.content) subjects ≡ packages
 
--- what is printed of verdicts: their document if the arguments ask for JSON, and otherwise their
--- lines
-pub record PrintsVerdicts (found : Found) (file : FileData) (verdicts : List VerdictData)
-    (old new : Option (List ℕ)) : Type 0 where
-  pub asked : IsAsked found (codes "json")
-      → PrintsLine (IsJsonText (verdicts_json file verdicts)) old new
-  pub unasked : IsUnasked found (codes "json") → Appends old new (report_text verdicts)
-
--- the verdicts are printed, with their status
+-- verdicts are printed, with their status
 pub record PrintsJudged (found : Found) (file : FileData) (verdicts : List VerdictData)
     (old new : Option (List ℕ)) (failure success : Type 0) : Type 0 where
-  pub printed : PrintsVerdicts found file verdicts old new
+  pub printed : PrintsAnswer found (verdicts_json file verdicts) (report_text verdicts) old new
   pub some : list_any is_finding verdicts ≡ true → failure
   pub none : list_any is_finding verdicts ≡ false → success
 

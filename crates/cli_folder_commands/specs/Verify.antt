@@ -1,40 +1,31 @@
 -- What `verify` prints, and its status.
 use Rattle.std.specs.Prelude.{◌≡◌, ◌≢◌, ℕ, Bool, List, [], Option, None, Some, codes, count_by}
 use Rattle.std.specs.Prelude.{map}
-use Rattle.std.specs.Io.KnownBytes.{Appends}
 use Rattle.clap.specs.Matches.{first_value}
 use Rattle.clap.specs.declared.parser.matches.Found.{Found}
 use Rattle.cargo_lock_encoding.specs.Lockfiles.{LockfileData}
 use Rattle.cargo_lock_verify.specs.ArchivesDocument.{archives_json}
 use Rattle.cargo_lock_display.specs.File.{FileData}
 use Rattle.cargo_lock_verify.specs.FoldersDocument.{folders_json}
-use Rattle.json_line.specs.Text.{IsJsonText}
 use Rattle.cargo_lock_parts.specs.Identity.{PackageData}
 use Rattle.cargo_lock_verify.specs.Archives.{FindingData, SubjectData, findings}
 use Rattle.cargo_lock_verify.specs.Report.{is_verified, report_text, reported}
 use Rattle.cargo_lock_verify.specs.Vendored.{VendoredData}
-use Rattle.cargo_lock_verify.specs.Vendored.{FindingData as FolderFinding}
 use Rattle.cargo_lock_verify.specs.Vendored.{findings as folder_findings}
 use Rattle.cargo_lock_verify.specs.VendorReport as vendor
 use Rattle.cli_input.specs.Load.{IsCompared}
-use Rattle.cli_input.specs.Json.{IsAsked, IsFlag, IsUnasked, PrintsLine, file_of}
+use Rattle.cli_input.specs.Json.{IsFlag, PrintsAnswer, file_of}
 
 -- the subjects are these packages, each once and in their order, each with some archives
 abbrev pub AreSubjectsOf : List PackageData → List SubjectData → Type 0
 AreSubjectsOf packages subjects = map (λ s. s.content) subjects ≡ packages
 
--- what is printed of archives: the document of findings and of how many packages are verified, if
--- the arguments ask for JSON, and otherwise their lines
-pub record PrintsArchives (found : Found) (file : FileData) (told : List FindingData)
-    (verified : ℕ) (old new : Option (List ℕ)) : Type 0 where
-  pub asked : IsAsked found (codes "json")
-      → PrintsLine (IsJsonText (archives_json file verified told)) old new
-  pub unasked : IsUnasked found (codes "json") → Appends old new (report_text told verified)
-
--- that is printed, with the status of these findings
+-- findings of archives, and how many packages are verified, are printed, with the status of these
+-- findings
 pub record PrintsFound (found : Found) (file : FileData) (told : List FindingData)
     (verified : ℕ) (old new : Option (List ℕ)) (failure success : Type 0) : Type 0 where
-  pub printed : PrintsArchives found file told verified old new
+  pub printed : PrintsAnswer found (archives_json file verified told) (report_text told verified)
+      old new
   pub some : told ≢ [] → failure
   pub none : told ≡ [] → success
 
@@ -57,20 +48,13 @@ PrintsArchivesOf found file packages old new failure success = (subjects : List 
 abbrev pub AreVendoredOf : List PackageData → List VendoredData → Type 0
 AreVendoredOf packages vendored = map (λ v. v.content) vendored ≡ packages
 
--- what is printed of folders: the document of findings and of how many packages are verified, if
--- the arguments ask for JSON, and otherwise their lines
-pub record PrintsFolders (found : Found) (file : FileData) (told : List FolderFinding)
-    (verified : ℕ) (old new : Option (List ℕ)) : Type 0 where
-  pub asked : IsAsked found (codes "json")
-      → PrintsLine (IsJsonText (folders_json file verified told)) old new
-  pub unasked : IsUnasked found (codes "json")
-      → Appends old new (vendor.report_text told verified)
-
--- that is printed of what is found of folders, with the status of these findings
+-- what is found of folders, and how many packages are verified, is printed, with the status of what
+-- is found
 pub record PrintsVendorReport (found : Found) (file : FileData) (vendored : List VendoredData)
     (old new : Option (List ℕ)) (failure success : Type 0) : Type 0 where
-  pub printed : PrintsFolders found file (folder_findings vendored)
-      (count_by vendor.is_verified vendored) old new
+  pub printed : PrintsAnswer found
+      (folders_json file (count_by vendor.is_verified vendored) (folder_findings vendored))
+      (vendor.report_text (folder_findings vendored) (count_by vendor.is_verified vendored)) old new
   pub some : folder_findings vendored ≢ [] → failure
   pub none : folder_findings vendored ≡ [] → success
 

@@ -1,27 +1,23 @@
 //! The command `audit`: which packages of a lockfile have a known vulnerability, by a folder of
 //! advisories.
-ghost use Rattle.std.specs.Prelude.{◌≡◌, IfOk, OnOk, map};
+ghost use Rattle.std.specs.Prelude.{◌≡◌, IfOk, map};
 ghost use Rattle.std.specs.List.{list_any};
 ghost use Rattle.clap.specs.Matches.{found_of};
 ghost use Rattle.cargo_lock_audit.specs.Database.{AreInOrder};
-ghost use Rattle.cargo_lock_audit.specs.Findings.{finding_of, id_of};
-ghost use Rattle.cargo_lock_audit.specs.Document.{advisories_json};
-ghost use Rattle.json_line.specs.Text.{IsJsonText};
-ghost use Rattle.cli_folder_commands.specs.Audit.{PrintsAdvisories, PrintsAudit, PrintsAuditOf};
-ghost use Rattle.cli_folder_commands.specs.Audit.{PrintsAuditReport};
-ghost use Rattle.cli_input.specs.Json.{PrintsLine};
+ghost use Rattle.cargo_lock_audit.specs.Findings.{finding_of};
+ghost use Rattle.cli_folder_commands.specs.Audit.{PrintsAudit, PrintsAuditOf, PrintsAuditReport};
 
 use crate::folders::folder;
 use crate::texts;
 use crate::verify::status_of;
 use cargo_lock::Lockfile;
 use cargo_lock::package::Package;
-use cargo_lock_audit::{Advisory, AdvisoryFile, Report, advisories_json, database_of};
+use cargo_lock_audit::{Advisory, AdvisoryFile, Report, database_of};
 use cargo_lock_display::File;
 use clap::{Arg, ArgMatches, Command};
 use cli_folders::{advisory_files, database_fault};
+use cli_input::answer::print_answer;
 use cli_input::load::{file, named_lockfile};
-use cli_support::output::put;
 use cli_support::words::{any_size, json};
 use cli_support::{Fault, words};
 use std::alloc::{AllocError, Global};
@@ -147,7 +143,7 @@ fn print_report<W: Write>(
     let ignored = texts::given(alloc, options, "ignore")?;
     let denied = texts::given(alloc, options, "deny")?;
     let report = Report::of(alloc, packages, advisories, &ignored, &denied)?;
-    print_advisories(alloc, options, file, &report, out)?;
+    print_answer(alloc, options, file, &report, out)?;
     Ok(status_of(!is_denied(&report)))
 }
 
@@ -156,40 +152,4 @@ fn is_denied(report: &Report<'_, '_, '_>) -> bool
     ensures { result ≡ list_any (λ f. f.is_denied) (map finding_of report.now.findings.items) }
 {
     report.is_denied()
-}
-
-/// Prints what is found by advisories as the arguments ask for it: in JSON, or as lines.
-fn print_advisories<W: Write>(
-    alloc: Global,
-    options: &ArgMatches<'_>,
-    file: &File<'_>,
-    report: &Report<'_, '_, '_>,
-    out: &mut W,
-) -> Result<(), Fault>
-    ensures { OnOk result (PrintsAdvisories (found_of options.now) file.now
-        (map finding_of report.now.findings.items) (map id_of report.now.unmet.items)
-        (W.contents out.old) (W.contents out.new)) }
-{
-    if options.get_flag("json") {
-        print_document(alloc, file, report, out)
-    } else {
-        put(out, format_args!("{report}"))?;
-        Ok(())
-    }
-}
-
-/// Prints the document of what is found by advisories, and a newline.
-fn print_document<W: Write>(
-    alloc: Global,
-    file: &File<'_>,
-    report: &Report<'_, '_, '_>,
-    out: &mut W,
-) -> Result<(), Fault>
-    ensures { OnOk result (PrintsLine (IsJsonText (advisories_json file.now
-        (map finding_of report.now.findings.items) (map id_of report.now.unmet.items)))
-        (W.contents out.old) (W.contents out.new)) }
-{
-    let text = advisories_json(alloc, file, report)?;
-    put(out, format_args!("{text}\n"))?;
-    Ok(())
 }

@@ -14,8 +14,9 @@ ghost use Rattle.cli_folder_commands.specs.BillLicenses as spec;
 ghost use Rattle.cli_folder_commands.specs.Licenses.{AreLicensed};
 
 use crate::folders::folder;
+use crate::licenses::{Manifests, licensed};
 use cargo_lock::package::Package;
-use cargo_lock_licenses::{Expression, Manifest, Subject, Verdict};
+use cargo_lock_licenses::{Expression, Subject, Verdict};
 use clap::{Arg, ArgMatches};
 use cli_folders::{Entries, Vendor};
 use cli_support::Fault;
@@ -70,39 +71,19 @@ fn subjects_in<'a, R: Files + AllocGlobal>(
 ) -> Result<Vec<Subject<'a>>, Fault>
     ensures { IfOk result (λ subjects. AreLicensed packages.now (map subject_of subjects.items)) }
 {
+    let manifests = manifests_in(rt, folder)?;
+    licensed(rt, &manifests, packages)
+}
+
+/// The manifests in a folder. Where folders in the folder have manifests, as `cargo vendor` leaves
+/// them, they are found by name and version, and otherwise by the name of the unpacked archive.
+fn manifests_in<R: Files + AllocGlobal>(rt: &R, folder: &str) -> Result<Manifests, Fault> {
     let vendor = Vendor::of(rt, folder)?;
     let entries = Entries::of(rt, folder)?;
-    subjects_with(rt, &vendor, &entries, packages)
-}
-
-fn subjects_with<'a, R: Files + AllocGlobal>(
-    rt: &R,
-    vendor: &Vendor,
-    entries: &Entries,
-    packages: &'a [Package],
-) -> Result<Vec<Subject<'a>>, Fault>
-    ensures { IfOk result (λ subjects. AreLicensed packages.now (map subject_of subjects.items)) }
-{
-    let mut subjects = Vec::with_capacity(rt.alloc(), packages.len())?;
-    for package in packages {
-        let manifests = manifests_of(rt, vendor, entries, package)?;
-        subjects.push(Subject { package, manifests })?;
-    }
-    Ok(subjects)
-}
-
-/// What the manifests of a package say. Where folders in the folder have manifests, as `cargo vendor`
-/// leaves them, they are found by name and version, and otherwise by the name of the unpacked archive.
-fn manifests_of<R: Files + AllocGlobal>(
-    rt: &R,
-    vendor: &Vendor,
-    entries: &Entries,
-    package: &Package,
-) -> Result<Vec<Manifest>, Fault> {
     if vendor.is_empty() {
-        entries.manifests_of(rt, package)
+        Ok(Manifests::Unpacked(entries))
     } else {
-        vendor.manifests_of(rt, package)
+        Ok(Manifests::Vendored(vendor))
     }
 }
 

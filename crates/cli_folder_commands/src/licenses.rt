@@ -1,14 +1,10 @@
 //! The command `licenses`: what the manifests of packages say of their licences, and which of them
 //! are not allowed.
-ghost use Rattle.std.specs.Prelude.{◌≡◌, IfOk, OnOk, map};
+ghost use Rattle.std.specs.Prelude.{◌≡◌, IfOk, map};
 ghost use Rattle.clap.specs.Matches.{found_of};
-ghost use Rattle.cargo_lock_licenses.specs.Document.{verdicts_json};
-ghost use Rattle.json_line.specs.Text.{IsJsonText};
 ghost use Rattle.cargo_lock_licenses.specs.Subjects.{subject_of};
-ghost use Rattle.cargo_lock_licenses.specs.Verdicts.{verdict_of};
-ghost use Rattle.cli_input.specs.Json.{PrintsLine};
-ghost use Rattle.cli_folder_commands.specs.Licenses.{AreLicensed, PrintsLicenses, PrintsLicensesOf};
-ghost use Rattle.cli_folder_commands.specs.Licenses.{PrintsLicenseReport, PrintsVerdicts};
+ghost use Rattle.cli_folder_commands.specs.Licenses.{AreLicensed, PrintsLicenseReport, PrintsLicenses};
+ghost use Rattle.cli_folder_commands.specs.Licenses.{PrintsLicensesOf};
 
 use crate::folders::{cache, check_folder, vendor};
 use crate::texts;
@@ -16,11 +12,11 @@ use crate::verify::status_of;
 use cargo_lock::Lockfile;
 use cargo_lock::package::Package;
 use cargo_lock_display::File;
-use cargo_lock_licenses::{Report, Subject, Verdict, verdicts_json};
+use cargo_lock_licenses::{Manifest, Report, Subject};
 use clap::{ArgMatches, Command};
 use cli_folders::{Entries, Vendor};
+use cli_input::answer::print_answer;
 use cli_input::load::{file, named_lockfile};
-use cli_support::output::put;
 use cli_support::words::{any_size, json};
 use cli_support::{Fault, words};
 use std::alloc::{AllocError, Global};
@@ -54,6 +50,27 @@ cannot be read.";
 const CACHE_HELP: &str = "The folder of unpacked archives, as registry/src of Cargo";
 
 const ALLOW_HELP: &str = "Allows this term, and others that are given so";
+
+/// A folder of manifests: one that `cargo vendor` made, or one of unpacked archives.
+#[derive(Drop)]
+pub(crate) enum Manifests {
+    Vendored(Vendor),
+    Unpacked(Entries),
+}
+
+impl Manifests {
+    /// What the manifests of a package say.
+    fn of_package<R: Files + AllocGlobal>(
+        &self,
+        rt: &R,
+        package: &Package,
+    ) -> Result<Vec<Manifest>, Fault> {
+        match self {
+            Manifests::Vendored(vendor) => vendor.manifests_of(rt, package),
+            Manifests::Unpacked(entries) => entries.manifests_of(rt, package),
+        }
+    }
+}
 
 /// The parser of this command: its options.
 pub fn command<'a>(alloc: Global) -> Result<Command<'a>, AllocError> {
@@ -104,7 +121,7 @@ fn print_licenses<R: Files + AllocGlobal, W: Write>(
     print_report(rt.alloc(), options, file, &subjects, out)
 }
 
-/// The packages, each with what its manifests say.
+/// The packages, each with what its manifests say in the folder that the arguments name.
 fn subjects_of<'a, R: Files + AllocGlobal>(
     rt: &R,
     options: &ArgMatches<'_>,
@@ -112,65 +129,25 @@ fn subjects_of<'a, R: Files + AllocGlobal>(
 ) -> Result<Vec<Subject<'a>>, Fault>
     ensures { IfOk result (λ subjects. AreLicensed packages.now (map subject_of subjects.items)) }
 {
-    match options.get_str("vendor") {
-        Some(folder) => vendored(rt, folder, packages),
-        None => cached(rt, options.get_str("cache").unwrap_or(""), packages),
-    }
+    let manifests = match options.get_str("vendor") {
+        Some(folder) => Manifests::Vendored(Vendor::of(rt, folder)?),
+        None => Manifests::Unpacked(Entries::of(rt, options.get_str("cache").unwrap_or(""))?),
+    };
+    licensed(rt, &manifests, packages)
 }
 
-/// The packages, each with what its manifests say in a folder that `cargo vendor` made.
-fn vendored<'a, R: Files + AllocGlobal>(
+/// The packages, each with what its manifests say.
+pub(crate) fn licensed<'a, R: Files + AllocGlobal>(
     rt: &R,
-    folder: &str,
-    packages: &'a [Package],
-) -> Result<Vec<Subject<'a>>, Fault>
-    ensures { IfOk result (λ subjects. AreLicensed packages.now (map subject_of subjects.items)) }
-{
-    let vendor = Vendor::of(rt, folder)?;
-    vendored_with(rt, &vendor, packages)
-}
-
-fn vendored_with<'a, R: Files + AllocGlobal>(
-    rt: &R,
-    vendor: &Vendor,
+    folder: &Manifests,
     packages: &'a [Package],
 ) -> Result<Vec<Subject<'a>>, Fault>
     ensures { IfOk result (λ subjects. AreLicensed packages.now (map subject_of subjects.items)) }
 {
     let mut subjects = Vec::with_capacity(rt.alloc(), packages.len())?;
     for package in packages {
-        let manifests = vendor.manifests_of(rt, package)?;
+        let manifests = folder.of_package(rt, package)?;
         subjects.push(Subject { package, manifests })?;
-    }
-    Ok(subjects)
-}
-
-/// The packages, each with what its manifests say in a folder of unpacked archives.
-fn cached<'a, R: Files + AllocGlobal>(
-    rt: &R,
-    folder: &str,
-    packages: &'a [Package],
-) -> Result<Vec<Subject<'a>>, Fault>
-    ensures { IfOk result (λ subjects. AreLicensed packages.now (map subject_of subjects.items)) }
-{
-    let entries = Entries::of(rt, folder)?;
-    cached_with(rt, &entries, packages)
-}
-
-fn cached_with<'a, R: Files + AllocGlobal>(
-    rt: &R,
-    entries: &Entries,
-    packages: &'a [Package],
-) -> Result<Vec<Subject<'a>>, Fault>
-    ensures { IfOk result (λ subjects. AreLicensed packages.now (map subject_of subjects.items)) }
-{
-    let mut subjects = Vec::with_capacity(rt.alloc(), packages.len())?;
-    for package in packages {
-        let unpacked = entries.manifests_of(rt, package)?;
-        subjects.push(Subject {
-            package,
-            manifests: unpacked,
-        })?;
     }
     Ok(subjects)
 }
@@ -189,41 +166,6 @@ fn print_report<W: Write>(
 {
     let allowed = texts::given(alloc, options, "allow")?;
     let report = Report::of(alloc, subjects, &allowed)?;
-    print_verdicts(alloc, options, file, &report, out)?;
+    print_answer(alloc, options, file, &report, out)?;
     Ok(status_of(!report.has_finding()))
-}
-
-/// Prints what is said of packages as the arguments ask for it: in JSON, or as lines.
-fn print_verdicts<W: Write>(
-    alloc: Global,
-    options: &ArgMatches<'_>,
-    file: &File<'_>,
-    report: &Report<'_, '_>,
-    out: &mut W,
-) -> Result<(), Fault>
-    ensures { OnOk result (PrintsVerdicts (found_of options.now) file.now
-        (map verdict_of report.now.verdicts.items) (W.contents out.old) (W.contents out.new)) }
-{
-    if options.get_flag("json") {
-        print_document(alloc, file, &report.verdicts, out)
-    } else {
-        put(out, format_args!("{report}"))?;
-        Ok(())
-    }
-}
-
-/// Prints the document of what is said of packages, and a newline.
-fn print_document<W: Write>(
-    alloc: Global,
-    file: &File<'_>,
-    verdicts: &[Verdict<'_, '_>],
-    out: &mut W,
-) -> Result<(), Fault>
-    ensures { OnOk result (PrintsLine
-        (IsJsonText (verdicts_json file.now (map verdict_of verdicts.now)))
-        (W.contents out.old) (W.contents out.new)) }
-{
-    let text = verdicts_json(alloc, file, verdicts)?;
-    put(out, format_args!("{text}\n"))?;
-    Ok(())
 }

@@ -1,29 +1,21 @@
 //! The command `verify`: whether the archives of packages are those that a lockfile names, or the
 //! folders that `cargo vendor` made are as their lists say.
-ghost use Rattle.std.specs.Prelude.{◌≡◌, IfOk, OnOk, false, map, true};
+ghost use Rattle.std.specs.Prelude.{◌≡◌, IfOk, false, map, true};
 ghost use Rattle.clap.specs.Matches.{found_of};
-ghost use Rattle.cargo_lock_verify.specs.ArchivesDocument.{archives_json};
-ghost use Rattle.cargo_lock_verify.specs.FoldersDocument.{folders_json};
-ghost use Rattle.json_line.specs.Text.{IsJsonText};
-ghost use Rattle.cargo_lock_verify.specs.Archives as archive;
 ghost use Rattle.cargo_lock_verify.specs.Archives.{subject_of};
 ghost use Rattle.cargo_lock_verify.specs.Vendored.{vendored_of};
-ghost use Rattle.cargo_lock_verify.specs.Vendored as folder;
-ghost use Rattle.cli_input.specs.Json.{PrintsLine};
-ghost use Rattle.cli_folder_commands.specs.Verify.{AreSubjectsOf, AreVendoredOf, PrintsArchives};
-ghost use Rattle.cli_folder_commands.specs.Verify.{PrintsFolders};
-ghost use Rattle.cli_folder_commands.specs.Verify.{PrintsReport, PrintsVendorReport, PrintsVerified};
-ghost use Rattle.cli_folder_commands.specs.Verify.{PrintsVerifiedOf};
+ghost use Rattle.cli_folder_commands.specs.Verify.{AreSubjectsOf, AreVendoredOf, PrintsReport};
+ghost use Rattle.cli_folder_commands.specs.Verify.{PrintsVendorReport, PrintsVerified, PrintsVerifiedOf};
 
 use crate::folders::{cache, check_folder, vendor};
 use cargo_lock::Lockfile;
 use cargo_lock::package::Package;
 use cargo_lock_display::File;
-use cargo_lock_verify::{Report, Subject, VendorReport, Vendored, archives_json, folders_json};
+use cargo_lock_verify::{Report, Subject, VendorReport, Vendored};
 use clap::{Arg, ArgMatches, Command};
 use cli_folders::{Entries, Vendor};
+use cli_input::answer::print_answer;
 use cli_input::load::{compared_lockfile, file};
-use cli_support::output::put;
 use cli_support::words::{any_size, json, long_flag};
 use cli_support::{Fault, words};
 use std::alloc::{AllocError, Global};
@@ -164,45 +156,8 @@ fn print_vendor_report<W: Write>(
         (status ≡ ExitCode.FAILURE) (status ≡ ExitCode.SUCCESS)) }
 {
     let report = VendorReport::of(alloc, vendored)?;
-    print_folders(alloc, options, file, &report, out)?;
+    print_answer(alloc, options, file, &report, out)?;
     Ok(status_of(report.findings.is_empty()))
-}
-
-/// Prints what is found of folders as the arguments ask for it: in JSON, or as lines.
-fn print_folders<W: Write>(
-    alloc: Global,
-    options: &ArgMatches<'_>,
-    file: &File<'_>,
-    report: &VendorReport<'_, '_>,
-    out: &mut W,
-) -> Result<(), Fault>
-    ensures { OnOk result (PrintsFolders (found_of options.now) file.now
-        (map folder.finding_of report.now.findings.items) report.now.verified
-        (W.contents out.old) (W.contents out.new)) }
-{
-    if options.get_flag("json") {
-        print_folders_document(alloc, file, report, out)
-    } else {
-        put(out, format_args!("{report}"))?;
-        Ok(())
-    }
-}
-
-/// Prints the document of what is found of folders, and a newline.
-fn print_folders_document<W: Write>(
-    alloc: Global,
-    file: &File<'_>,
-    report: &VendorReport<'_, '_>,
-    out: &mut W,
-) -> Result<(), Fault>
-    ensures { OnOk result (PrintsLine
-        (IsJsonText (folders_json file.now report.now.verified
-        (map folder.finding_of report.now.findings.items)))
-        (W.contents out.old) (W.contents out.new)) }
-{
-    let text = folders_json(alloc, file, report)?;
-    put(out, format_args!("{text}\n"))?;
-    Ok(())
 }
 
 /// The packages, each with its archives in the folder that the arguments name.
@@ -246,45 +201,8 @@ fn print_report<W: Write>(
         (status ≡ ExitCode.FAILURE) (status ≡ ExitCode.SUCCESS)) }
 {
     let report = Report::of(alloc, subjects, options.get_flag("all"))?;
-    print_archives(alloc, options, file, &report, out)?;
+    print_answer(alloc, options, file, &report, out)?;
     Ok(status_of(report.findings.is_empty()))
-}
-
-/// Prints what is found of archives as the arguments ask for it: in JSON, or as lines.
-fn print_archives<W: Write>(
-    alloc: Global,
-    options: &ArgMatches<'_>,
-    file: &File<'_>,
-    report: &Report<'_, '_>,
-    out: &mut W,
-) -> Result<(), Fault>
-    ensures { OnOk result (PrintsArchives (found_of options.now) file.now
-        (map archive.finding_of report.now.findings.items) report.now.verified
-        (W.contents out.old) (W.contents out.new)) }
-{
-    if options.get_flag("json") {
-        print_archives_document(alloc, file, report, out)
-    } else {
-        put(out, format_args!("{report}"))?;
-        Ok(())
-    }
-}
-
-/// Prints the document of what is found of archives, and a newline.
-fn print_archives_document<W: Write>(
-    alloc: Global,
-    file: &File<'_>,
-    report: &Report<'_, '_>,
-    out: &mut W,
-) -> Result<(), Fault>
-    ensures { OnOk result (PrintsLine
-        (IsJsonText (archives_json file.now report.now.verified
-        (map archive.finding_of report.now.findings.items)))
-        (W.contents out.old) (W.contents out.new)) }
-{
-    let text = archives_json(alloc, file, report)?;
-    put(out, format_args!("{text}\n"))?;
-    Ok(())
 }
 
 /// The status where nothing is found, or something.

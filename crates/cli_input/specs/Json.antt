@@ -4,6 +4,8 @@ use Rattle.std.specs.Prelude.{None, bytes_eq, codes, if◌then◌else◌}
 use Rattle.std.specs.Io.KnownBytes.{Appends}
 use Rattle.clap.specs.Matches.{one_text}
 use Rattle.clap.specs.declared.parser.matches.Found.{Found}
+use Rattle.json.specs.Json.{Json}
+use Rattle.json_line.specs.Text.{IsJsonText}
 use Rattle.cargo_lock_parts.specs.Ascii.{newline}
 use Rattle.cargo_lock_encoding.specs.Lockfiles.{LockfileData}
 use Rattle.cargo_lock_display.specs.File.{FileData}
@@ -37,3 +39,9 @@ file_of found name l = record {
 abbrev pub PrintsLine : (List ℕ → Type 0) → Option (List ℕ) → Option (List ℕ) → Type 0
 PrintsLine Holds old new = (text : List ℕ) × Holds text
     × Appends old new (text ++ newline ∷ [])
+
+-- what is printed of an answer: its document if the arguments ask for JSON, and otherwise its lines
+pub record PrintsAnswer (found : Found) (document : Json) (lines : List ℕ)
+    (old new : Option (List ℕ)) : Type 0 where
+  pub asked : IsAsked found (codes "json") → PrintsLine (IsJsonText document) old new
+  pub unasked : IsUnasked found (codes "json") → Appends old new lines

@@ -1,7 +1,6 @@
 -- What `diff` prints, and its status.
 use Rattle.std.specs.Prelude.{◌≡◌, ◌≢◌, ℕ, List, [], ◌∷◌, ◌++◌, Option, true, false}
 use Rattle.std.specs.Prelude.{codes}
-use Rattle.std.specs.Io.KnownBytes.{Appends}
 use Rattle.clap.specs.declared.parser.matches.Found.{Found}
 use Rattle.cargo_lock_parts.specs.Ascii.{newline}
 use Rattle.cargo_lock_diff.specs.Change.{ChangeData, changes_text, all_changes_of}
@@ -10,8 +9,7 @@ use Rattle.cargo_lock_diff.specs.Summary.{summary_of, summary_text}
 use Rattle.cargo_lock_encoding.specs.Lockfiles.{LockfileData}
 use Rattle.cargo_lock_diff.specs.Document.{difference_json}
 use Rattle.cargo_lock_display.specs.File.{FileData}
-use Rattle.json_line.specs.Text.{IsJsonText}
-use Rattle.cli_input.specs.Json.{IsAsked, IsUnasked, PrintsLine, file_of}
+use Rattle.cli_input.specs.Json.{IsAsked, IsUnasked, PrintsAnswer, file_of}
 use Rattle.cli_input.specs.Load.{IsCompared}
 
 -- these are the changes that are printed of a difference: with dependencies if the arguments ask
@@ -39,19 +37,12 @@ last_line (change ∷ changes) =
 abbrev pub told_text : List ChangeData → List ℕ
 told_text told = changes_text told ++ last_line told
 
--- what is printed of changes: their document if the arguments ask for JSON, and otherwise their
--- lines
-pub record PrintsTold (found : Found) (before after : FileData) (told : List ChangeData)
-    (old new : Option (List ℕ)) : Type 0 where
-  pub asked : IsAsked found (codes "json")
-      → PrintsLine (IsJsonText (difference_json before after told)) old new
-  pub unasked : IsUnasked found (codes "json") → Appends old new (told_text told)
-
 -- the text is that of the changes of a difference, and the status is that of both
 abbrev pub PrintsChanges : Found → FileData → FileData → DifferenceData → Option (List ℕ)
     → Option (List ℕ) → Type 0 → Type 0 → Type 0
 PrintsChanges found before after d old new failure success = (told : List ChangeData)
-    × IsTold found d told × PrintsTold found before after told old new
+    × IsTold found d told
+    × PrintsAnswer found (difference_json before after told) (told_text told) old new
     × IsStatus found d told failure success
 
 -- the same for the difference of the packages of two lockfiles

@@ -1,6 +1,5 @@
 -- What `duplicates` prints, and its status.
 use Rattle.std.specs.Prelude.{◌≡◌, ◌≢◌, ℕ, List, [], Option, codes}
-use Rattle.std.specs.Io.KnownBytes.{Appends}
 use Rattle.clap.specs.declared.parser.matches.Found.{Found}
 use Rattle.cargo_lock_query.specs.Tally.{AreGroupsOf, GroupData, listing_text}
 use Rattle.cargo_lock_encoding.specs.Lockfiles.{LockfileData}
@@ -8,8 +7,7 @@ use Rattle.cargo_lock_graph.specs.Edges.{GraphData}
 use Rattle.cargo_lock.specs.Loads.{IsMeant}
 use Rattle.cargo_lock_query.specs.DuplicatesDocument.{groups_json}
 use Rattle.cargo_lock_display.specs.File.{FileData}
-use Rattle.json_line.specs.Text.{IsJsonText}
-use Rattle.cli_input.specs.Json.{IsAsked, IsUnasked, PrintsLine, file_of}
+use Rattle.cli_input.specs.Json.{IsAsked, IsUnasked, PrintsAnswer, file_of}
 use Rattle.cli_input.specs.Load.{IsGraphOf}
 
 -- the status is a failure exactly if there is a name of several packages and the arguments ask for
@@ -20,18 +18,12 @@ pub record IsGroupsStatus (found : Found) (groups : List GroupData)
   pub unasked : IsUnasked found (codes "exit-code") → success
   pub none : groups ≡ [] → success
 
--- what is printed of names: their document if the arguments ask for JSON, and otherwise their lines
-pub record PrintsGroups (found : Found) (file : FileData) (groups : List GroupData)
-    (old new : Option (List ℕ)) : Type 0 where
-  pub asked : IsAsked found (codes "json")
-      → PrintsLine (IsJsonText (groups_json file groups)) old new
-  pub unasked : IsUnasked found (codes "json") → Appends old new (listing_text groups)
-
 -- the names that several packages of a graph have are printed, and the status is theirs
 abbrev pub PrintsNames : Found → FileData → GraphData → Option (List ℕ) → Option (List ℕ) → Type 0
     → Type 0 → Type 0
 PrintsNames found file graph old new failure success = (groups : List GroupData)
-    × AreGroupsOf graph groups × PrintsGroups found file groups old new
+    × AreGroupsOf graph groups
+    × PrintsAnswer found (groups_json file groups) (listing_text groups) old new
     × IsGroupsStatus found groups failure success
 
 -- the same for the graph of a lockfile that some text means

@@ -1,18 +1,16 @@
 -- What `why` prints.
 use Rattle.std.specs.Prelude.{◌≢◌, ℕ, Bool, List, [], Option, codes, length, unwrap_or}
-use Rattle.std.specs.Io.KnownBytes.{Appends}
 use Rattle.clap.specs.Matches.{first_value}
 use Rattle.clap.specs.declared.parser.matches.Found.{Found}
 use Rattle.cargo_lock_query.specs.Answers.{AreAnswers, answers_text}
 use Rattle.cargo_lock_query.specs.Lines.{AnswerData}
-use Rattle.lists.specs.Places.{IsPlaces}
+use Rattle.cargo_lock_query.specs.Places.{IsPlaces}
 use Rattle.cargo_lock_encoding.specs.Lockfiles.{LockfileData}
 use Rattle.cargo_lock_graph.specs.Edges.{GraphData}
 use Rattle.cargo_lock.specs.Loads.{IsMeant}
 use Rattle.cargo_lock_display.specs.File.{FileData}
-use Rattle.json_line.specs.Text.{IsJsonText}
 use Rattle.cargo_lock_query.specs.WhyDocument.{answers_json}
-use Rattle.cli_input.specs.Json.{IsAsked, IsFlag, IsUnasked, PrintsLine, file_of}
+use Rattle.cli_input.specs.Json.{IsFlag, PrintsAnswer, file_of}
 use Rattle.cargo_lock_query.specs.Spec.{Fits}
 use Rattle.cli_input.specs.Load.{IsGraphOf}
 
@@ -30,18 +28,11 @@ pub record AreAsked (found : Found) (graph : GraphData) (answers : List AnswerDa
   pub each : IsFlag found (codes "all") is_each
   pub answered : AreAnswers is_each graph nodes answers
 
--- what is printed of answers: their document if the arguments ask for JSON, and otherwise their
--- lines
-pub record PrintsAnswers (found : Found) (file : FileData) (answers : List AnswerData)
-    (old new : Option (List ℕ)) : Type 0 where
-  pub asked : IsAsked found (codes "json")
-      → PrintsLine (IsJsonText (answers_json file answers)) old new
-  pub unasked : IsUnasked found (codes "json") → Appends old new (answers_text answers)
-
 -- the answers that the arguments ask for are printed
 abbrev pub PrintsAsked : Found → FileData → GraphData → Option (List ℕ) → Option (List ℕ) → Type 0
 PrintsAsked found file graph old new = (answers : List AnswerData)
-    × AreAsked found graph answers × PrintsAnswers found file answers old new
+    × AreAsked found graph answers
+    × PrintsAnswer found (answers_json file answers) (answers_text answers) old new
 
 -- the same for the graph of a lockfile that some text means
 abbrev pub PrintsWhy : Found → Option (List ℕ) → Option (List ℕ) → Type 0

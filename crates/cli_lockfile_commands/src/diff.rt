@@ -1,23 +1,21 @@
 //! The command `diff`: what differs between the packages of two lockfiles.
-ghost use Rattle.std.specs.Prelude.{◌≡◌, IfOk, OnOk, map};
-ghost use Rattle.std.specs.Io.KnownBytes.{Appends};
+ghost use Rattle.std.specs.Prelude.{◌≡◌, IfOk, Some, map};
+ghost use Rattle.std.specs.Fmt.{DisplaysOnOk};
 ghost use Rattle.clap.specs.Matches.{found_of};
 ghost use Rattle.cargo_lock_diff.specs.Change.{change_of, changes_text};
-ghost use Rattle.cargo_lock_diff.specs.Document.{difference_json};
-ghost use Rattle.json_line.specs.Text.{IsJsonText};
-ghost use Rattle.cli_lockfile_commands.specs.Diff.{IsStatus, IsTold, PrintsTold, PrintsChanges};
-ghost use Rattle.cli_lockfile_commands.specs.Diff.{PrintsDifference, PrintsDifferenceOf, last_line, told_text};
-ghost use Rattle.cli_input.specs.Json.{PrintsLine};
+ghost use Rattle.cli_lockfile_commands.specs.Diff.{IsStatus, IsTold, PrintsChanges};
+ghost use Rattle.cli_lockfile_commands.specs.Diff.{PrintsDifference, PrintsDifferenceOf, last_line};
 
 use cargo_lock::Lockfile;
 use cargo_lock_diff::{Change, Difference, Summary, difference_json};
 use cargo_lock_display::File;
 use clap::{Arg, ArgAction, ArgMatches, Command};
+use cli_input::answer::{Answer, print_answer};
 use cli_input::load::{compared_lockfile, file};
 use cli_support::Fault;
-use cli_support::output::put;
 use cli_support::words::{any_size, flag, is_standard, json, long_flag};
 use std::alloc::{AllocError, Global};
+use std::fmt;
 use std::io::{Input, Write};
 use std::process::ExitCode;
 use std::rt::Files;
@@ -122,44 +120,12 @@ fn report_changes<W: Write>(
         (status ≡ ExitCode.FAILURE) (status ≡ ExitCode.SUCCESS)) }
 {
     let changes = changes(alloc, options, difference)?;
-    print_told(alloc, options, before, after, changes.as_slice(), out)?;
-    Ok(status(options, difference, changes.as_slice()))
-}
-
-/// Prints changes as the arguments ask for it: in JSON, or as lines.
-fn print_told<W: Write>(
-    alloc: Global,
-    options: &ArgMatches<'_>,
-    before: &File<'_>,
-    after: &File<'_>,
-    changes: &[Change<'_>],
-    out: &mut W,
-) -> Result<(), Fault>
-    ensures { OnOk result (PrintsTold (found_of options.now) before.now after.now
-        (map change_of changes.now) (W.contents out.old) (W.contents out.new)) }
-{
-    if options.get_flag("json") {
-        print_document(alloc, before, after, changes, out)
-    } else {
-        print_all(out, changes)
-    }
-}
-
-/// Prints the document of changes, and a newline.
-fn print_document<W: Write>(
-    alloc: Global,
-    before: &File<'_>,
-    after: &File<'_>,
-    changes: &[Change<'_>],
-    out: &mut W,
-) -> Result<(), Fault>
-    ensures { OnOk result (PrintsLine (IsJsonText
-        (difference_json before.now after.now (map change_of changes.now)))
-        (W.contents out.old) (W.contents out.new)) }
-{
-    let text = difference_json(alloc, before, after, changes)?;
-    put(out, format_args!("{text}\n"))?;
-    Ok(())
+    let told = Told {
+        before,
+        changes: &changes,
+    };
+    print_answer(alloc, options, after, &told, out)?;
+    Ok(status(options, difference, &changes))
 }
 
 /// The changes that the arguments ask for: those of packages, and then those of dependencies.
@@ -175,38 +141,61 @@ fn changes<'d>(
     Ok(changes)
 }
 
-/// Prints the changes in their order, and then how many of each kind there are.
-fn print_all<W: Write>(out: &mut W, changes: &[Change<'_>]) -> Result<(), Fault>
-    ensures { OnOk result (Appends (W.contents out.old) (W.contents out.new)
-        (told_text (map change_of changes.now))) }
+/// The changes that are printed, and the lockfile before them. `Display` writes the changes in their
+/// order, and then how many of each kind there are.
+#[derive(Clone, Copy)]
+struct Told<'a, 'b, 'd> {
+    before: &'a File<'b>,
+    changes: &'a [Change<'d>],
+}
+
+impl fmt::Display for Told<'_, '_, '_> {
+    ghost use Rattle.std.specs.Prelude.{Some, map};
+    ghost use Rattle.cargo_lock_diff.specs.Change.{change_of};
+    ghost use Rattle.cli_lockfile_commands.specs.Diff.{told_text};
+
+    ghost output = { λ told. Some (told_text (map change_of told.changes.now)) };
+
+    fn fmt<W: fmt::Write>(&self, f: &mut fmt::Formatter<W>) -> fmt::Result {
+        write_changes(self.changes, f)?;
+        write_last_line(self.changes, f)
+    }
+}
+
+impl Answer for Told<'_, '_, '_> {
+    ghost use Rattle.std.specs.Prelude.{map};
+    ghost use Rattle.cargo_lock_diff.specs.Change.{change_of};
+    ghost use Rattle.cargo_lock_diff.specs.Document.{difference_json};
+
+    ghost json = { λ after told.
+        difference_json told.before.now after (map change_of told.changes.now) };
+
+    fn document(&self, alloc: Global, after: &File<'_>) -> Result<String, AllocError> {
+        difference_json(alloc, self.before, after, self.changes)
+    }
+}
+
+/// Writes the changes in their order.
+fn write_changes<W: fmt::Write>(changes: &[Change<'_>], f: &mut fmt::Formatter<W>) -> fmt::Result
+    ensures { DisplaysOnOk W.write_str_gives f.old result
+        (Some (changes_text (map change_of changes.now))) f.new }
 {
-    print_changes(out, changes)?;
-    print_last_line(out, changes)?;
+    for change in changes {
+        write!(f, "{change}\n")?;
+    }
     Ok(())
 }
 
-/// Prints how many changes of each kind there are, if there are any.
-fn print_last_line<W: Write>(out: &mut W, changes: &[Change<'_>]) -> Result<(), Fault>
-    ensures { OnOk result (Appends (W.contents out.old) (W.contents out.new)
-        (last_line (map change_of changes.now))) }
+/// Writes how many changes of each kind there are, if there are any.
+fn write_last_line<W: fmt::Write>(changes: &[Change<'_>], f: &mut fmt::Formatter<W>) -> fmt::Result
+    ensures { DisplaysOnOk W.write_str_gives f.old result
+        (Some (last_line (map change_of changes.now))) f.new }
 {
     if changes.is_empty() {
         return Ok(());
     }
     let summary = Summary::of(changes);
-    put(out, format_args!("{summary}\n"))?;
-    Ok(())
-}
-
-/// Prints the changes in their order.
-fn print_changes<W: Write>(out: &mut W, changes: &[Change<'_>]) -> Result<(), Fault>
-    ensures { OnOk result (Appends (W.contents out.old) (W.contents out.new)
-        (changes_text (map change_of changes.now))) }
-{
-    for change in changes {
-        put(out, format_args!("{change}\n"))?;
-    }
-    Ok(())
+    write!(f, "{summary}\n")
 }
 
 /// The status for a difference and the changes that are printed.

@@ -1,18 +1,15 @@
 //! The command `duplicates`: the names that several packages of a lockfile have.
-ghost use Rattle.std.specs.Prelude.{◌≡◌, IfOk, OnOk, map};
+ghost use Rattle.std.specs.Prelude.{◌≡◌, IfOk, map};
 ghost use Rattle.clap.specs.Matches.{found_of};
 ghost use Rattle.cargo_lock_query.specs.Tally.{group_of};
-ghost use Rattle.cargo_lock_query.specs.DuplicatesDocument.{groups_json};
-ghost use Rattle.json_line.specs.Text.{IsJsonText};
-ghost use Rattle.cli_lockfile_commands.specs.Duplicates.{IsGroupsStatus, PrintsDuplicates, PrintsGroups, PrintsNames};
-ghost use Rattle.cli_input.specs.Json.{PrintsLine};
+ghost use Rattle.cli_lockfile_commands.specs.Duplicates.{IsGroupsStatus, PrintsDuplicates, PrintsNames};
 
 use cargo_lock::dependency::graph::Graph;
 use cargo_lock_display::File;
-use cargo_lock_query::{Listing, Rows, groups_json};
+use cargo_lock_query::Listing;
 use clap::{ArgMatches, Command};
+use cli_input::answer::print_answer;
 use cli_input::load::{file_in, named_graph};
-use cli_support::output::put;
 use cli_support::words::{any_size, json, long_flag};
 use cli_support::{Fault, words};
 use std::alloc::{AllocError, Global};
@@ -75,43 +72,8 @@ fn report_names<W: Write>(
         (status ≡ ExitCode.FAILURE) (status ≡ ExitCode.SUCCESS)) }
 {
     let listing = Listing::about(alloc, graph)?;
-    print_groups(alloc, options, file, &listing, out)?;
+    print_answer(alloc, options, file, &listing, out)?;
     Ok(status(options, &listing))
-}
-
-/// Prints names as the arguments ask for it: in JSON, or as lines.
-fn print_groups<W: Write>(
-    alloc: Global,
-    options: &ArgMatches<'_>,
-    file: &File<'_>,
-    listing: &Listing<'_>,
-    out: &mut W,
-) -> Result<(), Fault>
-    ensures { OnOk result (PrintsGroups (found_of options.now) file.now
-        (map group_of listing.now.groups.items) (W.contents out.old) (W.contents out.new)) }
-{
-    if options.get_flag("json") {
-        print_document(alloc, file, &listing.groups, out)
-    } else {
-        put(out, format_args!("{listing}"))?;
-        Ok(())
-    }
-}
-
-/// Prints the document of names, and a newline.
-fn print_document<W: Write>(
-    alloc: Global,
-    file: &File<'_>,
-    groups: &[Rows<'_>],
-    out: &mut W,
-) -> Result<(), Fault>
-    ensures { OnOk result (PrintsLine
-        (IsJsonText (groups_json file.now (map group_of groups.now)))
-        (W.contents out.old) (W.contents out.new)) }
-{
-    let text = groups_json(alloc, file, groups)?;
-    put(out, format_args!("{text}\n"))?;
-    Ok(())
 }
 
 /// The status for the names that are printed.

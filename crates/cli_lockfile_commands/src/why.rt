@@ -2,20 +2,17 @@
 ghost use Rattle.std.specs.Prelude.{◌≡◌, IfOk, OnOk, map};
 ghost use Rattle.clap.specs.Matches.{found_of};
 ghost use Rattle.cargo_lock_query.specs.Lines.{answer_of};
-ghost use Rattle.json_line.specs.Text.{IsJsonText};
-ghost use Rattle.cargo_lock_query.specs.WhyDocument.{answers_json};
-ghost use Rattle.cli_input.specs.Json.{PrintsLine};
-ghost use Rattle.cli_lockfile_commands.specs.Why.{AreAsked, PrintsAnswers, PrintsAsked, PrintsWhy};
+ghost use Rattle.cli_lockfile_commands.specs.Why.{AreAsked, PrintsAsked, PrintsWhy};
 ghost use Rattle.cli_lockfile_commands.specs.Why as spec;
 
 use cargo_lock::Package;
 use cargo_lock::dependency::graph::Graph;
 use cargo_lock_display::File;
-use cargo_lock_query::{Answer, Answers, answers_json};
+use cargo_lock_query::Answers;
 use clap::{Arg, ArgAction, ArgMatches, Command};
+use cli_input::answer::print_answer;
 use cli_input::load::{file_in, named_graph};
 use cli_input::spec::some_fitting;
-use cli_support::output::put;
 use cli_support::words::{any_size, json, long_flag};
 use cli_support::{Fault, words};
 use std::alloc::{AllocError, Global};
@@ -91,42 +88,7 @@ fn report_answers<W: Write>(
         (W.contents out.old) (W.contents out.new)) }
 {
     let answers = asked(alloc, options, graph)?;
-    print_answers(alloc, options, file, &answers, out)
-}
-
-/// Prints answers as the arguments ask for it: in JSON, or as lines.
-fn print_answers<W: Write>(
-    alloc: Global,
-    options: &ArgMatches<'_>,
-    file: &File<'_>,
-    answers: &Answers<'_>,
-    out: &mut W,
-) -> Result<(), Fault>
-    ensures { OnOk result (PrintsAnswers (found_of options.now) file.now
-        (map answer_of answers.now.answers.items) (W.contents out.old) (W.contents out.new)) }
-{
-    if options.get_flag("json") {
-        print_document(alloc, file, &answers.answers, out)
-    } else {
-        put(out, format_args!("{answers}"))?;
-        Ok(())
-    }
-}
-
-/// Prints the document of answers, and a newline.
-fn print_document<W: Write>(
-    alloc: Global,
-    file: &File<'_>,
-    answers: &[Answer<'_>],
-    out: &mut W,
-) -> Result<(), Fault>
-    ensures { OnOk result (PrintsLine
-        (IsJsonText (answers_json file.now (map answer_of answers.now)))
-        (W.contents out.old) (W.contents out.new)) }
-{
-    let text = answers_json(alloc, file, answers)?;
-    put(out, format_args!("{text}\n"))?;
-    Ok(())
+    print_answer(alloc, options, file, &answers, out)
 }
 
 /// The answers that the arguments ask for.

@@ -10,7 +10,7 @@ returns g c = rw (
   sym c.in_ok-report.ensures.findings,
   sym c.in_ok-report.ensures.unmet,
 ) (record {
-  printed = c.in_ok-print_advisories.ensures;
+  printed = c.in_ok-print_answer.ensures;
   some = λ h. c.status_of.ensures.found (ap not (c.is_denied.ensures ∙ h));
   none = λ h. c.status_of.ensures.quiet (ap not (c.is_denied.ensures ∙ h));
 })

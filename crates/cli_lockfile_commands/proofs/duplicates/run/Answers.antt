@@ -1,17 +1,13 @@
-use Rattle.std.proofs.Common.{◌≡◌, ◌∙◌, ap, codes, subst, sym}
+use Rattle.std.proofs.Common.{◌≡◌, ◌∙◌, ap, codes, sym}
 use Rattle.clap.specs.Matches.{found_of}
-use Rattle.cargo_lock_display.specs.File.{FileData}
 use Rattle.cargo_lock_references.specs.declared.version.ResolveVersion.{ResolveVersion}
 use Rattle.cli_support.proofs.Writes.{if_ok_weaken}
 use Rattle.cli_support.specs.Input.{given_path_in}
 use Rattle.cli_input.specs.Json.{file_of}
-use Rattle.cli_lockfile_commands.specs.Duplicates.{PrintsGroups}
 use Rattle.cli_lockfile_commands.proofs.duplicates.run.Goals as goal
 
 pub returns : goal.returns
 returns g c =
-    let old = g.W.Write.contents c.args.out.now in
-    let new = g.W.Write.contents c.report_names.new.out in
     let found = found_of c.args.options.now in
     let l = c.in_ok-format.ensures.0 in
     let named : c.file_in-file.result ≡ file_of found (codes "file") l =
@@ -21,10 +17,5 @@ returns g c =
       c.in_ok-format.graph,
       c.in_ok-format.ensures.1,
       c.in_ok-format.ensures.3,
-      (
-        printed.0,
-        printed.1,
-        subst (λ (file : FileData). PrintsGroups found file printed.0 old new) named printed.2,
-        printed.3,
-      ),
+      rw (sym named) printed,
     )) c.report_names.ensures

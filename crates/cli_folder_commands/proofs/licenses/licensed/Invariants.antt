@@ -1,6 +1,6 @@
 use Rattle.std.proofs.Common.{◌≡◌, map, take}
 use Rattle.cargo_lock_licenses.specs.Subjects.{subject_of}
-use Rattle.cli_folder_commands.proofs.licenses.cached_with.Given as goal
+use Rattle.cli_folder_commands.proofs.licenses.licensed.Given as goal
 
 -- the packages so far
 abbrev pub invariant-loop-package : goal.invariant-loop-package
