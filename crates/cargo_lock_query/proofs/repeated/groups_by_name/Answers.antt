@@ -1,4 +1,4 @@
-use Rattle.std.proofs.Common.{List, ap, sym}
+use Rattle.std.proofs.Common.{◌∙◌, ℕ, List, ap, slice_get, sym}
 use Rattle.cargo_lock_parts.specs.Identity.{PackageData}
 use Rattle.lists.proofs.Groupings.{groups-none}
 use Rattle.cargo_lock_query.specs.Groups.{IsNamedBy, name_cmp}
@@ -14,4 +14,4 @@ loop-place-preserved c =
     let packages : List PackageData = c.args.graph.now.packages in
     let p : PackageData = c.index-package.result.now in
     name-put packages c.loop-place.place p _ c.loop-place.groups c.put.new.self
-    (sym c.index-package.ensures) (sym (ap (λ (q : PackageData). q.name) c.«package».view_is)) c.in_ok-put.ensures c.loop-place.invariant
+    (ap (λ (k : ℕ). slice_get packages k) (sym c.new.ensures) ∙ sym c.index-package.ensures) (sym (ap (λ (q : PackageData). q.name) c.«package».view_is)) c.in_ok-put.ensures c.loop-place.invariant
