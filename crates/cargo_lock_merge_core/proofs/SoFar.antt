@@ -6,7 +6,7 @@ use Rattle.std.proofs.lemmas.List.{get_or-map, length-map}
 use Rattle.std.proofs.lemmas.List.Elements.{All-nil, All-push, All-contains}
 use Rattle.std.proofs.lemmas.Option.{get_or_from_slice_get, slice_get-get_or, slice_get_within}
 use Rattle.cargo_lock_parts.specs.Identity.{identity_of}
-use Rattle.lists.proofs.Members.{map-in}
+use Rattle.lists.proofs.Members.{in-map, map-in}
 use Rattle.cargo_lock_merge_core.specs.declared.entry.Chosen.{Chosen}
 use Rattle.cargo_lock_merge_core.specs.declared.entry.Entry.{Entry}
 use Rattle.cargo_lock_merge_core.specs.declared.merged.Merged.{Merged}
@@ -119,9 +119,6 @@ module _ (s : Triple ℕ) (plan : Plan) (h : HasPlan s plan) where
   merged-places [] = refl
   merged-places (m ∷ ms) = ap (λ (ns : List ℕ). m.place ∷ ns) (merged-places ms)
 
-  map-in : {X Y : Type 0} (f : X → Y) (xs : List X) (x : X) → Contains xs x → Contains (map f xs) (f x)
-  map-in f xs x (k, low, is) = (k, omega (arith, low, length-map xs f), get_or-map f xs k x (f x) low ∙ ap f is)
-
   marked-in : (p : ℕ) → IsMarkedPlace plan p → Contains (entry_places plan.entries.items) p
   marked-in p (k, at, marked) =
       (k, slice_get_within (entry_places plan.entries.items) k p at, get_or_from_slice_get (entry_places plan.entries.items) k p p at)
@@ -143,7 +140,7 @@ module _ (s : Triple ℕ) (plan : Plan) (h : HasPlan s plan) where
           λ k. (marked-reached p).0 ((kept p).0 (subst (λ (ns : List ℕ). Contains ns p) (merged-places ms)
               (subst (λ n. Contains (places_of (map merged_data ms)) n) k.1.1 (place-among (map merged_data ms) k.0 k.1.0)))),
           λ r. let m = map-in (λ (m : Merged). m.place) ms p ((kept p).1 ((marked-reached p).1 r)) in
-              (merged_data m.0, (map-in merged_data ms m.0 m.1, m.2)),
+              (merged_data m.0, (in-map merged_data ms m.0 m.1, m.2)),
         );
         each = λ x k. let m = map-in merged_data ms x k in
             let e = All-contains (IsOfEntry plan) ms m.0 f.each m.1 in
