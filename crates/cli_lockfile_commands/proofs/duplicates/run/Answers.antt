@@ -3,7 +3,7 @@ use Rattle.clap.specs.Matches.{found_of}
 use Rattle.cargo_lock_references.specs.declared.version.ResolveVersion.{ResolveVersion}
 use Rattle.cli_support.proofs.Writes.{if_ok_weaken}
 use Rattle.cli_support.specs.Input.{given_path_in}
-use Rattle.cli_input.specs.Json.{file_of}
+use Rattle.cli_input.specs.Json.{document_path, file_of}
 use Rattle.cli_lockfile_commands.proofs.duplicates.run.Goals as goal
 
 pub returns : goal.returns
@@ -11,7 +11,7 @@ returns g c =
     let found = found_of c.args.options.now in
     let l = c.in_ok-format.ensures.0 in
     let named : c.file_in-file.result ≡ file_of found (codes "file") l =
-    c.file_in-file.ensures ∙ ap (λ (v : ResolveVersion). record { path = given_path_in found (codes "file"); format = v }) (sym c.in_ok-format.ensures.2) in
+    c.file_in-file.ensures ∙ ap (λ (v : ResolveVersion). record { path = document_path (given_path_in found (codes "file")); format = v }) (sym c.in_ok-format.ensures.2) in
     if_ok_weaken c.report_names.result _ _ (λ status printed. (
       l,
       c.in_ok-format.graph,
