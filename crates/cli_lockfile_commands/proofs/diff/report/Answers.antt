@@ -16,6 +16,6 @@ returns g c =
     if_ok_weaken c.report_changes.result _ _ (λ status printed. (
       d,
       subst (λ (l : LockfileData). IsDifference c.args.old.now.packages l.packages d)
-        c.new.view_is read,
+          c.new.view_is read,
       rw (sym c.file-before.ensures) (rw (sym c.file-after.ensures) printed),
     )) c.report_changes.ensures
