@@ -1,5 +1,5 @@
 -- Texts that a writer takes in pieces.
-use Rattle.std.proofs.Common.{◌≡◌, ℕ, List, [], ◌∷◌, ◌++◌, Option, Some, None, Result, Ok, Err, refl, sym, ap, subst, take, map, length, get_or, ◌+◌, ◌<◌, ◌∙◌, append_assoc}
+use Rattle.std.proofs.Common.{◌≡◌, ℕ, List, [], ◌∷◌, ◌++◌, Option, Some, None, Result, Ok, Err, refl, sym, ap, subst, take, map, length, get_or, ◌+◌, ◌<◌, ◌∙◌}
 use Rattle.std.specs.Prelude.{IfOk, IfSome, IsErr, OnOk}
 use Rattle.std.specs.Io.KnownBytes.{Appends, Keeps}
 use Rattle.std.specs.List.{flat_map}
@@ -24,9 +24,9 @@ appends_none a b c x y n is h k =
 
 -- a beginning was taken before a fault
 pub fault_after : {T E : Type 0} (r : Result T E) (old new : Option (List ℕ)) (text front rest : List ℕ)
-    → IsErr r → text ≡ front ++ rest → Appends old new front → IsWrittenOut old new text r
-fault_after (Ok x) old new text front rest e is h = absurd cc
-fault_after (Err x) old new text front rest e is h = (front, rest, is, h)
+    → IsErr r → text ≡ front ++ rest → 0 < length rest → Appends old new front → IsWrittenOut old new text r
+fault_after (Ok x) old new text front rest e is some h = absurd cc
+fault_after (Err x) old new text front rest e is some h = (front, rest, is, some, h)
 
 -- what is not written to keeps its bytes
 pub keeps_self : (o : Option (List ℕ)) → Keeps o o

@@ -1,7 +1,8 @@
 -- The lockfile that a command reads.
 use Rattle.std.specs.Prelude.{◌≡◌, ◌≢◌, ℕ, List, None, Option, Some, codes, string_bytes, unwrap_or}
+use Rattle.std.specs.Prelude.{◌⊎◌}
 use Rattle.std.specs.declared.io.ErrorKind.TheVariants.{OutOfMemory}
-use Rattle.clap.specs.Matches.{first_value}
+use Rattle.clap.specs.Matches.{first_value, one_text}
 use Rattle.clap.specs.declared.parser.matches.Found.{Found}
 use Rattle.cargo_lock_parts.specs.declared.error.Error.TheVariants.{Io, Memory}
 use Rattle.cli_support.specs.Terminal.{in_line}
@@ -29,3 +30,8 @@ IsOfReading (TooLarge name) argument = IsInputShown argument (string_bytes name)
 IsOfReading (Library Memory) argument = Unit {0}
 IsOfReading (Library (Io kind)) argument = kind ≢ OutOfMemory
 IsOfReading other argument = ⊥
+
+-- the arguments do not have the flag by which a lockfile of any length is read
+abbrev pub IsLimited : Found → Type 0
+IsLimited found = (one_text found (codes "any-size") ≡ None)
+    ⊎ (one_text found (codes "any-size") ≡ Some (codes "false"))

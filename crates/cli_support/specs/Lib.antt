@@ -2,6 +2,10 @@ pub mod Destination
 pub mod Output
 pub mod Fault
 pub mod Input
+pub mod Options
+pub mod Saving
 pub mod Status
 pub mod Terminal
 pub mod Time
+pub mod Words
+pub mod Writers

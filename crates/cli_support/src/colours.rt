@@ -1,4 +1,11 @@
 //! Lines for a terminal in colours, each chosen by its first character.
+ghost use Rattle.std.specs.Prelude.{◌≡◌, IfOk, IsErrAnd, None, length};
+ghost use Rattle.std.specs.Io.{WritesAtMost};
+ghost use Rattle.std.specs.Io.KnownBytes.{WriteAppends};
+ghost use Rattle.std.specs.IoError.{error_kind};
+ghost use Rattle.std.specs.Str.{IsUtf8};
+ghost use Rattle.std.specs.declared.io.ErrorKind.TheVariants.{InvalidData};
+ghost use Rattle.cli_support.specs.Writers.{colours_out, line_end};
 
 use crate::output::put_all;
 use std::io::{ErrorKind, Write};
@@ -20,7 +27,10 @@ pub struct Colours<W> {
 
 impl<W: Write> Colours<W> {
     /// The writer in front of this one.
-    pub fn new(out: W) -> Colours<W> {
+    pub fn new(out: W) -> Colours<W>
+        ensures out { colours_out result ≡ out }
+        ensures begun { line_end result ≡ None }
+    {
         Colours { out, end: None }
     }
 
@@ -58,7 +68,12 @@ impl<W: Write> Colours<W> {
 
 impl<W: Write> Write for Colours<W> {
     /// Prints the bytes, which are whole characters of a text.
-    fn write(&mut self, bytes: &[u8]) -> io::Result<usize> {
+    fn write(&mut self, bytes: &[u8]) -> io::Result<usize>
+        ensures bound { WritesAtMost result bytes.now }
+        ensures bytes { WriteAppends None None result bytes.now }
+        ensures count { IfOk result (λ count. count ≡ length bytes.now) }
+        ensures other { (¬ IsUtf8 bytes.now) → IsErrAnd result (λ e. error_kind e ≡ InvalidData) }
+    {
         let Ok(text) = str::from_utf8(bytes) else {
             return Err(io::Error::from(ErrorKind::InvalidData));
         };

@@ -1,4 +1,8 @@
 //! Output whose reader may go away before all of it is written, as `head` does.
+ghost use Rattle.std.specs.Prelude.{◌≡◌, IsOk, None, Ok, false, length, true};
+ghost use Rattle.std.specs.Io.{WritesAtMost};
+ghost use Rattle.std.specs.Io.KnownBytes.{Keeps, WriteAppends};
+ghost use Rattle.cli_support.specs.Writers.{departure_out, has_left, may_leave};
 
 use std::io;
 use std::io::{ErrorKind, Write};
@@ -18,7 +22,11 @@ pub struct Departure<W> {
 
 impl<W: Write> Departure<W> {
     /// The writer in front of this one. If the reader may not go away, it fails as that one does.
-    pub fn new(out: W, is_allowed: bool) -> Departure<W> {
+    pub fn new(out: W, is_allowed: bool) -> Departure<W>
+        ensures out { departure_out result ≡ out }
+        ensures allowed { may_leave result ≡ is_allowed }
+        ensures here { has_left result ≡ false }
+    {
         Departure {
             out,
             is_allowed,
@@ -27,13 +35,27 @@ impl<W: Write> Departure<W> {
     }
 
     /// Whether this error says that the reader is gone, which is no fault here.
-    fn is_departure(&self, error: &io::Error) -> bool {
+    fn is_departure(&self, error: &io::Error) -> bool
+        ensures { result ≡ true → may_leave self.now ≡ true }
+    {
         self.is_allowed && error.kind() == ErrorKind::BrokenPipe
     }
 }
 
 impl<W: Write> Write for Departure<W> {
-    fn write(&mut self, bytes: &[u8]) -> io::Result<usize> {
+    fn write(&mut self, bytes: &[u8]) -> io::Result<usize>
+        ensures bound { WritesAtMost result bytes.now }
+        ensures bytes { WriteAppends None None result bytes.now }
+        ensures allowed { may_leave self.new ≡ may_leave self.old }
+        ensures gone { has_left self.old ≡ true → (result ≡ Ok (length bytes.now))
+            × (self.new ≡ self.old) }
+        ensures here { has_left self.old ≡ false → has_left self.new ≡ false
+            → WriteAppends (W.contents (departure_out self.old))
+            (W.contents (departure_out self.new)) result bytes.now }
+        ensures leaves { has_left self.old ≡ false → has_left self.new ≡ true
+            → (may_leave self.old ≡ true) × (result ≡ Ok (length bytes.now))
+            × Keeps (W.contents (departure_out self.old)) (W.contents (departure_out self.new)) }
+    {
         if self.is_gone {
             return Ok(bytes.len());
         }
@@ -46,7 +68,13 @@ impl<W: Write> Write for Departure<W> {
         }
     }
 
-    fn flush(&mut self) -> io::Result<()> {
+    fn flush(&mut self) -> io::Result<()>
+        ensures bytes { Keeps None None }
+        ensures allowed { may_leave self.new ≡ may_leave self.old }
+        ensures gone { has_left self.old ≡ true → IsOk result × (self.new ≡ self.old) }
+        ensures leaves { has_left self.old ≡ false → has_left self.new ≡ true
+            → (may_leave self.old ≡ true) × IsOk result }
+    {
         if self.is_gone {
             return Ok(());
         }

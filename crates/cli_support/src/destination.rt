@@ -1,8 +1,11 @@
 //! The destination of a command's text.
-ghost use Rattle.std.specs.Prelude.{◌++◌, OnOk, codes};
+ghost use Rattle.std.specs.Prelude.{◌++◌, IfErr, OnOk, codes};
 ghost use Rattle.std.specs.Io.KnownBytes.{Appends};
+ghost use Rattle.std.specs.Path.{path_bytes};
 ghost use Rattle.clap.specs.Matches.{first_value, found_of};
+ghost use Rattle.cli_support.specs.Destination.{IsOfOutput, IsOfOutputFile, IsOfOwnOutput};
 ghost use Rattle.cli_support.specs.Destination.{TakesOutput};
+ghost use Rattle.cli_support.specs.Fault.{IsOfCall};
 
 use crate::fault::{Fault, path_shown};
 use crate::output::put;
@@ -22,8 +25,9 @@ pub fn put_out<R: Files + AllocGlobal, W: Write>(
     end: &str,
     out: &mut W,
 ) -> Result<(), Fault>
-    ensures { OnOk result (TakesOutput (first_value (found_of options.now) (codes "output"))
+    ensures ok { OnOk result (TakesOutput (first_value (found_of options.now) (codes "output"))
         (text.now ++ end.now) (W.contents out.old) (W.contents out.new)) }
+    ensures err { IfErr result (IsOfOutput (first_value (found_of options.now) (codes "output"))) }
 {
     match words::output_file(options) {
         Some(path) => save_named(rt, Path::new(path), text),
@@ -38,8 +42,10 @@ pub fn put_own_out<R: Files + AllocGlobal, W: Write>(
     text: &str,
     out: &mut W,
 ) -> Result<(), Fault>
-    ensures { OnOk result (TakesOutput (first_value (found_of options.now) (codes "output"))
+    ensures ok { OnOk result (TakesOutput (first_value (found_of options.now) (codes "output"))
         text.now (W.contents out.old) (W.contents out.new)) }
+    ensures err { IfErr result
+        (IsOfOwnOutput (first_value (found_of options.now) (codes "output"))) }
 {
     match put_out(rt, options, text, "", out) {
         Ok(()) => Ok(()),
@@ -48,7 +54,9 @@ pub fn put_own_out<R: Files + AllocGlobal, W: Write>(
 }
 
 /// Saves the text in the file at this path. Fails as `save` does, with the path in the error.
-fn save_named<R: Files + AllocGlobal>(rt: &R, path: Path<'_>, text: &str) -> Result<(), Fault> {
+fn save_named<R: Files + AllocGlobal>(rt: &R, path: Path<'_>, text: &str) -> Result<(), Fault>
+    ensures { IfErr result (IsOfOutputFile (path_bytes path.entry)) }
+{
     match save(rt, path, text) {
         Ok(()) => Ok(()),
         Err(fault) => match path_shown(rt.alloc(), path) {
@@ -59,8 +67,9 @@ fn save_named<R: Files + AllocGlobal>(rt: &R, path: Path<'_>, text: &str) -> Res
 }
 
 fn print<W: Write>(out: &mut W, text: &str, end: &str) -> Result<(), Fault>
-    ensures { OnOk result
+    ensures ok { OnOk result
         (Appends (W.contents out.old) (W.contents out.new) (text.now ++ end.now)) }
+    ensures err { IfErr result IsOfCall }
 {
     put(out, text)?;
     put(out, end)?;

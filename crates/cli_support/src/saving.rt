@@ -1,7 +1,10 @@
 //! Saving a text in a file, so that an error leaves the old file unchanged.
-ghost use Rattle.std.specs.Prelude.{◌≡◌, ◌++◌, IfOk, OnOk, codes, decimal};
+ghost use Rattle.std.specs.Prelude.{◌≡◌, ◌<◌, ℕ, IfErr, IfOk, OnOk};
 ghost use Rattle.std.specs.Io.KnownBytes.{Appends};
-ghost use Rattle.std.specs.Path.{path_buf_bytes, path_bytes, path_with_file_name};
+ghost use Rattle.std.specs.Path.{path_buf_bytes, path_bytes};
+ghost use Rattle.cli_support.specs.Fault.{IsOfSystem};
+ghost use Rattle.cli_support.specs.Saving.{IsOfPlacing, IsOfReplacing, IsOfSaving, folder_in};
+ghost use Rattle.cli_support.specs.Saving.{name_in, new_path};
 
 use crate::fault::{Fault, path_shown};
 use crate::output::put_all;
@@ -46,7 +49,9 @@ const OWN_PROCESS: &str = "/proc/self";
 /// file, such as a terminal or a pipe, is written to directly, and so is a file that is a mount
 /// point. Fails if the file may not be written, the folder takes no new file, another file takes the
 /// path in the meantime, the path is that of a pipe of another user, or the system fails.
-pub fn save<R: Files + AllocGlobal>(rt: &R, path: Path<'_>, text: &str) -> Result<(), Fault> {
+pub fn save<R: Files + AllocGlobal>(rt: &R, path: Path<'_>, text: &str) -> Result<(), Fault>
+    ensures { IfErr result (IsOfSaving (path_bytes path.entry)) }
+{
     let target = follow_links(rt, path)?;
     if is_there(rt, path)? {
         let file = open(rt, path)?;
@@ -58,7 +63,9 @@ pub fn save<R: Files + AllocGlobal>(rt: &R, path: Path<'_>, text: &str) -> Resul
 
 /// Whether something is at this path. Fails if it is a pipe of another user, since opening it would
 /// wait for that user.
-fn is_there<R: Files + AllocGlobal>(rt: &R, path: Path<'_>) -> Result<bool, Fault> {
+fn is_there<R: Files + AllocGlobal>(rt: &R, path: Path<'_>) -> Result<bool, Fault>
+    ensures { IfErr result (IsOfSaving (path_bytes path.entry)) }
+{
     let found = match fs::metadata(rt, path) {
         Ok(found) => found,
         Err(error) if error.kind() == ErrorKind::NotFound => return Ok(false),
@@ -88,7 +95,9 @@ fn save_into<R: Files + AllocGlobal>(
     target: Path<'_>,
     file: R::File,
     text: &str,
-) -> Result<(), Fault> {
+) -> Result<(), Fault>
+    ensures { IfErr result (IsOfReplacing (path_bytes target.entry)) }
+{
     let opened = file.metadata()?;
     if opened.is_file() {
         match found_at(rt, target)? {
@@ -105,7 +114,9 @@ fn save_into<R: Files + AllocGlobal>(
 }
 
 /// The path to which the links at the end of a path lead, whether or not a file is there.
-fn follow_links<R: Files + AllocGlobal>(rt: &R, path: Path<'_>) -> Result<PathBuf, Fault> {
+fn follow_links<R: Files + AllocGlobal>(rt: &R, path: Path<'_>) -> Result<PathBuf, Fault>
+    ensures { IfErr result IsOfSystem }
+{
     let mut target = path.to_path_buf(rt.alloc())?;
     for _ in 0..LINKS {
         if !is_link(rt, target.as_path())? {
@@ -145,7 +156,9 @@ fn replace<R: Files + AllocGlobal>(
     target: Path<'_>,
     old: Option<&Metadata>,
     text: &str,
-) -> Result<(), Fault> {
+) -> Result<(), Fault>
+    ensures { IfErr result (IsOfReplacing (path_bytes target.entry)) }
+{
     let (path, file) = new_beside(rt, target, first_rights(old))?;
     match put_in_place(rt, path.as_path(), file, target, old, text) {
         Err(Fault::WrittenInPart(target, name)) => Err(Fault::WrittenInPart(target, name)),
@@ -174,7 +187,9 @@ fn put_in_place<R: Files + AllocGlobal>(
     target: Path<'_>,
     old: Option<&Metadata>,
     text: &str,
-) -> Result<(), Fault> {
+) -> Result<(), Fault>
+    ensures { IfErr result (IsOfPlacing (path_bytes path.entry) (path_bytes target.entry)) }
+{
     complete(rt, path, file, old, text)?;
     if !is_still(found_at(rt, target)?, old) {
         return Err(Fault::Replaced(path_shown(rt.alloc(), target)?));
@@ -206,7 +221,9 @@ fn overwrite<R: Files + AllocGlobal>(
     target: Path<'_>,
     old: &Metadata,
     text: &str,
-) -> Result<(), Fault> {
+) -> Result<(), Fault>
+    ensures { IfErr result (IsOfPlacing (path_bytes path.entry) (path_bytes target.entry)) }
+{
     let file = open(rt, target)?;
     if !is_same(&file.metadata()?, old) {
         return Err(Fault::Replaced(path_shown(rt.alloc(), target)?));
@@ -222,12 +239,22 @@ fn overwrite<R: Files + AllocGlobal>(
 }
 
 /// The error for a file that was written in part. It is made before anything is written.
-fn written_in_part(alloc: Global, path: Path<'_>, target: Path<'_>) -> Result<Fault, AllocError> {
-    let name = match path.file_name() {
+fn written_in_part(alloc: Global, path: Path<'_>, target: Path<'_>) -> Result<Fault, AllocError>
+    ensures { IfOk result (IsOfPlacing (path_bytes path.entry) (path_bytes target.entry)) }
+{
+    let target = path_shown(alloc, target)?;
+    let name = path_shown(alloc, name_of(path))?;
+    Ok(Fault::WrittenInPart(target, name))
+}
+
+/// The last name of a path, or all of it where it has none.
+fn name_of<'a>(path: Path<'a>) -> Path<'a>
+    ensures { path_bytes result ≡ name_in (path_bytes path.entry) }
+{
+    match path.file_name() {
         Some(name) => Path::new(name),
         None => path,
-    };
-    Ok(Fault::WrittenInPart(path_shown(alloc, target)?, path_shown(alloc, name)?))
+    }
 }
 
 /// Cuts an open file off, writes the text into it, and waits until the system has stored it.
@@ -269,7 +296,9 @@ fn is_safe_folder<R: Files>(rt: &R, path: Path<'_>, owner: u32) -> bool {
     !is_open && (folder.uid() == 0 || folder.uid() == owner)
 }
 
-fn folder_of<'a>(path: Path<'a>) -> Path<'a> {
+fn folder_of<'a>(path: Path<'a>) -> Path<'a>
+    ensures { path_bytes result ≡ folder_in (path_bytes path.entry) }
+{
     match path.parent() {
         Some(folder) if !folder.as_str().is_empty() => folder,
         _ => Path::new("."),
@@ -307,7 +336,11 @@ fn new_beside<R: Files + AllocGlobal>(
     rt: &R,
     target: Path<'_>,
     rights: u32,
-) -> Result<(PathBuf, R::File), Fault> {
+) -> Result<(PathBuf, R::File), Fault>
+    ensures ok { IfOk result (λ made. (number : ℕ) × (number < 100)
+        × (path_buf_bytes made.0 ≡ new_path (path_bytes target.entry) number)) }
+    ensures err { IfErr result (IsOfReplacing (path_bytes target.entry)) }
+{
     for number in 0..NAMES {
         let path = temporary_path(rt.alloc(), target, number)?;
         match create_new(rt, path.as_path(), rights) {
@@ -322,8 +355,8 @@ fn new_beside<R: Files + AllocGlobal>(
 
 /// The path of a new file in the folder of this path.
 fn temporary_path(alloc: Global, target: Path<'_>, number: u32) -> Result<PathBuf, AllocError>
-    ensures { IfOk result (λ new. path_buf_bytes new ≡ path_with_file_name (path_bytes target.entry)
-        (codes ".cargo-lock-" ++ decimal number ++ codes ".new")) }
+    ensures { IfOk result
+        (λ new. path_buf_bytes new ≡ new_path (path_bytes target.entry) number) }
 {
     let name = format!(in alloc; ".cargo-lock-{number}.new")?;
     target.with_file_name(alloc, name.as_str())

@@ -1,5 +1,5 @@
 //! The exit status of the program if it reports an error.
-ghost use Rattle.std.specs.Prelude.{◌≡◌, bytes_eq, map};
+ghost use Rattle.std.specs.Prelude.{◌≡◌, ℕ, List, [], ◌∷◌, bytes_eq, map};
 ghost use Rattle.std.specs.List.{list_any};
 ghost use Rattle.cli_support.specs.Status.{IsFaultStatus, begin_with_own, own_commands};
 ghost use Rattle.cli_support.specs.Status as spec;
@@ -38,7 +38,9 @@ pub fn name_own_command<S: AsStr>(words: &[S]) -> bool
 
 /// The status of an error that comes before the arguments are read: that of the command which the
 /// first of them name, as far as the system says it.
-pub fn of_early_fault<R: Env>(rt: &R) -> ExitCode {
+pub fn of_early_fault<R: Env>(rt: &R) -> ExitCode
+    ensures { (first second : List ℕ) × IsFaultStatus (first ∷ second ∷ []) result }
+{
     let mut first = [0u8; LONGEST];
     let mut second = [0u8; LONGEST];
     of_fault(&[argument(rt, 1, &mut first), argument(rt, 2, &mut second)])

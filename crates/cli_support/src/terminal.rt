@@ -1,9 +1,14 @@
 //! Text for a terminal, without characters that it would obey or would not show.
 
-ghost use Rattle.std.specs.Prelude.{◌≡◌, ◌++◌, IfOk, OnOk, string_bytes};
-ghost use Rattle.std.specs.Io.KnownBytes.{Appends};
+ghost use Rattle.std.specs.Prelude.{◌≡◌, ◌++◌, IfOk, IsErrAnd, None, OnOk, length, string_bytes};
+ghost use Rattle.std.specs.Io.{WritesAtMost};
+ghost use Rattle.std.specs.Io.KnownBytes.{Appends, WriteAppends};
+ghost use Rattle.std.specs.IoError.{error_kind};
+ghost use Rattle.std.specs.Str.{IsUtf8};
+ghost use Rattle.std.specs.declared.io.ErrorKind.TheVariants.{InvalidData};
 ghost use Rattle.cli_support.specs.Terminal.{in_line_char, visible, visible_char};
 ghost use Rattle.cli_support.specs.Terminal as spec;
+ghost use Rattle.cli_support.specs.Writers.{terminal_out};
 
 use crate::output::put;
 use shown::Shown;
@@ -21,14 +26,23 @@ pub struct Terminal<W> {
 
 impl<W: Write> Terminal<W> {
     /// The writer in front of this one.
-    pub fn new(out: W) -> Terminal<W> {
+    pub fn new(out: W) -> Terminal<W>
+        ensures { terminal_out result ≡ out }
+    {
         Terminal { out }
     }
 }
 
 impl<W: Write> Write for Terminal<W> {
     /// Prints the bytes, which are whole characters of a text.
-    fn write(&mut self, bytes: &[u8]) -> io::Result<usize> {
+    fn write(&mut self, bytes: &[u8]) -> io::Result<usize>
+        ensures bound { WritesAtMost result bytes.now }
+        ensures bytes { WriteAppends None None result bytes.now }
+        ensures count { IfOk result (λ count. count ≡ length bytes.now) }
+        ensures shown { OnOk result (Appends (W.contents (terminal_out self.old))
+            (W.contents (terminal_out self.new)) (visible bytes.now)) }
+        ensures other { (¬ IsUtf8 bytes.now) → IsErrAnd result (λ e. error_kind e ≡ InvalidData) }
+    {
         match str::from_utf8(bytes) {
             Ok(text) => put_visible(&mut self.out, text)?,
             Err(_) => return Err(io::Error::from(ErrorKind::InvalidData)),

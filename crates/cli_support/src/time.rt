@@ -1,15 +1,12 @@
 //! The time at which a text is written.
 
-ghost use Rattle.std.specs.Prelude.{◌≡◌, ◌⊎◌, MatchResult, String, string_bytes};
+ghost use Rattle.std.specs.Prelude.{◌≡◌, ◌^◌, ◌<◌, IfErr, IfOk};
 ghost use Rattle.std.specs.Char.{is_ascii_digit};
 ghost use Rattle.std.specs.List.{list_all};
 ghost use Rattle.std.specs.Option.{SomeIff};
 ghost use Rattle.std.specs.Str.Parse.{digits_value};
-ghost use Rattle.std.specs.declared.alloc.Global.{Global};
-ghost use Rattle.cargo_lock_parts.specs.declared.error.Error.TheVariants.{Memory};
-ghost use Rattle.cli_support.specs.Terminal.{in_line};
-ghost use Rattle.cli_support.specs.Time.{NamesTime};
-ghost use Rattle.cli_support.specs.declared.fault.Fault.TheVariants.{Library, NoTime};
+ghost use Rattle.cli_support.specs.Fault.{IsOfCall};
+ghost use Rattle.cli_support.specs.Time.{IsOfText, IsOfTime, NamesTime};
 
 use crate::fault::Fault;
 use std::alloc::{AllocError, Global};
@@ -26,7 +23,10 @@ const LAST_SECOND: u64 = 253_402_300_799;
 /// The time in seconds since the start of 1970: that of the variable `SOURCE_DATE_EPOCH`, if the
 /// environment has it, and otherwise that of the clock. Fails if the text of the variable is not a
 /// time, and if the clock fails.
-pub fn now<R: Env + Clock + AllocGlobal>(rt: &R) -> Result<u64, Fault> {
+pub fn now<R: Env + Clock + AllocGlobal>(rt: &R) -> Result<u64, Fault>
+    ensures ok { IfOk result (λ seconds. seconds < 2 ^ 63) }
+    ensures err { IfErr result IsOfTime }
+{
     match env::var(rt, VARIABLE) {
         Ok(text) => time_of(rt.alloc(), text.as_str()),
         Err(VarError::NotPresent) => clock_time(rt),
@@ -35,7 +35,10 @@ pub fn now<R: Env + Clock + AllocGlobal>(rt: &R) -> Result<u64, Fault> {
     }
 }
 
-fn clock_time<R: Clock>(rt: &R) -> Result<u64, Fault> {
+fn clock_time<R: Clock>(rt: &R) -> Result<u64, Fault>
+    ensures ok { IfOk result (λ seconds. seconds < 2 ^ 63) }
+    ensures err { IfErr result IsOfCall }
+{
     let now = SystemTime::now(rt)?;
     match now.duration_since(UNIX_EPOCH) {
         Ok(passed) => Ok(passed.as_secs()),
@@ -46,10 +49,9 @@ fn clock_time<R: Clock>(rt: &R) -> Result<u64, Fault> {
 /// The time that a text names, as `1718818205`: only digits, and at most the last second of the
 /// year 9999. Fails with `NoTime` if the text names no time, and when out of memory.
 pub fn time_of(alloc: Global, text: &str) -> Result<u64, Fault>
-    ensures { MatchResult result
-        (λ seconds. NamesTime text.now × (seconds ≡ digits_value 10 text.now))
-        (λ fault. (fault ≡ Library Memory) ⊎ (¬ (NamesTime text.now) × (said : String Global)
-        × (fault ≡ NoTime said) × (string_bytes said ≡ in_line text.now))) }
+    ensures ok { IfOk result
+        (λ seconds. NamesTime text.now × (seconds ≡ digits_value 10 text.now)) }
+    ensures err { IfErr result (IsOfText text.now) }
 {
     match seconds_of(text) {
         Some(seconds) => Ok(seconds),

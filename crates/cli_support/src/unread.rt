@@ -1,6 +1,13 @@
 //! Arguments that are not read.
+ghost use Rattle.std.specs.Prelude.{◌≡◌, ◌≢◌};
+ghost use Rattle.std.specs.IoError.{error_kind};
+ghost use Rattle.std.specs.declared.io.ErrorKind.TheVariants.{InvalidData, OutOfMemory};
+ghost use Rattle.cargo_lock_parts.specs.declared.error.Error.TheVariants.{Io, Memory};
+ghost use Rattle.cli_support.specs.Fault.{IsOfNotUtf8};
+ghost use Rattle.cli_support.specs.declared.fault.Fault.TheVariants.{Library};
 
 use crate::fault::Fault;
+use cargo_lock_parts::error::Error;
 use std::alloc::AllocError;
 use std::env::{Env, FillError};
 use std::{io, str};
@@ -10,13 +17,25 @@ const LONGEST: usize = 1 << 21;
 
 /// The error where the system's arguments were not read: with the number of the first that is not
 /// UTF-8, if there is one.
-pub fn fault_of<R: Env + AllocGlobal>(rt: &R, error: io::Error) -> Fault {
-    if error.kind() != io::ErrorKind::InvalidData {
-        return Fault::of_system_call(error);
+pub fn fault_of<R: Env + AllocGlobal>(rt: &R, error: io::Error) -> Fault
+    ensures data { error_kind error ≡ InvalidData → IsOfNotUtf8 result }
+    ensures memory { error_kind error ≡ OutOfMemory → result ≡ Library Memory }
+    ensures other { error_kind error ≢ InvalidData → error_kind error ≢ OutOfMemory
+        → result ≡ Library (Io (error_kind error)) }
+{
+    match error.kind() {
+        io::ErrorKind::InvalidData => not_utf8(rt),
+        _ => Fault::of_system_call(error),
     }
+}
+
+/// The error where an argument is not UTF-8, or out of memory.
+fn not_utf8<R: Env + AllocGlobal>(rt: &R) -> Fault
+    ensures { IsOfNotUtf8 result }
+{
     match first_not_utf8(rt) {
         Ok(Some(number)) => Fault::NotUtf8(number),
-        Ok(None) => Fault::of_system_call(error),
+        Ok(None) => Fault::Library(Error::Io(io::ErrorKind::InvalidData)),
         Err(refused) => Fault::from(refused),
     }
 }

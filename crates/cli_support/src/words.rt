@@ -1,12 +1,18 @@
 //! The arguments of the program.
-ghost use Rattle.std.specs.Prelude.{◌≡◌, ◌↔◌, IfErr, IfOk, IfSome, IsTrue, None, Some, codes};
-ghost use Rattle.std.specs.Prelude.{map, option_map, string_bytes};
+ghost use Rattle.std.specs.Prelude.{◌≡◌, ◌^◌, ◌<◌, ◌↔◌, [], ◌∷◌, IfErr, IfOk, IfSome, IsTrue};
+ghost use Rattle.std.specs.Prelude.{None, Some, bytes_eq, codes, map, option_map, string_bytes};
+ghost use Rattle.std.specs.Prelude.{string_len, vec_len};
+ghost use Rattle.std.specs.List.{list_any};
 ghost use Rattle.std.specs.Path.{path_bytes};
 ghost use Rattle.clap.specs.Matches.{first_value, found_of};
+ghost use Rattle.clap.specs.Walk.{rule_of};
 ghost use Rattle.cli_support.specs.Destination.{IsPrinted};
-ghost use Rattle.cli_support.specs.Input.{IsInputPath, IsInputShown, IsOfReading};
+ghost use Rattle.cli_support.specs.Input.{IsInputPath, IsInputShown, IsLimited, IsOfReading};
 ghost use Rattle.cli_support.specs.Input.{given_path_in};
+ghost use Rattle.cli_support.specs.Options.{file_rule, flag_rule, value_rule};
 ghost use Rattle.cli_support.specs.Status as spec;
+ghost use Rattle.cli_support.specs.Words.{beginning, is_option, name_none, own_options};
+ghost use Rattle.cli_support.specs.Words.{with_command};
 ghost use Rattle.std.specs.declared.io.ErrorKind.TheVariants.{InvalidData};
 ghost use Rattle.cargo_lock_parts.specs.declared.error.Error.TheVariants.{Io};
 ghost use Rattle.cli_support.specs.declared.fault.Fault.TheVariants.{Library};
@@ -29,9 +35,6 @@ const DEFAULT_PATH: &str = "Cargo.lock";
 /// written.
 const STANDARD: &str = "-";
 
-/// The options of the program itself.
-const OWN_OPTIONS: [&str; 4] = ["-h", "--help", "-V", "--version"];
-
 /// What messages call standard input.
 const STANDARD_INPUT: &str = "standard input";
 
@@ -41,21 +44,39 @@ const LIMIT: u64 = 1 << 28;
 /// The arguments as the parser reads them, the program's name first. A leading `lock` is left out,
 /// and `list` is added before a leading option, unless that is one of the program itself. Fails
 /// when out of memory.
-pub fn with_command<'a, S: AsStr>(
-    alloc: Global,
-    words: &'a [S],
-) -> Result<Vec<&'a str>, AllocError> {
-    let mut all = Vec::new(alloc);
-    all.push("cargo-lock")?;
-    let words = without_lock(words);
-    match words.first() {
-        Some(first) if !is_option(first.as_str()) => {}
-        _ => all.push("list")?,
-    }
-    for word in words {
+pub fn with_command<'a, S: AsStr>(alloc: Global, words: &'a [S]) -> Result<Vec<&'a str>, AllocError>
+    ensures { IfOk result (λ all. map (λ word. word.now) all.items
+        ≡ with_command (map S.text words.now)) }
+{
+    let given = without_lock(words);
+    let mut all = beginning(alloc, given)?;
+    for word in given {
         all.push(word.as_str())?;
     }
     Ok(all)
+}
+
+/// The program's name, and `list` if these arguments name no command. Fails when out of memory.
+fn beginning<'a, S: AsStr>(alloc: Global, words: &[S]) -> Result<Vec<&'a str>, AllocError>
+    ensures { IfOk result (λ all. map (λ word. word.now) all.items
+        ≡ beginning (map S.text words.now)) }
+{
+    let mut all = Vec::new(alloc);
+    all.push("cargo-lock")?;
+    if name_none(words) {
+        all.push("list")?;
+    }
+    Ok(all)
+}
+
+/// Whether arguments name no command: there is none, or the first is an option of a command.
+fn name_none<S: AsStr>(words: &[S]) -> bool
+    ensures { result ≡ name_none (map S.text words.now) }
+{
+    match words.first() {
+        Some(first) => is_option(first.as_str()),
+        None => true,
+    }
 }
 
 /// Whether the arguments name this command.
@@ -80,8 +101,17 @@ pub(crate) fn without_lock<S: AsStr>(words: &[S]) -> &[S]
 
 /// Whether a first argument is an option of a command. The options for help and for the version are
 /// those of the program itself.
-fn is_option(word: &str) -> bool {
-    word.starts_with('-') && !OWN_OPTIONS.contains(&word)
+fn is_option(word: &str) -> bool
+    ensures { result ≡ is_option word.now }
+{
+    word.starts_with('-') && !is_own_option(word)
+}
+
+/// Whether it is an option of the program itself.
+fn is_own_option(word: &str) -> bool
+    ensures { result ≡ list_any (bytes_eq word.now) own_options }
+{
+    word == "-h" || word == "--help" || word == "-V" || word == "--version"
 }
 
 /// The text of the lockfile at the path of the option or argument `name`, or of standard input if
@@ -92,14 +122,12 @@ pub fn text<R: Files + Input + AllocGlobal>(
     options: &ArgMatches<'_>,
     name: &str,
 ) -> Result<String, Fault>
-    ensures { IfErr result
+    ensures short { IfOk result (λ text. IsLimited (found_of options.now)
+        → string_len text < 2 ^ 28) }
+    ensures err { IfErr result
         (λ fault. IsOfReading fault (given_path_in (found_of options.now) name.now)) }
 {
-    let limit = if options.get_flag("any-size") {
-        u64::MAX
-    } else {
-        LIMIT
-    };
+    let limit = limit_of(options);
     let read = match input_path(options, name) {
         Some(path) => file_bytes(rt, path, limit),
         None => input_bytes(rt, limit),
@@ -108,6 +136,17 @@ pub fn text<R: Files + Input + AllocGlobal>(
         Ok(bytes) if (bytes.len() as u64) < limit => of_bytes(bytes),
         Ok(_) => Err(too_large(rt.alloc(), options, name)),
         Err(error) => Err(not_read(given_path(options, name), error)),
+    }
+}
+
+/// The length in bytes from which on a lockfile is refused.
+fn limit_of(options: &ArgMatches<'_>) -> u64
+    ensures { IsLimited (found_of options.now) → result ≡ 2 ^ 28 }
+{
+    if options.get_flag("any-size") {
+        u64::MAX
+    } else {
+        LIMIT
     }
 }
 
@@ -146,7 +185,8 @@ fn too_large(alloc: Global, options: &ArgMatches<'_>, name: &str) -> Fault
 
 /// The text of bytes. Fails if they are not UTF-8.
 fn of_bytes(bytes: Vec<u8>) -> Result<String, Fault>
-    ensures { IfErr result (λ fault. fault ≡ Library (Io InvalidData)) }
+    ensures ok { IfOk result (λ text. string_len text ≡ vec_len bytes) }
+    ensures err { IfErr result (λ fault. fault ≡ Library (Io InvalidData)) }
 {
     match String::from_utf8(bytes) {
         Ok(text) => Ok(text),
@@ -190,7 +230,9 @@ pub fn input_shown(
 }
 
 /// Whether the argument `name` is `-`, for standard input.
-pub fn is_standard(options: &ArgMatches<'_>, name: &str) -> bool {
+pub fn is_standard(options: &ArgMatches<'_>, name: &str) -> bool
+    ensures { result ≡ bytes_eq (given_path_in (found_of options.now) name.now) (codes "-") }
+{
     given_path(options, name) == STANDARD
 }
 
@@ -208,31 +250,41 @@ pub fn output_file<'a>(options: &ArgMatches<'a>) -> Option<&'a str>
 }
 
 /// The option for the path of the lockfile.
-pub fn file<'a>(alloc: Global) -> Arg<'a> {
+pub fn file<'a>(alloc: Global) -> Arg<'a>
+    ensures { rule_of result ≡ file_rule }
+{
     value(alloc, "file", 'f', "PATH")
         .default_value(DEFAULT_PATH)
         .help("The lockfile, - for standard input")
 }
 
 /// The option to print JSON.
-pub fn json<'a>(alloc: Global) -> Result<Arg<'a>, AllocError> {
+pub fn json<'a>(alloc: Global) -> Result<Arg<'a>, AllocError>
+    ensures { IfOk result (λ flag. rule_of flag ≡ flag_rule (codes "json") None) }
+{
     let flag = long_flag(alloc, "json")?;
     Ok(flag.help("Prints one line of JSON"))
 }
 
 /// The option to read a lockfile of any length.
-pub fn any_size<'a>(alloc: Global) -> Result<Arg<'a>, AllocError> {
+pub fn any_size<'a>(alloc: Global) -> Result<Arg<'a>, AllocError>
+    ensures { IfOk result (λ flag. rule_of flag ≡ flag_rule (codes "any-size") None) }
+{
     let flag = long_flag(alloc, "any-size")?;
     Ok(flag.help("Reads a lockfile of 256 MiB or more too"))
 }
 
 /// The option for the file that is written.
-pub fn output<'a>(alloc: Global) -> Arg<'a> {
+pub fn output<'a>(alloc: Global) -> Arg<'a>
+    ensures { rule_of result ≡ value_rule (codes "output") 111 }
+{
     value(alloc, "output", 'o', "PATH").help("The file that is written, - for standard output")
 }
 
 /// An option that takes a value, which help shows as `shown`. The value may begin with a hyphen.
-pub fn value<'a>(alloc: Global, name: &'a str, short: char, shown: &'a str) -> Arg<'a> {
+pub fn value<'a>(alloc: Global, name: &'a str, short: char, shown: &'a str) -> Arg<'a>
+    ensures { rule_of result ≡ value_rule name.now short }
+{
     Arg::new(alloc, name)
         .short(short)
         .long(name)
@@ -242,13 +294,17 @@ pub fn value<'a>(alloc: Global, name: &'a str, short: char, shown: &'a str) -> A
 }
 
 /// An option that takes no value. Given several times it counts once.
-pub fn flag<'a>(alloc: Global, name: &'a str, short: char) -> Result<Arg<'a>, AllocError> {
+pub fn flag<'a>(alloc: Global, name: &'a str, short: char) -> Result<Arg<'a>, AllocError>
+    ensures { IfOk result (λ flag. rule_of flag ≡ flag_rule name.now (Some short)) }
+{
     let flag = long_flag(alloc, name)?;
     Ok(flag.short(short))
 }
 
 /// The same without a short name.
-pub fn long_flag<'a>(alloc: Global, name: &'a str) -> Result<Arg<'a>, AllocError> {
+pub fn long_flag<'a>(alloc: Global, name: &'a str) -> Result<Arg<'a>, AllocError>
+    ensures { IfOk result (λ flag. rule_of flag ≡ flag_rule name.now None) }
+{
     Arg::new(alloc, name)
         .long(name)
         .action(ArgAction::SetTrue)

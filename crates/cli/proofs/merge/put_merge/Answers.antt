@@ -10,5 +10,5 @@ returns-in-Merged g c =
     let output = first_value (found_of c.args.options.now) (codes "output") in
     let old = g.W.Write.contents c.args.out.now in
     let new = g.W.Write.contents c.put_own_out.new.out in
-    let taken = subst (λ (text : List ℕ). TakesOutput output text old new) c.as_str.ensures.value c.in_ok-put_own_out-in-Merged.ensures in
+    let taken = subst (λ (text : List ℕ). TakesOutput output text old new) c.as_str.ensures.value c.in_ok-put_own_out-in-Merged.ensures.ok in
     subst (λ (m : LockfileMerge). PrintsMergeOf (found_of c.args.options.now) m old new _ _) (sym c.in-Merged.is) (taken, refl)

@@ -1,4 +1,4 @@
-use Rattle.std.proofs.Common.{ℕ, List, take, drop, sym, subst, arith}
+use Rattle.std.proofs.Common.{◌<◌, ℕ, List, take, drop, length, sym, subst, arith}
 use Rattle.std.proofs.Math.Seq.{take-add}
 use Rattle.std.proofs.lemmas.List.{length-drop, take_rest, take-append-drop}
 use Rattle.std.specs.Io.KnownBytes.{Appends}
@@ -27,7 +27,8 @@ returns-in_err-count g c =
     let old = g.W.Write.contents c.args.out.now in
     let mid = g.W.Write.contents c.loop-at.out in
     let new = g.W.Write.contents c.write.new.self in
-    fault_after c.from_residual.result old new bytes (take at bytes) (drop at bytes) c.from_residual.ensures.0 (sym (take-append-drop at bytes)) (appends_keeps old mid new (take at bytes) c.loop-at.invariant.taken c.in_err-count.ensures.bytes)
+    let left : 0 < length (drop at bytes) = omega (arith, length-drop at bytes, c.loop-at-test.true) in
+    fault_after c.from_residual.result old new bytes (take at bytes) (drop at bytes) c.from_residual.ensures.0 (sym (take-append-drop at bytes)) left (appends_keeps old mid new (take at bytes) c.loop-at.invariant.taken c.in_err-count.ensures.bytes)
 
 pub returns-then-count-eq0 : goal.returns-then-count-eq0
 returns-then-count-eq0 g c =
@@ -36,4 +37,5 @@ returns-then-count-eq0 g c =
     let old = g.W.Write.contents c.args.out.now in
     let mid = g.W.Write.contents c.loop-at.out in
     let new = g.W.Write.contents c.write.new.self in
-    (take at bytes, drop at bytes, sym (take-append-drop at bytes), appends_none old mid new (take at bytes) _ _ c.if-count-eq0.true c.loop-at.invariant.taken c.in_ok-count.ensures.bytes)
+    let left : 0 < length (drop at bytes) = omega (arith, length-drop at bytes, c.loop-at-test.true) in
+    (take at bytes, drop at bytes, sym (take-append-drop at bytes), left, appends_none old mid new (take at bytes) _ _ c.if-count-eq0.true c.loop-at.invariant.taken c.in_ok-count.ensures.bytes)

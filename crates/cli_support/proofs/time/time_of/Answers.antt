@@ -1,8 +1,8 @@
 use Rattle.std.proofs.Common.{inl, inr}
 use Rattle.cli_support.proofs.time.time_of.Goals as goal
 
-pub returns-in-None : goal.returns-in-None
-returns-in-None c = elim c.of_time.ensures [
-  | inl memory ↦ inl memory
-  | inr said ↦ inr (c.in-None.ensures, said.0, said.1, said.2)
+pub returns-in-None-clause-err : goal.returns-in-None-clause-err
+returns-in-None-clause-err c = elim c.of_time.ensures [
+  | inl memory ↦ rw memory tt
+  | inr said ↦ rw said.1 (c.in-None.ensures, said.2)
 ]

@@ -18,4 +18,4 @@ returns g c =
       c.in_ok-time.ensures,
       c.in_ok-text.ensures,
       subst (λ (text : List ℕ). TakesOutput output text old new) c.as_str.ensures.value taken,
-    )) c.put_own_out.ensures
+    )) c.put_own_out.ensures.ok

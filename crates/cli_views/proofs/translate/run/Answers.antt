@@ -18,5 +18,5 @@ returns g c =
     let same : c.as_str.result.now ≡ join_lines (lines_of (in_format format l)) = c.as_str.ensures.value ∙ c.in_ok-text.ensures.ok in
     let said = subst (λ (text : List ℕ). IsFormatText text format) c.format_text.ensures c.in_ok-format.ensures.read in
     record {
-      translation = on_ok_weaken c.put_out.result _ _ (λ taken. (l, format, c.in_ok-lockfile.ensures.ok, said, c.in_ok-check_if_asked.ensures.table, c.in_ok-check_if_asked.ensures.text, subst (λ (text : List ℕ). TakesOutput output (text ++ codes "\n") old new) same taken)) c.put_out.ensures;
+      translation = on_ok_weaken c.put_out.result _ _ (λ taken. (l, format, c.in_ok-lockfile.ensures.ok, said, c.in_ok-check_if_asked.ensures.table, c.in_ok-check_if_asked.ensures.text, subst (λ (text : List ℕ). TakesOutput output (text ++ codes "\n") old new) same taken)) c.put_out.ensures.ok;
     }
