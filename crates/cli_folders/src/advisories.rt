@@ -1,4 +1,8 @@
 //! The files of a database of advisories.
+ghost use Rattle.std.specs.Prelude.{IfErr, IsOkUnless, string_bytes};
+ghost use Rattle.cargo_lock_parts.specs.declared.error.Error.TheVariants.{Memory};
+ghost use Rattle.cli_folders.specs.Advisories.{IsOfAdvisories, IsOfDatabase};
+ghost use Rattle.cli_support.specs.declared.fault.Fault.TheVariants.{Library};
 
 use crate::files::{is_file, names_in, path_of, text_at};
 use cargo_lock_audit::{Advisory, AdvisoryFile, DatabaseFault};
@@ -18,7 +22,9 @@ pub fn advisory_files<R: Files + AllocGlobal>(
     rt: &R,
     folder: &str,
     packages: &[Package],
-) -> Result<Vec<AdvisoryFile>, Fault> {
+) -> Result<Vec<AdvisoryFile>, Fault>
+    ensures { IfErr result (IsOfAdvisories folder.now) }
+{
     let crates = path_of(rt.alloc(), folder, CRATES)?;
     let wanted = wanted_names(rt.alloc(), packages)?;
     let mut files = Vec::new(rt.alloc());
@@ -31,7 +37,9 @@ pub fn advisory_files<R: Files + AllocGlobal>(
 }
 
 /// Why a database is refused, as an error of the program.
-pub fn database_fault(alloc: Global, fault: &DatabaseFault) -> Fault {
+pub fn database_fault(alloc: Global, fault: &DatabaseFault) -> Fault
+    ensures { IsOfDatabase fault.now result }
+{
     match fault {
         DatabaseFault::Memory | DatabaseFault::Unread(_, Error::Memory) => {
             Fault::Library(Error::Memory)
@@ -59,7 +67,9 @@ fn put_folder<R: Files + AllocGlobal>(
     files: &mut Vec<AdvisoryFile>,
     crates: &str,
     name: &str,
-) -> Result<(), Fault> {
+) -> Result<(), Fault>
+    ensures { IfErr result (IsOfAdvisories crates.now) }
+{
     let folder = path_of(rt.alloc(), crates, name)?;
     for file in &names_in(rt, &folder)? {
         if file.starts_with("RUSTSEC-") && file.ends_with(".md") {
@@ -75,7 +85,9 @@ fn put_file<R: Files + AllocGlobal>(
     files: &mut Vec<AdvisoryFile>,
     folder: &str,
     path: String,
-) -> Result<(), Fault> {
+) -> Result<(), Fault>
+    ensures { IfErr result (IsOfAdvisories (string_bytes path)) }
+{
     if !is_file(rt, &path) {
         return Ok(());
     }
@@ -93,7 +105,9 @@ fn put_advisory(
     folder: &str,
     path: String,
     advisory: Advisory,
-) -> Result<(), Fault> {
+) -> Result<(), Fault>
+    ensures { IsOkUnless result (Library Memory) }
+{
     let folder = String::from_str(alloc, folder)?;
     files.push(AdvisoryFile {
         path,

@@ -1,9 +1,12 @@
 //! The entries of a folder that is like Cargo's `registry/cache` or `registry/src`.
 
-ghost use Rattle.std.specs.Prelude.{◌≡◌, [], IfOk, None};
+ghost use Rattle.std.specs.Prelude.{◌≡◌, [], All, Contains, IfErr, IfOk, None, OnOk, map};
+ghost use Rattle.std.specs.Prelude.{string_bytes};
+ghost use Rattle.cli_folders.specs.Files.{AreAdded, IsOfAny, IsOfFile, IsOfFolder};
+ghost use Rattle.cli_folders.specs.Paths.{archive_name, entries_at, folder_name};
 
 use crate::files::{digest_at, fault_at, is_file, is_folder, names_in, path_of};
-use crate::manifest::put_manifest;
+use crate::manifest::put_manifests;
 use cargo_lock_licenses::Manifest;
 use cargo_lock_parts::package::Package;
 use cargo_lock_verify::Archive;
@@ -22,7 +25,9 @@ pub struct Entries {
 impl Entries {
     /// Reads the names in a folder, and in each folder in it. Fails if one of these folders is not
     /// read.
-    pub fn of<R: Files + AllocGlobal>(rt: &R, folder: &str) -> Result<Entries, Fault> {
+    pub fn of<R: Files + AllocGlobal>(rt: &R, folder: &str) -> Result<Entries, Fault>
+        ensures { IfErr result (IsOfFolder folder.now) }
+    {
         let mut entries = Entries {
             paths: BTreeMap::new(rt.alloc()),
         };
@@ -38,7 +43,9 @@ impl Entries {
         rt: &R,
         path: String,
         name: &str,
-    ) -> Result<(), Fault> {
+    ) -> Result<(), Fault>
+        ensures { IfErr result (IsOfFolder (string_bytes path)) }
+    {
         if is_folder(rt, &path) {
             self.put_all(rt, &path)?;
         }
@@ -47,7 +54,9 @@ impl Entries {
     }
 
     // Adds what is in a folder.
-    fn put_all<R: Files + AllocGlobal>(&mut self, rt: &R, folder: &str) -> Result<(), Fault> {
+    fn put_all<R: Files + AllocGlobal>(&mut self, rt: &R, folder: &str) -> Result<(), Fault>
+        ensures { IfErr result (IsOfFolder folder.now) }
+    {
         for name in &names_in(rt, folder)? {
             self.put(rt.alloc(), name, path_of(rt.alloc(), folder, name)?)?;
         }
@@ -72,16 +81,20 @@ impl Entries {
         rt: &R,
         package: &Package,
     ) -> Result<Vec<Archive>, Fault>
-        ensures { IfOk result (λ archives. «package».now.checksum ≡ None → archives.items ≡ []) }
+        ensures none { IfOk result
+            (λ archives. «package».now.checksum ≡ None → archives.items ≡ []) }
+        ensures paths { IfOk result (λ archives. All (λ archive. Contains
+            (entries_at self.now (archive_name «package».now)) (string_bytes archive.path))
+            archives.items) }
+        ensures err { IfErr result (IsOfAny (entries_at self.now (archive_name «package».now))) }
     {
         let mut archives = Vec::new(rt.alloc());
         if package.checksum.is_none() {
             return Ok(archives);
         }
-        if let Some(paths) = self.paths.get(archive_name(rt.alloc(), package)?.as_str()) {
-            for path in paths {
-                put_archive(rt, path, &mut archives)?;
-            }
+        let name = archive_name(rt.alloc(), package)?;
+        if let Some(paths) = self.paths.get(name.as_str()) {
+            put_archives(rt, paths, &mut archives)?;
         }
         Ok(archives)
     }
@@ -93,16 +106,17 @@ impl Entries {
         rt: &R,
         package: &Package,
     ) -> Result<Vec<Manifest>, Fault>
-        ensures { IfOk result (λ manifests. «package».now.source ≡ None → manifests.items ≡ []) }
+        ensures none { IfOk result
+            (λ manifests. «package».now.source ≡ None → manifests.items ≡ []) }
+        ensures err { IfErr result (IsOfAny (entries_at self.now (folder_name «package».now))) }
     {
         let mut manifests = Vec::new(rt.alloc());
         if package.source.is_none() {
             return Ok(manifests);
         }
-        if let Some(paths) = self.paths.get(folder_name(rt.alloc(), package)?.as_str()) {
-            for path in paths {
-                put_manifest(rt, &mut manifests, path)?;
-            }
+        let name = folder_name(rt.alloc(), package)?;
+        if let Some(paths) = self.paths.get(name.as_str()) {
+            put_manifests(rt, &mut manifests, paths)?;
         }
         Ok(manifests)
     }
@@ -116,17 +130,37 @@ fn list_of(alloc: Global, path: String) -> Result<Vec<String>, AllocError> {
 }
 
 // The name of the archive of a package.
-fn archive_name(alloc: Global, package: &Package) -> Result<String, AllocError> {
+fn archive_name(alloc: Global, package: &Package) -> Result<String, AllocError>
+    ensures { IfOk result (λ name. string_bytes name ≡ archive_name «package».now) }
+{
     let name = &package.name;
     let version = &package.version;
     format!(in alloc; "{name}-{version}.crate")
 }
 
 // The name of the folder in which Cargo unpacks it.
-fn folder_name(alloc: Global, package: &Package) -> Result<String, AllocError> {
+fn folder_name(alloc: Global, package: &Package) -> Result<String, AllocError>
+    ensures { IfOk result (λ name. string_bytes name ≡ folder_name «package».now) }
+{
     let name = &package.name;
     let version = &package.version;
     format!(in alloc; "{name}-{version}")
+}
+
+// Adds the archives at these paths.
+fn put_archives<R: Files + AllocGlobal>(
+    rt: &R,
+    paths: &[String],
+    archives: &mut Vec<Archive>,
+) -> Result<(), Fault>
+    ensures ok { OnOk result (AreAdded (λ archive. Contains (map string_bytes paths.now)
+        (string_bytes archive.path)) archives.old.items archives.new.items) }
+    ensures err { IfErr result (IsOfAny (map string_bytes paths.now)) }
+{
+    for path in paths {
+        put_archive(rt, path, archives)?;
+    }
+    Ok(())
 }
 
 // Adds the archive at a path, if a file is there.
@@ -134,7 +168,11 @@ fn put_archive<R: Files + AllocGlobal>(
     rt: &R,
     path: &str,
     archives: &mut Vec<Archive>,
-) -> Result<(), Fault> {
+) -> Result<(), Fault>
+    ensures ok { OnOk result (AreAdded (λ archive. string_bytes archive.path ≡ path.now)
+        archives.old.items archives.new.items) }
+    ensures err { IfErr result (IsOfFile path.now) }
+{
     if !is_file(rt, path) {
         return Ok(());
     }

@@ -1,4 +1,10 @@
 //! Files and folders: their names, digests and texts, and the errors of those that are not read.
+ghost use Rattle.std.specs.Prelude.{◌≡◌, ◌⊎◌, IfErr, IfOk, IsOkUnless, IsTrue, String, string_bytes};
+ghost use Rattle.std.specs.declared.alloc.Global.{Global};
+ghost use Rattle.cargo_lock_parts.specs.declared.error.Error.TheVariants.{Memory, Parse};
+ghost use Rattle.cli_folders.specs.Files.{IsOfFile, is_reason, path_in};
+ghost use Rattle.cli_support.specs.Terminal.{in_line};
+ghost use Rattle.cli_support.specs.declared.fault.Fault.TheVariants.{File, Library};
 
 use cargo_lock_parts::Error;
 use cargo_lock_parts::package::Checksum;
@@ -25,7 +31,9 @@ pub(crate) fn digest_at<R: Files>(rt: &R, path: &str) -> io::Result<Checksum> {
 
 /// The names in a folder, in order. One that is not UTF-8 is left out. Fails if the folder is not
 /// read.
-pub(crate) fn names_in<R: Files + AllocGlobal>(rt: &R, folder: &str) -> Result<Vec<String>, Fault> {
+pub(crate) fn names_in<R: Files + AllocGlobal>(rt: &R, folder: &str) -> Result<Vec<String>, Fault>
+    ensures { IfErr result (IsOfFile folder.now) }
+{
     match bytes_in(rt, folder) {
         Ok(bytes) => names_of(rt.alloc(), &bytes),
         Err(error) => Err(fault_at(rt.alloc(), folder, error)),
@@ -36,7 +44,9 @@ pub(crate) fn names_in<R: Files + AllocGlobal>(rt: &R, folder: &str) -> Result<V
 pub(crate) fn all_names_in<R: Files + AllocGlobal>(
     rt: &R,
     folder: &str,
-) -> Result<Vec<String>, Fault> {
+) -> Result<Vec<String>, Fault>
+    ensures { IfErr result (IsOfFile folder.now) }
+{
     match bytes_in(rt, folder) {
         Ok(bytes) => {
             if str::from_utf8(&bytes).is_err() {
@@ -69,7 +79,9 @@ fn bytes_in<R: Files + AllocGlobal>(rt: &R, folder: &str) -> io::Result<Vec<u8>>
 }
 
 /// The names of such bytes, in order, but for the folder itself and the one above.
-fn names_of(alloc: Global, bytes: &[u8]) -> Result<Vec<String>, Fault> {
+fn names_of(alloc: Global, bytes: &[u8]) -> Result<Vec<String>, Fault>
+    ensures { IsOkUnless result (Library Memory) }
+{
     let mut names = Vec::new(alloc);
     for name in bytes.split(|byte| *byte == 0) {
         match str::from_utf8(name) {
@@ -82,7 +94,9 @@ fn names_of(alloc: Global, bytes: &[u8]) -> Result<Vec<String>, Fault> {
 }
 
 /// The path of a name in a folder.
-pub(crate) fn path_of(alloc: Global, folder: &str, name: &str) -> Result<String, AllocError> {
+pub(crate) fn path_of(alloc: Global, folder: &str, name: &str) -> Result<String, AllocError>
+    ensures { IfOk result (λ path. string_bytes path ≡ path_in folder.now name.now) }
+{
     if folder.ends_with('/') {
         format!(in alloc; "{folder}{name}")
     } else {
@@ -106,32 +120,40 @@ pub(crate) fn is_file_and_no_link<R: Files>(rt: &R, path: &str) -> bool {
 }
 
 /// The error of a file or folder, with its path.
-pub(crate) fn fault_at(alloc: Global, path: &str, error: io::Error) -> Fault {
-    if error.kind() == ErrorKind::OutOfMemory {
-        return Fault::Library(Error::Memory);
-    }
-    match path_shown(alloc, Path::new(path)) {
-        Ok(path) => Fault::File(path, Error::from(error)),
-        Err(refused) => Fault::from(refused),
+pub(crate) fn fault_at(alloc: Global, path: &str, error: io::Error) -> Fault
+    ensures { IsOfFile path.now result }
+{
+    match error.kind() {
+        ErrorKind::OutOfMemory => Fault::Library(Error::Memory),
+        kind => with_path(alloc, path, Error::Io(kind)),
     }
 }
 
 /// The error of a file or folder whose content is refused, with its path and the reason.
-pub(crate) fn fault_of(alloc: Global, path: &str, why: &str) -> Fault {
-    match refusal_of(alloc, path, why) {
-        Ok(fault) => fault,
+pub(crate) fn fault_of(alloc: Global, path: &str, why: &str) -> Fault
+    ensures { IsTrue (is_reason why.now) → IsOfFile path.now result }
+{
+    match String::from_str(alloc, why) {
+        Ok(why) => with_path(alloc, path, Error::Parse(why)),
         Err(refused) => Fault::from(refused),
     }
 }
 
-fn refusal_of(alloc: Global, path: &str, why: &str) -> Result<Fault, AllocError> {
-    let path = path_shown(alloc, Path::new(path))?;
-    let why = String::from_str(alloc, why)?;
-    Ok(Fault::File(path, Error::Parse(why)))
+/// This error with the path of its file or folder, or out of memory.
+fn with_path(alloc: Global, path: &str, error: Error) -> Fault
+    ensures { (result ≡ Library Memory) ⊎ ((said : String Global) × (result ≡ File said error)
+        × (string_bytes said ≡ in_line path.now)) }
+{
+    match path_shown(alloc, Path::new(path)) {
+        Ok(path) => Fault::File(path, error),
+        Err(refused) => Fault::from(refused),
+    }
 }
 
 /// The text of a file. Fails if it is not read, is not UTF-8, or has 16 MiB or more.
-pub(crate) fn text_at<R: Files + AllocGlobal>(rt: &R, path: &str) -> Result<String, Fault> {
+pub(crate) fn text_at<R: Files + AllocGlobal>(rt: &R, path: &str) -> Result<String, Fault>
+    ensures { IfErr result (IsOfFile path.now) }
+{
     match bytes_at(rt, path) {
         Ok(bytes) => text_of(rt.alloc(), path, bytes),
         Err(error) => Err(fault_at(rt.alloc(), path, error)),
@@ -147,7 +169,9 @@ fn bytes_at<R: Files + AllocGlobal>(rt: &R, path: &str) -> io::Result<Vec<u8>> {
 }
 
 /// The text of the bytes of a file.
-fn text_of(alloc: Global, path: &str, bytes: Vec<u8>) -> Result<String, Fault> {
+fn text_of(alloc: Global, path: &str, bytes: Vec<u8>) -> Result<String, Fault>
+    ensures { IfErr result (IsOfFile path.now) }
+{
     if bytes.len() as u64 >= LIMIT {
         return Err(fault_of(alloc, path, "it has 16 MiB or more"));
     }

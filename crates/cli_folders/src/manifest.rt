@@ -1,4 +1,6 @@
 //! The manifests of packages.
+ghost use Rattle.std.specs.Prelude.{◌≡◌, IfErr, IfOk, codes, map, string_bytes};
+ghost use Rattle.cli_folders.specs.Files.{IsOfAny, IsOfFile, IsOfFolder, path_in};
 
 use crate::files::{fault_of, is_file_and_no_link, path_of, text_at};
 use cargo_lock_licenses::Manifest;
@@ -12,12 +14,16 @@ use toml::{Table, Value};
 const MANIFEST: &str = "Cargo.toml";
 
 /// The path of the manifest in a folder.
-pub(crate) fn manifest_path(alloc: Global, folder: &str) -> Result<String, AllocError> {
+pub(crate) fn manifest_path(alloc: Global, folder: &str) -> Result<String, AllocError>
+    ensures { IfOk result (λ path. string_bytes path ≡ path_in folder.now (codes "Cargo.toml")) }
+{
     path_of(alloc, folder, MANIFEST)
 }
 
 /// The table of the manifest at a path. Fails if it is not read, or is not TOML.
-pub(crate) fn table_at<R: Files + AllocGlobal>(rt: &R, path: &str) -> Result<Table, Fault> {
+pub(crate) fn table_at<R: Files + AllocGlobal>(rt: &R, path: &str) -> Result<Table, Fault>
+    ensures { IfErr result (IsOfFile path.now) }
+{
     let text = text_at(rt, path)?;
     match toml::table_from_str(rt.alloc(), text.as_str()) {
         Ok(table) => Ok(table),
@@ -39,7 +45,9 @@ pub(crate) fn put_manifest<R: Files + AllocGlobal>(
     rt: &R,
     manifests: &mut Vec<Manifest>,
     folder: &str,
-) -> Result<(), Fault> {
+) -> Result<(), Fault>
+    ensures { IfErr result (IsOfFolder folder.now) }
+{
     let path = manifest_path(rt.alloc(), folder)?;
     if is_file_and_no_link(rt, &path) {
         let manifest = manifest_at(rt, &path)?;
@@ -48,8 +56,24 @@ pub(crate) fn put_manifest<R: Files + AllocGlobal>(
     Ok(())
 }
 
+/// Adds what the manifests in these folders say of the licence.
+pub(crate) fn put_manifests<R: Files + AllocGlobal>(
+    rt: &R,
+    manifests: &mut Vec<Manifest>,
+    folders: &[String],
+) -> Result<(), Fault>
+    ensures { IfErr result (IsOfAny (map string_bytes folders.now)) }
+{
+    for folder in folders {
+        put_manifest(rt, manifests, folder)?;
+    }
+    Ok(())
+}
+
 // What the manifest at a path says of the licence.
-fn manifest_at<R: Files + AllocGlobal>(rt: &R, path: &str) -> Result<Manifest, Fault> {
+fn manifest_at<R: Files + AllocGlobal>(rt: &R, path: &str) -> Result<Manifest, Fault>
+    ensures { IfErr result (IsOfFile path.now) }
+{
     let table = table_at(rt, path)?;
     let manifest = manifest_in(rt.alloc(), &table)?;
     Ok(manifest)

@@ -1,11 +1,16 @@
 //! The folders in a folder that `cargo vendor` made.
 
-ghost use Rattle.std.specs.Prelude.{◌≡◌, [], IfOk, None};
+ghost use Rattle.std.specs.Prelude.{◌≡◌, ◌≢◌, ◌++◌, ◌↔◌, [], ℕ, IfErr, IfOk, IsOkUnless, IsTrue};
+ghost use Rattle.std.specs.Prelude.{List, None, OnOk, map, string_bytes};
+ghost use Rattle.cargo_lock_parts.specs.declared.error.Error.TheVariants.{Memory};
+ghost use Rattle.cli_folders.specs.Files.{IsOfAny, IsOfFile, IsOfFolder};
+ghost use Rattle.cli_folders.specs.Paths.{count_of, folders_at, identity};
+ghost use Rattle.cli_support.specs.declared.fault.Fault.TheVariants.{Library};
 
 use crate::files::{
     all_names_in, digest_at, fault_at, fault_of, is_file_and_no_link, names_in, path_of, text_at,
 };
-use crate::manifest::{manifest_path, put_manifest, table_at, text_in};
+use crate::manifest::{manifest_path, put_manifests, table_at, text_in};
 use cargo_lock_licenses::Manifest;
 use cargo_lock_parts::Error;
 use cargo_lock_parts::package::{Checksum, Package};
@@ -33,7 +38,9 @@ impl Vendor {
     /// Reads the manifests of the folders in a folder. A folder whose name begins with a dot, one
     /// without a manifest, one whose manifest is a link, and one whose manifest has no name and no
     /// version are left out, and so is a link. Fails if a folder or a manifest is not read.
-    pub fn of<R: Files + AllocGlobal>(rt: &R, folder: &str) -> Result<Vendor, Fault> {
+    pub fn of<R: Files + AllocGlobal>(rt: &R, folder: &str) -> Result<Vendor, Fault>
+        ensures { IfErr result (IsOfFolder folder.now) }
+    {
         let mut vendor = Vendor {
             folders: BTreeMap::new(rt.alloc()),
         };
@@ -46,7 +53,9 @@ impl Vendor {
     }
 
     /// Adds what is at a path, if it is a folder with a manifest.
-    fn put<R: Files + AllocGlobal>(&mut self, rt: &R, path: String) -> Result<(), Fault> {
+    fn put<R: Files + AllocGlobal>(&mut self, rt: &R, path: String) -> Result<(), Fault>
+        ensures { IfErr result (IsOfFolder (string_bytes path)) }
+    {
         let manifest = manifest_path(rt.alloc(), &path)?;
         if kind_at(rt, &path)? != Kind::Folder || !is_file_and_no_link(rt, &manifest) {
             return Ok(());
@@ -58,7 +67,9 @@ impl Vendor {
     }
 
     /// Adds the path of a folder of this name and version.
-    fn put_path(&mut self, alloc: Global, identity: String, path: String) -> Result<(), Fault> {
+    fn put_path(&mut self, alloc: Global, identity: String, path: String) -> Result<(), Fault>
+        ensures { IsOkUnless result (Library Memory) }
+    {
         if let Some(paths) = self.folders.get_mut(identity.as_str()) {
             paths.push(path)?;
             return Ok(());
@@ -70,7 +81,9 @@ impl Vendor {
     }
 
     /// Whether no folder has a manifest.
-    pub fn is_empty(&self) -> bool {
+    pub fn is_empty(&self) -> bool
+        ensures { IsTrue result ↔ (count_of self.now ≡ 0) }
+    {
         self.folders.is_empty()
     }
 
@@ -80,7 +93,11 @@ impl Vendor {
         rt: &R,
         package: &Package,
     ) -> Result<Vec<Folder>, Fault>
-        ensures { IfOk result (λ folders. «package».now.source ≡ None → folders.items ≡ []) }
+        ensures none { IfOk result (λ folders. «package».now.source ≡ None → folders.items ≡ []) }
+        ensures paths { IfOk result (λ folders. «package».now.source ≢ None
+            → map (λ folder. string_bytes folder.path) folders.items
+            ≡ folders_at self.now (identity «package».now)) }
+        ensures err { IfErr result (IsOfAny (folders_at self.now (identity «package».now))) }
     {
         let mut folders = Vec::new(rt.alloc());
         if package.source.is_none() {
@@ -88,9 +105,7 @@ impl Vendor {
         }
         let identity = identity_of(rt.alloc(), package)?;
         if let Some(paths) = self.folders.get(identity.as_str()) {
-            for path in paths {
-                folders.push(folder_at(rt, path)?)?;
-            }
+            put_folders(rt, &mut folders, paths)?;
         }
         Ok(folders)
     }
@@ -101,30 +116,35 @@ impl Vendor {
         rt: &R,
         package: &Package,
     ) -> Result<Vec<Manifest>, Fault>
-        ensures { IfOk result (λ manifests. «package».now.source ≡ None → manifests.items ≡ []) }
+        ensures none { IfOk result
+            (λ manifests. «package».now.source ≡ None → manifests.items ≡ []) }
+        ensures err { IfErr result (IsOfAny (folders_at self.now (identity «package».now))) }
     {
         let mut manifests = Vec::new(rt.alloc());
         if package.source.is_none() {
             return Ok(manifests);
         }
-        if let Some(paths) = self.folders.get(identity_of(rt.alloc(), package)?.as_str()) {
-            for path in paths {
-                put_manifest(rt, &mut manifests, path)?;
-            }
+        let identity = identity_of(rt.alloc(), package)?;
+        if let Some(paths) = self.folders.get(identity.as_str()) {
+            put_manifests(rt, &mut manifests, paths)?;
         }
         Ok(manifests)
     }
 }
 
 /// The name and the version of a package.
-fn identity_of(alloc: Global, package: &Package) -> Result<String, AllocError> {
+fn identity_of(alloc: Global, package: &Package) -> Result<String, AllocError>
+    ensures { IfOk result (λ text. string_bytes text ≡ identity «package».now) }
+{
     let name = &package.name;
     let version = &package.version;
     format!(in alloc; "{name} {version}")
 }
 
 /// The name and the version that the manifest at a path has.
-fn identity_at<R: Files + AllocGlobal>(rt: &R, path: &str) -> Result<Option<String>, Fault> {
+fn identity_at<R: Files + AllocGlobal>(rt: &R, path: &str) -> Result<Option<String>, Fault>
+    ensures { IfErr result (IsOfFile path.now) }
+{
     let table = table_at(rt, path)?;
     let identity = identity_in(rt.alloc(), &table)?;
     Ok(identity)
@@ -157,7 +177,9 @@ enum Kind {
 }
 
 /// What is at a path. A link is not followed.
-fn kind_at<R: Files + AllocGlobal>(rt: &R, path: &str) -> Result<Kind, Fault> {
+fn kind_at<R: Files + AllocGlobal>(rt: &R, path: &str) -> Result<Kind, Fault>
+    ensures { IfErr result (IsOfFile path.now) }
+{
     match fs::symlink_metadata(rt, Path::new(path)) {
         Ok(found) if found.is_file() => Ok(Kind::File),
         Ok(found) if found.is_dir() => Ok(Kind::Folder),
@@ -167,8 +189,28 @@ fn kind_at<R: Files + AllocGlobal>(rt: &R, path: &str) -> Result<Kind, Fault> {
     }
 }
 
+/// Adds the folders at these paths.
+fn put_folders<R: Files + AllocGlobal>(
+    rt: &R,
+    folders: &mut Vec<Folder>,
+    paths: &[String],
+) -> Result<(), Fault>
+    ensures ok { OnOk result (map (λ folder. string_bytes folder.path) folders.new.items
+        ≡ map (λ folder. string_bytes folder.path) folders.old.items
+        ++ map string_bytes paths.now) }
+    ensures err { IfErr result (IsOfAny (map string_bytes paths.now)) }
+{
+    for path in paths {
+        folders.push(folder_at(rt, path)?)?;
+    }
+    Ok(())
+}
+
 /// The list of the folder at a path, and the files and links in it.
-fn folder_at<R: Files + AllocGlobal>(rt: &R, path: &str) -> Result<Folder, Fault> {
+fn folder_at<R: Files + AllocGlobal>(rt: &R, path: &str) -> Result<Folder, Fault>
+    ensures ok { IfOk result (λ folder. string_bytes folder.path ≡ path.now) }
+    ensures err { IfErr result (IsOfFolder path.now) }
+{
     let mut folder = Folder {
         path: String::from_str(rt.alloc(), path)?,
         archive: None,
@@ -182,7 +224,10 @@ fn folder_at<R: Files + AllocGlobal>(rt: &R, path: &str) -> Result<Folder, Fault
 }
 
 /// Adds what is in the folder, and in each folder in it.
-fn put_all_files<R: Files + AllocGlobal>(rt: &R, folder: &mut Folder) -> Result<(), Fault> {
+fn put_all_files<R: Files + AllocGlobal>(rt: &R, folder: &mut Folder) -> Result<(), Fault>
+    ensures kept { folder.new.path ≡ folder.old.path }
+    ensures err { IfErr result (IsOfFolder (string_bytes folder.old.path)) }
+{
     let mut waiting = Vec::new(rt.alloc());
     waiting.push(String::new(rt.alloc()))?;
     for _ in 0..u64::MAX {
@@ -200,7 +245,10 @@ fn put_files_in<R: Files + AllocGlobal>(
     folder: &mut Folder,
     waiting: &mut Vec<String>,
     inner: &str,
-) -> Result<(), Fault> {
+) -> Result<(), Fault>
+    ensures kept { folder.new.path ≡ folder.old.path }
+    ensures err { IfErr result (IsOfFolder (string_bytes folder.old.path)) }
+{
     let at = joined(rt.alloc(), &folder.path, inner)?;
     for name in &all_names_in(rt, &at)? {
         let path = joined(rt.alloc(), inner, name)?;
@@ -210,7 +258,9 @@ fn put_files_in<R: Files + AllocGlobal>(
 }
 
 /// The path of what is at a path in a folder, where one of the two may be empty.
-fn joined(alloc: Global, folder: &str, path: &str) -> Result<String, AllocError> {
+fn joined(alloc: Global, folder: &str, path: &str) -> Result<String, AllocError>
+    ensures { IfOk result (λ all. (rest : List ℕ) × (string_bytes all ≡ folder.now ++ rest)) }
+{
     if folder.is_empty() {
         String::from_str(alloc, path)
     } else if path.is_empty() {
@@ -226,7 +276,10 @@ fn put_at<R: Files + AllocGlobal>(
     folder: &mut Folder,
     waiting: &mut Vec<String>,
     path: String,
-) -> Result<(), Fault> {
+) -> Result<(), Fault>
+    ensures kept { folder.new.path ≡ folder.old.path }
+    ensures err { IfErr result (IsOfFolder (string_bytes folder.old.path)) }
+{
     let at = path_of(rt.alloc(), &folder.path, &path)?;
     match kind_at(rt, &at)? {
         Kind::Folder => waiting.push(path)?,
@@ -244,7 +297,10 @@ fn put_file<R: Files + AllocGlobal>(
     folder: &mut Folder,
     path: String,
     at: &str,
-) -> Result<(), Fault> {
+) -> Result<(), Fault>
+    ensures kept { folder.new.path ≡ folder.old.path }
+    ensures err { IfErr result (IsOfFile at.now) }
+{
     match digest_at(rt, at) {
         Ok(digest) => {
             folder.files.insert(path, digest)?;
@@ -257,7 +313,10 @@ fn put_file<R: Files + AllocGlobal>(
 // ---- the list of a folder
 
 /// Adds what the list of the folder says.
-fn put_list<R: Files + AllocGlobal>(rt: &R, folder: &mut Folder) -> Result<(), Fault> {
+fn put_list<R: Files + AllocGlobal>(rt: &R, folder: &mut Folder) -> Result<(), Fault>
+    ensures kept { folder.new.path ≡ folder.old.path }
+    ensures err { IfErr result (IsOfFolder (string_bytes folder.old.path)) }
+{
     let path = path_of(rt.alloc(), &folder.path, LIST)?;
     if kind_at(rt, &path)? != Kind::File {
         return Err(fault_of(rt.alloc(), &path, "it is no file"));
@@ -271,7 +330,10 @@ fn put_list<R: Files + AllocGlobal>(rt: &R, folder: &mut Folder) -> Result<(), F
 }
 
 /// Adds what this list says.
-fn put_list_of(alloc: Global, folder: &mut Folder, path: &str, list: &Value) -> Result<(), Fault> {
+fn put_list_of(alloc: Global, folder: &mut Folder, path: &str, list: &Value) -> Result<(), Fault>
+    ensures kept { folder.new.path ≡ folder.old.path }
+    ensures err { IfErr result (IsOfFile path.now) }
+{
     folder.archive = archive_in(alloc, path, list)?;
     let files = match list.get("files").and_then(Value::as_object) {
         Some(files) => files,
@@ -288,7 +350,9 @@ fn put_list_of(alloc: Global, folder: &mut Folder, path: &str, list: &Value) -> 
 }
 
 /// The digest of the archive in a list, if it has one.
-fn archive_in(alloc: Global, path: &str, list: &Value) -> Result<Option<Checksum>, Fault> {
+fn archive_in(alloc: Global, path: &str, list: &Value) -> Result<Option<Checksum>, Fault>
+    ensures { IfErr result (IsOfFile path.now) }
+{
     match list.get("package") {
         Some(Value::Null) | None => Ok(None),
         Some(digest) => Ok(Some(digest_in(alloc, path, digest)?)),
@@ -296,7 +360,9 @@ fn archive_in(alloc: Global, path: &str, list: &Value) -> Result<Option<Checksum
 }
 
 /// The digest that a value of a list is.
-fn digest_in(alloc: Global, path: &str, digest: &Value) -> Result<Checksum, Fault> {
+fn digest_in(alloc: Global, path: &str, digest: &Value) -> Result<Checksum, Fault>
+    ensures { IfErr result (IsOfFile path.now) }
+{
     let text = digest.as_str().unwrap_or("");
     match Checksum::from_str(alloc, text) {
         Ok(digest) => Ok(digest),

@@ -1,11 +1,14 @@
 //! The lockfiles that the arguments name.
-ghost use Rattle.std.specs.Prelude.{◌≡◌, IfErr, IfOk, List, ℕ};
+ghost use Rattle.std.specs.Prelude.{◌≡◌, [], IfErr, IfOk, codes};
 ghost use Rattle.clap.specs.Matches.{found_of};
 ghost use Rattle.cargo_lock.specs.Loads.{IsMeant};
 ghost use Rattle.cargo_lock_encoding.specs.Means.{TextMeans};
+ghost use Rattle.cargo_lock_graph.specs.Targets.{IsUnresolved, links};
 ghost use Rattle.cli_lockfiles.specs.Json.{file_of};
-ghost use Rattle.cli_lockfiles.specs.Load.{IsCompared, IsGraphOf, IsOfLockfile};
-ghost use Rattle.cli_lockfiles.specs.Load.{IsOfLockfileUnnamed, IsRead};
+ghost use Rattle.cli_lockfiles.specs.Load.{IsCompared, IsComparedOf, IsGraphOf, IsOfGraph};
+ghost use Rattle.cli_lockfiles.specs.Load.{IsOfLockfile, IsOfLockfileUnnamed, IsOfNamedLockfile};
+ghost use Rattle.cli_lockfiles.specs.Load.{IsOfNamedText, IsOfRefusedText, IsOfText, IsRead};
+ghost use Rattle.cli_lockfiles.specs.Load.{IsWithName};
 ghost use Rattle.cli_support.specs.Input.{given_path_in};
 
 use cargo_lock::dependency::graph::Graph;
@@ -52,8 +55,7 @@ fn unnamed_lockfile<R: Files + Input + AllocGlobal>(
 
 fn lockfile_of(alloc: Global, text: &str) -> Result<Lockfile, Fault>
     ensures ok { IfOk result (TextMeans text.now) }
-    ensures err { IfErr result (λ fault. (argument : List ℕ)
-        → IsOfLockfileUnnamed argument fault) }
+    ensures err { IfErr result (IsOfText text.now) }
 {
     match Lockfile::from_str(alloc, text) {
         Ok(lockfile) => Ok(lockfile),
@@ -68,7 +70,8 @@ pub fn named_lockfile<R: Files + Input + AllocGlobal>(
     options: &ArgMatches<'_>,
     name: &str,
 ) -> Result<Lockfile, Fault>
-    ensures { IfOk result IsMeant }
+    ensures ok { IfOk result IsMeant }
+    ensures err { IfErr result (IsOfNamedLockfile (given_path_in (found_of options.now) name.now)) }
 {
     match lockfile(rt, options, name) {
         Ok(lockfile) => Ok(lockfile),
@@ -83,7 +86,8 @@ pub fn compared_lockfile<R: Files + Input + AllocGlobal>(
     options: &ArgMatches<'_>,
     name: &str,
 ) -> Result<Lockfile, Fault>
-    ensures { IfOk result IsCompared }
+    ensures ok { IfOk result IsCompared }
+    ensures err { IfErr result (IsOfNamedLockfile (given_path_in (found_of options.now) name.now)) }
 {
     let lockfile = named_lockfile(rt, options, name)?;
     let compared = lockfile.with_cargo_checksums(rt.alloc())?;
@@ -92,7 +96,9 @@ pub fn compared_lockfile<R: Files + Input + AllocGlobal>(
 
 /// The lockfile of an empty text, which has no packages.
 pub fn lockfile_without_packages(alloc: Global) -> Result<Lockfile, Fault>
-    ensures { IfOk result IsCompared }
+    ensures ok { IfOk result IsCompared }
+    ensures empty { IfOk result (IsComparedOf []) }
+    ensures err { IfErr result (IsOfText []) }
 {
     let lockfile = lockfile_of(alloc, "")?;
     let compared = lockfile.with_cargo_checksums(alloc)?;
@@ -105,7 +111,8 @@ pub fn named_graph<R: Files + Input + AllocGlobal>(
     rt: &R,
     options: &ArgMatches<'_>,
 ) -> Result<(ResolveVersion, Graph), Fault>
-    ensures { IfOk result (λ read. IsRead read.0 read.1) }
+    ensures ok { IfOk result (λ read. IsRead read.0 read.1) }
+    ensures err { IfErr result (IsOfGraph (given_path_in (found_of options.now) (codes "file"))) }
 {
     let lockfile = named_lockfile(rt, options, "file")?;
     let format = lockfile.version;
@@ -115,7 +122,8 @@ pub fn named_graph<R: Files + Input + AllocGlobal>(
 
 /// The graph of the lockfile's packages. Fails if no package matches a dependency.
 pub fn graph_of(alloc: Global, lockfile: Lockfile) -> Result<Graph, Error>
-    ensures { IfOk result (λ graph. IsGraphOf lockfile graph) }
+    ensures ok { IfOk result (λ graph. IsGraphOf lockfile graph) }
+    ensures err { IfErr result (IsUnresolved lockfile.packages (links lockfile.packages)) }
 {
     lockfile.into_graph(alloc)
 }
@@ -126,7 +134,9 @@ pub fn named_text<R: Files + Input + AllocGlobal>(
     rt: &R,
     options: &ArgMatches<'_>,
     name: &str,
-) -> Result<String, Fault> {
+) -> Result<String, Fault>
+    ensures { IfErr result (IsOfNamedText (given_path_in (found_of options.now) name.now)) }
+{
     match words::text(rt, options, name) {
         Ok(text) => Ok(text),
         Err(fault) => Err(named(rt.alloc(), options, name, fault).with_file_first()),
@@ -141,7 +151,9 @@ pub fn named_lockfile_of(
     name: &str,
     text: &str,
 ) -> Result<Lockfile, Fault>
-    ensures { IfOk result (TextMeans text.now) }
+    ensures ok { IfOk result (TextMeans text.now) }
+    ensures err { IfErr result
+        (IsOfRefusedText (given_path_in (found_of options.now) name.now) text.now) }
 {
     match lockfile_of(alloc, text) {
         Ok(lockfile) => Ok(lockfile),
@@ -171,8 +183,7 @@ pub fn file_in<'a>(options: &ArgMatches<'a>, name: &str, format: ResolveVersion)
 
 /// The error with the path of the option or argument `name`, or out of memory.
 fn named(alloc: Global, options: &ArgMatches<'_>, name: &str, fault: Fault) -> Fault
-    ensures { IsOfLockfileUnnamed (given_path_in (found_of options.now) name.now) fault
-        → IsOfLockfile (given_path_in (found_of options.now) name.now) result }
+    ensures { IsWithName (given_path_in (found_of options.now) name.now) fault result }
 {
     match words::input_shown(alloc, options, name) {
         Ok(path) => fault.in_file(path),

@@ -1,5 +1,5 @@
-use Rattle.cli_lockfiles.proofs.Names.{named-of-lockfile}
+use Rattle.std.proofs.Common.{inr}
 use Rattle.cli_lockfiles.proofs.load.named.Goals as goal
 
 pub returns-in-Ok : goal.returns-in-Ok
-returns-in-Ok c = λ of. rw c.in_file.ensures (named-of-lockfile _ _ _ c.in-Ok.ensures of)
+returns-in-Ok c = inr (c.in-Ok.path, c.in-Ok.ensures, c.in_file.ensures)

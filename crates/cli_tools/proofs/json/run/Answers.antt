@@ -3,4 +3,4 @@ use Rattle.cli_tools.proofs.json.run.Goals as goal
 
 pub returns : goal.returns
 returns g c = on_ok_weaken c.print_document.result _ _
-    (λ printed. (c.in_ok-lockfile.lockfile, c.in_ok-lockfile.ensures, printed)) c.print_document.ensures
+    (λ printed. (c.in_ok-lockfile.lockfile, c.in_ok-lockfile.ensures.ok, printed)) c.print_document.ensures

@@ -6,7 +6,7 @@ returns g c =
     if_ok_weaken c.report.result _ _ (λ status told. (
       c.in_ok-old.old,
       c.in_ok-new.new,
-      c.in_ok-old.ensures,
-      c.in_ok-new.ensures,
+      c.in_ok-old.ensures.ok,
+      c.in_ok-new.ensures.ok,
       told,
     )) c.report.ensures

@@ -1,0 +1,3 @@
+pub mod Advisories
+pub mod Files
+pub mod Paths
