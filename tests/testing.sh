@@ -112,3 +112,13 @@ finish() {
     echo "$passed passed, $failed failed$left_out"
     exit $((failed > 0 || passed + ${#skipped[@]} == 0))
 }
+
+# The JSON of the origin of this source, which is that of a registry, with an index in git or a sparse
+# one.
+origin_json() {
+    local kind=registry is_crates_io=false
+    [[ "$1" != sparse+* ]] || kind=sparse-registry
+    [ "$1" != registry+https://github.com/rust-lang/crates.io-index ] || is_crates_io=true
+    printf '{"kind":"%s","url":"%s","reference":null,"precise":null,"crates_io":%s}' "$kind" \
+        "${1#*+}" $is_crates_io
+}

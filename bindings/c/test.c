@@ -358,16 +358,21 @@ static const char cyclic[] = "version = 3\n"
                              "dependencies = [\"left 1.0.0\"]\n";
 
 #define WITHOUT_SOURCE(name, version)                                                             \
-    "{\"name\":\"" name "\",\"version\":\"" version "\",\"source\":null,\"checksum\":null}"
+    "{\"name\":\"" name "\",\"version\":\"" version                                              \
+    "\",\"source\":null,\"origin\":null,\"checksum\":null}"
+#define FROM_CRATES_IO                                                                            \
+    "\"source\":\"" CRATES_IO "\",\"origin\":{\"kind\":\"registry\","                               \
+    "\"url\":\"https://github.com/rust-lang/crates.io-index\",\"reference\":null,"                \
+    "\"precise\":null,\"crates_io\":true},"
 #define WHY(answers)                                                                              \
-    "{\"schema\":\"cargo-lock-why/1\",\"path\":\"-\",\"format\":3,\"answers\":[" answers "]}\n"
+    "{\"schema\":\"cargo-lock-why/1\",\"path\":null,\"format\":3,\"answers\":[" answers "]}\n"
 #define NAMES(groups)                                                                             \
-    "{\"schema\":\"cargo-lock-duplicates/1\",\"path\":\"-\",\"format\":3,\"names\":[" groups "]}\n"
+    "{\"schema\":\"cargo-lock-duplicates/1\",\"path\":null,\"format\":3,\"names\":[" groups "]}\n"
 
 /* Why `left` is there, in the lockfile of two packages and in that of a cycle, and what has its
  * name there. */
 static const char why_of_two[] =
-    WHY("{\"package\":{\"name\":\"left\",\"version\":\"1.0.0\",\"source\":\"" CRATES_IO "\","
+    WHY("{\"package\":{\"name\":\"left\",\"version\":\"1.0.0\"," FROM_CRATES_IO
         "\"checksum\":\"" CHECKSUM "\"},\"needed_by\":[" WITHOUT_SOURCE("app", "0.1.0") "]}");
 static const char why_of_cycle[] =
     WHY("{\"package\":" WITHOUT_SOURCE("left", "1.0.0") ",\"needed_by\":[]},"
@@ -375,24 +380,24 @@ static const char why_of_cycle[] =
 static const char names_of_cycle[] =
     NAMES("{\"name\":\"left\",\"packages\":["
           "{\"package\":" WITHOUT_SOURCE("left", "1.0.0") ",\"needed_by\":[{\"name\":\"right\","
-          "\"version\":\"1.0.0\",\"source\":\"" CRATES_IO "\",\"checksum\":null}]},"
+          "\"version\":\"1.0.0\"," FROM_CRATES_IO "\"checksum\":null}]},"
           "{\"package\":" WITHOUT_SOURCE("left", "2.0.0") ",\"needed_by\":[]}]}");
 
 /* The documents of the lockfile of two packages, and of one whose dependency no package fits. */
 #define LOCKFILE(format, packages)                                                                \
-    "{\"schema\":\"cargo-lock-lockfile/1\",\"format\":" format ",\"packages\":[" packages        \
+    "{\"schema\":\"cargo-lock-lockfile/1\",\"path\":null,\"format\":" format                          \
+    ",\"packages\":[" packages                                                                       \
     "],\"root\":null,\"metadata\":{},\"patch\":{\"unused\":[]}}\n"
 #define APP_NEEDS(places, lost)                                                                   \
-    "{\"name\":\"app\",\"version\":\"0.1.0\",\"source\":null,\"checksum\":null,"                   \
-    "\"dependencies\":[" places "],\"unresolved\":[" lost "],\"replace\":null}"
+    "{\"name\":\"app\",\"version\":\"0.1.0\",\"source\":null,\"origin\":null,"                     \
+    "\"checksum\":null,\"dependencies\":[" places "],\"unresolved\":[" lost "],\"replace\":null}"
 static const char json_of_two[] =
-    LOCKFILE("3", APP_NEEDS("1", "") ",{\"name\":\"left\",\"version\":\"1.0.0\",\"source\":{"
-             "\"text\":\"" CRATES_IO "\",\"kind\":\"registry\","
-             "\"url\":\"https://github.com/rust-lang/crates.io-index\",\"reference\":null,"
-             "\"precise\":null,\"crates_io\":true},\"checksum\":\"" CHECKSUM "\","
+    LOCKFILE("3", APP_NEEDS("1", "") ",{\"name\":\"left\",\"version\":\"1.0.0\","
+             FROM_CRATES_IO "\"checksum\":\"" CHECKSUM "\","
              "\"dependencies\":[],\"unresolved\":[],\"replace\":null}");
 static const char json_of_lost[] = LOCKFILE(
-    "3", APP_NEEDS("", "{\"name\":\"left\",\"version\":\"1.0.0\",\"source\":null}"));
+    "3", APP_NEEDS("", "{\"name\":\"left\",\"version\":\"1.0.0\",\"source\":null,"
+                         "\"origin\":null}"));
 
 static void ask_documents(text third, text none)
 {

@@ -330,9 +330,16 @@ source = "git+ssh://b@example.org/left"
 
 
 class Documents(unittest.TestCase):
-    HEAD = '"path":"-","format":3'
-    APP = '{"name":"app","version":"0.1.0","source":null,"checksum":null}'
-    LEFT = f'{{"name":"left","version":"1.0.0","source":"{CRATES_IO}","checksum":"{CHECKSUM}"}}'
+    HEAD = '"path":null,"format":3'
+    ORIGIN = (
+        '{"kind":"registry","url":"https://github.com/rust-lang/crates.io-index","reference":null,'
+        '"precise":null,"crates_io":true}'
+    )
+    APP = '{"name":"app","version":"0.1.0","source":null,"origin":null,"checksum":null}'
+    LEFT = (
+        f'{{"name":"left","version":"1.0.0","source":"{CRATES_IO}","origin":{ORIGIN},'
+        f'"checksum":"{CHECKSUM}"}}'
+    )
 
     def test_why_a_package_is_there(self):
         wanted = (

@@ -17,14 +17,14 @@ import tests
 
 MODULE = f"{HERE}/out/operations.bc"
 # The libraries that the operations name.
-NAMED = ["cli", "cli_lockfiles", "cli_views", "cli_tools", "cli_support", "cargo_lock"]
+NAMED = ["cli", "cli_input", "cli_lockfile_commands", "cli_folder_commands", "cli_support", "cargo_lock"]
 NAMED += ["cargo_lock_graph", "cargo_lock_encoding", "cargo_lock_lines"]
 NAMED += ["cargo_lock_references", "cargo_lock_parts", "cargo_lock_bom", "cargo_lock_check"]
 NAMED += ["cargo_lock_flaws"]
-NAMED += ["cargo_lock_diff", "cargo_lock_json", "cargo_lock_ask", "cargo_lock_merge"]
-NAMED += ["cargo_lock_merging", "cargo_lock_picture", "cargo_lock_verify"]
-NAMED += ["cargo_lock_audit", "cargo_lock_licenses", "cli_folders", "json_line"]
-NAMED += ["cargo_lock_document", "cargo_lock_index", "cargo_lock_order", "cargo_lock_findings"]
+NAMED += ["cargo_lock_diff", "cargo_lock_display", "cargo_lock_query", "cargo_lock_merge"]
+NAMED += ["cargo_lock_merge_core", "cargo_lock_diagram", "cargo_lock_verify"]
+NAMED += ["cargo_lock_audit", "cargo_lock_licenses", "cli_folders", "printing"]
+NAMED += ["cargo_lock_json", "cargo_lock_index", "cargo_lock_order"]
 NAMED += ["semver", "url", "toml", "serde", "serde_json", "uuid"]
 # The crate whose exports are called. Its private modules are public in the copy that is lowered.
 EXPORTING = "cargo_lock_c"

@@ -21,6 +21,7 @@ QUICK = [
     of("record", "tests/edits/run --holds", [], "the lines of the record of edits hold"),
     of("contracts", "tools/contracts --check", [], "contracts are as docs/CONTRACTS has them"),
     of("copies", "tools/copies --check", [], "nothing more stands in several places"),
+    of("architecture", "tools/architecture --check", [], "the tables of crates and files are true"),
     of("examples", "tools/examples", [], "the examples of comments are in programs that run"),
     of("english", "tools/english", [], "plain words on the pages"),
     of("calls", "tests/rows/calls", [], "the table of calls of rows has each call"),

@@ -164,7 +164,7 @@ def _package(index: int, document: dict[str, Any]) -> Package:
         index=index,
         name=document["name"],
         version=document["version"],
-        source=_source(document["source"]),
+        source=_source(document),
         checksum=document["checksum"],
         dependencies=tuple(document["dependencies"]),
         unresolved=tuple(_dependency(it) for it in document["unresolved"]),
@@ -173,19 +173,20 @@ def _package(index: int, document: dict[str, Any]) -> Package:
 
 
 def _dependency(document: dict[str, Any]) -> Dependency:
-    return Dependency(document["name"], document["version"], _source(document["source"]))
+    return Dependency(document["name"], document["version"], _source(document))
 
 
-def _source(document: Optional[dict[str, Any]]) -> Optional[Source]:
-    if document is None:
+def _source(document: dict[str, Any]) -> Optional[Source]:
+    origin = document["origin"]
+    if origin is None:
         return None
     return Source(
-        text=document["text"],
-        kind=document["kind"],
-        url=document["url"],
-        reference=_reference(document["reference"]),
-        precise=document["precise"],
-        crates_io=document["crates_io"],
+        text=document["source"],
+        kind=origin["kind"],
+        url=origin["url"],
+        reference=_reference(origin["reference"]),
+        precise=origin["precise"],
+        crates_io=origin["crates_io"],
     )
 
 

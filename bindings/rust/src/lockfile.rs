@@ -248,7 +248,7 @@ fn package(mut document: Value) -> Option<Package> {
     Some(Package {
         name: document.take("name")?.string()?,
         version: document.take("version")?.string()?,
-        source: document.take("source")?.optional(source)?,
+        source: source(&mut document)?,
         checksum: document.take("checksum")?.optional(Value::string)?,
         dependencies: document.take("dependencies")?.list(Value::number)?,
         unresolved: document.take("unresolved")?.list(dependency)?,
@@ -260,19 +260,25 @@ fn dependency(mut document: Value) -> Option<Dependency> {
     Some(Dependency {
         name: document.take("name")?.string()?,
         version: document.take("version")?.string()?,
-        source: document.take("source")?.optional(source)?,
+        source: source(&mut document)?,
     })
 }
 
-fn source(mut document: Value) -> Option<Source> {
-    Some(Source {
-        text: document.take("text")?.string()?,
-        kind: kind(&document.take("kind")?.string()?)?,
-        url: document.take("url")?.string()?,
-        reference: document.take("reference")?.optional(reference)?,
-        precise: document.take("precise")?.optional(Value::string)?,
-        crates_io: document.take("crates_io")?.bool()?,
-    })
+// The source of a package or a dependency, by the members `source` and `origin`.
+fn source(document: &mut Value) -> Option<Option<Source>> {
+    let text = document.take("source")?.optional(Value::string)?;
+    let origin = document.take("origin")?.optional(Some)?;
+    let (Some(text), Some(mut origin)) = (text, origin) else {
+        return Some(None);
+    };
+    Some(Some(Source {
+        text,
+        kind: kind(&origin.take("kind")?.string()?)?,
+        url: origin.take("url")?.string()?,
+        reference: origin.take("reference")?.optional(reference)?,
+        precise: origin.take("precise")?.optional(Value::string)?,
+        crates_io: origin.take("crates_io")?.bool()?,
+    }))
 }
 
 fn kind(text: &str) -> Option<Kind> {

@@ -160,10 +160,16 @@ fn bills() {
 
 #[test]
 fn reasons() {
-    let app = "{\"name\":\"app\",\"version\":\"0.1.0\",\"source\":null,\"checksum\":null}";
-    let source = format!("\"source\":\"{CRATES_IO}\",\"checksum\":\"{}\"", checksum());
+    let app = "{\"name\":\"app\",\"version\":\"0.1.0\",\"source\":null,\"origin\":null,\
+               \"checksum\":null}";
+    let origin = "{\"kind\":\"registry\",\"url\":\"https://github.com/rust-lang/crates.io-index\",\
+                  \"reference\":null,\"precise\":null,\"crates_io\":true}";
+    let source = format!(
+        "\"source\":\"{CRATES_IO}\",\"origin\":{origin},\"checksum\":\"{}\"",
+        checksum()
+    );
     let left = format!("{{\"name\":\"left\",\"version\":\"1.0.0\",{source}}}");
-    let head = "{\"schema\":\"cargo-lock-why/1\",\"path\":\"-\",\"format\":3,\"answers\":";
+    let head = "{\"schema\":\"cargo-lock-why/1\",\"path\":null,\"format\":3,\"answers\":";
     let of_left = format!("{head}[{{\"package\":{left},\"needed_by\":[{app}]}}]}}\n");
     let of_app = format!("{head}[{{\"package\":{app},\"needed_by\":[]}}]}}\n");
     assert_eq!(why(lockfile(), "left", false), Ok(of_left.clone()));
@@ -177,12 +183,13 @@ fn reasons() {
 
 #[test]
 fn names_of_several_packages() {
-    let head = "{\"schema\":\"cargo-lock-duplicates/1\",\"path\":\"-\",\"format\":3,\"names\":";
+    let head = "{\"schema\":\"cargo-lock-duplicates/1\",\"path\":null,\"format\":3,\"names\":";
     assert_eq!(duplicates(lockfile()), Ok(format!("{head}[]}}\n")));
     let one = |version| format!("[[package]]\nname = \"a\"\nversion = \"{version}\"\n");
     let listed = |version| {
-        let package = format!("\"name\":\"a\",\"version\":\"{version}\"");
-        format!("{{\"package\":{{{package},\"source\":null,\"checksum\":null}},\"needed_by\":[]}}")
+        let name = format!("\"name\":\"a\",\"version\":\"{version}\"");
+        let package = format!("{{{name},\"source\":null,\"origin\":null,\"checksum\":null}}");
+        format!("{{\"package\":{package},\"needed_by\":[]}}")
     };
     let text = format!("version = 3\n{}{}", one("1.0.0"), one("2.0.0"));
     let both = format!("{},{}", listed("1.0.0"), listed("2.0.0"));

@@ -1,5 +1,5 @@
 -- What is found is exactly what the relations say.
-use Rattle.std.proofs.Common.{◌≡◌, ◌⊎◌, ◌&&◌, ◌||◌, ◌++◌, ℕ, Bool, true, false, true≢false, cond, filter, List, [], ◌∷◌, Option, None, Some, is_none, is_some, not, refl, ap, sym, ◌∙◌, inl, inr, subst, if◌then◌else◌, bytes_eq, codes}
+use Rattle.std.proofs.Common.{◌≡◌, ◌⊎◌, ◌&&◌, ◌||◌, ◌++◌, ℕ, Bool, true, false, true≢false, cond, filter, List, [], ◌∷◌, Option, None, Some, is_some, not, refl, ap, sym, ◌∙◌, inl, inr, subst, if◌then◌else◌, bytes_eq, codes}
 use Rattle.std.specs.List.{Contains, list_any}
 use Rattle.std.proofs.lemmas.Slice.Eq.{bytes_eq-Decides}
 use Rattle.std.proofs.lemmas.Option.{same_Some}
@@ -8,12 +8,14 @@ use Rattle.std.proofs.lemmas.List.Folds.{list_any-append}
 use Rattle.semver.specs.Parse.{Parts}
 use Rattle.cargo_lock_parts.specs.Identity.{PackageData}
 use Rattle.cargo_lock_parts.specs.Source.{Source}
-use Rattle.cargo_lock_audit.specs.Advisory.{AdvisoryData, ConcernIsExact, Concerns, LiesIn, affects, concerns, is_about_crates, is_crates_io, is_of_collection}
-use Rattle.cargo_lock_audit.specs.Findings.{FindingData, FindingsAreExact, IgnoringLeavesOut, NoneIfUnconcerned, NoneWithoutCratesIo}
-use Rattle.cargo_lock_audit.specs.Findings.{finding_if, findings, findings_of, is_denied_kind, is_kept, is_listed, judged}
-use Rattle.cargo_lock_audit.specs.Pairs.{PairData, pair_if, pairs, pairs_of}
+use Rattle.cargo_lock_audit.specs.Advisory.{AdvisoryData, ConcernIsExact, Concerns, LiesIn, affects, affects_package, comes_from_crates_io, concerns, is_about_crates, is_of_collection, is_of_source}
+use Rattle.cargo_lock_audit.specs.Findings.{AdvisoryFindingData, AdvisoryFindingsAreExact, IgnoringLeavesOut, NoneIfUnconcerned, NoneWithoutCratesIo}
+use Rattle.cargo_lock_audit.specs.Findings.{advisory_findings, finding_if, findings_of, is_denied_kind, is_listed, is_not_ignored, judged}
+use Rattle.cargo_lock_audit.specs.Pairs.{PairData, advisory_pairs_of, pair_if, pairs}
 use Rattle.cargo_lock_audit.specs.Requirement.{RequirementData, lies_in, meets}
-use Rattle.cargo_lock_audit.proofs.Lists.{all-passes, and-both, any-none, any-one, first, from-flat, in-flat, is-false, no-element, no-elements, none-any, not-both, only, passes-all}
+use Rattle.lists.proofs.Members.{first-in as first, in-joined as in-flat, joined-in as from-flat, none-in as no-element}
+use Rattle.lists.proofs.Tests.{all-passes, and-both, any-none, any-one, is-false, none-any, not-both, not-true, only, passes-all}
+use Rattle.lists.proofs.Members.{none-left as no-elements}
 
 -- ---- requirements
 
@@ -32,11 +34,11 @@ is-outside v rs h = ap not (none-any (lies_in v) rs
 
 -- ---- what an advisory is about
 
-source-is : (s : Option Source) → (is_none s || is_crates_io s) ≡ true → (s ≡ None) ⊎ (is_crates_io s ≡ true)
+source-is : (s : Option Source) → is_of_source s ≡ true → (s ≡ None) ⊎ (comes_from_crates_io s ≡ true)
 source-is None e = inl refl
 source-is (Some s) e = inr e
 
-is-source : (s : Option Source) → (s ≡ None) ⊎ (is_crates_io s ≡ true) → (is_none s || is_crates_io s) ≡ true
+is-source : (s : Option Source) → (s ≡ None) ⊎ (comes_from_crates_io s ≡ true) → is_of_source s ≡ true
 is-source None h = refl
 is-source (Some s) (inl e) = absurd (true≢false (ap is_some e))
 is-source (Some s) (inr e) = e
@@ -50,28 +52,7 @@ is-collection None h = refl
 is-collection (Some c) (inl e) = absurd (true≢false (ap is_some e))
 is-collection (Some c) (inr e) = (bytes_eq-Decides c (codes "crates")).1 (same_Some c (codes "crates") e)
 
--- ---- five tests
-
-record Five (a b c d e : Bool) : Type 0 where
-  one : a ≡ true
-  two : b ≡ true
-  three : c ≡ true
-  four : d ≡ true
-  five : e ≡ true
-
-all-five : (a b c d e : Bool) → (a && b && c && d && e) ≡ true → Five a b c d e
-all-five false b c d e h = absurd (true≢false (sym h))
-all-five true false c d e h = absurd (true≢false (sym h))
-all-five true true false d e h = absurd (true≢false (sym h))
-all-five true true true false e h = absurd (true≢false (sym h))
-all-five true true true true e h = record { one = refl; two = refl; three = refl; four = refl; five = h }
-
-five-all : (a b c d e : Bool) → Five a b c d e → (a && b && c && d && e) ≡ true
-five-all false b c d e h = h.one
-five-all true false c d e h = h.two
-five-all true true false d e h = h.three
-five-all true true true false e h = h.four
-five-all true true true true e h = h.five
+-- ---- two tests
 
 record Two (a b : Bool) : Type 0 where
   one : a ≡ true
@@ -81,38 +62,35 @@ both : (a b : Bool) → (a && b) ≡ true → Two a b
 both false b h = absurd (true≢false (sym h))
 both true b h = record { one = refl; two = h }
 
-is-not : (b : Bool) → not b ≡ true → b ≡ false
-is-not true e = absurd (true≢false (sym e))
-is-not false e = refl
-
 pub concern-is-exact : ConcernIsExact
 concern-is-exact a p = (to, back)
   where
     to : concerns a p ≡ true → Concerns a p
-    to e = let h = all-five (is_crates_io p.source) (bytes_eq a.name p.name) (is_about_crates a) (not a.is_withdrawn) (affects a p.version) e in
-        let about = both (is_none a.source || is_crates_io a.source) (is_of_collection a.collection) h.three in
-        let off = both (not (list_any (lies_in p.version) a.patched)) (not (list_any (lies_in p.version) a.unaffected)) h.five in
+    to e = let h = both (affects_package a p) (is_about_crates a && comes_from_crates_io p.source) e in
+        let named = both (bytes_eq a.name p.name) (not a.is_withdrawn && affects a p.version) h.one in
+        let stays = both (not a.is_withdrawn) (affects a p.version) named.two in
+        let of = both (is_about_crates a) (comes_from_crates_io p.source) h.two in
+        let about = both (is_of_collection a.collection) (is_of_source a.source) of.one in
+        let off = both (not (list_any (lies_in p.version) a.patched)) (not (list_any (lies_in p.version) a.unaffected)) stays.two in
         record {
-          registry = h.one;
-          name = (bytes_eq-Decides a.name p.name).0 h.two;
-          source = source-is a.source about.one;
-          collection = collection-is a.collection about.two;
-          not_withdrawn = is-not a.is_withdrawn h.four;
+          registry = of.two;
+          name = (bytes_eq-Decides a.name p.name).0 named.one;
+          source = source-is a.source about.two;
+          collection = collection-is a.collection about.one;
+          not_withdrawn = not-true a.is_withdrawn stays.one;
           not_patched = outside p.version a.patched off.one;
           affected = outside p.version a.unaffected off.two;
         }
 
     back : Concerns a p → concerns a p ≡ true
-    back h = five-all (is_crates_io p.source) (bytes_eq a.name p.name) (is_about_crates a) (not a.is_withdrawn) (affects a p.version)
-        (record {
-          one = h.registry;
-          two = (bytes_eq-Decides a.name p.name).1 h.name;
-          three = and-both (is_none a.source || is_crates_io a.source) (is_of_collection a.collection)
-              (is-source a.source h.source) (is-collection a.collection h.collection);
-          four = ap not h.not_withdrawn;
-          five = and-both (not (list_any (lies_in p.version) a.patched)) (not (list_any (lies_in p.version) a.unaffected))
-              (is-outside p.version a.patched h.not_patched) (is-outside p.version a.unaffected h.affected);
-        })
+    back h = and-both (affects_package a p) (is_about_crates a && comes_from_crates_io p.source)
+        (and-both (bytes_eq a.name p.name) (not a.is_withdrawn && affects a p.version) ((bytes_eq-Decides a.name p.name).1 h.name)
+        (and-both (not a.is_withdrawn) (affects a p.version) (ap not h.not_withdrawn)
+        (and-both (not (list_any (lies_in p.version) a.patched)) (not (list_any (lies_in p.version) a.unaffected))
+        (is-outside p.version a.patched h.not_patched) (is-outside p.version a.unaffected h.affected))))
+        (and-both (is_about_crates a) (comes_from_crates_io p.source)
+        (and-both (is_of_collection a.collection) (is_of_source a.source) (is-collection a.collection h.collection) (is-source a.source h.source))
+        h.registry)
 
 -- ---- pairs and findings
 
@@ -129,7 +107,7 @@ to-pair : (p : PackageData) (a : AdvisoryData) → concerns a p ≡ true → Con
 to-pair p a e = let q : PairData = record { content = p; advisory = a } in
     subst (λ (b : Bool). Contains (if b then q ∷ [] else []) q) (sym e) (first q [])
 
-from-finding : (ignored denied : List (List ℕ)) (q : PairData) (f : FindingData) → Contains (finding_if ignored denied q) f
+from-finding : (ignored denied : List (List ℕ)) (q : PairData) (f : AdvisoryFindingData) → Contains (finding_if ignored denied q) f
     → (is_listed ignored q.advisory.id ≡ false) × (judged denied q ≡ f)
 from-finding ignored denied q f = by (is_listed ignored q.advisory.id) refl
   where
@@ -151,90 +129,90 @@ listed texts t e = let (x, there, same) = any-one (bytes_eq t) texts e in
     subst (λ y. Contains texts y) (sym ((bytes_eq-Decides t x).0 same)) there
 
 -- what is so of a finding
-abbrev IsSo : List PackageData → List AdvisoryData → List (List ℕ) → List (List ℕ) → FindingData → Type 0
+abbrev IsSo : List PackageData → List AdvisoryData → List (List ℕ) → List (List ℕ) → AdvisoryFindingData → Type 0
 IsSo packages advisories ignored denied f = Contains packages f.content × Contains advisories f.advisory
     × Concerns f.advisory f.content × (¬ Contains ignored f.advisory.id)
     × (f.is_denied ≡ is_denied_kind denied f.advisory.informational)
 
-is-so : (packages : List PackageData) (advisories : List AdvisoryData) (ignored denied : List (List ℕ)) (f : FindingData)
-    → Contains (findings packages advisories ignored denied) f → IsSo packages advisories ignored denied f
+is-so : (packages : List PackageData) (advisories : List AdvisoryData) (ignored denied : List (List ℕ)) (f : AdvisoryFindingData)
+    → Contains (advisory_findings packages advisories ignored denied) f → IsSo packages advisories ignored denied f
 is-so packages advisories ignored denied f h =
     let (q, paired, here) = from-flat (finding_if ignored denied) (pairs packages advisories) f h in
-    let (p, among, given) = from-flat (pairs_of advisories) packages q paired in
+    let (p, among, given) = from-flat (advisory_pairs_of advisories) packages q paired in
     let (a, known, last) = from-flat (pair_if p) advisories q given in
     let (concerned, same) = from-pair p a q last in
     let r : PairData = record { content = p; advisory = a } in
     let there : Contains (finding_if ignored denied r) f = subst (λ (z : PairData). Contains (finding_if ignored denied z) f) (sym same) here in
     let (free, is) = from-finding ignored denied r f there in
-    subst (λ (z : FindingData). IsSo packages advisories ignored denied z) is
+    subst (λ (z : AdvisoryFindingData). IsSo packages advisories ignored denied z) is
     (among, known, (concern-is-exact a p).0 concerned, unlisted ignored a.id free, refl)
 
 is-found : (packages : List PackageData) (advisories : List AdvisoryData) (ignored denied : List (List ℕ)) (p : PackageData) (a : AdvisoryData)
     → Contains packages p → Contains advisories a → Concerns a p → is_listed ignored a.id ≡ false
-    → Contains (findings packages advisories ignored denied) (judged denied (record { content = p; advisory = a }))
+    → Contains (advisory_findings packages advisories ignored denied) (judged denied (record { content = p; advisory = a }))
 is-found packages advisories ignored denied p a among known concerned free =
     let q : PairData = record { content = p; advisory = a } in
     in-flat (finding_if ignored denied) (pairs packages advisories) q (judged denied q)
-    (in-flat (pairs_of advisories) packages p q among
+    (in-flat (advisory_pairs_of advisories) packages p q among
     (in-flat (pair_if p) advisories a q known (to-pair p a ((concern-is-exact a p).1 concerned))))
     (to-finding ignored denied q free)
 
-pub findings-are-exact : FindingsAreExact
+pub findings-are-exact : AdvisoryFindingsAreExact
 findings-are-exact packages advisories ignored denied f = (is-so packages advisories ignored denied f, back)
   where
-    back : IsSo packages advisories ignored denied f → Contains (findings packages advisories ignored denied) f
+    back : IsSo packages advisories ignored denied f → Contains (advisory_findings packages advisories ignored denied) f
     back h = let (among, known, concerned, free, is) = h in
         let q : PairData = record { content = f.content; advisory = f.advisory } in
-        let same : judged denied q ≡ f = ap (λ (b : Bool). let g : FindingData = record { content = f.content; advisory = f.advisory; is_denied = b } in g) (sym is) in
-        subst (λ (z : FindingData). Contains (findings packages advisories ignored denied) z) same
+        let same : judged denied q ≡ f = ap (λ (b : Bool). let g : AdvisoryFindingData = record { content = f.content; advisory = f.advisory; is_denied = b } in g) (sym is) in
+        subst (λ (z : AdvisoryFindingData). Contains (advisory_findings packages advisories ignored denied) z) same
         (is-found packages advisories ignored denied f.content f.advisory among known concerned
         (is-false (is_listed ignored f.advisory.id) (λ t. free (listed ignored f.advisory.id t))))
 
 pub none-if-unconcerned : NoneIfUnconcerned
 none-if-unconcerned packages advisories ignored denied = (to, back)
   where
-    to : findings packages advisories ignored denied ≡ [] → (p : PackageData) (a : AdvisoryData) → Contains packages p
+    to : advisory_findings packages advisories ignored denied ≡ [] → (p : PackageData) (a : AdvisoryData) → Contains packages p
         → Contains advisories a → Concerns a p → Contains ignored a.id
     to none p a among known concerned = by (is_listed ignored a.id) refl
       where
         by : (b : Bool) → is_listed ignored a.id ≡ b → Contains ignored a.id
         by true e = listed ignored a.id e
-        by false e = let f : FindingData = judged denied (record { content = p; advisory = a }) in
+        by false e = let f : AdvisoryFindingData = judged denied (record { content = p; advisory = a }) in
             absurd (no-element f (subst (λ xs. Contains xs f) none (is-found packages advisories ignored denied p a among known concerned e)))
 
     back : ((p : PackageData) (a : AdvisoryData) → Contains packages p → Contains advisories a → Concerns a p → Contains ignored a.id)
-        → findings packages advisories ignored denied ≡ []
-    back all = no-elements (findings packages advisories ignored denied) (λ f h.
+        → advisory_findings packages advisories ignored denied ≡ []
+    back all = no-elements (advisory_findings packages advisories ignored denied) (λ f h.
         let (among, known, concerned, free, is) = is-so packages advisories ignored denied f h in
         free (all f.content f.advisory among known concerned))
 
 pub none-without-crates-io : NoneWithoutCratesIo
 none-without-crates-io packages advisories ignored denied none =
-    no-elements (findings packages advisories ignored denied) (λ f h.
+    no-elements (advisory_findings packages advisories ignored denied) (λ f h.
     let (among, known, concerned, free, is) = is-so packages advisories ignored denied f h in
-    not-both (is_crates_io f.content.source) concerned.registry (none f.content among))
+    not-both (comes_from_crates_io f.content.source) concerned.registry (none f.content among))
 
 -- ---- more ids that are ignored
 
 one-left : (ignored more denied : List (List ℕ)) (q : PairData)
-    → finding_if (ignored ++ more) denied q ≡ filter (is_kept more) (finding_if ignored denied q)
+    → finding_if (ignored ++ more) denied q ≡ filter (is_not_ignored more) (finding_if ignored denied q)
 one-left ignored more denied q =
-    subst (λ (b : Bool). (if b then [] else judged denied q ∷ []) ≡ filter (is_kept more) (finding_if ignored denied q))
+    subst (λ (b : Bool). (if b then [] else judged denied q ∷ []) ≡ filter (is_not_ignored more) (finding_if ignored denied q))
     (sym (list_any-append (bytes_eq q.advisory.id) ignored more)) (by (is_listed ignored q.advisory.id) (is_listed more q.advisory.id) refl)
   where
     by : (b c : Bool) → is_listed more q.advisory.id ≡ c
-        → (if b || c then [] else judged denied q ∷ []) ≡ filter (is_kept more) (if b then [] else judged denied q ∷ [])
+        → (if b || c then [] else judged denied q ∷ []) ≡ filter (is_not_ignored more) (if b then [] else judged denied q ∷ [])
     by true c e = refl
     by false true e = subst (λ (c : Bool). [] ≡ cond (not c) (judged denied q ∷ []) []) (sym e) refl
     by false false e = subst (λ (c : Bool). (judged denied q ∷ []) ≡ cond (not c) (judged denied q ∷ []) []) (sym e) refl
 
 all-left : (ignored more denied : List (List ℕ)) (qs : List PairData)
-    → findings_of (ignored ++ more) denied qs ≡ filter (is_kept more) (findings_of ignored denied qs)
+    → findings_of (ignored ++ more) denied qs ≡ filter (is_not_ignored more) (findings_of ignored denied qs)
 all-left ignored more denied [] = refl
 all-left ignored more denied (q ∷ qs) =
-    ap (λ (xs : List FindingData). xs ++ findings_of (ignored ++ more) denied qs) (one-left ignored more denied q)
-    ∙ ap (λ (xs : List FindingData). filter (is_kept more) (finding_if ignored denied q) ++ xs) (all-left ignored more denied qs)
-    ∙ sym (filter-append (is_kept more) (finding_if ignored denied q) (findings_of ignored denied qs))
+    ap (λ (xs : List AdvisoryFindingData). xs ++ findings_of (ignored ++ more) denied qs) (one-left ignored more denied q)
+    ∙ ap (λ (xs : List AdvisoryFindingData). filter (is_not_ignored more) (finding_if ignored denied q) ++ xs) (all-left ignored more denied qs)
+    ∙ sym (filter-append (is_not_ignored more) (finding_if ignored denied q) (findings_of ignored denied qs))
 
 pub ignoring-leaves-out : IgnoringLeavesOut
 ignoring-leaves-out packages advisories ignored more denied = all-left ignored more denied (pairs packages advisories)

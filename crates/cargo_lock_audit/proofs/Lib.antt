@@ -1,6 +1,6 @@
 mod Exact
-mod Lists
 mod OneLine
 mod Ordered
 pub mod Strips
 mod Walk
+pub mod DocumentDepth

@@ -5,16 +5,16 @@ use Rattle.std.specs.Str.{chars}
 use Rattle.std.specs.Str.Lines.{lines}
 use Rattle.std.proofs.lemmas.Grind.{flat_map-append}
 use Rattle.std.proofs.lemmas.List.Elements.{All-append, All-cons, All-nil}
-use Rattle.shown.specs.Laws.{IsPrintable}
-use Rattle.shown.specs.Shown.{backquote}
-use Rattle.shown.specs.declared.form.Form.TheVariants.{Plain, Quoted}
-use Rattle.shown.proofs.LinesOf.{printable-lines}
-use Rattle.shown.proofs.Printable.{Prints, either_text, join, join_each, literal, shown-prints, words}
-use Rattle.cargo_lock_diff.proofs.OneLine.{package-prints}
+use Rattle.printing.specs.Laws.{IsPrintable}
+use Rattle.printing.specs.Shown.{backquote}
+use Rattle.printing.specs.declared.form.Form.TheVariants.{Plain, Quoted}
+use Rattle.printing.proofs.LinesOf.{printable-lines}
+use Rattle.printing.proofs.Printable.{Prints, either_text, join, join_each, literal, shown-prints, words}
+use Rattle.cargo_lock_display.proofs.Printed.{package-prints}
 use Rattle.cargo_lock_audit.specs.declared.database.DatabaseFault.TheVariants as fault
 use Rattle.cargo_lock_audit.specs.Advisory.{AdvisoryData}
-use Rattle.cargo_lock_audit.specs.Findings.{FindingData}
-use Rattle.cargo_lock_audit.specs.Lines.{EachIsOneLine, FaultsArePrintable, LinesArePrintable, file_line, finding_line, or_text, patched_text, report_text, said, text_of_lines, title_char, title_text, unmet_line, unmet_text}
+use Rattle.cargo_lock_audit.specs.Findings.{AdvisoryFindingData}
+use Rattle.cargo_lock_audit.specs.Lines.{EachAuditedIsOneLine, FaultsArePrintable, LinesArePrintable, advisory_finding_line, audit_report_text, file_line, or_text, patched_text, said, text_of_lines, title_char, title_text, unmet_line, unmet_text}
 use Rattle.cargo_lock_audit.specs.Requirement.{RequirementData}
 
 patched-prints : (rs : List RequirementData) → Prints (patched_text rs)
@@ -30,7 +30,7 @@ said-prints : (a : AdvisoryData) (kind : Option (List ℕ)) → Prints (said a k
 said-prints a None = join (title-prints a.title) (words (codes "; ") refl (patched-prints a.patched))
 said-prints a (Some kind) = join (shown-prints Plain kind) (words (codes ": ") refl (title-prints a.title))
 
-line-prints : (f : FindingData) → Prints (finding_line f)
+line-prints : (f : AdvisoryFindingData) → Prints (advisory_finding_line f)
 line-prints f = join (either_text f.is_denied (literal (codes "!") refl) (literal (codes "?") refl))
     (words (codes " ") refl (join (package-prints f.content) (words (codes ": ") refl
     (join (shown-prints Plain f.advisory.id) (words (codes ": ") refl (said-prints f.advisory f.advisory.informational))))))
@@ -46,21 +46,21 @@ joined : {X : Type 0} (line : X → List ℕ) (xs : List X) → flat_map (λ x. 
 joined line [] = refl
 joined line (x ∷ xs) = ap (λ (ys : List ℕ). (line x ++ 10 ∷ []) ++ ys) (joined line xs)
 
-together : (found : List FindingData) (ids : List (List ℕ))
-    → report_text found ids ≡ text_of_lines (map finding_line found ++ map unmet_line ids)
-together found ids = ap (λ (ys : List ℕ). ys ++ unmet_text ids) (joined finding_line found)
-    ∙ ap (λ (ys : List ℕ). text_of_lines (map finding_line found) ++ ys) (joined unmet_line ids)
-    ∙ sym (flat_map-append (λ (line : List ℕ). line ++ 10 ∷ []) (map finding_line found) (map unmet_line ids))
+together : (found : List AdvisoryFindingData) (ids : List (List ℕ))
+    → audit_report_text found ids ≡ text_of_lines (map advisory_finding_line found ++ map unmet_line ids)
+together found ids = ap (λ (ys : List ℕ). ys ++ unmet_text ids) (joined advisory_finding_line found)
+    ∙ ap (λ (ys : List ℕ). text_of_lines (map advisory_finding_line found) ++ ys) (joined unmet_line ids)
+    ∙ sym (flat_map-append (λ (line : List ℕ). line ++ 10 ∷ []) (map advisory_finding_line found) (map unmet_line ids))
 
 all-print : {X : Type 0} (line : X → List ℕ) → ((x : X) → Prints (line x)) → (xs : List X) → All IsPrintable (map line xs)
 all-print line h [] = All-nil IsPrintable
 all-print line h (x ∷ xs) = All-cons IsPrintable (line x) (map line xs) (h x).all (all-print line h xs)
 
-pub each-is-one-line : EachIsOneLine
+pub each-is-one-line : EachAuditedIsOneLine
 each-is-one-line found ids = ap lines (together found ids)
-    ∙ printable-lines (map finding_line found ++ map unmet_line ids)
-    (All-append IsPrintable (map finding_line found) (map unmet_line ids)
-    (all-print finding_line line-prints found) (all-print unmet_line unmet-prints ids))
+    ∙ printable-lines (map advisory_finding_line found ++ map unmet_line ids)
+    (All-append IsPrintable (map advisory_finding_line found) (map unmet_line ids)
+    (all-print advisory_finding_line line-prints found) (all-print unmet_line unmet-prints ids))
 
 -- ---- why a database is refused
 

@@ -15,7 +15,7 @@ use Rattle.cargo_lock_audit.specs.declared.database.AdvisoryFile.{AdvisoryFile}
 use Rattle.cargo_lock_audit.specs.Advisory.{AdvisoryData}
 use Rattle.cargo_lock_audit.specs.declared.database.DatabaseFault.{DatabaseFault}
 use Rattle.cargo_lock_audit.specs.declared.database.DatabaseFault.TheVariants as fault
-use Rattle.cargo_lock_audit.specs.Database.{AreInOrder, IsMisplacedAt, IsRefused, IsTwiceAt, advisories_of, file_cmp, has_id, is_misplaced}
+use Rattle.cargo_lock_audit.specs.Database.{AreInOrderOfIds, IsMisplacedFileAt, IsRefused, IsTwiceAt, advisories_of, file_cmp, has_id, is_misplaced}
 
 -- what is left of a list from the place before i on
 two-left : {X : Type 0} (xs : List X) (i : ℕ) (x y : X) → 0 < i → i < length xs → x ≡ get_or xs (i - 1) x → y ≡ get_or xs i y
@@ -31,20 +31,20 @@ two-left xs i x y some within is-x is-y =
 
 -- one more file is in order
 pub ordered-more : (xs : List AdvisoryFile) (i : ℕ) (x y : AdvisoryFile) → 0 < i → i < length xs → x ≡ get_or xs (i - 1) x → y ≡ get_or xs i y
-    → file_cmp x y ≡ Less → (AreInOrder (advisories_of (drop (i - 1) xs)) → AreInOrder (advisories_of xs))
-    → AreInOrder (advisories_of (drop ((i + 1) - 1) xs)) → AreInOrder (advisories_of xs)
+    → file_cmp x y ≡ Less → (AreInOrderOfIds (advisories_of (drop (i - 1) xs)) → AreInOrderOfIds (advisories_of xs))
+    → AreInOrderOfIds (advisories_of (drop ((i + 1) - 1) xs)) → AreInOrderOfIds (advisories_of xs)
 ordered-more xs i x y some within is-x is-y less before rest =
     let same : (i + 1) - 1 ≡ i = omega arith in
     let after : suc i ≡ i + 1 = omega arith in
     let left : drop i xs ≡ y ∷ drop (i + 1) xs = drop-cons xs i y within ∙ ap (λ (z : AdvisoryFile). z ∷ drop (suc i) xs) (sym is-y)
     ∙ ap (λ (j : ℕ). y ∷ drop j xs) after in
-    let there : AreInOrder (advisories_of (y ∷ drop (i + 1) xs)) =
-    subst (λ (zs : List AdvisoryFile). AreInOrder (advisories_of zs)) left
-    (subst (λ (j : ℕ). AreInOrder (advisories_of (drop j xs))) same rest) in
-    before (subst (λ (zs : List AdvisoryFile). AreInOrder (advisories_of zs)) (sym (two-left xs i x y some within is-x is-y)) (less, there))
+    let there : AreInOrderOfIds (advisories_of (y ∷ drop (i + 1) xs)) =
+    subst (λ (zs : List AdvisoryFile). AreInOrderOfIds (advisories_of zs)) left
+    (subst (λ (j : ℕ). AreInOrderOfIds (advisories_of (drop j xs))) same rest) in
+    before (subst (λ (zs : List AdvisoryFile). AreInOrderOfIds (advisories_of zs)) (sym (two-left xs i x y some within is-x is-y)) (less, there))
 
 -- one file is in order, and none is
-pub ordered-one : (xs : List AdvisoryFile) → length xs ≤ 1 → AreInOrder (advisories_of xs)
+pub ordered-one : (xs : List AdvisoryFile) → length xs ≤ 1 → AreInOrderOfIds (advisories_of xs)
 ordered-one [] h = tt
 ordered-one (x ∷ []) h = tt
 ordered-one (x ∷ y ∷ rest) h = absurd (omega arith)
@@ -105,7 +105,7 @@ refused-permuted xs ys perm (fault.Unread path e) h = absurd h
 refused-permuted xs ys perm fault.Memory h = tt
 
 -- a file at a place that is misplaced
-pub misplaced-refused : (xs : List AdvisoryFile) (k : ℕ) → IsMisplacedAt xs k → (f : AdvisoryFile) → f ≡ get_or xs k f
+pub misplaced-refused : (xs : List AdvisoryFile) (k : ℕ) → IsMisplacedFileAt xs k → (f : AdvisoryFile) → f ≡ get_or xs k f
     → IsRefused xs (fault.OtherPackage f)
 misplaced-refused xs k (low, at) f is = (
   (k, low, sym is),

@@ -1,12 +1,12 @@
 -- What an advisory says, and which packages it concerns.
-use Rattle.std.specs.Prelude.{◌≡◌, ◌⊎◌, ◌↔◌, ◌&&◌, ◌||◌, ℕ, Bool, false, true, List, Option, None}
+use Rattle.std.specs.Prelude.{◌≡◌, ◌⊎◌, ◌↔◌, ◌&&◌, ℕ, Bool, false, true, List, Option, None}
 use Rattle.std.specs.Prelude.{Some}
-use Rattle.std.specs.Prelude.{bytes_eq, codes, is_none, not}
+use Rattle.std.specs.Prelude.{bytes_eq, codes, not}
 use Rattle.std.specs.List.{Contains, list_any}
 use Rattle.semver.specs.Parse.{Parts}
 use Rattle.cargo_lock_parts.specs.Identity.{PackageData}
 use Rattle.cargo_lock_parts.specs.Source.{Source}
-use Rattle.cargo_lock_parts.specs.SourceShown.{is_default_registry}
+use Rattle.cargo_lock_order.specs.Canonical.{is_canonically_crates_io}
 use Rattle.cargo_lock_audit.specs.Requirement.{BoundData, RequirementData, lies_in, meets}
 
 -- an advisory: its id, the name of its package, its title; its kind if it is no vulnerability; the
@@ -23,10 +23,15 @@ pub record AdvisoryData : Type 0 where
   pub patched : List RequirementData
   pub unaffected : List RequirementData
 
--- the source is that of crates.io, by its index in git or its sparse index
-abbrev pub is_crates_io : Option Source → Bool
-is_crates_io None = false
-is_crates_io (Some s) = is_default_registry s
+-- the source is crates.io for Cargo, however it is spelt
+abbrev pub comes_from_crates_io : Option Source → Bool
+comes_from_crates_io None = false
+comes_from_crates_io (Some s) = is_canonically_crates_io s
+
+-- the source is that, or none is named
+abbrev pub is_of_source : Option Source → Bool
+is_of_source None = true
+is_of_source (Some s) = is_canonically_crates_io s
 
 -- the collection is that of crates, or none is named
 abbrev pub is_of_collection : Option (List ℕ) → Bool
@@ -35,16 +40,19 @@ is_of_collection (Some c) = bytes_eq c (codes "crates")
 
 -- the advisory is about a crate of crates.io
 abbrev pub is_about_crates : AdvisoryData → Bool
-is_about_crates a = (is_none a.source || is_crates_io a.source) && is_of_collection a.collection
+is_about_crates a = is_of_collection a.collection && is_of_source a.source
 
 -- the version lies in none of the requirements of the advisory
 abbrev pub affects : AdvisoryData → Parts → Bool
 affects a v = not (list_any (lies_in v) a.patched) && not (list_any (lies_in v) a.unaffected)
 
+-- the advisory is about a crate of the package's name, was not withdrawn, and affects its version
+abbrev pub affects_package : AdvisoryData → PackageData → Bool
+affects_package a p = bytes_eq a.name p.name && (not a.is_withdrawn && affects a p.version)
+
 -- the advisory concerns the package
 abbrev pub concerns : AdvisoryData → PackageData → Bool
-concerns a p = is_crates_io p.source && bytes_eq a.name p.name && is_about_crates a
-    && not a.is_withdrawn && affects a p.version
+concerns a p = affects_package a p && (is_about_crates a && comes_from_crates_io p.source)
 
 -- ---- the same as relations
 
@@ -55,9 +63,9 @@ LiesIn v r = (b : BoundData) → Contains r.bounds b → meets v b ≡ true
 -- the package is of crates.io, and the advisory is about it: it has the name, it names no other
 -- source and no other collection, it was not withdrawn, and the version lies in no requirement
 pub record Concerns (a : AdvisoryData) (p : PackageData) : Type 0 where
-  pub registry : is_crates_io p.source ≡ true
+  pub registry : comes_from_crates_io p.source ≡ true
   pub name : a.name ≡ p.name
-  pub source : (a.source ≡ None) ⊎ (is_crates_io a.source ≡ true)
+  pub source : (a.source ≡ None) ⊎ (comes_from_crates_io a.source ≡ true)
   pub collection : (a.collection ≡ None) ⊎ (a.collection ≡ Some (codes "crates"))
   pub not_withdrawn : a.is_withdrawn ≡ false
   pub not_patched : (r : RequirementData) → Contains a.patched r → ¬ LiesIn p.version r

@@ -6,6 +6,7 @@ use Rattle.std.specs.Str.{trim_start}
 use Rattle.std.specs.Str.Lines.{lines}
 use Rattle.toml.specs.Data.{Data, string, array, table, Items, no_items, item, Members, get_member}
 use Rattle.toml.specs.Parse.{parse_document}
+use Rattle.cargo_lock_references.specs.Optional.{◌>>=◌}
 use Rattle.cargo_lock_parts.specs.Source.{Source}
 use Rattle.cargo_lock_parts.specs.SourceReading.{source_of}
 use Rattle.cargo_lock_audit.specs.declared.advisory_reading.Fields.{Fields}
@@ -13,12 +14,6 @@ use Rattle.cargo_lock_audit.specs.Advisory.{AdvisoryData}
 use Rattle.cargo_lock_audit.specs.FrontMatter.{body_of, front_length, joined, title_in}
 use Rattle.cargo_lock_audit.specs.Requirement.{RequirementData}
 use Rattle.cargo_lock_audit.specs.RequirementReading.{requirement_of}
-
-infixl 10 ◌>>=◌
--- the next value, if there is one
-abbrev pub ◌>>=◌ : {A B : Type 0} → Option A → (A → Option B) → Option B
-None >>= f = None
-Some x >>= f = f x
 
 -- ---- values by their types
 
@@ -140,8 +135,8 @@ pub record KindsData : Type 0 where
   pub collection : Option (List ℕ)
 
 -- the texts of a table, and a title
-abbrev pub names_of : List ℕ → FieldsData → NamesData
-names_of title f = record { id = f.id; name = f.name; title = title }
+abbrev pub titled_names : List ℕ → FieldsData → NamesData
+titled_names title f = record { id = f.id; name = f.name; title = title }
 
 -- the kind and the collection of a table
 abbrev pub kinds_of : FieldsData → KindsData
@@ -168,7 +163,7 @@ advisory_at title ms = do
   fields ← fields_at members
   source ← optional_by source_in (get_member (codes "source") members)
   ranges ← ranges_in (get_member (codes "versions") ms)
-  Some (assembled (names_of title fields) (kinds_of fields) source ranges fields.is_withdrawn)
+  Some (assembled (titled_names title fields) (kinds_of fields) source ranges fields.is_withdrawn)
 
 -- ---- the text
 

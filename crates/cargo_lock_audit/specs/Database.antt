@@ -26,10 +26,10 @@ abbrev pub id_cmp : AdvisoryData → AdvisoryData → Ordering
 id_cmp a b = slice_cmp nat_cmp a.id b.id
 
 -- the id of each advisory is before that of the next one, so all ids differ
-abbrev pub AreInOrder : List AdvisoryData → Type 0
-AreInOrder [] = Unit {0}
-AreInOrder (a ∷ []) = Unit {0}
-AreInOrder (a ∷ b ∷ rest) = (id_cmp a b ≡ Less) × AreInOrder (b ∷ rest)
+abbrev pub AreInOrderOfIds : List AdvisoryData → Type 0
+AreInOrderOfIds [] = Unit {0}
+AreInOrderOfIds (a ∷ []) = Unit {0}
+AreInOrderOfIds (a ∷ b ∷ rest) = (id_cmp a b ≡ Less) × AreInOrderOfIds (b ∷ rest)
 
 -- the advisory has this id
 abbrev pub has_id : List ℕ → AdvisoryData → Bool
@@ -44,7 +44,7 @@ advisories_of = map (λ f. f.advisory)
 pub record IsDatabase (files : List AdvisoryFile) (all : List AdvisoryData) : Type 0 where
   pub placed : AllPlaced files
   pub same : IsPermutation (advisories_of files) all
-  pub in_order : AreInOrder all
+  pub in_order : AreInOrderOfIds all
 
 -- why files are no database: one of them is in the folder of another package, or has an id that
 -- another one has; memory may run out at any time
@@ -62,8 +62,8 @@ abbrev pub file_cmp : AdvisoryFile → AdvisoryFile → Ordering
 file_cmp f g = id_cmp f.advisory g.advisory
 
 -- the file at the place is in the folder of another package
-abbrev pub IsMisplacedAt : List AdvisoryFile → ℕ → Type 0
-IsMisplacedAt files k = (k < length files) × HoldsAt (λ f. is_misplaced f ≡ true) files k
+abbrev pub IsMisplacedFileAt : List AdvisoryFile → ℕ → Type 0
+IsMisplacedFileAt files k = (k < length files) × HoldsAt (λ f. is_misplaced f ≡ true) files k
 
 -- the id at the place is not after that before it
 abbrev pub IsTwiceAt : List AdvisoryFile → ℕ → Type 0

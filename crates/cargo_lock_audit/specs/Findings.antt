@@ -6,18 +6,18 @@ use Rattle.std.specs.List.{Contains, flat_map, list_any}
 use Rattle.cargo_lock_parts.specs.Identity.{PackageData}
 use Rattle.cargo_lock_audit.specs.declared.finding.Finding.{Finding}
 use Rattle.cargo_lock_audit.specs.declared.report.Unmet.{Unmet}
-use Rattle.cargo_lock_audit.specs.Advisory.{AdvisoryData, Concerns, is_crates_io}
+use Rattle.cargo_lock_audit.specs.Advisory.{AdvisoryData, Concerns, comes_from_crates_io}
 use Rattle.cargo_lock_audit.specs.Pairs.{PairData, pairs}
 
 -- a package that an advisory concerns, and whether it is denied
-pub record FindingData : Type 0 where
+pub record AdvisoryFindingData : Type 0 where
   pub content : PackageData
   pub advisory : AdvisoryData
   pub is_denied : Bool
 
 -- the data of a finding of the program
-abbrev pub finding_of : Finding → FindingData
-finding_of f = record {
+abbrev pub advisory_finding_of : Finding → AdvisoryFindingData
+advisory_finding_of f = record {
   content = f.«package».now;
   advisory = f.advisory.now;
   is_denied = f.is_denied;
@@ -33,7 +33,7 @@ is_denied_kind denied None = true
 is_denied_kind denied (Some kind) = is_listed denied kind
 
 -- the finding of a pair
-abbrev pub judged : List (List ℕ) → PairData → FindingData
+abbrev pub judged : List (List ℕ) → PairData → AdvisoryFindingData
 judged denied q = record {
   content = q.content;
   advisory = q.advisory;
@@ -41,19 +41,19 @@ judged denied q = record {
 }
 
 -- the finding of a pair, unless its advisory is ignored
-abbrev pub finding_if : List (List ℕ) → List (List ℕ) → PairData → List FindingData
+abbrev pub finding_if : List (List ℕ) → List (List ℕ) → PairData → List AdvisoryFindingData
 finding_if ignored denied q =
     if is_listed ignored q.advisory.id then [] else judged denied q ∷ []
 
 -- what is found of pairs, in their order
-abbrev pub findings_of : List (List ℕ) → List (List ℕ) → List PairData → List FindingData
+abbrev pub findings_of : List (List ℕ) → List (List ℕ) → List PairData → List AdvisoryFindingData
 findings_of ignored denied = flat_map (finding_if ignored denied)
 
 -- what is found of packages: of each, in their order, the advisories that concern it and are not
 -- ignored, in the order of the advisories
-abbrev pub findings : List PackageData → List AdvisoryData → List (List ℕ) → List (List ℕ)
-    → List FindingData
-findings packages advisories ignored denied =
+abbrev pub advisory_findings : List PackageData → List AdvisoryData → List (List ℕ) → List (List ℕ)
+    → List AdvisoryFindingData
+advisory_findings packages advisories ignored denied =
     findings_of ignored denied (pairs packages advisories)
 
 -- the bytes of an id of the program
@@ -76,10 +76,10 @@ unmet all = flat_map (unmet_if all)
 
 -- what is found is exactly each package with each advisory that concerns it and is not ignored; it
 -- is denied by the kind of the advisory
-abbrev pub FindingsAreExact : Type 0
-FindingsAreExact = (packages : List PackageData) (advisories : List AdvisoryData)
-    (ignored denied : List (List ℕ)) (f : FindingData)
-    → Contains (findings packages advisories ignored denied) f
+abbrev pub AdvisoryFindingsAreExact : Type 0
+AdvisoryFindingsAreExact = (packages : List PackageData) (advisories : List AdvisoryData)
+    (ignored denied : List (List ℕ)) (f : AdvisoryFindingData)
+    → Contains (advisory_findings packages advisories ignored denied) f
     ↔ (Contains packages f.content × Contains advisories f.advisory × Concerns f.advisory f.content
     × (¬ Contains ignored f.advisory.id)
     × (f.is_denied ≡ is_denied_kind denied f.advisory.informational))
@@ -87,7 +87,7 @@ FindingsAreExact = (packages : List PackageData) (advisories : List AdvisoryData
 -- nothing is found exactly if each advisory that concerns a package is ignored
 abbrev pub NoneIfUnconcerned : Type 0
 NoneIfUnconcerned = (packages : List PackageData) (advisories : List AdvisoryData)
-    (ignored denied : List (List ℕ)) → (findings packages advisories ignored denied ≡ [])
+    (ignored denied : List (List ℕ)) → (advisory_findings packages advisories ignored denied ≡ [])
     ↔ ((p : PackageData) (a : AdvisoryData) → Contains packages p → Contains advisories a
     → Concerns a p → Contains ignored a.id)
 
@@ -95,15 +95,16 @@ NoneIfUnconcerned = (packages : List PackageData) (advisories : List AdvisoryDat
 abbrev pub NoneWithoutCratesIo : Type 0
 NoneWithoutCratesIo = (packages : List PackageData) (advisories : List AdvisoryData)
     (ignored denied : List (List ℕ))
-    → ((p : PackageData) → Contains packages p → is_crates_io p.source ≡ false)
-    → findings packages advisories ignored denied ≡ []
+    → ((p : PackageData) → Contains packages p → comes_from_crates_io p.source ≡ false)
+    → advisory_findings packages advisories ignored denied ≡ []
 
 -- the finding is of an advisory that is not in the list
-abbrev pub is_kept : List (List ℕ) → FindingData → Bool
-is_kept ignored f = not (is_listed ignored f.advisory.id)
+abbrev pub is_not_ignored : List (List ℕ) → AdvisoryFindingData → Bool
+is_not_ignored ignored f = not (is_listed ignored f.advisory.id)
 
 -- to ignore more advisories leaves out their findings, and changes nothing else
 abbrev pub IgnoringLeavesOut : Type 0
 IgnoringLeavesOut = (packages : List PackageData) (advisories : List AdvisoryData)
-    (ignored more denied : List (List ℕ)) → findings packages advisories (ignored ++ more) denied
-    ≡ filter (is_kept more) (findings packages advisories ignored denied)
+    (ignored more denied : List (List ℕ))
+    → advisory_findings packages advisories (ignored ++ more) denied
+    ≡ filter (is_not_ignored more) (advisory_findings packages advisories ignored denied)

@@ -8,3 +8,4 @@ pub mod Pairs
 pub mod Requirement
 pub mod RequirementReading
 pub mod Texts
+pub mod Document

@@ -4,16 +4,16 @@ use Rattle.std.specs.Prelude.{IfSome, encode_utf8, if◌then◌else◌, map, str
 use Rattle.std.specs.List.{flat_map}
 use Rattle.std.specs.Str.{chars}
 use Rattle.std.specs.Str.Lines.{lines}
-use Rattle.shown.specs.Laws.{IsPrintable}
-use Rattle.shown.specs.Shown.{backquote, shown}
-use Rattle.shown.specs.declared.form.Form.TheVariants.{Plain, Quoted}
+use Rattle.printing.specs.Laws.{IsPrintable}
+use Rattle.printing.specs.Shown.{backquote, shown}
+use Rattle.printing.specs.declared.form.Form.TheVariants.{Plain, Quoted}
 use Rattle.cargo_lock_parts.specs.Ascii.{newline}
-use Rattle.cargo_lock_diff.specs.Change.{package_text}
+use Rattle.cargo_lock_display.specs.Line.{package_text}
 use Rattle.cargo_lock_audit.specs.declared.database.AdvisoryFile.{AdvisoryFile}
 use Rattle.cargo_lock_audit.specs.declared.database.DatabaseFault.{DatabaseFault}
 use Rattle.cargo_lock_audit.specs.declared.database.DatabaseFault.TheVariants as fault
 use Rattle.cargo_lock_audit.specs.Advisory.{AdvisoryData}
-use Rattle.cargo_lock_audit.specs.Findings.{FindingData}
+use Rattle.cargo_lock_audit.specs.Findings.{AdvisoryFindingData}
 use Rattle.cargo_lock_audit.specs.Requirement.{RequirementData}
 
 -- `!` for what is denied, and `?` for the rest
@@ -52,8 +52,8 @@ abbrev pub advisory_text : AdvisoryData → List ℕ
 advisory_text a = shown Plain a.id ++ (codes ": " ++ said a a.informational)
 
 -- the line of a finding
-abbrev pub finding_line : FindingData → List ℕ
-finding_line f = mark_text f.is_denied ++ (codes " " ++ (package_text f.content
+abbrev pub advisory_finding_line : AdvisoryFindingData → List ℕ
+advisory_finding_line f = mark_text f.is_denied ++ (codes " " ++ (package_text f.content
     ++ (codes ": " ++ advisory_text f.advisory)))
 
 -- the line of an id that is ignored, and of which no package has the advisory
@@ -65,25 +65,25 @@ abbrev pub text_of_lines : List (List ℕ) → List ℕ
 text_of_lines = flat_map (λ line. line ++ newline ∷ [])
 
 -- the line of each finding, with its newline
-abbrev pub findings_text : List FindingData → List ℕ
-findings_text = flat_map (λ f. finding_line f ++ newline ∷ [])
+abbrev pub advisory_findings_text : List AdvisoryFindingData → List ℕ
+advisory_findings_text = flat_map (λ f. advisory_finding_line f ++ newline ∷ [])
 
 -- the line of each id, with its newline
 abbrev pub unmet_text : List (List ℕ) → List ℕ
 unmet_text = flat_map (λ id. unmet_line id ++ newline ∷ [])
 
 -- the report: the line of each finding, and then of each id that was ignored in vain
-abbrev pub report_text : List FindingData → List (List ℕ) → List ℕ
-report_text found ids = findings_text found ++ unmet_text ids
+abbrev pub audit_report_text : List AdvisoryFindingData → List (List ℕ) → List ℕ
+audit_report_text found ids = advisory_findings_text found ++ unmet_text ids
 
 -- the report is exactly these lines, whatever names, ids, titles and requirements hold
-abbrev pub EachIsOneLine : Type 0
-EachIsOneLine = (found : List FindingData) (ids : List (List ℕ))
-    → lines (report_text found ids) ≡ map finding_line found ++ map unmet_line ids
+abbrev pub EachAuditedIsOneLine : Type 0
+EachAuditedIsOneLine = (found : List AdvisoryFindingData) (ids : List (List ℕ))
+    → lines (audit_report_text found ids) ≡ map advisory_finding_line found ++ map unmet_line ids
 
 -- and each of them is printable ASCII
 abbrev pub LinesArePrintable : Type 0
-LinesArePrintable = ((f : FindingData) → IsPrintable (finding_line f))
+LinesArePrintable = ((f : AdvisoryFindingData) → IsPrintable (advisory_finding_line f))
     × ((id : List ℕ) → IsPrintable (unmet_line id))
 
 -- ---- why a database is refused

@@ -11,17 +11,17 @@ pub record PairData : Type 0 where
   pub advisory : AdvisoryData
 
 -- the data of a pair of the program
-abbrev pub pair_of : Pair → PairData
-pair_of q = record { content = q.«package».now; advisory = q.advisory.now }
+abbrev pub advisory_pair_of : Pair → PairData
+advisory_pair_of q = record { content = q.«package».now; advisory = q.advisory.now }
 
 -- the pair of both, if the advisory concerns the package
 abbrev pub pair_if : PackageData → AdvisoryData → List PairData
 pair_if p a = if concerns a p then record { content = p; advisory = a } ∷ [] else []
 
 -- the package with each advisory that concerns it, in the order of the advisories
-abbrev pub pairs_of : List AdvisoryData → PackageData → List PairData
-pairs_of advisories p = flat_map (pair_if p) advisories
+abbrev pub advisory_pairs_of : List AdvisoryData → PackageData → List PairData
+advisory_pairs_of advisories p = flat_map (pair_if p) advisories
 
 -- each package with each advisory that concerns it, in the order of the packages
 abbrev pub pairs : List PackageData → List AdvisoryData → List PairData
-pairs packages advisories = flat_map (pairs_of advisories) packages
+pairs packages advisories = flat_map (advisory_pairs_of advisories) packages

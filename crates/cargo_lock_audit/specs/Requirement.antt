@@ -4,7 +4,7 @@ use Rattle.std.specs.Prelude.{◌&&◌, ℕ, Bool, List, not}
 use Rattle.std.specs.List.{list_all}
 use Rattle.std.specs.Ordering.{is_gt, is_lt}
 use Rattle.semver.specs.Parse.{Parts}
-use Rattle.cargo_lock_diff.specs.Change.{precedence_cmp}
+use Rattle.cargo_lock_order.specs.Precedence.{precedence_cmp}
 use Rattle.cargo_lock_audit.specs.declared.requirement.Relation.{Relation}
 use Rattle.cargo_lock_audit.specs.declared.requirement.Relation.TheVariants.{Exact, Greater}
 use Rattle.cargo_lock_audit.specs.declared.requirement.Relation.TheVariants.{GreaterEq, Less}

@@ -17,8 +17,8 @@ use Rattle.cargo_lock_audit.specs.declared.requirement.Relation.TheVariants.{Les
 use Rattle.cargo_lock_audit.specs.Requirement.{BoundData, RequirementData}
 
 -- the version of a comparator
-abbrev pub version_of : Held → Parts
-version_of c = (c.1, unwrap_or c.2 0, unwrap_or c.3 0, c.4, [])
+abbrev pub comparator_version : Held → Parts
+comparator_version c = (c.1, unwrap_or c.2 0, unwrap_or c.3 0, c.4, [])
 
 -- a major, a minor and a patch number
 abbrev pub Numbers : Type 0
@@ -76,7 +76,8 @@ relation_of op.Wildcard = None
 
 -- the bound of a comparator with one
 abbrev pub bound_of : Held → Option BoundData
-bound_of c = option_map (λ r. record { relation = r; version = version_of c }) (relation_of c.0)
+bound_of c = option_map (λ r. record { relation = r; version = comparator_version c })
+    (relation_of c.0)
 
 -- the bounds of a range: it begins at one version, and ends before another one
 abbrev pub range : Parts → Parts → List BoundData
@@ -101,7 +102,7 @@ all_bounds (c ∷ rest) =
 
 -- the bounds of the only comparator, whose range, if it has one, ends there
 abbrev pub bounds_until : Held → Option Numbers → Option (List BoundData)
-bounds_until c (Some end) = Some (range (version_of c) (lowest_of end))
+bounds_until c (Some end) = Some (range (comparator_version c) (lowest_of end))
 bounds_until c None = all_bounds (c ∷ [])
 
 -- the bounds of the only comparator

@@ -1,15 +1,17 @@
 //! Advisories, and which packages one concerns.
 
-ghost use Rattle.std.specs.Prelude.{◌≡◌, option_map, string_bytes};
+ghost use Rattle.std.specs.Prelude.{◌≡◌, IfOk, option_map, string_bytes};
 ghost use Rattle.std.specs.List.{list_any};
 ghost use Rattle.semver.specs.Identifiers.{parts_of};
-ghost use Rattle.cargo_lock_audit.specs.Advisory.{affects, concerns, is_about_crates, is_crates_io};
-ghost use Rattle.cargo_lock_audit.specs.Advisory.{is_of_collection};
+ghost use Rattle.cargo_lock_audit.specs.Advisory.{affects, affects_package, comes_from_crates_io};
+ghost use Rattle.cargo_lock_audit.specs.Advisory.{concerns, is_about_crates, is_of_collection};
 ghost use Rattle.cargo_lock_audit.specs.Requirement.{lies_in};
 
 use crate::requirement::Requirement;
+use cargo_lock_order::is_canonically_crates_io;
 use cargo_lock_parts::package::{Package, SourceId};
 use semver::Version;
+use std::alloc::{AllocError, Global};
 use std::marker::Model;
 
 /// What an advisory says, as far as it decides which packages the advisory concerns, and what is
@@ -65,26 +67,48 @@ impl Model for Advisory {
 
 impl Advisory {
     /// Whether the advisory concerns the package: both are about a crate of crates.io with one
-    /// name, the advisory was not withdrawn, and the version lies in none of its requirements.
+    /// name, the advisory was not withdrawn, and the version lies in none of its requirements. A
+    /// source is crates.io if Cargo takes it for that, however it is spelt.
+    ///
+    /// # Errors
+    ///
+    /// Fails when out of memory.
     ///
     /// ```
-    /// let concerned = packages.iter().any(|package| advisory.concerns(package));
+    /// if advisory.concerns(rt.alloc(), package)? {
+    ///     let id = &advisory.id;
+    ///     println!(rt; "{id}")?;
+    /// }
     /// ```
-    pub fn concerns(&self, package: &Package) -> bool
-        ensures { result ≡ concerns self.now «package».now }
+    pub fn concerns(&self, alloc: Global, package: &Package) -> Result<bool, AllocError>
+        ensures { IfOk result (λ is_so. is_so ≡ concerns self.now «package».now) }
     {
-        is_crates_io(&package.source)
-            && self.package.as_str() == package.name.as_str()
-            && self.is_about_crates()
+        if !self.fits(package) || !self.is_about_crates(alloc)? {
+            return Ok(false);
+        }
+        is_crates_io(alloc, &package.source)
+    }
+
+    // Whether it is about a crate of this name, was not withdrawn, and affects this version.
+    fn fits(&self, package: &Package) -> bool
+        ensures { result ≡ affects_package self.now «package».now }
+    {
+        self.package.as_str() == package.name.as_str()
             && !self.is_withdrawn
             && self.affects(&package.version)
     }
 
     // Whether it is about a crate of crates.io.
-    fn is_about_crates(&self) -> bool
-        ensures { result ≡ is_about_crates self.now }
+    fn is_about_crates(&self, alloc: Global) -> Result<bool, AllocError>
+        ensures { IfOk result (λ is_so. is_so ≡ is_about_crates self.now) }
     {
-        (self.source.is_none() || is_crates_io(&self.source)) && is_of_crates(&self.collection)
+        if !is_of_crates(&self.collection) {
+            return Ok(false);
+        }
+        match &self.source {
+            Some(source) => is_canonically_crates_io(alloc, source),
+            None => Ok(true),
+        }
     }
 
     // Whether the version is neither patched nor unaffected.
@@ -95,14 +119,14 @@ impl Advisory {
     }
 }
 
-// Whether the source is that of crates.io.
-fn is_crates_io(source: &Option<SourceId>) -> bool
-    ensures { result ≡ is_crates_io source.now }
+// Whether the source is crates.io for Cargo.
+fn is_crates_io(alloc: Global, source: &Option<SourceId>) -> Result<bool, AllocError>
+    ensures { IfOk result (λ is_so. is_so ≡ comes_from_crates_io source.now) }
 {
-    match source {
-        Some(source) => source.is_default_registry(),
-        None => false,
+    if let Some(source) = source {
+        return is_canonically_crates_io(alloc, source);
     }
+    Ok(false)
 }
 
 // Whether the collection, if one is named, is that of crates.

@@ -12,14 +12,14 @@ ghost use Rattle.cargo_lock_audit.specs.AdvisoryReading.{optional_by, optional_t
 ghost use Rattle.cargo_lock_audit.specs.AdvisoryReading.{ranges_in, read_all, required_members};
 ghost use Rattle.cargo_lock_audit.specs.AdvisoryReading.{required_text, requirement_in};
 ghost use Rattle.cargo_lock_audit.specs.AdvisoryReading.{requirements_in, source_in, text_in};
-ghost use Rattle.cargo_lock_audit.specs.AdvisoryReading.{assembled, kinds_of, names_of};
+ghost use Rattle.cargo_lock_audit.specs.AdvisoryReading.{assembled, kinds_of, titled_names};
 
 use crate::advisory::Advisory;
 use crate::front_matter::{body_of, front_length, front_of, lines_from_first, title_after};
 use crate::requirement::Requirement;
 use cargo_lock_parts::error::{Error, Result};
 use cargo_lock_parts::package::SourceId;
-use shown::Quoted;
+use printing::Quoted;
 use std::alloc::{AllocError, Global};
 use std::marker::Model;
 use toml::de::Error as TomlError;
@@ -158,7 +158,7 @@ fn names_of(
     title: &str,
     fields: &Fields<'_>,
 ) -> std::result::Result<Names, AllocError>
-    ensures { IfOk result (λ n. n ≡ names_of title.now (fields_of fields.now)) }
+    ensures { IfOk result (λ n. n ≡ titled_names title.now (fields_of fields.now)) }
 {
     Ok(Names {
         id: String::from_str(alloc, fields.id)?,

@@ -2,14 +2,14 @@
 
 ghost use Rattle.std.specs.Prelude.{◌≡◌, IfErr, IfOk, IsPermutation, IsSorted, MatchOption, Some};
 ghost use Rattle.std.specs.Fmt.{DisplaysOnOk};
-ghost use Rattle.cargo_lock_audit.specs.Database.{AllPlaced, AreInOrder, IsDatabase, IsMisplacedAt};
-ghost use Rattle.cargo_lock_audit.specs.Database.{IsRefused, IsTwiceAt, advisories_of, file_cmp};
-ghost use Rattle.cargo_lock_audit.specs.Database.{is_misplaced};
+ghost use Rattle.cargo_lock_audit.specs.Database.{AllPlaced, AreInOrderOfIds, IsDatabase};
+ghost use Rattle.cargo_lock_audit.specs.Database.{IsMisplacedFileAt, IsRefused, IsTwiceAt};
+ghost use Rattle.cargo_lock_audit.specs.Database.{advisories_of, file_cmp, is_misplaced};
 ghost use Rattle.cargo_lock_audit.specs.Lines.{other_package_line, twice_line};
 
 use crate::advisory::Advisory;
 use cargo_lock_parts::error::Error;
-use shown::{Quoted, Shown};
+use printing::{Quoted, Shown};
 use std::alloc::{AllocError, Global};
 use std::cmp::Ordering;
 use std::fmt;
@@ -129,7 +129,7 @@ fn placed(files: Vec<AdvisoryFile>) -> Result<Vec<AdvisoryFile>, DatabaseFault>
 
 // The place of the first file that is in the folder of another package.
 fn first_misplaced(files: &[AdvisoryFile]) -> Option<usize>
-    ensures { MatchOption result (AllPlaced files.now) (IsMisplacedAt files.now) }
+    ensures { MatchOption result (AllPlaced files.now) (IsMisplacedFileAt files.now) }
 {
     for (place, file) in files.iter().enumerate() {
         if is_misplaced(file) {
@@ -169,7 +169,7 @@ fn cmp_ids(one: &AdvisoryFile, other: &AdvisoryFile) -> Ordering
 // The files, if each has an id before that of the next one.
 fn apart(files: Vec<AdvisoryFile>) -> Result<Vec<AdvisoryFile>, DatabaseFault>
     ensures same { IfOk result (λ all. all.items ≡ files.items) }
-    ensures apart { IfOk result (λ all. AreInOrder (advisories_of files.items)) }
+    ensures apart { IfOk result (λ all. AreInOrderOfIds (advisories_of files.items)) }
     ensures err { IfErr result (λ e. IsSorted file_cmp files.items → IsRefused files.items e) }
 {
     let mut files = files;
@@ -181,7 +181,7 @@ fn apart(files: Vec<AdvisoryFile>) -> Result<Vec<AdvisoryFile>, DatabaseFault>
 
 // The place of the first file whose id is not after that of the one before it.
 fn first_twice(files: &[AdvisoryFile]) -> Option<usize>
-    ensures { MatchOption result (AreInOrder (advisories_of files.now)) (IsTwiceAt files.now) }
+    ensures { MatchOption result (AreInOrderOfIds (advisories_of files.now)) (IsTwiceAt files.now) }
 {
     for place in 1..files.len() {
         if cmp_ids(&files[place - 1], &files[place]) != Ordering::Less {

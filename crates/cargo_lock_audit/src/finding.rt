@@ -6,9 +6,9 @@ ghost use Rattle.cargo_lock_audit.specs.Lines.{mark_text, or_texts, title_char, 
 
 use crate::advisory::Advisory;
 use crate::requirement::Requirement;
-use cargo_lock_diff::PackageText;
+use cargo_lock_display::PackageText;
 use cargo_lock_parts::package::Package;
-use shown::{Quoted, Shown};
+use printing::{Quoted, Shown};
 use std::fmt;
 
 /// A package that an advisory concerns. `Display` writes a line without a newline:
@@ -30,10 +30,10 @@ pub struct Finding<'p, 'a> {
 
 impl fmt::Display for Finding<'_, '_> {
     ghost use Rattle.std.specs.Prelude.{Some};
-    ghost use Rattle.cargo_lock_audit.specs.Findings.{finding_of};
-    ghost use Rattle.cargo_lock_audit.specs.Lines.{finding_line};
+    ghost use Rattle.cargo_lock_audit.specs.Findings.{advisory_finding_of};
+    ghost use Rattle.cargo_lock_audit.specs.Lines.{advisory_finding_line};
 
-    ghost output = { λ finding. Some (finding_line (finding_of finding)) };
+    ghost output = { λ finding. Some (advisory_finding_line (advisory_finding_of finding)) };
 
     fn fmt<W: fmt::Write>(&self, f: &mut fmt::Formatter<W>) -> fmt::Result {
         let mark = mark_of(self.is_denied);

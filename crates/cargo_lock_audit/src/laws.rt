@@ -1,9 +1,9 @@
 //! Laws of what is found, each the contract of a function without a body.
 
 ghost use Rattle.cargo_lock_audit.specs.Advisory.{ConcernIsExact};
-ghost use Rattle.cargo_lock_audit.specs.Findings.{FindingsAreExact, IgnoringLeavesOut};
+ghost use Rattle.cargo_lock_audit.specs.Findings.{AdvisoryFindingsAreExact, IgnoringLeavesOut};
 ghost use Rattle.cargo_lock_audit.specs.Findings.{NoneIfUnconcerned, NoneWithoutCratesIo};
-ghost use Rattle.cargo_lock_audit.specs.Lines.{EachIsOneLine, FaultsArePrintable};
+ghost use Rattle.cargo_lock_audit.specs.Lines.{EachAuditedIsOneLine, FaultsArePrintable};
 ghost use Rattle.cargo_lock_audit.specs.Lines.{LinesArePrintable};
 
 /// An advisory concerns a package exactly if both are about a crate of crates.io with one name, the
@@ -14,7 +14,7 @@ pub fn concern_is_exact()
 
 /// What is found is exactly each package with each advisory that concerns it and is not ignored.
 pub fn findings_are_exact()
-    ensures { FindingsAreExact }
+    ensures { AdvisoryFindingsAreExact }
 {}
 
 /// Nothing is found exactly if each advisory that concerns a package is ignored.
@@ -35,7 +35,7 @@ pub fn ignoring_leaves_out()
 /// A report is a line for each finding and for each id that was ignored in vain, whatever names,
 /// ids, titles and requirements hold.
 pub fn each_is_one_line()
-    ensures { EachIsOneLine }
+    ensures { EachAuditedIsOneLine }
 {}
 
 /// Each of these lines is printable ASCII.

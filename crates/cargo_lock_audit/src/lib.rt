@@ -4,6 +4,7 @@
 pub mod advisory;
 mod advisory_reading;
 pub mod database;
+pub mod document;
 pub mod finding;
 mod front_matter;
 pub mod laws;
@@ -14,6 +15,7 @@ mod requirement_reading;
 
 pub use crate::advisory::Advisory;
 pub use crate::database::{AdvisoryFile, DatabaseFault, database_of};
+pub use crate::document::advisories_json;
 pub use crate::finding::Finding;
 pub use crate::pair::{Pair, pairs};
 pub use crate::report::{Report, Unmet};

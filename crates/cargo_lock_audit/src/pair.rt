@@ -1,7 +1,7 @@
 //! Packages and the advisories that concern them.
 
 ghost use Rattle.std.specs.Prelude.{◌≡◌, ◌++◌, IfOk, OnOk, map};
-ghost use Rattle.cargo_lock_audit.specs.Pairs.{pair_if, pair_of, pairs_of};
+ghost use Rattle.cargo_lock_audit.specs.Pairs.{advisory_pair_of, advisory_pairs_of, pair_if};
 ghost use Rattle.cargo_lock_audit.specs.Pairs as spec;
 
 use crate::advisory::Advisory;
@@ -29,40 +29,43 @@ pub fn pairs<'p, 'a>(
     packages: &'p [Package],
     advisories: &'a [Advisory],
 ) -> Result<Vec<Pair<'p, 'a>>, AllocError>
-    ensures { IfOk result (λ v. map pair_of v.items ≡ spec.pairs packages.now advisories.now) }
+    ensures { IfOk result (λ v. map advisory_pair_of v.items
+        ≡ spec.pairs packages.now advisories.now) }
 {
     let mut pairs = Vec::new(alloc);
     for package in packages {
-        put_pairs(&mut pairs, package, advisories)?;
+        put_pairs(alloc, &mut pairs, package, advisories)?;
     }
     Ok(pairs)
 }
 
 // Adds the package with each advisory that concerns it.
 fn put_pairs<'p, 'a>(
+    alloc: Global,
     pairs: &mut Vec<Pair<'p, 'a>>,
     package: &'p Package,
     advisories: &'a [Advisory],
 ) -> Result<(), AllocError>
-    ensures { OnOk result (map pair_of pairs.new.items
-        ≡ map pair_of pairs.old.items ++ pairs_of advisories.now «package».now) }
+    ensures { OnOk result (map advisory_pair_of pairs.new.items
+        ≡ map advisory_pair_of pairs.old.items ++ advisory_pairs_of advisories.now «package».now) }
 {
     for advisory in advisories {
-        put_pair(pairs, package, advisory)?;
+        put_pair(alloc, pairs, package, advisory)?;
     }
     Ok(())
 }
 
 // Adds the package with the advisory if it concerns it.
 fn put_pair<'p, 'a>(
+    alloc: Global,
     pairs: &mut Vec<Pair<'p, 'a>>,
     package: &'p Package,
     advisory: &'a Advisory,
 ) -> Result<(), AllocError>
-    ensures { OnOk result (map pair_of pairs.new.items
-        ≡ map pair_of pairs.old.items ++ pair_if «package».now advisory.now) }
+    ensures { OnOk result (map advisory_pair_of pairs.new.items
+        ≡ map advisory_pair_of pairs.old.items ++ pair_if «package».now advisory.now) }
 {
-    if advisory.concerns(package) {
+    if advisory.concerns(alloc, package)? {
         pairs.push(Pair { package, advisory })?;
     }
     Ok(())

@@ -4,20 +4,19 @@ ghost use Rattle.std.specs.Prelude.{◌≡◌, ◌++◌, IfOk, OnOk, Some, bytes
 ghost use Rattle.std.specs.Prelude.{string_bytes};
 ghost use Rattle.std.specs.Fmt.{DisplaysOnOk};
 ghost use Rattle.std.specs.List.{list_any};
-ghost use Rattle.cargo_lock_audit.specs.Findings.{finding_if, finding_of, findings_of};
-ghost use Rattle.cargo_lock_audit.specs.Findings.{is_denied_kind, is_listed, is_pair_with};
-ghost use Rattle.cargo_lock_audit.specs.Findings.{id_of, unmet, unmet_if};
-ghost use Rattle.cargo_lock_audit.specs.Findings as spec;
-ghost use Rattle.cargo_lock_audit.specs.Lines.{findings_text, unmet_text};
-ghost use Rattle.cargo_lock_audit.specs.Pairs.{pair_of};
+ghost use Rattle.cargo_lock_audit.specs.Findings.{advisory_finding_of, advisory_findings};
+ghost use Rattle.cargo_lock_audit.specs.Findings.{finding_if, findings_of, id_of, is_denied_kind};
+ghost use Rattle.cargo_lock_audit.specs.Findings.{is_listed, is_pair_with, unmet, unmet_if};
+ghost use Rattle.cargo_lock_audit.specs.Lines.{advisory_findings_text, unmet_text};
+ghost use Rattle.cargo_lock_audit.specs.Pairs.{advisory_pair_of};
 ghost use Rattle.cargo_lock_audit.specs.Pairs as pair;
-ghost use Rattle.cargo_lock_audit.specs.Texts.{texts_of};
+ghost use Rattle.cargo_lock_audit.specs.Texts.{bytes_of_texts};
 
 use crate::advisory::Advisory;
 use crate::finding::Finding;
 use crate::pair::{Pair, pairs};
 use cargo_lock_parts::package::Package;
-use shown::Shown;
+use printing::Shown;
 use std::alloc::{AllocError, Global};
 use std::fmt;
 
@@ -67,11 +66,11 @@ impl<'p, 'a, 'i> Report<'p, 'a, 'i> {
         ignored: &'i [String],
         denied: &[String],
     ) -> Result<Report<'p, 'a, 'i>, AllocError>
-        ensures findings { IfOk result (λ report. map finding_of report.findings.items
-            ≡ spec.findings packages.now advisories.now (texts_of ignored.now)
-            (texts_of denied.now)) }
+        ensures findings { IfOk result (λ report. map advisory_finding_of report.findings.items
+            ≡ advisory_findings packages.now advisories.now (bytes_of_texts ignored.now)
+            (bytes_of_texts denied.now)) }
         ensures unmet { IfOk result (λ report. map id_of report.unmet.items
-            ≡ unmet (pair.pairs packages.now advisories.now) (texts_of ignored.now)) }
+            ≡ unmet (pair.pairs packages.now advisories.now) (bytes_of_texts ignored.now)) }
     {
         let pairs = pairs(alloc, packages, advisories)?;
         let unmet = unmet_of(alloc, &pairs, ignored)?;
@@ -94,8 +93,9 @@ fn findings_of<'p, 'a>(
     ignored: &[String],
     denied: &[String],
 ) -> Result<Vec<Finding<'p, 'a>>, AllocError>
-    ensures { IfOk result (λ v. map finding_of v.items
-        ≡ findings_of (texts_of ignored.now) (texts_of denied.now) (map pair_of pairs.now)) }
+    ensures { IfOk result (λ v. map advisory_finding_of v.items
+        ≡ findings_of (bytes_of_texts ignored.now) (bytes_of_texts denied.now)
+        (map advisory_pair_of pairs.now)) }
 {
     let mut found = Vec::new(alloc);
     for pair in pairs {
@@ -111,8 +111,9 @@ fn put_finding<'p, 'a>(
     ignored: &[String],
     denied: &[String],
 ) -> Result<(), AllocError>
-    ensures { OnOk result (map finding_of found.new.items ≡ map finding_of found.old.items
-        ++ finding_if (texts_of ignored.now) (texts_of denied.now) (pair_of pair.entry)) }
+    ensures { OnOk result (map advisory_finding_of found.new.items
+        ≡ map advisory_finding_of found.old.items ++ finding_if (bytes_of_texts ignored.now)
+        (bytes_of_texts denied.now) (advisory_pair_of pair.entry)) }
 {
     let Pair { package, advisory } = pair;
     if !is_listed(ignored, &advisory.id) {
@@ -128,7 +129,7 @@ fn put_finding<'p, 'a>(
 
 // Whether an advisory of this kind is denied.
 fn is_denied_kind(denied: &[String], informational: &Option<String>) -> bool
-    ensures { result ≡ is_denied_kind (texts_of denied.now) (option_map string_bytes
+    ensures { result ≡ is_denied_kind (bytes_of_texts denied.now) (option_map string_bytes
         informational.now) }
 {
     match informational {
@@ -139,7 +140,7 @@ fn is_denied_kind(denied: &[String], informational: &Option<String>) -> bool
 
 // Whether the text is one of the list.
 fn is_listed(texts: &[String], text: &str) -> bool
-    ensures { result ≡ is_listed (texts_of texts.now) text.now }
+    ensures { result ≡ is_listed (bytes_of_texts texts.now) text.now }
 {
     is_among(texts, text)
 }
@@ -160,7 +161,7 @@ fn unmet_of<'i>(
     ids: &'i [String],
 ) -> Result<Vec<Unmet<'i>>, AllocError>
     ensures { IfOk result (λ v. map id_of v.items
-        ≡ unmet (map pair_of pairs.now) (texts_of ids.now)) }
+        ≡ unmet (map advisory_pair_of pairs.now) (bytes_of_texts ids.now)) }
 {
     let mut unmet = Vec::new(alloc);
     for id in ids {
@@ -175,8 +176,8 @@ fn put_unmet<'i>(
     pairs: &[Pair<'_, '_>],
     id: &'i String,
 ) -> Result<(), AllocError>
-    ensures { OnOk result (map id_of unmet.new.items
-        ≡ map id_of unmet.old.items ++ unmet_if (map pair_of pairs.now) (string_bytes id.now)) }
+    ensures { OnOk result (map id_of unmet.new.items ≡ map id_of unmet.old.items
+        ++ unmet_if (map advisory_pair_of pairs.now) (string_bytes id.now)) }
 {
     if !is_met(pairs, id) {
         unmet.push(Unmet(id))?;
@@ -186,21 +187,21 @@ fn put_unmet<'i>(
 
 // Whether a pair has the advisory of this id.
 fn is_met(pairs: &[Pair<'_, '_>], id: &str) -> bool
-    ensures { result ≡ list_any (is_pair_with id.now) (map pair_of pairs.now) }
+    ensures { result ≡ list_any (is_pair_with id.now) (map advisory_pair_of pairs.now) }
 {
     is_with_one(pairs, id)
 }
 
 // The same, as a test of each pair.
 fn is_with_one(pairs: &[Pair<'_, '_>], id: &str) -> bool
-    ensures { result ≡ list_any (λ q. is_pair_with id.now (pair_of q)) pairs.now }
+    ensures { result ≡ list_any (λ q. is_pair_with id.now (advisory_pair_of q)) pairs.now }
 {
     pairs.iter().any(|pair| is_with(pair, id))
 }
 
 // Whether the pair has the advisory of this id.
 fn is_with(pair: &Pair<'_, '_>, id: &str) -> bool
-    ensures { result ≡ is_pair_with id.now (pair_of pair.now) }
+    ensures { result ≡ is_pair_with id.now (advisory_pair_of pair.now) }
 {
     let advisory = pair.advisory;
     advisory.id.as_str() == id
@@ -210,11 +211,11 @@ fn is_with(pair: &Pair<'_, '_>, id: &str) -> bool
 
 impl fmt::Display for Report<'_, '_, '_> {
     ghost use Rattle.std.specs.Prelude.{Some, map};
-    ghost use Rattle.cargo_lock_audit.specs.Findings.{finding_of, id_of};
-    ghost use Rattle.cargo_lock_audit.specs.Lines.{report_text};
+    ghost use Rattle.cargo_lock_audit.specs.Findings.{advisory_finding_of, id_of};
+    ghost use Rattle.cargo_lock_audit.specs.Lines.{audit_report_text};
 
-    ghost output = { λ report. Some (report_text (map finding_of report.findings.items)
-        (map id_of report.unmet.items)) };
+    ghost output = { λ report. Some (audit_report_text
+        (map advisory_finding_of report.findings.items) (map id_of report.unmet.items)) };
 
     fn fmt<W: fmt::Write>(&self, f: &mut fmt::Formatter<W>) -> fmt::Result {
         write_findings(&self.findings, f)?;
@@ -228,7 +229,7 @@ fn write_findings<W: fmt::Write>(
     f: &mut fmt::Formatter<W>,
 ) -> fmt::Result
     ensures { DisplaysOnOk W.write_str_gives f.old result
-        (Some (findings_text (map finding_of findings.now))) f.new }
+        (Some (advisory_findings_text (map advisory_finding_of findings.now))) f.new }
 {
     for finding in findings {
         write!(f, "{finding}\n")?;

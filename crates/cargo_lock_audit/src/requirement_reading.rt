@@ -8,14 +8,15 @@ ghost use Rattle.cargo_lock_parts.specs.Error.{IsParseOrMemory, Reads};
 ghost use Rattle.cargo_lock_audit.specs.RequirementReading.{all_bounds, bound_of, bounds_alone};
 ghost use Rattle.cargo_lock_audit.specs.RequirementReading.{bounds_of, caret_end, end_of, next};
 ghost use Rattle.cargo_lock_audit.specs.RequirementReading.{lowest_of, range, relation_of};
-ghost use Rattle.cargo_lock_audit.specs.RequirementReading.{requirement_of, tilde_end, version_of};
+ghost use Rattle.cargo_lock_audit.specs.RequirementReading.{requirement_of, tilde_end};
+ghost use Rattle.cargo_lock_audit.specs.RequirementReading.{comparator_version};
 
 use crate::requirement::{Bound, Relation, Requirement};
 use cargo_lock_parts::error::{Error, Result};
+use printing::Quoted;
 use semver::{
     BuildMetadata, Comparator, Error as VersionError, Op, Prerelease, Version, VersionReq,
 };
-use shown::Quoted;
 use std::alloc::{AllocError, Global};
 
 impl Requirement {
@@ -90,7 +91,7 @@ fn bounds_alone(alloc: Global, only: &Comparator, text: &str) -> Result<Vec<Boun
 // pre-release of the version with these numbers.
 fn range(alloc: Global, comparator: &Comparator, end: Numbers) -> Result<Vec<Bound>>
     ensures { Reads (λ v. v.items) result
-        (Some (range (version_of (comparator_view comparator.now)) (lowest_of end))) }
+        (Some (range (comparator_version (comparator_view comparator.now)) (lowest_of end))) }
 {
     let version = version_of(comparator)?;
     let start = Bound {
@@ -164,7 +165,7 @@ fn relation_of(op: Op) -> Option<Relation>
 
 // The version of a comparator.
 fn version_of(comparator: &Comparator) -> std::result::Result<Version, AllocError>
-    ensures { IfOk result (λ v. parts_of v ≡ version_of (comparator_view comparator.now)) }
+    ensures { IfOk result (λ v. parts_of v ≡ comparator_version (comparator_view comparator.now)) }
 {
     Ok(Version {
         major: comparator.major,

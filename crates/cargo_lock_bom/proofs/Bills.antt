@@ -6,9 +6,10 @@ use Rattle.serde_json.proofs.Texts.{print-outline}
 use Rattle.cargo_lock_graph.specs.Edges.{GraphData}
 use Rattle.cargo_lock_bom.specs.declared.contents.Contents.{Contents}
 use Rattle.cargo_lock_bom.specs.Component.{component_at}
-use Rattle.cargo_lock_bom.specs.Contents.{AreContents, IsTextOf, bill_with, entry_for, metadata_with}
-use Rattle.cargo_lock_bom.specs.Document.{IsBill, IsBillText}
-use Rattle.cargo_lock_bom.specs.Draft.{data_tokens}
+use Rattle.cargo_lock_bom.specs.Contents.{AreContents, IsTextOfData, bill_with, entry_for, metadata_with}
+use Rattle.printing.specs.declared.document.Layout.{Layout}
+use Rattle.cargo_lock_bom.specs.Document.{IsBill, ReadsAsBill}
+use Rattle.cargo_lock_bom.specs.Tokens.{data_tokens}
 use Rattle.cargo_lock_bom.specs.Options.{OptionsData}
 use Rattle.cargo_lock_bom.specs.References.{HaveDistinctReferences}
 use Rattle.cargo_lock_bom.specs.Serial.{numbered, serial_text, with_serial}
@@ -42,10 +43,10 @@ bill_of graph options contents distinct are = record {
 }
 
 -- the text of the bill reads as the bill
-pub bill_text : (graph : GraphData) (options : OptionsData) (contents : Contents) (compact : Bool) (text : List ℕ) → HaveDistinctReferences graph.packages
-    → AreContents graph options contents → IsTextOf compact (numbered options.has_serial (bill_with graph options contents)) text
-    → IsBillText graph options text
-bill_text graph options contents compact text distinct are is =
+pub bill_text : (graph : GraphData) (options : OptionsData) (contents : Contents) (layout : Layout) (text : List ℕ) → HaveDistinctReferences graph.packages
+    → AreContents graph options contents → IsTextOfData layout (numbered options.has_serial (bill_with graph options contents)) text
+    → ReadsAsBill graph options text
+bill_text graph options contents layout text distinct are is =
     let bill = numbered options.has_serial (bill_with graph options contents) in
     let is_bill = bill_of graph options contents distinct are in
     record {

@@ -16,10 +16,10 @@ use Rattle.cargo_lock_graph.specs.Edges.{GraphData}
 use Rattle.cargo_lock_bom.specs.declared.root.Root.{Root}
 use Rattle.cargo_lock_bom.specs.declared.root.Root.TheVariants.{Package, Workspace, Nothing}
 use Rattle.cargo_lock_bom.specs.Component.{AreComponents, base_members, component_at, component_if, component_of, hashes_of, license_at, licenses_of, put_some, repositories_by, repositories_if, repositories_of, root_component}
-use Rattle.cargo_lock_bom.specs.Dependencies.{AreEntries, AreOwnEntries, IsEntry, entry_with, node_reference}
-use Rattle.cargo_lock_bom.specs.Document.{IsAbout, IsBill, document_of}
+use Rattle.cargo_lock_bom.specs.Dependencies.{AreBillEntries, AreOwnEntries, IsNodeEntry, entry_with, node_reference}
+use Rattle.cargo_lock_bom.specs.Document.{IsAbout, IsBill, bill_document}
 use Rattle.cargo_lock_bom.specs.Iri.{iri_text}
-use Rattle.cargo_lock_bom.specs.Metadata.{IsMetadata, author_of, authors_if, metadata_of, own_members}
+use Rattle.cargo_lock_bom.specs.Metadata.{IsBillMetadata, author_of, authors_if, bill_metadata, own_members}
 use Rattle.cargo_lock_bom.specs.Options.{OptionsData}
 use Rattle.cargo_lock_bom.specs.Purl.{purl_of}
 use Rattle.cargo_lock_bom.specs.References.{workspace_reference}
@@ -134,7 +134,7 @@ with_low packages own targets =
     items_depth-map (λ k. string (node_reference packages k)) 0 (λ k. string_low (node_reference packages k) 0) targets in
     suc_low _ 1 (max-le (suc_low _ 0 low) (max-le (string_low own 1) (none_low 1)))
 
-entry_low : (graph : GraphData) (node : ℕ) (d : Data) → IsEntry graph node d → depth d ≤ 2
+entry_low : (graph : GraphData) (node : ℕ) (d : Data) → IsNodeEntry graph node d → depth d ≤ 2
 entry_low graph node d entry = rw entry.is (with_low graph.packages (node_reference graph.packages node) entry.targets)
 
 own_low : (packages : List PackageData) (root : Root) (own : List Data) → AreOwnEntries packages root own → items_depth (items_of own) ≤ 2
@@ -148,10 +148,10 @@ items_depth-append : (n : ℕ) (xs ys : List Data) → items_depth (items_of xs)
 items_depth-append n [] ys a b = b
 items_depth-append n (x ∷ xs) ys a b = max-le (first_low (depth x) (items_depth (items_of xs)) n a) (items_depth-append n xs ys (later_low (depth x) (items_depth (items_of xs)) n a) b)
 
-entries_low : (graph : GraphData) (root : Root) (entries : List Data) → AreEntries graph root entries → items_depth (items_of entries) ≤ 2
+entries_low : (graph : GraphData) (root : Root) (entries : List Data) → AreBillEntries graph root entries → items_depth (items_of entries) ≤ 2
 entries_low graph root entries are =
     rw are.are (items_depth-append 2 are.of_nodes are.own
-    (items_depth-zip (IsEntry graph) 2 (entry_low graph) (range_with_len 0 (length graph.packages)) are.of_nodes are.are_of_nodes)
+    (items_depth-zip (IsNodeEntry graph) 2 (entry_low graph) (range_with_len 0 (length graph.packages)) are.of_nodes are.are_of_nodes)
     (own_low graph.packages root are.own are.are_own))
 
 -- ---- the metadata
@@ -165,8 +165,8 @@ authors_low : (names : List (List ℕ)) → IfLow (authors_if names) 3
 authors_low [] = tt
 authors_low (name ∷ names) = suc_low _ 2 (items_depth-map author_of 2 (λ n. lit≤ tt) (name ∷ names))
 
-metadata_low : (graph : GraphData) (root : Root) (options : OptionsData) (d : Data) → IsMetadata graph root options d → depth d ≤ 4
-unfolding metadata_of
+metadata_low : (graph : GraphData) (root : Root) (options : OptionsData) (d : Data) → IsBillMetadata graph root options d → depth d ≤ 4
+unfolding bill_metadata
 metadata_low graph root options d is =
     rw is.is (suc_low _ 3
     (put_some_low (codes "timestamp") (option_map string is.time) _ 3 (map_low string is.time 3 (λ t. lit≤ tt))
@@ -176,7 +176,7 @@ metadata_low graph root options d is =
 
 -- a bill nests less deep than a reader of JSON follows
 about_low : (graph : GraphData) (root : Root) (options : OptionsData) (d : Data) → IsAbout graph root options d → depth d ≤ 126
-unfolding document_of
+unfolding bill_document
 about_low graph root options d about =
     let components = components_low graph options.licenses root about.components about.are_components in
     let entries = entries_low graph root about.entries about.are_entries in

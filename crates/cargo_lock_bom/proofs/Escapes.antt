@@ -2,50 +2,46 @@
 use Rattle.std.proofs.Common.{◌≡◌, ℕ, ◌<◌, ◌≤◌, Bool, true, false, not, ◌||◌, ◌==◌, List, [], ◌∷◌, ◌++◌, refl, sym, ap, ◌∙◌, arith, ⊎_elim}
 use Rattle.std.specs.Prelude.{if◌then◌else◌, nat_lt}
 use Rattle.std.specs.Char.{is_ascii_alphanumeric}
-use Rattle.std.specs.List.{list_all, list_any}
+use Rattle.std.specs.List.{Contains, list_all, list_any}
 use borrow.Author.Tests.{ltb-true}
-use Rattle.std.proofs.lemmas.Bool.{cond-true, cond-false, cases_Bool, and_parts}
+use Rattle.std.proofs.lemmas.Bool.{cond-true, cond-false, cases_Bool}
 use Rattle.std.proofs.lemmas.Bool.Decides.{nat_tests}
 use Rattle.url.proofs.SetLemmas.{all_below, checked}
 use Rattle.percent_encoding.specs.declared.ascii_set.AsciiSet.{AsciiSet}
 use Rattle.percent_encoding.specs.AsciiSet.{contains, should_percent_encode}
 use Rattle.percent_encoding.specs.Percent.{percent_encode, percent_encode_byte, encode_byte}
 use Rattle.percent_encoding.proofs.AsciiSetLemmas.{kept_from_outside, escaped_from_inside}
+use Rattle.lists.proofs.Tests.{all-passes, none-any}
 use Rattle.cargo_lock_bom.specs.declared.purl.TheConstants.{SEGMENT, VALUE}
 use Rattle.cargo_lock_bom.specs.declared.iri.TheConstants.{HOST, IRI}
 use Rattle.cargo_lock_bom.specs.Iri.{plain_host_marks, plain_iri_marks, escaped_host, escaped_iri}
-use Rattle.cargo_lock_bom.specs.Purl.{plain_segment_marks, plain_url_marks, is_plain, escaped_but, escaped_text, escaped_url}
+use Rattle.cargo_lock_bom.specs.Purl.{plain_segment_marks, plain_url_marks, is_unescaped, escaped_but, escaped_text, escaped_url}
 
 -- the set holds the ASCII byte exactly if it does not stand as it is
 is_right : AsciiSet → List ℕ → ℕ → Bool
-is_right set marks b = if contains set b then not (is_plain marks b) else is_plain marks b
-
-beyond : (b : ℕ) (bytes : List ℕ) → 128 ≤ b → list_all (λ c. nat_lt c 128) bytes ≡ true → list_any (λ c. b == c) bytes ≡ false
-beyond b [] high small = refl
-beyond b (c ∷ bytes) high small =
-    let both = and_parts _ _ small in
-    let below : c < 128 = ltb-true c 128 both.0 in
-    let differs : (b == c) ≡ false = grind (arith, nat_tests) in
-    ap (λ t. t || list_any (λ c. b == c) bytes) differs ∙ beyond b bytes high both.1
-
-no_letter : (b : ℕ) → 128 ≤ b → is_ascii_alphanumeric b ≡ false
-no_letter b high = grind (arith, nat_tests)
+is_right set marks b = if contains set b then not (is_unescaped marks b) else is_unescaped marks b
 
 module _ (set : AsciiSet) (marks : List ℕ) (right : all_below (is_right set marks) 128 ≡ true) (ascii : list_all (λ c. nat_lt c 128) marks ≡ true) where
-  not_plain : (b : ℕ) → 128 ≤ b → is_plain marks b ≡ false
-  not_plain b high = ap (λ t. t || list_any (λ c. b == c) marks) (no_letter b high) ∙ beyond b marks high ascii
+  not_plain : (b : ℕ) → 128 ≤ b → is_unescaped marks b ≡ false
+  not_plain b high =
+      let no_letter : is_ascii_alphanumeric b ≡ false = grind (arith, nat_tests) in
+      let no_mark : (c : ℕ) → Contains marks c → (b == c) ≡ false = λ c there.
+      let below : c < 128 = ltb-true c 128 (all-passes (λ m. nat_lt m 128) marks ascii c there) in
+      grind (arith, nat_tests)
+      in
+      ap (λ t. t || list_any (λ c. b == c) marks) no_letter ∙ none-any (λ c. b == c) marks no_mark
 
-  ascii_right : (b : ℕ) → b < 128 → should_percent_encode set b ≡ not (is_plain marks b)
+  ascii_right : (b : ℕ) → b < 128 → should_percent_encode set b ≡ not (is_unescaped marks b)
   unfolding is_right
   ascii_right b low =
       let one : is_right set marks b ≡ true = checked (is_right set marks) 128 right b low in
       ⊎_elim
-      (λ inside. escaped_from_inside set b inside ∙ sym (sym (cond-true (contains set b) (not (is_plain marks b)) (is_plain marks b) inside) ∙ one))
+      (λ inside. escaped_from_inside set b inside ∙ sym (sym (cond-true (contains set b) (not (is_unescaped marks b)) (is_unescaped marks b) inside) ∙ one))
       (λ outside. kept_from_outside set b low outside
-      ∙ sym (ap not (sym (cond-false (contains set b) (not (is_plain marks b)) (is_plain marks b) outside) ∙ one)))
+      ∙ sym (ap not (sym (cond-false (contains set b) (not (is_unescaped marks b)) (is_unescaped marks b) outside) ∙ one)))
       (cases_Bool (contains set b))
 
-  escapes_right : (b : ℕ) → should_percent_encode set b ≡ not (is_plain marks b)
+  escapes_right : (b : ℕ) → should_percent_encode set b ≡ not (is_unescaped marks b)
   unfolding should_percent_encode
   escapes_right b =
       ⊎_elim
@@ -54,12 +50,12 @@ module _ (set : AsciiSet) (marks : List ℕ) (right : all_below (is_right set ma
       ap (λ t. not t || contains set b) high ∙ sym (ap not (not_plain b above)))
       (cases_Bool (nat_lt b 128))
 
-  encode_byte_right : (b : ℕ) → encode_byte set b ≡ (if is_plain marks b then b ∷ [] else percent_encode_byte b)
+  encode_byte_right : (b : ℕ) → encode_byte set b ≡ (if is_unescaped marks b then b ∷ [] else percent_encode_byte b)
   encode_byte_right b =
       ⊎_elim
       (λ plain. cond-false _ _ _ (escapes_right b ∙ ap not plain) ∙ sym (cond-true _ _ _ plain))
       (λ other. cond-true _ _ _ (escapes_right b ∙ ap not other) ∙ sym (cond-false _ _ _ other))
-      (cases_Bool (is_plain marks b))
+      (cases_Bool (is_unescaped marks b))
 
   all_right : (text : List ℕ) → percent_encode set text ≡ escaped_but marks text
   unfolding percent_encode

@@ -10,7 +10,6 @@ pub mod Texts
 pub mod Writing
 pub mod Bills
 pub mod Ats
-pub mod Chosen
 pub mod Ways
-pub mod Searching
+pub mod ReachedNodes
 pub mod Tops

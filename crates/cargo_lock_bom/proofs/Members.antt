@@ -1,5 +1,5 @@
 -- The members of the objects of a bill, in the order of their keys, and their tokens.
-use Rattle.std.proofs.Common.{◌≡◌, ◌∙◌, ℕ, Bool, List, [], ◌∷◌, ◌++◌, Option, None, Some, ap, codes, option_map, refl}
+use Rattle.std.proofs.Common.{◌≡◌, ◌∙◌, ℕ, Bool, List, [], ◌∷◌, ◌++◌, Option, None, Some, ap, codes, decimal, option_map, refl}
 use Rattle.std.specs.Fmt.{digits}
 use Rattle.semver.specs.Identifiers.{parts_text}
 use Rattle.json.specs.Token as token
@@ -11,9 +11,9 @@ use Rattle.serde_json.specs.Written.{members_outline}
 use Rattle.cargo_lock_parts.specs.Identity.{PackageData, identity_of}
 use Rattle.cargo_lock_bom.specs.Component.{component_of, hashes_of, licenses_of, put_some, repositories_if, repositories_of, type_text}
 use Rattle.cargo_lock_bom.specs.Contents.{with_serial_if}
-use Rattle.cargo_lock_bom.specs.Document.{document_of}
-use Rattle.cargo_lock_bom.specs.Draft.{data_tokens, member_tokens}
-use Rattle.cargo_lock_bom.specs.Metadata.{authors_if, lifecycles, metadata_of, own_members, tools_of}
+use Rattle.cargo_lock_bom.specs.Document.{bill_document}
+use Rattle.cargo_lock_bom.specs.Tokens.{data_tokens, member_tokens}
+use Rattle.cargo_lock_bom.specs.Metadata.{authors_if, bill_metadata, lifecycles, own_members, tools_of}
 use Rattle.cargo_lock_bom.specs.Purl.{purl_of}
 use Rattle.cargo_lock_bom.specs.References.{package_reference}
 
@@ -110,13 +110,13 @@ component-tokens application license p =
     (some-tokens (codes "purl") u _))))
 
 pub metadata-tokens : (version : List ℕ) (authors : List (List ℕ)) (component : Option Data) (time : Option (List ℕ))
-    → data_tokens (metadata_of version authors component time)
+    → data_tokens (bill_metadata version authors component time)
     ≡ token.begin_object ∷ (member_tokens (codes "authors") (authors_if authors)
     ++ (member_tokens (codes "component") component
     ++ token.key (codes "lifecycles") ∷ (data_tokens lifecycles
     ++ (member_tokens (codes "timestamp") (option_map string time)
     ++ token.key (codes "tools") ∷ (data_tokens (tools_of version) ++ token.end_object ∷ [])))))
-unfolding metadata_of
+unfolding bill_metadata
 metadata-tokens version authors component time =
     let a = authors_if authors in
     let t = option_map string time in
@@ -129,14 +129,14 @@ metadata-tokens version authors component time =
     (some-tokens (codes "timestamp") t _)))
 
 pub bill-tokens : (serial : Option (List ℕ)) (components entries : List Data) (metadata : Data)
-    → data_tokens (with_serial_if serial (document_of components entries metadata))
+    → data_tokens (with_serial_if serial (bill_document components entries metadata))
     ≡ token.begin_object ∷ token.key (codes "bomFormat") ∷ token.string (codes "CycloneDX")
     ∷ token.key (codes "components") ∷ (data_tokens (array (items_of components))
     ++ token.key (codes "dependencies") ∷ (data_tokens (array (items_of entries))
     ++ token.key (codes "metadata") ∷ (data_tokens metadata
     ++ (member_tokens (codes "serialNumber") (option_map string serial)
     ++ token.key (codes "specVersion") ∷ token.string (codes "1.6")
-    ∷ token.key (codes "version") ∷ token.number (codes "1") ∷ token.end_object ∷ []))))
-unfolding document_of digits
+    ∷ token.key (codes "version") ∷ token.number (decimal 1) ∷ token.end_object ∷ []))))
+unfolding bill_document digits
 bill-tokens None components entries metadata = refl
 bill-tokens (Some serial) components entries metadata = refl

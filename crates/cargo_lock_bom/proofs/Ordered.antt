@@ -14,10 +14,10 @@ use Rattle.cargo_lock_graph.specs.Edges.{GraphData}
 use Rattle.cargo_lock_bom.specs.declared.root.Root.{Root}
 use Rattle.cargo_lock_bom.specs.declared.root.Root.TheVariants.{Package, Workspace, Nothing}
 use Rattle.cargo_lock_bom.specs.Component.{AreComponents, component_at, component_if, component_of, hashes_of, license_at, licenses_of, put_some, repositories_by, repositories_if, repositories_of, root_component}
-use Rattle.cargo_lock_bom.specs.Dependencies.{AreEntries, AreOwnEntries, IsEntry, entry_with, node_reference}
-use Rattle.cargo_lock_bom.specs.Document.{IsBill, document_of}
+use Rattle.cargo_lock_bom.specs.Dependencies.{AreBillEntries, AreOwnEntries, IsNodeEntry, entry_with, node_reference}
+use Rattle.cargo_lock_bom.specs.Document.{IsBill, bill_document}
 use Rattle.cargo_lock_bom.specs.Iri.{iri_text}
-use Rattle.cargo_lock_bom.specs.Metadata.{IsMetadata, author_of, authors_if, metadata_of, own_members}
+use Rattle.cargo_lock_bom.specs.Metadata.{IsBillMetadata, author_of, authors_if, bill_metadata, own_members}
 use Rattle.cargo_lock_bom.specs.Options.{OptionsData}
 use Rattle.cargo_lock_bom.specs.Purl.{purl_of}
 use Rattle.cargo_lock_bom.specs.References.{workspace_reference}
@@ -131,7 +131,7 @@ with_order : (packages : List PackageData) (own : List ℕ) (targets : List ℕ)
 unfolding entry_with
 with_order packages own targets = ((refl, tt), items-map (λ k. string (node_reference packages k)) (λ k. tt) targets, (tt, tt, tt))
 
-entry_order : (graph : GraphData) (node : ℕ) (d : Data) → IsEntry graph node d → InOrder d
+entry_order : (graph : GraphData) (node : ℕ) (d : Data) → IsNodeEntry graph node d → InOrder d
 entry_order graph node d entry = subst InOrder (sym entry.is) (with_order graph.packages (node_reference graph.packages node) entry.targets)
 
 own_order : (packages : List PackageData) (root : Root) (own : List Data) → AreOwnEntries packages root own → ItemsInOrder (items_of own)
@@ -141,10 +141,10 @@ own_order packages Workspace own are =
     subst (λ (ds : List Data). ItemsInOrder (items_of ds)) (sym are.2) (order, tt)
 own_order packages Nothing own are = subst (λ (ds : List Data). ItemsInOrder (items_of ds)) (sym are) tt
 
-entries_order : (graph : GraphData) (root : Root) (entries : List Data) → AreEntries graph root entries → ItemsInOrder (items_of entries)
+entries_order : (graph : GraphData) (root : Root) (entries : List Data) → AreBillEntries graph root entries → ItemsInOrder (items_of entries)
 entries_order graph root entries are =
     subst (λ (ds : List Data). ItemsInOrder (items_of ds)) (sym are.are) (items-append are.of_nodes are.own
-    (items-zip (IsEntry graph) (entry_order graph) (range_with_len 0 (length graph.packages)) are.of_nodes are.are_of_nodes)
+    (items-zip (IsNodeEntry graph) (entry_order graph) (range_with_len 0 (length graph.packages)) are.of_nodes are.are_of_nodes)
     (own_order graph.packages root are.own are.are_own))
 
 -- ---- the metadata
@@ -172,8 +172,8 @@ authors_order : (names : List (List ℕ)) → IfOrder (authors_if names)
 authors_order [] = tt
 authors_order (name ∷ names) = items-map author_of (λ n. (tt, tt, tt)) (name ∷ names)
 
-metadata_order : (graph : GraphData) (root : Root) (options : OptionsData) (d : Data) → IsMetadata graph root options d → InOrder d
-unfolding metadata_of
+metadata_order : (graph : GraphData) (root : Root) (options : OptionsData) (d : Data) → IsBillMetadata graph root options d → InOrder d
+unfolding bill_metadata
 metadata_order graph root options d is =
     subst InOrder (sym is.is)
     (metadata_order-members options.tool_version (authors_if options.authors) (root_component graph options.licenses root) (option_map string is.time)
@@ -182,22 +182,22 @@ metadata_order graph root options d is =
 -- ---- the document
 
 document_order : (components entries : List Data) (metadata : Data) → ItemsInOrder (items_of components) → ItemsInOrder (items_of entries) → InOrder metadata
-    → InOrder (document_of components entries metadata)
-unfolding document_of
+    → InOrder (bill_document components entries metadata)
+unfolding bill_document
 document_order components entries metadata a b c =
     ((refl, (refl, (refl, (refl, (refl, tt))))), tt, ((refl, (refl, (refl, (refl, tt)))), a, ((refl, (refl, (refl, tt))), b, ((refl, (refl, tt)), c, ((refl, tt), tt, (tt, number_of-decimal 1 (omega arith), tt))))))
 
 signed_order : (serial : List ℕ) (components entries : List Data) (metadata : Data) → ItemsInOrder (items_of components) → ItemsInOrder (items_of entries) → InOrder metadata
-    → InOrder (with_serial serial (document_of components entries metadata))
-unfolding document_of
+    → InOrder (with_serial serial (bill_document components entries metadata))
+unfolding bill_document
 signed_order serial components entries metadata a b c =
     ((refl, (refl, (refl, (refl, (refl, (refl, tt)))))), tt, ((refl, (refl, (refl, (refl, (refl, tt))))), a, ((refl, (refl, (refl, (refl, tt)))), b, ((refl, (refl, (refl, tt))), c, ((refl, (refl, tt)), tt, ((refl, tt), tt, (tt, number_of-decimal 1 (omega arith), tt)))))))
 
 numbered_order : (has_serial : Bool) (components entries : List Data) (metadata : Data) → ItemsInOrder (items_of components) → ItemsInOrder (items_of entries) → InOrder metadata
-    → InOrder (numbered has_serial (document_of components entries metadata))
+    → InOrder (numbered has_serial (bill_document components entries metadata))
 numbered_order false components entries metadata a b c = document_order components entries metadata a b c
 numbered_order true components entries metadata a b c =
-    signed_order (serial_text (compact_text (document_of components entries metadata))) components entries metadata a b c
+    signed_order (serial_text (compact_text (bill_document components entries metadata))) components entries metadata a b c
 
 pub bill_order : (graph : GraphData) (options : OptionsData) (d : Data) → IsBill graph options d → InOrder d
 bill_order graph options d bill =

@@ -10,7 +10,7 @@ use Rattle.json.proofs.Printed.Trees.{value-json_tokens}
 use Rattle.serde_json.specs.Data.{Data, Items, Members, array, boolean, depth, item, items_depth, member, members_depth, no_items, no_members, null, number, object, put, string}
 use Rattle.serde_json.specs.Read.{max_depth, number_of, of_items, of_json, of_members, read}
 use Rattle.serde_json.specs.Written.{items_outline, members_outline, number_text, outline}
-use Rattle.cargo_lock_bom.specs.Draft.{data_tokens}
+use Rattle.cargo_lock_bom.specs.Tokens.{data_tokens}
 
 -- the key is before those of all members
 abbrev pub IsBefore : List ℕ → Members → Type 0

@@ -1,5 +1,5 @@
 -- The texts of packages in a set, one package after another.
-use Rattle.std.proofs.Common.{◌≡◌, ℕ, ◌+◌, Bool, true, false, not, ◌||◌, cond, String, Global, string_bytes, BTreeSet, List, [], ◌∷◌, ◌++◌, map, take, slice_get, Some, refl, sym, ap, ◌∙◌}
+use Rattle.std.proofs.Common.{◌≡◌, ℕ, ◌+◌, Bool, true, false, ◌||◌, cond, String, Global, string_bytes, BTreeSet, List, [], ◌∷◌, ◌++◌, map, take, slice_get, Some, refl, sym, ap, ◌∙◌}
 use Rattle.std.specs.BTreeMap.{is_at}
 use Rattle.std.specs.BTreeSet.{contains_text}
 use Rattle.std.specs.Cmp.Lexicographic.{slice_cmp}
@@ -14,7 +14,7 @@ use Rattle.std.proofs.lemmas.Map.Made.{AllPairs-from_IsDistinct}
 use Rattle.std.proofs.lemmas.Map.Views.{Contains-from_any}
 use Rattle.std.proofs.lemmas.Slice.Eq.{bytes_eq-Decides}
 use Rattle.cargo_lock_parts.specs.Identity.{PackageData}
-use Rattle.cargo_lock_bom.specs.References.{HaveDistinctReferences, IsRepeated, package_reference}
+use Rattle.cargo_lock_bom.specs.References.{HaveDistinctReferences, IsRepeatedReference, package_reference}
 use Rattle.cargo_lock_bom.proofs.Places.{take-next}
 
 -- the texts of the packages are distinct, and are those that the set has
@@ -33,15 +33,6 @@ cond-or true true = refl
 cond-or true false = refl
 cond-or false true = refl
 cond-or false false = refl
-
--- what stands before a `not`
-pub not-false : (b : Bool) → not b ≡ false → b ≡ true
-not-false true e = refl
-not-false false e = sym e
-
-pub not-true : (b : Bool) → not b ≡ true → b ≡ false
-not-true false e = refl
-not-true true e = sym e
 
 -- no package, and a set without texts
 pub none-seen : (s : BTreeSet (String Global)) → s.keys ≡ [] → AreSeen [] (contains_text s)
@@ -68,7 +59,7 @@ next-seen all k p before after at seen new grown =
 
 -- a package whose text is there
 pub seen-repeated : (all : List PackageData) (k : ℕ) (p : PackageData) (has : List ℕ → Bool)
-    → slice_get all k ≡ Some p → AreSeen (take k all) has → has (package_reference p) ≡ true → IsRepeated all p
+    → slice_get all k ≡ Some p → AreSeen (take k all) has → has (package_reference p) ≡ true → IsRepeatedReference all p
 seen-repeated all k p has at seen there = record {
   place = k;
   stands = at;

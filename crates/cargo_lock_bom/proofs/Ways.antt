@@ -84,6 +84,3 @@ path-join far a (n ∷ ns) b q c path more = (path.0, path-join far n ns b q c p
 
 pub reachable-join : (far : ℕ → List ℕ) (a b c : ℕ) → IsReachable far a b → IsReachable far b c → IsReachable far a c
 reachable-join far a b c f g = (f.0 ++ g.0, path-join far a f.0 b g.0 c f.1 g.1)
-
-pub reachable-next : (far : ℕ → List ℕ) (a b c : ℕ) → IsReachable far a b → is_one_of c (far b) ≡ true → IsReachable far a c
-reachable-next far a b c f h = reachable-join far a b c f (c ∷ [], (h, refl))

@@ -13,7 +13,7 @@ use Rattle.cargo_lock_graph.specs.Edges.{GraphData}
 use Rattle.cargo_lock_bom.specs.declared.root.Root.{Root}
 use Rattle.cargo_lock_bom.specs.declared.root.Root.TheVariants.{Package, Workspace, Nothing}
 use Rattle.cargo_lock_bom.specs.Iri.{iri_text}
-use Rattle.cargo_lock_bom.specs.Places.{IsPlaces}
+use Rattle.lists.specs.Places.{IsPlaces}
 use Rattle.cargo_lock_bom.specs.Purl.{purl_of}
 use Rattle.cargo_lock_bom.specs.References.{package_reference, workspace_reference}
 use Rattle.cargo_lock_bom.specs.Root.{is_application}

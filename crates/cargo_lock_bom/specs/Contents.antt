@@ -1,9 +1,7 @@
 -- What a bill of a graph has, by nodes, before it is written.
-use Rattle.std.specs.Prelude.{◌≡◌, ℕ, Bool, List, [], codes, map, length, Option, None, Some}
-use Rattle.std.specs.Prelude.{cond, option_map, slice_get, string_bytes, unwrap_or}
-use Rattle.json.specs.Layout.{pretty}
+use Rattle.std.specs.Prelude.{◌≡◌, ℕ, List, [], codes, map, length, Option, None, Some}
+use Rattle.std.specs.Prelude.{option_map, slice_get, string_bytes, unwrap_or}
 use Rattle.json.specs.Lex.{tokens}
-use Rattle.json.specs.Print.{print}
 use Rattle.serde_json.specs.Data.{Data, array, member, no_members, object, string}
 use Rattle.serde_json.specs.View.{items_of}
 use Rattle.cargo_lock_parts.specs.Identity.{PackageData}
@@ -12,12 +10,14 @@ use Rattle.cargo_lock_bom.specs.declared.contents.Contents.{Contents}
 use Rattle.cargo_lock_bom.specs.declared.dependencies.Entry.{Entry}
 use Rattle.cargo_lock_bom.specs.declared.root.Root.TheVariants.{Package}
 use Rattle.cargo_lock_bom.specs.Component.{component_at, root_component}
-use Rattle.cargo_lock_bom.specs.Dependencies.{AreEntries, entry_with, node_reference}
-use Rattle.cargo_lock_bom.specs.Document.{document_of}
-use Rattle.cargo_lock_bom.specs.Draft.{data_tokens}
-use Rattle.cargo_lock_bom.specs.Metadata.{IsTimeTextIf, metadata_of}
+use Rattle.cargo_lock_bom.specs.Dependencies.{AreBillEntries, entry_with, node_reference}
+use Rattle.cargo_lock_bom.specs.Document.{bill_document}
+use Rattle.cargo_lock_bom.specs.Tokens.{data_tokens}
+use Rattle.cargo_lock_bom.specs.Metadata.{IsTimeTextIf, bill_metadata}
 use Rattle.cargo_lock_bom.specs.Options.{OptionsData}
-use Rattle.cargo_lock_bom.specs.Places.{IsPlaces}
+use Rattle.lists.specs.Places.{IsPlaces}
+use Rattle.printing.specs.declared.document.Layout.{Layout}
+use Rattle.printing.specs.Json.{laid_out}
 use Rattle.cargo_lock_bom.specs.References.{package_reference, workspace_reference}
 use Rattle.cargo_lock_bom.specs.Root.{IsRootOf, IsWithin}
 use Rattle.cargo_lock_bom.specs.Serial.{with_serial}
@@ -53,19 +53,19 @@ pub record AreContents (graph : GraphData) (options : OptionsData) (contents : C
     pub within : IsWithin graph.packages contents.root
     pub are_others : IsPlaces (λ k. ¬ (contents.root ≡ Package k)) (length graph.packages)
         contents.nodes.items
-    pub are_entries : AreEntries graph contents.root
+    pub are_entries : AreBillEntries graph contents.root
         (map (entry_for graph.packages) contents.entries.items)
     pub are_texts : map string_bytes contents.texts.items ≡ map package_reference graph.packages
     pub is_time : IsTimeTextIf options.timestamp (option_map string_bytes contents.time)
 
 -- the metadata of a bill with these contents
 abbrev pub metadata_with : GraphData → OptionsData → Contents → Data
-metadata_with graph options contents = metadata_of options.tool_version options.authors
+metadata_with graph options contents = bill_metadata options.tool_version options.authors
     (root_component graph options.licenses contents.root) (option_map string_bytes contents.time)
 
 -- the bill with these contents, without a serial number
 abbrev pub bill_with : GraphData → OptionsData → Contents → Data
-bill_with graph options contents = document_of
+bill_with graph options contents = bill_document
     (map (component_at graph options.licenses) contents.nodes.items)
     (map (entry_for graph.packages) contents.entries.items)
     (metadata_with graph options contents)
@@ -75,7 +75,7 @@ abbrev pub with_serial_if : Option (List ℕ) → Data → Data
 with_serial_if None d = d
 with_serial_if (Some serial) d = with_serial serial d
 
--- the text has the tokens of a value, in one line if it is compact, and otherwise laid out in lines
-pub record IsTextOf (compact : Bool) (d : Data) (text : List ℕ) : Type 0 where
+-- the text has the tokens of a value, in this layout
+pub record IsTextOfData (layout : Layout) (d : Data) (text : List ℕ) : Type 0 where
   pub has : tokens text ≡ data_tokens d
-  pub laid_out : text ≡ cond compact print pretty (data_tokens d)
+  pub is : text ≡ laid_out layout (data_tokens d)

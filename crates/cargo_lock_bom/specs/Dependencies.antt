@@ -11,12 +11,12 @@ use Rattle.cargo_lock_graph.specs.declared.graph.EdgeDirection.TheVariants.{Outg
 use Rattle.cargo_lock_graph.specs.Edges.{GraphData, far_ends}
 use Rattle.cargo_lock_bom.specs.declared.root.Root.{Root}
 use Rattle.cargo_lock_bom.specs.declared.root.Root.TheVariants.{Package, Workspace, Nothing}
-use Rattle.cargo_lock_bom.specs.Places.{IsPlaces}
+use Rattle.lists.specs.Places.{IsPlaces}
 use Rattle.cargo_lock_bom.specs.References.{package_reference, workspace_reference}
 use Rattle.cargo_lock_bom.specs.Root.{is_member}
 
 -- the nodes to which edges lead from a node, ascending, each listed once
-pub record AreTargets (graph : GraphData) (node : ℕ) (targets : List ℕ) : Type 0 where
+pub record AreEdgeTargets (graph : GraphData) (node : ℕ) (targets : List ℕ) : Type 0 where
   pub ascending : IsStrictlyIncreasing targets
   pub are_nodes : All (λ k. k < length graph.packages) targets
   pub told : (k : ℕ) → Contains targets k ↔ Contains (far_ends Outgoing graph.edges node) k
@@ -42,9 +42,9 @@ abbrev pub entry_of : List PackageData → ℕ → List ℕ → Data
 entry_of packages node targets = entry_with packages (node_reference packages node) targets
 
 -- the entry of a node of the graph
-pub record IsEntry (graph : GraphData) (node : ℕ) (d : Data) : Type 0 where
+pub record IsNodeEntry (graph : GraphData) (node : ℕ) (d : Data) : Type 0 where
   pub targets : List ℕ
-  pub are_targets : AreTargets graph node targets
+  pub are_targets : AreEdgeTargets graph node targets
   pub is : d ≡ entry_of graph.packages node targets
 
 -- the entry of the workspace: it depends on each package of the workspace
@@ -60,9 +60,9 @@ AreOwnEntries packages Workspace own = (d : Data) × IsWorkspaceEntry packages d
 AreOwnEntries packages Nothing own = own ≡ []
 
 -- the entries: one for each node, in order, and then one for the workspace, if that is the root
-pub record AreEntries (graph : GraphData) (root : Root) (entries : List Data) : Type 0 where
+pub record AreBillEntries (graph : GraphData) (root : Root) (entries : List Data) : Type 0 where
   pub of_nodes : List Data
   pub own : List Data
-  pub are_of_nodes : AllZip (IsEntry graph) (range_with_len 0 (length graph.packages)) of_nodes
+  pub are_of_nodes : AllZip (IsNodeEntry graph) (range_with_len 0 (length graph.packages)) of_nodes
   pub are_own : AreOwnEntries graph.packages root own
   pub are : entries ≡ of_nodes ++ own

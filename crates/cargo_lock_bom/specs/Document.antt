@@ -10,16 +10,16 @@ use Rattle.serde_json.specs.View.{items_of}
 use Rattle.cargo_lock_graph.specs.Edges.{GraphData}
 use Rattle.cargo_lock_bom.specs.declared.root.Root.{Root}
 use Rattle.cargo_lock_bom.specs.Component.{AreComponents}
-use Rattle.cargo_lock_bom.specs.Dependencies.{AreEntries}
-use Rattle.cargo_lock_bom.specs.Metadata.{IsMetadata}
+use Rattle.cargo_lock_bom.specs.Dependencies.{AreBillEntries}
+use Rattle.cargo_lock_bom.specs.Metadata.{IsBillMetadata}
 use Rattle.cargo_lock_bom.specs.Options.{OptionsData}
 use Rattle.cargo_lock_bom.specs.References.{HaveDistinctReferences}
 use Rattle.cargo_lock_bom.specs.Root.{IsRootOf}
 use Rattle.cargo_lock_bom.specs.Serial.{numbered}
 
 -- the document of components, of entries that list the dependencies of each, and of metadata
-unfoldable pub document_of : List Data → List Data → Data → Data
-document_of components entries metadata = object
+unfoldable pub bill_document : List Data → List Data → Data → Data
+bill_document components entries metadata = object
     (member (codes "bomFormat") (string (codes "CycloneDX"))
     (member (codes "components") (array (items_of components))
     (member (codes "dependencies") (array (items_of entries))
@@ -34,9 +34,9 @@ pub record IsAbout (graph : GraphData) (root : Root) (options : OptionsData) (d 
     pub entries : List Data
     pub metadata : Data
     pub are_components : AreComponents graph options.licenses root components
-    pub are_entries : AreEntries graph root entries
-    pub is_metadata : IsMetadata graph root options metadata
-    pub is : d ≡ document_of components entries metadata
+    pub are_entries : AreBillEntries graph root entries
+    pub is_metadata : IsBillMetadata graph root options metadata
+    pub is : d ≡ bill_document components entries metadata
 
 -- The bill of a graph: the root is the component of the metadata, each other package is one of the
 -- components, in order, each listed once, each package has an entry, and so does the workspace if
@@ -52,7 +52,7 @@ pub record IsBill (graph : GraphData) (options : OptionsData) (d : Data) : Type 
   pub is : d ≡ numbered options.has_serial plain
 
 -- the text reads, as JSON, as the bill of the graph
-pub record IsBillText (graph : GraphData) (options : OptionsData) (text : List ℕ) : Type 0 where
+pub record ReadsAsBill (graph : GraphData) (options : OptionsData) (text : List ℕ) : Type 0 where
   pub bill : Data
   pub is : IsBill graph options bill
   pub reads : read text ≡ Some bill

@@ -1,5 +1,4 @@
 pub mod UserInfo
-pub mod Places
 pub mod Root
 pub mod Search
 pub mod Purl
@@ -12,5 +11,5 @@ pub mod Metadata
 pub mod Serial
 pub mod Document
 pub mod Printed
-pub mod Draft
+pub mod Tokens
 pub mod Contents

@@ -62,16 +62,16 @@ own_members version = member (codes "lifecycles") lifecycles
     (member (codes "tools") (tools_of version) no_members)
 
 -- these, and the authors, the component of the root and the time, if there are any
-unfoldable pub metadata_of : List ℕ → List (List ℕ) → Option Data → Option (List ℕ) → Data
-metadata_of version authors component time = object
+unfoldable pub bill_metadata : List ℕ → List (List ℕ) → Option Data → Option (List ℕ) → Data
+bill_metadata version authors component time = object
     (put_some (codes "timestamp") (option_map string time)
     (put_some (codes "component") component
     (put_some (codes "authors") (authors_if authors) (own_members version))))
 
 -- the metadata of the bill of a graph with this root
-pub record IsMetadata (graph : GraphData) (root : Root) (options : OptionsData) (d : Data)
+pub record IsBillMetadata (graph : GraphData) (root : Root) (options : OptionsData) (d : Data)
     : Type 0 where
   pub time : Option (List ℕ)
   pub is_time : IsTimeTextIf options.timestamp time
-  pub is : d ≡ metadata_of options.tool_version options.authors
+  pub is : d ≡ bill_metadata options.tool_version options.authors
       (root_component graph options.licenses root) time

@@ -8,7 +8,7 @@ use Rattle.cargo_lock_parts.specs.Ascii.{newline}
 use Rattle.cargo_lock_parts.specs.Identity.{PackageData}
 use Rattle.cargo_lock_graph.specs.Edges.{Edge, GraphData}
 use Rattle.cargo_lock_graph.specs.Targets.{AreEdgesOf, IsUnresolved, links}
-use Rattle.cargo_lock_bom.specs.Document.{IsBillText, IsLaidOut}
+use Rattle.cargo_lock_bom.specs.Document.{IsLaidOut, ReadsAsBill}
 use Rattle.cargo_lock_bom.specs.Options.{OptionsData, within}
 use Rattle.cargo_lock_bom.specs.References.{IsRepeatedFault}
 
@@ -31,7 +31,7 @@ pub record IsPrintedBill (packages : List PackageData) (options : OptionsData) (
   pub edges : List Edge
   pub text : List ℕ
   pub are_edges : AreEdgesOf packages edges
-  pub reads : IsBillText (graph_with packages edges)
+  pub reads : ReadsAsBill (graph_with packages edges)
       (within (graph_with packages edges) options) text
   pub layout : IsLaidOut (cond compact print pretty) text
   pub ended : line ≡ text ++ newline ∷ []

@@ -12,7 +12,7 @@ use Rattle.cargo_lock_parts.specs.Identity.{Identity}
 use Rattle.cargo_lock_parts.specs.Source.{Kind, GitReference, Source, DefaultBranch, Tag, Branch}
 use Rattle.cargo_lock_parts.specs.Source.{Rev, Git, Path, Registry, SparseRegistry, LocalRegistry}
 use Rattle.cargo_lock_parts.specs.Source.{Directory}
-use Rattle.cargo_lock_parts.specs.SourceShown.{is_default_registry}
+use Rattle.cargo_lock_order.specs.Canonical.{is_canonically_crates_io}
 use Rattle.cargo_lock_bom.specs.UserInfo.{without_user_info}
 
 -- ---- escapes
@@ -26,13 +26,13 @@ abbrev pub plain_url_marks : List ℕ
 plain_url_marks = codes "-._~:/"
 
 -- the byte is not escaped: it is an ASCII letter, a digit or one of the marks
-abbrev pub is_plain : List ℕ → ℕ → Bool
-is_plain marks b = is_ascii_alphanumeric b || list_any (λ c. b == c) marks
+abbrev pub is_unescaped : List ℕ → ℕ → Bool
+is_unescaped marks b = is_ascii_alphanumeric b || list_any (λ c. b == c) marks
 
 -- a text with every other byte as `%` and two upper-case hex digits
 abbrev pub escaped_but : List ℕ → List ℕ → List ℕ
 escaped_but marks text =
-    flat_map (λ b. if is_plain marks b then b ∷ [] else percent_encode_byte b) text
+    flat_map (λ b. if is_unescaped marks b then b ∷ [] else percent_encode_byte b) text
 
 -- a name or a version in a package URL
 unfoldable pub escaped_text : List ℕ → List ℕ
@@ -72,7 +72,7 @@ qualifiers_by Directory url precise = codes "?repository_url=" ++ escaped_url ur
 -- without user name and password
 unfoldable pub qualifiers : Source → List ℕ
 qualifiers s =
-    if is_default_registry s then []
+    if is_canonically_crates_io s then []
     else qualifiers_by s.kind (serialize (without_user_info s.url)) s.precise
 
 -- ---- the URL

@@ -39,7 +39,7 @@ abbrev pub HaveDistinctReferences : List PackageData → Type 0
 HaveDistinctReferences packages = AllPairs (λ x y. x ≢ y) (map package_reference packages)
 
 -- the package is at a place, and an earlier one has its text
-pub record IsRepeated (packages : List PackageData) (p : PackageData) : Type 0 where
+pub record IsRepeatedReference (packages : List PackageData) (p : PackageData) : Type 0 where
   pub place : ℕ
   pub stands : slice_get packages place ≡ Some p
   pub earlier : Contains (map package_reference (take place packages)) (package_reference p)
@@ -51,4 +51,4 @@ repeated_text p = codes "two packages are " ++ dependency_text (public_identity 
 -- the error is `Memory`, or it is `Parse` and names a package whose text an earlier one has
 abbrev pub IsRepeatedFault : List PackageData → Error → Type 0
 IsRepeatedFault packages e = (e ≡ Memory)
-    ⊎ ((p : PackageData) × IsRepeated packages p × IsParse e (repeated_text p))
+    ⊎ ((p : PackageData) × IsRepeatedReference packages p × IsParse e (repeated_text p))

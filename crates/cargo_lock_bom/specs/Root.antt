@@ -52,19 +52,20 @@ IsRootOf graph None Nothing = (k : ℕ) → is_member graph.packages k ≡ false
 -- ---- what the root leads to
 
 -- some package of the workspace leads to the node, so the package of the node is not an orphan
-abbrev pub IsReached : GraphData → ℕ → Type 0
-IsReached graph node = (m : ℕ) × (is_member graph.packages m ≡ true) × EdgesLeadTo graph m node
+abbrev pub IsBelowWorkspace : GraphData → ℕ → Type 0
+IsBelowWorkspace graph node =
+    (m : ℕ) × (is_member graph.packages m ≡ true) × EdgesLeadTo graph m node
 
 -- the root leads to the node; a root that is the workspace has edges to each package of the
 -- workspace
-abbrev pub IsBelow : GraphData → Root → ℕ → Type 0
-IsBelow graph (Package root) node = EdgesLeadTo graph root node
-IsBelow graph Workspace node = IsReached graph node
-IsBelow graph Nothing node = ⊥
+abbrev pub IsBelowRoot : GraphData → Root → ℕ → Type 0
+IsBelowRoot graph (Package root) node = EdgesLeadTo graph root node
+IsBelowRoot graph Workspace node = IsBelowWorkspace graph node
+IsBelowRoot graph Nothing node = ⊥
 
 -- if the caller gives no root, that of the bill leads to exactly the packages that are not orphans
 abbrev pub LeadsToAllButOrphans : GraphData → Root → Type 0
-LeadsToAllButOrphans graph root = (k : ℕ) → IsBelow graph root k ↔ IsReached graph k
+LeadsToAllButOrphans graph root = (k : ℕ) → IsBelowRoot graph root k ↔ IsBelowWorkspace graph k
 
 -- there is at most one top
 abbrev pub TopIsOne : Type 0

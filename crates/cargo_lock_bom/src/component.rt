@@ -11,7 +11,8 @@ ghost use Rattle.cargo_lock_bom.specs.Component.{component_at, component_of, has
 ghost use Rattle.cargo_lock_bom.specs.Component.{license_at, licenses_of, repositories_if};
 ghost use Rattle.cargo_lock_bom.specs.Component.{repositories_of, root_component, type_text};
 ghost use Rattle.cargo_lock_bom.specs.Component.{workspace_component};
-ghost use Rattle.cargo_lock_bom.specs.Draft.{Adds, data_tokens, member_tokens};
+ghost use Rattle.cargo_lock_bom.specs.Tokens.{data_tokens, member_tokens};
+ghost use Rattle.printing.specs.Json.{Adds};
 ghost use Rattle.cargo_lock_bom.specs.Purl.{purl_of};
 ghost use Rattle.cargo_lock_bom.specs.References.{package_reference};
 ghost use Rattle.cargo_lock_bom.specs.Root.{IsWithin};
@@ -20,15 +21,15 @@ use crate::iri::iri_text;
 use crate::purl::purl;
 use crate::reference::text_at;
 use crate::root::{Root, is_application};
-use crate::text::Text;
 use cargo_lock_graph::graph::{Graph, NodeIndex};
 use cargo_lock_parts::package::{Checksum, Package, SourceId, SourceKind};
+use printing::JsonWriter;
 use std::alloc::{AllocError, Global};
 
 /// Writes the components of the packages of some nodes, with these licence expressions of the
 /// packages and these texts that refer to them. Fails when out of memory.
 pub(crate) fn put_components(
-    out: &mut Text,
+    out: &mut JsonWriter,
     alloc: Global,
     graph: &Graph,
     licenses: &[Option<String>],
@@ -50,7 +51,7 @@ pub(crate) fn put_components(
 /// Writes the member with the component of the root, if there is one, with these licence
 /// expressions of the packages and these texts that refer to them. Fails when out of memory.
 pub(crate) fn put_root(
-    out: &mut Text,
+    out: &mut JsonWriter,
     alloc: Global,
     graph: &Graph,
     licenses: &[Option<String>],
@@ -71,7 +72,7 @@ pub(crate) fn put_root(
 
 // Writes the member with the component of the package of a node.
 fn put_package(
-    out: &mut Text,
+    out: &mut JsonWriter,
     alloc: Global,
     graph: &Graph,
     licenses: &[Option<String>],
@@ -88,7 +89,7 @@ fn put_package(
 }
 
 // Writes the member with the component that represents the packages of the workspace together.
-fn put_workspace(out: &mut Text) -> Result<(), AllocError>
+fn put_workspace(out: &mut JsonWriter) -> Result<(), AllocError>
     ensures { Adds result out.old out.new (member_tokens (codes "component")
         (Some workspace_component)) }
 {
@@ -101,7 +102,7 @@ fn put_workspace(out: &mut Text) -> Result<(), AllocError>
 }
 
 fn put_component(
-    out: &mut Text,
+    out: &mut JsonWriter,
     alloc: Global,
     graph: &Graph,
     licenses: &[Option<String>],
@@ -132,7 +133,7 @@ fn license_at(licenses: &[Option<String>], node: NodeIndex) -> Option<&str>
 // Writes the component of a package, as an application or as a library, with this licence
 // expression, if it is there, and with the text that refers to it.
 fn put_component_of(
-    out: &mut Text,
+    out: &mut JsonWriter,
     alloc: Global,
     application: bool,
     license: Option<&str>,
@@ -151,7 +152,7 @@ fn put_component_of(
     out.string_member("name", package.name.as_str())?;
     put_purl(out, alloc, package)?;
     out.string_member("type", type_text(application))?;
-    out.displayed_member(alloc, "version", &package.version)?;
+    out.displayed_member("version", &package.version)?;
     out.end_object()
 }
 
@@ -167,7 +168,7 @@ fn type_text(application: bool) -> &'static str
 }
 
 // Writes the member with the package URL, if there is one.
-fn put_purl(out: &mut Text, alloc: Global, package: &Package) -> Result<(), AllocError>
+fn put_purl(out: &mut JsonWriter, alloc: Global, package: &Package) -> Result<(), AllocError>
     ensures { Adds result out.old out.new (member_tokens (codes "purl")
         (option_map string (purl_of (identity_of «package».now)))) }
 {
@@ -177,7 +178,7 @@ fn put_purl(out: &mut Text, alloc: Global, package: &Package) -> Result<(), Allo
 
 /// Writes a member whose value is a text, if there is one. Fails when out of memory.
 pub(crate) fn put_text_if(
-    out: &mut Text,
+    out: &mut JsonWriter,
     name: &str,
     text: &Option<String>,
 ) -> Result<(), AllocError>
@@ -191,7 +192,7 @@ pub(crate) fn put_text_if(
 }
 
 // Writes the member with the licence expression of a package, if it is there.
-fn put_licenses(out: &mut Text, license: Option<&str>) -> Result<(), AllocError>
+fn put_licenses(out: &mut JsonWriter, license: Option<&str>) -> Result<(), AllocError>
     ensures { Adds result out.old out.new (member_tokens (codes "licenses")
         (option_map licenses_of (option_copied license.entry))) }
 {
@@ -201,7 +202,7 @@ fn put_licenses(out: &mut Text, license: Option<&str>) -> Result<(), AllocError>
     }
 }
 
-fn put_license(out: &mut Text, license: &str) -> Result<(), AllocError>
+fn put_license(out: &mut JsonWriter, license: &str) -> Result<(), AllocError>
     ensures { Adds result out.old out.new (member_tokens (codes "licenses")
         (Some (licenses_of license.now))) }
 {
@@ -214,7 +215,11 @@ fn put_license(out: &mut Text, license: &str) -> Result<(), AllocError>
 }
 
 // Writes the member with the hash of a package, if it has a checksum.
-fn put_hashes(out: &mut Text, alloc: Global, checksum: &Option<Checksum>) -> Result<(), AllocError>
+fn put_hashes(
+    out: &mut JsonWriter,
+    alloc: Global,
+    checksum: &Option<Checksum>,
+) -> Result<(), AllocError>
     ensures { Adds result out.old out.new (member_tokens (codes "hashes")
         (option_map hashes_of (option_map digest_of checksum.now))) }
 {
@@ -224,7 +229,7 @@ fn put_hashes(out: &mut Text, alloc: Global, checksum: &Option<Checksum>) -> Res
     }
 }
 
-fn put_hash(out: &mut Text, alloc: Global, checksum: &Checksum) -> Result<(), AllocError>
+fn put_hash(out: &mut JsonWriter, alloc: Global, checksum: &Checksum) -> Result<(), AllocError>
     ensures { Adds result out.old out.new (member_tokens (codes "hashes")
         (Some (hashes_of (digest_of checksum.now)))) }
 {
@@ -232,14 +237,14 @@ fn put_hash(out: &mut Text, alloc: Global, checksum: &Checksum) -> Result<(), Al
     out.begin_array()?;
     out.begin_object()?;
     out.string_member("alg", "SHA-256")?;
-    out.displayed_member(alloc, "content", checksum)?;
+    out.displayed_member("content", checksum)?;
     out.end_object()?;
     out.end_array()
 }
 
 // Writes the member with the repository of a package, if its source is one.
 fn put_repositories(
-    out: &mut Text,
+    out: &mut JsonWriter,
     alloc: Global,
     source: &Option<SourceId>,
 ) -> Result<(), AllocError>
@@ -253,7 +258,11 @@ fn put_repositories(
 }
 
 // Writes the member with the repository, if the source is one.
-fn put_repositories_of(out: &mut Text, alloc: Global, source: &SourceId) -> Result<(), AllocError>
+fn put_repositories_of(
+    out: &mut JsonWriter,
+    alloc: Global,
+    source: &SourceId,
+) -> Result<(), AllocError>
     ensures { Adds result out.old out.new (member_tokens (codes "externalReferences")
         (repositories_if (Some source.now))) }
 {
@@ -272,7 +281,7 @@ fn put_repositories_of(out: &mut Text, alloc: Global, source: &SourceId) -> Resu
 
 // Writes the member with the repository at a URL, with the commit, tag, branch or revision, if it
 // is known.
-fn put_repository(out: &mut Text, url: &str, precise: Option<&str>) -> Result<(), AllocError>
+fn put_repository(out: &mut JsonWriter, url: &str, precise: Option<&str>) -> Result<(), AllocError>
     ensures { Adds result out.old out.new (member_tokens (codes "externalReferences")
         (Some (repositories_of url.now (option_copied precise.entry)))) }
 {
@@ -287,7 +296,7 @@ fn put_repository(out: &mut Text, url: &str, precise: Option<&str>) -> Result<()
 }
 
 // Writes the member with the commit, tag, branch or revision, if it is known.
-fn put_comment(out: &mut Text, precise: Option<&str>) -> Result<(), AllocError>
+fn put_comment(out: &mut JsonWriter, precise: Option<&str>) -> Result<(), AllocError>
     ensures { Adds result out.old out.new (member_tokens (codes "comment")
         (option_map string (option_copied precise.entry))) }
 {

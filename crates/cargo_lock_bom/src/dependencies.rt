@@ -9,15 +9,16 @@ ghost use Rattle.serde_json.specs.View.{items_of};
 ghost use Rattle.cargo_lock_graph.specs.declared.graph.EdgeDirection.TheVariants.{Outgoing};
 ghost use Rattle.cargo_lock_graph.specs.Edges.{far_ends};
 ghost use Rattle.cargo_lock_bom.specs.Contents.{entry_by, entry_for, own_text, text_at};
-ghost use Rattle.cargo_lock_bom.specs.Dependencies.{AreEntries, AreTargets, IsEntry};
+ghost use Rattle.cargo_lock_bom.specs.Dependencies.{AreBillEntries, AreEdgeTargets, IsNodeEntry};
 ghost use Rattle.cargo_lock_bom.specs.Dependencies.{IsWorkspaceEntry};
-ghost use Rattle.cargo_lock_bom.specs.Draft.{Adds, data_tokens};
+ghost use Rattle.cargo_lock_bom.specs.Tokens.{data_tokens};
+ghost use Rattle.printing.specs.Json.{Adds};
 
 use crate::reference::text_at;
 use crate::root::{Root, members};
-use crate::text::Text;
 use cargo_lock_graph::graph::{EdgeDirection, Graph, NodeIndex};
 use cargo_lock_graph::listed::list_ends;
+use printing::JsonWriter;
 use std::alloc::{AllocError, Global};
 
 /// The nodes of an entry.
@@ -33,7 +34,7 @@ pub(crate) struct Entry {
 /// The entries of the nodes of a graph, in order, and then the entry of the workspace, if it is the
 /// root. Fails when out of memory.
 pub(crate) fn entries(alloc: Global, graph: &Graph, root: &Root) -> Result<Vec<Entry>, AllocError>
-    ensures { IfOk result (λ made. AreEntries graph.now root.now
+    ensures { IfOk result (λ made. AreBillEntries graph.now root.now
         (map (entry_for graph.now.packages) made.items)) }
 {
     let made = node_entries(alloc, graph)?;
@@ -70,7 +71,7 @@ fn workspace_entry(alloc: Global, graph: &Graph) -> Result<Entry, AllocError>
 
 // The entries of the nodes of a graph, in order.
 fn node_entries(alloc: Global, graph: &Graph) -> Result<Vec<Entry>, AllocError>
-    ensures { IfOk result (λ made. AllZip (IsEntry graph.now)
+    ensures { IfOk result (λ made. AllZip (IsNodeEntry graph.now)
         (range_with_len 0 (length graph.now.packages))
         (map (entry_for graph.now.packages) made.items)) }
 {
@@ -84,7 +85,7 @@ fn node_entries(alloc: Global, graph: &Graph) -> Result<Vec<Entry>, AllocError>
 
 fn node_entry(alloc: Global, graph: &Graph, node: NodeIndex) -> Result<Entry, AllocError>
     requires { node < length graph.now.packages }
-    ensures { IfOk result (λ e. IsEntry graph.now node (entry_for graph.now.packages e)) }
+    ensures { IfOk result (λ e. IsNodeEntry graph.now node (entry_for graph.now.packages e)) }
 {
     let on = targets(alloc, graph, node)?;
     Ok(Entry { of: Some(node), on })
@@ -92,7 +93,7 @@ fn node_entry(alloc: Global, graph: &Graph, node: NodeIndex) -> Result<Entry, Al
 
 /// Writes entries, with these texts that refer to the packages of nodes. Fails when out of memory.
 pub(crate) fn put_entries(
-    out: &mut Text,
+    out: &mut JsonWriter,
     texts: &[String],
     entries: &[Entry],
 ) -> Result<(), AllocError>
@@ -106,7 +107,7 @@ pub(crate) fn put_entries(
     out.end_array()
 }
 
-fn put_entry(out: &mut Text, texts: &[String], entry: &Entry) -> Result<(), AllocError>
+fn put_entry(out: &mut JsonWriter, texts: &[String], entry: &Entry) -> Result<(), AllocError>
     ensures { Adds result out.old out.new (data_tokens
         (entry_by (map string_bytes texts.now) entry.now)) }
 {
@@ -118,7 +119,7 @@ fn put_entry(out: &mut Text, texts: &[String], entry: &Entry) -> Result<(), Allo
 }
 
 // Writes the texts of some nodes.
-fn put_texts(out: &mut Text, texts: &[String], nodes: &[usize]) -> Result<(), AllocError>
+fn put_texts(out: &mut JsonWriter, texts: &[String], nodes: &[usize]) -> Result<(), AllocError>
     ensures { Adds result out.old out.new (data_tokens (array (items_of
         (map (λ k. string (text_at (map string_bytes texts.now) k)) nodes.now)))) }
 {
@@ -130,7 +131,11 @@ fn put_texts(out: &mut Text, texts: &[String], nodes: &[usize]) -> Result<(), Al
 }
 
 // Writes the member with the text of a node, or of the workspace.
-fn put_own_text(out: &mut Text, texts: &[String], node: Option<NodeIndex>) -> Result<(), AllocError>
+fn put_own_text(
+    out: &mut JsonWriter,
+    texts: &[String],
+    node: Option<NodeIndex>,
+) -> Result<(), AllocError>
     ensures { Adds result out.old out.new (token.key (codes "ref")
         ∷ token.string (own_text (map string_bytes texts.now) node) ∷ []) }
 {
@@ -142,7 +147,7 @@ fn put_own_text(out: &mut Text, texts: &[String], node: Option<NodeIndex>) -> Re
 
 // The nodes to which the edges of a node lead, ascending, each listed once.
 fn targets(alloc: Global, graph: &Graph, node: NodeIndex) -> Result<Vec<usize>, AllocError>
-    ensures { IfOk result (λ targets. AreTargets graph.now node targets.items) }
+    ensures { IfOk result (λ targets. AreEdgeTargets graph.now node targets.items) }
 {
     let mut targets = ends(alloc, graph, node)?;
     targets.sort_unstable();

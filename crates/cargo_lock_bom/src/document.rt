@@ -1,15 +1,17 @@
 //! The bill of materials of a lockfile.
 
-ghost use Rattle.std.specs.Prelude.{◌≡◌, ◌<◌, IfErr, IfOk, IfSome, Some, cond, length};
+ghost use Rattle.std.specs.Prelude.{◌≡◌, ◌<◌, IfErr, IfOk, IfSome, Some, length};
 ghost use Rattle.std.specs.Prelude.{option_map, string_bytes};
 ghost use Rattle.json.specs.Layout.{pretty};
 ghost use Rattle.json.specs.Print.{print};
 ghost use Rattle.serde_json.specs.Read.{read};
 ghost use Rattle.serde_json.specs.View.{view};
 ghost use Rattle.cargo_lock_parts.specs.declared.error.Error.TheVariants.{Memory};
-ghost use Rattle.cargo_lock_bom.specs.Contents.{AreContents, IsTextOf, bill_with, with_serial_if};
-ghost use Rattle.cargo_lock_bom.specs.Document.{IsBill, IsBillText, IsLaidOut};
-ghost use Rattle.cargo_lock_bom.specs.Draft.{Adds, data_tokens};
+ghost use Rattle.cargo_lock_bom.specs.Contents.{AreContents, IsTextOfData, bill_with};
+ghost use Rattle.cargo_lock_bom.specs.Contents.{with_serial_if};
+ghost use Rattle.cargo_lock_bom.specs.Document.{IsBill, IsLaidOut, ReadsAsBill};
+ghost use Rattle.cargo_lock_bom.specs.Tokens.{data_tokens};
+ghost use Rattle.printing.specs.Json.{Adds, laid_out};
 ghost use Rattle.cargo_lock_bom.specs.Options.{within};
 ghost use Rattle.cargo_lock_bom.specs.References.{IsRepeatedFault};
 ghost use Rattle.cargo_lock_bom.specs.Serial.{numbered};
@@ -21,9 +23,9 @@ use crate::metadata::put_metadata;
 use crate::options::Options;
 use crate::reference::{check_distinct, references};
 use crate::serial::serial_text;
-use crate::text::Text;
 use cargo_lock_graph::graph::Graph;
 use cargo_lock_parts::{Error, Result};
+use printing::{JsonWriter, Layout};
 use serde_json::Value;
 use std::alloc::{AllocError, Global};
 
@@ -52,24 +54,24 @@ use std::alloc::{AllocError, Global};
 /// `Parse` means that two packages have the same `bom-ref`, so the bill would refer to both:
 /// `two packages are NAME VERSION (SOURCE)`. The other error is `Memory`.
 pub fn pretty_text(alloc: Global, graph: &Graph, options: &Options<'_>) -> Result<String>
-    ensures ok { IfOk result (λ text. IsBillText graph.now
+    ensures ok { IfOk result (λ text. ReadsAsBill graph.now
         (within graph.now «options».now) (string_bytes text)) }
     ensures layout { IfOk result (λ text. IsLaidOut pretty (string_bytes text)) }
     ensures err { IfErr result (IsRepeatedFault graph.now.packages) }
 {
-    text_within(alloc, graph, &options.within(graph), false)
+    text_within(alloc, graph, &options.within(graph), Layout::Lines)
 }
 
 /// The text of the bill of materials of a graph, in one line without spaces between its parts: the
 /// same as that of `pretty_text` but for the layout. The errors are those of `pretty_text`: `Parse`
 /// if two packages have the same `bom-ref`, and `Memory`.
 pub fn compact_text(alloc: Global, graph: &Graph, options: &Options<'_>) -> Result<String>
-    ensures ok { IfOk result (λ text. IsBillText graph.now
+    ensures ok { IfOk result (λ text. ReadsAsBill graph.now
         (within graph.now «options».now) (string_bytes text)) }
     ensures layout { IfOk result (λ text. IsLaidOut print (string_bytes text)) }
     ensures err { IfErr result (IsRepeatedFault graph.now.packages) }
 {
-    text_within(alloc, graph, &options.within(graph), true)
+    text_within(alloc, graph, &options.within(graph), Layout::Line)
 }
 
 /// The bill of materials of a graph as a value of JSON, to which a caller may add what a lockfile
@@ -100,19 +102,19 @@ fn text_within(
     alloc: Global,
     graph: &Graph,
     options: &Options<'_>,
-    is_compact: bool,
+    layout: Layout,
 ) -> Result<String>
     requires root { IfSome «options».now.root (λ node. node < length graph.now.packages) }
     requires time { IfSome «options».now.timestamp (λ seconds. seconds < 253_402_300_800) }
-    ensures ok { IfOk result (λ text. IsBillText graph.now «options».now (string_bytes text)) }
+    ensures ok { IfOk result (λ text. ReadsAsBill graph.now «options».now (string_bytes text)) }
     ensures layout { IfOk result
-        (λ text. IsLaidOut (cond is_compact print pretty) (string_bytes text)) }
+        (λ text. IsLaidOut (laid_out layout) (string_bytes text)) }
     ensures err { IfErr result (IsRepeatedFault graph.now.packages) }
 {
     let texts = references(alloc, graph)?;
     check_distinct(alloc, graph, texts.as_slice())?;
     let contents = contents_of(alloc, graph, options, texts)?;
-    let text = numbered_text(alloc, graph, options, &contents, is_compact)?;
+    let text = numbered_text(alloc, graph, options, &contents, layout)?;
     Ok(text)
 }
 
@@ -122,14 +124,14 @@ fn numbered_text(
     graph: &Graph,
     options: &Options<'_>,
     contents: &Contents,
-    is_compact: bool,
+    layout: Layout,
 ) -> std::result::Result<String, AllocError>
     requires { AreContents graph.now «options».now contents.now }
-    ensures { IfOk result (λ text. IsTextOf is_compact (numbered «options».now.has_serial
+    ensures { IfOk result (λ text. IsTextOfData layout (numbered «options».now.has_serial
         (bill_with graph.now «options».now contents.now)) (string_bytes text)) }
 {
     let serial = serial_if(alloc, graph, options, contents)?;
-    text_with(alloc, graph, options, contents, &serial, is_compact)
+    text_with(alloc, graph, options, contents, &serial, layout)
 }
 
 // The serial number, if the options ask for one: that of the text in one line without it.
@@ -148,7 +150,7 @@ fn serial_if(
     if !options.has_serial {
         return Ok(None);
     }
-    let text = text_with(alloc, graph, options, contents, &None, true)?;
+    let text = text_with(alloc, graph, options, contents, &None, Layout::Line)?;
     let serial = serial_text(alloc, text.as_str())?;
     Ok(Some(serial))
 }
@@ -160,21 +162,21 @@ fn text_with(
     options: &Options<'_>,
     contents: &Contents,
     serial: &Option<String>,
-    is_compact: bool,
+    layout: Layout,
 ) -> std::result::Result<String, AllocError>
     requires { AreContents graph.now «options».now contents.now }
-    ensures { IfOk result (λ text. IsTextOf is_compact
+    ensures { IfOk result (λ text. IsTextOfData layout
         (with_serial_if (option_map string_bytes serial.now)
         (bill_with graph.now «options».now contents.now)) (string_bytes text)) }
 {
-    let mut out = Text::new(alloc, is_compact);
+    let mut out = JsonWriter::new(alloc, layout);
     put_bill(&mut out, alloc, graph, options, contents, serial)?;
     Ok(out.into_string())
 }
 
 // Writes the bill with these contents and this serial number.
 fn put_bill(
-    out: &mut Text,
+    out: &mut JsonWriter,
     alloc: Global,
     graph: &Graph,
     options: &Options<'_>,
@@ -198,7 +200,6 @@ fn put_bill(
     put_metadata(out, alloc, graph, options, contents)?;
     put_text_if(out, "serialNumber", serial)?;
     out.string_member("specVersion", "1.6")?;
-    out.key("version")?;
-    out.number("1")?;
+    out.number_member("version", 1)?;
     out.end_object()
 }

@@ -21,5 +21,4 @@ mod reach;
 pub mod reference;
 pub mod root;
 mod serial;
-mod text;
 mod user_info;

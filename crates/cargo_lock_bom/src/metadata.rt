@@ -4,22 +4,23 @@ ghost use Rattle.std.specs.Prelude.{◌≡◌, ◌<◌, ◌*◌, ◌∷◌, IfOk
 ghost use Rattle.std.specs.Prelude.{option_map, pos, string_bytes};
 ghost use Rattle.json.specs.Token.{key};
 ghost use Rattle.cargo_lock_bom.specs.Contents.{AreContents, metadata_with};
-ghost use Rattle.cargo_lock_bom.specs.Draft.{Adds, data_tokens, member_tokens};
+ghost use Rattle.cargo_lock_bom.specs.Tokens.{data_tokens, member_tokens};
+ghost use Rattle.printing.specs.Json.{Adds};
 ghost use Rattle.cargo_lock_bom.specs.Metadata.{IsTimeText, IsTimeTextIf, author_of, authors_if};
 ghost use Rattle.cargo_lock_bom.specs.Metadata.{authors_of, lifecycles, tools_of};
 
 use crate::component::{put_root, put_text_if};
 use crate::contents::Contents;
 use crate::options::Options;
-use crate::text::Text;
 use cargo_lock_graph::graph::Graph;
 use jiff_core::civil::DateTime;
 use jiff_fmt::temporal::DateTimePrinter;
+use printing::JsonWriter;
 use std::alloc::{AllocError, Global};
 
 /// Writes the metadata of the bill of a graph with these contents. Fails when out of memory.
 pub(crate) fn put_metadata(
-    out: &mut Text,
+    out: &mut JsonWriter,
     alloc: Global,
     graph: &Graph,
     options: &Options<'_>,
@@ -40,7 +41,7 @@ pub(crate) fn put_metadata(
 }
 
 // Writes the member with the authors of these names, if there is one.
-fn put_authors(out: &mut Text, names: &[&str]) -> Result<(), AllocError>
+fn put_authors(out: &mut JsonWriter, names: &[&str]) -> Result<(), AllocError>
     ensures { Adds result out.old out.new (member_tokens (codes "authors")
         (authors_if (map (λ name. name.now) names.now))) }
 {
@@ -51,7 +52,7 @@ fn put_authors(out: &mut Text, names: &[&str]) -> Result<(), AllocError>
     put_author_list(out, names)
 }
 
-fn put_author_list(out: &mut Text, names: &[&str]) -> Result<(), AllocError>
+fn put_author_list(out: &mut JsonWriter, names: &[&str]) -> Result<(), AllocError>
     ensures { Adds result out.old out.new (data_tokens
         (authors_of (map (λ name. name.now) names.now))) }
 {
@@ -62,7 +63,7 @@ fn put_author_list(out: &mut Text, names: &[&str]) -> Result<(), AllocError>
     out.end_array()
 }
 
-fn put_author(out: &mut Text, name: &str) -> Result<(), AllocError>
+fn put_author(out: &mut JsonWriter, name: &str) -> Result<(), AllocError>
     ensures { Adds result out.old out.new (data_tokens (author_of name.now)) }
 {
     out.begin_object()?;
@@ -71,7 +72,7 @@ fn put_author(out: &mut Text, name: &str) -> Result<(), AllocError>
 }
 
 // Writes the member with the phase in which the packages of the bill are chosen.
-fn put_lifecycles(out: &mut Text) -> Result<(), AllocError>
+fn put_lifecycles(out: &mut JsonWriter) -> Result<(), AllocError>
     ensures { Adds result out.old out.new
         (key (codes "lifecycles") ∷ data_tokens lifecycles) }
 {
@@ -84,7 +85,7 @@ fn put_lifecycles(out: &mut Text) -> Result<(), AllocError>
 }
 
 // Writes the member with the program that wrote the bill.
-fn put_tools(out: &mut Text, version: &str) -> Result<(), AllocError>
+fn put_tools(out: &mut JsonWriter, version: &str) -> Result<(), AllocError>
     ensures { Adds result out.old out.new
         (key (codes "tools") ∷ data_tokens (tools_of version.now)) }
 {

@@ -5,7 +5,7 @@ ghost use Rattle.json.specs.Layout.{pretty};
 ghost use Rattle.json.specs.Print.{print};
 ghost use Rattle.cargo_lock_parts.specs.Ascii.{newline};
 ghost use Rattle.cargo_lock_graph.specs.Targets.{AreEdgesOf, IsUnresolved, links};
-ghost use Rattle.cargo_lock_bom.specs.Document.{IsBillText, IsLaidOut};
+ghost use Rattle.cargo_lock_bom.specs.Document.{IsLaidOut, ReadsAsBill};
 ghost use Rattle.cargo_lock_bom.specs.Options.{within};
 ghost use Rattle.cargo_lock_bom.specs.Printed.{IsPrintedBill, IsUnprinted, bill_packages, own_root};
 ghost use Rattle.cargo_lock_bom.specs.References.{IsRepeatedFault};
@@ -76,7 +76,7 @@ fn copied(packages: &Vec<Package>) -> std::result::Result<Vec<Package>, AllocErr
 // The text of the bill of materials of a graph.
 fn text_of(alloc: Global, graph: &Graph, options: &Options<'_>, is_compact: bool) -> Result<String>
     ensures ok { IfOk result (λ text.
-        IsBillText graph.now (within graph.now «options».now) (string_bytes text)) }
+        ReadsAsBill graph.now (within graph.now «options».now) (string_bytes text)) }
     ensures layout { IfOk result (λ text.
         IsLaidOut (cond is_compact print pretty) (string_bytes text)) }
     ensures err { IfErr result (IsRepeatedFault graph.now.packages) }

@@ -10,6 +10,7 @@ ghost use Rattle.cargo_lock_bom.specs.Purl.{purl_of, repository_text};
 ghost use Rattle.cargo_lock_bom.specs.Purl as spec;
 
 use crate::user_info::url_text;
+use cargo_lock_order::is_canonically_crates_io;
 use cargo_lock_parts::package::{GitReference, Package, SourceId, SourceKind};
 use percent_encoding::{AsciiSet, NON_ALPHANUMERIC, PercentEncode, ascii_set, utf8_percent_encode};
 use std::alloc::{AllocError, Global};
@@ -28,10 +29,11 @@ const SEGMENT: AsciiSet = ascii_set!(
 pub(crate) const VALUE: AsciiSet = ascii_set!(SEGMENT.remove(b'/'));
 
 /// The package URL of a package: `pkg:cargo/serde@1.0.203`. After `?` it says where the package
-/// comes from, unless that is crates.io: `vcs_url=git%2Bhttps://example.org/lib%40COMMIT` for a
-/// repository, with the commit, or else the tag, the branch or the revision, `repository_url=URL`
-/// for another registry, and `download_url=URL` for a folder. The URL is written without user name
-/// and password, since a bill is published.
+/// comes from, unless Cargo takes that for crates.io:
+/// `vcs_url=git%2Bhttps://example.org/lib%40COMMIT` for a repository, with the commit, or else the
+/// tag, the branch or the revision, `repository_url=URL` for another registry, and
+/// `download_url=URL` for a folder. The URL is written without user name and password, since a bill
+/// is published.
 ///
 /// A package without a source has no package URL: `pkg:cargo/NAME@VERSION` is the package of
 /// crates.io, a different package. Fails when out of memory.
@@ -69,7 +71,7 @@ fn escape_url(text: &str) -> PercentEncode<'_>
 fn qualifiers(alloc: Global, source: &SourceId) -> Result<String, AllocError>
     ensures { IfOk result (λ text. string_bytes text ≡ spec.qualifiers source.now) }
 {
-    if source.is_default_registry() {
+    if is_canonically_crates_io(alloc, source)? {
         return Ok(String::new(alloc));
     }
     let url = url_text(alloc, source.url())?;

@@ -3,7 +3,7 @@
 ghost use Rattle.std.specs.Prelude.{◌≡◌, ◌<◌, ◌↔◌, ℕ, true, IfOk, IfSome, IsTrue};
 ghost use Rattle.std.specs.Prelude.{MatchOption, None, length};
 ghost use Rattle.cargo_lock_bom.specs.declared.root.Root.TheVariants.{Package};
-ghost use Rattle.cargo_lock_bom.specs.Places.{IsPlaces};
+ghost use Rattle.lists.specs.Places.{IsPlaces};
 ghost use Rattle.cargo_lock_bom.specs.Root.{IsRootOf, IsTop, LeadsToAllButOrphans, LeadsToMembers};
 ghost use Rattle.cargo_lock_bom.specs.Root.{IsWithin, is_member};
 ghost use Rattle.cargo_lock_bom.specs.Root as spec;

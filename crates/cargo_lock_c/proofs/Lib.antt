@@ -4,5 +4,6 @@ mod EdgeLists
 mod PackageLines
 mod EachLine
 mod BillFaults
+mod GraphTexts
 mod Unanswered
 mod MergeTexts

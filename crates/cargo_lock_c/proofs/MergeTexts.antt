@@ -1,14 +1,10 @@
 -- Why three texts have no merge, and the text about one.
-use Rattle.std.proofs.Common.{◌≡◌, ◌∙◌, ◌≤◌, ◌<◌, ◌+◌, ℕ, List, [], ◌∷◌, ◌++◌, length, take, get_or, ap, arith, inl, inr, refl, subst, sym}
-use Rattle.std.specs.List.{flat_map}
-use Rattle.std.proofs.lemmas.List.{flat_map_more, take_more}
+use Rattle.std.proofs.Common.{◌≡◌, ◌≤◌, ℕ, List, arith, inl, inr, refl, subst, sym}
 use Rattle.cargo_lock_encoding.specs.Lockfiles.{LockfileData}
-use Rattle.cargo_lock_merge.specs.Lines.{moved_line}
-use Rattle.cargo_lock_merge.specs.declared.moved.Moved.{Moved}
 use Rattle.cargo_lock_c.specs.declared.merge.Ending.{Ending}
 use Rattle.cargo_lock_c.specs.declared.refusal.Refusal.{Refusal}
 use Rattle.cargo_lock_c.specs.declared.refusal.Refusal.TheVariants.{NoLockfile, NoText, NoMemory, NoFormat, Lost, Unresolved, NoPackage, NoLine, NoNewLockfile, NoNewText, Repeated, NothingFits, NoSpecText, NoThirdLockfile, NoThirdText}
-use Rattle.cargo_lock_c.specs.Merges.{IsComparedOf, IsHandedOutWith, IsRead, IsAnswered, LacksMerge, moved_lines}
+use Rattle.cargo_lock_c.specs.Merges.{IsAnswered, IsComparedOf, IsHandedOutWith, LacksMerge, MeansLockfile}
 use Rattle.cargo_lock_c.specs.Statuses.{refusal_of_new, refusal_of_third, status_of}
 use Rattle.cargo_lock_c.specs.Texts.{RefusesText}
 use Rattle.cargo_lock_c.proofs.HandedOut.{handed-answer}
@@ -36,7 +32,7 @@ lacks-first base ours theirs NoThirdText h below = absurd (omega (arith, below))
 
 -- the refusal of the second text
 pub lacks-second : (base ours theirs : List ℕ) (r : Refusal) → RefusesText ours (status_of r) → status_of r ≤ 3
-    → IsRead base → LacksMerge base ours theirs (refusal_of_new r)
+    → MeansLockfile base → LacksMerge base ours theirs (refusal_of_new r)
 lacks-second base ours theirs NoLockfile h below first = (first, h.no_lockfile refl)
 lacks-second base ours theirs NoText h below first = (first, h.no_text refl)
 lacks-second base ours theirs NoMemory h below first = tt
@@ -55,7 +51,7 @@ lacks-second base ours theirs NoThirdText h below first = absurd (omega (arith, 
 
 -- the refusal of the third text
 pub lacks-third : (base ours theirs : List ℕ) (r : Refusal) → RefusesText theirs (status_of r) → status_of r ≤ 3
-    → IsRead base → IsRead ours → LacksMerge base ours theirs (refusal_of_third r)
+    → MeansLockfile base → MeansLockfile ours → LacksMerge base ours theirs (refusal_of_third r)
 lacks-third base ours theirs NoLockfile h below first second = (first, second, h.no_lockfile refl)
 lacks-third base ours theirs NoText h below first second = (first, second, h.no_text refl)
 lacks-third base ours theirs NoMemory h below first second = tt
@@ -77,7 +73,7 @@ pub memory-lacks : (base ours theirs : List ℕ) (r : Refusal) → r ≡ NoMemor
 memory-lacks base ours theirs r memory = subst (LacksMerge base ours theirs) (sym memory) tt
 
 -- a lockfile of the text was read
-pub is-read : (text : List ℕ) (x : LockfileData) → IsComparedOf text x → IsRead text
+pub is-read : (text : List ℕ) (x : LockfileData) → IsComparedOf text x → MeansLockfile text
 is-read text x h = (h.0, h.1)
 
 -- ---- the text in the caller's buffer
@@ -94,15 +90,3 @@ answer-text P Lacks ending text status old new before after holds (inr full) =
 pub answer-refusal : (P : Ending → List ℕ → Type 0) (Lacks : Refusal → Type 0) (refusal : Refusal) (status : ℕ) (old : List ℕ) (before : ℕ)
     → status ≡ status_of refusal → Lacks refusal → IsAnswered P Lacks status old old before before
 answer-refusal P Lacks refusal status old before answer lacks = inr (inr (refusal, answer, lacks, refl, refl))
-
--- ---- moved references
-
--- after the lines of the references before it, that of the next one
-pub moved-more : (ms : List Moved) (i : ℕ) (m : Moved) (a b line : List ℕ)
-    → i < length ms → m ≡ get_or ms i m → a ≡ moved_lines (take i ms)
-    → line ≡ moved_line m ++ 10 ∷ [] → b ≡ a ++ line → b ≡ moved_lines (take (i + 1) ms)
-moved-more ms i m a b line within is before text after =
-    let ended : Moved → List ℕ = λ r. moved_line r ++ 10 ∷ [] in
-    let item : take (i + 1) ms ≡ take i ms ++ m ∷ [] = take_more ms i m within ∙ ap (λ (x : Moved). take i ms ++ x ∷ []) (sym is) in
-    let more : a ++ line ≡ flat_map ended (take i ms) ++ ended m = rw (before, text) refl in
-    after ∙ more ∙ flat_map_more ended [] (take i ms) m ∙ ap (flat_map ended) (sym item)

@@ -1,8 +1,8 @@
 -- Why there is no answer about packages, by the status that says so.
 use Rattle.std.proofs.Common.{◌≡◌, ◌≤◌, ◌⊎◌, ℕ, List, arith, inl, inr, length, subst, sym, refl}
 use Rattle.std.proofs.lemmas.Option.{slice_get_within}
-use Rattle.cargo_lock_ask.specs.Places.{IsPlaces}
-use Rattle.cargo_lock_ask.specs.Spec.{Fits}
+use Rattle.lists.specs.Places.{IsPlaces}
+use Rattle.cargo_lock_query.specs.Spec.{SpecFits}
 use Rattle.cargo_lock_encoding.specs.Lockfiles.{LockfileData}
 use Rattle.cargo_lock_encoding.specs.Means.{TextMeans}
 use Rattle.cargo_lock_parts.specs.Identity.{PackageData}
@@ -14,8 +14,8 @@ use Rattle.cargo_lock_c.specs.Statuses.{status_of}
 use Rattle.cargo_lock_c.specs.Texts.{RefusesText}
 
 -- where no place is listed, the specification fits no package
-pub none-fits : (spec : List ℕ) (packages : List PackageData) (nodes : List ℕ) → IsPlaces (Fits spec packages) (length packages) nodes → length nodes ≡ 0
-    → (place : ℕ) → ¬ Fits spec packages place
+pub none-fits : (spec : List ℕ) (packages : List PackageData) (nodes : List ℕ) → IsPlaces (SpecFits spec packages) (length packages) nodes → length nodes ≡ 0
+    → (place : ℕ) → ¬ SpecFits spec packages place
 none-fits spec packages nodes are none place fits =
     let (k, low, at) = (are.listed place).1 (slice_get_within packages place fits.0 fits.1, fits) in
     absurd (omega (arith, low, none))
@@ -29,7 +29,7 @@ pub record SaysOfSpec (text spec : List ℕ) (status : ℕ) : Type 0 where
 
 -- the status of why there is no answer about a lockfile of the text says it
 pub no-answer : (text spec : List ℕ) (l : LockfileData) (refusal : Refusal) → TextMeans text l
-    → (refusal ≡ NoMemory) ⊎ ((refusal ≡ NothingFits) × ((place : ℕ) → ¬ Fits spec l.packages place)) → SaysOfSpec text spec (status_of refusal)
+    → (refusal ≡ NoMemory) ⊎ ((refusal ≡ NothingFits) × ((place : ℕ) → ¬ SpecFits spec l.packages place)) → SaysOfSpec text spec (status_of refusal)
 no-answer text spec l refusal means (inl memory) = subst (λ (r : Refusal). SaysOfSpec text spec (status_of r)) (sym memory) record {
   unresolved = λ seven. absurd (omega (arith, seven));
   nothing_fits = λ thirteen. absurd (omega (arith, thirteen));

@@ -5,7 +5,7 @@ use Rattle.cargo_lock_graph.specs.Targets.{IsFirstLost, links}
 use Rattle.cargo_lock_bom.specs.declared.options.TheConstants.{VERSION}
 use Rattle.cargo_lock_bom.specs.Options.{OptionsData}
 use Rattle.cargo_lock_bom.specs.Printed.{IsPrintedBill, bill_packages, own_root}
-use Rattle.cargo_lock_bom.specs.References.{IsRepeated}
+use Rattle.cargo_lock_bom.specs.References.{IsRepeatedReference}
 use Rattle.cargo_lock_encoding.specs.Lockfiles.{LockfileData}
 use Rattle.cargo_lock_encoding.specs.Means.{TextMeans}
 use Rattle.cargo_lock.specs.CargoChecksums.{with_cargo_checksums_in}
@@ -30,13 +30,14 @@ packages_in_bill l = bill_packages (with_cargo_checksums_in l).packages l.root
 
 -- these bytes are the bill of a lockfile as the program prints it without options, in one line if
 -- it is compact
-abbrev pub IsBillOf : LockfileData → Bool → List ℕ → Type 0
-IsBillOf l compact bytes = IsPrintedBill (packages_in_bill l)
+abbrev pub IsBillOfLockfile : LockfileData → Bool → List ℕ → Type 0
+IsBillOfLockfile l compact bytes = IsPrintedBill (packages_in_bill l)
     (own_options (own_root (with_cargo_checksums_in l).packages l.root)) compact bytes
 
 -- the text is that of a lockfile, and these bytes are its bill
-abbrev pub IsBillText : List ℕ → Bool → List ℕ → Type 0
-IsBillText text compact bytes = (l : LockfileData) × TextMeans text l × IsBillOf l compact bytes
+abbrev pub IsBillOfText : List ℕ → Bool → List ℕ → Type 0
+IsBillOfText text compact bytes = (l : LockfileData) × TextMeans text l
+    × IsBillOfLockfile l compact bytes
 
 -- no package matches some dependency, of which this is the first
 abbrev pub LosesFirst : List PackageData → Identity → Type 0
@@ -50,11 +51,11 @@ IsUnresolvedBill text = (l : LockfileData) × (d : Identity) × TextMeans text l
 -- the text is that of a lockfile, and in its bill the same text would refer to two packages
 abbrev pub IsRepeatedText : List ℕ → Type 0
 IsRepeatedText text = (l : LockfileData) × (p : PackageData) × TextMeans text l
-    × IsRepeated (packages_in_bill l) p
+    × IsRepeatedReference (packages_in_bill l) p
 
 -- why packages have no bill
 abbrev pub LacksBill : List PackageData → Refusal → Type 0
 LacksBill packages NoMemory = Unit {0}
 LacksBill packages Unresolved = (d : Identity) × LosesFirst packages d
-LacksBill packages Repeated = (p : PackageData) × IsRepeated packages p
+LacksBill packages Repeated = (p : PackageData) × IsRepeatedReference packages p
 LacksBill packages other = ⊥

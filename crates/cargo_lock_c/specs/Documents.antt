@@ -1,26 +1,26 @@
 -- Documents of JSON about a lockfile, as callers get them: as the program prints them for the
 -- lockfile on standard input.
-use Rattle.std.specs.Prelude.{◌≡◌, ◌≢◌, ◌++◌, ◌∷◌, ℕ, Bool, List, [], codes, length}
+use Rattle.std.specs.Prelude.{◌≡◌, ◌≢◌, ◌++◌, ◌∷◌, ℕ, Bool, List, [], None, length}
 use Rattle.cargo_lock.specs.CargoChecksums.{with_cargo_checksums_in}
-use Rattle.cargo_lock_ask.specs.Answers.{AreAnswers}
-use Rattle.cargo_lock_ask.specs.Lines.{AnswerData}
-use Rattle.cargo_lock_ask.specs.Places.{IsPlaces}
-use Rattle.cargo_lock_ask.specs.Spec.{Fits}
-use Rattle.cargo_lock_ask.specs.Tally.{AreGroupsOf, GroupData}
+use Rattle.cargo_lock_query.specs.Answers.{AreAnswers}
+use Rattle.cargo_lock_query.specs.Lines.{AnswerData}
+use Rattle.lists.specs.Places.{IsPlaces}
+use Rattle.cargo_lock_query.specs.Spec.{SpecFits}
+use Rattle.cargo_lock_query.specs.Tally.{AreGroupsOf, GroupData}
 use Rattle.cargo_lock_parts.specs.Ascii.{newline}
 use Rattle.cargo_lock_graph.specs.Edges.{GraphData}
 use Rattle.cargo_lock_graph.specs.Targets.{AreEdgesOf}
-use Rattle.cargo_lock_document.specs.Document.{IsDocumentOf}
+use Rattle.cargo_lock_json.specs.Document.{IsDocumentOf}
 use Rattle.cargo_lock_encoding.specs.Lockfiles.{LockfileData}
 use Rattle.cargo_lock_encoding.specs.Means.{TextMeans}
-use Rattle.cargo_lock_json.specs.Duplicates.{groups_json}
-use Rattle.cargo_lock_json.specs.File.{FileData}
-use Rattle.json_line.specs.Text.{IsJsonText}
-use Rattle.cargo_lock_json.specs.Why.{answers_json}
+use Rattle.cargo_lock_query.specs.DuplicatesDocument.{groups_json}
+use Rattle.cargo_lock_display.specs.File.{FileData}
+use Rattle.printing.specs.Json.{IsJsonText}
+use Rattle.cargo_lock_query.specs.WhyDocument.{answers_json}
 
--- the lockfile as a document has it: its path is that of standard input
-abbrev pub file_of : LockfileData → FileData
-file_of l = record { path = codes "-"; format = l.version }
+-- the lockfile as a document has it, without a path
+abbrev pub file_without_path : LockfileData → FileData
+file_without_path l = record { path = None; format = l.version }
 
 -- a text for which this holds, and a newline
 abbrev pub IsLine : (List ℕ → Type 0) → List ℕ → Type 0
@@ -39,10 +39,10 @@ pub record IsWhyOf (l : LockfileData) (graph : GraphData) (spec : List ℕ) (is_
     (bytes : List ℕ) : Type 0 where
   pub nodes : List ℕ
   pub answers : List AnswerData
-  pub fitting : IsPlaces (Fits spec graph.packages) (length graph.packages) nodes
+  pub fitting : IsPlaces (SpecFits spec graph.packages) (length graph.packages) nodes
   pub some : nodes ≢ []
   pub answered : AreAnswers is_each graph nodes answers
-  pub printed : IsLine (IsJsonText (answers_json (file_of l) answers)) bytes
+  pub printed : IsLine (IsJsonText (answers_json (file_without_path l) answers)) bytes
 
 -- the text is that of a lockfile, and these bytes are that document of its graph
 abbrev pub IsWhyText : List ℕ → (spec : List ℕ) → (is_each : Bool) → List ℕ → Type 0
@@ -52,14 +52,14 @@ IsWhyText text spec is_each bytes = (l : LockfileData) × (graph : GraphData) ×
 -- the text is that of a lockfile, and the specification fits none of its packages
 abbrev pub FitsNone : List ℕ → (spec : List ℕ) → Type 0
 FitsNone text spec = (l : LockfileData) × TextMeans text l
-    × ((place : ℕ) → ¬ Fits spec l.packages place)
+    × ((place : ℕ) → ¬ SpecFits spec l.packages place)
 
 -- ---- duplicates
 
 -- the bytes are the document of the names that several packages of a graph have
 abbrev pub IsDuplicatesOf : LockfileData → GraphData → List ℕ → Type 0
 IsDuplicatesOf l graph bytes = (groups : List GroupData) × AreGroupsOf graph groups
-    × IsLine (IsJsonText (groups_json (file_of l) groups)) bytes
+    × IsLine (IsJsonText (groups_json (file_without_path l) groups)) bytes
 
 -- the text is that of a lockfile, and these bytes are that document of its graph
 abbrev pub IsDuplicatesText : List ℕ → List ℕ → Type 0
@@ -72,4 +72,4 @@ IsDuplicatesText text bytes = (l : LockfileData) × (graph : GraphData) × TextM
 -- reads
 abbrev pub IsLockfileText : List ℕ → List ℕ → Type 0
 IsLockfileText text bytes = (l : LockfileData) × TextMeans text l
-    × IsLine (IsDocumentOf (with_cargo_checksums_in l)) bytes
+    × IsLine (IsDocumentOf None (with_cargo_checksums_in l)) bytes

@@ -1,11 +1,10 @@
 -- The merge of three lockfiles, as callers get it: a text, and a status that says what it is about.
 use Rattle.std.specs.Prelude.{◌≡◌, ◌⊎◌, ◌∷◌, ◌++◌, ℕ, List, [], Option, Some, None}
 use Rattle.std.specs.Prelude.{IsUtf8, string_bytes}
-use Rattle.std.specs.List.{flat_map}
 use Rattle.cargo_lock.specs.CargoChecksums.{with_cargo_checksums_in}
 use Rattle.cargo_lock_encoding.specs.Lockfiles.{LockfileData}
 use Rattle.cargo_lock_encoding.specs.Means.{TextMeans}
-use Rattle.cargo_lock_merge.specs.Lines.{conflicts_text, merge_error_text, moved_line}
+use Rattle.cargo_lock_merge.specs.Lines.{conflicts_text, merge_error_text, moved_lines}
 use Rattle.cargo_lock_merge.specs.MergedLockfiles.{IsMergeError, LockfileTriple, MergesTo}
 use Rattle.cargo_lock_merge.specs.MergedLockfiles.{triple_of}
 use Rattle.cargo_lock_merge.specs.declared.lockfiles.LockfileMerge.{LockfileMerge}
@@ -13,8 +12,8 @@ use Rattle.cargo_lock_merge.specs.declared.lockfiles.LockfileMerge.TheVariants a
 use Rattle.cargo_lock_merge.specs.declared.lockfiles.MergeError.{MergeError}
 use Rattle.cargo_lock_merge.specs.declared.lockfiles.MergeError.TheVariants as error
 use Rattle.cargo_lock_merge.specs.declared.moved.Moved.{Moved as Reference}
-use Rattle.cargo_lock_merging.specs.declared.triple.Role.{Role}
-use Rattle.cargo_lock_merging.specs.declared.triple.Role.TheVariants.{Base, Ours, Theirs}
+use Rattle.cargo_lock_merge_core.specs.declared.triple.Role.{Role}
+use Rattle.cargo_lock_merge_core.specs.declared.triple.Role.TheVariants.{Base, Ours, Theirs}
 use Rattle.cargo_lock_parts.specs.Ascii.{newline}
 use Rattle.cargo_lock_c.specs.declared.merge.Ending.{Ending}
 use Rattle.cargo_lock_c.specs.declared.merge.Ending.TheVariants.{InConflict, Merged, Refused}
@@ -32,8 +31,8 @@ use Rattle.cargo_lock_c.specs.Texts.{MeansNothing}
 -- ---- the three texts
 
 -- the text is that of a lockfile
-abbrev pub IsRead : List ℕ → Type 0
-IsRead text = (l : LockfileData) × TextMeans text l
+abbrev pub MeansLockfile : List ℕ → Type 0
+MeansLockfile text = (l : LockfileData) × TextMeans text l
 
 -- the text is that of a lockfile, and this is it with the checksums that Cargo reads
 abbrev pub IsComparedOf : List ℕ → LockfileData → Type 0
@@ -46,8 +45,8 @@ pub record AreOfTexts (first second third : List ℕ) (s : LockfileTriple) : Typ
   pub theirs : IsComparedOf third s.theirs
 
 -- the three lockfiles
-abbrev pub triple_in : Three → LockfileTriple
-triple_in three = triple_of three.base three.ours three.theirs
+abbrev pub triple_of_texts : Three → LockfileTriple
+triple_of_texts three = triple_of three.base three.ours three.theirs
 
 -- Why three texts have no merge: memory ran out, or one of them is not that of a lockfile or not
 -- UTF-8. They are read in their order.
@@ -55,10 +54,12 @@ abbrev pub LacksMerge : (base ours theirs : List ℕ) → Refusal → Type 0
 LacksMerge base ours theirs NoMemory = Unit {0}
 LacksMerge base ours theirs NoLockfile = MeansNothing base
 LacksMerge base ours theirs NoText = ¬ IsUtf8 base
-LacksMerge base ours theirs NoNewLockfile = IsRead base × MeansNothing ours
-LacksMerge base ours theirs NoNewText = IsRead base × (¬ IsUtf8 ours)
-LacksMerge base ours theirs NoThirdLockfile = IsRead base × IsRead ours × MeansNothing theirs
-LacksMerge base ours theirs NoThirdText = IsRead base × IsRead ours × (¬ IsUtf8 theirs)
+LacksMerge base ours theirs NoNewLockfile = MeansLockfile base × MeansNothing ours
+LacksMerge base ours theirs NoNewText = MeansLockfile base × (¬ IsUtf8 ours)
+LacksMerge base ours theirs NoThirdLockfile = MeansLockfile base × MeansLockfile ours
+    × MeansNothing theirs
+LacksMerge base ours theirs NoThirdText = MeansLockfile base × MeansLockfile ours
+    × (¬ IsUtf8 theirs)
 LacksMerge base ours theirs other = ⊥
 
 -- ---- how a merge ends, and the text about it
@@ -71,20 +72,16 @@ status_with (Refused Base) = 16
 status_with (Refused Ours) = 17
 status_with (Refused Theirs) = 18
 
--- the line of each moved reference, with a newline
-abbrev pub moved_lines : List Reference → List ℕ
-moved_lines moved = flat_map (λ r. moved_line r ++ newline ∷ []) moved
-
 -- what is asked of a merge that there is: its text, or its moved references
-abbrev pub part_text : Part → List ℕ → List Reference → List ℕ
-part_text Text text moved = text
-part_text Moved text moved = moved_lines moved
+abbrev pub asked_text : Part → List ℕ → List Reference → List ℕ
+asked_text Text text moved = text
+asked_text Moved text moved = moved_lines moved
 
 -- how a merge of lockfiles ends, and the text about it: what is asked of it, or a line for each
 -- conflict
 abbrev pub IsTextAbout : Part → LockfileMerge → Ending → List ℕ → Type 0
 IsTextAbout part (merge.Merged l text moved) ending bytes = (ending ≡ Merged)
-    × (bytes ≡ part_text part (string_bytes text) moved.items)
+    × (bytes ≡ asked_text part (string_bytes text) moved.items)
 IsTextAbout part (merge.InConflict conflicts) ending bytes = (ending ≡ InConflict)
     × (bytes ≡ conflicts_text conflicts)
 
@@ -100,15 +97,15 @@ IsTextAboutError fault ending bytes = (role : Role) × (refused_role fault ≡ S
     × (ending ≡ Refused role) × (bytes ≡ merge_error_text fault ++ newline ∷ [])
 
 -- the text about three lockfiles: what their merge is, or why there is none
-abbrev pub IsTextOf : Part → LockfileTriple → Ending → List ℕ → Type 0
-IsTextOf part s ending bytes =
+abbrev pub IsTextOfMerge : Part → LockfileTriple → Ending → List ℕ → Type 0
+IsTextOfMerge part s ending bytes =
     ((m : LockfileMerge) × MergesTo s m × IsTextAbout part m ending bytes)
     ⊎ ((fault : MergeError) × IsMergeError s fault × IsTextAboutError fault ending bytes)
 
 -- the three texts are those of lockfiles, and this is the text about them
 abbrev pub IsMergeText : Part → (base ours theirs : List ℕ) → Ending → List ℕ → Type 0
 IsMergeText part base ours theirs ending bytes = (s : LockfileTriple)
-    × AreOfTexts base ours theirs s × IsTextOf part s ending bytes
+    × AreOfTexts base ours theirs s × IsTextOfMerge part s ending bytes
 
 -- ---- what callers get
 

@@ -24,8 +24,8 @@ checksum_field None = []
 checksum_field (Some digest) = digest_text digest
 
 -- the line of a package: name, version, source and checksum, separated by tabs, and a newline
-abbrev pub package_line : PackageData → List ℕ
-package_line p = p.name ++ (tab ∷ (parts_text p.version ++ (tab ∷ (source_field p.source
+abbrev pub tabbed_line : PackageData → List ℕ
+tabbed_line p = p.name ++ (tab ∷ (parts_text p.version ++ (tab ∷ (source_field p.source
     ++ (tab ∷ (checksum_field p.checksum ++ newline ∷ []))))))
 
 -- no control character, and no separator of lines or of paragraphs
@@ -42,7 +42,7 @@ has_line p = list_all is_line_char (chars p.name)
 -- the text is that of a lockfile, and these bytes are the lines of its packages in order
 abbrev pub IsPackageList : List ℕ → List ℕ → Type 0
 IsPackageList text bytes = (l : LockfileData) × TextMeans text l
-    × All (λ p. has_line p ≡ true) l.packages × (bytes ≡ flat_map package_line l.packages)
+    × All (λ p. has_line p ≡ true) l.packages × (bytes ≡ flat_map tabbed_line l.packages)
 
 -- the text is that of a lockfile, and some package has no line
 abbrev pub LacksLine : List ℕ → Type 0

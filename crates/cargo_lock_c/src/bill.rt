@@ -3,7 +3,7 @@
 ghost use Rattle.std.specs.Prelude.{◌≡◌, ◌≤◌, ◌⊎◌, IfErr, IfOk, string_bytes};
 ghost use Rattle.cargo_lock_bom.specs.Printed.{IsPrintedBill};
 ghost use Rattle.cargo_lock_c.specs.Answers.{IsHandedOut};
-ghost use Rattle.cargo_lock_c.specs.Bills.{IsBillOf, IsBillText, IsRepeatedText};
+ghost use Rattle.cargo_lock_c.specs.Bills.{IsBillOfLockfile, IsBillOfText, IsRepeatedText};
 ghost use Rattle.cargo_lock_c.specs.Bills.{IsUnresolvedBill, LacksBill, own_options};
 ghost use Rattle.cargo_lock_c.specs.Bills.{packages_in_bill};
 ghost use Rattle.cargo_lock_c.specs.Statuses.{status_of};
@@ -30,7 +30,7 @@ pub extern "C" fn cargo_lock_bill(
     out: &mut [u8],
     length: &mut usize,
 ) -> u32
-    ensures bill { IsHandedOut (IsBillText text.now compact) result out.old out.new
+    ensures bill { IsHandedOut (IsBillOfText text.now compact) result out.old out.new
         length.old length.new }
     ensures unresolved { result ≡ 7 → IsUnresolvedBill text.now }
     ensures repeated { result ≡ 12 → IsRepeatedText text.now }
@@ -45,7 +45,7 @@ pub extern "C" fn cargo_lock_bill(
 
 /// The bill of the lockfile of a text's bytes.
 fn bill(alloc: Global, bytes: &[u8], compact: bool) -> Result<String, Refusal>
-    ensures ok { IfOk result (λ bill. IsBillText bytes.now compact (string_bytes bill)) }
+    ensures ok { IfOk result (λ bill. IsBillOfText bytes.now compact (string_bytes bill)) }
     ensures unresolved { IfErr result (λ refusal. status_of refusal ≡ 7
         → IsUnresolvedBill bytes.now) }
     ensures repeated { IfErr result (λ refusal. status_of refusal ≡ 12
@@ -61,7 +61,7 @@ fn bill(alloc: Global, bytes: &[u8], compact: bool) -> Result<String, Refusal>
 
 /// The bill of a lockfile, with the checksums that Cargo reads.
 fn bill_of(alloc: Global, lockfile: Lockfile, compact: bool) -> Result<String, Refusal>
-    ensures ok { IfOk result (λ bill. IsBillOf lockfile compact (string_bytes bill)) }
+    ensures ok { IfOk result (λ bill. IsBillOfLockfile lockfile compact (string_bytes bill)) }
     ensures err { IfErr result (LacksBill (packages_in_bill lockfile)) }
 {
     let lockfile = compared(alloc, lockfile)?;

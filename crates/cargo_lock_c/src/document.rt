@@ -3,19 +3,18 @@
 ghost use Rattle.std.specs.Prelude.{◌≡◌, ◌++◌, ◌∷◌, [], IfErr, IfOk, string_bytes};
 ghost use Rattle.cargo_lock_parts.specs.Ascii.{newline};
 ghost use Rattle.cargo_lock_c.specs.declared.refusal.Refusal.TheVariants.{NoMemory};
-ghost use Rattle.cargo_lock_c.specs.Documents as spec;
+ghost use Rattle.cargo_lock_c.specs.Documents.{file_without_path};
 
 use crate::refusal::Refusal;
 use cargo_lock::Lockfile;
-use cargo_lock_json::File;
+use cargo_lock_display::File;
 
-/// The lockfile as a document has it. Its text comes from the caller, so its path is that of
-/// standard input.
+/// The lockfile as a document has it. Its text comes from the caller, so it has no path.
 pub(crate) fn file_of(lockfile: &Lockfile) -> File<'static>
-    ensures { «result» ≡ spec.file_of lockfile.now }
+    ensures { «result» ≡ file_without_path lockfile.now }
 {
     File {
-        path: "-",
+        path: None,
         format: lockfile.version,
     }
 }

@@ -1,12 +1,13 @@
 //! The names that several packages of a lockfile have, as a document of JSON.
 
 ghost use Rattle.std.specs.Prelude.{◌≡◌, ◌≤◌, ◌⊎◌, IfErr, IfOk, map, string_bytes};
-ghost use Rattle.cargo_lock_ask.specs.Tally.{group_of};
-ghost use Rattle.cargo_lock_json.specs.Duplicates.{groups_json};
-ghost use Rattle.json_line.specs.Text.{IsJsonText};
+ghost use Rattle.cargo_lock_query.specs.Tally.{group_of_rows};
+ghost use Rattle.cargo_lock_query.specs.DuplicatesDocument.{groups_json};
+ghost use Rattle.printing.specs.Json.{IsJsonText};
 ghost use Rattle.cargo_lock_c.specs.declared.refusal.Refusal.TheVariants.{NoMemory};
 ghost use Rattle.cargo_lock_c.specs.Answers.{IsHandedOut};
-ghost use Rattle.cargo_lock_c.specs.Documents.{IsDuplicatesOf, IsDuplicatesText, IsLine, file_of};
+ghost use Rattle.cargo_lock_c.specs.Documents.{IsDuplicatesOf, IsDuplicatesText, IsLine};
+ghost use Rattle.cargo_lock_c.specs.Documents.{file_without_path};
 ghost use Rattle.cargo_lock_c.specs.Graph.{IsUnresolvedText};
 ghost use Rattle.cargo_lock_c.specs.Statuses.{status_of};
 ghost use Rattle.cargo_lock_c.specs.Texts.{RefusesText};
@@ -18,8 +19,7 @@ use crate::refusal::Refusal;
 use crate::tree::tree_of;
 use cargo_lock::Lockfile;
 use cargo_lock::dependency::graph::Graph;
-use cargo_lock_ask::Listing;
-use cargo_lock_json::groups_json;
+use cargo_lock_query::{Listing, groups_json};
 use std::alloc::Global;
 
 /// The names that several packages of the lockfile of a text have, with these packages and what
@@ -71,8 +71,9 @@ fn names_of(alloc: Global, lockfile: &Lockfile, graph: &Graph) -> Result<String,
 
 /// The document of names.
 fn line_about(alloc: Global, lockfile: &Lockfile, listing: &Listing<'_>) -> Result<String, Refusal>
-    ensures ok { IfOk result (λ line. IsLine (IsJsonText (groups_json (file_of lockfile.now)
-        (map group_of listing.now.groups.items))) (string_bytes line)) }
+    ensures ok { IfOk result (λ line. IsLine (IsJsonText (groups_json
+        (file_without_path lockfile.now) (map group_of_rows listing.now.groups.items)))
+        (string_bytes line)) }
     ensures err { IfErr result (λ refusal. refusal ≡ NoMemory) }
 {
     let document = groups_json(alloc, &file_of(lockfile), &listing.groups)?;

@@ -1,7 +1,7 @@
 //! What is wrong with a lockfile, line by line.
 
 ghost use Rattle.std.specs.Prelude.{◌≡◌, ◌≤◌, ◌⊎◌, IfErr, IfOk, map, string_bytes};
-ghost use Rattle.cargo_lock_check.specs.Finding.{finding_of, findings_text};
+ghost use Rattle.cargo_lock_check.specs.Finding.{lockfile_finding_of, lockfile_findings_text};
 ghost use Rattle.cargo_lock_check.specs.Findings.{AreFindings};
 ghost use Rattle.cargo_lock_c.specs.declared.refusal.Refusal.TheVariants.{NoMemory};
 ghost use Rattle.cargo_lock_c.specs.Answers.{IsHandedOut};
@@ -92,7 +92,7 @@ fn findings_of<'a>(
 
 fn lines_of(alloc: Global, findings: &[Finding<'_>]) -> Result<String, Refusal>
     ensures ok { IfOk result (λ lines. string_bytes lines
-        ≡ findings_text (map finding_of findings.now)) }
+        ≡ lockfile_findings_text (map lockfile_finding_of findings.now)) }
     ensures err { IfErr result (λ refusal. refusal ≡ NoMemory) }
 {
     let mut lines = String::new(alloc);

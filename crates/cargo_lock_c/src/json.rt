@@ -1,8 +1,8 @@
 //! A lockfile as a document of JSON.
 
-ghost use Rattle.std.specs.Prelude.{◌≡◌, ◌≤◌, ◌⊎◌, IfErr, IfOk, string_bytes};
+ghost use Rattle.std.specs.Prelude.{◌≡◌, ◌≤◌, ◌⊎◌, IfErr, IfOk, None, string_bytes};
 ghost use Rattle.cargo_lock.specs.CargoChecksums.{with_cargo_checksums_in};
-ghost use Rattle.cargo_lock_document.specs.Document.{IsDocumentOf};
+ghost use Rattle.cargo_lock_json.specs.Document.{IsDocumentOf};
 ghost use Rattle.cargo_lock_c.specs.declared.refusal.Refusal.TheVariants.{NoMemory};
 ghost use Rattle.cargo_lock_c.specs.Answers.{IsHandedOut};
 ghost use Rattle.cargo_lock_c.specs.Documents.{IsLine, IsLockfileText};
@@ -15,7 +15,7 @@ use crate::handing::hand_out;
 use crate::reading::read;
 use crate::refusal::Refusal;
 use cargo_lock::Lockfile;
-use cargo_lock_document::lockfile_json;
+use cargo_lock_json::lockfile_json;
 use std::alloc::Global;
 
 /// The lockfile of a text as a document, as `cargo-lock json -f -` prints it: its packages, and the
@@ -53,7 +53,7 @@ fn document(alloc: Global, bytes: &[u8]) -> Result<String, Refusal>
 /// The document of a lockfile, with the checksums that Cargo reads.
 fn line_about(alloc: Global, lockfile: Lockfile) -> Result<String, Refusal>
     ensures ok { IfOk result (λ line.
-        IsLine (IsDocumentOf (with_cargo_checksums_in lockfile)) (string_bytes line)) }
+        IsLine (IsDocumentOf None (with_cargo_checksums_in lockfile)) (string_bytes line)) }
     ensures err { IfErr result (λ refusal. refusal ≡ NoMemory) }
 {
     let lockfile = compared(alloc, lockfile)?;
@@ -62,9 +62,10 @@ fn line_about(alloc: Global, lockfile: Lockfile) -> Result<String, Refusal>
 
 /// The document of a lockfile as it is.
 fn line_of_compared(alloc: Global, lockfile: &Lockfile) -> Result<String, Refusal>
-    ensures ok { IfOk result (λ line. IsLine (IsDocumentOf lockfile.now) (string_bytes line)) }
+    ensures ok { IfOk result
+        (λ line. IsLine (IsDocumentOf None lockfile.now) (string_bytes line)) }
     ensures err { IfErr result (λ refusal. refusal ≡ NoMemory) }
 {
-    let document = lockfile_json(alloc, lockfile)?;
+    let document = lockfile_json(alloc, None, lockfile)?;
     line_of(document)
 }

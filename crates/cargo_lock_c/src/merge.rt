@@ -3,16 +3,16 @@
 ghost use Rattle.std.specs.Prelude.{◌≡◌, IfErr, IfOk, string_bytes};
 ghost use Rattle.cargo_lock_c.specs.declared.refusal.Refusal.TheVariants.{NoMemory};
 ghost use Rattle.cargo_lock_c.specs.Merges.{IsHandedOutWith, IsMergeAnswered, IsMergeText};
-ghost use Rattle.cargo_lock_c.specs.Merges.{IsTextAbout, IsTextAboutError, IsTextOf, LacksMerge};
-ghost use Rattle.cargo_lock_c.specs.Merges.{moved_lines, part_text, refused_role, status_with};
-ghost use Rattle.cargo_lock_c.specs.Merges.{triple_in};
+ghost use Rattle.cargo_lock_c.specs.Merges.{IsTextAbout, IsTextAboutError, IsTextOfMerge};
+ghost use Rattle.cargo_lock_c.specs.Merges.{LacksMerge, asked_text, refused_role};
+ghost use Rattle.cargo_lock_c.specs.Merges.{status_with, triple_of_texts};
 
 use crate::handing::hand_out;
 use crate::refusal::{DONE, Refusal};
 use crate::three::{Three, read_three};
 use cargo_lock_merge::lockfiles::{LockfileMerge, MergeError, merge_lockfiles};
-use cargo_lock_merge::moved::Moved;
-use cargo_lock_merging::triple::Role;
+use cargo_lock_merge::moved::{Moved, moved_lines};
+use cargo_lock_merge_core::triple::Role;
 use std::alloc::Global;
 
 /// What is asked of a merge.
@@ -138,7 +138,7 @@ fn read_and_merge(
 
 /// How the merge of three lockfiles ends, and the text about it.
 fn answer_of(alloc: Global, three: &Three, part: Part) -> Result<Answer, Refusal>
-    ensures ok { IfOk result (λ answer. IsTextOf part (triple_in three.now) answer.ending
+    ensures ok { IfOk result (λ answer. IsTextOfMerge part (triple_of_texts three.now) answer.ending
         (string_bytes answer.text)) }
     ensures err { IfErr result (λ refusal. refusal ≡ NoMemory) }
 {
@@ -174,26 +174,13 @@ fn part_text(
     moved: &[Moved<'_>],
 ) -> Result<String, Refusal>
     ensures ok { IfOk result (λ asked. string_bytes asked
-        ≡ part_text part (string_bytes text) moved.now) }
+        ≡ asked_text part (string_bytes text) moved.now) }
     ensures err { IfErr result (λ refusal. refusal ≡ NoMemory) }
 {
     match part {
         Part::Text => Ok(text),
-        Part::Moved => moved_lines(alloc, moved),
+        Part::Moved => Ok(moved_lines(alloc, moved)?),
     }
-}
-
-/// The lines of moved references.
-fn moved_lines(alloc: Global, moved: &[Moved<'_>]) -> Result<String, Refusal>
-    ensures ok { IfOk result (λ lines. string_bytes lines ≡ moved_lines moved.now) }
-    ensures err { IfErr result (λ refusal. refusal ≡ NoMemory) }
-{
-    let mut lines = String::new(alloc);
-    for one in moved {
-        let line = format!(in alloc; "{one}\n")?;
-        lines.push_str(line.as_str())?;
-    }
-    Ok(lines)
 }
 
 /// The text about why a lockfile cannot be merged.

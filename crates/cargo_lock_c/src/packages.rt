@@ -8,7 +8,7 @@ ghost use Rattle.cargo_lock_parts.specs.Checksum.{digest_of};
 ghost use Rattle.cargo_lock_c.specs.declared.refusal.Refusal.TheVariants.{NoLine, NoMemory};
 ghost use Rattle.cargo_lock_c.specs.Answers.{IsHandedOut};
 ghost use Rattle.cargo_lock_c.specs.Packages.{IsPackageList, LacksLine, checksum_field, has_line};
-ghost use Rattle.cargo_lock_c.specs.Packages.{is_line_char, package_line, source_field};
+ghost use Rattle.cargo_lock_c.specs.Packages.{is_line_char, source_field, tabbed_line};
 ghost use Rattle.cargo_lock_c.specs.Packages as spec;
 ghost use Rattle.cargo_lock_c.specs.Statuses.{status_of};
 ghost use Rattle.cargo_lock_c.specs.Texts.{RefusesText};
@@ -56,7 +56,7 @@ fn package_lines(alloc: Global, bytes: &[u8]) -> Result<String, Refusal>
 
 fn lines_of(alloc: Global, packages: &[Package]) -> Result<String, Refusal>
     ensures ok { IfOk result (λ lines. All (λ p. has_line p ≡ true) packages.now
-        × (string_bytes lines ≡ flat_map package_line packages.now)) }
+        × (string_bytes lines ≡ flat_map tabbed_line packages.now)) }
     ensures err { IfErr result (λ refusal. (refusal ≡ NoMemory)
         ⊎ ((refusal ≡ NoLine) × Any (λ p. has_line p ≡ false) packages.now)) }
 {
@@ -70,7 +70,7 @@ fn lines_of(alloc: Global, packages: &[Package]) -> Result<String, Refusal>
 
 fn line_of(alloc: Global, package: &Package) -> Result<String, Refusal>
     ensures ok { IfOk result (λ line. (has_line «package».now ≡ true)
-        × (string_bytes line ≡ package_line «package».now)) }
+        × (string_bytes line ≡ tabbed_line «package».now)) }
     ensures err { IfErr result (λ refusal. (refusal ≡ NoMemory)
         ⊎ ((refusal ≡ NoLine) × (has_line «package».now ≡ false))) }
 {

@@ -1,8 +1,8 @@
 //! The lockfiles of the three texts of a merge.
 
 ghost use Rattle.std.specs.Prelude.{◌≤◌, IfErr, IfOk, List, ℕ};
-ghost use Rattle.cargo_lock_c.specs.Merges.{AreOfTexts, IsComparedOf, IsRead, LacksMerge};
-ghost use Rattle.cargo_lock_c.specs.Merges.{triple_in};
+ghost use Rattle.cargo_lock_c.specs.Merges.{AreOfTexts, IsComparedOf, LacksMerge, MeansLockfile};
+ghost use Rattle.cargo_lock_c.specs.Merges.{triple_of_texts};
 ghost use Rattle.cargo_lock_c.specs.Statuses.{status_of};
 ghost use Rattle.cargo_lock_c.specs.Texts.{RefusesText};
 
@@ -27,7 +27,8 @@ pub(crate) fn read_three(
     ours: &[u8],
     theirs: &[u8],
 ) -> Result<Three, Refusal>
-    ensures ok { IfOk result (λ three. AreOfTexts base.now ours.now theirs.now (triple_in three)) }
+    ensures ok { IfOk result
+        (λ three. AreOfTexts base.now ours.now theirs.now (triple_of_texts three)) }
     ensures err { IfErr result (LacksMerge base.now ours.now theirs.now) }
 {
     let first = read_first(alloc, base)?;
@@ -55,7 +56,7 @@ fn read_first(alloc: Global, bytes: &[u8]) -> Result<Lockfile, Refusal>
 /// The lockfile of the second text's bytes.
 fn read_second(alloc: Global, bytes: &[u8]) -> Result<Lockfile, Refusal>
     ensures ok { IfOk result (IsComparedOf bytes.now) }
-    ensures err { IfErr result (λ refusal. (base theirs : List ℕ) → IsRead base
+    ensures err { IfErr result (λ refusal. (base theirs : List ℕ) → MeansLockfile base
         → LacksMerge base bytes.now theirs refusal) }
 {
     match read_compared(alloc, bytes) {
@@ -67,8 +68,8 @@ fn read_second(alloc: Global, bytes: &[u8]) -> Result<Lockfile, Refusal>
 /// The lockfile of the third text's bytes.
 fn read_third(alloc: Global, bytes: &[u8]) -> Result<Lockfile, Refusal>
     ensures ok { IfOk result (IsComparedOf bytes.now) }
-    ensures err { IfErr result (λ refusal. (base ours : List ℕ) → IsRead base → IsRead ours
-        → LacksMerge base ours bytes.now refusal) }
+    ensures err { IfErr result (λ refusal. (base ours : List ℕ) → MeansLockfile base
+        → MeansLockfile ours → LacksMerge base ours bytes.now refusal) }
 {
     match read_compared(alloc, bytes) {
         Ok(lockfile) => Ok(lockfile),

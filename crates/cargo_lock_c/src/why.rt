@@ -2,13 +2,14 @@
 
 ghost use Rattle.std.specs.Prelude.{◌≡◌, ◌≤◌, ◌↔◌, ◌⊎◌, ℕ, IfErr, IfOk, map, string_bytes};
 ghost use Rattle.std.specs.Str.{IsUtf8};
-ghost use Rattle.cargo_lock_ask.specs.Lines.{answer_of};
-ghost use Rattle.cargo_lock_ask.specs.Spec.{Fits};
-ghost use Rattle.json_line.specs.Text.{IsJsonText};
-ghost use Rattle.cargo_lock_json.specs.Why.{answers_json};
+ghost use Rattle.cargo_lock_query.specs.Lines.{answer_of};
+ghost use Rattle.cargo_lock_query.specs.Spec.{SpecFits};
+ghost use Rattle.printing.specs.Json.{IsJsonText};
+ghost use Rattle.cargo_lock_query.specs.WhyDocument.{answers_json};
 ghost use Rattle.cargo_lock_c.specs.declared.refusal.Refusal.TheVariants.{NoMemory, NothingFits};
 ghost use Rattle.cargo_lock_c.specs.Answers.{IsHandedOut};
-ghost use Rattle.cargo_lock_c.specs.Documents.{FitsNone, IsLine, IsWhyOf, IsWhyText, file_of};
+ghost use Rattle.cargo_lock_c.specs.Documents.{FitsNone, IsLine, IsWhyOf, IsWhyText};
+ghost use Rattle.cargo_lock_c.specs.Documents.{file_without_path};
 ghost use Rattle.cargo_lock_c.specs.Graph.{IsUnresolvedText};
 ghost use Rattle.cargo_lock_c.specs.Statuses.{status_of};
 ghost use Rattle.cargo_lock_c.specs.Texts.{RefusesText};
@@ -20,8 +21,7 @@ use crate::refusal::Refusal;
 use crate::tree::tree_of;
 use cargo_lock::Lockfile;
 use cargo_lock::dependency::graph::Graph;
-use cargo_lock_ask::{Answers, fitting};
-use cargo_lock_json::answers_json;
+use cargo_lock_query::{Answers, answers_json, fitting};
 use std::alloc::Global;
 use std::str;
 
@@ -86,7 +86,7 @@ fn answers_of(
     ensures ok { IfOk result (λ answers. IsWhyOf lockfile.now graph.now spec.now all
         (string_bytes answers)) }
     ensures err { IfErr result (λ refusal. (refusal ≡ NoMemory) ⊎ ((refusal ≡ NothingFits)
-        × ((place : ℕ) → ¬ Fits spec.now lockfile.now.packages place))) }
+        × ((place : ℕ) → ¬ SpecFits spec.now lockfile.now.packages place))) }
 {
     let nodes = fitting(alloc, lockfile.packages.as_slice(), spec)?;
     if nodes.is_empty() {
@@ -99,8 +99,9 @@ fn answers_of(
 
 /// The document of answers.
 fn line_about(alloc: Global, lockfile: &Lockfile, answers: &Answers<'_>) -> Result<String, Refusal>
-    ensures ok { IfOk result (λ line. IsLine (IsJsonText (answers_json (file_of lockfile.now)
-        (map answer_of answers.now.answers.items))) (string_bytes line)) }
+    ensures ok { IfOk result (λ line. IsLine (IsJsonText (answers_json
+        (file_without_path lockfile.now) (map answer_of answers.now.answers.items)))
+        (string_bytes line)) }
     ensures err { IfErr result (λ refusal. refusal ≡ NoMemory) }
 {
     let document = answers_json(alloc, &file_of(lockfile), &answers.answers)?;

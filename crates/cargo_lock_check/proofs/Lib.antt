@@ -4,3 +4,4 @@ pub mod OwnChecksums
 pub mod Told
 pub mod Sound
 pub mod OneLine
+pub mod DocumentDepth

@@ -1,15 +1,20 @@
 -- Each finding is one line: each part of it is printable.
 use Rattle.std.proofs.Common.{codes, Option, Some, None, refl}
-use Rattle.shown.specs.declared.form.Form.TheVariants.{Plain, Quoted}
-use Rattle.shown.proofs.LinesOf.{each-is-line}
-use Rattle.shown.proofs.Printable.{Prints, decimal-prints, empty, join, literal, shown-prints, words}
+use Rattle.printing.specs.declared.form.Form.TheVariants.{Plain, Quoted}
+use Rattle.printing.proofs.LinesOf.{each-is-line}
+use Rattle.printing.proofs.Printable.{Prints, decimal-prints, empty, join, literal, shown-prints, words}
 use Rattle.cargo_lock_parts.specs.Identity.{Identity, PackageData, identity_of}
 use Rattle.cargo_lock_parts.specs.Source.{Source}
 use Rattle.cargo_lock_references.specs.Format.{number_of}
-use Rattle.cargo_lock_check.specs.Finding.{Alike, BadName, EachIsOneLine, FindingData, LookAlike, LossySource, LostDependency, Misplaced, MisplacedDependency, NoChecksum, NoChecksums, NoRoot, NotKept, Orphan, OtherLine, RepeatedDependency, StaleChecksum, Twice, UserInfo}
-use Rattle.cargo_lock_check.specs.Finding.{bracketed, identity_shown, finding_line, package_shown}
+use Rattle.cargo_lock_check.specs.Finding.{Alike, BadName, EachLockfileFindingIsOneLine}
+use Rattle.cargo_lock_check.specs.Finding.{LockfileFindingData, LookAlike, LossySource}
+use Rattle.cargo_lock_check.specs.Finding.{LostDependency, Misplaced, MisplacedDependency}
+use Rattle.cargo_lock_check.specs.Finding.{NoChecksum, NoChecksums, NoRoot, NotKept, Orphan}
+use Rattle.cargo_lock_check.specs.Finding.{OtherLine, RepeatedDependency, StaleChecksum, Twice}
+use Rattle.cargo_lock_check.specs.Finding.{UserInfo, source_in_brackets, identity_shown}
+use Rattle.cargo_lock_check.specs.Finding.{lockfile_finding_line, package_shown}
 
-brackets-print : (s : Option Source) → Prints (bracketed s)
+brackets-print : (s : Option Source) → Prints (source_in_brackets s)
 brackets-print None = empty
 brackets-print (Some s) = words (codes " (") refl (join (shown-prints Plain _) (literal (codes ")") refl))
 
@@ -19,7 +24,7 @@ identity-prints i = join (shown-prints Plain i.name) (words (codes " ") refl (jo
 package-prints : (p : PackageData) → Prints (package_shown p)
 package-prints p = identity-prints (identity_of p)
 
-line-prints : (f : FindingData) → Prints (finding_line f)
+line-prints : (f : LockfileFindingData) → Prints (lockfile_finding_line f)
 line-prints (LostDependency p d) =
     words (codes "reference: ") refl (join (package-prints p)
     (words (codes " depends on ") refl (join (identity-prints d) (literal (codes ", which is missing from the lockfile") refl))))
@@ -51,5 +56,5 @@ line-prints (OtherLine other) =
     (words (codes " is not as Cargo writes it: `") refl (join (shown-prints Quoted other.written)
     (words (codes "` for `") refl (join (shown-prints Quoted other.wanted) (literal (codes "`") refl))))))
 
-pub each-finding-is-one-line : EachIsOneLine
-each-finding-is-one-line = each-is-line finding_line line-prints
+pub each-finding-is-one-line : EachLockfileFindingIsOneLine
+each-finding-is-one-line = each-is-line lockfile_finding_line line-prints

@@ -13,36 +13,33 @@ use Rattle.cargo_lock_references.specs.declared.version.ResolveVersion.TheVarian
 use Rattle.cargo_lock_parts.specs.Identity.{Identity}
 use Rattle.cargo_lock.specs.CargoChecksums.{cargo_checksum, with_checksum}
 use Rattle.std.proofs.lemmas.List.{length-map}
-use Rattle.cargo_lock_flaws.specs.Dependencies.{AreDependencies, HoldsAt, HoldsOfDependency, IsMisplacedAt, IsRepeatedAt, IsSameDependency}
-use Rattle.cargo_lock_check.specs.Finding.{Alike, BadName, FindingData, LookAlike, LossySource, LostDependency, Misplaced, MisplacedDependency, NoChecksum, NoChecksums, NoRoot, Orphan, OtherLine, RepeatedDependency, StaleChecksum, Twice, UserInfo}
-use Rattle.cargo_lock_check.specs.Findings.{AreFindings, AreLossy, FindingsData, HasNoFindings, IsLostIn, IsOther, IsOtherLine, IsWrittenByCargo, alike_at, checked_packages, dependency_at, misplaced_at, misplaced_dependency_at, flawed_at, source_at, told_of, told_of_checksums, told_of_format, told_of_formats, told_of_misleading, told_of_order, told_of_orphans, told_of_twice, with_next}
+use Rattle.cargo_lock_flaws.specs.Dependencies.{AreDependencies, HoldsAt, HoldsOfDependency, IsDependencyMisplacedAt, IsRepeatedAt, IsSameDependency}
+use Rattle.cargo_lock_check.specs.Finding.{Alike, BadName, LockfileFindingData, LookAlike, LossySource, LostDependency, Misplaced, MisplacedDependency, NoChecksum, NoChecksums, NoRoot, Orphan, OtherLine, RepeatedDependency, StaleChecksum, Twice, UserInfo}
+use Rattle.cargo_lock_check.specs.Findings.{AreFindings, AreLossy, FindingsData, HasNoFindings, IsSourceLostIn, IsOther, IsOtherLine, IsWrittenByCargo, alike_at, checked_packages, dependency_at, misplaced_at, misplaced_dependency_at, flawed_at, source_finding_at, told_of, told_of_checksums, told_of_format, told_of_formats, told_of_misleading, told_of_order, told_of_orphans, told_of_twice, with_next}
 use Rattle.cargo_lock_flaws.specs.Alike.{AreAlikeAt, ArePairsAlike, IsFirstAlike}
 use Rattle.cargo_lock_flaws.specs.Lost.{IsLostAt}
 use Rattle.cargo_lock_flaws.specs.Names.{IsBadlyNamed}
 use Rattle.cargo_lock_flaws.specs.Packages.{IsFirstUnchecked, IsMisplaced, IsTwice, IsUnchecked, IsWithoutChecksum, source_unless}
-use Rattle.cargo_lock_flaws.specs.Places.{IsPlaces}
+use Rattle.lists.specs.Places.{IsPlaces}
 use Rattle.cargo_lock_flaws.specs.Reach.{IsOrphan}
 use Rattle.cargo_lock_check.specs.Sound.{EmptyIfSound, NoneToldIfEmpty}
 use Rattle.cargo_lock_flaws.specs.Sources.{HasUserInfo, IsFrom, IsFromAt, IsLookAlike}
 use Rattle.cargo_lock_flaws.specs.Stale.{stale_keys}
 use Rattle.cargo_lock_check.specs.Text.{OtherLineData}
-use Rattle.cargo_lock_flaws.proofs.StaleKeys.{cons-here, nothing-there, stale_keys_are_exact}
+use Rattle.lists.proofs.Members.{first-in, none-in, none-left}
+use Rattle.lists.proofs.Tests.{append-none, map-none}
+use Rattle.cargo_lock_flaws.proofs.StaleKeys.{stale_keys_are_exact}
 
 -- ---- lists without members
 
--- a list that has no member is empty
-none-left : {X : Type 0} (xs : List X) → ((x : X) → ¬ Contains xs x) → xs ≡ []
-none-left [] h = refl
-none-left (x ∷ xs) h = absurd (h x (cons-here x xs))
-
-none-in : {X : Type 0} (xs : List X) (x : X) → xs ≡ [] → ¬ Contains xs x
-none-in xs x e c = nothing-there x (subst (λ ys. Contains ys x) e c)
+not-in : {X : Type 0} (xs : List X) (x : X) → xs ≡ [] → ¬ Contains xs x
+not-in xs x e c = none-in x (subst (λ ys. Contains ys x) e c)
 
 -- places at which P holds of a package
 places-empty : (P : ℕ → Type 0) (n : ℕ) (places : List ℕ) → IsPlaces P n places → (places ≡ []) ↔ ((k : ℕ) → k < n → ¬ P k)
 places-empty P n places is = (
-  λ e k lt p. none-in places k e ((is.told k).1 (lt, p)),
-  λ h. none-left places (λ k c. let both = (is.told k).0 c in h k both.0 both.1),
+  λ e k lt p. not-in places k e ((is.listed k).1 (lt, p)),
+  λ h. none-left places (λ k c. let both = (is.listed k).0 c in h k both.0 both.1),
 )
 
 within : (P : PackageData → Type 0) (packages : List PackageData) (k : ℕ) → HoldsOf P packages k → k < length packages
@@ -51,7 +48,7 @@ within P packages k h = slice_get_within packages k h.0 h.1
 -- dependencies at places
 dependencies-empty : (P : ℕ → ℕ → Type 0) (places : List (ℕ × ℕ)) → AreDependencies P places → (places ≡ []) ↔ ((place at : ℕ) → ¬ P place at)
 dependencies-empty P places are = (
-  λ e place at h. none-in places (place, at) e ((are.told place at).1 h),
+  λ e place at h. not-in places (place, at) e ((are.told place at).1 h),
   λ h. none-left places (λ k c. h k.0 k.1 ((are.told k.0 k.1).0 c)),
 )
 
@@ -63,10 +60,10 @@ within-checked : (P : PackageData → Type 0) (l : LockfileData) (k : ℕ) → H
 within-checked P l k h = (let low = within P (checked_packages l) k h in let long = as-many l in omega (arith, low, long))
 
 -- sources that the format loses
-lossy-empty : (version : ResolveVersion) (text : List ℕ) (lossy : List (List ℕ)) → AreLossy version text lossy → (lossy ≡ []) ↔ ((source : List ℕ) → ¬ IsLostIn version text source)
-lossy-empty V1 text lossy are = (λ e s h. none-in lossy s e ((are.told s).1 h), λ h. none-left lossy (λ s c. h s ((are.told s).0 c)))
-lossy-empty V2 text lossy are = (λ e s h. none-in lossy s e ((are.told s).1 h), λ h. none-left lossy (λ s c. h s ((are.told s).0 c)))
-lossy-empty V3 text lossy are = (λ e s h. none-in lossy s e ((are.told s).1 h), λ h. none-left lossy (λ s c. h s ((are.told s).0 c)))
+lossy-empty : (version : ResolveVersion) (text : List ℕ) (lossy : List (List ℕ)) → AreLossy version text lossy → (lossy ≡ []) ↔ ((source : List ℕ) → ¬ IsSourceLostIn version text source)
+lossy-empty V1 text lossy are = (λ e s h. not-in lossy s e ((are.told s).1 h), λ h. none-left lossy (λ s c. h s ((are.told s).0 c)))
+lossy-empty V2 text lossy are = (λ e s h. not-in lossy s e ((are.told s).1 h), λ h. none-left lossy (λ s c. h s ((are.told s).0 c)))
+lossy-empty V3 text lossy are = (λ e s h. not-in lossy s e ((are.told s).1 h), λ h. none-left lossy (λ s c. h s ((are.told s).0 c)))
 lossy-empty V4 text lossy are = (λ e s h. h, λ h. are)
 
 -- two packages are alike where one has a first one alike
@@ -77,7 +74,7 @@ no-first packages j none (suc bound) i low under h =
 
 alike-empty : (packages : List PackageData) (pairs : List (ℕ × ℕ)) → ArePairsAlike packages pairs → (pairs ≡ []) ↔ ((i j : ℕ) → i < j → ¬ AreAlikeAt packages i j)
 alike-empty packages pairs are = (
-  λ e i j low. no-first packages j (λ k h. none-in pairs (k, j) e ((are.told k j).1 h)) (suc i) i (omega arith) low,
+  λ e i j low. no-first packages j (λ k h. not-in pairs (k, j) e ((are.told k j).1 h)) (suc i) i (omega arith) low,
   λ h. none-left pairs (λ k c. let first = (are.told k.0 k.1).0 c in h k.0 k.1 first.0 first.1),
 )
 
@@ -110,9 +107,9 @@ empty_if_sound text l f is = (
     needed = (places-empty (IsOrphan l.packages l.root) (length l.packages) f.orphans (is.orphans.asked e.lossy)).0 e.orphans;
     checksums = λ k h. (places-empty (IsWithoutChecksum (checked_packages l)) (length l.packages) f.without_checksum is.without_checksum).0 e.without_checksum k (within-checked _ l k h) h;
     checked = λ k h. (places-empty (IsUnchecked (checked_packages l)) (length l.packages) f.unchecked is.unchecked).0 e.unchecked k (within-checked _ l k h) h;
-    metadata = λ key h. none-in (stale_keys l.metadata l.packages) key (sym is.stale ∙ e.stale) ((stale_keys_are_exact l.metadata l.packages key).1 h);
+    metadata = λ key h. not-in (stale_keys l.metadata l.packages) key (sym is.stale ∙ e.stale) ((stale_keys_are_exact l.metadata l.packages key).1 h);
     ordered = λ k h. (places-empty (IsMisplaced l.packages) (length l.packages) f.misplaced is.misplaced).0 e.misplaced k (within _ l.packages k h) h;
-    listed_in_order = (dependencies-empty (IsMisplacedAt l.packages) f.misplaced_dependencies is.misplaced_dependencies).0 e.misplaced_dependencies;
+    listed_in_order = (dependencies-empty (IsDependencyMisplacedAt l.packages) f.misplaced_dependencies is.misplaced_dependencies).0 e.misplaced_dependencies;
     kept = (is.is_kept.asked e.lossy).0 e.is_kept;
     written = λ rootless.
         subst (λ o. MatchOption o (IsWrittenByCargo text l) (IsOther text l)) e.other_line
@@ -132,7 +129,7 @@ empty_if_sound text l f is = (
     unchecked = (places-empty (IsUnchecked (checked_packages l)) (length l.packages) f.unchecked is.unchecked).1 (λ k _. s.checked k);
     stale = is.stale ∙ none-left (stale_keys l.metadata l.packages) (λ key c. s.metadata key ((stale_keys_are_exact l.metadata l.packages key).0 c));
     misplaced = (places-empty (IsMisplaced l.packages) (length l.packages) f.misplaced is.misplaced).1 (λ k _. s.ordered k);
-    misplaced_dependencies = (dependencies-empty (IsMisplacedAt l.packages) f.misplaced_dependencies is.misplaced_dependencies).1 s.listed_in_order;
+    misplaced_dependencies = (dependencies-empty (IsDependencyMisplacedAt l.packages) f.misplaced_dependencies is.misplaced_dependencies).1 s.listed_in_order;
     is_kept = (is.is_kept.asked none).1 s.kept;
     other_line = other-none text l f.other_line (is.other_line.asked none) s.written;
   },
@@ -140,24 +137,16 @@ empty_if_sound text l f is = (
 
 -- ---- what is told
 
-append-none : {X : Type 0} (xs ys : List X) → xs ++ ys ≡ [] → (xs ≡ []) × (ys ≡ [])
-append-none [] ys e = (refl, e)
-append-none (x ∷ xs) ys e = cc e
-
-map-none : {X Y : Type 0} (f : X → Y) (xs : List X) → map f xs ≡ [] → xs ≡ []
-map-none f [] e = refl
-map-none f (x ∷ xs) e = cc e
-
 -- nothing is told of places at each of which there is something
 filter_map-none : {X Y : Type 0} (h : X → Option Y) (xs : List X) → ((x : X) → Contains xs x → ¬ (h x ≡ None)) → filter_map h xs ≡ [] → xs ≡ []
 filter_map-none h [] there e = refl
 filter_map-none {X} {Y} h (x ∷ xs) there e = go (h x) refl e
   where
     go : (o : Option Y) → h x ≡ o → cons_option o (filter_map h xs) ≡ [] → x ∷ xs ≡ []
-    go None none e = absurd (there x (cons-here x xs) none)
+    go None none e = absurd (there x (first-in x xs) none)
     go (Some y) some e = cc e
 
-some-package : (finding : PackageData → FindingData) (packages : List PackageData) (k : ℕ) → k < length packages → ¬ (flawed_at finding packages k ≡ None)
+some-package : (finding : PackageData → LockfileFindingData) (packages : List PackageData) (k : ℕ) → k < length packages → ¬ (flawed_at finding packages k ≡ None)
 some-package finding (p ∷ ps) k lt none = go (slice_get (p ∷ ps) k) (slice_get-get_or (p ∷ ps) k p lt) none
   where
     go : (o : Option PackageData) → {q : PackageData} → o ≡ Some q → option_map finding o ≡ None → ⊥
@@ -165,20 +154,20 @@ some-package finding (p ∷ ps) k lt none = go (slice_get (p ∷ ps) k) (slice_g
     go (Some q) e n = cc n
 some-package finding [] k lt none = absurd (omega (arith, lt))
 
-dependency-there : (finding : PackageData → Identity → FindingData) (Q : Identity → List Identity → ℕ → Type 0) (packages : List PackageData) (k : ℕ × ℕ)
+dependency-there : (finding : PackageData → Identity → LockfileFindingData) (Q : Identity → List Identity → ℕ → Type 0) (packages : List PackageData) (k : ℕ × ℕ)
     → HoldsAt (λ ds at. HoldsOfDependency (λ d. Q d ds at) ds at) packages k.0 k.1 → ¬ (dependency_at finding packages k ≡ None)
 dependency-there finding Q packages k h none =
     let p : PackageData = h.0 in
-    let named : PackageData → Option FindingData = λ q. option_map (finding q) (slice_get q.dependencies k.1) in
+    let named : PackageData → Option LockfileFindingData = λ q. option_map (finding q) (slice_get q.dependencies k.1) in
     let is : dependency_at finding packages k ≡ Some (finding p h.2.0) = ap (option_and_then named) h.1 ∙ ap (option_map (finding p)) h.2.1 in
     cc (is, none)
 
-misplaced-dependency-there : (packages : List PackageData) (k : ℕ × ℕ) → IsMisplacedAt packages k.0 k.1 → ¬ (misplaced_dependency_at packages k ≡ None)
+misplaced-dependency-there : (packages : List PackageData) (k : ℕ × ℕ) → IsDependencyMisplacedAt packages k.0 k.1 → ¬ (misplaced_dependency_at packages k ≡ None)
 misplaced-dependency-there packages k h none =
     let p : PackageData = h.0 in
     let d : Identity = h.2.0 in
     let after = h.2.2 in
-    let named : PackageData → Option FindingData = λ q. option_and_then (with_next q k.1) (slice_get q.dependencies k.1) in
+    let named : PackageData → Option LockfileFindingData = λ q. option_and_then (with_next q k.1) (slice_get q.dependencies k.1) in
     let is : misplaced_dependency_at packages k ≡ Some (MisplacedDependency p d after.0) =
     ap (option_and_then named) h.1 ∙ ap (option_and_then (with_next p k.1)) h.2.1 ∙ ap (option_map (MisplacedDependency p d)) after.1 in
     cc (is, none)
@@ -186,22 +175,22 @@ misplaced-dependency-there packages k h none =
 misplaced-there : (packages : List PackageData) (k : ℕ) → IsMisplaced packages k → ¬ (misplaced_at packages k ≡ None)
 misplaced-there packages k h none =
     let p : PackageData = h.0 in
-    let named : PackageData → Option FindingData = λ q. option_map (Misplaced q) (slice_get packages (suc k)) in
+    let named : PackageData → Option LockfileFindingData = λ q. option_map (Misplaced q) (slice_get packages (suc k)) in
     let is : misplaced_at packages k ≡ Some (Misplaced p h.2.0) = ap (option_and_then named) h.1 ∙ ap (option_map (Misplaced p)) h.2.1 in
     cc (is, none)
 
 alike-there : (packages : List PackageData) (k : ℕ × ℕ) → AreAlikeAt packages k.0 k.1 → ¬ (alike_at packages k ≡ None)
 alike-there packages k h none =
     let p : PackageData = h.2.0 in
-    let named : PackageData → Option FindingData = λ q. option_map (Alike q) (slice_get packages k.1) in
+    let named : PackageData → Option LockfileFindingData = λ q. option_map (Alike q) (slice_get packages k.1) in
     let is : alike_at packages k ≡ Some (Alike p h.0) = ap (option_and_then named) h.2.1 ∙ ap (option_map (Alike p)) h.1 in
     cc (is, none)
 
-source-there : (P : Source → Type 0) (finding : Source → FindingData) (packages : List PackageData) (k : ℕ) → IsFromAt P packages k → ¬ (source_at finding packages k ≡ None)
+source-there : (P : Source → Type 0) (finding : Source → LockfileFindingData) (packages : List PackageData) (k : ℕ) → IsFromAt P packages k → ¬ (source_finding_at finding packages k ≡ None)
 source-there P finding packages k h none =
     let from : IsFrom P h.0 = h.2 in
-    let named : PackageData → Option FindingData = λ q. option_map finding q.source in
-    let is : source_at finding packages k ≡ Some (finding from.0) = ap (option_and_then named) h.1 ∙ ap (option_map finding) from.1 in
+    let named : PackageData → Option LockfileFindingData = λ q. option_map finding q.source in
+    let is : source_finding_at finding packages k ≡ Some (finding from.0) = ap (option_and_then named) h.1 ∙ ap (option_map finding) from.1 in
     cc (is, none)
 
 own-some : (replace : Option Identity) (source : Option Source) (s : Source) → source_unless replace source ≡ Some s → source ≡ Some s
@@ -216,30 +205,30 @@ same-source l None = refl
 same-source l (Some q) = refl
 
 -- a package from a registry without checksums has a source
-unchecked-there : (l : LockfileData) (k : ℕ) → IsUnchecked (checked_packages l) k → ¬ (source_at NoChecksums l.packages k ≡ None)
+unchecked-there : (l : LockfileData) (k : ℕ) → IsUnchecked (checked_packages l) k → ¬ (source_finding_at NoChecksums l.packages k ≡ None)
 unchecked-there l k h none =
     let first : IsFirstUnchecked (checked_packages l) k h.0 = h.2 in
     let p : PackageData = h.0 in
     let f : PackageData → PackageData = λ q. with_checksum (cargo_checksum l.version l.metadata q) q in
     let from : p.source ≡ Some first.source = own-some p.replace p.source first.source first.from in
-    let named : PackageData → Option FindingData = λ q. option_map NoChecksums q.source in
+    let named : PackageData → Option LockfileFindingData = λ q. option_map NoChecksums q.source in
     let mapped : slice_get (checked_packages l) k ≡ option_map f (slice_get l.packages k) = slice_get-map f l.packages k in
-    let same : option_and_then named (slice_get (checked_packages l) k) ≡ source_at NoChecksums l.packages k =
+    let same : option_and_then named (slice_get (checked_packages l) k) ≡ source_finding_at NoChecksums l.packages k =
     ap (option_and_then named) mapped ∙ same-source l (slice_get l.packages k) in
     let is : option_and_then named (slice_get (checked_packages l) k) ≡ Some (NoChecksums first.source) =
     ap (option_and_then named) h.1 ∙ ap (option_map NoChecksums) from in
     cc (same, is, none)
 
-sources-none : (P : Source → Type 0) (finding : Source → FindingData) (packages : List PackageData) (places : List ℕ) → IsPlaces (IsFromAt P packages) (length packages) places
-    → filter_map (source_at finding packages) places ≡ [] → places ≡ []
+sources-none : (P : Source → Type 0) (finding : Source → LockfileFindingData) (packages : List PackageData) (places : List ℕ) → IsPlaces (IsFromAt P packages) (length packages) places
+    → filter_map (source_finding_at finding packages) places ≡ [] → places ≡ []
 sources-none P finding packages places is e =
-    filter_map-none (source_at finding packages) places (λ k c. source-there P finding packages k ((is.told k).0 c).1) e
+    filter_map-none (source_finding_at finding packages) places (λ k c. source-there P finding packages k ((is.listed k).0 c).1) e
 
 -- places of packages at each of which one is told
-told-none : (P : ℕ → Type 0) (finding : PackageData → FindingData) (packages : List PackageData) (places : List ℕ) → IsPlaces P (length packages) places
+told-none : (P : ℕ → Type 0) (finding : PackageData → LockfileFindingData) (packages : List PackageData) (places : List ℕ) → IsPlaces P (length packages) places
     → filter_map (flawed_at finding packages) places ≡ [] → places ≡ []
 told-none P finding packages places is e =
-    filter_map-none (flawed_at finding packages) places (λ k c. some-package finding packages k ((is.told k).0 c).0) e
+    filter_map-none (flawed_at finding packages) places (λ k c. some-package finding packages k ((is.listed k).0 c).0) e
 
 orphans-none : (root : Option PackageData) (has_workspace : Bool) (packages : List PackageData) (orphans : List ℕ) → IsPlaces (IsOrphan packages root) (length packages) orphans
     → told_of_orphans has_workspace packages orphans ≡ [] → orphans ≡ []
@@ -270,7 +259,7 @@ told-nothing text l f is e =
     let m = append-none (told_of_misleading f) _ e2.1 in
     let m1 = append-none (filter_map (flawed_at BadName f.packages) f.badly_named) _ m.0 in
     let m2 = append-none (filter_map (alike_at f.packages) f.alike) _ m1.1 in
-    let m3 = append-none (filter_map (source_at LookAlike f.packages) f.look_alikes) _ m2.1 in
+    let m3 = append-none (filter_map (source_finding_at LookAlike f.packages) f.look_alikes) _ m2.1 in
     let e3 = append-none (told_of_orphans f.has_workspace f.packages f.orphans) _ m.1 in
     let e4 = append-none (told_of_checksums f) _ e3.1 in
     let u = append-none (filter_map (flawed_at NoChecksum f.packages) f.without_checksum) _ e4.0 in
@@ -292,18 +281,18 @@ told-nothing text l f is e =
       badly_named = told-none (IsBadlyNamed l.packages) BadName l.packages f.badly_named is.badly_named (subst (λ ps. filter_map (flawed_at BadName ps) f.badly_named ≡ []) here m1.0);
       alike = filter_map-none (alike_at l.packages) f.alike (λ k c. let first = (is.alike.told k.0 k.1).0 c in alike-there l.packages k first.1)
           (subst (λ ps. filter_map (alike_at ps) f.alike ≡ []) here m2.0);
-      look_alikes = sources-none IsLookAlike LookAlike l.packages f.look_alikes is.look_alikes (subst (λ ps. filter_map (source_at LookAlike ps) f.look_alikes ≡ []) here m3.0);
+      look_alikes = sources-none IsLookAlike LookAlike l.packages f.look_alikes is.look_alikes (subst (λ ps. filter_map (source_finding_at LookAlike ps) f.look_alikes ≡ []) here m3.0);
       with_user_info = sources-none HasUserInfo UserInfo l.packages f.with_user_info is.with_user_info
-          (subst (λ ps. filter_map (source_at UserInfo ps) f.with_user_info ≡ []) here m3.1);
+          (subst (λ ps. filter_map (source_finding_at UserInfo ps) f.with_user_info ≡ []) here m3.1);
       orphans = orphans-none l.root f.has_workspace l.packages f.orphans (is.orphans.asked none)
           (subst (λ ps. told_of_orphans f.has_workspace ps f.orphans ≡ []) here e3.0);
       without_checksum = told-none (IsWithoutChecksum (checked_packages l)) NoChecksum l.packages f.without_checksum is.without_checksum
           (subst (λ ps. filter_map (flawed_at NoChecksum ps) f.without_checksum ≡ []) here u.0);
-      unchecked = filter_map-none (source_at NoChecksums l.packages) f.unchecked
-          (λ k c. unchecked-there l k ((is.unchecked.told k).0 c).1) (subst (λ ps. filter_map (source_at NoChecksums ps) f.unchecked ≡ []) here u.1);
+      unchecked = filter_map-none (source_finding_at NoChecksums l.packages) f.unchecked
+          (λ k c. unchecked-there l k ((is.unchecked.listed k).0 c).1) (subst (λ ps. filter_map (source_finding_at NoChecksums ps) f.unchecked ≡ []) here u.1);
       stale = map-none StaleChecksum f.stale e5.0;
       misplaced = filter_map-none (misplaced_at l.packages) f.misplaced
-          (λ k c. misplaced-there l.packages k ((is.misplaced.told k).0 c).1) (subst (λ ps. filter_map (misplaced_at ps) f.misplaced ≡ []) here o.0);
+          (λ k c. misplaced-there l.packages k ((is.misplaced.listed k).0 c).1) (subst (λ ps. filter_map (misplaced_at ps) f.misplaced ≡ []) here o.0);
       misplaced_dependencies = filter_map-none (misplaced_dependency_at l.packages) f.misplaced_dependencies
           (λ k c. misplaced-dependency-there l.packages k ((is.misplaced_dependencies.told k.0 k.1).0 c))
           (subst (λ ps. filter_map (misplaced_dependency_at ps) f.misplaced_dependencies ≡ []) here o.1);
@@ -318,11 +307,11 @@ nothing-told f e =
     ++ filter_map (dependency_at RepeatedDependency f.packages) (e.repeated i))
     ++ ((filter_map (flawed_at BadName f.packages) (e.badly_named i)
     ++ (filter_map (alike_at f.packages) (e.alike i)
-    ++ (filter_map (source_at LookAlike f.packages) (e.look_alikes i)
-    ++ filter_map (source_at UserInfo f.packages) (e.with_user_info i))))
+    ++ (filter_map (source_finding_at LookAlike f.packages) (e.look_alikes i)
+    ++ filter_map (source_finding_at UserInfo f.packages) (e.with_user_info i))))
     ++ (told_of_orphans f.has_workspace f.packages (e.orphans i)
     ++ ((filter_map (flawed_at NoChecksum f.packages) (e.without_checksum i)
-    ++ filter_map (source_at NoChecksums f.packages) (e.unchecked i))
+    ++ filter_map (source_finding_at NoChecksums f.packages) (e.unchecked i))
     ++ (map StaleChecksum (e.stale i)
     ++ ((filter_map (misplaced_at f.packages) (e.misplaced i)
     ++ filter_map (misplaced_dependency_at f.packages) (e.misplaced_dependencies i))

@@ -3,8 +3,8 @@ use Rattle.std.specs.Prelude.{◌≡◌, ℕ, List, [], ◌∷◌, ◌++◌, cod
 use Rattle.std.specs.List.{flat_map}
 use Rattle.std.specs.Str.Lines.{lines}
 use Rattle.semver.specs.Identifiers.{parts_text}
-use Rattle.shown.specs.Shown.{shown}
-use Rattle.shown.specs.declared.form.Form.TheVariants.{Plain, Quoted}
+use Rattle.printing.specs.Shown.{shown}
+use Rattle.printing.specs.declared.form.Form.TheVariants.{Plain, Quoted}
 use Rattle.cargo_lock_parts.specs.Ascii.{newline}
 use Rattle.cargo_lock_parts.specs.Identity.{Identity, PackageData, identity_of}
 use Rattle.cargo_lock_parts.specs.Source.{Source}
@@ -16,44 +16,44 @@ use Rattle.cargo_lock_check.specs.declared.finding.Finding.TheVariants.{LostDepe
 use Rattle.cargo_lock_check.specs.Text.{OtherLineData}
 
 -- one thing that is wrong
-pub data FindingData : Type 0 where
-  LostDependency : PackageData → Identity → FindingData
-  Twice : PackageData → FindingData
-  RepeatedDependency : PackageData → Identity → FindingData
-  BadName : PackageData → FindingData
-  Alike : PackageData → PackageData → FindingData
-  LookAlike : Source → FindingData
-  UserInfo : Source → FindingData
-  NoRoot : FindingData
-  Orphan : PackageData → FindingData
-  NoChecksum : PackageData → FindingData
-  NoChecksums : Source → FindingData
-  StaleChecksum : List ℕ → FindingData
-  Misplaced : PackageData → PackageData → FindingData
-  MisplacedDependency : PackageData → Identity → Identity → FindingData
-  LossySource : ResolveVersion → List ℕ → FindingData
-  NotKept : ResolveVersion → FindingData
-  OtherLine : OtherLineData → FindingData
+pub data LockfileFindingData : Type 0 where
+  LostDependency : PackageData → Identity → LockfileFindingData
+  Twice : PackageData → LockfileFindingData
+  RepeatedDependency : PackageData → Identity → LockfileFindingData
+  BadName : PackageData → LockfileFindingData
+  Alike : PackageData → PackageData → LockfileFindingData
+  LookAlike : Source → LockfileFindingData
+  UserInfo : Source → LockfileFindingData
+  NoRoot : LockfileFindingData
+  Orphan : PackageData → LockfileFindingData
+  NoChecksum : PackageData → LockfileFindingData
+  NoChecksums : Source → LockfileFindingData
+  StaleChecksum : List ℕ → LockfileFindingData
+  Misplaced : PackageData → PackageData → LockfileFindingData
+  MisplacedDependency : PackageData → Identity → Identity → LockfileFindingData
+  LossySource : ResolveVersion → List ℕ → LockfileFindingData
+  NotKept : ResolveVersion → LockfileFindingData
+  OtherLine : OtherLineData → LockfileFindingData
 
 -- the finding with its references resolved to what they refer to
-abbrev pub finding_of : Finding → FindingData
-finding_of (LostDependencyAt p d) = LostDependency p.now d.now
-finding_of (TwiceAt p) = Twice p.now
-finding_of (RepeatedDependencyAt p d) = RepeatedDependency p.now d.now
-finding_of (BadNameAt p) = BadName p.now
-finding_of (AlikeAt p q) = Alike p.now q.now
-finding_of (LookAlikeAt source) = LookAlike source.now
-finding_of (UserInfoAt source) = UserInfo source.now
-finding_of NoRootAt = NoRoot
-finding_of (OrphanAt p) = Orphan p.now
-finding_of (NoChecksumAt p) = NoChecksum p.now
-finding_of (NoChecksumsAt source) = NoChecksums source.now
-finding_of (StaleChecksumAt key) = StaleChecksum key.now
-finding_of (MisplacedAt p next) = Misplaced p.now next.now
-finding_of (MisplacedDependencyAt p d next) = MisplacedDependency p.now d.now next.now
-finding_of (LossySourceAt version text) = LossySource version text.now
-finding_of (NotKeptAt version) = NotKept version
-finding_of (OtherLineAt line) = OtherLine line.now
+abbrev pub lockfile_finding_of : Finding → LockfileFindingData
+lockfile_finding_of (LostDependencyAt p d) = LostDependency p.now d.now
+lockfile_finding_of (TwiceAt p) = Twice p.now
+lockfile_finding_of (RepeatedDependencyAt p d) = RepeatedDependency p.now d.now
+lockfile_finding_of (BadNameAt p) = BadName p.now
+lockfile_finding_of (AlikeAt p q) = Alike p.now q.now
+lockfile_finding_of (LookAlikeAt source) = LookAlike source.now
+lockfile_finding_of (UserInfoAt source) = UserInfo source.now
+lockfile_finding_of NoRootAt = NoRoot
+lockfile_finding_of (OrphanAt p) = Orphan p.now
+lockfile_finding_of (NoChecksumAt p) = NoChecksum p.now
+lockfile_finding_of (NoChecksumsAt source) = NoChecksums source.now
+lockfile_finding_of (StaleChecksumAt key) = StaleChecksum key.now
+lockfile_finding_of (MisplacedAt p next) = Misplaced p.now next.now
+lockfile_finding_of (MisplacedDependencyAt p d next) = MisplacedDependency p.now d.now next.now
+lockfile_finding_of (LossySourceAt version text) = LossySource version text.now
+lockfile_finding_of (NotKeptAt version) = NotKept version
+lockfile_finding_of (OtherLineAt line) = OtherLine line.now
 
 -- ---- lines
 
@@ -62,62 +62,64 @@ abbrev pub source_shown : Source → List ℕ
 source_shown source = shown Plain (text_of false source)
 
 -- a source in round brackets
-abbrev pub bracketed : Option Source → List ℕ
-bracketed None = []
-bracketed (Some source) = codes " (" ++ (source_shown source ++ codes ")")
+abbrev pub source_in_brackets : Option Source → List ℕ
+source_in_brackets None = []
+source_in_brackets (Some source) = codes " (" ++ (source_shown source ++ codes ")")
 
 -- the name, the version and the source, as they are displayed
 abbrev pub identity_shown : Identity → List ℕ
 identity_shown i = shown Plain i.name
-    ++ (codes " " ++ (shown Plain (parts_text i.version) ++ bracketed i.source))
+    ++ (codes " " ++ (shown Plain (parts_text i.version) ++ source_in_brackets i.source))
 
 -- the name, the version and the source of a package, as they are displayed
 abbrev pub package_shown : PackageData → List ℕ
 package_shown p = identity_shown (identity_of p)
 
 -- the line of a finding
-abbrev pub finding_line : FindingData → List ℕ
-finding_line (LostDependency p d) = codes "reference: " ++ (package_shown p
+abbrev pub lockfile_finding_line : LockfileFindingData → List ℕ
+lockfile_finding_line (LostDependency p d) = codes "reference: " ++ (package_shown p
     ++ (codes " depends on " ++ (identity_shown d ++ codes ", which is missing from the lockfile")))
-finding_line (Twice p) = codes "twice: " ++ (package_shown p ++ codes " is listed more than once")
-finding_line (RepeatedDependency p d) = codes "twice: " ++ (package_shown p
+lockfile_finding_line (Twice p) =
+    codes "twice: " ++ (package_shown p ++ codes " is listed more than once")
+lockfile_finding_line (RepeatedDependency p d) = codes "twice: " ++ (package_shown p
     ++ (codes " lists " ++ (identity_shown d ++ codes " more than once")))
-finding_line (BadName p) =
+lockfile_finding_line (BadName p) =
     codes "name: " ++ (shown Plain p.name ++ codes " is not a name that Cargo accepts")
-finding_line (Alike p q) = codes "alike: " ++ (package_shown p
+lockfile_finding_line (Alike p q) = codes "alike: " ++ (package_shown p
     ++ (codes " and " ++ (package_shown q ++ codes " have one name on crates.io")))
-finding_line (LookAlike source) =
+lockfile_finding_line (LookAlike source) =
     codes "source: " ++ (source_shown source ++ codes " is not crates.io")
-finding_line (UserInfo source) = codes "source: " ++ (source_shown source ++ codes " has user info")
-finding_line NoRoot = codes "root: no package is of the workspace"
-finding_line (Orphan p) =
+lockfile_finding_line (UserInfo source) =
+    codes "source: " ++ (source_shown source ++ codes " has user info")
+lockfile_finding_line NoRoot = codes "root: no package is of the workspace"
+lockfile_finding_line (Orphan p) =
     codes "orphan: " ++ (package_shown p ++ codes ": no package of the workspace leads to it")
-finding_line (NoChecksum p) =
+lockfile_finding_line (NoChecksum p) =
     codes "checksum: " ++ (package_shown p ++ codes " has none, though others of its registry have")
-finding_line (NoChecksums source) =
+lockfile_finding_line (NoChecksums source) =
     codes "checksum: no package of " ++ (source_shown source ++ codes " has one")
-finding_line (StaleChecksum key) =
+lockfile_finding_line (StaleChecksum key) =
     codes "stale: `" ++ (shown Quoted key ++ codes "` is in the metadata, and is of no package")
-finding_line (Misplaced p next) = codes "order: " ++ (package_shown p
+lockfile_finding_line (Misplaced p next) = codes "order: " ++ (package_shown p
     ++ (codes " is listed before " ++ package_shown next))
-finding_line (MisplacedDependency p d next) = codes "order: " ++ (package_shown p
+lockfile_finding_line (MisplacedDependency p d next) = codes "order: " ++ (package_shown p
     ++ (codes " lists " ++ (identity_shown d ++ (codes " before " ++ identity_shown next))))
-finding_line (LossySource version text) = codes "format: V" ++ (decimal (number_of version)
+lockfile_finding_line (LossySource version text) = codes "format: V" ++ (decimal (number_of version)
     ++ (codes " loses the tag, branch or revision of `"
     ++ (shown Quoted text ++ codes "`; V4 keeps it")))
-finding_line (NotKept version) =
+lockfile_finding_line (NotKept version) =
     codes "format: V" ++ (decimal (number_of version) ++ codes " does not keep this lockfile")
-finding_line (OtherLine line) = codes "text: line " ++ (decimal line.number
+lockfile_finding_line (OtherLine line) = codes "text: line " ++ (decimal line.number
     ++ (codes " is not as Cargo writes it: `" ++ (shown Quoted line.written
     ++ (codes "` for `" ++ (shown Quoted line.wanted ++ codes "`")))))
 
 -- the line of each finding, with its newline
-abbrev pub findings_text : List FindingData → List ℕ
-findings_text = flat_map (λ finding. finding_line finding ++ newline ∷ [])
+abbrev pub lockfile_findings_text : List LockfileFindingData → List ℕ
+lockfile_findings_text = flat_map (λ finding. lockfile_finding_line finding ++ newline ∷ [])
 
 -- ---- law
 
 -- each finding is exactly one line, whatever its names, sources, keys and quoted lines hold
-abbrev pub EachIsOneLine : Type 0
-EachIsOneLine = (findings : List FindingData)
-    → lines (findings_text findings) ≡ map finding_line findings
+abbrev pub EachLockfileFindingIsOneLine : Type 0
+EachLockfileFindingIsOneLine = (findings : List LockfileFindingData)
+    → lines (lockfile_findings_text findings) ≡ map lockfile_finding_line findings

@@ -13,7 +13,11 @@ use Rattle.cargo_lock_lines.specs.Layout.{join_lines}
 use Rattle.cargo_lock_encoding.specs.Text.{lines_of}
 use Rattle.cargo_lock.specs.CargoChecksums.{with_cargo_checksums_in}
 use Rattle.cargo_lock.specs.LossySources.{AreLossySources, IsLossyIn}
-use Rattle.cargo_lock_check.specs.Finding.{Alike, BadName, FindingData, LookAlike, LossySource, LostDependency, Misplaced, MisplacedDependency, NoChecksum, NoChecksums, NoRoot, NotKept, Orphan, OtherLine, RepeatedDependency, StaleChecksum, Twice, UserInfo}
+use Rattle.cargo_lock_check.specs.Finding.{Alike, BadName, LockfileFindingData, LookAlike}
+use Rattle.cargo_lock_check.specs.Finding.{LossySource, LostDependency, Misplaced}
+use Rattle.cargo_lock_check.specs.Finding.{MisplacedDependency, NoChecksum, NoChecksums, NoRoot}
+use Rattle.cargo_lock_check.specs.Finding.{NotKept, Orphan, OtherLine, RepeatedDependency}
+use Rattle.cargo_lock_check.specs.Finding.{StaleChecksum, Twice, UserInfo}
 use Rattle.cargo_lock_check.specs.declared.findings.DependencyFlaw.{DependencyFlaw}
 use Rattle.cargo_lock_check.specs.declared.findings.DependencyFlaw.TheVariants as dependency_flaw
 use Rattle.cargo_lock_check.specs.declared.findings.Flaw.{Flaw}
@@ -21,11 +25,12 @@ use Rattle.cargo_lock_check.specs.declared.findings.Flaw.TheVariants as flaw
 use Rattle.cargo_lock_check.specs.declared.findings.SourceFlaw.{SourceFlaw}
 use Rattle.cargo_lock_check.specs.declared.findings.SourceFlaw.TheVariants as source_flaw
 use Rattle.cargo_lock_flaws.specs.Alike.{ArePairsAlike}
-use Rattle.cargo_lock_flaws.specs.Dependencies.{AreDependencies, IsMisplacedAt, IsRepeatedAt}
+use Rattle.cargo_lock_flaws.specs.Dependencies.{AreDependencies, IsDependencyMisplacedAt}
+use Rattle.cargo_lock_flaws.specs.Dependencies.{IsRepeatedAt}
 use Rattle.cargo_lock_flaws.specs.Lost.{AreLost}
 use Rattle.cargo_lock_flaws.specs.Names.{IsBadlyNamed}
 use Rattle.cargo_lock_flaws.specs.Packages.{IsMisplaced, IsTwice, IsUnchecked, IsWithoutChecksum}
-use Rattle.cargo_lock_flaws.specs.Places.{IsPlaces}
+use Rattle.lists.specs.Places.{IsPlaces}
 use Rattle.cargo_lock_flaws.specs.Reach.{IsOrphan}
 use Rattle.cargo_lock_flaws.specs.Sources.{HasUserInfo, IsFromAt, IsLookAlike}
 use Rattle.cargo_lock_flaws.specs.Stale.{stale_keys}
@@ -65,7 +70,7 @@ cargo_printed_lines l = printed_lines (with_cargo_checksums_in l)
 
 -- a text is compared if its lockfile has no separate root, which is never printed, and survives its
 -- format
-pub record IsCompared (l : LockfileData) : Type 0 where
+pub record IsTextCompared (l : LockfileData) : Type 0 where
   pub rootless : l.root ≡ None
   pub kept : Survives l l.version
 
@@ -98,8 +103,8 @@ pub record IsOther (text : List ℕ) (l : LockfileData) (other : OtherLineData) 
 -- the first line that is not as Cargo writes it, if the text is compared
 pub record IsOtherLine (text : List ℕ) (l : LockfileData) (other : Option OtherLineData) : Type 0
   where
-    pub compared : IsCompared l → MatchOption other (IsWrittenByCargo text l) (IsOther text l)
-    pub not_compared : ¬ IsCompared l → other ≡ None
+    pub compared : IsTextCompared l → MatchOption other (IsWrittenByCargo text l) (IsOther text l)
+    pub not_compared : ¬ IsTextCompared l → other ≡ None
 
 -- the orphans of a lockfile
 abbrev pub AreOrphans : LockfileData → List ℕ → Type 0
@@ -126,11 +131,11 @@ has_own_checksums V3 = true
 has_own_checksums V4 = true
 
 -- the source is written in the text, and this format loses its tag, branch or revision
-abbrev pub IsLostIn : ResolveVersion → List ℕ → List ℕ → Type 0
-IsLostIn V1 text source = IsLossyIn text source
-IsLostIn V2 text source = IsLossyIn text source
-IsLostIn V3 text source = IsLossyIn text source
-IsLostIn V4 text source = ⊥
+abbrev pub IsSourceLostIn : ResolveVersion → List ℕ → List ℕ → Type 0
+IsSourceLostIn V1 text source = IsLossyIn text source
+IsSourceLostIn V2 text source = IsLossyIn text source
+IsSourceLostIn V3 text source = IsLossyIn text source
+IsSourceLostIn V4 text source = ⊥
 
 -- the sources that this format loses, each listed once, in ascending order; V4 loses none
 abbrev pub AreLossy : ResolveVersion → List ℕ → List (List ℕ) → Type 0
@@ -168,7 +173,8 @@ pub record AreFindings (text : List ℕ) (l : LockfileData) (f : FindingsData) :
   pub unchecked : IsPlaces (IsUnchecked (checked_packages l)) (length l.packages) f.unchecked
   pub stale : f.stale ≡ stale_keys l.metadata l.packages
   pub misplaced : IsPlaces (IsMisplaced l.packages) (length l.packages) f.misplaced
-  pub misplaced_dependencies : AreDependencies (IsMisplacedAt l.packages) f.misplaced_dependencies
+  pub misplaced_dependencies : AreDependencies (IsDependencyMisplacedAt l.packages)
+      f.misplaced_dependencies
   pub is_kept : IsAskedUnless f.lossy (IsTrue f.is_kept ↔ Survives l l.version) (f.is_kept ≡ true)
   pub other_line : IsAskedUnless f.lossy (IsOtherLine text l f.other_line) (f.other_line ≡ None)
 
@@ -194,98 +200,100 @@ pub record HasNoFindings (f : FindingsData) : Type 0 where
 -- ---- what is reported, in this order
 
 -- the finding of a dependency with a flaw
-abbrev pub dependency_finding_by : DependencyFlaw → PackageData → Identity → FindingData
+abbrev pub dependency_finding_by : DependencyFlaw → PackageData → Identity → LockfileFindingData
 dependency_finding_by dependency_flaw.Lost = LostDependency
 dependency_finding_by dependency_flaw.Repeated = RepeatedDependency
 
 -- the dependency at a place of the package at a place
-abbrev pub dependency_at : (PackageData → Identity → FindingData) → List PackageData → ℕ × ℕ
-    → Option FindingData
+abbrev pub dependency_at : (PackageData → Identity → LockfileFindingData) → List PackageData → ℕ × ℕ
+    → Option LockfileFindingData
 dependency_at finding packages k = option_and_then
     (λ p. option_map (finding p) (slice_get p.dependencies k.1)) (slice_get packages k.0)
 
 -- the dependency at a place of a package, and the next one
-abbrev pub with_next : PackageData → ℕ → Identity → Option FindingData
+abbrev pub with_next : PackageData → ℕ → Identity → Option LockfileFindingData
 with_next p at d = option_map (MisplacedDependency p d) (slice_get p.dependencies (suc at))
 
 -- the finding of the dependency at a place of the package at a place, and the next one
-abbrev pub misplaced_dependency_at : List PackageData → ℕ × ℕ → Option FindingData
+abbrev pub misplaced_dependency_at : List PackageData → ℕ × ℕ → Option LockfileFindingData
 misplaced_dependency_at packages k = option_and_then
     (λ p. option_and_then (with_next p k.1) (slice_get p.dependencies k.1)) (slice_get packages k.0)
 
 -- the finding of a package with a flaw
-abbrev pub finding_by : Flaw → PackageData → FindingData
+abbrev pub finding_by : Flaw → PackageData → LockfileFindingData
 finding_by flaw.Twice = Twice
 finding_by flaw.BadName = BadName
 finding_by flaw.Orphan = Orphan
 finding_by flaw.NoChecksum = NoChecksum
 
 -- the package at a place
-abbrev pub flawed_at : (PackageData → FindingData) → List PackageData → ℕ → Option FindingData
+abbrev pub flawed_at : (PackageData → LockfileFindingData) → List PackageData → ℕ
+    → Option LockfileFindingData
 flawed_at finding packages k = option_map finding (slice_get packages k)
 
 -- the packages at two places
-abbrev pub alike_at : List PackageData → ℕ × ℕ → Option FindingData
+abbrev pub alike_at : List PackageData → ℕ × ℕ → Option LockfileFindingData
 alike_at packages k = option_and_then
     (λ p. option_map (Alike p) (slice_get packages k.1)) (slice_get packages k.0)
 
 -- the finding of a source with a flaw
-abbrev pub source_finding_by : SourceFlaw → Source → FindingData
+abbrev pub source_finding_by : SourceFlaw → Source → LockfileFindingData
 source_finding_by source_flaw.LookAlike = LookAlike
 source_finding_by source_flaw.UserInfo = UserInfo
 source_finding_by source_flaw.Unchecked = NoChecksums
 
 -- the source of the package at a place
-abbrev pub source_at : (Source → FindingData) → List PackageData → ℕ → Option FindingData
-source_at finding packages k = option_and_then
+abbrev pub source_finding_at : (Source → LockfileFindingData) → List PackageData → ℕ
+    → Option LockfileFindingData
+source_finding_at finding packages k = option_and_then
     (λ p. option_map finding p.source) (slice_get packages k)
 
 -- the package at a place and the next one
-abbrev pub misplaced_at : List PackageData → ℕ → Option FindingData
+abbrev pub misplaced_at : List PackageData → ℕ → Option LockfileFindingData
 misplaced_at packages k = option_and_then
     (λ p. option_map (Misplaced p) (slice_get packages (suc k))) (slice_get packages k)
 
 -- one finding for all orphans
-abbrev pub no_root : List ℕ → List FindingData
+abbrev pub no_root : List ℕ → List LockfileFindingData
 no_root orphans = if length orphans == 0 then [] else NoRoot ∷ []
 
 -- each orphan, or, if no package is of the workspace, that alone
-abbrev pub told_of_orphans : Bool → List PackageData → List ℕ → List FindingData
+abbrev pub told_of_orphans : Bool → List PackageData → List ℕ → List LockfileFindingData
 told_of_orphans has_workspace packages orphans = if has_workspace
     then filter_map (flawed_at Orphan packages) orphans else no_root orphans
 
 -- a format that does not keep its lockfile
-abbrev pub told_of_format : Bool → ResolveVersion → List FindingData
+abbrev pub told_of_format : Bool → ResolveVersion → List LockfileFindingData
 told_of_format is_kept version = if is_kept then [] else NotKept version ∷ []
 
 -- each name and each source that may mislead a reader
-abbrev pub told_of_misleading : FindingsData → List FindingData
+abbrev pub told_of_misleading : FindingsData → List LockfileFindingData
 told_of_misleading f = filter_map (flawed_at BadName f.packages) f.badly_named
     ++ (filter_map (alike_at f.packages) f.alike
-    ++ (filter_map (source_at LookAlike f.packages) f.look_alikes
-    ++ filter_map (source_at UserInfo f.packages) f.with_user_info))
+    ++ (filter_map (source_finding_at LookAlike f.packages) f.look_alikes
+    ++ filter_map (source_finding_at UserInfo f.packages) f.with_user_info))
 
 -- each package and each dependency that is listed more than once
-abbrev pub told_of_twice : FindingsData → List FindingData
+abbrev pub told_of_twice : FindingsData → List LockfileFindingData
 told_of_twice f = filter_map (flawed_at Twice f.packages) f.twice
     ++ filter_map (dependency_at RepeatedDependency f.packages) f.repeated
 
 -- each package without a checksum, and each registry without any
-abbrev pub told_of_checksums : FindingsData → List FindingData
+abbrev pub told_of_checksums : FindingsData → List LockfileFindingData
 told_of_checksums f = filter_map (flawed_at NoChecksum f.packages) f.without_checksum
-    ++ filter_map (source_at NoChecksums f.packages) f.unchecked
+    ++ filter_map (source_finding_at NoChecksums f.packages) f.unchecked
 
 -- each package and each dependency that is out of order
-abbrev pub told_of_order : FindingsData → List FindingData
+abbrev pub told_of_order : FindingsData → List LockfileFindingData
 told_of_order f = filter_map (misplaced_at f.packages) f.misplaced
     ++ filter_map (misplaced_dependency_at f.packages) f.misplaced_dependencies
 
 -- each source that the format loses, and a format that does not keep its lockfile
-abbrev pub told_of_formats : FindingsData → List FindingData
+abbrev pub told_of_formats : FindingsData → List LockfileFindingData
 told_of_formats f = map (LossySource f.version) f.lossy ++ told_of_format f.is_kept f.version
 
 -- each finding
-abbrev pub told_of : FindingsData → List FindingData
+abbrev pub told_of : FindingsData → List LockfileFindingData
 told_of f = filter_map (dependency_at LostDependency f.packages) f.lost_dependencies
     ++ (told_of_twice f
     ++ (told_of_misleading f

@@ -2,3 +2,4 @@ pub mod Text
 pub mod Finding
 pub mod Findings
 pub mod Sound
+pub mod Document

@@ -3,8 +3,10 @@ use Rattle.std.specs.Prelude.{◌≡◌, ◌↔◌, ◌<◌, ℕ, List, [], None
 use Rattle.cargo_lock_encoding.specs.Lockfiles.{LockfileData}
 use Rattle.cargo_lock_encoding.specs.Survives.{Survives}
 use Rattle.cargo_lock_flaws.specs.Alike.{AreAlikeAt}
-use Rattle.cargo_lock_flaws.specs.Dependencies.{IsMisplacedAt, IsRepeatedAt}
-use Rattle.cargo_lock_check.specs.Findings.{AreFindings, FindingsData, HasNoFindings, IsLostIn, IsWrittenByCargo, checked_packages, told_of}
+use Rattle.cargo_lock_flaws.specs.Dependencies.{IsDependencyMisplacedAt, IsRepeatedAt}
+use Rattle.cargo_lock_check.specs.Findings.{AreFindings, FindingsData, HasNoFindings}
+use Rattle.cargo_lock_check.specs.Findings.{IsSourceLostIn, IsWrittenByCargo, checked_packages}
+use Rattle.cargo_lock_check.specs.Findings.{told_of}
 use Rattle.cargo_lock_flaws.specs.Lost.{IsLostAt}
 use Rattle.cargo_lock_flaws.specs.Names.{IsBadlyNamed}
 use Rattle.cargo_lock_flaws.specs.Packages.{IsMisplaced, IsTwice, IsUnchecked, IsWithoutChecksum}
@@ -22,7 +24,7 @@ use Rattle.cargo_lock_flaws.specs.Stale.{IsStale}
 -- separate root is one of them. If there is no separate root, each line of the text is as Cargo
 -- writes it.
 pub record IsSoundLockfile (text : List ℕ) (l : LockfileData) : Type 0 where
-  pub plain : (source : List ℕ) → ¬ IsLostIn l.version text source
+  pub plain : (source : List ℕ) → ¬ IsSourceLostIn l.version text source
   pub dependencies : (place at : ℕ) → ¬ IsLostAt l.packages place at
   pub once : (k : ℕ) → ¬ IsTwice l.packages k
   pub listed_once : (place at : ℕ) → ¬ IsRepeatedAt l.packages place at
@@ -35,7 +37,7 @@ pub record IsSoundLockfile (text : List ℕ) (l : LockfileData) : Type 0 where
   pub checked : (k : ℕ) → ¬ IsUnchecked (checked_packages l) k
   pub metadata : (key : List ℕ) → ¬ IsStale l.metadata l.packages key
   pub ordered : (k : ℕ) → ¬ IsMisplaced l.packages k
-  pub listed_in_order : (place at : ℕ) → ¬ IsMisplacedAt l.packages place at
+  pub listed_in_order : (place at : ℕ) → ¬ IsDependencyMisplacedAt l.packages place at
   pub kept : Survives l l.version
   pub written : l.root ≡ None → IsWrittenByCargo text l
 

@@ -8,7 +8,7 @@ ghost use Rattle.cargo_lock_check.specs.Findings.{AreLossy, AreOrphans, IsAskedU
 ghost use Rattle.cargo_lock_check.specs.Findings.{has_own_checksums};
 ghost use Rattle.cargo_lock_flaws.specs.Lost.{AreLost};
 ghost use Rattle.cargo_lock_flaws.specs.Packages.{IsUnchecked, IsWithoutChecksum};
-ghost use Rattle.cargo_lock_flaws.specs.Places.{IsPlaces};
+ghost use Rattle.lists.specs.Places.{IsPlaces};
 ghost use Rattle.cargo_lock_flaws.specs.Stale.{stale_keys};
 
 use crate::text::OtherLine;

@@ -3,13 +3,13 @@
 ghost use Rattle.std.specs.Prelude.{Some};
 ghost use Rattle.std.specs.Fmt.{DisplaysOnOk};
 ghost use Rattle.cargo_lock_check.specs.Finding as told;
-ghost use Rattle.cargo_lock_check.specs.Finding.{finding_line};
+ghost use Rattle.cargo_lock_check.specs.Finding.{lockfile_finding_line};
 
 use crate::text::OtherLine;
 use cargo_lock_parts::dependency::Dependency;
 use cargo_lock_parts::package::{Package, SourceId};
 use cargo_lock_references::{MetadataKey, ResolveVersion};
-use shown::{Quoted, Shown};
+use printing::{Quoted, Shown};
 use std::fmt;
 
 /// One thing that is wrong with a lockfile. `Display` writes it as a line without a newline: its
@@ -94,9 +94,9 @@ pub enum Finding<'a> {
 
 impl fmt::Display for Finding<'_> {
     ghost use Rattle.std.specs.Prelude.{Some};
-    ghost use Rattle.cargo_lock_check.specs.Finding.{finding_of, finding_line};
+    ghost use Rattle.cargo_lock_check.specs.Finding.{lockfile_finding_of, lockfile_finding_line};
 
-    ghost output = { λ finding. Some (finding_line (finding_of finding)) };
+    ghost output = { λ finding. Some (lockfile_finding_line (lockfile_finding_of finding)) };
 
     fn fmt<W: fmt::Write>(&self, f: &mut fmt::Formatter<W>) -> fmt::Result {
         match self {
@@ -153,7 +153,7 @@ fn write_lost_dependency<W: fmt::Write>(
     f: &mut fmt::Formatter<W>,
 ) -> fmt::Result
     ensures { DisplaysOnOk W.write_str_gives f.old result
-        (Some (finding_line (told.LostDependency one.now dependency.now))) f.new }
+        (Some (lockfile_finding_line (told.LostDependency one.now dependency.now))) f.new }
 {
     let one = PackageText(one);
     let dependency = DependencyText(dependency);
@@ -169,7 +169,7 @@ fn write_repeated<W: fmt::Write>(
     f: &mut fmt::Formatter<W>,
 ) -> fmt::Result
     ensures { DisplaysOnOk W.write_str_gives f.old result
-        (Some (finding_line (told.RepeatedDependency one.now dependency.now))) f.new }
+        (Some (lockfile_finding_line (told.RepeatedDependency one.now dependency.now))) f.new }
 {
     let one = PackageText(one);
     let dependency = DependencyText(dependency);
@@ -182,7 +182,7 @@ fn write_alike<W: fmt::Write>(
     f: &mut fmt::Formatter<W>,
 ) -> fmt::Result
     ensures { DisplaysOnOk W.write_str_gives f.old result
-        (Some (finding_line (told.Alike one.now other.now))) f.new }
+        (Some (lockfile_finding_line (told.Alike one.now other.now))) f.new }
 {
     let one = PackageText(one);
     let other = PackageText(other);
@@ -191,7 +191,7 @@ fn write_alike<W: fmt::Write>(
 
 fn write_no_checksum<W: fmt::Write>(one: &Package, f: &mut fmt::Formatter<W>) -> fmt::Result
     ensures { DisplaysOnOk W.write_str_gives f.old result
-        (Some (finding_line (told.NoChecksum one.now))) f.new }
+        (Some (lockfile_finding_line (told.NoChecksum one.now))) f.new }
 {
     let one = PackageText(one);
     write!(
@@ -206,7 +206,7 @@ fn write_misplaced<W: fmt::Write>(
     f: &mut fmt::Formatter<W>,
 ) -> fmt::Result
     ensures { DisplaysOnOk W.write_str_gives f.old result
-        (Some (finding_line (told.Misplaced one.now next.now))) f.new }
+        (Some (lockfile_finding_line (told.Misplaced one.now next.now))) f.new }
 {
     let one = PackageText(one);
     let next = PackageText(next);
@@ -220,7 +220,8 @@ fn write_misplaced_dependency<W: fmt::Write>(
     f: &mut fmt::Formatter<W>,
 ) -> fmt::Result
     ensures { DisplaysOnOk W.write_str_gives f.old result
-        (Some (finding_line (told.MisplacedDependency one.now dependency.now next.now))) f.new }
+        (Some (lockfile_finding_line (told.MisplacedDependency one.now dependency.now next.now)))
+        f.new }
 {
     let one = PackageText(one);
     let dependency = DependencyText(dependency);
@@ -234,7 +235,7 @@ fn write_lossy<W: fmt::Write>(
     f: &mut fmt::Formatter<W>,
 ) -> fmt::Result
     ensures { DisplaysOnOk W.write_str_gives f.old result
-        (Some (finding_line (told.LossySource version text.now))) f.new }
+        (Some (lockfile_finding_line (told.LossySource version text.now))) f.new }
 {
     let number = u32::from(version);
     let text = Quoted(text);
@@ -246,9 +247,9 @@ fn write_lossy<W: fmt::Write>(
 
 impl fmt::Display for OtherLine {
     ghost use Rattle.std.specs.Prelude.{Some};
-    ghost use Rattle.cargo_lock_check.specs.Finding.{OtherLine, finding_line};
+    ghost use Rattle.cargo_lock_check.specs.Finding.{OtherLine, lockfile_finding_line};
 
-    ghost output = { λ line. Some (finding_line (OtherLine line)) };
+    ghost output = { λ line. Some (lockfile_finding_line (OtherLine line)) };
 
     fn fmt<W: fmt::Write>(&self, f: &mut fmt::Formatter<W>) -> fmt::Result {
         let number = self.number;
@@ -305,9 +306,9 @@ struct BracketedSource<'a>(&'a Option<SourceId>);
 
 impl fmt::Display for BracketedSource<'_> {
     ghost use Rattle.std.specs.Prelude.{Some};
-    ghost use Rattle.cargo_lock_check.specs.Finding.{bracketed};
+    ghost use Rattle.cargo_lock_check.specs.Finding.{source_in_brackets};
 
-    ghost output = { λ shown. Some (bracketed shown.0.now) };
+    ghost output = { λ shown. Some (source_in_brackets shown.0.now) };
 
     fn fmt<W: fmt::Write>(&self, f: &mut fmt::Formatter<W>) -> fmt::Result {
         let BracketedSource(source) = *self;

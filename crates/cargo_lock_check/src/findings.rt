@@ -4,14 +4,20 @@ ghost use Rattle.std.specs.Prelude.{◌≡◌, ◌↔◌, ◌++◌, IfOk, IsOkUn
 ghost use Rattle.std.specs.List.{filter_map, list_any};
 ghost use Rattle.std.specs.Option.{option_to_list};
 ghost use Rattle.cargo_lock_parts.specs.declared.error.Error.TheVariants.{Memory};
-ghost use Rattle.cargo_lock_check.specs.Finding.{finding_of};
+ghost use Rattle.cargo_lock_check.specs.Finding.{lockfile_finding_of};
 ghost use Rattle.cargo_lock_check.specs.Finding as told;
-ghost use Rattle.cargo_lock_check.specs.Findings.{AreFindings, alike_at, dependency_at, dependency_finding_by, finding_by, has_workspace, is_bare_root, misplaced_at, misplaced_dependency_at, no_root, flawed_at, source_at, source_finding_by, told_of_format, told_of_orphans};
+ghost use Rattle.cargo_lock_check.specs.Findings.{AreFindings, alike_at, dependency_at};
+ghost use Rattle.cargo_lock_check.specs.Findings.{dependency_finding_by, finding_by, has_workspace};
+ghost use Rattle.cargo_lock_check.specs.Findings.{is_bare_root, misplaced_at};
+ghost use Rattle.cargo_lock_check.specs.Findings.{misplaced_dependency_at, no_root, flawed_at};
+ghost use Rattle.cargo_lock_check.specs.Findings.{source_finding_at, source_finding_by};
+ghost use Rattle.cargo_lock_check.specs.Findings.{told_of_format, told_of_orphans};
 ghost use Rattle.cargo_lock_flaws.specs.Alike.{ArePairsAlike};
-ghost use Rattle.cargo_lock_flaws.specs.Dependencies.{AreDependencies, IsMisplacedAt, IsRepeatedAt};
+ghost use Rattle.cargo_lock_flaws.specs.Dependencies.{AreDependencies, IsDependencyMisplacedAt};
+ghost use Rattle.cargo_lock_flaws.specs.Dependencies.{IsRepeatedAt};
 ghost use Rattle.cargo_lock_flaws.specs.Names.{IsBadlyNamed};
 ghost use Rattle.cargo_lock_flaws.specs.Packages.{IsMisplaced, IsTwice};
-ghost use Rattle.cargo_lock_flaws.specs.Places.{IsPlaces};
+ghost use Rattle.lists.specs.Places.{IsPlaces};
 ghost use Rattle.cargo_lock_flaws.specs.Sources.{HasUserInfo, IsFromAt, IsLookAlike};
 
 use crate::asked::TextFindings;
@@ -227,7 +233,7 @@ impl<'a> Findings<'a> {
     /// order, sources that the format loses, the format, the text. If no package is of the
     /// workspace, that is reported in place of the orphans. Fails when out of memory.
     pub fn all<'s>(&'s self, alloc: Global) -> std::result::Result<Vec<Finding<'s>>, AllocError>
-        ensures { IfOk result (λ all. map finding_of all.items ≡ told_of self.now) }
+        ensures { IfOk result (λ all. map lockfile_finding_of all.items ≡ told_of self.now) }
     {
         let mut all = Vec::new(alloc);
         add_dependencies(
@@ -249,8 +255,8 @@ impl<'a> Findings<'a> {
 
     // Adds the packages and the dependencies that are listed more than once.
     fn add_twice<'s>(&'s self, all: &mut Vec<Finding<'s>>) -> std::result::Result<(), AllocError>
-        ensures { OnOk result (map finding_of all.new.items
-            ≡ map finding_of all.old.items ++ told_of_twice self.now) }
+        ensures { OnOk result (map lockfile_finding_of all.new.items
+            ≡ map lockfile_finding_of all.old.items ++ told_of_twice self.now) }
     {
         add_flawed(all, self.packages, &self.twice, Flaw::Twice)?;
         add_dependencies(all, self.packages, &self.repeated, DependencyFlaw::Repeated)?;
@@ -262,8 +268,8 @@ impl<'a> Findings<'a> {
         &'s self,
         all: &mut Vec<Finding<'s>>,
     ) -> std::result::Result<(), AllocError>
-        ensures { OnOk result (map finding_of all.new.items
-            ≡ map finding_of all.old.items ++ told_of_checksums self.now) }
+        ensures { OnOk result (map lockfile_finding_of all.new.items
+            ≡ map lockfile_finding_of all.old.items ++ told_of_checksums self.now) }
     {
         add_flawed(all, self.packages, &self.without_checksum, Flaw::NoChecksum)?;
         add_sources(all, self.packages, &self.unchecked, SourceFlaw::Unchecked)?;
@@ -272,8 +278,8 @@ impl<'a> Findings<'a> {
 
     // Adds the packages and the dependencies that are out of order.
     fn add_order<'s>(&'s self, all: &mut Vec<Finding<'s>>) -> std::result::Result<(), AllocError>
-        ensures { OnOk result (map finding_of all.new.items
-            ≡ map finding_of all.old.items ++ told_of_order self.now) }
+        ensures { OnOk result (map lockfile_finding_of all.new.items
+            ≡ map lockfile_finding_of all.old.items ++ told_of_order self.now) }
     {
         add_misplaced(all, self.packages, &self.misplaced)?;
         add_misplaced_dependencies(all, self.packages, &self.misplaced_dependencies)?;
@@ -282,8 +288,8 @@ impl<'a> Findings<'a> {
 
     // Adds the sources that the format loses, and that it does not keep the lockfile.
     fn add_formats<'s>(&'s self, all: &mut Vec<Finding<'s>>) -> std::result::Result<(), AllocError>
-        ensures { OnOk result (map finding_of all.new.items
-            ≡ map finding_of all.old.items ++ told_of_formats self.now) }
+        ensures { OnOk result (map lockfile_finding_of all.new.items
+            ≡ map lockfile_finding_of all.old.items ++ told_of_formats self.now) }
     {
         add_lossy(all, &self.lossy, self.version)?;
         add_format(all, self.is_kept, self.version)?;
@@ -295,8 +301,8 @@ impl<'a> Findings<'a> {
         &'s self,
         all: &mut Vec<Finding<'s>>,
     ) -> std::result::Result<(), AllocError>
-        ensures { OnOk result (map finding_of all.new.items
-            ≡ map finding_of all.old.items ++ told_of_misleading self.now) }
+        ensures { OnOk result (map lockfile_finding_of all.new.items
+            ≡ map lockfile_finding_of all.old.items ++ told_of_misleading self.now) }
     {
         add_flawed(all, self.packages, &self.badly_named, Flaw::BadName)?;
         add_alike(all, self.packages, &self.alike)?;
@@ -320,7 +326,8 @@ impl ListPlaces {
         ensures misplaced { IfOk result
             (λ f. IsPlaces (IsMisplaced packages.now) (length packages.now) f.misplaced.items) }
         ensures misplaced_dependencies { IfOk result
-            (λ f. AreDependencies (IsMisplacedAt packages.now) f.misplaced_dependencies.items) }
+            (λ f. AreDependencies (IsDependencyMisplacedAt packages.now)
+            f.misplaced_dependencies.items) }
     {
         Ok(ListPlaces {
             twice: packages_twice(alloc, packages)?,
@@ -363,8 +370,9 @@ fn add_some<'a>(
     all: &mut Vec<Finding<'a>>,
     finding: Option<Finding<'a>>,
 ) -> std::result::Result<(), AllocError>
-    ensures { OnOk result (map finding_of all.new.items
-        ≡ map finding_of all.old.items ++ option_to_list (option_map finding_of finding.entry)) }
+    ensures { OnOk result (map lockfile_finding_of all.new.items
+        ≡ map lockfile_finding_of all.old.items
+        ++ option_to_list (option_map lockfile_finding_of finding.entry)) }
 {
     if let Some(finding) = finding {
         all.push(finding)?;
@@ -389,8 +397,8 @@ fn add_dependencies<'a>(
     places: &[(usize, usize)],
     flaw: DependencyFlaw,
 ) -> std::result::Result<(), AllocError>
-    ensures { OnOk result (map finding_of all.new.items
-        ≡ map finding_of all.old.items ++ filter_map
+    ensures { OnOk result (map lockfile_finding_of all.new.items
+        ≡ map lockfile_finding_of all.old.items ++ filter_map
         (dependency_at (dependency_finding_by flaw) packages.now) places.now) }
 {
     for (place, at) in places {
@@ -405,7 +413,7 @@ fn flawed_dependency<'a>(
     at: usize,
     flaw: DependencyFlaw,
 ) -> Option<Finding<'a>>
-    ensures { option_map finding_of result
+    ensures { option_map lockfile_finding_of result
         ≡ dependency_at (dependency_finding_by flaw) packages.now (place, at) }
 {
     let one = packages.get(place)?;
@@ -439,8 +447,8 @@ fn add_flawed<'a>(
     places: &[usize],
     flaw: Flaw,
 ) -> std::result::Result<(), AllocError>
-    ensures { OnOk result (map finding_of all.new.items
-        ≡ map finding_of all.old.items ++ filter_map
+    ensures { OnOk result (map lockfile_finding_of all.new.items
+        ≡ map lockfile_finding_of all.old.items ++ filter_map
         (flawed_at (finding_by flaw) packages.now) places.now) }
 {
     for place in places {
@@ -450,7 +458,8 @@ fn add_flawed<'a>(
 }
 
 fn flawed_package<'a>(packages: &'a [Package], place: usize, flaw: Flaw) -> Option<Finding<'a>>
-    ensures { option_map finding_of result ≡ flawed_at (finding_by flaw) packages.now place }
+    ensures { option_map lockfile_finding_of result
+        ≡ flawed_at (finding_by flaw) packages.now place }
 {
     let package = packages.get(place)?;
     Some(match flaw {
@@ -467,8 +476,8 @@ fn add_alike<'a>(
     packages: &'a [Package],
     pairs: &[(usize, usize)],
 ) -> std::result::Result<(), AllocError>
-    ensures { OnOk result (map finding_of all.new.items
-        ≡ map finding_of all.old.items ++ filter_map (alike_at packages.now) pairs.now) }
+    ensures { OnOk result (map lockfile_finding_of all.new.items
+        ≡ map lockfile_finding_of all.old.items ++ filter_map (alike_at packages.now) pairs.now) }
 {
     for (earlier, place) in pairs {
         add_some(all, alike_packages(packages, *earlier, *place))?;
@@ -477,7 +486,7 @@ fn add_alike<'a>(
 }
 
 fn alike_packages<'a>(packages: &'a [Package], earlier: usize, place: usize) -> Option<Finding<'a>>
-    ensures { option_map finding_of result ≡ alike_at packages.now (earlier, place) }
+    ensures { option_map lockfile_finding_of result ≡ alike_at packages.now (earlier, place) }
 {
     let one = packages.get(earlier)?;
     let other = packages.get(place)?;
@@ -504,9 +513,9 @@ fn add_sources<'a>(
     places: &[usize],
     flaw: SourceFlaw,
 ) -> std::result::Result<(), AllocError>
-    ensures { OnOk result (map finding_of all.new.items
-        ≡ map finding_of all.old.items ++ filter_map
-        (source_at (source_finding_by flaw) packages.now) places.now) }
+    ensures { OnOk result (map lockfile_finding_of all.new.items
+        ≡ map lockfile_finding_of all.old.items ++ filter_map
+        (source_finding_at (source_finding_by flaw) packages.now) places.now) }
 {
     for place in places {
         add_some(all, flawed_source(packages, *place, flaw))?;
@@ -515,8 +524,8 @@ fn add_sources<'a>(
 }
 
 fn flawed_source<'a>(packages: &'a [Package], place: usize, flaw: SourceFlaw) -> Option<Finding<'a>>
-    ensures { option_map finding_of result
-        ≡ source_at (source_finding_by flaw) packages.now place }
+    ensures { option_map lockfile_finding_of result
+        ≡ source_finding_at (source_finding_by flaw) packages.now place }
 {
     let package = packages.get(place)?;
     let source = package.source.as_ref()?;
@@ -534,8 +543,9 @@ fn add_orphans<'a>(
     packages: &'a [Package],
     places: &[usize],
 ) -> std::result::Result<(), AllocError>
-    ensures { OnOk result (map finding_of all.new.items
-        ≡ map finding_of all.old.items ++ told_of_orphans has_workspace packages.now places.now) }
+    ensures { OnOk result (map lockfile_finding_of all.new.items
+        ≡ map lockfile_finding_of all.old.items
+        ++ told_of_orphans has_workspace packages.now places.now) }
 {
     if has_workspace {
         add_flawed(all, packages, places, Flaw::Orphan)?;
@@ -570,8 +580,8 @@ fn is_bare_root(root: &Option<Package>) -> bool
 
 // Adds that no package is of the workspace, if there are orphans.
 fn add_no_root(all: &mut Vec<Finding<'_>>, orphans: &[usize]) -> std::result::Result<(), AllocError>
-    ensures { OnOk result (map finding_of all.new.items
-        ≡ map finding_of all.old.items ++ no_root orphans.now) }
+    ensures { OnOk result (map lockfile_finding_of all.new.items
+        ≡ map lockfile_finding_of all.old.items ++ no_root orphans.now) }
 {
     if !orphans.is_empty() {
         all.push(Finding::NoRoot)?;
@@ -584,8 +594,8 @@ fn add_stale<'a>(
     all: &mut Vec<Finding<'a>>,
     keys: &'a [MetadataKey],
 ) -> std::result::Result<(), AllocError>
-    ensures { OnOk result (map finding_of all.new.items
-        ≡ map finding_of all.old.items ++ map told.StaleChecksum keys.now) }
+    ensures { OnOk result (map lockfile_finding_of all.new.items
+        ≡ map lockfile_finding_of all.old.items ++ map told.StaleChecksum keys.now) }
 {
     for key in keys {
         all.push(Finding::StaleChecksum(key))?;
@@ -599,8 +609,9 @@ fn add_misplaced<'a>(
     packages: &'a [Package],
     places: &[usize],
 ) -> std::result::Result<(), AllocError>
-    ensures { OnOk result (map finding_of all.new.items
-        ≡ map finding_of all.old.items ++ filter_map (misplaced_at packages.now) places.now) }
+    ensures { OnOk result (map lockfile_finding_of all.new.items
+        ≡ map lockfile_finding_of all.old.items
+        ++ filter_map (misplaced_at packages.now) places.now) }
 {
     for place in places {
         add_some(all, misplaced_package(packages, *place))?;
@@ -609,7 +620,7 @@ fn add_misplaced<'a>(
 }
 
 fn misplaced_package<'a>(packages: &'a [Package], place: usize) -> Option<Finding<'a>>
-    ensures { option_map finding_of result ≡ misplaced_at packages.now place }
+    ensures { option_map lockfile_finding_of result ≡ misplaced_at packages.now place }
 {
     let one = packages.get(place)?;
     let next = packages.get(place + 1)?;
@@ -622,8 +633,8 @@ fn add_misplaced_dependencies<'a>(
     packages: &'a [Package],
     places: &[(usize, usize)],
 ) -> std::result::Result<(), AllocError>
-    ensures { OnOk result (map finding_of all.new.items
-        ≡ map finding_of all.old.items ++ filter_map
+    ensures { OnOk result (map lockfile_finding_of all.new.items
+        ≡ map lockfile_finding_of all.old.items ++ filter_map
         (misplaced_dependency_at packages.now) places.now) }
 {
     for (place, at) in places {
@@ -633,7 +644,8 @@ fn add_misplaced_dependencies<'a>(
 }
 
 fn misplaced_dependency<'a>(packages: &'a [Package], place: usize, at: usize) -> Option<Finding<'a>>
-    ensures { option_map finding_of result ≡ misplaced_dependency_at packages.now (place, at) }
+    ensures { option_map lockfile_finding_of result
+        ≡ misplaced_dependency_at packages.now (place, at) }
 {
     let one = packages.get(place)?;
     let dependency = one.dependencies.get(at)?;
@@ -647,7 +659,8 @@ fn add_lossy<'a>(
     sources: &'a [String],
     version: ResolveVersion,
 ) -> std::result::Result<(), AllocError>
-    ensures { OnOk result (map finding_of all.new.items ≡ map finding_of all.old.items
+    ensures { OnOk result (map lockfile_finding_of all.new.items
+        ≡ map lockfile_finding_of all.old.items
         ++ map (told.LossySource version) (map string_bytes sources.now)) }
 {
     for source in sources {
@@ -662,8 +675,8 @@ fn add_format(
     is_kept: bool,
     version: ResolveVersion,
 ) -> std::result::Result<(), AllocError>
-    ensures { OnOk result (map finding_of all.new.items
-        ≡ map finding_of all.old.items ++ told_of_format is_kept version) }
+    ensures { OnOk result (map lockfile_finding_of all.new.items
+        ≡ map lockfile_finding_of all.old.items ++ told_of_format is_kept version) }
 {
     if !is_kept {
         all.push(Finding::NotKept(version))?;
@@ -672,7 +685,7 @@ fn add_format(
 }
 
 fn other_line_finding<'a>(line: &'a Option<OtherLine>) -> Option<Finding<'a>>
-    ensures { option_map finding_of result ≡ option_map told.OtherLine line.now }
+    ensures { option_map lockfile_finding_of result ≡ option_map told.OtherLine line.now }
 {
     match line {
         Some(line) => Some(Finding::OtherLine(line)),

@@ -1,6 +1,6 @@
 //! Laws of findings, each the contract of a function without a body.
 
-ghost use Rattle.cargo_lock_check.specs.Finding.{EachIsOneLine};
+ghost use Rattle.cargo_lock_check.specs.Finding.{EachLockfileFindingIsOneLine};
 ghost use Rattle.cargo_lock_check.specs.Sound.{EmptyIfSound, NoneToldIfEmpty};
 ghost use Rattle.cargo_lock_flaws.specs.Stale.{StaleKeysAreExact};
 
@@ -11,7 +11,7 @@ pub fn nothing_is_found_where_nothing_is_wrong()
 
 /// Each finding is exactly one line, whatever its names, sources, keys and quoted lines hold.
 pub fn findings_are_lines()
-    ensures { EachIsOneLine }
+    ensures { EachLockfileFindingIsOneLine }
 {}
 
 /// No line is reported for a text and its lockfile exactly if nothing is found.

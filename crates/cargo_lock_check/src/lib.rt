@@ -29,12 +29,14 @@
 #![tactic(auto)]
 
 mod asked;
+pub mod document;
 pub mod finding;
 pub mod findings;
 pub mod laws;
 pub mod text;
 mod written;
 
+pub use crate::document::findings_json;
 pub use crate::finding::Finding;
 pub use crate::findings::Findings;
 pub use crate::text::OtherLine;

@@ -6,6 +6,7 @@ use Rattle.std.proofs.lemmas.List.Elements.{Contains-append_right, Contains-get_
 use Rattle.cargo_lock_parts.specs.Identity.{Identity, PackageData}
 use Rattle.cargo_lock_diff.specs.Dependencies.{EqualIfCarried, IsCarried, are_targets, is_carried, is_carried_either, is_met, is_target}
 use Rattle.cargo_lock_diff.proofs.Vouched.{any-there}
+use Rattle.lists.proofs.Tests.{and-parts as and-true}
 
 -- ---- the law
 
@@ -23,14 +24,6 @@ any-found {X} q (x ∷ xs) h = go (q x) refl (any-found q xs) h
 or-false : (a b : Bool) → (a || b) ≡ false → (a ≡ false) × (b ≡ false)
 or-false true b h = cc h
 or-false false b h = (refl, h)
-
-not-false : (b : Bool) → not b ≡ false → b ≡ true
-not-false true h = refl
-not-false false h = cc h
-
-and-true : (a b : Bool) → (a && b) ≡ true → (a ≡ true) × (b ≡ true)
-and-true true b h = (refl, h)
-and-true false b h = cc h
 
 -- none fails where each passes, and the other way round
 none-fails : {X : Type 0} (q : X → Bool) (xs : List X) → ((x : X) → Contains xs x → q x ≡ true) → list_any (λ x. not (q x)) xs ≡ false

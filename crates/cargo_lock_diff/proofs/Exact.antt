@@ -16,7 +16,8 @@ use Rattle.cargo_lock_diff.specs.PairingLaws.{AreOnlyAlike, MirroredInTurn, None
 use Rattle.cargo_lock_diff.proofs.Orders.{likeness_total}
 use Rattle.cargo_lock_diff.proofs.Counts.{count-append, count-permutation}
 use Rattle.cargo_lock_diff.proofs.Alone.{counted-twice}
-use Rattle.cargo_lock_diff.proofs.Once.{count-congr, count-there, in-one-part, map-back, map-there, mirrored}
+use Rattle.cargo_lock_diff.proofs.Once.{count-congr, count-there, in-one-part, mirrored}
+use Rattle.lists.proofs.Members.{in-map as map-there, map-in as map-back}
 use Rattle.cargo_lock_diff.proofs.InTurn.{in-turn-news, in-turn-olds, none-after-all}
 
 laws_of : (likeness : Likeness) → IsEquivalence (is_alike likeness)

@@ -45,7 +45,7 @@ tied-option C D ties (Some x) None e = cc e
 tied-option C D ties (Some x) (Some y) e = ties x y e
 
 -- of five comparisons in a row that tie, the first, the third and the fourth in a row tie
-tied-five : (u n k r p : Ordering) → ordering_then (ordering_then (ordering_then (ordering_then u n) k) r) p ≡ Equal → ordering_then (ordering_then u k) r ≡ Equal
+tied-five : (u n k r p : Ordering) → ordering_then (ordering_then (ordering_then (ordering_then u n) k) r) p ≡ Equal → ordering_then u (ordering_then k r) ≡ Equal
 tied-five Less n k r p e = cc e
 tied-five Greater n k r p e = cc e
 tied-five Equal Less k r p e = cc e

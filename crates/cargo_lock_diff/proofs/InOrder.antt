@@ -1,12 +1,13 @@
 -- What is left of a list and comes in its order: sublists, and packages sorted by their places.
-use Rattle.std.proofs.Common.{◌≡◌, ℕ, suc, ◌+◌, ◌-◌, ◌<◌, ◌≤◌, true, false, eqb, List, []}
+use Rattle.std.proofs.Common.{◌≡◌, ℕ, suc, ◌+◌, ◌-◌, ◌<◌, ◌≤◌, false, eqb, List, []}
 use Rattle.std.proofs.Common.{◌∷◌, ◌++◌, ◌⊎◌, inl, inr, get_or, length, map, refl, ap, sym, ◌∙◌}
 use Rattle.std.proofs.Common.{subst, arith, All, IsPermutation, IsSorted}
 use Rattle.std.specs.Borrow.{Bor}
+use Rattle.std.specs.Cmp.{nat_eq_equiv}
 use Rattle.std.specs.List.{IsDistinct}
 use Rattle.std.specs.List.Sorted.{IsNonDecreasingBy}
 use Rattle.std.specs.Ordering.{is_lt, on}
-use Rattle.std.proofs.lemmas.Bool.{cases_Bool, cases_order, eqb-false, eqb-true, ne_eqb}
+use Rattle.std.proofs.lemmas.Bool.{cases_order, eqb-false, ne_eqb}
 use Rattle.std.proofs.lemmas.List.{get_or-map, get_or_append_left, get_or_push, length-map}
 use Rattle.std.proofs.lemmas.List.{length_push}
 use Rattle.std.proofs.lemmas.List.Elements.{All-from_recursion, All-head, All-tail}
@@ -19,8 +20,8 @@ use Rattle.cargo_lock_diff.specs.declared.likeness.Likeness.TheVariants.{Whole}
 use Rattle.cargo_lock_diff.specs.declared.matching.Placed.{Placed}
 use Rattle.cargo_lock_diff.specs.Difference.{referred_pairs}
 use Rattle.cargo_lock_diff.specs.Likeness.{likeness_cmp}
-use Rattle.cargo_lock_diff.specs.Matching.{AreInOrder, IsSublist, firsts}
-use Rattle.cargo_lock_diff.specs.Placing.{AreAt, pair_of}
+use Rattle.cargo_lock_diff.specs.Matching.{ArePairsInOrder, IsSublist, firsts}
+use Rattle.cargo_lock_diff.specs.Placing.{AreAtPlaces, unplaced_pair}
 use Rattle.cargo_lock_diff.proofs.Matched.{both, firsts-both}
 
 -- ---- sublists
@@ -47,8 +48,8 @@ sub-map f (x ∷ xs) (y ∷ ys) (inr h) = inr (sub-map f (x ∷ xs) ys h)
 
 -- lists that a function is applied to keep the order
 pub order-map : {X Y : Type 0} (f : X → Y) (olds news : List X) (pairs : List (X × X))
-    (old new : List X) → AreInOrder olds news pairs old new
-    → AreInOrder (map f olds) (map f news) (map (both f) pairs) (map f old) (map f new)
+    (old new : List X) → ArePairsInOrder olds news pairs old new
+    → ArePairsInOrder (map f olds) (map f news) (map (both f) pairs) (map f old) (map f new)
 order-map {X} {Y} f olds news pairs old new h = record {
   of_pairs = subst (λ (zs : List Y). IsSublist zs (map f olds)) (firsts-both f pairs)
       (sub-map f (firsts pairs) olds h.of_pairs);
@@ -58,8 +59,8 @@ order-map {X} {Y} f olds news pairs old new h = record {
 
 -- what a later pairing leaves of what is left
 pub order-later : {X : Type 0} (olds news : List X) (pairs : List (X × X)) (old new o n : List X)
-    → AreInOrder olds news pairs old new → IsSublist o old → IsSublist n new
-    → AreInOrder olds news pairs o n
+    → ArePairsInOrder olds news pairs old new → IsSublist o old → IsSublist n new
+    → ArePairsInOrder olds news pairs o n
 order-later olds news pairs old new o n h a b = record {
   of_pairs = h.of_pairs;
   of_old = sub-trans o old olds a h.of_old;
@@ -147,7 +148,7 @@ from-places start (x ∷ xs) (p ∷ ps) all up apart =
 
 -- ---- packages at places
 
-from-sorted : (xs : List (Bor PackageData)) (ps : List Placed) → AreAt xs ps → Rises ps
+from-sorted : (xs : List (Bor PackageData)) (ps : List Placed) → AreAtPlaces xs ps → Rises ps
     → IsSublist (map item ps) xs
 from-sorted xs ps at up = from-places 0 xs ps
     (λ k d lt.
@@ -159,29 +160,19 @@ from-sorted xs ps at up = from-places 0 xs ps
       subst (λ (n : ℕ). get_or xs n p.item ≡ p.item) whole h.1,
     )) up at.apart
 
-flips : (a b : ℕ) → eqb a b ≡ eqb b a
-flips a b = by (cases_Bool (eqb a b)) (cases_Bool (eqb b a))
-  where
-    by : (eqb a b ≡ true) ⊎ (eqb a b ≡ false) → (eqb b a ≡ true) ⊎ (eqb b a ≡ false)
-        → eqb a b ≡ eqb b a
-    by (inl e) (inl f) = e ∙ sym f
-    by (inl e) (inr f) = absurd (eqb-false b a f (sym (eqb-true a b e)))
-    by (inr e) (inl f) = absurd (eqb-false a b e (sym (eqb-true b a f)))
-    by (inr e) (inr f) = e ∙ sym f
-
 pub at-permuted : (xs : List (Bor PackageData)) (ps qs : List Placed) → IsPermutation ps qs
-    → AreAt xs ps → AreAt xs qs
+    → AreAtPlaces xs ps → AreAtPlaces xs qs
 at-permuted xs ps qs perm at = record {
   there = All-permutation
       (λ (p : Placed). (p.place < length xs) × (get_or xs p.place p.item ≡ p.item)) ps qs perm
       at.there;
-  apart = IsDistinct-IsPermutation eqb flips (map (λ (p : Placed). p.place) ps)
+  apart = IsDistinct-IsPermutation eqb nat_eq_equiv.symm (map (λ (p : Placed). p.place) ps)
       (map (λ (p : Placed). p.place) qs) (IsPermutation-map (λ (p : Placed). p.place) ps qs perm)
       at.apart;
 }
 
 -- of a list behind another one
-at-back : (xs : List (Bor PackageData)) (ps qs : List Placed) → AreAt xs (ps ++ qs) → AreAt xs qs
+at-back : (xs : List (Bor PackageData)) (ps qs : List Placed) → AreAtPlaces xs (ps ++ qs) → AreAtPlaces xs qs
 at-back xs [] qs at = at
 at-back xs (p ∷ ps) qs at = at-back xs ps qs record {
   there = All-tail
@@ -190,7 +181,7 @@ at-back xs (p ∷ ps) qs at = at-back xs ps qs record {
   apart = IsDistinct-tail eqb p.place (map (λ (q : Placed). q.place) (ps ++ qs)) at.apart;
 }
 
-at-front : (xs : List (Bor PackageData)) (ps qs : List Placed) → AreAt xs (ps ++ qs) → AreAt xs ps
+at-front : (xs : List (Bor PackageData)) (ps qs : List Placed) → AreAtPlaces xs (ps ++ qs) → AreAtPlaces xs ps
 at-front xs ps qs at =
     at-back xs qs ps (at-permuted xs (ps ++ qs) (qs ++ ps) (IsPermutation-append_comm ps qs) at)
 
@@ -198,13 +189,13 @@ at-front xs ps qs at =
 
 -- what is sorted by place is a sublist of each list whose places it has
 pub items-sorted : (list sorted : List Placed) → IsPermutation list sorted → Rises sorted
-    → (xs : List (Bor PackageData)) → AreAt xs list → IsSublist (map item sorted) xs
+    → (xs : List (Bor PackageData)) → AreAtPlaces xs list → IsSublist (map item sorted) xs
 items-sorted list sorted perm up xs at =
     from-sorted xs sorted (at-permuted xs list sorted perm at) up
 
 pub pairs-sorted : (pairs sorted : List (Placed × Placed)) → IsPermutation pairs sorted
     → IsNonDecreasingBy (λ p. p.0.place) sorted → (xs : List (Bor PackageData))
-    → AreAt xs (firsts pairs) → IsSublist (firsts (map pair_of sorted)) xs
+    → AreAtPlaces xs (firsts pairs) → IsSublist (firsts (map unplaced_pair sorted)) xs
 pairs-sorted pairs sorted perm up xs at =
     subst (λ (zs : List (Bor PackageData)). IsSublist zs xs) (firsts-both item sorted)
     (items-sorted (firsts pairs) (firsts sorted)
@@ -223,12 +214,12 @@ pairs-sorted pairs sorted perm up xs at =
 pub put-in-order : (olds news : List (Bor PackageData)) (os ns : List Placed)
     (merged : List (Placed × Placed)) (o n : List Placed)
     (pairs : List (Bor PackageData × Bor PackageData)) (old new : List (Bor PackageData))
-    → AreAt olds os → AreAt news ns → IsPermutation os (firsts merged ++ o)
+    → AreAtPlaces olds os → AreAtPlaces news ns → IsPermutation os (firsts merged ++ o)
     → IsPermutation ns (map (λ p. p.1) merged ++ n)
-    → ((xs : List (Bor PackageData)) → AreAt xs (firsts merged) → IsSublist (firsts pairs) xs)
-    → ((xs : List (Bor PackageData)) → AreAt xs o → IsSublist old xs)
-    → ((xs : List (Bor PackageData)) → AreAt xs n → IsSublist new xs)
-    → AreInOrder olds news pairs old new
+    → ((xs : List (Bor PackageData)) → AreAtPlaces xs (firsts merged) → IsSublist (firsts pairs) xs)
+    → ((xs : List (Bor PackageData)) → AreAtPlaces xs o → IsSublist old xs)
+    → ((xs : List (Bor PackageData)) → AreAtPlaces xs n → IsSublist new xs)
+    → ArePairsInOrder olds news pairs old new
 put-in-order olds news os ns merged o n pairs old new at_o at_n told_o told_n by_pairs by_o by_n =
     let seconds : List Placed = map (λ (p : Placed × Placed). p.1) merged in
     let in_o = at-permuted olds os (firsts merged ++ o) told_o at_o in
@@ -279,8 +270,8 @@ numbered-apart (p ∷ ps) numbered =
     place q = q.place
 
 pub numbered-at : (xs : List (Bor PackageData)) (ps : List Placed)
-    → map (λ (p : Placed). p.item) ps ≡ xs → AreNumbered ps → AreAt xs ps
-numbered-at xs ps is numbered = subst (λ (zs : List (Bor PackageData)). AreAt zs ps) is record {
+    → map (λ (p : Placed). p.item) ps ≡ xs → AreNumbered ps → AreAtPlaces xs ps
+numbered-at xs ps is numbered = subst (λ (zs : List (Bor PackageData)). AreAtPlaces zs ps) is record {
   there = λ k d lt.
       let p = get_or ps k d in
       let items : List (Bor PackageData) = map item ps in

@@ -14,14 +14,15 @@ use Rattle.cargo_lock_parts.specs.IdentityLaws.{option_cmp-anti, option_cmp-by, 
 use Rattle.cargo_lock_parts.specs.Source.{Source}
 use Rattle.cargo_lock_parts.specs.SourceKey.{key_cmp, key_of, source_cmp, text_cmp}
 use Rattle.cargo_lock_diff.specs.declared.likeness.Likeness.TheVariants.{Whole}
-use Rattle.cargo_lock_diff.specs.Keys.{PlaceKey, WholeKey, place_key, place_of, whole_key}
+use Rattle.cargo_lock_diff.specs.Keys.{PlaceKey, WholeKey, place_key, place_of_source, whole_key}
 use Rattle.cargo_lock_diff.specs.Likeness.{is_alike, likeness_cmp}
 use Rattle.cargo_lock_diff.specs.Place.{other_source, place_cmp, placed_identity_cmp}
 use Rattle.cargo_lock_diff.specs.Matching.{firsts, seconds}
-use Rattle.cargo_lock_diff.specs.Difference.{DifferenceData, EmptyIfPermuted, IsDifference, HasNoChanges, ToldByCount, ToldOnce, count_of, new_told, old_told}
+use Rattle.cargo_lock_diff.specs.Difference.{DifferenceData, EmptyIfPermuted, IsDifference, HasNoChanges, ToldByCount, ToldOnce, count_of_package, new_told, old_told}
 use Rattle.cargo_lock_diff.proofs.Orders.{likeness_total}
 use Rattle.cargo_lock_diff.proofs.Counts.{count-cons, count-permutation, left-counts}
 use Rattle.cargo_lock_diff.proofs.Pairs.{AreAlike, news-told, olds-told, told-apart}
+use Rattle.lists.proofs.Tests.{append-none, map-none}
 
 pub whole_laws : IsEquivalence (is_alike Whole)
 whole_laws = eq_by_cmp_equiv (likeness_total Whole)
@@ -49,12 +50,12 @@ place_key-anti j k e =
     let place = option_cmp-anti (option_cmp-anti key_cmp-anti) j.place k.place tied.2 in
     λ i. record { name = name i; version = version i; place = place i }
 
-place_cmp-key : (a b : Source) → place_cmp a b ≡ option_cmp key_cmp (place_of a) (place_of b)
+place_cmp-key : (a b : Source) → place_cmp a b ≡ option_cmp key_cmp (place_of_source a) (place_of_source b)
 place_cmp-key a b = option_cmp-by key_of source_cmp key_cmp (λ x y. refl) (other_source a) (other_source b)
 
 placed-key : (a b : Identity) → placed_identity_cmp a b ≡ place_key_cmp (place_key a) (place_key b)
 unfolding place_key_cmp
-placed-key a b = ap (ordering_then _) (option_cmp-by place_of place_cmp (option_cmp key_cmp) place_cmp-key a.source b.source)
+placed-key a b = ap (ordering_then _) (option_cmp-by place_of_source place_cmp (option_cmp key_cmp) place_cmp-key a.source b.source)
 
 whole_key_cmp : WholeKey → WholeKey → Ordering
 whole_key_cmp = then_cmp (then_cmp
@@ -84,7 +85,7 @@ one_key a b h = whole_key-anti _ _ (sym (whole_cmp-key a b) ∙ (Equal-is (liken
 has_key : PackageData → WholeKey → Bool
 has_key p k = is_eq (whole_key_cmp (whole_key p) k)
 
-count-keys : (p : PackageData) (xs : List PackageData) → count_of p xs ≡ count_by (has_key p) (map whole_key xs)
+count-keys : (p : PackageData) (xs : List PackageData) → count_of_package p xs ≡ count_by (has_key p) (map whole_key xs)
 unfolding has_key
 count-keys p [] = refl
 count-keys p (x ∷ xs) =
@@ -115,27 +116,19 @@ permuted olds news d h e =
     IsPermutation-trans (map whole_key olds) (map whole_key (seconds d.kept)) (map whole_key news)
     (subst (λ zs. IsPermutation (map whole_key olds) zs) (pair-keys d.kept h.paired.wholly.paired) pk) qk
 
-none-there : (xs : List PackageData) → ((p : PackageData) → count_of p xs ≡ 0) → xs ≡ []
+none-there : (xs : List PackageData) → ((p : PackageData) → count_of_package p xs ≡ 0) → xs ≡ []
 none-there [] h = refl
 none-there (x ∷ xs) h =
-    let e : count_of x (x ∷ xs) ≡ 1 + count_of x xs = count-cons (is_alike Whole x) x xs ∙ ap (λ b. cond b 1 0 + count_of x xs) (whole_laws.refl x) in
+    let e : count_of_package x (x ∷ xs) ≡ 1 + count_of_package x xs = count-cons (is_alike Whole x) x xs ∙ ap (λ b. cond b 1 0 + count_of_package x xs) (whole_laws.refl x) in
     absurd (omega (arith, e, h x))
 
-pub append-none : {X : Type 0} (xs ys : List X) → xs ++ ys ≡ [] → (xs ≡ []) × (ys ≡ [])
-append-none [] ys e = (refl, e)
-append-none (x ∷ xs) ys e = cc e
-
-pub map-none : {X Y : Type 0} (f : X → Y) (xs : List X) → map f xs ≡ [] → xs ≡ []
-map-none f [] e = refl
-map-none f (x ∷ xs) e = cc e
-
 -- lists whose keys are permuted have each package as often
-pub same-counts : (xs ys : List PackageData) → IsPermutation (map whole_key xs) (map whole_key ys) → (p : PackageData) → count_of p xs ≡ count_of p ys
+pub same-counts : (xs ys : List PackageData) → IsPermutation (map whole_key xs) (map whole_key ys) → (p : PackageData) → count_of_package p xs ≡ count_of_package p ys
 same-counts xs ys perm p = count-keys p xs ∙ sym (count-permutation (has_key p) (map whole_key xs) (map whole_key ys) perm) ∙ sym (count-keys p ys)
 
 emptied : (olds news : List PackageData) (d : DifferenceData) → IsDifference olds news d → IsPermutation (map whole_key olds) (map whole_key news) → HasNoChanges d
 emptied olds news d h perm =
-    let same : (p : PackageData) → count_of p news ≡ count_of p olds = λ p. count-keys p news ∙ count-permutation (has_key p) (map whole_key olds) (map whole_key news) perm ∙ sym (count-keys p olds) in
+    let same : (p : PackageData) → count_of_package p news ≡ count_of_package p olds = λ p. count-keys p news ∙ count-permutation (has_key p) (map whole_key olds) (map whole_key news) perm ∙ sym (count-keys p olds) in
     let o : old_told d ≡ [] = none-there (old_told d) (λ p. (told_by_count olds news d h p).0 ∙ level _ _ (sym (same p))) in
     let n : new_told d ≡ [] = none-there (new_told d) (λ p. (told_by_count olds news d h p).1 ∙ level _ _ (same p)) in
     let o1 = append-none (firsts d.pairs) d.removed o in

@@ -4,15 +4,15 @@ use Rattle.std.specs.Prelude.{◌==◌}
 use Rattle.std.specs.List.{flat_map}
 use Rattle.std.specs.Str.Lines.{lines}
 use Rattle.std.proofs.lemmas.List.{append-nil, append_assoc}
-use Rattle.shown.proofs.LinesOf.{each-is-line}
-use Rattle.shown.proofs.Printable.{Prints, decimal-prints, either_text, empty, join, literal, words}
+use Rattle.printing.proofs.LinesOf.{each-is-line}
+use Rattle.printing.proofs.Printable.{Prints, decimal-prints, either_text, empty, join, literal, words}
 use Rattle.cargo_lock_parts.specs.Ascii.{newline}
 use Rattle.cargo_lock_diff.specs.declared.summary.Summary.{Summary}
 use Rattle.cargo_lock_diff.specs.Change.{ChangeData, change_line, changes_text}
-use Rattle.cargo_lock_diff.specs.Summary.{SummaryIsOneLine, counted, is_behind, summary_text}
+use Rattle.cargo_lock_diff.specs.Summary.{SummaryIsOneLine, counted_behind, is_behind, summary_text}
 use Rattle.cargo_lock_diff.proofs.OneLine.{line-prints}
 
-counted-prints : (behind : Bool) (n : ℕ) {one more : List ℕ} → Prints one → Prints more → Prints (counted behind n one more)
+counted-prints : (behind : Bool) (n : ℕ) {one more : List ℕ} → Prints one → Prints more → Prints (counted_behind behind n one more)
 counted-prints behind n a b = either_text (n == 0) empty (join (either_text behind (literal (codes ", ") refl) empty)
     (join (decimal-prints n) (words (codes " ") refl (either_text (n == 1) a b))))
 

@@ -19,11 +19,11 @@ use Rattle.cargo_lock_parts.specs.Identity.{Identity, PackageData, identity_of}
 use Rattle.cargo_lock_diff.specs.Change.{OtherDependencies, dependency_change_of, other_dependencies}
 use Rattle.cargo_lock_diff.specs.Dependencies.{are_targets, have_other_dependencies, is_carried, is_carried_either, is_met, is_target, only_in}
 use Rattle.cargo_lock_diff.specs.Difference.{dependencies_at, referred_pairs}
-use Rattle.cargo_lock_diff.specs.Pairing.{exchanged}
+use Rattle.cargo_lock_diff.specs.Pairing.{exchanged_pair}
 use Rattle.cargo_lock_diff.specs.Place.{target_cmp}
 use Rattle.cargo_lock_diff.specs.Targets.{dependencies_cmp, pairs_cmp, targets_of}
 use Rattle.cargo_lock_diff.proofs.Merging.{one-more}
-use Rattle.cargo_lock_diff.proofs.Once.{map-there}
+use Rattle.lists.proofs.Members.{in-map as map-there}
 use Rattle.cargo_lock_diff.proofs.Orders.{target_total, targets_total}
 use Rattle.cargo_lock_diff.proofs.Vouched.{any-there}
 
@@ -119,10 +119,10 @@ parted-by d xs up i j x le lt h =
     let low : ordering_index (target_cmp (first_of (get_or xs j x)) d) ≡ 0 = index-lt (target_cmp (first_of (get_or xs j x)) d) h in
     lt-index (target_cmp (first_of (get_or xs i x)) d) (omega (arith, rise, low))
 
-lt-not-eq : (r : Ordering) → is_lt r ≡ true → is_eq r ≡ false
-lt-not-eq Less h = refl
-lt-not-eq Equal h = cc h
-lt-not-eq Greater h = cc h
+below-no-target : (r : Ordering) (b : Bool) → is_lt r ≡ true → (is_eq r && b) ≡ false
+below-no-target Less b h = refl
+below-no-target Equal b h = cc h
+below-no-target Greater b h = cc h
 
 above-not-eq : (r : Ordering) → 2 ≤ ordering_index r → is_eq r ≡ false
 above-not-eq Less h = refl
@@ -171,7 +171,7 @@ leads-from d es xs i up within parts =
     any-led c (λ p. list_any (is_target p.1.now) es) (drop i xs) (IsNonDecreasingBy-drop (λ p. ordering_index (c p)) i xs (first-rises d xs up))
     (λ k x lt. ap (λ (p : Bor PackageData × Bor PackageData). is_lt (c p)) (get_or-drop i xs k x) ∙ parts.1 (i + k) x (omega arith) (omega (arith, length-drop i xs, lt)))
     ∙ sym (any-dropped (leads-to d es) i xs
-    (λ k x lt there. ap (λ b. b && list_any (is_target (get_or xs k x).1.now) es) (lt-not-eq (c (get_or xs k x)) (parts.0 k x (omega arith) lt))))
+    (λ k x lt there. below-no-target (c (get_or xs k x)) (list_any (is_target (get_or xs k x).1.now) es) (parts.0 k x (omega arith) lt)))
     ∙ sym (leads-each d es xs)
 
 -- ---- one among dependencies
@@ -258,7 +258,7 @@ in_order-carries xs ys zs perm made d e =
     ∙ sym (list_any-IsPermutation (ties d e) xs ys perm)
     ∙ sym (carried-at d e xs)
 
-pub exchanged-carries : (d e : Identity) (ps : List (PackageData × PackageData)) → is_carried (map exchanged ps) e d ≡ is_carried ps d e
+pub exchanged-carries : (d e : Identity) (ps : List (PackageData × PackageData)) → is_carried (map exchanged_pair ps) e d ≡ is_carried ps d e
 exchanged-carries d e [] = refl
 exchanged-carries d e (p ∷ ps) = λ i. and-turn (is_target p.1 e) (is_target p.0 d) i || exchanged-carries d e ps i
 

@@ -1,12 +1,11 @@
 -- Pairing by what stands once.
-use Rattle.std.proofs.Common.{append_assoc, length, get_or, ◌≡◌, ℕ, ◌+◌, ◌<◌, ◌≤◌, zero, suc, Bool, true, false, cond, List, [], ◌∷◌, ◌++◌, count_by, map, refl, ap, sym, ◌∙◌, subst, arith, IsPermutation, All}
+use Rattle.std.proofs.Common.{append_assoc, ◌≡◌, ℕ, ◌+◌, ◌<◌, ◌≤◌, zero, suc, Bool, true, false, cond, List, [], ◌∷◌, ◌++◌, count_by, map, refl, ap, sym, ◌∙◌, subst, arith, IsPermutation, All}
 use Rattle.std.specs.Cmp.{IsEquivalence}
-use Rattle.std.proofs.lemmas.List.{length-map, get_or-map}
 use Rattle.std.specs.List.{Contains}
-use Rattle.std.proofs.lemmas.List.Elements.{All-contains, All-head, All-tail, All-nil, All-cons, All-weaker, All-map, Contains-get_or}
+use Rattle.std.proofs.lemmas.List.Elements.{All-contains, All-head, All-tail, All-nil, All-cons, All-weaker, All-map}
 use Rattle.std.proofs.lemmas.List.Sorted.{IsPermutation-append_left, IsPermutation-append_right, IsPermutation-trans, All-permutation}
 use Rattle.cargo_lock_diff.specs.Matching.{AreMatched, PassesWithNone, firsts, seconds}
-use Rattle.cargo_lock_diff.specs.Pairing.{ArePaired, AreSplit, StandsOnce, NoneOnBothSides, IsFiner, exchanged}
+use Rattle.cargo_lock_diff.specs.Pairing.{ArePaired, AreSplit, StandsOnce, NoneOnBothSides, IsFiner, exchanged_pair}
 use Rattle.cargo_lock_diff.proofs.Counts.{count-append, count-cons, count-permutation, counted}
 
 -- ---- counting
@@ -109,17 +108,6 @@ paired {X} same laws olds news old_alone new_alone old_others new_others pairs o
 
 -- ---- exactly
 
--- what is among the images is the image of a member
-pub map-back : {X Y : Type 0} (f : X → Y) (xs : List X) (y : Y) → Contains (map f xs) y → (x : X) × Contains xs x × (f x ≡ y)
-map-back f [] y there = absurd (omega (arith, there.1))
-map-back {X} {Y} f (x ∷ xs) y there =
-    let within : there.0 < length (x ∷ xs) = omega (arith, there.1, length-map (x ∷ xs) f) in
-    (get_or (x ∷ xs) there.0 x, Contains-get_or (x ∷ xs) there.0 x within, sym (get_or-map f (x ∷ xs) there.0 x y within) ∙ there.2)
-
--- the image of a member is among the images
-pub map-there : {X Y : Type 0} (f : X → Y) (xs : List X) (x : X) → Contains xs x → Contains (map f xs) (f x)
-map-there f xs x there = (there.0, omega (arith, there.1, length-map xs f), get_or-map f xs there.0 x (f x) there.1 ∙ ap f there.2)
-
 -- what stands once in a whole list is in no two parts of it
 pub in-one-part : {X : Type 0} (same : X → X → Bool) → (all front back : List X) (x y z : X) → IsPermutation all (front ++ back) → StandsOnce same x all
     → Contains front y → same x y ≡ true → Contains back z → same x z ≡ true → ⊥
@@ -132,24 +120,24 @@ in-one-part same all front back x y z told once in_front y_like in_back z_like =
 
 -- ---- exchanged
 
-firsts-exchanged : {X : Type 0} (pairs : List (X × X)) → firsts (map exchanged pairs) ≡ seconds pairs
+firsts-exchanged : {X : Type 0} (pairs : List (X × X)) → firsts (map exchanged_pair pairs) ≡ seconds pairs
 firsts-exchanged [] = refl
 firsts-exchanged (p ∷ ps) = ap (λ zs. p.1 ∷ zs) (firsts-exchanged ps)
 
-seconds-exchanged : {X : Type 0} (pairs : List (X × X)) → seconds (map exchanged pairs) ≡ firsts pairs
+seconds-exchanged : {X : Type 0} (pairs : List (X × X)) → seconds (map exchanged_pair pairs) ≡ firsts pairs
 seconds-exchanged [] = refl
 seconds-exchanged (p ∷ ps) = ap (λ zs. p.0 ∷ zs) (seconds-exchanged ps)
 
 -- where the lists are exchanged, the pairs and what is left are exchanged
 pub mirrored : {X : Type 0} (same : X → X → Bool) → IsEquivalence same → (olds news : List X) (pairs : List (X × X)) (old new : List X)
-    → ArePaired same olds news pairs old new → ArePaired same news olds (map exchanged pairs) new old
+    → ArePaired same olds news pairs old new → ArePaired same news olds (map exchanged_pair pairs) new old
 mirrored {X} same laws olds news pairs old new m = record {
   olds_told = subst (λ (zs : List X). IsPermutation news (zs ++ new)) (sym (firsts-exchanged pairs)) m.news_told;
   news_told = subst (λ (zs : List X). IsPermutation olds (zs ++ old)) (sym (seconds-exchanged pairs)) m.olds_told;
-  alike = All-map (λ (p : X × X). same p.0 p.1 ≡ true) exchanged pairs
+  alike = All-map (λ (p : X × X). same p.0 p.1 ≡ true) exchanged_pair pairs
       (All-weaker (λ (p : X × X). same p.0 p.1 ≡ true) (λ (p : X × X). same p.1 p.0 ≡ true) (λ p h. laws.symm p.1 p.0 ∙ h) pairs m.alike);
-  olds_once = All-map (λ (p : X × X). StandsOnce same p.0 news) exchanged pairs m.news_once;
-  news_once = All-map (λ (p : X × X). StandsOnce same p.1 olds) exchanged pairs m.olds_once;
+  olds_once = All-map (λ (p : X × X). StandsOnce same p.0 news) exchanged_pair pairs m.news_once;
+  news_once = All-map (λ (p : X × X). StandsOnce same p.1 olds) exchanged_pair pairs m.olds_once;
   none_left = λ x h k. m.none_left x k h;
 }
 

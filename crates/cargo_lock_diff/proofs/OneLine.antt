@@ -1,53 +1,23 @@
 -- Each change is one line: each part of it is printable.
-use Rattle.std.proofs.Common.{ℕ, Bool, true, false, List, codes, Option, Some, None, refl}
+use Rattle.std.proofs.Common.{Bool, true, false, List, codes, refl}
 use Rattle.std.specs.Prelude.{◌&&◌, not, is_some}
-use Rattle.semver.specs.Parse.{Parts}
-use Rattle.shown.specs.declared.form.Form.TheVariants.{Plain}
-use Rattle.shown.proofs.LinesOf.{each-is-line}
-use Rattle.shown.proofs.Printable.{Prints, either_text, empty, join, join_each, literal, shown-prints, words}
+use Rattle.printing.proofs.LinesOf.{each-is-line}
+use Rattle.printing.proofs.Printable.{Prints, either_text, empty, join, join_each, literal, words}
 use Rattle.cargo_lock_parts.specs.Identity.{Identity, PackageData}
-use Rattle.cargo_lock_parts.specs.Source.{Source}
-use Rattle.cargo_lock_parts.specs.SourceShown.{is_default_registry}
+use Rattle.cargo_lock_display.proofs.Printed.{alone-prints, behind-prints, checksum-prints, dependency-prints, named-prints, package-prints, replacement-prints, version-prints}
 use Rattle.cargo_lock_diff.specs.Same.{have_one_place}
-use Rattle.cargo_lock_diff.specs.Change.{Added, Alarm, ChangeData, Checksum, EachIsOneLine, Moved, OtherDependencies, Removed, Replaced, Updated}
-use Rattle.cargo_lock_diff.specs.Change.{checksum_mark, checksum_text, checksums_text, dependency_shown, downgrade_mark, is_downgrade, is_of_registry, change_line, named_text, signed_text, signed_texts}
-use Rattle.cargo_lock_diff.specs.Change.{package_text, replacement_text, source_alone, source_behind, sources_text, updated_sources, version_shown}
-
-version-prints : (v : Parts) → Prints (version_shown v)
-version-prints v = shown-prints Plain _
-
-behind-prints : (s : Option Source) → Prints (source_behind s)
-behind-prints None = literal (codes " (path)") refl
-behind-prints (Some s) = either_text (is_default_registry s) empty
-    (words (codes " (") refl (join (shown-prints Plain _) (literal (codes ")") refl)))
-
-alone-prints : (s : Option Source) → Prints (source_alone s)
-alone-prints None = literal (codes "(path)") refl
-alone-prints (Some s) = either_text (is_default_registry s) (literal (codes "crates.io") refl) (shown-prints Plain _)
+use Rattle.cargo_lock_diff.specs.Change.{Added, Alarm, ChangeData, Checksum, EachChangeIsOneLine}
+use Rattle.cargo_lock_diff.specs.Change.{Moved, OtherDependencies, Removed, Replaced, Updated}
+use Rattle.cargo_lock_diff.specs.Change.{checksum_mark, checksums_text, downgrade_mark}
+use Rattle.cargo_lock_diff.specs.Change.{is_downgrade, is_of_registry, change_line, signed_text}
+use Rattle.cargo_lock_diff.specs.Change.{signed_texts, sources_text, updated_sources}
 
 sources-print : (old new : PackageData) → Prints (sources_text old new)
 sources-print old new = words (codes ": ") refl (join (alone-prints old.source) (words (codes " -> ") refl (alone-prints new.source)))
 
-pub checksum-prints : (c : Option (List ℕ)) → Prints (checksum_text c)
-checksum-prints None = literal (codes "none") refl
-checksum-prints (Some digest) = shown-prints Plain _
-
 checksums-print : (old new : PackageData) → Prints (checksums_text old new)
 checksums-print old new = words (codes ": checksum ") refl (join (checksum-prints old.checksum)
     (words (codes " -> ") refl (checksum-prints new.checksum)))
-
-named-prints : (p : PackageData) → Prints (named_text p)
-named-prints p = join (shown-prints Plain p.name) (words (codes " ") refl (version-prints p.version))
-
-pub package-prints : (p : PackageData) → Prints (package_text p)
-package-prints p = join (named-prints p) (behind-prints p.source)
-
-dependency-prints : (d : Identity) → Prints (dependency_shown d)
-dependency-prints d = join (shown-prints Plain d.name) (words (codes " ") refl (join (version-prints d.version) (behind-prints d.source)))
-
-replacement-prints : (d : Option Identity) → Prints (replacement_text d)
-replacement-prints None = literal (codes "none") refl
-replacement-prints (Some d) = dependency-prints d
 
 updated-prints : (old new : PackageData) → Prints (updated_sources old new)
 updated-prints old new = either_text (have_one_place old new) (behind-prints new.source) (sources-print old new)
@@ -78,5 +48,5 @@ line-prints (Added new) = words (codes "+ ") refl (join (package-prints new) (ma
 line-prints (OtherDependencies old new gone came) = words (codes "= ") refl (join (package-prints new)
     (words (codes ":") refl (join (all-signed-print true gone) (all-signed-print false came))))
 
-pub each-change-is-one-line : EachIsOneLine
+pub each-change-is-one-line : EachChangeIsOneLine
 each-change-is-one-line = each-is-line change_line line-prints

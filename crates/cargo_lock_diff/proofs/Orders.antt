@@ -23,10 +23,10 @@ use Rattle.cargo_lock_diff.specs.Targets.{targets_cmp}
 use Rattle.cargo_lock_diff.specs.Vouchers.{cmp_at}
 
 repository_total : (seen : Kind → Kind) → IsTotalOrder (repository_cmp seen)
-repository_total seen = then_total (then_total
+repository_total seen = then_total
     (on_total (λ (s : Source). serialize s.url) nat_list_cmp_total)
-    (on_total (λ (s : Source). kind_number (seen s.kind)) nat_cmp_total))
-    (on_total (λ (s : Source). git_reference_text (seen s.kind)) nat_list_cmp_total)
+    (on_total (λ (s : Source). seen s.kind)
+    (then_total (on_total kind_number nat_cmp_total) (on_total git_reference_text nat_list_cmp_total)))
 
 pub place_total : IsTotalOrder place_cmp
 place_total = on_total other_source (options_total source_total)

@@ -12,9 +12,9 @@ use Rattle.cargo_lock_diff.specs.declared.likeness.Likeness.TheVariants.{Whole}
 use Rattle.cargo_lock_diff.specs.Likeness.{is_alike}
 use Rattle.cargo_lock_diff.specs.Matching.{AreMatched, PassesWithNone, is_alike_at, firsts, seconds}
 use Rattle.cargo_lock_diff.specs.Pairing.{ArePairedInTurn}
-use Rattle.cargo_lock_diff.specs.Difference.{IsPairing, packages_at, referred_pairs, turns}
+use Rattle.cargo_lock_diff.specs.Difference.{IsPairing, referred_packages, referred_pairs, turns}
 use Rattle.cargo_lock_diff.proofs.Matched.{matched-map}
-use Rattle.cargo_lock_diff.proofs.Once.{map-there}
+use Rattle.lists.proofs.Members.{in-map as map-there}
 use Rattle.cargo_lock_diff.proofs.InTurn.{all_pairs, in-turn-news, in-turn-olds, paired-map}
 
 -- the packages of each pair are so much alike
@@ -74,13 +74,13 @@ told-apart {pairs = pairs} {removed = removed} {added = added} h =
 in-turn-at : (ls : List Likeness) (olds news : List (Bor PackageData)) (passes : List (List (Bor PackageData × Bor PackageData))) (old new : List (Bor PackageData))
     → ((likeness : Likeness) → IsEquivalence (is_alike likeness))
     → ArePairedInTurn (map is_alike_at ls) olds news passes old new
-    → ArePairedInTurn (map is_alike ls) (packages_at olds) (packages_at news) (map referred_pairs passes) (packages_at old) (packages_at new)
-in-turn-at [] olds news [] old new laws h = (ap packages_at h.0, ap packages_at h.1)
+    → ArePairedInTurn (map is_alike ls) (referred_packages olds) (referred_packages news) (map referred_pairs passes) (referred_packages old) (referred_packages new)
+in-turn-at [] olds news [] old new laws h = (ap referred_packages h.0, ap referred_packages h.1)
 in-turn-at [] olds news (p ∷ ps) old new laws h = absurd h
 in-turn-at (l ∷ ls) olds news [] old new laws h = absurd h
 in-turn-at (l ∷ ls) olds news (p ∷ ps) old new laws h = (
-  packages_at h.0,
-  packages_at h.1,
+  referred_packages h.0,
+  referred_packages h.1,
   paired-map (λ (b : Bor PackageData). b.now) (is_alike l) (laws l) olds news p h.0 h.1 h.2,
   in-turn-at ls h.0 h.1 ps old new laws h.3,
 )
@@ -95,10 +95,10 @@ pub paired-at : (olds news : List (Bor PackageData)) (kept : List (Bor PackageDa
     → ((likeness : Likeness) → IsEquivalence (is_alike likeness))
     → AreMatched (is_alike_at Whole) olds news kept o n → ArePairedInTurn (map is_alike_at turns) o n passes removed added
     → IsPermutation (flat_map (λ pass. pass) passes) pairs
-    → IsPairing (packages_at olds) (packages_at news) (referred_pairs kept) (referred_pairs pairs) (packages_at removed) (packages_at added)
+    → IsPairing (referred_packages olds) (referred_packages news) (referred_pairs kept) (referred_pairs pairs) (referred_packages removed) (referred_packages added)
 paired-at olds news kept o n passes pairs removed added laws m t p = record {
-  old = packages_at o;
-  new = packages_at n;
+  old = referred_packages o;
+  new = referred_packages n;
   wholly = matched-map (λ (b : Bor PackageData). b.now) (is_alike Whole) olds news kept o n m;
   passes = map referred_pairs passes;
   in_turn = in-turn-at turns o n passes removed added laws t;

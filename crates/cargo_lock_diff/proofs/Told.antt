@@ -19,28 +19,30 @@ use Rattle.cargo_lock_diff.specs.Change.{Added, Alarm, ChangeData, NoneIfPermute
 use Rattle.cargo_lock_diff.specs.Difference.{DifferenceData, IsDifference, HasNoChanges, IsPairing, NoneIsLeftAlone, PairingMirrored, turns}
 use Rattle.cargo_lock_diff.specs.Likeness.{is_alike}
 use Rattle.cargo_lock_diff.specs.Matching.{AreMatched, PassesWithNone, firsts, seconds}
-use Rattle.cargo_lock_diff.specs.Pairing.{exchanged}
+use Rattle.cargo_lock_diff.specs.Pairing.{exchanged_pair}
 use Rattle.cargo_lock_diff.specs.Same.{have_one_checksum, have_one_place, have_one_replacement, have_one_version}
 use Rattle.cargo_lock_diff.proofs.Exact.{mirrored_in_turn, none_is_left_in_turn}
 use Rattle.cargo_lock_diff.proofs.Finer.{eq-both, names-in-turn, none-name, none-origin, none-place}
 use Rattle.cargo_lock_diff.proofs.InTurn.{all_pairs}
-use Rattle.cargo_lock_diff.proofs.Keys.{append-none, empty_if_permuted, map-none, whole_laws}
+use Rattle.cargo_lock_diff.proofs.Keys.{empty_if_permuted, whole_laws}
+use Rattle.lists.proofs.Tests.{append-none, map-none}
 use Rattle.cargo_lock_diff.proofs.Pairs.{AreAlike, told-apart}
+use Rattle.lists.proofs.Tests.{not-false, or-left as or-first}
 
 -- ---- mirrored
 
-firsts-exchanged : (pairs : List (PackageData × PackageData)) → firsts (map exchanged pairs) ≡ seconds pairs
+firsts-exchanged : (pairs : List (PackageData × PackageData)) → firsts (map exchanged_pair pairs) ≡ seconds pairs
 firsts-exchanged [] = refl
 firsts-exchanged (p ∷ ps) = ap (λ zs. p.1 ∷ zs) (firsts-exchanged ps)
 
-seconds-exchanged : (pairs : List (PackageData × PackageData)) → seconds (map exchanged pairs) ≡ firsts pairs
+seconds-exchanged : (pairs : List (PackageData × PackageData)) → seconds (map exchanged_pair pairs) ≡ firsts pairs
 seconds-exchanged [] = refl
 seconds-exchanged (p ∷ ps) = ap (λ zs. p.0 ∷ zs) (seconds-exchanged ps)
 
 flat-exchanged : (passes : List (List (PackageData × PackageData)))
-    → map exchanged (flat_map (λ pass. pass) passes) ≡ flat_map (λ pass. pass) (map (λ pass. map exchanged pass) passes)
+    → map exchanged_pair (flat_map (λ pass. pass) passes) ≡ flat_map (λ pass. pass) (map (λ pass. map exchanged_pair pass) passes)
 flat-exchanged [] = refl
-flat-exchanged (p ∷ ps) = map-append exchanged p (flat_map (λ pass. pass) ps) ∙ ap (λ zs. map exchanged p ++ zs) (flat-exchanged ps)
+flat-exchanged (p ∷ ps) = map-append exchanged_pair p (flat_map (λ pass. pass) ps) ∙ ap (λ zs. map exchanged_pair p ++ zs) (flat-exchanged ps)
 
 apart-exchanged : (old new : List PackageData) → All (λ o. PassesWithNone (is_alike Whole) o new) old
     → All (λ n. PassesWithNone (is_alike Whole) n old) new
@@ -48,11 +50,11 @@ apart-exchanged old new apart = λ i d lt. λ k e within.
     whole_laws.symm (get_or new i d) (get_or old k e) ∙ apart k e within i d lt
 
 matched-exchanged : (olds news : List PackageData) (pairs : List (PackageData × PackageData)) (old new : List PackageData)
-    → AreMatched (is_alike Whole) olds news pairs old new → AreMatched (is_alike Whole) news olds (map exchanged pairs) new old
+    → AreMatched (is_alike Whole) olds news pairs old new → AreMatched (is_alike Whole) news olds (map exchanged_pair pairs) new old
 matched-exchanged olds news pairs old new m = record {
   olds_told = subst (λ (zs : List PackageData). IsPermutation news (zs ++ new)) (sym (firsts-exchanged pairs)) m.news_told;
   news_told = subst (λ (zs : List PackageData). IsPermutation olds (zs ++ old)) (sym (seconds-exchanged pairs)) m.olds_told;
-  paired = All-map (λ (p : PackageData × PackageData). is_alike Whole p.0 p.1 ≡ true) exchanged pairs
+  paired = All-map (λ (p : PackageData × PackageData). is_alike Whole p.0 p.1 ≡ true) exchanged_pair pairs
       (All-weaker (λ (p : PackageData × PackageData). is_alike Whole p.0 p.1 ≡ true) (λ (p : PackageData × PackageData). is_alike Whole p.1 p.0 ≡ true)
       (λ p h. whole_laws.symm p.1 p.0 ∙ h) pairs m.paired);
   apart = apart-exchanged old new m.apart;
@@ -63,10 +65,10 @@ pairing_mirrored olds news kept pairs removed added h = record {
   old = h.new;
   new = h.old;
   wholly = matched-exchanged olds news kept h.old h.new h.wholly;
-  passes = map (λ pass. map exchanged pass) h.passes;
+  passes = map (λ pass. map exchanged_pair pass) h.passes;
   in_turn = mirrored_in_turn turns h.old h.new h.passes removed added h.in_turn;
-  in_all = subst (λ (zs : List (PackageData × PackageData)). IsPermutation zs (map exchanged pairs)) (flat-exchanged h.passes)
-      (IsPermutation-map exchanged (flat_map (λ pass. pass) h.passes) pairs h.in_all);
+  in_all = subst (λ (zs : List (PackageData × PackageData)). IsPermutation zs (map exchanged_pair pairs)) (flat-exchanged h.passes)
+      (IsPermutation-map exchanged_pair (flat_map (λ pass. pass) h.passes) pairs h.in_all);
 }
 
 -- ---- what is left alone
@@ -105,14 +107,6 @@ filter-head {X} q x xs e = go (q x) refl
 
 no-change : (one : Aspect) (p : PackageData × PackageData) (ps : List (PackageData × PackageData)) → changes_in one (p ∷ ps) ≡ [] → differs_in one p ≡ false
 no-change one p ps e = filter-head (differs_in one) p ps (map-none (change_in one) (filter (differs_in one) (p ∷ ps)) e)
-
-or-first : (a b : Bool) → (a || b) ≡ false → a ≡ false
-or-first true b h = cc h
-or-first false b h = refl
-
-not-false : (b : Bool) → not b ≡ false → b ≡ true
-not-false true h = refl
-not-false false h = cc h
 
 and-second : (a b : Bool) → a ≡ true → (a && b) ≡ false → b ≡ false
 and-second true b h e = e

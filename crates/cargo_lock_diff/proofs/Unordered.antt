@@ -3,6 +3,7 @@ use Rattle.std.proofs.Common.{◌≡◌, ℕ, ◌+◌, ◌-◌, ◌≤◌, zero,
 use Rattle.std.specs.Prelude.{◌&&◌}
 use Rattle.std.specs.Cmp.{IsEquivalence, eq_by_cmp_equiv}
 use Rattle.std.specs.List.{Contains, remove}
+use Rattle.std.proofs.lemmas.Bool.{and_parts}
 use Rattle.std.proofs.lemmas.List.Elements.{All-cons, All-head, All-nil, All-tail}
 use Rattle.std.proofs.lemmas.List.Sorted.{IsPermutation-remove}
 use Rattle.cargo_lock_parts.specs.Identity.{PackageData}
@@ -134,10 +135,6 @@ some-count {Y} q ys h = go (count_by q ys) refl
     go zero e = absurd (omega (arith, e, h))
     go (suc n) e = counted q ys n e
 
-and-both : (a b : Bool) → (a && b) ≡ true → (a ≡ true) × (b ≡ true)
-and-both true b h = (refl, h)
-and-both false b h = cc h
-
 -- a member of a pair stands among the members
 first-of : {X : Type 0} (P : X → Type 0) (pairs : List (X × X)) → All (λ p. P p.0) pairs → (y : X) → Contains (firsts pairs) y → P y
 first-of P [] all y there = absurd (omega (arith, there.1))
@@ -219,12 +216,12 @@ module _ {X : Type 0} (W S : X → X → Bool) (w : IsEquivalence W) (s : IsEqui
   pairs-same x y =
       let q : X × X → Bool = λ p. W x p.0 && W y p.1 in
       let one : X × X → Bool = λ p. W x p.0 in
-      let weaker : (p : X × X) → q p ≡ true → one p ≡ true = λ p h. (and-both (W x p.0) (W y p.1) h).0 in
+      let weaker : (p : X × X) → q p ≡ true → one p ≡ true = λ p h. (and_parts (W x p.0) (W y p.1) h).0 in
       let a = count-weaker q one weaker P in
       let b = once-first x in
       let a' = count-weaker q one weaker P' in
       let b' = once-first' x in
-      equal-counts q (λ c d h k t. let both = and-both (W x c.0) (W y c.1) t in
+      equal-counts q (λ c d h k t. let both = and_parts (W x c.0) (W y c.1) t in
       let there : W x d.0 ≡ true = sym (same-at W w x c.0 d.0 h) ∙ both.0 in
       let here : W y d.1 ≡ true = sym (same-at W w y c.1 d.1 k) ∙ both.1 in
       λ i. there i && here i)

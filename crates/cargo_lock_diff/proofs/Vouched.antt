@@ -19,33 +19,30 @@ use Rattle.cargo_lock_parts.specs.IdentityOrder.{version_cmp}
 use Rattle.cargo_lock_parts.specs.SourceKey.{text_cmp}
 use Rattle.cargo_lock_diff.specs.declared.likeness.Likeness.{Likeness}
 use Rattle.cargo_lock_diff.specs.declared.likeness.Likeness.TheVariants.{Name, Version, Place, Archive}
-use Rattle.cargo_lock_diff.specs.Alarm.{AreAlarms, IsFounded, has_checksum, is_alarm, is_altered, is_suspect, is_vouched}
-use Rattle.cargo_lock_diff.specs.Difference.{packages_at, referred_pairs}
+use Rattle.cargo_lock_diff.specs.Alarm.{AreAlarms, IsFounded, is_alarm, is_altered, is_checksummed, is_suspect, is_vouched}
+use Rattle.cargo_lock_diff.specs.Difference.{referred_packages, referred_pairs}
 use Rattle.cargo_lock_diff.specs.Likeness.{is_alike, likeness_cmp}
 use Rattle.cargo_lock_diff.specs.Matching.{seconds}
 use Rattle.cargo_lock_diff.specs.Same.{have_one_version}
 use Rattle.cargo_lock_diff.specs.Vouchers.{AreVouchers, cmp_at}
 use Rattle.cargo_lock_diff.proofs.Finer.{eq-both, place-version}
 use Rattle.cargo_lock_diff.proofs.Merging.{one-more}
-use Rattle.cargo_lock_diff.proofs.Once.{map-there}
+use Rattle.lists.proofs.Members.{in-map as map-there}
 use Rattle.cargo_lock_diff.proofs.Orders.{likeness_total}
+use Rattle.lists.proofs.Tests.{and-left as and-first}
 
-and-first : (a b : Bool) → (a && b) ≡ true → a ≡ true
-and-first true b h = refl
-and-first false b h = cc h
-
-vouched-among : (likeness : Likeness) (olds known : List PackageData) (p : PackageData) → IsPermutation (filter has_checksum olds) known
+vouched-among : (likeness : Likeness) (olds known : List PackageData) (p : PackageData) → IsPermutation (filter is_checksummed olds) known
     → is_vouched likeness known p ≡ is_vouched likeness olds p
 vouched-among likeness olds known p perm =
-    let test : PackageData → Bool = λ o. has_checksum o && is_alike likeness p o in
-    sym (list_any-IsPermutation test (filter has_checksum olds) known perm)
-    ∙ any-filter_same test has_checksum true (λ o h. and-first (has_checksum o) (is_alike likeness p o) h) olds
+    let test : PackageData → Bool = λ o. is_checksummed o && is_alike likeness p o in
+    sym (list_any-IsPermutation test (filter is_checksummed olds) known perm)
+    ∙ any-filter_same test is_checksummed true (λ o h. and-first (is_checksummed o) (is_alike likeness p o) h) olds
 
 -- a package is suspect by all old packages where it is so by those that have a checksum
-pub suspect-among : (olds known : List PackageData) → IsPermutation (filter has_checksum olds) known → (p : PackageData)
+pub suspect-among : (olds known : List PackageData) → IsPermutation (filter is_checksummed olds) known → (p : PackageData)
     → is_suspect known p ≡ is_suspect olds p
 suspect-among olds known perm p =
-    λ i. cond (has_checksum p) (vouched-among Version olds known p perm i && not (vouched-among Archive olds known p perm i)) (vouched-among Place olds known p perm i)
+    λ i. cond (is_checksummed p) (vouched-among Version olds known p perm i && not (vouched-among Archive olds known p perm i)) (vouched-among Place olds known p perm i)
 
 -- what is kept by a filter is a member, and a member that passes is kept
 filter-from : {X : Type 0} (q : X → Bool) (xs : List X) (x : X) → Contains (filter q xs) x → Contains xs x
@@ -66,49 +63,49 @@ filter-to {X} q xs x there hit =
         absurd (true≢false (sym miss ∙ ap not hit))
 
 -- the old packages of pairs that have a checksum are among those that have one
-pub vouched-pairs : (olds known : List PackageData) → IsPermutation (filter has_checksum olds) known → (pairs : List (PackageData × PackageData))
-    → All (λ p. Contains olds p.0) pairs → All (λ p. has_checksum p.0 ≡ true → Contains known p.0) pairs
-vouched-pairs olds known perm pairs = All-weaker (λ (p : PackageData × PackageData). Contains olds p.0) (λ (p : PackageData × PackageData). has_checksum p.0 ≡ true → Contains known p.0)
-    (λ p there has. Contains-permutation (filter has_checksum olds) known p.0 perm (filter-to has_checksum olds p.0 there has)) pairs
+pub vouched-pairs : (olds known : List PackageData) → IsPermutation (filter is_checksummed olds) known → (pairs : List (PackageData × PackageData))
+    → All (λ p. Contains olds p.0) pairs → All (λ p. is_checksummed p.0 ≡ true → Contains known p.0) pairs
+vouched-pairs olds known perm pairs = All-weaker (λ (p : PackageData × PackageData). Contains olds p.0) (λ (p : PackageData × PackageData). is_checksummed p.0 ≡ true → Contains known p.0)
+    (λ p there has. Contains-permutation (filter is_checksummed olds) known p.0 perm (filter-to is_checksummed olds p.0 there has)) pairs
 
-pub alarms-among : (olds known : List PackageData) → IsPermutation (filter has_checksum olds) known
+pub alarms-among : (olds known : List PackageData) → IsPermutation (filter is_checksummed olds) known
     → (pairs : List (PackageData × PackageData)) (added : List PackageData) (alarms : List (PackageData × PackageData))
     → AreAlarms known pairs added alarms → AreAlarms olds pairs added alarms
 alarms-among olds known perm pairs added alarms a = record {
   founded = a.founded;
   among = All-weaker (λ (p : PackageData × PackageData). Contains known p.0) (λ (p : PackageData × PackageData). Contains olds p.0)
-      (λ p there. filter-from has_checksum olds p.0 (Contains-permutation known (filter has_checksum olds) p.0 (IsPermutation-sym (filter has_checksum olds) known perm) there)) alarms a.among;
+      (λ p there. filter-from is_checksummed olds p.0 (Contains-permutation known (filter is_checksummed olds) p.0 (IsPermutation-sym (filter is_checksummed olds) known perm) there)) alarms a.among;
   own = a.own;
   told = a.told ∙ (λ i. seconds (filter (λ p. is_altered p.0 p.1 || suspect-among olds known perm p.1 i) pairs) ++ filter (λ p. suspect-among olds known perm p i) added);
 }
 
 -- among packages that all have a checksum it does not count
-any-checked : (test : PackageData → Bool) (known : List PackageData) → ((o : PackageData) → Contains known o → has_checksum o ≡ true)
-    → list_any (λ o. has_checksum o && test o) known ≡ list_any test known
+any-checked : (test : PackageData → Bool) (known : List PackageData) → ((o : PackageData) → Contains known o → is_checksummed o ≡ true)
+    → list_any (λ o. is_checksummed o && test o) known ≡ list_any test known
 any-checked test [] all = refl
 any-checked test (o ∷ os) all = λ i. (all o (0, omega arith, refl) i && test o) || any-checked test os (λ q c. all q (suc c.0, omega (arith, c.1), c.2)) i
 
-pub checked : {vs archs ps : List (Bor PackageData)} → AreVouchers vs archs ps → (o : PackageData) → Contains (packages_at vs) o → has_checksum o ≡ true
-checked {vs} v o there = All-contains (λ (q : PackageData). has_checksum q ≡ true) (packages_at vs) o (All-map (λ (q : PackageData). has_checksum q ≡ true) (λ (b : Bor PackageData). b.now) vs v.checked) there
+pub checked : {vs archs ps : List (Bor PackageData)} → AreVouchers vs archs ps → (o : PackageData) → Contains (referred_packages vs) o → is_checksummed o ≡ true
+checked {vs} v o there = All-contains (λ (q : PackageData). is_checksummed q ≡ true) (referred_packages vs) o (All-map (λ (q : PackageData). is_checksummed q ≡ true) (λ (b : Bor PackageData). b.now) vs v.checked) there
 
 -- what is looked up in a list in another order is vouched for
 pub vouched-in : (likeness : Likeness) {vs archs ps : List (Bor PackageData)} → AreVouchers vs archs ps → (others : List (Bor PackageData)) → IsPermutation vs others
-    → (p : PackageData) → is_vouched likeness (packages_at vs) p ≡ list_any (is_alike likeness p) (packages_at others)
+    → (p : PackageData) → is_vouched likeness (referred_packages vs) p ≡ list_any (is_alike likeness p) (referred_packages others)
 vouched-in likeness {vs} v others perm p =
-    any-checked (is_alike likeness p) (packages_at vs) (checked v)
-    ∙ list_any-IsPermutation (is_alike likeness p) (packages_at vs) (packages_at others) (IsPermutation-map (λ (b : Bor PackageData). b.now) vs others perm)
+    any-checked (is_alike likeness p) (referred_packages vs) (checked v)
+    ∙ list_any-IsPermutation (is_alike likeness p) (referred_packages vs) (referred_packages others) (IsPermutation-map (λ (b : Bor PackageData). b.now) vs others perm)
 
 symmetric : (likeness : Likeness) (a b : PackageData) → is_alike likeness a b ≡ true → is_alike likeness b a ≡ true
 symmetric likeness a b h = (eq_by_cmp_equiv (likeness_total likeness)).symm b a ∙ h
 
 -- what was looked up in a list in another order is there
-known-in : (vs others : List (Bor PackageData)) → IsPermutation vs others → (o : PackageData) → Contains (packages_at others) o → Contains (packages_at vs) o
-known-in vs others perm o = Contains-permutation (packages_at others) (packages_at vs) o
-    (IsPermutation-sym (packages_at vs) (packages_at others) (IsPermutation-map (λ (b : Bor PackageData). b.now) vs others perm))
+known-in : (vs others : List (Bor PackageData)) → IsPermutation vs others → (o : PackageData) → Contains (referred_packages others) o → Contains (referred_packages vs) o
+known-in vs others perm o = Contains-permutation (referred_packages others) (referred_packages vs) o
+    (IsPermutation-sym (referred_packages vs) (referred_packages others) (IsPermutation-map (λ (b : Bor PackageData). b.now) vs others perm))
 
 -- an old package that was looked up has a checksum, and the version of the package
 pub founded : {vs archs ps : List (Bor PackageData)} → AreVouchers vs archs ps → (others : List (Bor PackageData)) → IsPermutation vs others
-    → (o p : PackageData) → Contains (packages_at others) o → is_alike Version p o ≡ true → IsFounded o p
+    → (o p : PackageData) → Contains (referred_packages others) o → is_alike Version p o ≡ true → IsFounded o p
 founded {vs} v others perm o p there like = (
   checked v o (known-in vs others perm o there),
   symmetric Version p o like,
@@ -122,7 +119,7 @@ any-there q xs x there hit = list_any_at q xs there.0 x there.1 (ap q there.2 �
 
 -- a place that is found
 pub found-at : (likeness : Likeness) (xs : List (Bor PackageData)) (p : PackageData) (k : ℕ) (x : Bor PackageData) → k < length xs → x ≡ get_or xs k x
-    → likeness_cmp likeness x.now p ≡ Equal → Contains (packages_at xs) x.now × (is_alike likeness p x.now ≡ true)
+    → likeness_cmp likeness x.now p ≡ Equal → Contains (referred_packages xs) x.now × (is_alike likeness p x.now ≡ true)
 found-at likeness xs p k x lt at tie =
     (map-there (λ (b : Bor PackageData). b.now) xs x (k, lt, sym at), symmetric likeness x.now p ((Equal-is (likeness_cmp likeness x.now p)).1 tie))
 
@@ -136,10 +133,10 @@ not-eq Greater h = refl
 pub none-at : (likeness : Likeness) (xs : List (Bor PackageData)) (p : PackageData) (i : ℕ) → IsSorted (cmp_at likeness) xs
     → (IsNonDecreasingBy (λ (b : Bor PackageData). ordering_index (likeness_cmp likeness b.now p)) xs
     → IsPartitionPoint (λ (b : Bor PackageData). likeness_cmp likeness b.now p ≡ Less) (λ (b : Bor PackageData). likeness_cmp likeness b.now p ≡ Greater) xs i)
-    → list_any (is_alike likeness p) (packages_at xs) ≡ false
+    → list_any (is_alike likeness p) (referred_packages xs) ≡ false
 none-at likeness xs p i up parted =
     let parts = parted (searchable_from_sorted (likeness_total likeness) (λ (b : Bor PackageData). b.now) xs p up) in
-    list_any_none (is_alike likeness p) (packages_at xs) (All-map (λ (q : PackageData). is_alike likeness p q ≡ false) (λ (b : Bor PackageData). b.now) xs
+    list_any_none (is_alike likeness p) (referred_packages xs) (All-map (λ (q : PackageData). is_alike likeness p q ≡ false) (λ (b : Bor PackageData). b.now) xs
     (λ k d lt. apart parts k d lt (cases_order k i)))
   where
     o : (q : PackageData) → is_eq (ordering_reverse (likeness_cmp likeness q p)) ≡ false → is_alike likeness p q ≡ false
@@ -154,57 +151,57 @@ none-at likeness xs p i up parted =
 -- ---- suspects
 
 abbrev pub Found : Likeness → List (Bor PackageData) → PackageData → Option (Bor PackageData) → Type 0
-Found likeness others p r = MatchOption r (list_any (is_alike likeness p) (packages_at others) ≡ false)
-    (λ o. Contains (packages_at others) o.now × (is_alike likeness p o.now ≡ true))
+Found likeness others p r = MatchOption r (list_any (is_alike likeness p) (referred_packages others) ≡ false)
+    (λ o. Contains (referred_packages others) o.now × (is_alike likeness p o.now ≡ true))
 
 abbrev pub Against : List PackageData → PackageData → Option (Bor PackageData) → Type 0
 Against known p r = MatchOption r (is_suspect known p ≡ false) (λ o. (is_suspect known p ≡ true) × IsFounded o.now p × Contains known o.now)
 
 -- without a checksum
-pub against-place : {vs archs ps : List (Bor PackageData)} → AreVouchers vs archs ps → (p : PackageData) → has_checksum p ≡ false
-    → (r : Option (Bor PackageData)) → Found Place ps p r → Against (packages_at vs) p r
+pub against-place : {vs archs ps : List (Bor PackageData)} → AreVouchers vs archs ps → (p : PackageData) → is_checksummed p ≡ false
+    → (r : Option (Bor PackageData)) → Found Place ps p r → Against (referred_packages vs) p r
 against-place {vs} {archs} {ps} v p bare None none =
-    ap (λ b. cond b (is_vouched Version (packages_at vs) p && not (is_vouched Archive (packages_at vs) p)) (is_vouched Place (packages_at vs) p)) bare
+    ap (λ b. cond b (is_vouched Version (referred_packages vs) p && not (is_vouched Archive (referred_packages vs) p)) (is_vouched Place (referred_packages vs) p)) bare
     ∙ vouched-in Place v ps v.places p ∙ none
 against-place {vs} {archs} {ps} v p bare (Some o) found = (
-  ap (λ b. cond b (is_vouched Version (packages_at vs) p && not (is_vouched Archive (packages_at vs) p)) (is_vouched Place (packages_at vs) p)) bare
-      ∙ vouched-in Place v ps v.places p ∙ any-there (is_alike Place p) (packages_at ps) o.now found.0 found.1,
+  ap (λ b. cond b (is_vouched Version (referred_packages vs) p && not (is_vouched Archive (referred_packages vs) p)) (is_vouched Place (referred_packages vs) p)) bare
+      ∙ vouched-in Place v ps v.places p ∙ any-there (is_alike Place p) (referred_packages ps) o.now found.0 found.1,
   founded v ps v.places o.now p found.0 (place-version p o.now found.1),
   known-in vs ps v.places o.now found.0,
 )
 
 -- with a checksum that an old package has
-pub against-archive : {vs archs ps : List (Bor PackageData)} → AreVouchers vs archs ps → (p : PackageData) → has_checksum p ≡ true
-    → (o : PackageData) → Contains (packages_at archs) o → is_alike Archive p o ≡ true → is_suspect (packages_at vs) p ≡ false
+pub against-archive : {vs archs ps : List (Bor PackageData)} → AreVouchers vs archs ps → (p : PackageData) → is_checksummed p ≡ true
+    → (o : PackageData) → Contains (referred_packages archs) o → is_alike Archive p o ≡ true → is_suspect (referred_packages vs) p ≡ false
 against-archive {vs} {archs} {ps} v p has o there like =
-    ap (λ b. cond b (is_vouched Version (packages_at vs) p && not (is_vouched Archive (packages_at vs) p)) (is_vouched Place (packages_at vs) p)) has
-    ∙ ap (λ b. is_vouched Version (packages_at vs) p && not b) (vouched-in Archive v archs v.archives p ∙ any-there (is_alike Archive p) (packages_at archs) o there like)
-    ∙ and-false (is_vouched Version (packages_at vs) p)
+    ap (λ b. cond b (is_vouched Version (referred_packages vs) p && not (is_vouched Archive (referred_packages vs) p)) (is_vouched Place (referred_packages vs) p)) has
+    ∙ ap (λ b. is_vouched Version (referred_packages vs) p && not b) (vouched-in Archive v archs v.archives p ∙ any-there (is_alike Archive p) (referred_packages archs) o there like)
+    ∙ and-false (is_vouched Version (referred_packages vs) p)
   where
     and-false : (b : Bool) → (b && false) ≡ false
     and-false true = refl
     and-false false = refl
 
 -- with a checksum that no old package has
-pub against-version : {vs archs ps : List (Bor PackageData)} → AreVouchers vs archs ps → (p : PackageData) → has_checksum p ≡ true
-    → list_any (is_alike Archive p) (packages_at archs) ≡ false
-    → (r : Option (Bor PackageData)) → Found Version vs p r → Against (packages_at vs) p r
+pub against-version : {vs archs ps : List (Bor PackageData)} → AreVouchers vs archs ps → (p : PackageData) → is_checksummed p ≡ true
+    → list_any (is_alike Archive p) (referred_packages archs) ≡ false
+    → (r : Option (Bor PackageData)) → Found Version vs p r → Against (referred_packages vs) p r
 against-version {vs} {archs} {ps} v p has none r found = by r found
   where
-    known : is_suspect (packages_at vs) p ≡ is_vouched Version (packages_at vs) p
+    known : is_suspect (referred_packages vs) p ≡ is_vouched Version (referred_packages vs) p
     known =
-        ap (λ b. cond b (is_vouched Version (packages_at vs) p && not (is_vouched Archive (packages_at vs) p)) (is_vouched Place (packages_at vs) p)) has
-        ∙ ap (λ b. is_vouched Version (packages_at vs) p && not b) (vouched-in Archive v archs v.archives p ∙ none)
-        ∙ and-true (is_vouched Version (packages_at vs) p)
+        ap (λ b. cond b (is_vouched Version (referred_packages vs) p && not (is_vouched Archive (referred_packages vs) p)) (is_vouched Place (referred_packages vs) p)) has
+        ∙ ap (λ b. is_vouched Version (referred_packages vs) p && not b) (vouched-in Archive v archs v.archives p ∙ none)
+        ∙ and-true (is_vouched Version (referred_packages vs) p)
       where
         and-true : (b : Bool) → (b && true) ≡ b
         and-true true = refl
         and-true false = refl
 
-    by : (r : Option (Bor PackageData)) → Found Version vs p r → Against (packages_at vs) p r
+    by : (r : Option (Bor PackageData)) → Found Version vs p r → Against (referred_packages vs) p r
     by None e = known ∙ vouched-in Version v vs (IsPermutation-refl vs) p ∙ e
     by (Some o) f = (
-      known ∙ vouched-in Version v vs (IsPermutation-refl vs) p ∙ any-there (is_alike Version p) (packages_at vs) o.now f.0 f.1,
+      known ∙ vouched-in Version v vs (IsPermutation-refl vs) p ∙ any-there (is_alike Version p) (referred_packages vs) o.now f.0 f.1,
       founded v vs (IsPermutation-refl vs) o.now p f.0 f.1,
       f.0,
     )
@@ -213,7 +210,7 @@ against-version {vs} {archs} {ps} v p has none r found = by r found
 pub altered-founded : (old new : PackageData) → is_altered old new ≡ true → is_alike Name old new ≡ true → IsFounded old new
 altered-founded old new altered name =
     let version = and-first (have_one_version old new) _ altered in (
-      and-first (has_checksum old) _ (and-second (have_one_version old new) _ altered),
+      and-first (is_checksummed old) _ (and-second (have_one_version old new) _ altered),
       eq-both (text_cmp old.name new.name) (version_cmp old.version new.version) name version,
     )
   where
@@ -231,16 +228,16 @@ filtered {X} q (x ∷ xs) = go (q x) refl (filtered q xs)
     go true hit rest = All-cons (λ y. q y ≡ true) x (filter q xs) hit rest
     go false miss rest = rest
 
-unmapped : (P : PackageData → Type 0) (bs : List (Bor PackageData)) → All P (packages_at bs) → All (λ (b : Bor PackageData). P b.now) bs
+unmapped : (P : PackageData → Type 0) (bs : List (Bor PackageData)) → All P (referred_packages bs) → All (λ (b : Bor PackageData). P b.now) bs
 unmapped P [] all = All-nil (λ (b : Bor PackageData). P b.now)
-unmapped P (b ∷ bs) all = All-cons (λ (b : Bor PackageData). P b.now) b bs (All-head P b.now (packages_at bs) all) (unmapped P bs (All-tail P b.now (packages_at bs) all))
+unmapped P (b ∷ bs) all = All-cons (λ (b : Bor PackageData). P b.now) b bs (All-head P b.now (referred_packages bs) all) (unmapped P bs (All-tail P b.now (referred_packages bs) all))
 
-pub vouchers-made : (olds : List PackageData) (all vs archs ps : List (Bor PackageData)) → packages_at all ≡ filter has_checksum olds
+pub vouchers-made : (olds : List PackageData) (all vs archs ps : List (Bor PackageData)) → referred_packages all ≡ filter is_checksummed olds
     → IsPermutation all vs → IsPermutation all archs → IsPermutation all ps
     → IsSorted (cmp_at Version) vs → IsSorted (cmp_at Archive) archs → IsSorted (cmp_at Place) ps → AreVouchers vs archs ps
 vouchers-made olds all vs archs ps made pv pa pp sv sa sp = record {
-  checked = All-permutation (λ (b : Bor PackageData). has_checksum b.now ≡ true) all vs pv
-      (unmapped (λ q. has_checksum q ≡ true) all (subst (λ zs. All (λ q. has_checksum q ≡ true) zs) (sym made) (filtered has_checksum olds)));
+  checked = All-permutation (λ (b : Bor PackageData). is_checksummed b.now ≡ true) all vs pv
+      (unmapped (λ q. is_checksummed q ≡ true) all (subst (λ zs. All (λ q. is_checksummed q ≡ true) zs) (sym made) (filtered is_checksummed olds)));
   archives = IsPermutation-trans vs all archs (IsPermutation-sym all vs pv) pa;
   places = IsPermutation-trans vs all ps (IsPermutation-sym all vs pv) pp;
   versions_sorted = sv;
@@ -248,9 +245,9 @@ vouchers-made olds all vs archs ps made pv pa pp sv sa sp = record {
   places_sorted = sp;
 }
 
-pub vouchers-of : (olds : List PackageData) (all vs : List (Bor PackageData)) → packages_at all ≡ filter has_checksum olds → IsPermutation all vs
-    → IsPermutation (filter has_checksum olds) (packages_at vs)
-vouchers-of olds all vs made perm = subst (λ zs. IsPermutation zs (packages_at vs)) made (IsPermutation-map (λ (b : Bor PackageData). b.now) all vs perm)
+pub vouchers-of : (olds : List PackageData) (all vs : List (Bor PackageData)) → referred_packages all ≡ filter is_checksummed olds → IsPermutation all vs
+    → IsPermutation (filter is_checksummed olds) (referred_packages vs)
+vouchers-of olds all vs made perm = subst (λ zs. IsPermutation zs (referred_packages vs)) made (IsPermutation-map (λ (b : Bor PackageData). b.now) all vs perm)
 
 -- ---- one more
 
@@ -280,23 +277,23 @@ so-hit known told all all' o n so is h there = rw is record {
     at p = (p.0.now, p.1.now)
 
 pub added-hit : (known : List PackageData) (items : List (Bor PackageData)) (i : ℕ) (x o : Bor PackageData) (all all' : List (Bor PackageData × Bor PackageData))
-    → i < length items → x ≡ get_or items i x → AlarmsSo known (filter (is_suspect known) (packages_at (take i items))) all
+    → i < length items → x ≡ get_or items i x → AlarmsSo known (filter (is_suspect known) (referred_packages (take i items))) all
     → all' ≡ all ++ (o, x) ∷ [] → is_suspect known x.now ≡ true → IsFounded o.now x.now → Contains known o.now
-    → AlarmsSo known (filter (is_suspect known) (packages_at (take (i + 1) items))) all'
+    → AlarmsSo known (filter (is_suspect known) (referred_packages (take (i + 1) items))) all'
 added-hit known items i x o all all' lt at so is hit h there =
     subst (λ zs. AlarmsSo known zs all')
-    (sym (ap (λ zs. filter (is_suspect known) (packages_at zs)) (one-more items i x lt at) ∙ ap (filter (is_suspect known)) (map-append (λ (b : Bor PackageData). b.now) (take i items) (x ∷ []))
-    ∙ filter-hit (is_suspect known) (packages_at (take i items)) x.now hit))
+    (sym (ap (λ zs. filter (is_suspect known) (referred_packages zs)) (one-more items i x lt at) ∙ ap (filter (is_suspect known)) (map-append (λ (b : Bor PackageData). b.now) (take i items) (x ∷ []))
+    ∙ filter-hit (is_suspect known) (referred_packages (take i items)) x.now hit))
     (so-hit known _ all all' o x so is h there)
 
 pub added-miss : (known : List PackageData) (items : List (Bor PackageData)) (i : ℕ) (x : Bor PackageData) (all : List (Bor PackageData × Bor PackageData))
-    → i < length items → x ≡ get_or items i x → AlarmsSo known (filter (is_suspect known) (packages_at (take i items))) all
+    → i < length items → x ≡ get_or items i x → AlarmsSo known (filter (is_suspect known) (referred_packages (take i items))) all
     → is_suspect known x.now ≡ false
-    → AlarmsSo known (filter (is_suspect known) (packages_at (take (i + 1) items))) all
+    → AlarmsSo known (filter (is_suspect known) (referred_packages (take (i + 1) items))) all
 added-miss known items i x all lt at so miss =
     subst (λ zs. AlarmsSo known zs all)
-    (sym (ap (λ zs. filter (is_suspect known) (packages_at zs)) (one-more items i x lt at) ∙ ap (filter (is_suspect known)) (map-append (λ (b : Bor PackageData). b.now) (take i items) (x ∷ []))
-    ∙ filter-miss (is_suspect known) (packages_at (take i items)) x.now miss))
+    (sym (ap (λ zs. filter (is_suspect known) (referred_packages zs)) (one-more items i x lt at) ∙ ap (filter (is_suspect known)) (map-append (λ (b : Bor PackageData). b.now) (take i items) (x ∷ []))
+    ∙ filter-miss (is_suspect known) (referred_packages (take i items)) x.now miss))
     so
 
 pub pairs-hit : (known : List PackageData) (items : List (Bor PackageData × Bor PackageData)) (i : ℕ) (x : Bor PackageData × Bor PackageData) (o : Bor PackageData)

@@ -11,26 +11,26 @@ use Rattle.cargo_lock_diff.specs.Matching.{seconds}
 use Rattle.cargo_lock_diff.specs.Same.{have_one_checksum, have_one_place, have_one_version}
 
 -- the package has a checksum
-abbrev pub has_checksum : PackageData → Bool
-has_checksum p = is_some p.checksum
+abbrev pub is_checksummed : PackageData → Bool
+is_checksummed p = is_some p.checksum
 
 -- some of these packages has a checksum, and is like p by this likeness
 abbrev pub is_vouched : Likeness → List PackageData → PackageData → Bool
-is_vouched likeness olds p = list_any (λ o. has_checksum o && is_alike likeness p o) olds
+is_vouched likeness olds p = list_any (λ o. is_checksummed o && is_alike likeness p o) olds
 
 -- A package with a checksum is suspect if an old one of its name and version has a checksum, and
 -- none of those has this one. A package without a checksum is suspect if an old one of its name,
 -- version and place has one.
 abbrev pub is_suspect : List PackageData → PackageData → Bool
 is_suspect olds p =
-    if has_checksum p then is_vouched Version olds p && not (is_vouched Archive olds p)
+    if is_checksummed p then is_vouched Version olds p && not (is_vouched Archive olds p)
     else is_vouched Place olds p
 
 -- the packages of a pair have the same version, the old one has a checksum, and the new one has a
 -- different one, or none at the same place
 abbrev pub is_altered : PackageData → PackageData → Bool
-is_altered old new = have_one_version old new && (has_checksum old
-    && (if has_checksum new then not (have_one_checksum old new) else have_one_place old new))
+is_altered old new = have_one_version old new && (is_checksummed old
+    && (if is_checksummed new then not (have_one_checksum old new) else have_one_place old new))
 
 -- a pair is an alarm if its packages are altered, or its new one is suspect
 abbrev pub is_alarm : List PackageData → PackageData × PackageData → Bool
@@ -38,7 +38,7 @@ is_alarm olds p = is_altered p.0 p.1 || is_suspect olds p.1
 
 -- the old package has a checksum, and the new one's name and version
 abbrev pub IsFounded : PackageData → PackageData → Type 0
-IsFounded old new = (has_checksum old ≡ true) × (is_alike Version old new ≡ true)
+IsFounded old new = (is_checksummed old ≡ true) × (is_alike Version old new ≡ true)
 
 -- The alarms: each new package of a pair that is an alarm and each added one that is suspect, in
 -- order, with one of the old packages, of its name and version, that has a checksum. If the

@@ -3,18 +3,11 @@ use Rattle.std.specs.Prelude.{◌≡◌, ◌↔◌, ℕ, ◌&&◌, Bool, not, Li
 use Rattle.std.specs.Prelude.{Option, Some, None, is_some, true, false, if◌then◌else◌}
 use Rattle.std.specs.Prelude.{IsPermutation}
 use Rattle.std.specs.List.{flat_map}
-use Rattle.std.specs.declared.cmp.Ordering.{Ordering}
-use Rattle.std.specs.Ordering.{is_gt, nat_cmp, on, then_cmp}
+use Rattle.std.specs.Ordering.{is_gt}
 use Rattle.std.specs.Str.Lines.{lines}
-use Rattle.semver.specs.Identifiers.{parts_text}
-use Rattle.semver.specs.Order.{pre_cmp}
-use Rattle.semver.specs.Parse.{Parts}
 use Rattle.cargo_lock_parts.specs.Ascii.{newline}
-use Rattle.cargo_lock_parts.specs.Checksum.{digest_text}
 use Rattle.cargo_lock_parts.specs.Identity.{Identity, PackageData}
 use Rattle.cargo_lock_parts.specs.Source.{Source, is_registry}
-use Rattle.cargo_lock_parts.specs.SourceShown.{is_default_registry}
-use Rattle.cargo_lock_parts.specs.SourceText.{text_of}
 use Rattle.cargo_lock_diff.specs.declared.change.Aspect.{Aspect}
 use Rattle.cargo_lock_diff.specs.declared.change.Aspect.TheVariants as aspect
 use Rattle.cargo_lock_diff.specs.declared.change.Change.{Change}
@@ -23,8 +16,10 @@ use Rattle.cargo_lock_diff.specs.Dependencies.{have_other_dependencies, only_in}
 use Rattle.cargo_lock_diff.specs.Difference.{DifferenceData, IsDifference, dependencies_at}
 use Rattle.cargo_lock_diff.specs.Keys.{whole_key}
 use Rattle.cargo_lock_diff.specs.Same.{have_one_place, have_one_replacement, have_one_version}
-use Rattle.shown.specs.Shown.{shown}
-use Rattle.shown.specs.declared.form.Form.TheVariants.{Plain}
+use Rattle.cargo_lock_order.specs.Precedence.{precedence_cmp}
+use Rattle.cargo_lock_display.specs.Line.{checksum_text, dependency_shown, named_text, package_text}
+use Rattle.cargo_lock_display.specs.Line.{replacement_shown, source_after_version, source_alone}
+use Rattle.cargo_lock_display.specs.Line.{version_shown}
 
 -- One thing that differs. An alarm is of a new package and of an old one of its name and version
 -- that has a checksum. A pair of the same version has another place, a checksum that it did not
@@ -108,65 +103,20 @@ all_changes_of dependencies d = if dependencies then changes_of d ++ dependency_
 
 -- ---- lines
 
--- the source in round brackets after a version: `(path)` if there is none, and nothing for the
--- registry of crates.io
-abbrev pub source_behind : Option Source → List ℕ
-source_behind None = codes " (path)"
-source_behind (Some source) = if is_default_registry source then []
-    else codes " (" ++ (shown Plain (text_of true source) ++ codes ")")
-
--- the source by itself: `(path)` if there is none, and `crates.io` for its registry
-abbrev pub source_alone : Option Source → List ℕ
-source_alone None = codes "(path)"
-source_alone (Some source) = if is_default_registry source then codes "crates.io"
-    else shown Plain (text_of true source)
-
 -- both sources
 abbrev pub sources_text : PackageData → PackageData → List ℕ
 sources_text old new = codes ": " ++ (source_alone old.source
     ++ (codes " -> " ++ source_alone new.source))
-
--- the text of a checksum, or `none`
-abbrev pub checksum_text : Option (List ℕ) → List ℕ
-checksum_text None = codes "none"
-checksum_text (Some digest) = shown Plain (digest_text digest)
 
 -- both checksums
 abbrev pub checksums_text : PackageData → PackageData → List ℕ
 checksums_text old new = codes ": checksum " ++ (checksum_text old.checksum
     ++ (codes " -> " ++ checksum_text new.checksum))
 
--- a version as it is shown
-abbrev pub version_shown : Parts → List ℕ
-version_shown version = shown Plain (parts_text version)
-
--- the name and the version
-abbrev pub named_text : PackageData → List ℕ
-named_text p = shown Plain p.name ++ (codes " " ++ version_shown p.version)
-
--- the name, the version and the source after them
-abbrev pub package_text : PackageData → List ℕ
-package_text p = named_text p ++ source_behind p.source
-
--- a dependency: its name, its version and its source after them
-abbrev pub dependency_shown : Identity → List ℕ
-dependency_shown d = shown Plain d.name
-    ++ (codes " " ++ (version_shown d.version ++ source_behind d.source))
-
--- a replacement, or `none`
-abbrev pub replacement_text : Option Identity → List ℕ
-replacement_text None = codes "none"
-replacement_text (Some d) = dependency_shown d
-
 -- for a pair with other versions: both sources if the places differ, or else the source
 abbrev pub updated_sources : PackageData → PackageData → List ℕ
 updated_sources old new =
-    if have_one_place old new then source_behind new.source else sources_text old new
-
--- the precedence of versions: build metadata is ignored
-abbrev pub precedence_cmp : Parts → Parts → Ordering
-precedence_cmp = then_cmp (on (λ v. v.0) nat_cmp) (then_cmp (on (λ v. v.1) nat_cmp)
-    (then_cmp (on (λ v. v.2) nat_cmp) (on (λ v. v.3) pre_cmp)))
+    if have_one_place old new then source_after_version new.source else sources_text old new
 
 -- the new version is less than the old one
 abbrev pub is_downgrade : PackageData → PackageData → Bool
@@ -201,7 +151,7 @@ change_line (Alarm old new) = codes "! " ++ (package_text new ++ checksums_text 
 change_line (Moved old new) = codes "> " ++ (named_text new ++ sources_text old new)
 change_line (Checksum old new) = codes "? " ++ (package_text new ++ checksums_text old new)
 change_line (Replaced old new) = codes "@ " ++ (package_text new ++ (codes ": replacement "
-    ++ (replacement_text old.replace ++ (codes " -> " ++ replacement_text new.replace))))
+    ++ (replacement_shown old.replace ++ (codes " -> " ++ replacement_shown new.replace))))
 change_line (Updated old new) = codes "~ " ++ (named_text old ++ (codes " -> "
     ++ (version_shown new.version ++ (updated_sources old new ++ downgrade_mark old new))))
 change_line (Removed old) = codes "- " ++ package_text old
@@ -216,8 +166,9 @@ changes_text = flat_map (λ change. change_line change ++ newline ∷ [])
 -- ---- laws
 
 -- each change is exactly one line, whatever its names, versions, sources and checksums hold
-abbrev pub EachIsOneLine : Type 0
-EachIsOneLine = (changes : List ChangeData) → lines (changes_text changes) ≡ map change_line changes
+abbrev pub EachChangeIsOneLine : Type 0
+EachChangeIsOneLine = (changes : List ChangeData)
+    → lines (changes_text changes) ≡ map change_line changes
 
 -- no change is reported exactly if the lists have the same whole keys, each as often
 abbrev pub NoneIfPermuted : Type 0

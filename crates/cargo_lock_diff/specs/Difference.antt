@@ -11,12 +11,12 @@ use Rattle.cargo_lock_diff.specs.declared.likeness.Likeness.TheVariants.{Line, P
 use Rattle.cargo_lock_diff.specs.Alarm.{AreAlarms}
 use Rattle.cargo_lock_diff.specs.Keys.{whole_key}
 use Rattle.cargo_lock_diff.specs.Likeness.{is_alike, likeness_cmp}
-use Rattle.cargo_lock_diff.specs.Matching.{AreInOrder, AreMatched, firsts, seconds}
-use Rattle.cargo_lock_diff.specs.Pairing.{ArePairedInTurn, NoneOnBothSides, exchanged}
+use Rattle.cargo_lock_diff.specs.Matching.{AreMatched, ArePairsInOrder, firsts, seconds}
+use Rattle.cargo_lock_diff.specs.Pairing.{ArePairedInTurn, NoneOnBothSides, exchanged_pair}
 
 -- the packages to which the references refer
-abbrev pub packages_at : List (Bor PackageData) → List PackageData
-packages_at = map (λ b. b.now)
+abbrev pub referred_packages : List (Bor PackageData) → List PackageData
+referred_packages = map (λ b. b.now)
 
 -- the pairs of packages to which the pairs of references refer
 abbrev pub referred_pairs : List (Bor PackageData × Bor PackageData) → List (PackageData × PackageData)
@@ -56,7 +56,7 @@ pub record IsPairing (olds news : List PackageData) (kept pairs : List (PackageD
 -- alarms are those of the old packages.
 pub record IsDifference (olds news : List PackageData) (d : DifferenceData) : Type 0 where
   pub paired : IsPairing olds news d.kept d.pairs d.removed d.added
-  pub in_order : AreInOrder olds news d.kept d.removed d.added
+  pub in_order : ArePairsInOrder olds news d.kept d.removed d.added
   pub sorted : IsSorted (on (λ p. p.0) (likeness_cmp Whole)) d.pairs
   pub alarmed : AreAlarms olds d.pairs d.added d.alarms
 
@@ -78,8 +78,8 @@ abbrev pub new_told : DifferenceData → List PackageData
 new_told d = seconds d.pairs ++ d.added
 
 -- how many packages of a list are wholly like a package
-abbrev pub count_of : PackageData → List PackageData → ℕ
-count_of p = count_by (is_alike Whole p)
+abbrev pub count_of_package : PackageData → List PackageData → ℕ
+count_of_package p = count_by (is_alike Whole p)
 
 -- each package is kept, in a pair or left, as often as it was given
 abbrev pub ToldOnce : Type 0
@@ -91,8 +91,9 @@ ToldOnce = (olds news : List PackageData) (d : DifferenceData) → IsDifference 
 -- and as many new ones as the new list has more of it
 abbrev pub ToldByCount : Type 0
 ToldByCount = (olds news : List PackageData) (d : DifferenceData) → IsDifference olds news d
-    → (p : PackageData) → (count_of p (old_told d) ≡ count_of p olds - count_of p news)
-    × (count_of p (new_told d) ≡ count_of p news - count_of p olds)
+    → (p : PackageData) → (count_of_package p (old_told d)
+    ≡ count_of_package p olds - count_of_package p news)
+    × (count_of_package p (new_told d) ≡ count_of_package p news - count_of_package p olds)
 
 -- nothing is reported exactly if the lists have the same whole keys, each as often
 abbrev pub EmptyIfPermuted : Type 0
@@ -115,15 +116,15 @@ OrderDoesNotCount = (olds news olds' news' : List PackageData)
     → IsPermutation (map whole_key olds) (map whole_key olds')
     → IsPermutation (map whole_key news) (map whole_key news')
     → ((a b : PackageData) → count_of_pair a b pairs ≡ count_of_pair a b pairs')
-    × ((p : PackageData) → count_of p removed ≡ count_of p removed')
-    × ((p : PackageData) → count_of p added ≡ count_of p added')
+    × ((p : PackageData) → count_of_package p removed ≡ count_of_package p removed')
+    × ((p : PackageData) → count_of_package p added ≡ count_of_package p added')
 
 -- if the lists are exchanged, the members of all pairs are exchanged, and so are the packages that
 -- are left
 abbrev pub PairingMirrored : Type 0
 PairingMirrored = (olds news : List PackageData) (kept pairs : List (PackageData × PackageData))
     (removed added : List PackageData) → IsPairing olds news kept pairs removed added
-    → IsPairing news olds (map exchanged kept) (map exchanged pairs) added removed
+    → IsPairing news olds (map exchanged_pair kept) (map exchanged_pair pairs) added removed
 
 -- No name, version and place has exactly one removed and exactly one added package. The same holds
 -- for a name and origin, and for a name.

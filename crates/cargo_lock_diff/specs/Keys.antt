@@ -7,8 +7,8 @@ use Rattle.cargo_lock_parts.specs.SourceKey.{Key, key_of}
 use Rattle.cargo_lock_diff.specs.Place.{other_source}
 
 -- the place of a source: none for the registry of crates.io, and otherwise its key
-abbrev pub place_of : Source → Option Key
-place_of s = option_map key_of (other_source s)
+abbrev pub place_of_source : Source → Option Key
+place_of_source s = option_map key_of (other_source s)
 
 -- a name, a version and a place
 pub record PlaceKey : Type 0 where
@@ -18,7 +18,8 @@ pub record PlaceKey : Type 0 where
 
 -- the name, the version and the place of an identity
 abbrev pub place_key : Identity → PlaceKey
-place_key d = record { name = d.name; version = d.version; place = option_map place_of d.source }
+place_key d =
+    record { name = d.name; version = d.version; place = option_map place_of_source d.source }
 
 -- a name, a version and a place, a checksum and a replacement
 pub record WholeKey : Type 0 where

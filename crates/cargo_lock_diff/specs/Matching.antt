@@ -22,7 +22,8 @@ IsSublist (x ∷ xs) (y ∷ ys) = ((x ≡ y) × IsSublist xs ys) ⊎ IsSublist (
 
 -- pairs in the order of their old ones, and the old and the new ones that are left in the order of
 -- their lists
-pub record AreInOrder {X : Type 0} (olds news : List X) (pairs : List (X × X)) (old new : List X)
+pub record ArePairsInOrder {X : Type 0} (olds news : List X) (pairs : List (X × X))
+    (old new : List X)
     : Type 0 where
   pub of_pairs : IsSublist (firsts pairs) olds
   pub of_old : IsSublist old olds

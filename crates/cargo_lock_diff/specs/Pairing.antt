@@ -38,8 +38,8 @@ ArePairedInTurn {X} (same ∷ more) olds news (pairs ∷ ps) old new = (o : List
     × ArePaired same olds news pairs o n × ArePairedInTurn more o n ps old new
 
 -- a pair with its members exchanged
-abbrev pub exchanged : {X : Type 0} → X × X → X × X
-exchanged p = (p.1, p.0)
+abbrev pub exchanged_pair : {X : Type 0} → X × X → X × X
+exchanged_pair p = (p.1, p.0)
 
 -- members that are alike by the first test are alike by the second
 abbrev pub IsFiner : {X : Type 0} → (X → X → Bool) → (X → X → Bool) → Type 0

@@ -6,7 +6,7 @@ use Rattle.cargo_lock_diff.specs.declared.likeness.Likeness.{Likeness}
 use Rattle.cargo_lock_diff.specs.Likeness.{is_alike}
 use Rattle.cargo_lock_diff.specs.Matching.{firsts, seconds}
 use Rattle.cargo_lock_diff.specs.Pairing.{ArePaired, ArePairedInTurn, IsFiner, NoneOnBothSides}
-use Rattle.cargo_lock_diff.specs.Pairing.{StandsOnce, exchanged}
+use Rattle.cargo_lock_diff.specs.Pairing.{StandsOnce, exchanged_pair}
 
 -- an old and a new package that are alike, and like no other package of their lists
 pub record AreOnlyAlike {X : Type 0} (same : X → X → Bool) (olds news : List X)
@@ -38,7 +38,7 @@ MirroredInTurn = (likenesses : List Likeness) (olds news : List PackageData)
     (passes : List (List (PackageData × PackageData))) (old new : List PackageData)
     → ArePairedInTurn (map is_alike likenesses) olds news passes old new
     → ArePairedInTurn (map is_alike likenesses) news olds
-    (map (λ pairs. map exchanged pairs) passes) new old
+    (map (λ pairs. map exchanged_pair pairs) passes) new old
 
 -- After all pairings, no member is left that is the only one alike on both sides, by a likeness
 -- that is finer than all likenesses after it. (If it is not finer, a later pairing can remove one

@@ -3,12 +3,12 @@
 use Rattle.std.specs.Prelude.{Option, Some, None, bytes_eq, codes, if◌then◌else◌}
 use Rattle.std.specs.Option.{option_cmp}
 use Rattle.std.specs.declared.cmp.Ordering.{Ordering}
-use Rattle.std.specs.Ordering.{nat_cmp, on, then_cmp}
+use Rattle.std.specs.Ordering.{on, then_cmp}
 use Rattle.url.specs.Parts.{serialize}
 use Rattle.cargo_lock_parts.specs.Identity.{Identity}
 use Rattle.cargo_lock_parts.specs.IdentityOrder.{by_name_version_source, version_cmp}
 use Rattle.cargo_lock_parts.specs.Source.{Kind, Source, Git, Branch, DefaultBranch}
-use Rattle.cargo_lock_parts.specs.SourceKey.{git_reference_text, kind_number, source_cmp, text_cmp}
+use Rattle.cargo_lock_parts.specs.SourceKey.{kind_cmp, source_cmp, text_cmp}
 use Rattle.cargo_lock_parts.specs.SourceShown.{is_default_registry}
 use Rattle.cargo_lock_diff.specs.declared.place.Sight.{Sight}
 use Rattle.cargo_lock_diff.specs.declared.place.Sight.TheVariants.{AsPlace, AsOrigin, AsNamed}
@@ -26,10 +26,8 @@ named_kind other = other
 
 -- the order by URL, kind and reference, without the commit; the function may replace the kind
 abbrev pub repository_cmp : (Kind → Kind) → Source → Source → Ordering
-repository_cmp seen = then_cmp (then_cmp
-    (on (λ s. serialize s.url) text_cmp)
-    (on (λ s. kind_number (seen s.kind)) nat_cmp))
-    (on (λ s. git_reference_text (seen s.kind)) text_cmp)
+repository_cmp seen =
+    then_cmp (on (λ s. serialize s.url) text_cmp) (on (λ s. seen s.kind) kind_cmp)
 
 -- the order of sources other than crates.io: whole, without the commit, or as dependencies name
 -- them

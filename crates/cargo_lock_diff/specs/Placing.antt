@@ -18,11 +18,11 @@ abbrev pub are_alike : Likeness → Placed → Placed → Bool
 are_alike likeness = eq_by_cmp (placed_cmp likeness)
 
 -- each package is in the list at its place, and no two have the same place
-pub record AreAt (list : List (Bor PackageData)) (placed : List Placed) : Type 0 where
+pub record AreAtPlaces (list : List (Bor PackageData)) (placed : List Placed) : Type 0 where
   pub there : All (λ p. (p.place < length list) × (slice_index_or list p.place p.item ≡ p.item))
       placed
   pub apart : IsDistinct (λ a b. a == b) (map (λ p. p.place) placed)
 
 -- the packages of a pair
-abbrev pub pair_of : Placed × Placed → Bor PackageData × Bor PackageData
-pair_of p = (p.0.item, p.1.item)
+abbrev pub unplaced_pair : Placed × Placed → Bor PackageData × Bor PackageData
+unplaced_pair p = (p.0.item, p.1.item)

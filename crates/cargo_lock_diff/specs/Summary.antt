@@ -17,42 +17,42 @@ is_update downgrade (Updated old new) =
 is_update downgrade other = false
 
 -- the change is of the kind
-abbrev pub is_of : Kind → ChangeData → Bool
-is_of kind.Alarm (Alarm old new) = true
-is_of kind.Alarm other = false
-is_of kind.Source (Moved old new) = true
-is_of kind.Source other = false
-is_of kind.Checksum (Checksum old new) = true
-is_of kind.Checksum other = false
-is_of kind.Replacement (Replaced old new) = true
-is_of kind.Replacement other = false
-is_of kind.Updated change = is_update false change
-is_of kind.Downgraded change = is_update true change
-is_of kind.Removed (Removed old) = true
-is_of kind.Removed other = false
-is_of kind.Added (Added new) = true
-is_of kind.Added other = false
-is_of kind.Dependencies (OtherDependencies old new gone came) = true
-is_of kind.Dependencies other = false
+abbrev pub is_of_kind : Kind → ChangeData → Bool
+is_of_kind kind.Alarm (Alarm old new) = true
+is_of_kind kind.Alarm other = false
+is_of_kind kind.Source (Moved old new) = true
+is_of_kind kind.Source other = false
+is_of_kind kind.Checksum (Checksum old new) = true
+is_of_kind kind.Checksum other = false
+is_of_kind kind.Replacement (Replaced old new) = true
+is_of_kind kind.Replacement other = false
+is_of_kind kind.Updated change = is_update false change
+is_of_kind kind.Downgraded change = is_update true change
+is_of_kind kind.Removed (Removed old) = true
+is_of_kind kind.Removed other = false
+is_of_kind kind.Added (Added new) = true
+is_of_kind kind.Added other = false
+is_of_kind kind.Dependencies (OtherDependencies old new gone came) = true
+is_of_kind kind.Dependencies other = false
 
 -- how many changes are of each kind
 abbrev pub summary_of : List ChangeData → Summary
 summary_of changes = record {
-  alarms = count_by (is_of kind.Alarm) changes;
-  sources = count_by (is_of kind.Source) changes;
-  checksums = count_by (is_of kind.Checksum) changes;
-  replacements = count_by (is_of kind.Replacement) changes;
-  updated = count_by (is_of kind.Updated) changes;
-  downgraded = count_by (is_of kind.Downgraded) changes;
-  removed = count_by (is_of kind.Removed) changes;
-  added = count_by (is_of kind.Added) changes;
-  dependencies = count_by (is_of kind.Dependencies) changes;
+  alarms = count_by (is_of_kind kind.Alarm) changes;
+  sources = count_by (is_of_kind kind.Source) changes;
+  checksums = count_by (is_of_kind kind.Checksum) changes;
+  replacements = count_by (is_of_kind kind.Replacement) changes;
+  updated = count_by (is_of_kind kind.Updated) changes;
+  downgraded = count_by (is_of_kind kind.Downgraded) changes;
+  removed = count_by (is_of_kind kind.Removed) changes;
+  added = count_by (is_of_kind kind.Added) changes;
+  dependencies = count_by (is_of_kind kind.Dependencies) changes;
 }
 
 -- a count with its noun in the singular or the plural: nothing for zero, and a comma first if a
 -- count precedes it
-abbrev pub counted : Bool → ℕ → List ℕ → List ℕ → List ℕ
-counted behind n one more = if n == 0 then [] else (if behind then codes ", " else [])
+abbrev pub counted_behind : Bool → ℕ → List ℕ → List ℕ → List ℕ
+counted_behind behind n one more = if n == 0 then [] else (if behind then codes ", " else [])
     ++ (decimal n ++ (codes " " ++ (if n == 1 then one else more)))
 
 -- there is a count before, or this one is not zero
@@ -70,16 +70,16 @@ summary_text s =
     let behind_6 = is_behind behind_5 s.checksums in
     let behind_7 = is_behind behind_6 s.replacements in
     let behind_8 = is_behind behind_7 s.dependencies in
-    counted false s.updated (codes "updated") (codes "updated")
-    ++ (counted behind_1 s.downgraded (codes "downgraded") (codes "downgraded")
-    ++ (counted behind_2 s.removed (codes "removed") (codes "removed")
-    ++ (counted behind_3 s.added (codes "added") (codes "added")
-    ++ (counted behind_4 s.sources (codes "moved") (codes "moved")
-    ++ (counted behind_5 s.checksums (codes "new checksum") (codes "new checksums")
-    ++ (counted behind_6 s.replacements (codes "replacement") (codes "replacements")
-    ++ (counted behind_7 s.dependencies
+    counted_behind false s.updated (codes "updated") (codes "updated")
+    ++ (counted_behind behind_1 s.downgraded (codes "downgraded") (codes "downgraded")
+    ++ (counted_behind behind_2 s.removed (codes "removed") (codes "removed")
+    ++ (counted_behind behind_3 s.added (codes "added") (codes "added")
+    ++ (counted_behind behind_4 s.sources (codes "moved") (codes "moved")
+    ++ (counted_behind behind_5 s.checksums (codes "new checksum") (codes "new checksums")
+    ++ (counted_behind behind_6 s.replacements (codes "replacement") (codes "replacements")
+    ++ (counted_behind behind_7 s.dependencies
     (codes "with other dependencies") (codes "with other dependencies")
-    ++ counted behind_8 s.alarms (codes "alarm") (codes "alarms"))))))))
+    ++ counted_behind behind_8 s.alarms (codes "alarm") (codes "alarms"))))))))
 
 -- ---- law
 

@@ -3,10 +3,10 @@
 ghost use Rattle.std.specs.Prelude.{◌≡◌, All, IfOk, IsPermutation, IsSorted, MatchOption};
 ghost use Rattle.std.specs.Prelude.{false, filter, true};
 ghost use Rattle.std.specs.List.{Contains, list_any};
-ghost use Rattle.cargo_lock_diff.specs.Alarm.{AreAlarms, IsFounded, has_checksum, is_alarm};
-ghost use Rattle.cargo_lock_diff.specs.Alarm.{is_altered, is_suspect};
+ghost use Rattle.cargo_lock_diff.specs.Alarm.{AreAlarms, IsFounded, is_alarm, is_altered};
+ghost use Rattle.cargo_lock_diff.specs.Alarm.{is_checksummed, is_suspect};
 ghost use Rattle.cargo_lock_diff.specs.Alarm as spec;
-ghost use Rattle.cargo_lock_diff.specs.Difference.{packages_at, referred_pairs};
+ghost use Rattle.cargo_lock_diff.specs.Difference.{referred_packages, referred_pairs};
 ghost use Rattle.cargo_lock_diff.specs.Likeness.{is_alike, likeness_cmp};
 ghost use Rattle.cargo_lock_diff.specs.Matching.{seconds};
 ghost use Rattle.cargo_lock_diff.specs.Vouchers.{cmp_at};
@@ -29,12 +29,12 @@ pub(crate) struct Vouchers<'a> {
 impl<'a> Model for Vouchers<'a> {
     ghost use Rattle.std.specs.Prelude.{List};
     ghost use Rattle.cargo_lock_parts.specs.Identity.{PackageData};
-    ghost use Rattle.cargo_lock_diff.specs.Difference.{packages_at};
+    ghost use Rattle.cargo_lock_diff.specs.Difference.{referred_packages};
     ghost use Rattle.cargo_lock_diff.specs.Vouchers.{AreVouchers};
 
     ghost Value = { List PackageData };
 
-    ghost view = { λ v. packages_at v.by_version.items };
+    ghost view = { λ v. referred_packages v.by_version.items };
 
     ghost invariant = { λ v. AreVouchers v.by_version.items v.by_archive.items v.by_place.items };
 }
@@ -43,7 +43,7 @@ impl<'a> Vouchers<'a> {
     // Those of these packages that have a checksum.
     pub(crate) fn of(alloc: Global, olds: &Vec<&'a Package>) -> Result<Vouchers<'a>, AllocError>
         ensures { IfOk result (λ v. IsPermutation
-            (filter has_checksum (packages_at olds.now.items)) v) }
+            (filter is_checksummed (referred_packages olds.now.items)) v) }
     {
         let all = with_checksum(alloc, olds)?;
         let by_version = sorted(alloc, Likeness::Version, &all)?;
@@ -78,7 +78,7 @@ impl<'a> Vouchers<'a> {
             (λ o. (is_alarm self.now (old.now, new.now) ≡ true)
             × (is_alike Likeness.Name old.now new.now ≡ true → IsFounded o.now new.now)
             × (is_altered old.now new.now ≡ true → o.now ≡ old.now)
-            × ((has_checksum old.now ≡ true → Contains self.now old.now)
+            × ((is_checksummed old.now ≡ true → Contains self.now old.now)
             → Contains self.now o.now)) }
     {
         if is_altered(old, new) {
@@ -95,7 +95,8 @@ fn with_checksum<'a>(
     packages: &Vec<&'a Package>,
 ) -> Result<Vec<&'a Package>, AllocError>
     ensures { IfOk result
-        (λ all. packages_at all.items ≡ filter has_checksum (packages_at packages.now.items)) }
+        (λ all. referred_packages all.items
+        ≡ filter is_checksummed (referred_packages packages.now.items)) }
 {
     let mut all = Vec::new(alloc);
     for package in packages {
@@ -125,8 +126,8 @@ fn sorted<'a>(
 fn find<'a>(likeness: Likeness, sorted: &Vec<&'a Package>, one: &Package) -> Option<&'a Package>
     requires { IsSorted (cmp_at likeness) sorted.now.items }
     ensures { MatchOption result
-        (list_any (is_alike likeness one.now) (packages_at sorted.now.items) ≡ false)
-        (λ found. Contains (packages_at sorted.now.items) found.now
+        (list_any (is_alike likeness one.now) (referred_packages sorted.now.items) ≡ false)
+        (λ found. Contains (referred_packages sorted.now.items) found.now
         × (is_alike likeness one.now found.now ≡ true)) }
 {
     match sorted.binary_search_by(|other| likeness.compare(other, one)) {
@@ -158,10 +159,11 @@ pub(crate) fn alarms<'a>(
     added: &Vec<&'a Package>,
 ) -> Result<Vec<(&'a Package, &'a Package)>, AllocError>
     requires named { All (λ p. is_alike Likeness.Name p.0 p.1 ≡ true) (referred_pairs pairs.now.items) }
-    requires vouched { All (λ p. has_checksum p.0 ≡ true → Contains vouchers.now p.0)
+    requires vouched { All (λ p. is_checksummed p.0 ≡ true → Contains vouchers.now p.0)
         (referred_pairs pairs.now.items) }
     ensures { IfOk result (λ all. AreAlarms vouchers.now
-        (referred_pairs pairs.now.items) (packages_at added.now.items) (referred_pairs all.items)) }
+        (referred_pairs pairs.now.items) (referred_packages added.now.items)
+        (referred_pairs all.items)) }
 {
     let mut all = alarms_of_pairs(alloc, vouchers, pairs)?;
     let others = alarms_of_added(alloc, vouchers, added)?;
@@ -175,7 +177,7 @@ fn alarms_of_pairs<'a>(
     pairs: &Vec<(&'a Package, &'a Package)>,
 ) -> Result<Vec<(&'a Package, &'a Package)>, AllocError>
     requires named { All (λ p. is_alike Likeness.Name p.0 p.1 ≡ true) (referred_pairs pairs.now.items) }
-    requires vouched { All (λ p. has_checksum p.0 ≡ true → Contains vouchers.now p.0)
+    requires vouched { All (λ p. is_checksummed p.0 ≡ true → Contains vouchers.now p.0)
         (referred_pairs pairs.now.items) }
     ensures founded { IfOk result (λ all. All (λ a. IsFounded a.0 a.1) (referred_pairs all.items)) }
     ensures among { IfOk result
@@ -204,7 +206,7 @@ fn alarms_of_added<'a>(
     ensures among { IfOk result
         (λ all. All (λ a. Contains vouchers.now a.0) (referred_pairs all.items)) }
     ensures told { IfOk result (λ all. seconds (referred_pairs all.items)
-        ≡ filter (is_suspect vouchers.now) (packages_at added.now.items)) }
+        ≡ filter (is_suspect vouchers.now) (referred_packages added.now.items)) }
 {
     let mut all = Vec::new(alloc);
     for new in added {

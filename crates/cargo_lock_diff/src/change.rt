@@ -4,17 +4,15 @@ ghost use Rattle.std.specs.Prelude.{◌≡◌, [], ◌∷◌, ◌++◌, IfOk, On
 ghost use Rattle.cargo_lock_diff.specs.Change.{Added, Alarm, Removed, change_in, change_of};
 ghost use Rattle.cargo_lock_diff.specs.Change.{changes_in, differs_in};
 ghost use Rattle.cargo_lock_diff.specs.Change as spec;
-ghost use Rattle.cargo_lock_diff.specs.Difference.{packages_at, referred_pairs};
+ghost use Rattle.cargo_lock_diff.specs.Difference.{referred_packages, referred_pairs};
 
 use crate::dependencies::Targets;
-use crate::parts::{
-    ChecksumMark, Checksums, DowngradeMark, Named, PackageText, ReplacementText, Signed, Sources,
-    UpdatedSources,
-};
+use crate::parts::{ChecksumMark, Checksums, DowngradeMark, Signed, Sources, UpdatedSources};
 use crate::same::{have_one_place, have_one_replacement, have_one_version};
+use cargo_lock_display::{NameVersion, PackageText, ReplacementText};
 use cargo_lock_parts::dependency::Dependency;
 use cargo_lock_parts::package::Package;
-use shown::Shown;
+use printing::Shown;
 use std::alloc::{AllocError, Global};
 use std::fmt;
 
@@ -75,7 +73,7 @@ impl fmt::Display for Change<'_> {
                 write!(f, "! {package}{checksums}")
             }
             Change::Moved(old, new) => {
-                let package = Named(new);
+                let package = NameVersion(new);
                 let sources = Sources(old, new);
                 write!(f, "> {package}{sources}")
             }
@@ -91,7 +89,7 @@ impl fmt::Display for Change<'_> {
                 write!(f, "@ {package}: replacement {from} -> {to}")
             }
             Change::Updated(old, new) => {
-                let package = Named(old);
+                let package = NameVersion(old);
                 let version = Shown(&new.version);
                 let sources = UpdatedSources(old, new);
                 let mark = DowngradeMark(old, new);
@@ -189,7 +187,7 @@ pub(crate) fn add_removed<'a>(
     packages: &Vec<&'a Package>,
 ) -> Result<(), AllocError>
     ensures { OnOk result (map change_of all.new.items
-        ≡ map change_of all.old.items ++ map Removed (packages_at packages.now.items)) }
+        ≡ map change_of all.old.items ++ map Removed (referred_packages packages.now.items)) }
 {
     for package in packages {
         all.push(Change::Removed(package))?;
@@ -203,7 +201,7 @@ pub(crate) fn add_added<'a>(
     packages: &Vec<&'a Package>,
 ) -> Result<(), AllocError>
     ensures { OnOk result (map change_of all.new.items
-        ≡ map change_of all.old.items ++ map Added (packages_at packages.now.items)) }
+        ≡ map change_of all.old.items ++ map Added (referred_packages packages.now.items)) }
 {
     for package in packages {
         all.push(Change::Added(package))?;

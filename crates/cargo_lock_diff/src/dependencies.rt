@@ -6,7 +6,7 @@ ghost use Rattle.std.specs.List.Sorted.{IsStrictlySortedBy};
 ghost use Rattle.cargo_lock_parts.specs.Identity.{identity_of};
 ghost use Rattle.cargo_lock_diff.specs.Dependencies.{is_carried, is_met, is_target, only_in};
 ghost use Rattle.cargo_lock_diff.specs.Difference.{dependencies_at, referred_pairs};
-ghost use Rattle.cargo_lock_diff.specs.Pairing.{exchanged};
+ghost use Rattle.cargo_lock_diff.specs.Pairing.{exchanged_pair};
 ghost use Rattle.cargo_lock_diff.specs.Place.{target_cmp};
 ghost use Rattle.cargo_lock_diff.specs.Targets.{dependencies_cmp, pairs_cmp};
 
@@ -213,7 +213,8 @@ fn exchanged_pairs<'a>(
     alloc: Global,
     pairs: &Vec<(&'a Package, &'a Package)>,
 ) -> Result<Vec<(&'a Package, &'a Package)>, AllocError>
-    ensures { IfOk result (λ all. referred_pairs all.items ≡ map exchanged (referred_pairs pairs.now.items)) }
+    ensures { IfOk result (λ all. referred_pairs all.items
+        ≡ map exchanged_pair (referred_pairs pairs.now.items)) }
 {
     let mut all = Vec::with_capacity(alloc, pairs.len())?;
     for pair in pairs {

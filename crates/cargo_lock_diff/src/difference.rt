@@ -1,7 +1,7 @@
 //! The difference of two lists of packages.
 
 ghost use Rattle.std.specs.Prelude.{◌≡◌, ◌++◌, IfOk, map};
-ghost use Rattle.cargo_lock_diff.specs.Difference.{IsDifference, packages_at};
+ghost use Rattle.cargo_lock_diff.specs.Difference.{IsDifference, referred_packages};
 
 use crate::alarm::{Vouchers, alarms};
 use crate::change::{self, Aspect, Change};
@@ -51,15 +51,16 @@ pub struct Difference<'a> {
 }
 
 impl<'a> Model for Difference<'a> {
-    ghost use Rattle.cargo_lock_diff.specs.Difference.{DifferenceData, packages_at, referred_pairs};
+    ghost use Rattle.cargo_lock_diff.specs.Difference.{DifferenceData, referred_packages};
+    ghost use Rattle.cargo_lock_diff.specs.Difference.{referred_pairs};
 
     ghost Value = { DifferenceData };
 
     ghost view = { λ d. record {
       kept = referred_pairs d.kept.items;
       pairs = referred_pairs d.pairs.items;
-      removed = packages_at d.removed.items;
-      added = packages_at d.added.items;
+      removed = referred_packages d.removed.items;
+      added = referred_packages d.added.items;
       alarms = referred_pairs d.alarms.items;
     } };
 }
@@ -170,7 +171,7 @@ fn joined<'a>(one: Vec<Change<'a>>, other: Vec<Change<'a>>) -> Result<Vec<Change
 
 // References to the packages, in order.
 fn references_to<'a>(alloc: Global, packages: &'a [Package]) -> Result<Vec<&'a Package>, AllocError>
-    ensures { IfOk result (λ all. packages_at all.items ≡ packages.now) }
+    ensures { IfOk result (λ all. referred_packages all.items ≡ packages.now) }
 {
     let mut all = Vec::with_capacity(alloc, packages.len())?;
     for package in packages {

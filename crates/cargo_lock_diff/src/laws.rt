@@ -2,7 +2,7 @@
 //! the others have none.
 
 ghost use Rattle.std.specs.Prelude.{◌≡◌, ◌↔◌, IsTrue};
-ghost use Rattle.cargo_lock_diff.specs.Change.{EachIsOneLine, NoneIfPermuted};
+ghost use Rattle.cargo_lock_diff.specs.Change.{EachChangeIsOneLine, NoneIfPermuted};
 ghost use Rattle.cargo_lock_diff.specs.Dependencies.{EqualIfCarried};
 ghost use Rattle.cargo_lock_diff.specs.Difference.{EmptyIfPermuted, NoneIsLeftAlone};
 ghost use Rattle.cargo_lock_diff.specs.Difference.{OrderDoesNotCount};
@@ -57,7 +57,7 @@ pub fn no_package_is_left_alone()
 
 /// Each change is exactly one line, whatever its names, versions, sources and checksums hold.
 pub fn changes_are_lines()
-    ensures { EachIsOneLine }
+    ensures { EachChangeIsOneLine }
 {}
 
 /// The lines of changes and the summary are exactly as many lines as changes, and one more.

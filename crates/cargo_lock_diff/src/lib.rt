@@ -6,19 +6,21 @@
 
 mod alarm;
 pub mod change;
+mod change_json;
 mod dependencies;
 pub mod difference;
+pub mod document;
 pub mod laws;
 pub mod likeness;
 mod matching;
 mod pairing;
-pub mod parts;
+mod parts;
 pub mod place;
 mod same;
 pub mod summary;
 
 pub use crate::change::Change;
 pub use crate::difference::Difference;
+pub use crate::document::difference_json;
 pub use crate::likeness::Likeness;
-pub use crate::parts::{ChecksumText, PackageText};
 pub use crate::summary::{Kind, Summary};

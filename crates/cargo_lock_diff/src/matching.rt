@@ -7,10 +7,10 @@ ghost use Rattle.std.specs.Prelude.{◌≡◌, ◌↔◌, ◌<◌, ◌++◌, IfO
 ghost use Rattle.std.specs.Prelude.{List, length, map, slice_index_or};
 ghost use Rattle.std.specs.Borrow.{Bor};
 ghost use Rattle.cargo_lock_parts.specs.Identity.{PackageData};
-ghost use Rattle.cargo_lock_diff.specs.Matching.{AreInOrder, AreMatched, IsSublist, firsts};
+ghost use Rattle.cargo_lock_diff.specs.Matching.{AreMatched, ArePairsInOrder, IsSublist, firsts};
 ghost use Rattle.cargo_lock_diff.specs.Matching.{is_alike_at};
 ghost use Rattle.cargo_lock_diff.specs.Pairing.{ArePaired, ArePairedInTurn, AreSplit, StandsOnce};
-ghost use Rattle.cargo_lock_diff.specs.Placing.{AreAt, are_alike, pair_of, placed_cmp};
+ghost use Rattle.cargo_lock_diff.specs.Placing.{AreAtPlaces, are_alike, placed_cmp, unplaced_pair};
 
 use crate::likeness::Likeness;
 use cargo_lock_parts::package::Package;
@@ -69,7 +69,7 @@ pub fn pair_off<'a>(
 ) -> Result<Matching<'a>, AllocError>
     ensures matched { IfOk result (λ m. AreMatched (is_alike_at likeness)
         olds.now.items news.now.items m.pairs.items m.old.items m.new.items) }
-    ensures in_order { IfOk result (λ m. AreInOrder olds.now.items news.now.items
+    ensures in_order { IfOk result (λ m. ArePairsInOrder olds.now.items news.now.items
         m.pairs.items m.old.items m.new.items) }
 {
     let olds = sort(alloc, likeness, olds)?;
@@ -99,7 +99,7 @@ pub fn pair_unique<'a>(
 ) -> Result<Matching<'a>, AllocError>
     ensures paired { IfOk result (λ m. ArePaired (is_alike_at likeness)
         olds.now.items news.now.items m.pairs.items m.old.items m.new.items) }
-    ensures in_order { IfOk result (λ m. AreInOrder olds.now.items news.now.items
+    ensures in_order { IfOk result (λ m. ArePairsInOrder olds.now.items news.now.items
         m.pairs.items m.old.items m.new.items) }
 {
     let olds = sort(alloc, likeness, olds)?;
@@ -208,7 +208,7 @@ fn sort<'a>(
     ensures items { IfOk result
         (λ all. IsPermutation packages.now.items (map (λ p. p.item) all.items)) }
     ensures sorted { IfOk result (λ all. IsSorted (placed_cmp likeness) all.items) }
-    ensures placed { IfOk result (λ all. AreAt packages.now.items all.items) }
+    ensures placed { IfOk result (λ all. AreAtPlaces packages.now.items all.items) }
 {
     let mut all = with_places(alloc, packages)?;
     all.sort_by(|one, other| likeness.compare(one.item, other.item))?;
@@ -221,7 +221,7 @@ fn with_places<'a>(
     packages: &Vec<&'a Package>,
 ) -> Result<Vec<Placed<'a>>, AllocError>
     ensures items { IfOk result (λ all. map (λ p. p.item) all.items ≡ packages.now.items) }
-    ensures placed { IfOk result (λ all. AreAt packages.now.items all.items) }
+    ensures placed { IfOk result (λ all. AreAtPlaces packages.now.items all.items) }
 {
     let mut all = Vec::with_capacity(alloc, packages.len())?;
     for (place, item) in packages.iter().enumerate() {
@@ -277,9 +277,9 @@ fn pairs_by_place<'a>(
     mut pairs: Vec<(Placed<'a>, Placed<'a>)>,
 ) -> Result<Vec<(&'a Package, &'a Package)>, AllocError>
     ensures items { IfOk result
-        (λ all. IsPermutation (map pair_of pairs.entry.items) all.items) }
+        (λ all. IsPermutation (map unplaced_pair pairs.entry.items) all.items) }
     ensures in_order { IfOk result (λ all. (packages : List (Bor PackageData))
-        → AreAt packages (firsts pairs.entry.items) → IsSublist (firsts all.items) packages) }
+        → AreAtPlaces packages (firsts pairs.entry.items) → IsSublist (firsts all.items) packages) }
 {
     pairs.sort_by_key(|pair| pair.0.place)?;
     let mut all = Vec::with_capacity(alloc, pairs.len())?;
@@ -297,7 +297,7 @@ fn items_by_place<'a>(
     ensures items { IfOk result
         (λ all. IsPermutation (map (λ p. p.item) list.entry.items) all.items) }
     ensures in_order { IfOk result (λ all. (packages : List (Bor PackageData))
-        → AreAt packages list.entry.items → IsSublist all.items packages) }
+        → AreAtPlaces packages list.entry.items → IsSublist all.items packages) }
 {
     list.sort_by_key(|one| one.place)?;
     let mut all = Vec::with_capacity(alloc, list.len())?;

@@ -3,9 +3,10 @@
 ghost use Rattle.std.specs.Prelude.{◌≡◌, IfOk, IsPermutation, IsSorted};
 ghost use Rattle.std.specs.List.{flat_map};
 ghost use Rattle.std.specs.Ordering.{on};
-ghost use Rattle.cargo_lock_diff.specs.Difference.{IsPairing, packages_at, referred_pairs, turns};
+ghost use Rattle.cargo_lock_diff.specs.Difference.{IsPairing, referred_packages, referred_pairs};
+ghost use Rattle.cargo_lock_diff.specs.Difference.{turns};
 ghost use Rattle.cargo_lock_diff.specs.Likeness.{likeness_cmp};
-ghost use Rattle.cargo_lock_diff.specs.Matching.{AreInOrder};
+ghost use Rattle.cargo_lock_diff.specs.Matching.{ArePairsInOrder};
 
 use crate::likeness::Likeness;
 use crate::matching::{pair_in_turn, pair_off};
@@ -29,12 +30,13 @@ pub(crate) fn pair<'a>(
     new: &Vec<&'a Package>,
 ) -> Result<Pairing<'a>, AllocError>
     ensures paired { IfOk result (λ p. IsPairing
-        (packages_at old.now.items) (packages_at new.now.items)
+        (referred_packages old.now.items) (referred_packages new.now.items)
         (referred_pairs p.kept.items) (referred_pairs p.pairs.items)
-        (packages_at p.removed.items) (packages_at p.added.items)) }
-    ensures in_order { IfOk result (λ p. AreInOrder
-        (packages_at old.now.items) (packages_at new.now.items)
-        (referred_pairs p.kept.items) (packages_at p.removed.items) (packages_at p.added.items)) }
+        (referred_packages p.removed.items) (referred_packages p.added.items)) }
+    ensures in_order { IfOk result (λ p. ArePairsInOrder
+        (referred_packages old.now.items) (referred_packages new.now.items)
+        (referred_pairs p.kept.items) (referred_packages p.removed.items)
+        (referred_packages p.added.items)) }
     ensures sorted { IfOk result (λ p. IsSorted (on (λ p. p.0) (likeness_cmp Likeness.Whole))
         (referred_pairs p.pairs.items)) }
 {

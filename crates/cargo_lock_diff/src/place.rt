@@ -2,12 +2,13 @@
 
 ghost use Rattle.std.specs.Prelude.{◌≡◌};
 ghost use Rattle.std.specs.Option.{option_cmp};
-ghost use Rattle.cargo_lock_parts.specs.Source.{kind_of};
-ghost use Rattle.cargo_lock_parts.specs.SourceKey as key;
+ghost use Rattle.cargo_lock_parts.specs.Source.{DefaultBranch, Git, kind_of};
+ghost use Rattle.cargo_lock_parts.specs.SourceKey.{kind_cmp};
 ghost use Rattle.cargo_lock_diff.specs.Place.{named_kind, origin_cmp, others_cmp, place_cmp};
 ghost use Rattle.cargo_lock_diff.specs.Place.{placed_identity_cmp, repository_cmp, sources_cmp};
 
 use cargo_lock_parts::dependency::Dependency;
+use cargo_lock_parts::laws::kinds_compare_in_order;
 use cargo_lock_parts::package::{GitReference, SourceId, SourceKind};
 use std::cmp::Ordering;
 
@@ -84,8 +85,7 @@ fn cmp_repositories(one: &SourceId, other: &SourceId) -> Ordering
 {
     one.url()
         .cmp(other.url())
-        .then(kind_number(one.kind()).cmp(&kind_number(other.kind())))
-        .then(git_reference_text(one.kind()).cmp(git_reference_text(other.kind())))
+        .then(kinds_compare_in_order(one.kind(), other.kind()))
 }
 
 // The order by URL, kind and reference, with the branch `master` as the default branch.
@@ -94,64 +94,25 @@ fn cmp_named_repositories(one: &SourceId, other: &SourceId) -> Ordering
 {
     one.url()
         .cmp(other.url())
-        .then(named_number(one.kind()).cmp(&named_number(other.kind())))
-        .then(named_text(one.kind()).cmp(named_text(other.kind())))
+        .then(cmp_named_kinds(one.kind(), other.kind()))
 }
 
-// The place of a kind in the order, with the branch `master` as the default branch.
-fn named_number(kind: &SourceKind) -> u8
-    ensures { result ≡ key.kind_number (named_kind (kind_of kind.now)) }
+// The order of two kinds, with the branch `master` as the default branch.
+fn cmp_named_kinds(one: &SourceKind, other: &SourceKind) -> Ordering
+    ensures { result ≡ kind_cmp (named_kind (kind_of one.now)) (named_kind (kind_of other.now)) }
 {
-    match kind {
-        SourceKind::Git(GitReference::Branch(text)) => {
-            if text.as_str() == "master" { 0 } else { 2 }
-        }
-        _ => kind_number(kind),
-    }
+    let default = SourceKind::Git(GitReference::DefaultBranch);
+    kinds_compare_in_order(named(one, &default), named(other, &default))
 }
 
-// The text of the reference, with the branch `master` as the default branch.
-fn named_text(kind: &SourceKind) -> &str
-    ensures { result.now ≡ key.git_reference_text (named_kind (kind_of kind.now)) }
+// The kind by which a dependency names a repository: the default one for the branch `master`.
+fn named<'a>(kind: &'a SourceKind, default: &'a SourceKind) -> &'a SourceKind
+    requires { kind_of default.now ≡ Git DefaultBranch }
+    ensures { kind_of result.now ≡ named_kind (kind_of kind.now) }
 {
     match kind {
-        SourceKind::Git(GitReference::Branch(text)) => {
-            if text.as_str() == "master" {
-                ""
-            } else {
-                text.as_str()
-            }
-        }
-        _ => git_reference_text(kind),
-    }
-}
-
-// The place of a kind with its reference in the order.
-fn kind_number(kind: &SourceKind) -> u8
-    ensures { result ≡ key.kind_number (kind_of kind.now) }
-{
-    match kind {
-        SourceKind::Git(GitReference::DefaultBranch) => 0,
-        SourceKind::Git(GitReference::Tag(_)) => 1,
-        SourceKind::Git(GitReference::Branch(_)) => 2,
-        SourceKind::Git(GitReference::Rev(_)) => 3,
-        SourceKind::Path => 4,
-        SourceKind::Registry => 5,
-        SourceKind::SparseRegistry => 6,
-        SourceKind::LocalRegistry => 7,
-        SourceKind::Directory => 8,
-    }
-}
-
-// The text of the reference, empty if there is none.
-fn git_reference_text(kind: &SourceKind) -> &str
-    ensures { result.now ≡ key.git_reference_text (kind_of kind.now) }
-{
-    match kind {
-        SourceKind::Git(GitReference::Tag(text)) => text.as_str(),
-        SourceKind::Git(GitReference::Branch(text)) => text.as_str(),
-        SourceKind::Git(GitReference::Rev(text)) => text.as_str(),
-        _ => "",
+        SourceKind::Git(GitReference::Branch(text)) if text.as_str() == "master" => default,
+        _ => kind,
     }
 }
 

@@ -42,7 +42,7 @@ pub enum Kind {
 impl Kind {
     /// Whether a change is of this kind.
     pub fn is_of(self, change: &Change<'_>) -> bool
-        ensures { result ≡ spec.is_of self (change_of change.now) }
+        ensures { result ≡ spec.is_of_kind self (change_of change.now) }
     {
         match self {
             Kind::Alarm => matches!(change, Change::Alarm(_, _)),
@@ -135,7 +135,7 @@ impl Summary {
 
 // How many changes are of a kind.
 fn count(changes: &[Change<'_>], kind: Kind) -> usize
-    ensures { result ≡ count_by (spec.is_of kind) (map change_of changes.now) }
+    ensures { result ≡ count_by (spec.is_of_kind kind) (map change_of changes.now) }
 {
     let mut number = 0;
     for change in changes {
@@ -217,9 +217,9 @@ impl<'a> Counted<'a> {
 
 impl fmt::Display for Counted<'_> {
     ghost use Rattle.std.specs.Prelude.{Some};
-    ghost use Rattle.cargo_lock_diff.specs.Summary.{counted};
+    ghost use Rattle.cargo_lock_diff.specs.Summary.{counted_behind};
 
-    ghost output = { λ c. Some (counted c.behind c.number c.one.now c.more.now) };
+    ghost output = { λ c. Some (counted_behind c.behind c.number c.one.now c.more.now) };
 
     fn fmt<W: fmt::Write>(&self, f: &mut fmt::Formatter<W>) -> fmt::Result {
         if self.number == 0 {

@@ -1,5 +1,5 @@
 -- How the packages that are alike are found, one package after another.
-use Rattle.std.proofs.Common.{◌≡◌, ◌<◌, ◌≤◌, ◌+◌, ◌⊎◌, ◌↔◌, inl, inr, ℕ, Bool, true, false, cond, bytes_eq, List, [], ◌∷◌, ◌++◌, length, get_or, slice_get, Option, None, Some, Vec, refl, sym, ap, subst, ◌∙◌, arith}
+use Rattle.std.proofs.Common.{◌≡◌, ◌<◌, ◌≤◌, ◌+◌, ◌↔◌, inl, inr, ℕ, Bool, true, false, cond, bytes_eq, List, [], ◌∷◌, ◌++◌, length, get_or, slice_get, Option, None, Some, Vec, refl, sym, ap, subst, ◌∙◌, arith}
 use Rattle.std.specs.Borrow.{Bor}
 use Rattle.std.specs.Bool.{Decides}
 use Rattle.std.specs.BTreeMap.{BTreeMap, get, is_at}
@@ -13,22 +13,16 @@ use Rattle.std.proofs.lemmas.Slice.Eq.{bytes_eq-Decides}
 use Rattle.cargo_lock_parts.specs.Identity.{PackageData}
 use Rattle.cargo_lock_graph.specs.Targets.{HoldsOf}
 use Rattle.cargo_lock_flaws.specs.declared.alike.Namesakes.{Namesakes}
-use Rattle.cargo_lock_flaws.specs.Alike.{AreAlike, AreAlikeAt, ArePairsAlike, IsFirstAlike, IsFirstBelow, IsFromCratesIo, folded}
-use Rattle.cargo_lock_flaws.specs.Namesakes.{AreNamesakes, ArePairsBelow, AreSeen, HasSeen, IsNamedOtherwise, IsNamedThere, earlier_alike, key_cmp, next_other, with_place}
+use Rattle.cargo_lock_flaws.specs.Alike.{AreAlikeAt, AreAlikeOnCratesIo, ArePairsAlike, IsFirstAlike, IsFirstBelow, IsFromCratesIo, folded}
+use Rattle.cargo_lock_flaws.specs.Namesakes.{AreNamesakes, ArePairsBelow, AreSeen, HasSeen, IsNamedOtherwise, IsNamedThere, earlier_alike, folded_name_cmp, next_other, with_place}
 
 -- ---- the first place
 
-below-cases : (k n : ℕ) → k < n + 1 → (k < n) ⊎ (k ≡ n)
-below-cases k n lt = elim (cases_eq k n) [
-  | inl same ↦ inr same
-  | inr other ↦ inl (omega (arith, lt, other))
-]
-
 -- one more place, at which P does not hold
 pub first-same : (P : ℕ → Type 0) (n : ℕ) (o : Option ℕ) → IsFirstBelow P n o → ¬ P n → IsFirstBelow P (n + 1) o
-first-same P n None h miss = λ k low p. elim (below-cases k n low) [
-  | inl below ↦ h k below p
-  | inr here ↦ miss (subst P here p)
+first-same P n None h miss = λ k low p. elim (cases_eq k n) [
+  | inl here ↦ miss (subst P here p)
+  | inr other ↦ h k (omega (arith, low, other)) p
 ]
 first-same P n (Some place) h miss = ((let below = h.0 in omega (arith, below)), h.1, h.2)
 
@@ -77,9 +71,9 @@ namesakes-more packages place p name None at from is are =
     let there : IsNamedThere (folded name.now) p = record { from = from; same = ap folded is } in (
       first-new (HoldsOf (IsNamedThere (folded name.now)) packages) place are (p, at, there),
       (p, at, is),
-      λ k low h. elim (below-cases k place low) [
-        | inl below ↦ are k below (h.0, h.1, h.2.there)
-        | inr same ↦ (here (IsNamedOtherwise (folded name.now) name.now) packages place p at (subst (HoldsOf (IsNamedOtherwise (folded name.now) name.now) packages) same h)).differ is
+      λ k low h. elim (cases_eq k place) [
+        | inl same ↦ (here (IsNamedOtherwise (folded name.now) name.now) packages place p at (subst (HoldsOf (IsNamedOtherwise (folded name.now) name.now) packages) same h)).differ is
+        | inr other ↦ are k (omega (arith, low, other)) (h.0, h.1, h.2.there)
       ],
     )
 namesakes-more packages place p name (Some n) at from is are = (
@@ -112,7 +106,7 @@ named-alike : (packages : List PackageData) (place : ℕ) (p : PackageData) (nam
 named-alike packages place p name at from is k = (
   λ h. (p, at, (h.0, h.1, record { from = h.2.there.from; other_from = from; same = h.2.there.same ∙ ap folded (sym is); differ = λ e. h.2.differ (e ∙ is) })),
   λ h.
-      let earlier = here (λ q. HoldsOf (λ x. AreAlike x q) packages k) packages place p at h in
+      let earlier = here (λ q. HoldsOf (λ x. AreAlikeOnCratesIo x q) packages k) packages place p at h in
       let alike = earlier.2 in
       (earlier.0, earlier.1, record { there = record { from = alike.from; same = alike.same ∙ ap folded is }; differ = λ e. alike.differ (e ∙ sym is) }),
 )
@@ -149,7 +143,7 @@ first-found packages place p name o at from is are =
 
 -- ---- one package after another
 
-same-key : {Z : Type 0} (a b : Vec ℕ Z) → Decides (is_at (key_cmp a) b) (a.items ≡ b.items)
+same-key : {Z : Type 0} (a b : Vec ℕ Z) → Decides (is_at (folded_name_cmp a) b) (a.items ≡ b.items)
 same-key a b =
     let tells = bytes_eq-Decides a.items b.items in
     let is = is_eq-slice_cmp a.items b.items in
@@ -159,30 +153,30 @@ pub seen-more : {Z : Type 0} (packages : List PackageData) (place : ℕ) (p : Pa
     → slice_get packages place ≡ Some p → IsFromCratesIo p → p.name ≡ name.now → HasSeen old new place name found
     → AreSeen packages place old → AreSeen packages (place + 1) new
 seen-more {Z} packages place p name found old new at from is has are q =
-    subst (AreNamesakes packages (place + 1) q.items) (sym (has.updates q)) (go (is_at (key_cmp has.key) q) (same-key has.key q))
+    subst (AreNamesakes packages (place + 1) q.items) (sym (has.updates q)) (go (is_at (folded_name_cmp has.key) q) (same-key has.key q))
   where
     go : (same : Bool) → Decides same (has.key.items ≡ q.items)
-        → AreNamesakes packages (place + 1) q.items (cond same (Some (with_place (get key_cmp old has.key) place name)) (get key_cmp old q))
+        → AreNamesakes packages (place + 1) q.items (cond same (Some (with_place (get folded_name_cmp old has.key) place name)) (get folded_name_cmp old q))
     go true tells =
-        subst (λ key. AreNamesakes packages (place + 1) key (Some (with_place (get key_cmp old has.key) place name))) (sym has.folded ∙ tells.0 refl)
-        (namesakes-more packages place p name (get key_cmp old has.key) at from is
-        (subst (λ key. AreNamesakes packages place key (get key_cmp old has.key)) has.folded (are has.key)))
+        subst (λ key. AreNamesakes packages (place + 1) key (Some (with_place (get folded_name_cmp old has.key) place name))) (sym has.folded ∙ tells.0 refl)
+        (namesakes-more packages place p name (get folded_name_cmp old has.key) at from is
+        (subst (λ key. AreNamesakes packages place key (get folded_name_cmp old has.key)) has.folded (are has.key)))
     go false tells =
-        namesakes-same packages place q.items (get key_cmp old q)
+        namesakes-same packages place q.items (get folded_name_cmp old q)
         (λ h. false≢true (tells.1 (has.folded ∙ sym (ap folded is) ∙ (here (IsNamedThere q.items) packages place p at h).same))) (are q)
 
 pub seen-same : {Z : Type 0} (packages : List PackageData) (place : ℕ) (p : PackageData) (seen : BTreeMap (Vec ℕ Z) Namesakes)
     → slice_get packages place ≡ Some p → ¬ IsFromCratesIo p → AreSeen packages place seen → AreSeen packages (place + 1) seen
 seen-same packages place p seen at other are q =
-    namesakes-same packages place q.items (get key_cmp seen q) (λ h. other (here (IsNamedThere q.items) packages place p at h).from) (are q)
+    namesakes-same packages place q.items (get folded_name_cmp seen q) (λ h. other (here (IsNamedThere q.items) packages place p at h).from) (are q)
 
 pub first-seen : {Z : Type 0} (packages : List PackageData) (place : ℕ) (p : PackageData) (name : Bor (List ℕ)) (found : Option ℕ) (old new : BTreeMap (Vec ℕ Z) Namesakes)
     → slice_get packages place ≡ Some p → IsFromCratesIo p → p.name ≡ name.now → HasSeen old new place name found
     → AreSeen packages place old → IsFirstBelow (λ k. AreAlikeAt packages k place) place found
 first-seen packages place p name found old new at from is has are =
     subst (IsFirstBelow (λ k. AreAlikeAt packages k place) place) (sym has.earlier)
-    (first-found packages place p name.now (get key_cmp old has.key) at from is
-    (subst (λ key. AreNamesakes packages place key (get key_cmp old has.key)) has.folded (are has.key)))
+    (first-found packages place p name.now (get folded_name_cmp old has.key) at from is
+    (subst (λ key. AreNamesakes packages place key (get folded_name_cmp old has.key)) has.folded (are has.key)))
 
 pub none-found : (P : ℕ → Type 0) (n : ℕ) → IsFirstBelow P n None → (i : ℕ) → ¬ IsFirstBelow P n (Some i)
 none-found P n none i h = none i h.0 h.1
@@ -190,7 +184,7 @@ none-found P n none i h = none i h.0 h.1
 pub none-alike : (packages : List PackageData) (place : ℕ) (p : PackageData) → slice_get packages place ≡ Some p → ¬ IsFromCratesIo p
     → (i : ℕ) → ¬ IsFirstAlike packages i place
 none-alike packages place p at other i h =
-    let alike = here (λ q. HoldsOf (λ x. AreAlike x q) packages i) packages place p at h.1 in
+    let alike = here (λ q. HoldsOf (λ x. AreAlikeOnCratesIo x q) packages i) packages place p at h.1 in
     other alike.2.other_from
 
 -- ---- the pairs
@@ -210,11 +204,11 @@ pairs-put packages place i pairs grown first grows are =
               let two : place ≡ j = ap (λ (q : ℕ × ℕ). q.1) same in
               (omega (arith, two), subst (λ n. IsFirstAlike packages n j) one (subst (λ n. IsFirstAlike packages i n) two first))
         ],
-        λ h. elim (below-cases j place h.0) [
-          | inl below ↦ Contains-append_left pairs ((i, place) ∷ []) (k, j) ((are.told k j).1 (below, h.1))
-          | inr same ↦
+        λ h. let low = h.0 in elim (cases_eq j place) [
+          | inl same ↦
               let one : i ≡ k = first-one (λ n. AreAlikeAt packages n place) place place i k first (subst (λ n. IsFirstAlike packages k n) same h.1) in
               subst (λ (q : ℕ × ℕ). Contains (pairs ++ (i, place) ∷ []) q) (λ n. (one n, sym same n)) (Contains-push pairs (i, place))
+          | inr other ↦ Contains-append_left pairs ((i, place) ∷ []) (k, j) ((are.told k j).1 (omega (arith, low, other), h.1))
         ],
       );
     }
@@ -225,9 +219,9 @@ pairs-pass packages place pairs none are = record {
   ascending = are.ascending;
   told = λ k j. (
     λ h. let (below, is) = (are.told k j).0 h in (omega (arith, below), is),
-    λ h. elim (below-cases j place h.0) [
-      | inl below ↦ (are.told k j).1 (below, h.1)
-      | inr same ↦ absurd (none k (subst (λ n. IsFirstAlike packages k n) same h.1))
+    λ h. let low = h.0 in elim (cases_eq j place) [
+      | inl same ↦ absurd (none k (subst (λ n. IsFirstAlike packages k n) same h.1))
+      | inr other ↦ (are.told k j).1 (omega (arith, low, other), h.1)
     ],
   );
 }

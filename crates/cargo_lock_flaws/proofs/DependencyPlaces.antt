@@ -5,9 +5,9 @@ use Rattle.std.specs.List.{Contains}
 use Rattle.std.proofs.lemmas.Bool.{cases_eq, false≢true}
 use Rattle.std.proofs.lemmas.List.Elements.{Contains-append_left, Contains-get_or, Contains-push, Contains-push_cases}
 use Rattle.std.proofs.lemmas.List.Quantifiers.{all_pairs_push}
-use Rattle.std.proofs.lemmas.Option.{slice_get_within, same_Some}
+use Rattle.std.proofs.lemmas.Option.{slice_get_read, slice_get_within, same_Some}
 use Rattle.cargo_lock_parts.specs.Identity.{Identity, PackageData}
-use Rattle.cargo_lock_flaws.specs.Dependencies.{AreDependencies, AreDependenciesBefore, HoldsAt, HoldsOfDependency, IsBefore}
+use Rattle.cargo_lock_flaws.specs.Dependencies.{AreDependencies, AreDependenciesBefore, HoldsAt, HoldsOfDependency, IsEarlierDependency}
 
 -- ---- one dependency
 
@@ -28,14 +28,14 @@ of-dependency P ds at d here = (
 
 -- ---- one after another
 
-cases-before : (k j place at : ℕ) → IsBefore (k, j) (place, at + 1) → IsBefore (k, j) (place, at) ⊎ ((k ≡ place) × (j ≡ at))
+cases-before : (k j place at : ℕ) → IsEarlierDependency (k, j) (place, at + 1) → IsEarlierDependency (k, j) (place, at) ⊎ ((k ≡ place) × (j ≡ at))
 cases-before k j place at (inl earlier) = inl (inl earlier)
 cases-before k j place at (inr (same, low)) = elim (cases_eq j at) [
   | inl here ↦ inr (same, here)
   | inr other ↦ inl (inr (same, omega (arith, low, other)))
 ]
 
-more-before : (k j place at : ℕ) → IsBefore (k, j) (place, at) → IsBefore (k, j) (place, at + 1)
+more-before : (k j place at : ℕ) → IsEarlierDependency (k, j) (place, at) → IsEarlierDependency (k, j) (place, at + 1)
 more-before k j place at (inl earlier) = inl earlier
 more-before k j place at (inr (same, low)) = inr (same, omega (arith, low))
 
@@ -43,7 +43,7 @@ pub put : (P : ℕ → ℕ → Type 0) (place at : ℕ) (places grown : List (�
     → grown ≡ places ++ (place, at) ∷ [] → AreDependenciesBefore P place (at + 1) grown
 put P place at places grown are here grows =
     rw grows record {
-      ascending = all_pairs_push IsBefore places (place, at) are.ascending (λ i d low.
+      ascending = all_pairs_push IsEarlierDependency places (place, at) are.ascending (λ i d low.
           let one : ℕ × ℕ = get_or places i d in
           ((are.told one.0 one.1).0 (Contains-get_or places i d low)).0);
       told = λ k j. (
@@ -82,11 +82,11 @@ tested P place at false places grown tells grows are = rw grows (pass P place at
 
 -- ---- one package after another
 
-next-before : (k j place at : ℕ) → IsBefore (k, j) (place, at) → IsBefore (k, j) (place + 1, 0)
+next-before : (k j place at : ℕ) → IsEarlierDependency (k, j) (place, at) → IsEarlierDependency (k, j) (place + 1, 0)
 next-before k j place at (inl earlier) = inl (omega (arith, earlier))
 next-before k j place at (inr (same, low)) = inl (omega (arith, same))
 
-before-next : (k j place : ℕ) → IsBefore (k, j) (place + 1, 0) → (k < place) ⊎ (k ≡ place)
+before-next : (k j place : ℕ) → IsEarlierDependency (k, j) (place + 1, 0) → (k < place) ⊎ (k ≡ place)
 before-next k j place (inl earlier) = elim (cases_eq k place) [
   | inl same ↦ inr same
   | inr other ↦ inl (omega (arith, earlier, other))
@@ -107,18 +107,28 @@ next P place at places within are = record {
 }
 
 -- no dependency of the package follows
-pub next-package : (Q : Identity → List Identity → ℕ → Type 0) (packages : List PackageData) (place at : ℕ) (p : PackageData) (places : List (ℕ × ℕ))
+pub next-from : (Q : Identity → List Identity → ℕ → Type 0) (packages : List PackageData) (place at : ℕ) (p : PackageData) (places : List (ℕ × ℕ))
     → slice_get packages place ≡ Some p → length p.dependencies ≤ at
     → AreDependenciesBefore (HoldsAt (λ ds j. HoldsOfDependency (λ d. Q d ds j) ds j) packages) place at places
     → AreDependenciesBefore (HoldsAt (λ ds j. HoldsOfDependency (λ d. Q d ds j) ds j) packages) (place + 1) 0 places
-next-package Q packages place at p places here past are =
+next-from Q packages place at p places here past are =
     next (HoldsAt (λ ds j. HoldsOfDependency (λ d. Q d ds j) ds j) packages) place at places
     (λ j h.
     let at-p = (there (λ ds j. HoldsOfDependency (λ d. Q d ds j) ds j) packages place j p here).0 h in
     let low = slice_get_within p.dependencies j at-p.0 at-p.1 in
     omega (arith, low, past)) are
 
-none-before : (k j : ℕ) → ¬ IsBefore (k, j) (0, 0)
+-- no dependency of the package at a place follows
+pub next-package : (Q : Identity → List Identity → ℕ → Type 0) (packages : List PackageData) (place at : ℕ) (p : PackageData) (dependencies : List Identity)
+    (places : List (ℕ × ℕ)) → place < length packages → p ≡ get_or packages place p → dependencies ≡ p.dependencies → length dependencies ≤ at
+    → AreDependenciesBefore (HoldsAt (λ ds j. HoldsOfDependency (λ d. Q d ds j) ds j) packages) place at places
+    → AreDependenciesBefore (HoldsAt (λ ds j. HoldsOfDependency (λ d. Q d ds j) ds j) packages) (place + 1) 0 places
+next-package Q packages place at p dependencies places within is whole past are =
+    let long = ap length whole in
+    next-from Q packages place at p places (slice_get_read packages (length packages) place p refl within is)
+    (omega (arith, past, long)) are
+
+none-before : (k j : ℕ) → ¬ IsEarlierDependency (k, j) (0, 0)
 none-before k j (inl earlier) = omega (arith, earlier)
 none-before k j (inr (same, low)) = omega (arith, low)
 

@@ -11,29 +11,13 @@ use Rattle.std.proofs.lemmas.List.Sorted.{all_adjacent_more}
 use Rattle.std.proofs.lemmas.Option.{get_or_from_slice_get, same_Some, slice_get_read, slice_get_within}
 use Rattle.cargo_lock_parts.specs.IdentityLaws.{identity_total, is_same_identity-Decides}
 use Rattle.cargo_lock_parts.specs.IdentityOrder.{identity_cmp}
-use Rattle.cargo_lock_parts.specs.Identity.{Identity, IdentityKey, identity_key}
-use Rattle.cargo_lock_parts.specs.PartialIdentity.{PartialIdentity, PartialKey, is_same_partial_identity-Decides, partial_identity_cmp}
+use Rattle.cargo_lock_parts.specs.Identity.{Identity, identity_key}
+use Rattle.cargo_lock_parts.specs.PartialIdentity.{PartialIdentity, partial_identity_cmp}
 use Rattle.cargo_lock_graph.specs.Candidates.{identity_as_key}
 use Rattle.cargo_lock_graph.specs.Targets.{IsLastBelow}
-use Rattle.cargo_lock_graph.proofs.BestCandidates.{last-new, last-same}
+use Rattle.cargo_lock_graph.proofs.BestCandidates.{last-new, last-same, same-identity}
 use Rattle.cargo_lock_flaws.specs.Dependencies.{DoAscend, HoldsOfDependency, IsListedBefore, IsSameDependency}
 use Rattle.cargo_lock_flaws.specs.Seen.{AreLastDependencies}
-
-partial_of_key : IdentityKey → PartialKey
-partial_of_key k = record { name = k.name; version = Some k.version; source = k.source }
-
-pub same-identity : (a b : Identity) → Decides (is_at (partial_identity_cmp (identity_as_key a)) (identity_as_key b)) (identity_key a ≡ identity_key b)
-unfolding partial_of_key
-same-identity a b =
-    let tells = is_same_partial_identity-Decides (identity_as_key a) (identity_as_key b) in (
-      λ h.
-          let e = tells.0 h in
-          let name = ap (λ (k : PartialKey). k.name) e in
-          let version = same_Some a.version b.version (ap (λ (k : PartialKey). k.version) e) in
-          let source = ap (λ (k : PartialKey). k.source) e in
-          λ i. record { name = name i; version = version i; source = source i },
-      λ e. tells.1 (ap partial_of_key e),
-    )
 
 -- one more dependency
 pub last-more : (ds : List Identity) (at : ℕ) (last grown : BTreeMap PartialIdentity ℕ) (d : Identity) → slice_get ds at ≡ Some d

@@ -10,7 +10,7 @@ use Rattle.std.specs.Option.{option_cmp, option_eq, option_or}
 use Rattle.std.specs.Ordering.{is_eq, nat_cmp, ordering_then}
 use Rattle.std.specs.declared.cmp.Ordering.{Ordering}
 use Rattle.std.specs.declared.cmp.Ordering.TheVariants.{Equal}
-use Rattle.std.proofs.lemmas.Bool.{and_parts, cases_Bool, false≢true}
+use Rattle.std.proofs.lemmas.Bool.{and_parts, cases_Bool, false≢true, not-true}
 use Rattle.std.proofs.lemmas.Bool.Decides.{Decides-eqb}
 use Rattle.std.proofs.lemmas.Cmp.{tied_itself}
 use Rattle.std.proofs.lemmas.Option.{same_Some}
@@ -19,14 +19,15 @@ use Rattle.url.specs.Parts.{serialize}
 use Rattle.cargo_lock_parts.specs.Identity.{HasNameAndVersion, Identity, PackageData, identity_key, identity_of}
 use Rattle.cargo_lock_parts.specs.Rank.{are_different_texts, are_equal_texts, both_git, commit_of, has_rank_1, has_rank_2, has_rank_3, has_rank_4, is_open_git, is_same_other_kind, least_rank, revision, same_kind, same_url_and_name}
 use Rattle.cargo_lock_parts.specs.Source.{Directory, Git, Kind, LocalRegistry, Path, Registry, Source, SparseRegistry, is_git}
-use Rattle.cargo_lock_parts.specs.SourceKey.{git_reference_text, key_of, kind_number, precise_if_git, text_cmp}
+use Rattle.cargo_lock_parts.specs.SourceKey.{Key, git_reference_text, key_of, kind_number, precise_if_git, text_cmp}
+use Rattle.cargo_lock_parts.specs.SourceLaws.{key_same}
 use Rattle.cargo_lock_parts.proofs.RankLemmas.{rank_one_is_equal_keys}
 use Rattle.cargo_lock_graph.specs.Candidates.{identity_as_key}
 use Rattle.cargo_lock_graph.specs.Targets.{Matches, rank_between}
-use Rattle.cargo_lock_flaws.specs.Group.{Group, asks_open, group_cmp, group_for, group_of, group_total, group_with, has_precise, kind_at, source_group, text_at}
-use Rattle.cargo_lock_flaws.specs.Groups.{IsGrouped, IsPut, places_of}
-use Rattle.cargo_lock_flaws.specs.declared.groups.Numbered.{Numbered}
-use Rattle.cargo_lock_flaws.proofs.DependencySeen.{same-identity}
+use Rattle.cargo_lock_graph.proofs.BestCandidates.{same-identity}
+use Rattle.lists.specs.Groups.{GroupedData}
+use Rattle.cargo_lock_flaws.specs.Group.{Group, asks_open, compared_kind, compared_text, group_cmp, group_for, group_of, group_total, group_with, has_precise, source_group}
+use Rattle.cargo_lock_flaws.specs.Groups.{IsGrouped, IsPutInGroup, places_in_group}
 
 -- ---- groups that tie
 
@@ -37,14 +38,14 @@ AreTied (Some g) None = ⊥
 AreTied (Some g) (Some h) = is_at (group_cmp g) h ≡ true
 
 -- the group is there, and has the place
-abbrev pub IsIn : Numbered → Option Group → ℕ → Type 0
+abbrev pub IsIn : GroupedData Group → Option Group → ℕ → Type 0
 IsIn s None place = ⊥
-IsIn s (Some g) place = Contains (places_of s g) place
+IsIn s (Some g) place = Contains (places_in_group s g) place
 
 tied-equal : (g h : Group) → g ≡ h → is_at (group_cmp g) h ≡ true
 tied-equal g h e = ap is_eq (subst (λ x. group_cmp g x ≡ Equal) e (tied_itself group_total g))
 
-put-tied : (s : Numbered) (x y : Option Group) (place : ℕ) → AreTied x y → IsPut s x place
+put-tied : (s : GroupedData Group) (x y : Option Group) (place : ℕ) → AreTied x y → IsPutInGroup s x place
     → IsIn s y place
 put-tied s None y place tied put = absurd tied
 put-tied s (Some g) None place tied put = absurd tied
@@ -92,20 +93,16 @@ or-cases : (x y : Bool) → (x || y) ≡ true → (x ≡ true) ⊎ (y ≡ true)
 or-cases true y h = inl refl
 or-cases false y h = inr h
 
-not-false : (x : Bool) → not x ≡ true → x ≡ false
-not-false true h = absurd (false≢true h)
-not-false false h = refl
-
 -- ---- what the conditions say of the parts
 
 same-bytes : (x y : List ℕ) → bytes_eq x y ≡ true → x ≡ y
 same-bytes x y h = (bytes_eq-Decides x y).0 h
 
-same-optional : (x y : Option (List ℕ)) → option_eq bytes_eq x y ≡ true → x ≡ y
-same-optional None None h = refl
-same-optional None (Some y) h = absurd (false≢true h)
-same-optional (Some x) None h = absurd (false≢true h)
-same-optional (Some x) (Some y) h = ap Some (same-bytes x y h)
+names-tied : (x y : Option (List ℕ)) → option_eq bytes_eq x y ≡ true → option_cmp text_cmp x y ≡ Equal
+names-tied None None h = refl
+names-tied None (Some y) h = absurd (false≢true h)
+names-tied (Some x) None h = absurd (false≢true h)
+names-tied (Some x) (Some y) h = text-tied x y (same-bytes x y h)
 
 same-texts : (x y : Option (List ℕ)) → are_equal_texts x y ≡ true
     → (t : List ℕ) × (x ≡ Some t) × (y ≡ Some t)
@@ -117,20 +114,30 @@ same-url : (a b : Source) → same_url_and_name a b ≡ true → serialize a.url
 same-url a b h = same-bytes _ _ (and_parts _ _ h).0
 
 text-of-git : (rank : ℕ) (s : Source) → is_git s.kind ≡ true
-    → text_at rank s ≡ (if rank == 2 then commit_of s
-    else (if rank == 3 then Some (git_reference_text s.kind) else Some []))
+    → compared_text rank s ≡ (if rank == 2 then commit_of s else Some [])
 text-of-git rank s git =
-    ap (λ b. if b then (if rank == 2 then commit_of s
-    else (if rank == 3 then Some (git_reference_text s.kind) else Some [])) else None) git
+    ap (λ b. if b then (if rank == 2 then commit_of s else Some []) else None) git
 
 -- ---- the sources of a match have one URL and one text
 
 record Meet (rank : ℕ) (a b : Source) : Type 0 where
   url : serialize a.url ≡ serialize b.url
-  kind : kind_at rank a ≡ kind_at rank b
+  kind : compared_kind rank a ≡ compared_kind rank b
   text : List ℕ
-  one : text_at rank a ≡ Some text
-  other : text_at rank b ≡ Some text
+  one : compared_text rank a ≡ Some text
+  other : compared_text rank b ≡ Some text
+
+-- a key of this kind
+bare-key : Kind → Key
+bare-key kind = record { url = []; name = None; kind = kind; precise = None }
+
+-- kinds of one place in the order whose references have one text
+one-kind : (j k : Kind) → kind_number j ≡ kind_number k → git_reference_text j ≡ git_reference_text k → j ≡ k
+unfolding bare-key
+one-kind j k number text =
+    ap (λ (key : Key). key.kind) (key_same (bare-key j) (bare-key k)
+    (five _ _ _ _ _ refl refl (number-tied (kind_number j) (kind_number k) number)
+    (text-tied (git_reference_text j) (git_reference_text k) text) refl))
 
 meet-2 : (a b : Source) → has_rank_2 a b ≡ true → Meet 2 a b
 meet-2 a b h =
@@ -159,10 +166,12 @@ meet-3 a b h =
     (bytes_eq (git_reference_text a.kind) (git_reference_text b.kind)) front.1 in
     record {
       url = same-url a b first.0;
-      kind = (Decides-eqb (kind_number a.kind) (kind_number b.kind)).0 kind.0;
-      text = git_reference_text a.kind;
+      kind = ap Some (one-kind a.kind b.kind
+          ((Decides-eqb (kind_number a.kind) (kind_number b.kind)).0 kind.0)
+          (same-bytes _ _ kind.1));
+      text = [];
       one = text-of-git 3 a git.0;
-      other = text-of-git 3 b git.1 ∙ ap Some (sym (same-bytes _ _ kind.1));
+      other = text-of-git 3 b git.1;
     }
 
 not-git : (k : Kind) (p : Option (List ℕ)) → is_git k ≡ false → precise_if_git k p ≡ None
@@ -186,13 +195,13 @@ first-of-other a b near other =
     (bytes_eq (git_reference_text a.kind) (git_reference_text b.kind)) parts.1 in
     five _ _ _ _ _
     (text-tied (serialize a.url) (serialize b.url) (same-bytes _ _ names.0))
-    (optional-tied a.name b.name (same-optional a.name b.name names.1))
+    (names-tied a.name b.name names.1)
     (number-tied (kind_number a.kind) (kind_number b.kind)
     ((Decides-eqb (kind_number a.kind) (kind_number b.kind)).0 kind.0))
     (text-tied (git_reference_text a.kind) (git_reference_text b.kind) (same-bytes _ _ kind.1))
     (optional-tied (precise_if_git a.kind a.precise) (precise_if_git b.kind b.precise)
-    (not-git a.kind a.precise (not-false _ bare.0)
-    ∙ sym (not-git b.kind b.precise (not-false _ bare.1))))
+    (not-git a.kind a.precise (not-true _ bare.0)
+    ∙ sym (not-git b.kind b.precise (not-true _ bare.1))))
 
 -- a match of rank 4 alone is one of two repositories
 open-of-4 : (a b : Source) → has_rank_4 a b ≡ true → has_rank_1 a b ≡ false → is_open_git a b ≡ true
@@ -259,7 +268,7 @@ open-4 a b h first second =
     let parted = and_parts (both_git a b) (not (are_different_texts a.precise b.precise))
     (open-of-4 a b h first) in
     let front = both (same_url_and_name a b) (both_git a b) parts.0 parted.0 in
-    absent-4 a.precise b.precise (revision a.kind) (revision b.kind) (not-false _ parted.1)
+    absent-4 a.precise b.precise (revision a.kind) (revision b.kind) (not-true _ parted.1)
     (and-false (same_url_and_name a b && both_git a b) (are_equal_texts (commit_of a) (commit_of b))
     front second)
 
@@ -272,7 +281,7 @@ SourcesTie rank is_open d p x y =
     (source_group rank is_open (identity_as_key d) x)
 
 with-text : (rank : ℕ) (is_open : Bool) (d : Identity) (p : PackageData) (a b : Source) (t : List ℕ)
-    → HasNameAndVersion d p → serialize a.url ≡ serialize b.url → kind_at rank a ≡ kind_at rank b
+    → HasNameAndVersion d p → serialize a.url ≡ serialize b.url → compared_kind rank a ≡ compared_kind rank b
     → group_with rank is_open (identity_as_key (identity_of p)) b t
     ≡ group_with rank is_open (identity_as_key d) a t
 with-text rank is_open d p a b t named url kind =
@@ -300,7 +309,7 @@ sources-tie : (rank : ℕ) (is_open : Bool) (d : Identity) (p : PackageData) (a 
 sources-tie rank is_open d p a b named m =
     texts-tie (group_with rank is_open (identity_as_key (identity_of p)) b)
     (group_with rank is_open (identity_as_key d) a)
-    (text_at rank b) (text_at rank a) m.text
+    (compared_text rank b) (compared_text rank a) m.text
     (with-text rank is_open d p a b m.text named m.url m.kind) m.other m.one
 
 -- the groups of two identities for rank 1 tie where the identities have one key
@@ -314,15 +323,15 @@ same-tie d p o same =
 
 -- ---- the place is in the group
 
-put-3 : (s : Numbered) (p : PackageData) (place : ℕ) (o : Bool) → IsGrouped s p place
+put-3 : (s : GroupedData Group) (p : PackageData) (place : ℕ) (o : Bool) → IsGrouped s p place
     → (o ≡ true → has_precise p.source ≡ false)
-    → IsPut s (group_of 3 o (identity_as_key (identity_of p))) place
+    → IsPutInGroup s (group_of 3 o (identity_as_key (identity_of p))) place
 put-3 s p place true g bare = g.open_reference (bare refl)
 put-3 s p place false g bare = g.reference
 
-put-4 : (s : Numbered) (p : PackageData) (place : ℕ) (o : Bool) → IsGrouped s p place
+put-4 : (s : GroupedData Group) (p : PackageData) (place : ℕ) (o : Bool) → IsGrouped s p place
     → (o ≡ true → has_precise p.source ≡ false)
-    → IsPut s (group_of 4 o (identity_as_key (identity_of p))) place
+    → IsPutInGroup s (group_of 4 o (identity_as_key (identity_of p))) place
 put-4 s p place true g bare = g.open_repository (bare refl)
 put-4 s p place false g bare = g.repository
 
@@ -364,7 +373,7 @@ by-rank d p (Some a) (Some b) rank named h = elim (rank-cases (has_rank_1 a b) (
       ]
     ]
 
-pub in-group : (s : Numbered) (d : Identity) (p : PackageData) (place rank : ℕ)
+pub in-group : (s : GroupedData Group) (d : Identity) (p : PackageData) (place rank : ℕ)
     → IsGrouped s p place → Matches d rank p → IsIn s (group_for rank d) place
 in-group s d p place rank g f =
     let to : (r : ℕ) → rank ≡ r → IsIn s (group_for r d) place → IsIn s (group_for rank d) place =

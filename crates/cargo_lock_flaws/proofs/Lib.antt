@@ -1,4 +1,3 @@
-pub mod Places
 pub mod PackagePlaces
 pub mod AlikePlaces
 pub mod Parts

@@ -1,7 +1,6 @@
 -- Packages that are the only ones of their names and versions, by the index.
 use Rattle.std.proofs.Common.{◌≡◌, ◌<◌, ◌≤◌, ◌+◌, ◌↔◌, ℕ, suc, zero, Bool, true, false, cond, List, [], ◌∷◌, ◌++◌, length, get_or, map, take, slice_get, Option, Some, None, MatchOption, option_map, refl, sym, ap, subst, ◌∙◌, arith, inl, inr}
 use Rattle.std.specs.Prelude.{is_some}
-use Rattle.std.specs.Bool.{Decides}
 use Rattle.std.specs.List.{count_by}
 use Rattle.std.proofs.lemmas.Bool.{cases_Bool, false≢true, eqb-true}
 use Rattle.std.proofs.lemmas.List.{map-append, take_more}
@@ -14,7 +13,7 @@ use Rattle.cargo_lock_graph.specs.Candidates.{versions_of}
 use Rattle.cargo_lock_graph.specs.Targets.{IsLost, Matches, MatchesAt, rank_between}
 use Rattle.cargo_lock_graph.proofs.BestCandidates.{same-version}
 use Rattle.cargo_lock_flaws.specs.Groups.{AreOnly, IsNamedAt, IsOnlyPlace, fits_source, is_only_one}
-use Rattle.cargo_lock_flaws.specs.Places.{IsMarked}
+use Rattle.lists.specs.Marks.{IsMarked}
 use Rattle.cargo_lock_flaws.specs.Reach.{IsOneOfBest}
 
 -- ---- keys that pass a test
@@ -95,15 +94,6 @@ one-counted q (key ∷ keys) one i j h f = elim (cases_Bool (q key)) [
 
 -- ---- packages of a name and a version
 
-has-version : (d : Identity) (p : PackageData)
-    → Decides (is_same_partial_identity (name_and_version d.name d.version)
-    (name_and_version p.name p.version)) (HasNameAndVersion d p)
-has-version d p =
-    let tells = same-version d (identity_of p) in (
-      λ h. record { name = sym (tells.0 h).0; version = sym (tells.0 h).1 },
-      λ e. tells.1 (sym e.name, sym e.version),
-    )
-
 mapped : (o : Option PackageData) (key : PartialIdentity)
     → option_map (λ (p : PackageData). name_and_version p.name p.version) o ≡ Some key
     → (p : PackageData) × (o ≡ Some p) × (name_and_version p.name p.version ≡ key)
@@ -118,7 +108,8 @@ named-of packages d k h =
     (sym (slice_get-map (λ (p : PackageData). name_and_version p.name p.version) packages k) ∙ h.1)
     in
     let same = is_same_partial_identity (name_and_version d.name d.version) in
-    (p, here, (has-version d p).0 (ap same is ∙ h.2))
+    let tells = (same-version d (identity_of p)).0 (ap same is ∙ h.2) in
+    (p, here, record { name = sym tells.0; version = sym tells.1 })
 
 key-of : (packages : List PackageData) (d : Identity) (k : ℕ) → IsNamedAt packages d k
     → HasAt (is_same_partial_identity (name_and_version d.name d.version)) (versions_of packages) k
@@ -126,7 +117,7 @@ key-of packages d k f = (
   name_and_version f.0.name f.0.version,
   slice_get-map (λ (p : PackageData). name_and_version p.name p.version) packages k
       ∙ ap (option_map (λ (p : PackageData). name_and_version p.name p.version)) f.1,
-  (has-version d f.0).1 f.2,
+  (same-version d (identity_of f.0)).1 (sym f.2.name, sym f.2.version),
 )
 
 -- what the index finds first
@@ -216,13 +207,6 @@ rank-there : (o : Option ℕ) → is_some o ≡ true → (rank : ℕ) × (o ≡ 
 rank-there None h = absurd (false≢true h)
 rank-there (Some rank) h = (rank, refl)
 
-same-rank : (packages : List PackageData) (d : Identity) (k rank other : ℕ)
-    → MatchesAt packages d k rank → MatchesAt packages d k other → rank ≡ other
-same-rank packages d k rank other f g =
-    let same : f.0 ≡ g.0 = same_Some f.0 g.0 (sym f.1 ∙ g.1) in
-    let e = subst (λ (p : PackageData). Matches d rank p) same f.2 in
-    same_Some rank other (sym e.ranked ∙ g.2.ranked)
-
 -- it matches
 pub only-match : (packages : List PackageData) (d : Identity) (place : ℕ)
     → IsNamedAt packages d place → IsOnlyPlace packages d place
@@ -238,7 +222,9 @@ only-match packages d place f only fits k =
     only j (match-named packages d j other g) in
     let least : (j other : ℕ) → MatchesAt packages d j other → rank ≤ other = λ j other g.
     let there = subst (λ n. MatchesAt packages d n other) (at j other g) g in
-    let same = same-rank packages d place rank other best there in
+    let one : there.0 ≡ p = same_Some there.0 p (sym there.1 ∙ here) in
+    let told = subst (λ (q : PackageData). Matches d other q) one there.2 in
+    let same : rank ≡ other = same_Some rank other (sym ranked ∙ told.ranked) in
     omega (arith, same) in (
       λ h. at k h.0 h.1.fits,
       λ same. subst (IsOneOfBest packages d) (sym same)

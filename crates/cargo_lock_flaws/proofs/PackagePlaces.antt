@@ -6,9 +6,9 @@ use Rattle.std.proofs.lemmas.Option.{slice_get_read, same_Some}
 use Rattle.cargo_lock_parts.specs.Identity.{PackageData}
 use Rattle.cargo_lock_parts.specs.Source.{Source}
 use Rattle.cargo_lock_graph.specs.Targets.{HoldsOf}
-use Rattle.cargo_lock_flaws.specs.Places.{IsPlaces}
+use Rattle.lists.specs.Places.{IsPlaces}
 use Rattle.cargo_lock_flaws.specs.Sources.{IsFrom}
-use Rattle.cargo_lock_flaws.proofs.Places.{places-pass, places-put}
+use Rattle.lists.proofs.Places.{places-pass, places-put}
 
 -- what holds of a package that was read holds at its place
 pub holds-there : (P : PackageData → Type 0) (packages : List PackageData) (place : ℕ) (p : PackageData) → place < length packages → p ≡ get_or packages place p

@@ -1,5 +1,5 @@
 -- Which keys of the metadata are stale.
-use Rattle.std.proofs.Common.{◌≡◌, ◌≢◌, ◌⊎◌, ◌↔◌, ◌&&◌, inl, inr, ℕ, zero, suc, Bool, true, false, cond, not, List, [], ◌∷◌, map, Some, None, refl, sym, ap, subst, ◌∙◌, arith, T, nat_cmp, Less}
+use Rattle.std.proofs.Common.{◌≡◌, ◌≢◌, ◌↔◌, ◌&&◌, inl, inr, ℕ, Bool, true, false, cond, not, List, [], ◌∷◌, map, Some, None, refl, sym, ap, subst, ◌∙◌, T, nat_cmp, Less}
 use Rattle.std.specs.Cmp.{Equal-is}
 use Rattle.std.specs.Cmp.Lexicographic.{slice_cmp, nat_list_cmp_total}
 use Rattle.std.specs.FinMap.{entries, entries_sorted, find, get, get-entries, is_sorted}
@@ -8,7 +8,7 @@ use Rattle.std.specs.List.{Contains, filter}
 use Rattle.std.specs.Ordering.{eq_by_cmp, is_eq, is_lt}
 use Rattle.std.specs.declared.cmp.Ordering.{Ordering}
 use Rattle.std.specs.declared.cmp.Ordering.TheVariants.{Equal, Greater}
-use Rattle.std.proofs.lemmas.Bool.{cases_Bool, false≢true}
+use Rattle.std.proofs.lemmas.Bool.{and_parts, cases_Bool, false≢true, not-true}
 use Rattle.std.proofs.lemmas.Cmp.{tied_itself}
 use Rattle.std.proofs.lemmas.Option.{same_Some}
 use Rattle.cargo_lock_references.specs.declared.version.ResolveVersion.TheVariants.{V1, V2}
@@ -17,71 +17,20 @@ use Rattle.cargo_lock_references.specs.Records.{Texts}
 use Rattle.cargo_lock_references.specs.ResolutionSearch.{same_text}
 use Rattle.cargo_lock_references.specs.WrittenMetadata.{IsOfPackage}
 use Rattle.cargo_lock_references.proofs.ResolvesToLemmas.{same_text-Decides}
-use Rattle.cargo_lock_references.proofs.Texts.{texts_tie}
+use Rattle.cargo_lock_references.proofs.Texts.{and-first, and-second, texts_tie}
 use Rattle.cargo_lock_references.proofs.WrittenMetadata.{no_checksum_keys}
+use Rattle.lists.proofs.Members.{contains-cases, first-in, in-kept, in-map, kept-in, later-in, map-in, none-in}
 use Rattle.cargo_lock_flaws.specs.Stale.{StaleKeysAreExact, is_of_checksum, no_checksum}
 
 -- ---- members of lists
 
-pub cons-cases : {X : Type 0} (x : X) (xs : List X) (y : X) → Contains (x ∷ xs) y → (x ≡ y) ⊎ Contains xs y
-cons-cases x xs y (zero, lt, at) = inl at
-cons-cases x xs y (suc k, lt, at) = inr (k, omega (arith, lt), at)
-
-pub cons-here : {X : Type 0} (x : X) (xs : List X) → Contains (x ∷ xs) x
-cons-here x xs = (0, omega arith, refl)
-
-pub cons-later : {X : Type 0} (x : X) (xs : List X) (y : X) → Contains xs y → Contains (x ∷ xs) y
-cons-later x xs y c = (suc c.0, (let lt = c.1 in omega (arith, lt)), c.2)
-
-pub nothing-there : {X : Type 0} (y : X) → ¬ Contains [] y
-nothing-there y c = let lt = c.1 in absurd (omega (arith, lt))
-
 filtered : {X : Type 0} (p : X → Bool) (xs : List X) (y : X) → Contains (filter p xs) y ↔ (Contains xs y × (p y ≡ true))
-filtered p [] y = (λ c. absurd (nothing-there y c), λ h. h.0)
-filtered {X} p (x ∷ xs) y = go (p x) refl (filtered p xs y)
-  where
-    go : (b : Bool) → p x ≡ b → Contains (filter p xs) y ↔ (Contains xs y × (p y ≡ true))
-        → Contains (cond b (x ∷ filter p xs) (filter p xs)) y ↔ (Contains (x ∷ xs) y × (p y ≡ true))
-    go true pass rest = (
-      λ c. elim (cons-cases x (filter p xs) y c) [
-        | inl same ↦ (subst (λ z. Contains (x ∷ xs) z) same (cons-here x xs), ap p (sym same) ∙ pass)
-        | inr later ↦ let r = rest.0 later in (cons-later x xs y r.0, r.1)
-      ],
-      λ h. elim (cons-cases x xs y h.0) [
-        | inl same ↦ subst (λ z. Contains (x ∷ filter p xs) z) same (cons-here x (filter p xs))
-        | inr later ↦ cons-later x (filter p xs) y (rest.1 (later, h.1))
-      ],
-    )
-    go false fail rest = (
-      λ c. let r = rest.0 c in (cons-later x xs y r.0, r.1),
-      λ h. elim (cons-cases x xs y h.0) [
-        | inl same ↦ absurd (false≢true (sym fail ∙ ap p same ∙ h.1))
-        | inr later ↦ rest.1 (later, h.1)
-      ],
-    )
+filtered p xs y = (kept-in p xs y, λ h. in-kept p xs y h.0 h.1)
 
 mapped : {X Y : Type 0} (f : X → Y) (xs : List X) (y : Y) → Contains (map f xs) y ↔ ((x : X) × Contains xs x × (f x ≡ y))
-mapped f [] y = (λ c. absurd (nothing-there y c), λ h. absurd (nothing-there h.0 h.1))
-mapped f (x ∷ xs) y = (
-  λ c. elim (cons-cases (f x) (map f xs) y c) [
-    | inl same ↦ (x, cons-here x xs, same)
-    | inr later ↦ let r = (mapped f xs y).0 later in (r.0, cons-later x xs r.0 r.1, r.2)
-  ],
-  λ h. elim (cons-cases x xs h.0 h.1) [
-    | inl same ↦ subst (λ z. Contains (f x ∷ map f xs) z) (ap f same ∙ h.2) (cons-here (f x) (map f xs))
-    | inr later ↦ cons-later (f x) (map f xs) y ((mapped f xs y).1 (h.0, later, h.2))
-  ],
-)
+mapped f xs y = (map-in f xs y, λ h. subst (λ z. Contains (map f xs) z) h.2 (in-map f xs h.0 h.1))
 
 -- ---- pairs of a map
-
-left : (a b : Bool) → T (a && b) → T a
-left true b p = tt
-left false b p = p
-
-right : (a b : Bool) → T (a && b) → T b
-right true b p = p
-right false b p = absurd p
 
 less : (o : Ordering) → T (is_lt o) → o ≡ Less
 less Less p = refl
@@ -89,10 +38,10 @@ less Equal p = absurd p
 less Greater p = absurd p
 
 below-member : (x : List ℕ) (es : List (List ℕ × List ℕ)) (e : List ℕ × List ℕ) → T (below_all (slice_cmp nat_cmp) x es) → Contains es e → slice_cmp nat_cmp x e.0 ≡ Less
-below-member x [] e h c = absurd (nothing-there e c)
-below-member x (d ∷ ds) e h c = elim (cons-cases d ds e c) [
-  | inl same ↦ ap (λ (z : List ℕ × List ℕ). slice_cmp nat_cmp x z.0) (sym same) ∙ less (slice_cmp nat_cmp x d.0) (left _ _ h)
-  | inr later ↦ below-member x ds e (right _ _ h) later
+below-member x [] e h c = absurd (none-in e c)
+below-member x (d ∷ ds) e h c = elim (contains-cases d ds e c) [
+  | inl same ↦ ap (λ (z : List ℕ × List ℕ). slice_cmp nat_cmp x z.0) (sym same) ∙ less (slice_cmp nat_cmp x d.0) (and-first _ _ h)
+  | inr later ↦ below-member x ds e (and-second _ _ h) later
 ]
 
 apart : (o : Ordering) → o ≡ Less → o ≡ Equal → ⊥
@@ -100,25 +49,25 @@ apart o a b = cc (a, b)
 
 found : (es : List (List ℕ × List ℕ)) → T (is_sorted (slice_cmp nat_cmp) es) → (k v : List ℕ)
     → (find (slice_cmp nat_cmp) k es ≡ Some v) ↔ Contains es (k, v)
-found [] sorted k v = (λ e. cc e, λ c. absurd (nothing-there (k, v) c))
-found (d ∷ ds) sorted k v = go (eq_by_cmp (slice_cmp nat_cmp) k d.0) refl (found ds (right _ _ sorted) k v)
+found [] sorted k v = (λ e. cc e, λ c. absurd (none-in (k, v) c))
+found (d ∷ ds) sorted k v = go (eq_by_cmp (slice_cmp nat_cmp) k d.0) refl (found ds (and-second _ _ sorted) k v)
   where
     go : (b : Bool) → eq_by_cmp (slice_cmp nat_cmp) k d.0 ≡ b → (find (slice_cmp nat_cmp) k ds ≡ Some v) ↔ Contains ds (k, v)
         → (cond b (Some d.1) (find (slice_cmp nat_cmp) k ds) ≡ Some v) ↔ Contains (d ∷ ds) (k, v)
     go true tie rest =
         let key : k ≡ d.0 = texts_tie k d.0 ((Equal-is (slice_cmp nat_cmp k d.0)).0 tie) in (
           λ e. let value = same_Some d.1 v e in
-              subst (λ (z : List ℕ × List ℕ). Contains (d ∷ ds) z) (λ i. (sym key i, value i)) (cons-here d ds),
-          λ c. elim (cons-cases d ds (k, v) c) [
+              subst (λ (z : List ℕ × List ℕ). Contains (d ∷ ds) z) (λ i. (sym key i, value i)) (first-in d ds),
+          λ c. elim (contains-cases d ds (k, v) c) [
             | inl same ↦ ap (λ (z : List ℕ × List ℕ). Some z.1) same
             | inr later ↦
-                let below = below-member d.0 ds (k, v) (left _ _ sorted) later in
+                let below = below-member d.0 ds (k, v) (and-first _ _ sorted) later in
                 absurd (apart (slice_cmp nat_cmp d.0 k) below (ap (slice_cmp nat_cmp d.0) key ∙ tied_itself nat_list_cmp_total d.0))
           ],
         )
     go false fail rest = (
-      λ e. cons-later d ds (k, v) (rest.0 e),
-      λ c. elim (cons-cases d ds (k, v) c) [
+      λ e. later-in d ds (k, v) (rest.0 e),
+      λ c. elim (contains-cases d ds (k, v) c) [
         | inl same ↦
             let tie : eq_by_cmp (slice_cmp nat_cmp) k d.0 ≡ true =
             ap (λ (z : List ℕ × List ℕ). eq_by_cmp (slice_cmp nat_cmp) k z.0) same ∙ ap is_eq (tied_itself nat_list_cmp_total k) in
@@ -137,18 +86,10 @@ get-contains m k v =
 
 -- ---- stale keys
 
-both-true : (a b : Bool) → (a && b) ≡ true → (a ≡ true) × (b ≡ true)
-both-true true b h = (refl, h)
-both-true false b h = absurd (false≢true h)
-
-not-true : (b : Bool) → not b ≡ true → b ≡ false
-not-true true h = absurd (false≢true h)
-not-true false h = refl
-
 of-checksum : (k v : List ℕ) → (is_of_checksum (k, v) ≡ true) ↔ ((is_checksum k ≡ true) × (v ≢ no_checksum))
 of-checksum k v = (
   λ h.
-      let parts = both-true (is_checksum k) (not (same_text v no_checksum)) h in
+      let parts = and_parts (is_checksum k) (not (same_text v no_checksum)) h in
       (parts.0, λ e. false≢true (sym (not-true (same_text v no_checksum) parts.1) ∙ (same_text-Decides v no_checksum).1 e)),
   λ h. elim (cases_Bool (same_text v no_checksum)) [
     | inl same ↦ absurd (h.1 ((same_text-Decides v no_checksum).0 same))

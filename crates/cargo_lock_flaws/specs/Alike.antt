@@ -21,7 +21,7 @@ abbrev pub IsFromCratesIo : PackageData → Type 0
 IsFromCratesIo p = option_map is_default_registry p.source ≡ Some true
 
 -- two packages from crates.io with different names that are the same name to crates.io
-pub record AreAlike (p q : PackageData) : Type 0 where
+pub record AreAlikeOnCratesIo (p q : PackageData) : Type 0 where
   pub from : IsFromCratesIo p
   pub other_from : IsFromCratesIo q
   pub same : folded p.name ≡ folded q.name
@@ -29,7 +29,7 @@ pub record AreAlike (p q : PackageData) : Type 0 where
 
 -- the packages at the two places are alike
 abbrev pub AreAlikeAt : List PackageData → ℕ → ℕ → Type 0
-AreAlikeAt packages i j = HoldsOf (λ q. HoldsOf (λ p. AreAlike p q) packages i) packages j
+AreAlikeAt packages i j = HoldsOf (λ q. HoldsOf (λ p. AreAlikeOnCratesIo p q) packages i) packages j
 
 -- the first of the places below a bound at which P holds, or none if it holds at none of them
 abbrev pub IsFirstBelow : (ℕ → Type 0) → ℕ → Option ℕ → Type 0

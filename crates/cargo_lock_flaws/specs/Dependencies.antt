@@ -16,20 +16,20 @@ abbrev pub HoldsAt : (List Identity → ℕ → Type 0) → List PackageData →
 HoldsAt P packages place at = HoldsOf (λ p. P p.dependencies at) packages place
 
 -- the dependency is of an earlier package, or is an earlier one of the same package
-abbrev pub IsBefore : ℕ × ℕ → ℕ × ℕ → Type 0
-IsBefore x y = (x.0 < y.0) ⊎ ((x.0 ≡ y.0) × (x.1 < y.1))
+abbrev pub IsEarlierDependency : ℕ × ℕ → ℕ × ℕ → Type 0
+IsEarlierDependency x y = (x.0 < y.0) ⊎ ((x.0 ≡ y.0) × (x.1 < y.1))
 
 -- the dependencies for which P holds, in order, each as the place of its package and its own place
 -- among the package's dependencies
 pub record AreDependencies (P : ℕ → ℕ → Type 0) (places : List (ℕ × ℕ)) : Type 0 where
-  pub ascending : AllPairs IsBefore places
+  pub ascending : AllPairs IsEarlierDependency places
   pub told : (place at : ℕ) → Contains places (place, at) ↔ P place at
 
 -- those of them that are before a place of a package and a place among its dependencies
 pub record AreDependenciesBefore (P : ℕ → ℕ → Type 0) (place at : ℕ)
     (places : List (ℕ × ℕ)) : Type 0 where
-  pub ascending : AllPairs IsBefore places
-  pub told : (k j : ℕ) → Contains places (k, j) ↔ (IsBefore (k, j) (place, at) × P k j)
+  pub ascending : AllPairs IsEarlierDependency places
+  pub told : (k j : ℕ) → Contains places (k, j) ↔ (IsEarlierDependency (k, j) (place, at) × P k j)
 
 -- the dependency at the place comes after the one at the next place in Cargo's order
 abbrev pub IsAfterNext : List Identity → ℕ → Type 0
@@ -39,8 +39,8 @@ IsAfterNext dependencies at = HoldsOfDependency
 
 -- the package at the place `place` lists the dependency at the place `at` before the next one,
 -- though it comes after that one in Cargo's order
-abbrev pub IsMisplacedAt : List PackageData → ℕ → ℕ → Type 0
-IsMisplacedAt = HoldsAt IsAfterNext
+abbrev pub IsDependencyMisplacedAt : List PackageData → ℕ → ℕ → Type 0
+IsDependencyMisplacedAt = HoldsAt IsAfterNext
 
 -- the dependencies are the same: they have one name, one version and sources of one key
 abbrev pub IsSameDependency : Identity → Identity → Type 0

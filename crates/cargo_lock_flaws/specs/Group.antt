@@ -7,7 +7,8 @@
 use Rattle.std.specs.Prelude.{ℕ, Bool, false, ◌&&◌, ◌==◌, nat_lt, List, [], Option, Some, None}
 use Rattle.std.specs.Prelude.{is_some, option_map, if◌then◌else◌}
 use Rattle.std.specs.Cmp.{IsTotalOrder, bool_cmp_total, nat_cmp_total, on_total, then_total}
-use Rattle.std.specs.Cmp.Lexicographic.{nat_list_cmp_total}
+use Rattle.std.specs.Cmp.Lexicographic.{nat_list_cmp_total, options_total}
+use Rattle.std.specs.Option.{option_cmp}
 use Rattle.std.specs.Ordering.{bool_cmp, eq_by_cmp, nat_cmp, on, then_cmp}
 use Rattle.std.specs.declared.cmp.Ordering.{Ordering}
 use Rattle.url.specs.Parts.{serialize}
@@ -15,8 +16,9 @@ use Rattle.cargo_lock_parts.specs.Identity.{Identity}
 use Rattle.cargo_lock_parts.specs.PartialIdentity.{PartialIdentity, partial_identity_cmp}
 use Rattle.cargo_lock_parts.specs.PartialIdentity.{partial_identity_total}
 use Rattle.cargo_lock_parts.specs.Rank.{commit_of}
-use Rattle.cargo_lock_parts.specs.Source.{Source, is_git}
-use Rattle.cargo_lock_parts.specs.SourceKey.{git_reference_text, kind_number, text_cmp}
+use Rattle.cargo_lock_parts.specs.Source.{Kind, Source, is_git}
+use Rattle.cargo_lock_parts.specs.SourceKey.{git_reference_text, kind_cmp}
+use Rattle.cargo_lock_parts.specs.SourceKey.{kind_number, text_cmp}
 use Rattle.cargo_lock_graph.specs.Candidates.{identity_as_key}
 
 -- what the packages of a group have in common
@@ -24,7 +26,7 @@ pub record Group : Type 0 where
   pub identity : PartialIdentity
   pub rank : ℕ
   pub is_open : Bool
-  pub kind : ℕ
+  pub kind : Option Kind
   pub url : List ℕ
   pub text : List ℕ
 
@@ -35,7 +37,7 @@ group_cmp =
     (on (λ g. g.identity) partial_identity_cmp)
     (on (λ g. g.rank) nat_cmp))
     (on (λ g. g.is_open) bool_cmp))
-    (on (λ g. g.kind) nat_cmp))
+    (on (λ g. g.kind) (option_cmp kind_cmp)))
     (then_cmp (on (λ g. g.url) text_cmp) (on (λ g. g.text) text_cmp))
 
 -- groups that tie
@@ -49,24 +51,23 @@ group_total =
     (on_total (λ (g : Group). g.identity) partial_identity_total)
     (on_total (λ (g : Group). g.rank) nat_cmp_total))
     (on_total (λ (g : Group). g.is_open) bool_cmp_total))
-    (on_total (λ (g : Group). g.kind) nat_cmp_total))
+    (on_total (λ (g : Group). g.kind) (options_total (then_total
+    (on_total kind_number nat_cmp_total)
+    (on_total git_reference_text nat_list_cmp_total)))))
     (then_total
     (on_total (λ (g : Group). g.url) nat_list_cmp_total)
     (on_total (λ (g : Group). g.text) nat_list_cmp_total))
 
 -- ---- the group of an identity
 
--- the sort of the reference, if the rank compares the reference
-abbrev pub kind_at : ℕ → Source → ℕ
-kind_at rank s = if rank == 3 then kind_number s.kind else 0
+-- the kind, if the rank compares its reference
+abbrev pub compared_kind : ℕ → Source → Option Kind
+compared_kind rank s = if rank == 3 then Some s.kind else None
 
--- what a rank compares of a repository beside its URL: the commit, the reference, or nothing
-abbrev pub text_at : ℕ → Source → Option (List ℕ)
-text_at rank s =
-    if is_git s.kind
-    then (if rank == 2 then commit_of s
-    else (if rank == 3 then Some (git_reference_text s.kind) else Some []))
-    else None
+-- what a rank compares of a repository beside its URL and its reference: the commit, or nothing
+abbrev pub compared_text : ℕ → Source → Option (List ℕ)
+compared_text rank s =
+    if is_git s.kind then (if rank == 2 then commit_of s else Some []) else None
 
 -- the group with this text
 abbrev pub group_with : ℕ → Bool → PartialIdentity → Source → List ℕ → Group
@@ -74,7 +75,7 @@ group_with rank is_open i s text = record {
   identity = record { name = i.name; version = i.version; source = None };
   rank = rank;
   is_open = is_open;
-  kind = kind_at rank s;
+  kind = compared_kind rank s;
   url = serialize s.url;
   text = text;
 }
@@ -82,7 +83,8 @@ group_with rank is_open i s text = record {
 -- the group of a source, which is a repository
 abbrev pub source_group : ℕ → Bool → PartialIdentity → Option Source → Option Group
 source_group rank is_open i None = None
-source_group rank is_open i (Some s) = option_map (group_with rank is_open i s) (text_at rank s)
+source_group rank is_open i (Some s) =
+    option_map (group_with rank is_open i s) (compared_text rank s)
 
 -- the group of an identity for a rank, if it has one; for rank 1, all packages with the same
 -- identity
@@ -93,7 +95,7 @@ group_of rank is_open i =
       identity = i;
       rank = rank;
       is_open = false;
-      kind = 0;
+      kind = None;
       url = [];
       text = [];
     }

@@ -1,80 +1,56 @@
 -- The index and the groups in which packages are looked up. Groups have numbers. The only package of
 -- a name and a version need not be in one, since the index finds it.
 use Rattle.std.specs.Prelude.{◌≡◌, ◌<◌, ◌≤◌, ◌↔◌, ℕ, Bool, true, false, List, [], length}
-use Rattle.std.specs.Prelude.{slice_get, Option, Some, None, IfSome, is_some, unwrap_or, Vec}
-use Rattle.std.specs.BTreeMap.{get, is_at}
+use Rattle.std.specs.Prelude.{slice_get, Option, Some, None, is_some, unwrap_or}
+use Rattle.std.specs.BTreeMap.{is_at}
 use Rattle.std.specs.List.{Contains}
 use Rattle.cargo_lock_index.specs.Near.{IsIndexOf, Placed, is_only}
 use Rattle.cargo_lock_parts.specs.Identity.{HasNameAndVersion, Identity, PackageData, identity_of}
 use Rattle.cargo_lock_parts.specs.PartialIdentity.{name_and_version}
 use Rattle.cargo_lock_graph.specs.Candidates.{identity_as_key, versions_of}
 use Rattle.cargo_lock_graph.specs.Targets.{HoldsOf, MatchesAt, rank_between}
+use Rattle.lists.specs.Groups.{GroupedData, key_places}
+use Rattle.lists.specs.Marks.{IsMarked}
 use Rattle.cargo_lock_flaws.specs.declared.groups.BestGroup.{BestGroup}
 use Rattle.cargo_lock_flaws.specs.declared.groups.BestMatch.{BestMatch}
 use Rattle.cargo_lock_flaws.specs.declared.groups.BestMatch.TheVariants.{Many, One}
-use Rattle.cargo_lock_flaws.specs.declared.groups.Numbered.{Numbered}
 use Rattle.cargo_lock_flaws.specs.Group.{Group, group_cmp, group_of, has_precise}
-use Rattle.cargo_lock_flaws.specs.Places.{IsMarked}
 use Rattle.cargo_lock_flaws.specs.Reach.{IsOneOfBest}
 
 -- ---- the places of the packages of each group
 
--- the places in a list that may be absent
-abbrev pub places_in : {Z : Type 0} → Option (Vec ℕ Z) → List ℕ
-places_in None = []
-places_in (Some places) = places.items
-
--- the places of the group with the number, if there is one
-abbrev pub places_at : {Z : Type 0} → List (Vec ℕ Z) → ℕ → List ℕ
-places_at places n = places_in (slice_get places n)
-
--- no place is lost, and the place is one of those of the group with the number
-pub record HasAdded {Z : Type 0} (old new : List (Vec ℕ Z)) (number place : ℕ) : Type 0 where
-  pub longer : length old ≤ length new
-  pub within : number < length new
-  pub kept : (n k : ℕ) → Contains (places_at old n) k → Contains (places_at new n) k
-  pub added : Contains (places_at new number) place
-
--- the places of a group by its number, if it has one
-abbrev pub places_by : {Z : Type 0} → List (Vec ℕ Z) → Option ℕ → List ℕ
-places_by places None = []
-places_by places (Some n) = places_at places n
-
 -- the places of a group
-abbrev pub places_of : Numbered → Group → List ℕ
-places_of s g = places_by s.places.items (get group_cmp s.numbers g)
-
--- each group with a number has places
-abbrev pub IsNumbered : Numbered → Type 0
-IsNumbered s = (q : Group) → IfSome (get group_cmp s.numbers q) (λ n. n < length s.places.items)
+abbrev pub places_in_group : GroupedData Group → Group → List ℕ
+places_in_group = key_places group_cmp
 
 -- the place is one of those of the group, if there is one
-abbrev pub IsPut : Numbered → Option Group → ℕ → Type 0
-IsPut s None place = Unit {0}
-IsPut s (Some group) place =
-    (q : Group) → is_at (group_cmp group) q ≡ true → Contains (places_of s q) place
+abbrev pub IsPutInGroup : GroupedData Group → Option Group → ℕ → Type 0
+IsPutInGroup s None place = Unit {0}
+IsPutInGroup s (Some group) place =
+    (q : Group) → is_at (group_cmp group) q ≡ true → Contains (places_in_group s q) place
 
 -- no place is lost, and the place is one of those of the group
-pub record HasPut (old new : Numbered) (group : Option Group) (place : ℕ) : Type 0 where
-  pub numbered : IsNumbered new
-  pub kept : (q : Group) (k : ℕ) → Contains (places_of old q) k → Contains (places_of new q) k
-  pub put : IsPut new group place
+pub record HasPutInGroup (old new : GroupedData Group) (group : Option Group) (place : ℕ)
+    : Type 0 where
+  pub kept : (q : Group) (k : ℕ) → Contains (places_in_group old q) k
+      → Contains (places_in_group new q) k
+  pub put : IsPutInGroup new group place
 
 -- the place is one of those of each group of the package
-pub record IsGrouped (s : Numbered) (p : PackageData) (place : ℕ) : Type 0 where
-  pub same : IsPut s (group_of 1 false (identity_as_key (identity_of p))) place
-  pub commit : IsPut s (group_of 2 false (identity_as_key (identity_of p))) place
-  pub reference : IsPut s (group_of 3 false (identity_as_key (identity_of p))) place
-  pub repository : IsPut s (group_of 4 false (identity_as_key (identity_of p))) place
+pub record IsGrouped (s : GroupedData Group) (p : PackageData) (place : ℕ) : Type 0 where
+  pub same : IsPutInGroup s (group_of 1 false (identity_as_key (identity_of p))) place
+  pub commit : IsPutInGroup s (group_of 2 false (identity_as_key (identity_of p))) place
+  pub reference : IsPutInGroup s (group_of 3 false (identity_as_key (identity_of p))) place
+  pub repository : IsPutInGroup s (group_of 4 false (identity_as_key (identity_of p))) place
   pub open_reference : has_precise p.source ≡ false
-      → IsPut s (group_of 3 true (identity_as_key (identity_of p))) place
+      → IsPutInGroup s (group_of 3 true (identity_as_key (identity_of p))) place
   pub open_repository : has_precise p.source ≡ false
-      → IsPut s (group_of 4 true (identity_as_key (identity_of p))) place
+      → IsPutInGroup s (group_of 4 true (identity_as_key (identity_of p))) place
 
 -- no place is lost, and the place is one of those of each group of the package
-pub record HasGrouped (old new : Numbered) (p : PackageData) (place : ℕ) : Type 0 where
-  pub numbered : IsNumbered new
-  pub kept : (q : Group) (k : ℕ) → Contains (places_of old q) k → Contains (places_of new q) k
+pub record HasGrouped (old new : GroupedData Group) (p : PackageData) (place : ℕ) : Type 0 where
+  pub kept : (q : Group) (k : ℕ) → Contains (places_in_group old q) k
+      → Contains (places_in_group new q) k
   pub grouped : IsGrouped new p place
 
 -- ---- packages that are the only ones of their names and versions
@@ -97,19 +73,18 @@ AreOnly packages only = (place : ℕ) (p : PackageData) → slice_get packages p
     → IsMarked only place → IsOnlyPlace packages (identity_of p) place
 
 -- each package below the bound without a mark is in each of its groups
-pub record AreGroups (packages : List PackageData) (bound : ℕ) (only : List Bool)
-    (s : Numbered) : Type 0 where
-  pub numbered : IsNumbered s
+pub record AreInGroups (packages : List PackageData) (bound : ℕ) (only : List Bool)
+    (s : GroupedData Group) : Type 0 where
   pub grouped : (k : ℕ) (p : PackageData) → k < bound → slice_get packages k ≡ Some p
       → ¬ IsMarked only k → IsGrouped s p k
 
 -- the index has the names and versions of the packages, the marks are those of packages that are
 -- the only ones of theirs, and the other packages are in the groups
 pub record AreIndexed (packages : List PackageData) (entries : List Placed) (only : List Bool)
-    (s : Numbered) : Type 0 where
+    (s : GroupedData Group) : Type 0 where
   pub index : IsIndexOf (versions_of packages) entries
   pub marks : AreOnly packages only
-  pub groups : AreGroups packages (length packages) only s
+  pub groups : AreInGroups packages (length packages) only s
 
 -- ---- the best group
 

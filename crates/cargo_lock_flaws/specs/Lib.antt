@@ -1,4 +1,3 @@
-pub mod Places
 pub mod Packages
 pub mod Names
 pub mod Alike

@@ -50,23 +50,24 @@ with_place (Some n) place name = record {
 }
 
 -- keys compare as texts
-abbrev pub key_cmp : {Z : Type 0} → Vec ℕ Z → Vec ℕ Z → Ordering
-key_cmp a b = text_cmp a.items b.items
+abbrev pub folded_name_cmp : {Z : Type 0} → Vec ℕ Z → Vec ℕ Z → Ordering
+folded_name_cmp a b = text_cmp a.items b.items
 
 -- the namesakes of each key are recorded for the packages below a bound
 abbrev pub AreSeen : {Z : Type 0} → List PackageData → ℕ → BTreeMap (Vec ℕ Z) Namesakes → Type 0
 AreSeen {Z} packages bound seen =
-    (q : Vec ℕ Z) → AreNamesakes packages bound q.items (get key_cmp seen q)
+    (q : Vec ℕ Z) → AreNamesakes packages bound q.items (get folded_name_cmp seen q)
 
 -- the namesakes of one name, as they were recorded, and with one more package
 pub record HasSeen {Z : Type 0} (old new : BTreeMap (Vec ℕ Z) Namesakes) (place : ℕ)
     (name : Bor (List ℕ)) (found : Option ℕ) : Type 0 where
   pub key : Vec ℕ Z
   pub folded : key.items ≡ folded name.now
-  pub earlier : found ≡ earlier_alike (get key_cmp old key) name.now
-  pub updates : (q : Vec ℕ Z) → get key_cmp new q
-      ≡ cond (is_at (key_cmp key) q) (Some (with_place (get key_cmp old key) place name))
-      (get key_cmp old q)
+  pub earlier : found ≡ earlier_alike (get folded_name_cmp old key) name.now
+  pub updates : (q : Vec ℕ Z) → get folded_name_cmp new q
+      ≡ cond (is_at (folded_name_cmp key) q)
+      (Some (with_place (get folded_name_cmp old key) place name))
+      (get folded_name_cmp old q)
 
 -- the pairs of places whose second one is below a bound
 pub record ArePairsBelow (packages : List PackageData) (bound : ℕ) (pairs : List (ℕ × ℕ)) : Type 0

@@ -42,19 +42,19 @@ source_unless None source = source
 source_unless (Some other) source = None
 
 -- the source of a package without a replacement
-abbrev pub own_source : PackageData → Option Source
-own_source p = source_unless p.replace p.source
+abbrev pub source_unless_replaced : PackageData → Option Source
+source_unless_replaced p = source_unless p.replace p.source
 
 -- the package is from this source, by its key, and has no replacement
 abbrev pub IsOwnFrom : Source → PackageData → Type 0
-IsOwnFrom source p = option_map key_of (own_source p) ≡ Some (key_of source)
+IsOwnFrom source p = option_map key_of (source_unless_replaced p) ≡ Some (key_of source)
 
 -- the package is the first of its registry, which is on the network and of which no package has a
 -- checksum; packages with a replacement do not count
 pub record IsFirstUnchecked (packages : List PackageData) (place : ℕ) (p : PackageData) : Type 0
   where
     pub source : Source
-    pub from : own_source p ≡ Some source
+    pub from : source_unless_replaced p ≡ Some source
     pub remote : is_remote_registry source.kind ≡ true
     pub none : (j : ℕ) → ¬ HoldsOf (HasChecksumFrom source) packages j
     pub first : (j : ℕ) → j < place → ¬ HoldsOf (IsOwnFrom source) packages j

@@ -4,10 +4,11 @@
 -- match one of these equally well, such as one at a branch and one at a commit of one repository,
 -- it leads to each of them. A lockfile of V1 may have a separate root, which is of the workspace
 -- too.
-use Rattle.std.specs.Prelude.{◌≡◌, ◌≤◌, ℕ, List, [], ◌∷◌, Option, Some, None, ◌⊎◌}
+use Rattle.std.specs.Prelude.{◌≡◌, ◌≤◌, ℕ, List, Option, Some, None, ◌⊎◌}
 use Rattle.std.specs.List.{Contains}
 use Rattle.cargo_lock_parts.specs.Identity.{Identity, PackageData}
 use Rattle.cargo_lock_graph.specs.Targets.{HoldsOf, MatchesAt}
+use Rattle.lists.specs.Chains.{IsReachedFrom}
 
 -- the package at the place matches the dependency with this rank, and none matches with a lesser
 -- one
@@ -32,11 +33,6 @@ AsksFor packages p place = (d : Identity) × IsAskedBy p d × IsOneOfBest packag
 abbrev pub PackageLeadsTo : List PackageData → ℕ → ℕ → Type 0
 PackageLeadsTo packages a b = HoldsOf (λ p. AsksFor packages p b) packages a
 
--- a chain from a place over these places to the last of them, where each leads to the next
-abbrev pub IsChain : List PackageData → ℕ → List ℕ → ℕ → Type 0
-IsChain packages a [] end = a ≡ end
-IsChain packages a (b ∷ bs) end = PackageLeadsTo packages a b × IsChain packages b bs end
-
 -- the package at the place is one of the workspace: it has no source
 abbrev pub IsWorkspacePackage : List PackageData → ℕ → Type 0
 IsWorkspacePackage packages place = HoldsOf (λ p. p.source ≡ None) packages place
@@ -52,10 +48,10 @@ abbrev pub IsStart : List PackageData → Option PackageData → ℕ → Type 0
 IsStart packages root place = IsWorkspacePackage packages place ⊎ RootLeadsTo packages root place
 
 -- a chain leads to the place
-abbrev pub IsReached : List PackageData → Option PackageData → ℕ → Type 0
-IsReached packages root place = (start : ℕ) × (chain : List ℕ) × IsStart packages root start
-    × IsChain packages start chain place
+abbrev pub IsReachedFromWorkspace : List PackageData → Option PackageData → ℕ → Type 0
+IsReachedFromWorkspace packages root =
+    IsReachedFrom (IsStart packages root) (PackageLeadsTo packages)
 
 -- no chain leads to the place
 abbrev pub IsOrphan : List PackageData → Option PackageData → ℕ → Type 0
-IsOrphan packages root place = ¬ IsReached packages root place
+IsOrphan packages root place = ¬ IsReachedFromWorkspace packages root place

@@ -13,12 +13,12 @@ use Rattle.cargo_lock_flaws.specs.Dependencies.{HoldsOfDependency, IsSameDepende
 use Rattle.cargo_lock_flaws.specs.Packages.{HasChecksumFrom, IsOwnFrom}
 
 -- the source is among these
-abbrev pub has_source : BTreeSet (Bor Source) → Source → Bool
-has_source sources s = contains_by (λ b. source_cmp s b.now) sources
+abbrev pub is_source_among : BTreeSet (Bor Source) → Source → Bool
+is_source_among sources s = contains_by (λ b. source_cmp s b.now) sources
 
 -- the sources are those of the packages below a bound that have a checksum
 abbrev pub AreChecked : List PackageData → ℕ → BTreeSet (Bor Source) → Type 0
-AreChecked packages bound sources = (s : Source) → (has_source sources s ≡ true)
+AreChecked packages bound sources = (s : Source) → (is_source_among sources s ≡ true)
     ↔ ((j : ℕ) × (j < bound) × HoldsOf (HasChecksumFrom s) packages j)
 
 -- the package has no checksum and no replacement, and it is from a registry on the network that is
@@ -29,7 +29,7 @@ pub record LacksChecksumAmong (sources : BTreeSet (Bor Source)) (p : PackageData
   pub source : Source
   pub from : p.source ≡ Some source
   pub remote : is_remote_registry source.kind ≡ true
-  pub among : has_source sources source ≡ true
+  pub among : is_source_among sources source ≡ true
 
 -- for the dependencies below a bound, the last place of those with each identity
 abbrev pub AreLastDependencies : List Identity → ℕ → BTreeMap PartialIdentity ℕ → Type 0
@@ -39,10 +39,10 @@ AreLastDependencies dependencies bound last = (i : Identity)
 
 -- the sources are those of the packages below a bound without a replacement
 abbrev pub AreOwn : List PackageData → ℕ → BTreeSet (Bor Source) → Type 0
-AreOwn packages bound sources = (s : Source) → (has_source sources s ≡ true)
+AreOwn packages bound sources = (s : Source) → (is_source_among sources s ≡ true)
     ↔ ((j : ℕ) × (j < bound) × HoldsOf (IsOwnFrom s) packages j)
 
 -- the source is a registry on the network that is in neither of these two sets
 abbrev pub is_new : BTreeSet (Bor Source) → BTreeSet (Bor Source) → Source → Bool
-is_new checked seen source = is_remote_registry source.kind && not (has_source checked source)
-    && not (has_source seen source)
+is_new checked seen source = is_remote_registry source.kind && not (is_source_among checked source)
+    && not (is_source_among seen source)

@@ -5,8 +5,9 @@ ghost use Rattle.std.specs.Bool.{Decides};
 ghost use Rattle.std.specs.Ordering.{is_lt};
 ghost use Rattle.cargo_lock_parts.specs.IdentityOrder.{identity_cmp};
 ghost use Rattle.cargo_lock_graph.specs.Candidates.{identity_as_key};
-ghost use Rattle.cargo_lock_flaws.specs.Dependencies.{AreDependencies, AreDependenciesBefore, DoAscend};
-ghost use Rattle.cargo_lock_flaws.specs.Dependencies.{IsAfterNext, IsMisplacedAt, IsRepeatedAt};
+ghost use Rattle.cargo_lock_flaws.specs.Dependencies.{AreDependencies, AreDependenciesBefore};
+ghost use Rattle.cargo_lock_flaws.specs.Dependencies.{DoAscend, IsAfterNext};
+ghost use Rattle.cargo_lock_flaws.specs.Dependencies.{IsDependencyMisplacedAt, IsRepeatedAt};
 
 use cargo_lock_order::dependency_order;
 use cargo_lock_parts::dependency::Dependency;
@@ -28,7 +29,8 @@ pub fn misplaced_dependencies(
     alloc: Global,
     packages: &[Package],
 ) -> Result<Vec<(usize, usize)>, AllocError>
-    ensures { IfOk result (λ places. AreDependencies (IsMisplacedAt packages.now) places.items) }
+    ensures { IfOk result
+        (λ places. AreDependencies (IsDependencyMisplacedAt packages.now) places.items) }
 {
     let mut places = Vec::new(alloc);
     for place in 0..packages.len() {
@@ -45,9 +47,11 @@ fn put_misplaced(
     place: usize,
 ) -> Result<(), AllocError>
     requires within { place < length packages.now }
-    requires before { AreDependenciesBefore (IsMisplacedAt packages.now) place 0 places.old.items }
+    requires before { AreDependenciesBefore (IsDependencyMisplacedAt packages.now)
+        place 0 places.old.items }
     ensures { OnOk result
-        (AreDependenciesBefore (IsMisplacedAt packages.now) (place + 1) 0 places.new.items) }
+        (AreDependenciesBefore (IsDependencyMisplacedAt packages.now)
+        (place + 1) 0 places.new.items) }
 {
     let package = &packages[place];
     let dependencies = package.dependencies.as_slice();

@@ -4,35 +4,36 @@
 //! If there are several, they are in groups, which find those that match without a look at each of
 //! them.
 
-ghost use Rattle.std.specs.Prelude.{◌≡◌, ◌≤◌, ℕ, cond, IfOk, MatchOption, OnOk, Some, length};
-ghost use Rattle.std.specs.Prelude.{List, option_copied, slice_get, unwrap_or};
+ghost use Rattle.std.specs.Prelude.{◌≡◌, ℕ, IfOk, List, MatchOption, OnOk, Some, length};
+ghost use Rattle.std.specs.Prelude.{option_copied, option_map, slice_get};
 ghost use Rattle.std.specs.Bool.{Decides};
-ghost use Rattle.std.specs.BTreeMap.{get, is_at};
+ghost use Rattle.std.specs.Option.{option_cmp};
 ghost use Rattle.cargo_lock_parts.specs.Identity.{PackageData, identity_of};
 ghost use Rattle.cargo_lock_parts.specs.Rank as rank;
 ghost use Rattle.cargo_lock_parts.specs.Rank.{commit_of};
 ghost use Rattle.cargo_lock_parts.specs.Source.{kind_of};
-ghost use Rattle.cargo_lock_parts.specs.SourceKey.{git_reference_text, kind_number};
+ghost use Rattle.cargo_lock_parts.specs.SourceKey.{kind_cmp};
 ghost use Rattle.cargo_lock_index.specs.Near.{IsIndexOf};
 ghost use Rattle.cargo_lock_graph.specs.Candidates.{identity_as_key, versions_of};
 ghost use Rattle.cargo_lock_graph.specs.Targets as target;
 ghost use Rattle.cargo_lock_graph.specs.Targets.{IsLost, Matches, MatchesAt};
 ghost use Rattle.cargo_lock_flaws.specs.Group as spec;
-ghost use Rattle.cargo_lock_flaws.specs.Group.{group_cmp, group_of};
-ghost use Rattle.cargo_lock_flaws.specs.Groups.{AreGroups, AreOnly, AreShared, HasAdded};
-ghost use Rattle.cargo_lock_flaws.specs.Groups.{HasGrouped, HasMatch, HasMatches, HasPut, IsBest};
-ghost use Rattle.cargo_lock_flaws.specs.Groups.{IsBestGroup, IsNamedAt, IsNumbered, fits_source};
-ghost use Rattle.cargo_lock_flaws.specs.Groups.{group_places, is_only_one};
-ghost use Rattle.cargo_lock_flaws.specs.Places.{IsMarked};
+ghost use Rattle.cargo_lock_flaws.specs.Group.{group_of};
+ghost use Rattle.cargo_lock_flaws.specs.Groups.{AreInGroups, AreOnly, AreShared, HasGrouped};
+ghost use Rattle.cargo_lock_flaws.specs.Groups.{HasMatch, HasMatches, HasPutInGroup, IsBest};
+ghost use Rattle.cargo_lock_flaws.specs.Groups.{IsBestGroup, IsNamedAt, fits_source, group_places};
+ghost use Rattle.cargo_lock_flaws.specs.Groups.{is_only_one};
 
 use crate::dependencies::identity;
 use crate::index::{package_key, version_places};
 use cargo_lock_index::places::Places;
 use cargo_lock_parts::dependency::Dependency;
+use cargo_lock_parts::laws::kinds_compare_in_order;
 use cargo_lock_parts::package::{GitReference, Package, PartialIdentity, SourceId, SourceKind};
+use lists::grouped::Grouped;
+use lists::marks::is_marked;
 use std::alloc::{AllocError, Global};
 use std::cmp::Ordering;
-use std::collections::BTreeMap;
 use std::marker::Model;
 
 /// The packages of a list, an index of their names and versions, whether each is the only one of its
@@ -43,11 +44,10 @@ pub(crate) struct Groups<'a> {
     packages: &'a [Package],
     places: Places<'a>,
     only: Vec<bool>,
-    numbered: Numbered<'a>,
+    groups: Grouped<Group<'a>>,
 }
 
 impl<'a> Model for Groups<'a> {
-    ghost use Rattle.std.specs.Prelude.{length, map};
     ghost use Rattle.cargo_lock_flaws.specs.Groups.{AreIndexed, Grouping};
 
     ghost Value = { Grouping };
@@ -55,10 +55,10 @@ impl<'a> Model for Groups<'a> {
     ghost view = { λ g. record {
       packages = g.packages.now;
       only = g.only.items;
-      places = map (λ places. places.items) g.numbered.places.items;
+      places = g.groups.groups;
     } };
 
-    ghost invariant = { λ g. AreIndexed g.packages.now g.places g.only.items g.numbered };
+    ghost invariant = { λ g. AreIndexed g.packages.now g.places g.only.items g.groups };
 }
 
 /// The packages that match a dependency best.
@@ -78,13 +78,6 @@ pub(crate) struct BestGroup {
     pub(crate) number: usize,
 }
 
-// The number of each group, and by that number the places of its packages.
-#[derive(Drop)]
-struct Numbered<'a> {
-    numbers: BTreeMap<Group<'a>, usize>,
-    places: Vec<Vec<usize>>,
-}
-
 // What the packages of a group have in common: the name and the version, and for rank 1 the whole
 // source, or for another rank the URL and what the rank compares beside it. The packages of an open
 // group have no precise text.
@@ -93,12 +86,14 @@ struct Group<'a> {
     identity: PartialIdentity<'a>,
     rank: u8,
     is_open: bool,
-    kind: u8,
+    kind: Option<&'a SourceKind>,
     url: &'a str,
     text: &'a str,
 }
 
 impl<'a> Model for Group<'a> {
+    ghost use Rattle.std.specs.Prelude.{option_map};
+    ghost use Rattle.cargo_lock_parts.specs.Source.{kind_of};
     ghost use Rattle.cargo_lock_flaws.specs.Group.{Group};
 
     ghost Value = { Group };
@@ -107,7 +102,7 @@ impl<'a> Model for Group<'a> {
       identity = g.identity;
       rank = g.rank;
       is_open = g.is_open;
-      kind = g.kind;
+      kind = option_map (λ kind. kind_of kind.now) g.kind;
       url = g.url.now;
       text = g.text.now;
     } };
@@ -163,7 +158,7 @@ impl<'a> Ord for Group<'a> {
         let identities = self.identity.cmp(&other.identity);
         let ranks = identities.then(self.rank.cmp(&other.rank));
         let openness = ranks.then(self.is_open.cmp(&other.is_open));
-        match openness.then(self.kind.cmp(&other.kind)) {
+        match openness.then(cmp_kinds(self.kind, other.kind)) {
             Ordering::Less => Ordering::Less,
             Ordering::Equal => self.url.cmp(other.url).then(self.text.cmp(other.text)),
             Ordering::Greater => Ordering::Greater,
@@ -178,12 +173,12 @@ impl<'a> Groups<'a> {
     {
         let places = version_places(alloc, packages)?;
         let only = only_ones(alloc, packages, &places)?;
-        let numbered = Numbered::of(alloc, packages, &only)?;
+        let groups = grouped(alloc, packages, &only)?;
         Ok(Groups {
             packages,
             places,
             only,
-            numbered,
+            groups,
         })
     }
 
@@ -191,7 +186,7 @@ impl<'a> Groups<'a> {
     pub(crate) fn count(&self) -> usize
         ensures { result ≡ length self.now.places }
     {
-        self.numbered.places.len()
+        self.groups.len()
     }
 
     /// The packages that match a dependency best. `None` if no package matches.
@@ -271,9 +266,8 @@ impl<'a> Groups<'a> {
             ((k : ℕ) → ¬ MatchesAt self.now.packages dependency.now k rank)
             (HasMatches self.now dependency.now rank) }
     {
-        let numbers = &self.numbered.numbers;
         match group_for(rank, dependency) {
-            Some(group) => numbers.get(&group).copied(),
+            Some(group) => self.groups.number(&group),
             None => None,
         }
     }
@@ -282,10 +276,7 @@ impl<'a> Groups<'a> {
     pub(crate) fn places(&self, number: usize) -> &[usize]
         ensures { result.now ≡ group_places self.now number }
     {
-        match self.numbered.places.get(number) {
-            Some(places) => places.as_slice(),
-            None => &[],
-        }
+        self.groups.places(number)
     }
 
     /// Whether the package at a place matches a dependency with a rank.
@@ -299,73 +290,72 @@ impl<'a> Groups<'a> {
     }
 }
 
-impl<'a> Numbered<'a> {
-    // The groups of those packages that are not the only ones.
-    fn of(alloc: Global, packages: &'a [Package], only: &[bool]) -> Result<Numbered<'a>, AllocError>
-        ensures { IfOk result (AreGroups packages.now (length packages.now) only.now) }
-    {
-        let mut numbered = Numbered {
-            numbers: BTreeMap::new(alloc),
-            places: Vec::new(alloc),
-        };
-        for (place, package) in packages.iter().enumerate() {
-            if !is_marked(only, place) {
-                numbered.put_package(alloc, place, package)?;
-            }
-        }
-        Ok(numbered)
-    }
-
-    // Adds the package at a place to each of its groups.
-    fn put_package(
-        &mut self,
-        alloc: Global,
-        place: usize,
-        package: &'a Package,
-    ) -> Result<(), AllocError>
-        requires { IsNumbered self.old }
-        ensures { OnOk result (HasGrouped self.old self.new «package».now place) }
-    {
-        self.put_at(alloc, 1, false, place, package)?;
-        self.put_at(alloc, 2, false, place, package)?;
-        self.put_at(alloc, 3, false, place, package)?;
-        self.put_at(alloc, 4, false, place, package)?;
-        if !has_precise(&package.source) {
-            self.put_at(alloc, 3, true, place, package)?;
-            self.put_at(alloc, 4, true, place, package)?;
-        }
-        Ok(())
-    }
-
-    // Adds the package at a place to its group for a rank, if it has one.
-    fn put_at(
-        &mut self,
-        alloc: Global,
-        rank: u8,
-        is_open: bool,
-        place: usize,
-        package: &'a Package,
-    ) -> Result<(), AllocError>
-        requires { IsNumbered self.old }
-        ensures { OnOk result (HasPut self.old self.new
-            (group_of rank is_open (identity_as_key (identity_of «package».now))) place) }
-    {
-        match group_of(rank, is_open, package_key(package)) {
-            Some(group) => self.put(alloc, group, place),
-            None => Ok(()),
+// The groups of those packages that are not the only ones.
+fn grouped<'a>(
+    alloc: Global,
+    packages: &'a [Package],
+    only: &[bool],
+) -> Result<Grouped<Group<'a>>, AllocError>
+    ensures { IfOk result (AreInGroups packages.now (length packages.now) only.now) }
+{
+    let mut groups = Grouped::new(alloc);
+    for (place, package) in packages.iter().enumerate() {
+        if !is_marked(only, place) {
+            put_package(alloc, &mut groups, place, package)?;
         }
     }
+    Ok(groups)
+}
 
-    // Adds a place to a group.
-    fn put(&mut self, alloc: Global, group: Group<'a>, place: usize) -> Result<(), AllocError>
-        requires { IsNumbered self.old }
-        ensures { OnOk result (HasPut self.old self.new (Some group.entry) place) }
-    {
-        let next = self.places.len();
-        let number = number_of(&mut self.numbers, group, next)?;
-        add(alloc, &mut self.places, number, place)?;
-        Ok(())
+// Adds the package at a place to each of its groups.
+fn put_package<'a>(
+    alloc: Global,
+    groups: &mut Grouped<Group<'a>>,
+    place: usize,
+    package: &'a Package,
+) -> Result<(), AllocError>
+    ensures { OnOk result (HasGrouped groups.old groups.new «package».now place) }
+{
+    put_at(alloc, groups, 1, false, place, package)?;
+    put_at(alloc, groups, 2, false, place, package)?;
+    put_at(alloc, groups, 3, false, place, package)?;
+    put_at(alloc, groups, 4, false, place, package)?;
+    if !has_precise(&package.source) {
+        put_at(alloc, groups, 3, true, place, package)?;
+        put_at(alloc, groups, 4, true, place, package)?;
     }
+    Ok(())
+}
+
+// Adds the package at a place to its group for a rank, if it has one.
+fn put_at<'a>(
+    alloc: Global,
+    groups: &mut Grouped<Group<'a>>,
+    rank: u8,
+    is_open: bool,
+    place: usize,
+    package: &'a Package,
+) -> Result<(), AllocError>
+    ensures { OnOk result (HasPutInGroup groups.old groups.new
+        (group_of rank is_open (identity_as_key (identity_of «package».now))) place) }
+{
+    match group_of(rank, is_open, package_key(package)) {
+        Some(group) => put(alloc, groups, group, place),
+        None => Ok(()),
+    }
+}
+
+// Adds a place to a group.
+fn put<'a>(
+    alloc: Global,
+    groups: &mut Grouped<Group<'a>>,
+    group: Group<'a>,
+    place: usize,
+) -> Result<(), AllocError>
+    ensures { OnOk result (HasPutInGroup groups.old groups.new (Some group.entry) place) }
+{
+    groups.put(alloc, group, place)?;
+    Ok(())
 }
 
 // For each package, whether it is the only one of its name and version.
@@ -390,48 +380,6 @@ fn is_only<'a>(places: &Places<'a>, package: &'a Package) -> bool
         → result ≡ is_only_one packages «package».now }
 {
     places.is_only(PartialIdentity::name_and_version(&package.name, &package.version))
-}
-
-// Whether the place has a mark.
-fn is_marked(marks: &[bool], place: usize) -> bool
-    ensures { Decides result (IsMarked marks.now place) }
-{
-    match marks.get(place) {
-        Some(mark) => *mark,
-        None => false,
-    }
-}
-
-// Adds a place to the group with a number, which may be the next one.
-fn add(
-    alloc: Global,
-    places: &mut Vec<Vec<usize>>,
-    number: usize,
-    place: usize,
-) -> Result<(), AllocError>
-    requires { number ≤ length places.old.items }
-    ensures { OnOk result (HasAdded places.old.items places.new.items number place) }
-{
-    if number == places.len() {
-        places.push(vec![in alloc; place]?)?;
-    } else {
-        places[number].push(place)?;
-    }
-    Ok(())
-}
-
-// The number of a group. It is `next` if the group has none yet.
-fn number_of<'a>(
-    numbers: &mut BTreeMap<Group<'a>, usize>,
-    group: Group<'a>,
-    next: usize,
-) -> Result<usize, AllocError>
-    ensures number { IfOk result (λ number.
-        number ≡ unwrap_or (get group_cmp numbers.old group.entry) next) }
-    ensures numbers { IfOk result (λ number. (q : spec.Group) → get group_cmp numbers.new q
-        ≡ cond (is_at (group_cmp group.entry) q) (Some number) (get group_cmp numbers.old q)) }
-{
-    Ok(*numbers.entry(group)?.or_insert(next))
 }
 
 fn is_match(rank: u8, dependency: &Dependency, package: &Package) -> bool
@@ -485,7 +433,7 @@ fn group_of<'a>(rank: u8, is_open: bool, identity: PartialIdentity<'a>) -> Optio
             identity,
             rank,
             is_open: false,
-            kind: 0,
+            kind: None,
             url: "",
             text: "",
         });
@@ -506,44 +454,35 @@ fn group_of<'a>(rank: u8, is_open: bool, identity: PartialIdentity<'a>) -> Optio
     })
 }
 
-// The sort of the reference, if the rank compares the reference.
-fn kind_at(rank: u8, source: &SourceId) -> u8
-    ensures { result ≡ spec.kind_at rank source.now }
+// The order of two kinds, an absent one before a present one.
+fn cmp_kinds(one: Option<&SourceKind>, other: Option<&SourceKind>) -> Ordering
+    ensures { result ≡ option_cmp kind_cmp (option_map (λ kind. kind_of kind.now) one.entry)
+        (option_map (λ kind. kind_of kind.now) other.entry) }
 {
-    if rank == 3 {
-        kind_number(source.kind())
-    } else {
-        0
+    match (one, other) {
+        (None, None) => Ordering::Equal,
+        (None, Some(_)) => Ordering::Less,
+        (Some(_), None) => Ordering::Greater,
+        (Some(one), Some(other)) => kinds_compare_in_order(one, other),
     }
 }
 
-// The place of a kind in the order of sources.
-fn kind_number(kind: &SourceKind) -> u8
-    ensures { result ≡ kind_number (kind_of kind.now) }
+// The kind, if the rank compares its reference.
+fn kind_at(rank: u8, source: &SourceId) -> Option<&SourceKind>
+    ensures { option_map (λ kind. kind_of kind.now) result ≡ spec.compared_kind rank source.now }
 {
-    match kind {
-        SourceKind::Git(GitReference::DefaultBranch) => 0,
-        SourceKind::Git(GitReference::Tag(_)) => 1,
-        SourceKind::Git(GitReference::Branch(_)) => 2,
-        SourceKind::Git(GitReference::Rev(_)) => 3,
-        SourceKind::Path => 4,
-        SourceKind::Registry => 5,
-        SourceKind::SparseRegistry => 6,
-        SourceKind::LocalRegistry => 7,
-        SourceKind::Directory => 8,
-    }
+    if rank == 3 { Some(source.kind()) } else { None }
 }
 
-// What a rank compares of a repository beside its URL: the commit, the reference, or nothing.
+// What a rank compares of a repository beside its URL and its reference: the commit, or nothing.
 fn text_at(rank: u8, source: &SourceId) -> Option<&str>
-    ensures { option_copied result ≡ spec.text_at rank source.now }
+    ensures { option_copied result ≡ spec.compared_text rank source.now }
 {
     if !source.is_git() {
         return None;
     }
     match rank {
         2 => commit(source),
-        3 => Some(reference_text(source.kind())),
         _ => Some(""),
     }
 }
@@ -565,17 +504,5 @@ fn revision(kind: &SourceKind) -> Option<&str>
     match kind {
         SourceKind::Git(GitReference::Rev(text)) => Some(text.as_str()),
         _ => None,
-    }
-}
-
-// The text of the reference, empty if there is none.
-fn reference_text(kind: &SourceKind) -> &str
-    ensures { result.now ≡ git_reference_text (kind_of kind.now) }
-{
-    match kind {
-        SourceKind::Git(GitReference::Tag(text)) => text.as_str(),
-        SourceKind::Git(GitReference::Branch(text)) => text.as_str(),
-        SourceKind::Git(GitReference::Rev(text)) => text.as_str(),
-        _ => "",
     }
 }

@@ -5,7 +5,7 @@ ghost use Rattle.std.specs.Bool.{Decides};
 ghost use Rattle.std.specs.Char.{is_ascii_digit};
 ghost use Rattle.std.specs.List.{list_all};
 ghost use Rattle.cargo_lock_flaws.specs.Names.{IsBadlyNamed, is_cargo_name, is_name_byte};
-ghost use Rattle.cargo_lock_flaws.specs.Places.{IsPlaces};
+ghost use Rattle.lists.specs.Places.{IsPlaces};
 
 use cargo_lock_parts::package::Package;
 use std::alloc::{AllocError, Global};

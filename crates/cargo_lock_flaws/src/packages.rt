@@ -1,9 +1,11 @@
 //! Places of packages that are wrong.
 
 ghost use Rattle.std.specs.Prelude.{◌≡◌, ◌↔◌, ◌<◌, if◌then◌else◌, true, IfOk, IsTrue, OnOk, length, option_copied};
-ghost use Rattle.cargo_lock_flaws.specs.Packages.{IsMisplaced, IsTwice, IsUnchecked, IsWithoutChecksum, own_source};
-ghost use Rattle.cargo_lock_flaws.specs.Places.{IsPlaces};
-ghost use Rattle.cargo_lock_flaws.specs.Seen.{AreChecked, LacksChecksumAmong, has_source, is_new};
+ghost use Rattle.cargo_lock_flaws.specs.Packages.{IsMisplaced, IsTwice, IsUnchecked};
+ghost use Rattle.cargo_lock_flaws.specs.Packages.{IsWithoutChecksum, source_unless_replaced};
+ghost use Rattle.lists.specs.Places.{IsPlaces};
+ghost use Rattle.cargo_lock_flaws.specs.Seen.{AreChecked, LacksChecksumAmong, is_new};
+ghost use Rattle.cargo_lock_flaws.specs.Seen.{is_source_among};
 ghost use Rattle.cargo_lock_parts.specs.Source.{Source};
 ghost use Rattle.cargo_lock_parts.specs.SourceKey.{is_same_source};
 
@@ -81,8 +83,8 @@ fn checked_sources<'a>(
 }
 
 fn add<'a>(sources: &mut BTreeSet<&'a SourceId>, source: &'a SourceId) -> Result<(), AllocError>
-    ensures { OnOk result ((s : Source) → has_source sources.new s
-        ≡ (if is_same_source source.now s then true else has_source sources.old s)) }
+    ensures { OnOk result ((s : Source) → is_source_among sources.new s
+        ≡ (if is_same_source source.now s then true else is_source_among sources.old s)) }
 {
     sources.insert(source)?;
     Ok(())
@@ -126,7 +128,7 @@ pub fn unchecked_registries(alloc: Global, packages: &[Package]) -> Result<Vec<u
 
 // The source of a package, unless the package is replaced.
 fn own_source<'a>(package: &'a Package) -> Option<&'a SourceId>
-    ensures { option_copied result ≡ own_source «package».now }
+    ensures { option_copied result ≡ source_unless_replaced «package».now }
 {
     if package.replace.is_some() {
         return None;
@@ -141,8 +143,8 @@ fn see<'a>(
     source: &'a SourceId,
 ) -> Result<bool, AllocError>
     ensures is_new { IfOk result (λ found. found ≡ is_new checked.now seen.old source.now) }
-    ensures added { OnOk result ((s : Source) → has_source seen.new s
-        ≡ (if is_same_source source.now s then true else has_source seen.old s)) }
+    ensures added { OnOk result ((s : Source) → is_source_among seen.new s
+        ≡ (if is_same_source source.now s then true else is_source_among seen.old s)) }
 {
     let found = source.is_remote_registry()
         && !checked.contains(&source)

@@ -1,28 +1,23 @@
 //! The packages that no package of the workspace leads to.
 
-ghost use Rattle.std.specs.Prelude.{◌≡◌, ◌<◌, ◌↔◌, ◌⊎◌, ℕ, false, true, IfOk, OnOk, Some, length};
-ghost use Rattle.std.specs.Prelude.{slice_get};
-ghost use Rattle.std.specs.List.{Contains};
-ghost use Rattle.cargo_lock_parts.specs.Identity.{Identity};
+ghost use Rattle.std.specs.Prelude.{◌≡◌, ◌<◌, ◌↔◌, ◌⊎◌, ℕ, false, true, IfOk, IsTrue, OnOk, Some};
+ghost use Rattle.std.specs.Prelude.{length, slice_get};
 ghost use Rattle.cargo_lock_graph.specs.Targets.{MatchesAt};
 ghost use Rattle.cargo_lock_flaws.specs.Groups.{HasMatches, IsBest, group_places};
-ghost use Rattle.cargo_lock_flaws.specs.Places.{IsMarked, IsPlaces};
-ghost use Rattle.cargo_lock_flaws.specs.Reach.{AsksFor, IsOneOfBest, IsOrphan, IsReached, IsWorkspacePackage};
-ghost use Rattle.cargo_lock_flaws.specs.Search.{AreAsked, AreReached, HasBegun, HasReached};
-ghost use Rattle.cargo_lock_flaws.specs.Search.{IsSearch};
+ghost use Rattle.cargo_lock_flaws.specs.Reach.{AsksFor, IsOneOfBest, IsOrphan};
+ghost use Rattle.cargo_lock_flaws.specs.Reach.{IsReachedFromWorkspace, IsStart, IsWorkspacePackage};
+ghost use Rattle.cargo_lock_flaws.specs.Search.{AreGroupsAsked, AreReached};
+ghost use Rattle.lists.specs.Chains.{OneLeadsTo};
+ghost use Rattle.lists.specs.Marks.{IsMarked};
+ghost use Rattle.lists.specs.Places.{IsPlaces};
+ghost use Rattle.lists.specs.Reach.{HasReached, fresh};
 
 use crate::groups::{BestGroup, BestMatch, Groups};
 use cargo_lock_parts::dependency::Dependency;
 use cargo_lock_parts::package::Package;
+use lists::marks::is_marked;
+use lists::reach::Reach;
 use std::alloc::{AllocError, Global};
-
-// The packages that are reached so far, and the places of those whose dependencies are still to be
-// followed.
-#[derive(Drop)]
-struct Search {
-    reached: Vec<bool>,
-    waiting: Vec<usize>,
-}
 
 /// The places of the packages that neither a package without a source nor the root leads to, by
 /// dependencies and replacements. The packages without a source are those of the workspace, and a
@@ -86,9 +81,9 @@ struct Asked {
 
 impl Asked {
     fn has(&self, number: usize) -> bool
-        ensures { result ≡ true → IsMarked self.now.groups.items number }
+        ensures { IsTrue result ↔ (IsMarked self.now.groups.items number) }
     {
-        self.groups.get(number) == Some(&true)
+        is_marked(&self.groups, number)
     }
 
     // Records that all packages of a group were reached.
@@ -102,7 +97,7 @@ impl Asked {
     }
 }
 
-// For each package, whether it is reached.
+// For each package, whether the workspace leads to it.
 fn reached<'a>(
     alloc: Global,
     groups: &Groups<'a>,
@@ -112,218 +107,182 @@ fn reached<'a>(
     requires { groups.now.packages ≡ packages.now }
     ensures count { IfOk result (λ marks. length marks.items ≡ length packages.now) }
     ensures marks { IfOk result (λ marks.
-        (k : ℕ) → IsMarked marks.items k ↔ IsReached packages.now root.now k) }
+        (k : ℕ) → IsMarked marks.items k ↔ IsReachedFromWorkspace packages.now root.now k) }
 {
-    let search = Search::of(alloc, groups, packages, root)?;
-    let Search {
-        reached,
-        waiting: _,
-    } = search;
-    Ok(reached)
+    let mut asked = Asked {
+        groups: vec![in alloc; false; groups.count()]?,
+    };
+    let mut search = begin(alloc, groups, &mut asked, packages, root)?;
+    while let Some(place) = search.next() {
+        follow(&mut search, groups, &mut asked, &packages[place])?;
+    }
+    Ok(search.into_marks())
 }
 
-impl Search {
-    // The finished search, which has reached all that the workspace leads to.
-    fn of<'a>(
-        alloc: Global,
-        groups: &Groups<'a>,
-        packages: &'a [Package],
-        root: &'a Option<Package>,
-    ) -> Result<Search, AllocError>
-        requires { groups.now.packages ≡ packages.now }
-        ensures count { IfOk result (λ search. length search.reached.items ≡ length packages.now) }
-        ensures marks { IfOk result (λ search.
-            (k : ℕ) → IsMarked search.reached.items k ↔ IsReached packages.now root.now k) }
-    {
-        let mut asked = Asked {
-            groups: vec![in alloc; false; groups.count()]?,
-        };
-        let mut search = Search::begin(alloc, groups, &mut asked, packages, root)?;
-        while let Some(place) = search.waiting.pop() {
-            search.follow(groups, &mut asked, &packages[place])?;
-        }
-        Ok(search)
+// A search that has reached each place at which a chain begins.
+fn begin<'a>(
+    alloc: Global,
+    groups: &Groups<'a>,
+    asked: &mut Asked,
+    packages: &'a [Package],
+    root: &'a Option<Package>,
+) -> Result<Reach, AllocError>
+    requires packages { groups.now.packages ≡ packages.now }
+    requires none { (n : ℕ) → ¬ IsMarked asked.old.groups.items n }
+    ensures search { IfOk result
+        (HasReached (IsStart packages.now root.now) (fresh (length packages.now))) }
+    ensures asked { IfOk result
+        (λ search. AreGroupsAsked groups.now search asked.new.groups.items) }
+{
+    let mut search = from_workspace(alloc, packages)?;
+    if let Some(root) = root {
+        follow(&mut search, groups, asked, root)?;
     }
+    Ok(search)
+}
 
-    // A search that has reached each place at which a chain begins.
-    fn begin<'a>(
-        alloc: Global,
-        groups: &Groups<'a>,
-        asked: &mut Asked,
-        packages: &'a [Package],
-        root: &'a Option<Package>,
-    ) -> Result<Search, AllocError>
-        requires packages { groups.now.packages ≡ packages.now }
-        requires none { (n : ℕ) → ¬ IsMarked asked.old.groups.items n }
-        ensures search { IfOk result (IsSearch packages.now root.now) }
-        ensures asked { IfOk result (λ search. AreAsked groups.now search asked.new.groups.items) }
-    {
-        let mut search = Search::from_workspace(alloc, packages)?;
-        if let Some(root) = root {
-            search.follow(groups, asked, root)?;
+// A search that has reached the packages without a source.
+fn from_workspace(alloc: Global, packages: &[Package]) -> Result<Reach, AllocError>
+    ensures { IfOk result
+        (HasReached (IsWorkspacePackage packages.now) (fresh (length packages.now))) }
+{
+    let mut search = Reach::new(alloc, packages.len())?;
+    for (place, package) in packages.iter().enumerate() {
+        if package.source.is_none() {
+            search.reach(place)?;
         }
-        Ok(search)
     }
+    Ok(search)
+}
 
-    // A search that has reached the packages without a source.
-    fn from_workspace(alloc: Global, packages: &[Package]) -> Result<Search, AllocError>
-        ensures { IfOk result (HasBegun packages.now (IsWorkspacePackage packages.now)) }
-    {
-        let mut search = Search {
-            reached: vec![in alloc; false; packages.len()]?,
-            waiting: Vec::new(alloc),
-        };
-        for (place, package) in packages.iter().enumerate() {
-            if package.source.is_none() {
-                search.reach(place)?;
-            }
-        }
-        Ok(search)
+// Reaches what a package leads to.
+fn follow<'a>(
+    search: &mut Reach,
+    groups: &Groups<'a>,
+    asked: &mut Asked,
+    package: &'a Package,
+) -> Result<(), AllocError>
+    requires count { length search.old.marks ≡ length groups.now.packages }
+    requires asked { AreGroupsAsked groups.now search.old asked.old.groups.items }
+    ensures reached { OnOk result
+        (HasReached (AsksFor groups.now.packages «package».now) search.old search.new) }
+    ensures asked { OnOk result (AreGroupsAsked groups.now search.new asked.new.groups.items) }
+{
+    ask_all(search, groups, asked, &package.dependencies)?;
+    if let Some(replace) = &package.replace {
+        ask(search, groups, asked, replace)?;
     }
+    Ok(())
+}
 
-    // Reaches what a package leads to.
-    fn follow<'a>(
-        &mut self,
-        groups: &Groups<'a>,
-        asked: &mut Asked,
-        package: &'a Package,
-    ) -> Result<(), AllocError>
-        requires count { length self.old.reached.items ≡ length groups.now.packages }
-        requires asked { AreAsked groups.now self.old asked.old.groups.items }
-        ensures reached { OnOk result
-            (HasReached (AsksFor groups.now.packages «package».now) self.old self.new) }
-        ensures asked { OnOk result (AreAsked groups.now self.new asked.new.groups.items) }
-    {
-        self.ask_all(groups, asked, &package.dependencies)?;
-        if let Some(replace) = &package.replace {
-            self.ask(groups, asked, replace)?;
-        }
-        Ok(())
+// Reaches the packages that match some dependencies best.
+fn ask_all<'a>(
+    search: &mut Reach,
+    groups: &Groups<'a>,
+    asked: &mut Asked,
+    dependencies: &'a [Dependency],
+) -> Result<(), AllocError>
+    requires count { length search.old.marks ≡ length groups.now.packages }
+    requires asked { AreGroupsAsked groups.now search.old asked.old.groups.items }
+    ensures reached { OnOk result (HasReached
+        (OneLeadsTo (IsOneOfBest groups.now.packages) dependencies.now) search.old search.new) }
+    ensures asked { OnOk result (AreGroupsAsked groups.now search.new asked.new.groups.items) }
+{
+    for dependency in dependencies {
+        ask(search, groups, asked, dependency)?;
     }
+    Ok(())
+}
 
-    // Reaches the packages that match some dependencies best.
-    fn ask_all<'a>(
-        &mut self,
-        groups: &Groups<'a>,
-        asked: &mut Asked,
-        dependencies: &'a [Dependency],
-    ) -> Result<(), AllocError>
-        requires count { length self.old.reached.items ≡ length groups.now.packages }
-        requires asked { AreAsked groups.now self.old asked.old.groups.items }
-        ensures reached { OnOk result (HasReached
-            (λ k. (d : Identity) × Contains dependencies.now d
-            × IsOneOfBest groups.now.packages d k)
-            self.old self.new) }
-        ensures asked { OnOk result (AreAsked groups.now self.new asked.new.groups.items) }
-    {
-        for dependency in dependencies {
-            self.ask(groups, asked, dependency)?;
-        }
-        Ok(())
+// Reaches the packages that match a dependency best.
+fn ask<'a>(
+    search: &mut Reach,
+    groups: &Groups<'a>,
+    asked: &mut Asked,
+    dependency: &'a Dependency,
+) -> Result<(), AllocError>
+    requires count { length search.old.marks ≡ length groups.now.packages }
+    requires asked { AreGroupsAsked groups.now search.old asked.old.groups.items }
+    ensures reached { OnOk result
+        (HasReached (IsOneOfBest groups.now.packages dependency.now) search.old search.new) }
+    ensures asked { OnOk result (AreGroupsAsked groups.now search.new asked.new.groups.items) }
+{
+    if let Some(best) = groups.best(dependency) {
+        ask_best(search, groups, asked, best, dependency)?;
     }
+    Ok(())
+}
 
-    // Reaches the packages that match a dependency best.
-    fn ask<'a>(
-        &mut self,
-        groups: &Groups<'a>,
-        asked: &mut Asked,
-        dependency: &'a Dependency,
-    ) -> Result<(), AllocError>
-        requires count { length self.old.reached.items ≡ length groups.now.packages }
-        requires asked { AreAsked groups.now self.old asked.old.groups.items }
-        ensures reached { OnOk result
-            (HasReached (IsOneOfBest groups.now.packages dependency.now) self.old self.new) }
-        ensures asked { OnOk result (AreAsked groups.now self.new asked.new.groups.items) }
-    {
-        if let Some(best) = groups.best(dependency) {
-            self.ask_best(groups, asked, best, dependency)?;
-        }
-        Ok(())
+// Reaches the packages that match a dependency best, which are these.
+fn ask_best(
+    search: &mut Reach,
+    groups: &Groups<'_>,
+    asked: &mut Asked,
+    best: BestMatch,
+    dependency: &Dependency,
+) -> Result<(), AllocError>
+    requires count { length search.old.marks ≡ length groups.now.packages }
+    requires asked { AreGroupsAsked groups.now search.old asked.old.groups.items }
+    requires best { IsBest groups.now dependency.now best }
+    ensures reached { OnOk result
+        (HasReached (IsOneOfBest groups.now.packages dependency.now) search.old search.new) }
+    ensures asked { OnOk result (AreGroupsAsked groups.now search.new asked.new.groups.items) }
+{
+    match best {
+        BestMatch::One(place) => search.reach(place)?,
+        BestMatch::Many(best) => ask_group(search, groups, asked, best, dependency)?,
     }
+    Ok(())
+}
 
-    // Reaches the packages that match a dependency best, which are these.
-    fn ask_best(
-        &mut self,
-        groups: &Groups<'_>,
-        asked: &mut Asked,
-        best: BestMatch,
-        dependency: &Dependency,
-    ) -> Result<(), AllocError>
-        requires count { length self.old.reached.items ≡ length groups.now.packages }
-        requires asked { AreAsked groups.now self.old asked.old.groups.items }
-        requires best { IsBest groups.now dependency.now best }
-        ensures reached { OnOk result
-            (HasReached (IsOneOfBest groups.now.packages dependency.now) self.old self.new) }
-        ensures asked { OnOk result (AreAsked groups.now self.new asked.new.groups.items) }
-    {
-        match best {
-            BestMatch::One(place) => self.reach(place)?,
-            BestMatch::Many(best) => self.ask_group(groups, asked, best, dependency)?,
-        }
-        Ok(())
+// Reaches the packages of a group that match a dependency best, unless all packages of the group
+// were reached before.
+fn ask_group(
+    search: &mut Reach,
+    groups: &Groups<'_>,
+    asked: &mut Asked,
+    best: BestGroup,
+    dependency: &Dependency,
+) -> Result<(), AllocError>
+    requires count { length search.old.marks ≡ length groups.now.packages }
+    requires asked { AreGroupsAsked groups.now search.old asked.old.groups.items }
+    requires all { HasMatches groups.now dependency.now best.rank best.number }
+    ensures reached { OnOk result (HasReached
+        (λ k. MatchesAt groups.now.packages dependency.now k best.rank) search.old search.new) }
+    ensures asked { OnOk result (AreGroupsAsked groups.now search.new asked.new.groups.items) }
+{
+    if asked.has(best.number) {
+        return Ok(());
     }
+    let is_whole = reach_matches(search, groups, best, dependency)?;
+    if is_whole {
+        asked.put(best.number);
+    }
+    Ok(())
+}
 
-    // Reaches the packages of a group that match a dependency best, unless all packages of the
-    // group were reached before.
-    fn ask_group(
-        &mut self,
-        groups: &Groups<'_>,
-        asked: &mut Asked,
-        best: BestGroup,
-        dependency: &Dependency,
-    ) -> Result<(), AllocError>
-        requires count { length self.old.reached.items ≡ length groups.now.packages }
-        requires asked { AreAsked groups.now self.old asked.old.groups.items }
-        requires all { HasMatches groups.now dependency.now best.rank best.number }
-        ensures reached { OnOk result (HasReached
-            (λ k. MatchesAt groups.now.packages dependency.now k best.rank) self.old self.new) }
-        ensures asked { OnOk result (AreAsked groups.now self.new asked.new.groups.items) }
-    {
-        if asked.has(best.number) {
-            return Ok(());
+// Reaches the packages of a group that match a dependency best. Returns whether these are all
+// packages of the group.
+fn reach_matches(
+    search: &mut Reach,
+    groups: &Groups<'_>,
+    best: BestGroup,
+    dependency: &Dependency,
+) -> Result<bool, AllocError>
+    requires count { length search.old.marks ≡ length groups.now.packages }
+    requires all { HasMatches groups.now dependency.now best.rank best.number }
+    ensures reached { OnOk result (HasReached
+        (λ k. MatchesAt groups.now.packages dependency.now k best.rank) search.old search.new) }
+    ensures whole { IfOk result (λ is_whole. is_whole ≡ true
+        → AreReached (group_places groups.now best.number) search.new) }
+{
+    let mut is_whole = true;
+    for place in groups.places(best.number) {
+        if groups.is_match(best.rank, dependency, *place) {
+            search.reach(*place)?;
+        } else {
+            is_whole = false;
         }
-        let is_whole = self.reach_matches(groups, best, dependency)?;
-        if is_whole {
-            asked.put(best.number);
-        }
-        Ok(())
     }
-
-    // Reaches the packages of a group that match a dependency best. Returns whether these are all
-    // packages of the group.
-    fn reach_matches(
-        &mut self,
-        groups: &Groups<'_>,
-        best: BestGroup,
-        dependency: &Dependency,
-    ) -> Result<bool, AllocError>
-        requires count { length self.old.reached.items ≡ length groups.now.packages }
-        requires all { HasMatches groups.now dependency.now best.rank best.number }
-        ensures reached { OnOk result (HasReached
-            (λ k. MatchesAt groups.now.packages dependency.now k best.rank) self.old self.new) }
-        ensures whole { IfOk result (λ is_whole. is_whole ≡ true
-            → AreReached (group_places groups.now best.number) self.new) }
-    {
-        let mut is_whole = true;
-        for place in groups.places(best.number) {
-            if groups.is_match(best.rank, dependency, *place) {
-                self.reach(*place)?;
-            } else {
-                is_whole = false;
-            }
-        }
-        Ok(is_whole)
-    }
-
-    // Reaches a place, whose dependencies are still to be followed if it was not reached before.
-    fn reach(&mut self, place: usize) -> Result<(), AllocError>
-        requires { place < length self.old.reached.items }
-        ensures { OnOk result (HasReached (λ k. k ≡ place) self.old self.new) }
-    {
-        if !self.reached[place] {
-            self.reached[place] = true;
-            self.waiting.push(place)?;
-        }
-        Ok(())
-    }
+    Ok(is_whole)
 }

@@ -3,7 +3,7 @@
 
 ghost use Rattle.std.specs.Prelude.{IfOk, length};
 ghost use Rattle.cargo_lock_flaws.specs.Lost.{AreLost};
-ghost use Rattle.cargo_lock_flaws.specs.Places.{IsPlaces};
+ghost use Rattle.lists.specs.Places.{IsPlaces};
 ghost use Rattle.cargo_lock_flaws.specs.Reach.{IsOrphan};
 
 use crate::groups::Groups;

@@ -1,6 +1,2 @@
-pub mod Packages
-pub mod Differences
-pub mod Asked
-pub mod Verified
-pub mod Licensed
-pub mod Audited
+pub mod Pieces
+pub mod Depths

@@ -1,10 +1,5 @@
-pub mod File
+pub mod Dependency
+pub mod Linked
 pub mod Package
-pub mod Difference
-pub mod Why
-pub mod Duplicates
-pub mod Verify
-pub mod Archives
-pub mod Folders
-pub mod Licenses
-pub mod Audit
+pub mod Leads
+pub mod Document

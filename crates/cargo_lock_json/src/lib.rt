@@ -1,29 +1,13 @@
-//! What the commands print with `--json`: a difference, why packages are there, the names that
-//! several packages have, and what is found of archives and folders, of licences and by advisories,
-//! each as one line of JSON whose keys are in a fixed order. Texts are as lockfiles, manifests and
-//! advisories have them, and JSON escapes them. `cargo_lock_findings` has what is wrong with a
-//! lockfile.
+//! A lockfile as one document of JSON, for programs in any language: its packages, and for each one
+//! the packages on which it depends, by their places, as the edges of its tree lead.
 //!
-//! `docs/JSON.md` has the documents.
+//! `docs/JSON.md` has the document.
 #![tactic(auto)]
 
-pub mod archives;
-pub mod audit;
-mod change;
-pub mod difference;
-pub mod duplicates;
-pub mod file;
-pub mod folders;
-pub mod licenses;
-pub mod package;
-mod verify;
-pub mod why;
+mod dependency;
+pub mod document;
+pub mod leads;
+pub mod linked;
+mod package;
 
-pub use crate::archives::archives_json;
-pub use crate::audit::advisories_json;
-pub use crate::difference::difference_json;
-pub use crate::duplicates::groups_json;
-pub use crate::file::File;
-pub use crate::folders::folders_json;
-pub use crate::licenses::verdicts_json;
-pub use crate::why::answers_json;
+pub use crate::document::lockfile_json;

@@ -1,112 +1,144 @@
-//! Packages and dependencies in JSON.
+//! Packages in JSON.
 
-ghost use Rattle.std.specs.Prelude.{◌∷◌, codes, map, option_map, true};
-ghost use Rattle.semver.specs.Identifiers.{parts_of, parts_text};
-ghost use Rattle.json.specs.Token.{begin_object, key, string};
+ghost use Rattle.std.specs.Prelude.{◌∷◌, [], codes, decimal, is_none, map};
+ghost use Rattle.std.specs.Prelude.{if◌then◌else◌};
+ghost use Rattle.std.specs.List.{flat_map};
+ghost use Rattle.std.specs.Option.{option_to_list};
+ghost use Rattle.json.specs.Json.{array};
+ghost use Rattle.json.specs.Token.{key, number};
 ghost use Rattle.json.specs.Tree.{json_tokens};
-ghost use Rattle.json_line.specs.Text.{Adds};
-ghost use Rattle.cargo_lock_parts.specs.SourceText.{text_of};
-ghost use Rattle.cargo_lock_json.specs.Package.{dependency_json, package_json, package_or_null};
-ghost use Rattle.cargo_lock_json.specs.Package.{packages_json};
-ghost use Rattle.json_line.specs.Value.{text_or_null};
+ghost use Rattle.cargo_lock_json.specs.Linked.{places, unresolved};
+ghost use Rattle.cargo_lock_json.specs.Package.{listed_dependencies_json, listed_package_json};
+ghost use Rattle.cargo_lock_json.specs.Package.{listed_package_or_null, places_json};
+ghost use Rattle.cargo_lock_json.specs.Dependency.{listed_dependency_json};
+ghost use Rattle.printing.specs.Json.{Adds, items_of};
 
+use crate::dependency::{put_dependency, put_dependency_or_null};
+use crate::linked::{Lead, Linked};
+use cargo_lock_display::{begin_identity, put_digest_or_null, put_origin};
 use cargo_lock_parts::dependency::Dependency;
-use cargo_lock_parts::package::{Name, Package, SourceId, Version};
-use json_line::{Text, put_digest_or_null};
-use std::alloc::{AllocError, Global};
+use cargo_lock_parts::package::Package;
+use printing::{JsonWriter, ToJson, write_array};
+use std::alloc::AllocError;
 
-/// Writes a member whose value is a package, or null. Fails when out of memory.
-pub fn put_package_or_null(
-    out: &mut Text,
-    alloc: Global,
-    name: &str,
-    package: Option<&Package>,
-) -> Result<(), AllocError>
-    ensures { Adds result out.old out.new (key name.now
-        ∷ json_tokens (package_or_null (option_map (λ p. p.now) «package».entry))) }
+// Writes the member with the packages.
+pub(crate) fn put_packages(out: &mut JsonWriter, packages: &[Linked<'_>]) -> Result<(), AllocError>
+    ensures { Adds result out.old out.new (key (codes "packages")
+        ∷ json_tokens (array (items_of (map listed_package_json packages.now)))) }
 {
-    match package {
-        Some(package) => {
-            out.key(name)?;
-            put_package(out, alloc, package)
-        }
-        None => out.null_member(name),
+    out.key("packages")?;
+    write_array(out, packages)
+}
+
+impl ToJson for Linked<'_> {
+    ghost use Rattle.cargo_lock_json.specs.Package.{listed_package_json};
+
+    ghost json = { listed_package_json };
+
+    fn write_json(&self, out: &mut JsonWriter) -> Result<(), AllocError> {
+        put_parts(out, self.package, self.leads.as_slice())
     }
 }
 
-/// Writes a package: name, version, source and checksum. Fails when out of memory.
-#[tactic(auto, unfolding(crate::specs::Package::identity_json))]
-pub fn put_package(out: &mut Text, alloc: Global, package: &Package) -> Result<(), AllocError>
-    ensures { Adds result out.old out.new (json_tokens (package_json «package».now)) }
+// Writes the member with the root, or null.
+pub(crate) fn put_root(out: &mut JsonWriter, root: &Option<Linked<'_>>) -> Result<(), AllocError>
+    ensures { Adds result out.old out.new (key (codes "root")
+        ∷ json_tokens (listed_package_or_null root.now)) }
 {
-    put_identity(out, alloc, &package.name, &package.version, &package.source)?;
-    put_digest_or_null(out, alloc, "checksum", &package.checksum)?;
+    out.key("root")?;
+    match root {
+        Some(root) => root.write_json(out),
+        None => out.null(),
+    }
+}
+
+#[tactic(auto, unfolding(crate::specs::Package::listed_package_json))]
+fn put_parts(out: &mut JsonWriter, package: &Package, leads: &[Lead<'_>]) -> Result<(), AllocError>
+    ensures { Adds result out.old out.new (json_tokens
+        (listed_package_json (record { listed = «package».now; leads = leads.now }))) }
+{
+    begin_identity(out, &package.name, &package.version, &package.source)?;
+    put_origin(out, &package.source)?;
+    put_digest_or_null(out, "checksum", &package.checksum)?;
+    put_dependencies_of(out, leads)?;
+    put_unresolved_of(out, leads)?;
+    out.key("replace")?;
+    put_dependency_or_null(out, &package.replace)?;
     out.end_object()
 }
 
-// Writes the array of packages.
-pub(crate) fn put_packages(
-    out: &mut Text,
-    alloc: Global,
-    packages: &[&Package],
-) -> Result<(), AllocError>
-    ensures { Adds result out.old out.new
-        (json_tokens (packages_json (map (λ p. p.now) packages.now))) }
+// Writes the member with the places to which dependencies lead.
+fn put_dependencies_of(out: &mut JsonWriter, leads: &[Lead<'_>]) -> Result<(), AllocError>
+    ensures { Adds result out.old out.new (key (codes "dependencies")
+        ∷ json_tokens (places_json (places leads.now))) }
+{
+    out.key("dependencies")?;
+    put_places(out, leads)
+}
+
+fn put_places(out: &mut JsonWriter, leads: &[Lead<'_>]) -> Result<(), AllocError>
+    ensures { Adds result out.old out.new (json_tokens (places_json (places leads.now))) }
 {
     out.begin_array()?;
-    for one in packages {
-        put_package(out, alloc, one)?;
+    for lead in leads {
+        put_place(out, lead)?;
     }
     out.end_array()
 }
 
-/// Writes a dependency as a package without a checksum. Fails when out of memory.
-#[tactic(auto, unfolding(crate::specs::Package::identity_json))]
-pub fn put_dependency(
-    out: &mut Text,
-    alloc: Global,
-    dependency: &Dependency,
-) -> Result<(), AllocError>
-    ensures { Adds result out.old out.new (json_tokens (dependency_json dependency.now)) }
+// Writes the place to which a dependency leads, if it leads to one.
+fn put_place(out: &mut JsonWriter, lead: &Lead<'_>) -> Result<(), AllocError>
+    ensures { Adds result out.old out.new
+        (flat_map (λ n. number (decimal n) ∷ []) (option_to_list lead.now.place)) }
 {
-    put_identity(
-        out,
-        alloc,
-        &dependency.name,
-        &dependency.version,
-        &dependency.source,
-    )?;
-    out.null_member("checksum")?;
-    out.end_object()
-}
-
-// Begins an object, and writes a name, a version and a source.
-fn put_identity(
-    out: &mut Text,
-    alloc: Global,
-    name: &Name,
-    version: &Version,
-    source: &Option<SourceId>,
-) -> Result<(), AllocError>
-    ensures { Adds result out.old out.new (begin_object
-        ∷ key (codes "name") ∷ string name.now
-        ∷ key (codes "version") ∷ string (parts_text (parts_of version.now))
-        ∷ key (codes "source")
-        ∷ json_tokens (text_or_null (option_map (text_of true) source.now))) }
-{
-    out.begin_object()?;
-    out.string_member("name", name.as_str())?;
-    out.displayed_member(alloc, "version", version)?;
-    put_source(out, alloc, source)
-}
-
-// Writes the member with a source.
-fn put_source(out: &mut Text, alloc: Global, source: &Option<SourceId>) -> Result<(), AllocError>
-    ensures { Adds result out.old out.new (key (codes "source")
-        ∷ json_tokens (text_or_null (option_map (text_of true) source.now))) }
-{
-    match source {
-        Some(source) => out.displayed_member(alloc, "source", &source.as_url(true)),
-        None => out.null_member("source"),
+    match lead.place {
+        Some(place) => out.number(place as u64),
+        None => Ok(()),
     }
+}
+
+// Writes the member with the dependencies that lead nowhere.
+fn put_unresolved_of(out: &mut JsonWriter, leads: &[Lead<'_>]) -> Result<(), AllocError>
+    ensures { Adds result out.old out.new (key (codes "unresolved")
+        ∷ json_tokens (listed_dependencies_json (unresolved leads.now))) }
+{
+    out.key("unresolved")?;
+    put_unresolved(out, leads)
+}
+
+fn put_unresolved(out: &mut JsonWriter, leads: &[Lead<'_>]) -> Result<(), AllocError>
+    ensures { Adds result out.old out.new
+        (json_tokens (listed_dependencies_json (unresolved leads.now))) }
+{
+    out.begin_array()?;
+    for lead in leads {
+        put_if_unresolved(out, lead)?;
+    }
+    out.end_array()
+}
+
+// Writes a dependency if it leads nowhere.
+fn put_if_unresolved(out: &mut JsonWriter, lead: &Lead<'_>) -> Result<(), AllocError>
+    ensures { Adds result out.old out.new (if is_none lead.now.place
+        then json_tokens (listed_dependency_json lead.now.dependency) else []) }
+{
+    match lead.place {
+        Some(_) => Ok(()),
+        None => put_dependency(out, lead.dependency),
+    }
+}
+
+// Writes dependencies.
+pub(crate) fn put_dependencies(
+    out: &mut JsonWriter,
+    dependencies: &[Dependency],
+) -> Result<(), AllocError>
+    ensures { Adds result out.old out.new
+        (json_tokens (listed_dependencies_json dependencies.now)) }
+{
+    out.begin_array()?;
+    for dependency in dependencies {
+        put_dependency(out, dependency)?;
+    }
+    out.end_array()
 }

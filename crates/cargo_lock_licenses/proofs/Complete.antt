@@ -2,7 +2,7 @@
 use Rattle.std.proofs.Common.{◌≡◌, ◌≤◌, ◌<◌, ◌∙◌, ◌∷◌, ◌++◌, ◌+◌, ◌&&◌, ◌||◌, [], ℕ, Bool, true, false, List, Some, ap, append-nil, append_assoc, arith, length, lt-ltb, nat_lt, refl, sym}
 use Rattle.cargo_lock_licenses.specs.declared.evaluation.Level.{Level}
 use Rattle.cargo_lock_licenses.specs.Evaluation.{LastData, Name, Operator, State, Value, at_start, evaluated, is_term, run}
-use Rattle.cargo_lock_licenses.specs.Grammar.{Alternatives, Both, Either, Joined, Part, Reads, ReadsAs, Single, Term, Tree, both, bracket, either, exception, joined, name, single}
+use Rattle.cargo_lock_licenses.specs.Grammar.{Alternatives, Both, Either, Joined, Part, ReadsAs, ReadsAsPart, Single, Term, Tree, both, bracket, either, exception, joined, name, single}
 use Rattle.cargo_lock_licenses.specs.Tokens.{And, Close, Id, Open, Or, Other, TokenData, With}
 
 -- whether the expression is true
@@ -101,7 +101,7 @@ opens allowed around level ts room =
     rw e refl
 
 -- the value of a part takes its place
-pub reads-value : (allowed : List (List ℕ)) (n : ℕ) (part : Part) (ts : List TokenData) (e : Tree) → Reads n part ts e
+pub reads-value : (allowed : List (List ℕ)) (n : ℕ) (part : Part) (ts : List TokenData) (e : Tree) → ReadsAsPart n part ts e
     → (around : List Level) (any all : Bool) (rest : List TokenData) → n + length around ≤ 100 → Begins part any all → Follows part rest
     → run allowed (at around any all Operator) (ts ++ rest) ≡ run allowed (at around any all (Value (value allowed e))) rest
 reads-value allowed _ _ _ _ (name n id) around any all rest room begins follows = name-ends allowed around any all id rest follows

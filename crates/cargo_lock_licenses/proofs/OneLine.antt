@@ -1,10 +1,10 @@
 -- Each verdict is one line: each part of it is printable.
 use Rattle.std.proofs.Common.{codes, refl}
-use Rattle.shown.specs.declared.form.Form.TheVariants.{Quoted}
-use Rattle.shown.proofs.LinesOf.{each-is-line}
-use Rattle.shown.proofs.Printable.{Prints, join, literal, shown-prints, words}
-use Rattle.cargo_lock_diff.proofs.OneLine.{package-prints}
-use Rattle.cargo_lock_licenses.specs.Lines.{EachIsOneLine, verdict_line}
+use Rattle.printing.specs.declared.form.Form.TheVariants.{Quoted}
+use Rattle.printing.proofs.LinesOf.{each-is-line}
+use Rattle.printing.proofs.Printable.{Prints, join, literal, shown-prints, words}
+use Rattle.cargo_lock_display.proofs.Printed.{package-prints}
+use Rattle.cargo_lock_licenses.specs.Lines.{EachVerdictIsOneLine, verdict_line}
 use Rattle.cargo_lock_licenses.specs.Verdicts.{Allowed, Differ, NoExpression, NoLicense, NoManifest, NotAllowed, OnlyFile, VerdictData}
 
 line-prints : (v : VerdictData) → Prints (verdict_line v)
@@ -19,5 +19,5 @@ line-prints (NoLicense p) = words (codes "! ") refl (join (package-prints p) (wo
 line-prints (NoManifest p) = words (codes "! ") refl (join (package-prints p) (words (codes ": ") refl (literal (codes "no manifest") refl)))
 line-prints (Differ p) = words (codes "! ") refl (join (package-prints p) (words (codes ": ") refl (literal (codes "manifests differ") refl)))
 
-pub each-is-one-line : EachIsOneLine
+pub each-is-one-line : EachVerdictIsOneLine
 each-is-one-line found = each-is-line verdict_line line-prints found

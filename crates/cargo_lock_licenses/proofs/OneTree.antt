@@ -2,7 +2,7 @@
 use Rattle.std.proofs.Common.{◌≡◌, ◌∙◌, ◌∷◌, ◌++◌, [], ℕ, List, None, Option, Some, ap, append-nil, append_assoc, refl, sym}
 use Rattle.std.specs.Prelude.{option_and_then, option_map}
 use Rattle.std.proofs.lemmas.Option.{same_Some}
-use Rattle.cargo_lock_licenses.specs.Grammar.{Alternatives, Both, Either, Joined, OneReading, Part, Reads, ReadsAs, Single, Term, Tree, both, bracket, either, exception, joined, name, single, with_exception}
+use Rattle.cargo_lock_licenses.specs.Grammar.{Alternatives, Both, Either, Joined, OneReading, Part, ReadsAs, ReadsAsPart, Single, Term, Tree, both, bracket, either, exception, joined, name, single, with_exception}
 use Rattle.cargo_lock_licenses.specs.Tokens.{And, Close, Id, Open, Or, Other, TokenData, With}
 use Rattle.cargo_lock_licenses.proofs.Complete.{NotAnd, NotWith, not-with}
 
@@ -128,7 +128,7 @@ Begins Alternatives any all = (any ≡ None) × (all ≡ None)
 Begins Joined any all = all ≡ None
 Begins Single any all = Unit {0}
 
-reads-tree : (n : ℕ) (part : Part) (ts : List TokenData) (e : Tree) → Reads n part ts e
+reads-tree : (n : ℕ) (part : Part) (ts : List TokenData) (e : Tree) → ReadsAsPart n part ts e
     → (around : List Level) (any all : Option Tree) (rest : List TokenData) → Begins part any all → Follows part rest
     → run (at around any all Operator) (ts ++ rest) ≡ run (at around any all (Whole e)) rest
 reads-tree _ _ _ _ (name n id) around any all rest begins follows = name-ends around any all id rest follows

@@ -2,7 +2,7 @@
 use Rattle.std.proofs.Common.{◌≡◌, ◌==◌, ◌≢◌, ◌∙◌, ◌++◌, ◌∷◌, [], ℕ, Bool, true, false, List, ap, append-nil, append_assoc, bytes_eq, codes, if◌then◌else◌, refl, sym}
 use Rattle.std.specs.List.{flat_map}
 use Rattle.std.specs.Char.{is_ascii_whitespace}
-use Rattle.cargo_lock_licenses.specs.Grammar.{Alternatives, Joined, Part, Reads, Single, Tree, both, bracket, either, exception, joined, name, single}
+use Rattle.cargo_lock_licenses.specs.Grammar.{Alternatives, Joined, Part, ReadsAsPart, Single, Tree, both, bracket, either, exception, joined, name, single}
 use Rattle.cargo_lock_licenses.specs.Printed.{PrintedReadsAgain, printed, token_text}
 use Rattle.cargo_lock_licenses.specs.Tokens.{And, Close, Id, Open, Or, Other, Piece, Sign, TokenData, With, Word, is_letter, onto_word, piece_tokens, pieces, sign_tokens, tokens, word_token}
 use Rattle.cargo_lock_licenses.proofs.Pieces.{IsApart, IsWord, tokens-apart}
@@ -107,7 +107,7 @@ around : (ts us : List TokenData) (t : TokenData) (rest : List ℕ) → printed 
 around ts us t rest = ap (λ text. text ++ rest) (printed-append ts (t ∷ us)) ∙ append_assoc (printed ts) (token_text t ++ printed us) rest
     ∙ ap (λ text. printed ts ++ text) (append_assoc (token_text t) (printed us) rest)
 
-part-again : (n : ℕ) (part : Part) (ts : List TokenData) (e : Tree) → Reads n part ts e → AreNames ts → (rest : List ℕ) → IsApart (pieces rest)
+part-again : (n : ℕ) (part : Part) (ts : List TokenData) (e : Tree) → ReadsAsPart n part ts e → AreNames ts → (rest : List ℕ) → IsApart (pieces rest)
     → tokens (printed ts ++ rest) ≡ ts ++ tokens rest
 part-again _ _ _ _ (name n id) h rest apart = ap (λ text. tokens (text ++ rest)) (append-nil id) ∙ name-token id rest h.0 apart
 part-again _ _ _ _ (exception n id other) h rest apart =

@@ -3,13 +3,13 @@ use Rattle.std.proofs.Common.{◌≡◌, ◌<◌, ◌∙◌, ◌∷◌, ◌++◌
 use Rattle.std.specs.Prelude.{option_and_then, option_map}
 use Rattle.cargo_lock_licenses.specs.declared.evaluation.Level.{Level}
 use Rattle.cargo_lock_licenses.specs.Evaluation.{Exempt, LastData, Name, Operator, State, Value, after_name, after_with, and_level, at_level, at_start, closed, ended, ended_with, evaluated, is_term, opened, or_level, run, start, step, value_of, with_last}
-use Rattle.cargo_lock_licenses.specs.Grammar.{Alternatives, Both, Either, Joined, Part, Reads, Single, Term, Tree, both, bracket, either, exception, joined, name, single, with_exception}
+use Rattle.cargo_lock_licenses.specs.Grammar.{Alternatives, Both, Either, Joined, Part, ReadsAsPart, Single, Term, Tree, both, bracket, either, exception, joined, name, single, with_exception}
 use Rattle.cargo_lock_licenses.specs.Tokens.{And, Close, Id, Open, Or, Other, TokenData, With}
 use Rattle.cargo_lock_licenses.proofs.Complete.{value}
 
 -- the tokens read as an expression of this value
 abbrev pub Means : List (List ℕ) → ℕ → Part → List TokenData → Bool → Type 0
-Means allowed n part ts v = (e : Tree) × Reads n part ts e × (value allowed e ≡ v)
+Means allowed n part ts v = (e : Tree) × ReadsAsPart n part ts e × (value allowed e ≡ v)
 
 -- what is before the last `OR` of a bracket
 data AnyPart (allowed : List (List ℕ)) (n : ℕ) : List TokenData → Bool → Type 0 where
@@ -58,7 +58,7 @@ joins : (allowed : List (List ℕ)) (n : ℕ) (after end : List TokenData) (all 
 joins allowed n _ end _ v no_all m = (m.0, single n end m.0 m.1, m.2)
 joins allowed n _ end _ v (some_all ts all l) m = (
   Both l.0 m.0,
-  subst (λ us. Reads n Joined us (Both l.0 m.0)) (sym (append_assoc ts (And ∷ []) end)) (both n ts end l.0 m.0 l.1 m.1),
+  subst (λ us. ReadsAsPart n Joined us (Both l.0 m.0)) (sym (append_assoc ts (And ∷ []) end)) (both n ts end l.0 m.0 l.1 m.1),
   ap (λ a. a && value allowed m.0) l.2 ∙ ap (λ b. all && b) m.2,
 )
 
@@ -66,7 +66,7 @@ chooses : (allowed : List (List ℕ)) (n : ℕ) (before end : List TokenData) (a
 chooses allowed n _ end _ v no_any m = (m.0, joined n end m.0 m.1, m.2)
 chooses allowed n _ end _ v (some_any ts any l) m = (
   Either l.0 m.0,
-  subst (λ us. Reads n Alternatives us (Either l.0 m.0)) (sym (append_assoc ts (Or ∷ []) end)) (either n ts end l.0 m.0 l.1 m.1),
+  subst (λ us. ReadsAsPart n Alternatives us (Either l.0 m.0)) (sym (append_assoc ts (Or ∷ []) end)) (either n ts end l.0 m.0 l.1 m.1),
   ap (λ a. a || value allowed m.0) l.2 ∙ ap (λ b. any || b) m.2,
 )
 

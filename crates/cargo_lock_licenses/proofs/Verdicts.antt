@@ -1,5 +1,5 @@
 -- What is said of packages.
-use Rattle.std.proofs.Common.{◌≡◌, ◌≢◌, ◌↔◌, ◌∙◌, ◌&&◌, ◌||◌, ◌++◌, ◌∷◌, [], ℕ, Bool, true, false, true≢false, IsTrue, List, None, Option, Some, ap, append-nil, arith, bytes_eq, filter, if◌then◌else◌, get_or, inl, inr, length, map, nat_eq, IfOk, Result, Ok, Err, refl, string_bytes, subst, sym, take, ◌+◌, ◌<◌, String}
+use Rattle.std.proofs.Common.{◌≡◌, ◌≢◌, ◌↔◌, ◌∙◌, ◌||◌, ◌++◌, ◌∷◌, [], ℕ, Bool, true, false, true≢false, IsTrue, List, None, Option, Some, ap, append-nil, arith, bytes_eq, filter, if◌then◌else◌, get_or, inl, inr, length, map, nat_eq, IfOk, Result, Ok, Err, refl, string_bytes, subst, sym, take, ◌+◌, ◌<◌, String}
 use Rattle.std.specs.List.{All, AllZip, Contains, list_all, list_any}
 use Rattle.std.specs.Option.{option_eq}
 use Rattle.std.proofs.lemmas.Slice.Eq.{bytes_eq-Decides}
@@ -7,6 +7,8 @@ use Rattle.std.proofs.lemmas.Bool.{eqb-true}
 use Rattle.std.proofs.lemmas.List.{take_more}
 use Rattle.std.proofs.lemmas.Option.{same_Some}
 use Rattle.std.proofs.lemmas.List.Elements.{All-cons, All-head, All-nil, All-tail}
+use Rattle.lists.proofs.Tests.{and-both, and-parts}
+use Rattle.cargo_lock_graph.proofs.Zipped.{zip-push}
 use Rattle.cargo_lock_parts.specs.Identity.{PackageData}
 use Rattle.cargo_lock_licenses.specs.declared.subject.Manifest.{Manifest}
 use Rattle.cargo_lock_licenses.specs.declared.subject.Subject.{Subject}
@@ -14,7 +16,7 @@ use Rattle.cargo_lock_licenses.specs.declared.verdict.Verdict.{Verdict}
 use Rattle.cargo_lock_licenses.specs.Allowed.{IsAllowed}
 use Rattle.cargo_lock_licenses.specs.Grammar.{IsExpression, ReadsAs, Tree}
 use Rattle.cargo_lock_licenses.specs.Report.{AddsVerdict, AreVerdicts}
-use Rattle.cargo_lock_licenses.specs.Subjects.{ManifestData, SubjectData, has_source, is_same, manifest_of, subject_of}
+use Rattle.cargo_lock_licenses.specs.Subjects.{LicenseSubjectData, ManifestData, is_same, license_subject_of, manifest_of, subject_has_source}
 use Rattle.cargo_lock_licenses.specs.Tokens.{TokenData, tokens}
 use Rattle.cargo_lock_licenses.specs.Verdicts.{Allowed, Differ, IsVerdict, IsVerdictIn, IsVerdictOf, IsVerdictOn, MoreAddNoFinding, NoExpression, NoLicense, NoManifest, NotAllowed, OnlyFile, Permits, VerdictData, is_finding, verdict_of}
 use Rattle.cargo_lock_licenses.proofs.Complete.{evaluated-value, value}
@@ -32,17 +34,9 @@ text-same : (a : Option (List ℕ)) → option_eq bytes_eq a a ≡ true
 text-same None = refl
 text-same (Some a) = (bytes_eq-Decides a a).1 refl
 
-both-true : (a b : Bool) → (a && b) ≡ true → (a ≡ true) × (b ≡ true)
-both-true true b e = (refl, e)
-both-true false b e = absurd (true≢false (sym e))
-
-and-both : (a b : Bool) → a ≡ true → b ≡ true → (a && b) ≡ true
-and-both true b e f = f
-and-both false b e f = absurd (true≢false (sym e))
-
 same-is : (a b : ManifestData) → is_same a b ≡ true → b ≡ a
 same-is a b e =
-    let (l, f) = both-true (option_eq bytes_eq a.license b.license) (option_eq bytes_eq a.file b.file) e in
+    let (l, f) = and-parts (option_eq bytes_eq a.license b.license) (option_eq bytes_eq a.file b.file) e in
     let license : b.license ≡ a.license = same-text a.license b.license l in
     let file : b.file ≡ a.file = same-text a.file b.file f in
     let make : Option (List ℕ) → Option (List ℕ) → ManifestData = λ x y. record { license = x; file = y } in
@@ -54,7 +48,7 @@ is-same a b e = subst (λ x. is_same a x ≡ true) (sym e) (and-both (option_eq 
 pub all-same : (m : ManifestData) (others : List Manifest) → list_all (λ o. is_same m (manifest_of o)) others ≡ true → All (λ o. o ≡ m) (map manifest_of others)
 all-same m [] e = All-nil (λ o. o ≡ m)
 all-same m (o ∷ others) e =
-    let (here, rest) = both-true (is_same m (manifest_of o)) (list_all (λ x. is_same m (manifest_of x)) others) e in
+    let (here, rest) = and-parts (is_same m (manifest_of o)) (list_all (λ x. is_same m (manifest_of x)) others) e in
     All-cons (λ x. x ≡ m) (manifest_of o) (map manifest_of others) (same-is m (manifest_of o) here) (all-same m others rest)
 
 same-all : (m : ManifestData) (others : List Manifest) → All (λ o. o ≡ m) (map manifest_of others) → list_all (λ o. is_same m (manifest_of o)) others ≡ true
@@ -69,12 +63,6 @@ not-same m others e h = true≢false (sym (same-all m others h) ∙ e)
 
 -- ---- lists of verdicts
 
-zip-push : {A B : Type 0} (R : A → B → Type 0) (xs : List A) (ys : List B) (x : A) (y : B) → AllZip R xs ys → R x y → AllZip R (xs ++ x ∷ []) (ys ++ y ∷ [])
-zip-push R [] [] x y h r = (r, tt)
-zip-push R [] (b ∷ ys) x y h r = absurd h
-zip-push R (a ∷ xs) [] x y h r = absurd h
-zip-push R (a ∷ xs) (b ∷ ys) x y h r = (h.0, zip-push R xs ys x y h.1 r)
-
 filter-push : {A : Type 0} (p : A → Bool) (xs : List A) (x : A) → filter p (xs ++ x ∷ []) ≡ filter p xs ++ (if p x then x ∷ [] else [])
 filter-push p [] x = refl
 filter-push p (a ∷ xs) x = by (p a) (filter-push p xs x)
@@ -84,18 +72,18 @@ filter-push p (a ∷ xs) x = by (p a) (filter-push p xs x)
     by true e = ap (λ ys. a ∷ ys) e
     by false e = e
 
-pub one-more : (allowed : List (List ℕ)) (before : List SubjectData) (s : SubjectData) (old new : List VerdictData) → AreVerdicts allowed before old → AddsVerdict allowed s (has_source s) old new
+pub one-more : (allowed : List (List ℕ)) (before : List LicenseSubjectData) (s : LicenseSubjectData) (old new : List VerdictData) → AreVerdicts allowed before old → AddsVerdict allowed s (subject_has_source s) old new
     → AreVerdicts allowed (before ++ s ∷ []) new
 one-more allowed before s old new are adds =
-    subst (λ xs. AllZip (IsVerdict allowed) xs new) (sym (filter-push has_source before s)) (by (has_source s) adds)
+    subst (λ xs. AllZip (IsVerdict allowed) xs new) (sym (filter-push subject_has_source before s)) (by (subject_has_source s) adds)
   where
-    by : (b : Bool) → AddsVerdict allowed s b old new → AllZip (IsVerdict allowed) (filter has_source before ++ (if b then s ∷ [] else [])) new
+    by : (b : Bool) → AddsVerdict allowed s b old new → AllZip (IsVerdict allowed) (filter subject_has_source before ++ (if b then s ∷ [] else [])) new
     by true a =
-        subst (AllZip (IsVerdict allowed) (filter has_source before ++ s ∷ [])) (sym a.2)
-        (zip-push (IsVerdict allowed) (filter has_source before) old s a.0 are a.1)
+        subst (AllZip (IsVerdict allowed) (filter subject_has_source before ++ s ∷ [])) (sym a.2)
+        (zip-push (IsVerdict allowed) (filter subject_has_source before) old s a.0 are a.1)
     by false a =
-        subst (λ xs. AllZip (IsVerdict allowed) xs new) (sym (append-nil (filter has_source before)))
-        (subst (AllZip (IsVerdict allowed) (filter has_source before)) (sym a) are)
+        subst (λ xs. AllZip (IsVerdict allowed) xs new) (sym (append-nil (filter subject_has_source before)))
+        (subst (AllZip (IsVerdict allowed) (filter subject_has_source before)) (sym a) are)
 
 pub any-of-verdicts : (vs : List Verdict) → list_any (λ v. is_finding (verdict_of v)) vs ≡ list_any is_finding (map verdict_of vs)
 any-of-verdicts [] = refl
@@ -166,9 +154,9 @@ map-push f (y ∷ ys) x = ap (λ zs. f y ∷ zs) (map-push f ys x)
 
 -- a step of the loop over the subjects
 pub next-subject : (allowed : List (List ℕ)) (subjects : List Subject) (i : ℕ) (s : Subject) (old new : List VerdictData) → i < length subjects → s ≡ get_or subjects i s
-    → AreVerdicts allowed (map subject_of (take i subjects)) old → AddsVerdict allowed (subject_of s) (has_source (subject_of s)) old new → AreVerdicts allowed (map subject_of (take (i + 1) subjects)) new
+    → AreVerdicts allowed (map license_subject_of (take i subjects)) old → AddsVerdict allowed (license_subject_of s) (subject_has_source (license_subject_of s)) old new → AreVerdicts allowed (map license_subject_of (take (i + 1) subjects)) new
 next-subject allowed subjects i s old new within is are adds =
-    subst (λ xs. AreVerdicts allowed xs new) (sym (ap (map subject_of) so_far ∙ map-push subject_of (take i subjects) s)) (one-more allowed (map subject_of (take i subjects)) (subject_of s) old new are adds)
+    subst (λ xs. AreVerdicts allowed xs new) (sym (ap (map license_subject_of) so_far ∙ map-push license_subject_of (take i subjects) s)) (one-more allowed (map license_subject_of (take i subjects)) (license_subject_of s) old new are adds)
   where
     so_far : take (i + 1) subjects ≡ take i subjects ++ s ∷ []
     so_far = take_more subjects i s within ∙ ap (λ x. take i subjects ++ x ∷ []) (sym is)

@@ -23,23 +23,24 @@ pub data Part : Type 0 where
 --   alternatives := joined {"OR" joined}
 --   joined := single {"AND" single}
 --   single := NAME | NAME "WITH" NAME | "(" alternatives ")"
-pub data Reads : ℕ → Part → List TokenData → Tree → Type 0 where
-  name : (n : ℕ) (id : List ℕ) → Reads n Single (Id id ∷ []) (Term id)
+pub data ReadsAsPart : ℕ → Part → List TokenData → Tree → Type 0 where
+  name : (n : ℕ) (id : List ℕ) → ReadsAsPart n Single (Id id ∷ []) (Term id)
   exception : (n : ℕ) (id other : List ℕ)
-      → Reads n Single (Id id ∷ With ∷ Id other ∷ []) (Term (with_exception id other))
-  bracket : (n : ℕ) (ts : List TokenData) (e : Tree) → Reads n Alternatives ts e
-      → Reads (suc n) Single (Open ∷ (ts ++ Close ∷ [])) e
-  single : (n : ℕ) (ts : List TokenData) (e : Tree) → Reads n Single ts e → Reads n Joined ts e
-  both : (n : ℕ) (ts us : List TokenData) (l r : Tree) → Reads n Joined ts l → Reads n Single us r
-      → Reads n Joined (ts ++ And ∷ us) (Both l r)
-  joined : (n : ℕ) (ts : List TokenData) (e : Tree) → Reads n Joined ts e
-      → Reads n Alternatives ts e
-  either : (n : ℕ) (ts us : List TokenData) (l r : Tree) → Reads n Alternatives ts l
-      → Reads n Joined us r → Reads n Alternatives (ts ++ Or ∷ us) (Either l r)
+      → ReadsAsPart n Single (Id id ∷ With ∷ Id other ∷ []) (Term (with_exception id other))
+  bracket : (n : ℕ) (ts : List TokenData) (e : Tree) → ReadsAsPart n Alternatives ts e
+      → ReadsAsPart (suc n) Single (Open ∷ (ts ++ Close ∷ [])) e
+  single : (n : ℕ) (ts : List TokenData) (e : Tree) → ReadsAsPart n Single ts e
+      → ReadsAsPart n Joined ts e
+  both : (n : ℕ) (ts us : List TokenData) (l r : Tree) → ReadsAsPart n Joined ts l
+      → ReadsAsPart n Single us r → ReadsAsPart n Joined (ts ++ And ∷ us) (Both l r)
+  joined : (n : ℕ) (ts : List TokenData) (e : Tree) → ReadsAsPart n Joined ts e
+      → ReadsAsPart n Alternatives ts e
+  either : (n : ℕ) (ts us : List TokenData) (l r : Tree) → ReadsAsPart n Alternatives ts l
+      → ReadsAsPart n Joined us r → ReadsAsPart n Alternatives (ts ++ Or ∷ us) (Either l r)
 
 -- the tokens read as the expression
 abbrev pub ReadsAs : List TokenData → Tree → Type 0
-ReadsAs = Reads 100 Alternatives
+ReadsAs = ReadsAsPart 100 Alternatives
 
 -- the text is the expression
 abbrev pub IsExpression : List ℕ → Tree → Type 0

@@ -8,3 +8,4 @@ pub mod Subjects
 pub mod Verdicts
 pub mod Report
 pub mod Lines
+pub mod Document

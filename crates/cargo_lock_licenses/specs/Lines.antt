@@ -2,11 +2,11 @@
 use Rattle.std.specs.Prelude.{◌≡◌, ◌++◌, [], ◌∷◌, ℕ, List, codes, map}
 use Rattle.std.specs.List.{flat_map}
 use Rattle.std.specs.Str.Lines.{lines}
-use Rattle.shown.specs.Shown.{shown}
-use Rattle.shown.specs.declared.form.Form.TheVariants.{Quoted}
+use Rattle.printing.specs.Shown.{shown}
+use Rattle.printing.specs.declared.form.Form.TheVariants.{Quoted}
 use Rattle.cargo_lock_parts.specs.Ascii.{newline}
 use Rattle.cargo_lock_parts.specs.Identity.{PackageData}
-use Rattle.cargo_lock_diff.specs.Change.{package_text}
+use Rattle.cargo_lock_display.specs.Line.{package_text}
 use Rattle.cargo_lock_licenses.specs.Verdicts.{VerdictData, Allowed, Differ, NoExpression}
 use Rattle.cargo_lock_licenses.specs.Verdicts.{NoLicense, NoManifest, NotAllowed, OnlyFile}
 
@@ -32,9 +32,10 @@ verdict_line (NoManifest p) = plain_line p (codes "no manifest")
 verdict_line (Differ p) = plain_line p (codes "manifests differ")
 
 -- the line of each verdict, with its newline
-abbrev pub report_text : List VerdictData → List ℕ
-report_text = flat_map (λ v. verdict_line v ++ newline ∷ [])
+abbrev pub verdicts_text : List VerdictData → List ℕ
+verdicts_text = flat_map (λ v. verdict_line v ++ newline ∷ [])
 
 -- each verdict is exactly one line, whatever names, versions, sources, paths and texts hold
-abbrev pub EachIsOneLine : Type 0
-EachIsOneLine = (found : List VerdictData) → lines (report_text found) ≡ map verdict_line found
+abbrev pub EachVerdictIsOneLine : Type 0
+EachVerdictIsOneLine = (found : List VerdictData)
+    → lines (verdicts_text found) ≡ map verdict_line found

@@ -23,14 +23,15 @@ abbrev pub is_same : ManifestData → ManifestData → Bool
 is_same a b = option_eq bytes_eq a.license b.license && option_eq bytes_eq a.file b.file
 
 -- a package, and what its manifests say
-pub record SubjectData : Type 0 where
+pub record LicenseSubjectData : Type 0 where
   pub content : PackageData
   pub manifests : List ManifestData
 
 -- the data of a subject of the program
-abbrev pub subject_of : Subject → SubjectData
-subject_of s = record { content = s.«package».now; manifests = map manifest_of s.manifests.items }
+abbrev pub license_subject_of : Subject → LicenseSubjectData
+license_subject_of s =
+    record { content = s.«package».now; manifests = map manifest_of s.manifests.items }
 
 -- the package has a source
-abbrev pub has_source : SubjectData → Bool
-has_source s = is_some s.content.source
+abbrev pub subject_has_source : LicenseSubjectData → Bool
+subject_has_source s = is_some s.content.source

@@ -7,7 +7,7 @@ use Rattle.cargo_lock_licenses.specs.declared.verdict.Verdict.{Verdict}
 use Rattle.cargo_lock_licenses.specs.declared.verdict.Verdict.TheVariants as verdict
 use Rattle.cargo_lock_licenses.specs.Allowed.{IsAllowed}
 use Rattle.cargo_lock_licenses.specs.Grammar.{IsExpression, Tree}
-use Rattle.cargo_lock_licenses.specs.Subjects.{ManifestData, SubjectData}
+use Rattle.cargo_lock_licenses.specs.Subjects.{LicenseSubjectData, ManifestData}
 
 -- what is said of a package: its expression is allowed, or not; its text is no expression; it has a
 -- file in place of one; it has no licence; it has no manifest; its manifests differ
@@ -72,11 +72,11 @@ IsVerdictIn allowed p (m ∷ others) v =
     ⊎ ((¬ All (λ o. o ≡ m) others) × (v ≡ Differ p))
 
 -- this is said of a subject
-abbrev pub IsVerdict : List (List ℕ) → SubjectData → VerdictData → Type 0
+abbrev pub IsVerdict : List (List ℕ) → LicenseSubjectData → VerdictData → Type 0
 IsVerdict allowed s = IsVerdictIn allowed s.content s.manifests
 
 -- more allowed terms make no finding
 abbrev pub MoreAddNoFinding : Type 0
-MoreAddNoFinding = (some more : List (List ℕ)) (s : SubjectData) (v w : VerdictData)
+MoreAddNoFinding = (some more : List (List ℕ)) (s : LicenseSubjectData) (v w : VerdictData)
     → some ≢ [] → All (Contains more) some → IsVerdict some s v → IsVerdict more s w
     → is_finding w ≡ true → is_finding v ≡ true

@@ -3,7 +3,7 @@
 
 ghost use Rattle.cargo_lock_licenses.specs.Allowed.{MoreAllowMore};
 ghost use Rattle.cargo_lock_licenses.specs.Grammar.{OneReading};
-ghost use Rattle.cargo_lock_licenses.specs.Lines.{EachIsOneLine};
+ghost use Rattle.cargo_lock_licenses.specs.Lines.{EachVerdictIsOneLine};
 ghost use Rattle.cargo_lock_licenses.specs.Printed.{PrintedReadsAgain};
 ghost use Rattle.cargo_lock_licenses.specs.Verdicts.{MoreAddNoFinding};
 
@@ -29,5 +29,5 @@ pub fn more_add_no_finding()
 
 /// What is said of each package is one line, whatever names, sources, paths and texts hold.
 pub fn each_is_one_line()
-    ensures { EachIsOneLine }
+    ensures { EachVerdictIsOneLine }
 {}

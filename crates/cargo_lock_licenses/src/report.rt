@@ -3,7 +3,7 @@
 ghost use Rattle.std.specs.Prelude.{◌≡◌, IfOk, OnOk, map, string_bytes};
 ghost use Rattle.std.specs.List.{list_any};
 ghost use Rattle.cargo_lock_licenses.specs.Report.{AddsVerdict, AreVerdicts};
-ghost use Rattle.cargo_lock_licenses.specs.Subjects.{has_source, subject_of};
+ghost use Rattle.cargo_lock_licenses.specs.Subjects.{license_subject_of, subject_has_source};
 ghost use Rattle.cargo_lock_licenses.specs.Verdicts.{is_finding, verdict_of};
 
 use crate::subject::Subject;
@@ -32,7 +32,7 @@ impl<'p, 'a> Report<'p, 'a> {
         allowed: &[String],
     ) -> Result<Report<'p, 'a>, AllocError>
         ensures { IfOk result (λ report. AreVerdicts (map string_bytes allowed.now)
-            (map subject_of subjects.now) (map verdict_of report.verdicts.items)) }
+            (map license_subject_of subjects.now) (map verdict_of report.verdicts.items)) }
     {
         let mut verdicts = Vec::new(alloc);
         for subject in subjects {
@@ -56,9 +56,9 @@ fn put_verdict<'p, 'a>(
     subject: &'a Subject<'p>,
     allowed: &[String],
 ) -> Result<(), AllocError>
-    ensures { OnOk result (AddsVerdict (map string_bytes allowed.now) (subject_of subject.now)
-        (has_source (subject_of subject.now)) (map verdict_of verdicts.old.items)
-        (map verdict_of verdicts.new.items)) }
+    ensures { OnOk result (AddsVerdict (map string_bytes allowed.now)
+        (license_subject_of subject.now) (subject_has_source (license_subject_of subject.now))
+        (map verdict_of verdicts.old.items) (map verdict_of verdicts.new.items)) }
 {
     if !subject.has_source() {
         return Ok(());
@@ -77,10 +77,10 @@ fn has_finding(verdicts: &[Verdict<'_, '_>]) -> bool
 
 impl fmt::Display for Report<'_, '_> {
     ghost use Rattle.std.specs.Prelude.{Some, map};
-    ghost use Rattle.cargo_lock_licenses.specs.Lines.{report_text};
+    ghost use Rattle.cargo_lock_licenses.specs.Lines.{verdicts_text};
     ghost use Rattle.cargo_lock_licenses.specs.Verdicts.{verdict_of};
 
-    ghost output = { λ report. Some (report_text (map verdict_of report.verdicts.items)) };
+    ghost output = { λ report. Some (verdicts_text (map verdict_of report.verdicts.items)) };
 
     fn fmt<W: fmt::Write>(&self, f: &mut fmt::Formatter<W>) -> fmt::Result {
         for verdict in &self.verdicts {

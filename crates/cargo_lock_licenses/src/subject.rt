@@ -1,7 +1,7 @@
 //! Packages and what their manifests say of licences.
 
 ghost use Rattle.std.specs.Prelude.{◌≡◌, is_some};
-ghost use Rattle.cargo_lock_licenses.specs.Subjects.{is_same, manifest_of, subject_of};
+ghost use Rattle.cargo_lock_licenses.specs.Subjects.{is_same, license_subject_of, manifest_of};
 
 use cargo_lock_parts::package::Package;
 
@@ -37,7 +37,7 @@ pub struct Subject<'a> {
 impl Subject<'_> {
     // Whether the package has a source.
     pub(crate) fn has_source(&self) -> bool
-        ensures { result ≡ is_some (subject_of self.now).content.source }
+        ensures { result ≡ is_some (license_subject_of self.now).content.source }
     {
         let package = self.package;
         package.source.is_some()

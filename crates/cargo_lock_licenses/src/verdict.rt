@@ -6,15 +6,15 @@ ghost use Rattle.std.specs.List.{list_all};
 ghost use Rattle.cargo_lock_licenses.specs.Grammar.{ReadsAs, Tree};
 ghost use Rattle.cargo_lock_licenses.specs.Lines.{only_file_line, plain_line};
 ghost use Rattle.cargo_lock_licenses.specs.Reading.{tokens_of};
-ghost use Rattle.cargo_lock_licenses.specs.Subjects.{is_same, manifest_of, subject_of};
+ghost use Rattle.cargo_lock_licenses.specs.Subjects.{is_same, license_subject_of, manifest_of};
 ghost use Rattle.cargo_lock_licenses.specs.Verdicts.{IsVerdict, IsVerdictOf, IsVerdictOn};
 ghost use Rattle.cargo_lock_licenses.specs.Verdicts.{Permits, is_finding, verdict_of};
 
 use crate::expression::Expression;
 use crate::subject::{Manifest, Subject};
-use cargo_lock_diff::PackageText;
+use cargo_lock_display::PackageText;
 use cargo_lock_parts::package::Package;
-use shown::Quoted;
+use printing::Quoted;
 use std::alloc::{AllocError, Global};
 use std::fmt;
 
@@ -58,7 +58,7 @@ impl<'p, 'a> Verdict<'p, 'a> {
         allowed: &[String],
     ) -> Result<Verdict<'p, 'a>, AllocError>
         ensures { IfOk result (λ found. IsVerdict (map string_bytes allowed.now)
-            (subject_of subject.now) (verdict_of found)) }
+            (license_subject_of subject.now) (verdict_of found)) }
     {
         let package = subject.package;
         let Some((first, others)) = subject.manifests.split_first() else {

@@ -1,23 +1,23 @@
 -- The packages of a merge, as a lockfile has them.
-use Rattle.std.proofs.Common.{◌≡◌, ◌<◌, ◌+◌, ◌↔◌, ◌⊎◌, ◌++◌, inl, inr, ℕ, zero, suc, List, [], ◌∷◌, Some, get_or, length, map, set, slice_get, take, refl, sym, ap, subst, ◌∙◌, arith}
+use Rattle.std.proofs.Common.{◌≡◌, ◌<◌, ◌+◌, ◌↔◌, ◌⊎◌, ◌++◌, inl, inr, ℕ, zero, suc, List, [], ◌∷◌, get_or, length, map, set, take, refl, sym, ap, subst, ◌∙◌, arith}
 use Rattle.std.specs.List.{AllZip, Contains, swap}
 use Rattle.std.specs.List.Sorted.{IsPermutation, IsStrictlyIncreasing}
-use Rattle.std.proofs.lemmas.List.{get_or-map, length-map, take_more}
-use Rattle.std.proofs.lemmas.List.Elements.{Contains-append_left, Contains-get_or, Contains-push, Contains-push_cases}
+use Rattle.std.proofs.lemmas.List.{take_more}
+use Rattle.std.proofs.lemmas.List.Elements.{Contains-append_left, Contains-push, Contains-push_cases}
 use Rattle.std.proofs.lemmas.List.Sorted.{IsPermutation-keeps, IsPermutation-refl, IsPermutation-swap, IsPermutation-trans}
 use Rattle.std.proofs.lemmas.Slice.Zip.{AllZip-long}
-use Rattle.std.proofs.lemmas.Option.{get_or_from_slice_get, slice_get_within}
 use Rattle.cargo_lock_parts.specs.Identity.{Identity, PackageData, identity_of}
-use Rattle.cargo_lock_merging.specs.declared.merged.Merged.{Merged}
-use Rattle.cargo_lock_merging.specs.Assembled.{IsIdentityAt}
-use Rattle.cargo_lock_merging.specs.Merged.{merged_data}
-use Rattle.cargo_lock_merging.specs.Numbered.{places_of}
-use Rattle.cargo_lock_merging.specs.Placed.{HasAt, PlacedData}
-use Rattle.cargo_lock_merging.proofs.Members.{in-map, map-in}
-use Rattle.cargo_lock_merging.proofs.Once.{one-at}
-use Rattle.cargo_lock_merging.proofs.Planning.{map-push}
+use Rattle.cargo_lock_merge_core.specs.declared.merged.Merged.{Merged}
+use Rattle.cargo_lock_merge_core.specs.Assembled.{IsIdentityAt}
+use Rattle.cargo_lock_merge_core.specs.Merged.{merged_data}
+use Rattle.cargo_lock_merge_core.specs.Moved.{IsPackageAt}
+use Rattle.cargo_lock_merge_core.specs.Placed.{HasAt, PlacedData}
+use Rattle.lists.proofs.Members.{in-map, map-in}
+use Rattle.cargo_lock_merge_core.proofs.Moving.{merged-same}
+use Rattle.cargo_lock_merge_core.proofs.Once.{one-at}
+use Rattle.cargo_lock_merge_core.proofs.Planning.{map-push}
 use Rattle.cargo_lock_graph.proofs.Zipped.{zip-push}
-use Rattle.cargo_lock_merging.specs.Kept.{merged_places}
+use Rattle.cargo_lock_merge_core.specs.Kept.{merged_places}
 
 -- no merged package is at a place that is none of theirs
 pub none-at : (ms : List Merged) (n : ℕ) → ¬ Contains (merged_places ms) n → (y : PlacedData ℕ) → ¬ HasAt (map merged_data ms) n y
@@ -25,26 +25,15 @@ none-at ms n none y at =
     let (m, among, is) = map-in merged_data ms y at.0 in
     none (subst (λ k. Contains (merged_places ms) k) (ap (λ (z : PlacedData ℕ). z.place) is ∙ at.1) (in-map (λ (m : Merged). m.place) ms m among))
 
--- the merged package at the place with an index
-pub some-at : (ms : List Merged) (n k : ℕ) (d : Merged) → slice_get (merged_places ms) k ≡ Some n → IsIdentityAt (map merged_data ms) n (identity_of (get_or ms k d).«package».now)
-some-at ms n k d at =
-    let place : Merged → ℕ = λ m. m.place in
-    let m : Merged = get_or ms k d in
-    let long = length-map ms place in
-    let low = slice_get_within (merged_places ms) k n at in
-    let low' : k < length ms = omega (arith, low, long) in
-    let here : m.place ≡ n = sym (get_or-map place ms k d n low') ∙ get_or_from_slice_get (merged_places ms) k n n at in
-    (merged_data m, (in-map merged_data ms m (Contains-get_or ms k d low'), here), refl)
+-- the identity of the package of a side is that of the merged one at the place
+pub identity-at : (ms : List Merged) (n : ℕ) (p : PackageData) (i : Identity) → IsPackageAt ms n p → i ≡ identity_of p → IsIdentityAt (map merged_data ms) n i
+identity-at ms n p i (m, among, here, is) same = (merged_data m, (in-map merged_data ms m among, here), same ∙ ap identity_of is)
 
 -- one package is at a place
-places-same : (ms : List Merged) → places_of (map merged_data ms) ≡ merged_places ms
-places-same [] = refl
-places-same (m ∷ ms) = ap (λ (ns : List ℕ). m.place ∷ ns) (places-same ms)
-
 pub only-at : (ms : List Merged) (n : ℕ) (i j : Identity) → IsStrictlyIncreasing (merged_places ms) → IsIdentityAt (map merged_data ms) n i → IsIdentityAt (map merged_data ms) n j → i ≡ j
 only-at ms n i j up (x, at, is) (y, at', is') =
     is ∙ ap (λ (z : PlacedData ℕ). identity_of z.content)
-    (one-at (map merged_data ms) (subst (λ (ns : List ℕ). IsStrictlyIncreasing ns) (sym (places-same ms)) up) x y at.0 at'.0 (at.1 ∙ sym at'.1)) ∙ sym is'
+    (one-at (map merged_data ms) (subst (λ (ns : List ℕ). IsStrictlyIncreasing ns) (sym (merged-same ms)) up) x y at.0 at'.0 (at.1 ∙ sym at'.1)) ∙ sym is'
 
 -- one more place that is looked up
 pub looked-up : (m : List (PlacedData ℕ)) (ns : List ℕ) (k n : ℕ) (old new : List Identity) (found : Identity) → k < length ns → n ≡ get_or ns k n

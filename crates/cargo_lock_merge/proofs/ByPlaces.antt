@@ -5,22 +5,22 @@ use Rattle.std.proofs.lemmas.List.Elements.{Contains-get_or}
 use Rattle.std.proofs.lemmas.Option.{same_Some}
 use Rattle.std.proofs.lemmas.Simd.{map-map}
 use Rattle.cargo_lock_parts.specs.Identity.{PackageData}
-use Rattle.cargo_lock_merging.specs.declared.conflicts.Kind.{Kind}
-use Rattle.cargo_lock_merging.specs.declared.conflicts.Kind.TheVariants.{Checksum, Package, Replacement}
-use Rattle.cargo_lock_merging.specs.ByPlaces.{IsMovedBetween}
-use Rattle.cargo_lock_merging.specs.Commits.{Lockfiles}
-use Rattle.cargo_lock_merging.specs.Conflicts.{conflict_of}
-use Rattle.cargo_lock_merging.specs.Lists.{IsNumber, place_at}
-use Rattle.cargo_lock_merging.specs.Merge.{ConflictData, IsConflict, IsMovedReference, Triple}
-use Rattle.cargo_lock_merging.specs.Moved.{IsMoved}
-use Rattle.cargo_lock_merging.specs.Placed.{PlacedData}
-use Rattle.cargo_lock_merging.specs.Places.{Place}
-use Rattle.cargo_lock_merging.specs.Renaming.{rename_conflict, rename_triple}
-use Rattle.cargo_lock_merging.proofs.Assembling.{IsAssembledMerge, assembled-at, used-number}
-use Rattle.cargo_lock_merging.proofs.Backwards.{conflict-one, conflicts-of-places, no-merge-of-places}
-use Rattle.cargo_lock_merging.proofs.ByPlaces.{commits-placed, conflict-placed, merged-number, moved-back, moved-placed, pairs-mapped}
-use Rattle.cargo_lock_merging.proofs.Members.{first-in, in-map, later-in, map-in}
-use Rattle.cargo_lock_merging.proofs.Slotting.{numbers-one}
+use Rattle.cargo_lock_merge_core.specs.declared.conflicts.Kind.{Kind}
+use Rattle.cargo_lock_merge_core.specs.declared.conflicts.Kind.TheVariants.{Checksum, Package, Replacement}
+use Rattle.cargo_lock_merge_core.specs.ByPlaces.{IsMovedBetween}
+use Rattle.cargo_lock_merge_core.specs.Commits.{Lockfiles}
+use Rattle.cargo_lock_merge_core.specs.Conflicts.{conflict_of}
+use Rattle.cargo_lock_merge_core.specs.Lists.{IsNumber, place_at}
+use Rattle.cargo_lock_merge_core.specs.Merge.{ConflictData, IsConflict, IsMovedReference, Triple}
+use Rattle.cargo_lock_merge_core.specs.Moved.{IsMoved}
+use Rattle.cargo_lock_merge_core.specs.Placed.{PlacedData}
+use Rattle.cargo_lock_merge_core.specs.Places.{Place}
+use Rattle.cargo_lock_merge_core.specs.Renaming.{rename_conflict, rename_triple}
+use Rattle.cargo_lock_merge_core.proofs.Assembling.{IsAssembledMerge, assembled-at, used-number}
+use Rattle.cargo_lock_merge_core.proofs.Backwards.{conflict-one, conflicts-of-places, no-merge-of-places}
+use Rattle.cargo_lock_merge_core.proofs.ByPlaces.{commits-placed, conflict-placed, merged-number, moved-back, moved-placed, pairs-mapped}
+use Rattle.lists.proofs.Members.{first-in, in-map, later-in, map-in}
+use Rattle.cargo_lock_merge_core.proofs.Slotting.{numbers-one}
 use Rattle.cargo_lock_merge.specs.declared.conflict.Conflict.{Conflict}
 use Rattle.cargo_lock_merge.specs.declared.conflict.Conflict.TheVariants.{AtPlace, OfSource}
 use Rattle.cargo_lock_merge.specs.declared.lockfiles.LockfileMerge.{LockfileMerge}
@@ -28,11 +28,11 @@ use Rattle.cargo_lock_merge.specs.declared.lockfiles.LockfileMerge.TheVariants a
 use Rattle.cargo_lock_merge.specs.declared.moved.Moved.{Moved}
 use Rattle.cargo_lock_merge.specs.declared.outcome.Outcome.{Outcome}
 use Rattle.cargo_lock_merge.specs.declared.outcome.Outcome.TheVariants.{Conflicts, Merged}
-use Rattle.cargo_lock_merge.specs.ByPlaces.{AreConflictsByPlaces, AreConflictsIfAny, AreMovedByPlaces, FindsByPlaces, HasSubjectIn, IsMovedIn, MergesByPlaces, places_of, subject_in}
-use Rattle.cargo_lock_merge.specs.Conflict.{HasSubject, subject_of}
+use Rattle.cargo_lock_merge.specs.ByPlaces.{AreConflictsByPlaces, AreConflictsIfAny, AreMovedByPlaces, FindsByPlaces, HasSubjectIn, IsMovedIn, MergesByPlaces, moved_places, subject_in}
+use Rattle.cargo_lock_merge.specs.Conflict.{HasSubject, conflict_subject}
 use Rattle.cargo_lock_merge.specs.MergedLockfiles.{AreConflictingPackages, LockfileTriple, MergesTo, packages_of}
-use Rattle.cargo_lock_merge.specs.Moved.{places_in}
-use Rattle.cargo_lock_merge.specs.Outcome.{Finds, IsFound, IsInConflict}
+use Rattle.cargo_lock_merge.specs.Moved.{moved_numbers}
+use Rattle.cargo_lock_merge.specs.Outcome.{AreInConflictAbout, FindsMerge, IsMergeFound}
 
 -- lists of equal elements
 maps-same : {X Y : Type 0} (f g : X → Y) (xs : List X) → ((x : X) → Contains xs x → f x ≡ g x) → map f xs ≡ map g xs
@@ -44,21 +44,21 @@ maps-same f g (x ∷ xs) same =
 
 -- ---- conflicts
 
-module _ (all : Lockfiles) (cs : List Conflict) (h : IsInConflict all cs) where
+module _ (all : Lockfiles) (cs : List Conflict) (h : AreInConflictAbout all cs) where
   renamed-of : (kind : Kind) (n : ℕ) → conflict_of kind (place_at h.places n) ≡ rename_conflict (place_at h.places) (conflict_of kind n)
   renamed-of Package n = refl
   renamed-of Checksum n = refl
   renamed-of Replacement n = refl
 
-  subject-placed : (c : Conflict) → HasSubject h.triple c → IsConflict h.triple (subject_of c)
-      → (subject_in all c ≡ Some (rename_conflict (place_at h.places) (subject_of c))) × HasSubjectIn all (rename_triple (place_at h.places) h.triple) c
+  subject-placed : (c : Conflict) → HasSubject h.triple c → IsConflict h.triple (conflict_subject c)
+      → (subject_in all c ≡ Some (rename_conflict (place_at h.places) (conflict_subject c))) × HasSubjectIn all (rename_triple (place_at h.places) h.triple) c
   subject-placed (AtPlace c) has conflict =
       let (is, packages) = conflict-placed all h.places h.triple h.sides c.kind c has conflict in
       (ap (option_map (conflict_of c.kind)) is ∙ ap Some (renamed-of c.kind c.place), (place_at h.places c.place, is, packages))
   subject-placed (OfSource c) has conflict = (refl, (commits-placed all h.places h.triple h.sides c has.0, has.1))
 
-  subject-conflict : (c : Conflict) → Contains cs c → IsConflict h.triple (subject_of c)
-  subject-conflict c among = (h.conflicts.exact (subject_of c)).0 (in-map subject_of cs c among)
+  subject-conflict : (c : Conflict) → Contains cs c → IsConflict h.triple (conflict_subject c)
+  subject-conflict c among = (h.conflicts.exact (conflict_subject c)).0 (in-map conflict_subject cs c among)
 
   has-subject : (c : Conflict) → Contains cs c → HasSubject h.triple c
   has-subject c (k, low, is) = subst (HasSubject h.triple) is (h.conflicts.each k c low)
@@ -66,29 +66,29 @@ module _ (all : Lockfiles) (cs : List Conflict) (h : IsInConflict all cs) where
   placed-subject : ConflictData ℕ → Option (ConflictData Place)
   placed-subject d = Some (rename_conflict (place_at h.places) d)
 
-  subjects : map (subject_in all) cs ≡ map placed-subject (map subject_of cs)
+  subjects : map (subject_in all) cs ≡ map placed-subject (map conflict_subject cs)
   unfolding placed-subject
   subjects =
-      maps-same (subject_in all) (λ c. Some (rename_conflict (place_at h.places) (subject_of c))) cs
+      maps-same (subject_in all) (λ c. Some (rename_conflict (place_at h.places) (conflict_subject c))) cs
       (λ c among. (subject-placed c (has-subject c among) (subject-conflict c among)).0)
-      ∙ sym (map-map (λ d. Some (rename_conflict (place_at h.places) d)) subject_of cs)
+      ∙ sym (map-map (λ d. Some (rename_conflict (place_at h.places) d)) conflict_subject cs)
 
   conflicts-exact : (c : ConflictData Place) → Contains (map (subject_in all) cs) (Some c) ↔ IsConflict (rename_triple (place_at h.places) h.triple) c
   unfolding placed-subject
   conflicts-exact c = (
     λ k.
-        let (d, among, is) = map-in placed-subject (map subject_of cs) (Some c) (subst (λ (zs : List (Option (ConflictData Place))). Contains zs (Some c)) subjects k) in
+        let (d, among, is) = map-in placed-subject (map conflict_subject cs) (Some c) (subst (λ (zs : List (Option (ConflictData Place))). Contains zs (Some c)) subjects k) in
         (conflicts-of-places h.places h.triple (used-number all h.places h.triple h.sides) c).1 (d, (h.conflicts.exact d).0 among, same_Some (rename_conflict (place_at h.places) d) c is),
     λ k.
         let (d, conflict, is) = (conflicts-of-places h.places h.triple (used-number all h.places h.triple h.sides) c).0 k in
         subst (λ (zs : List (Option (ConflictData Place))). Contains zs (Some c)) (sym subjects)
-        (subst (λ (z : Option (ConflictData Place)). Contains (map placed-subject (map subject_of cs)) z) (ap Some is) (in-map placed-subject (map subject_of cs) d ((h.conflicts.exact d).1 conflict))),
+        (subst (λ (z : Option (ConflictData Place)). Contains (map placed-subject (map conflict_subject cs)) z) (ap Some is) (in-map placed-subject (map conflict_subject cs) d ((h.conflicts.exact d).1 conflict))),
   )
 
   conflicts-once : AllPairs (λ a b. a ≢ b) (map (subject_in all) cs)
   unfolding placed-subject
   conflicts-once = subst (AllPairs (λ a b. a ≢ b)) (sym subjects)
-      (pairs-mapped placed-subject (map subject_of cs)
+      (pairs-mapped placed-subject (map conflict_subject cs)
       (λ a b ina inb same. conflict-one h.places h.triple (used-number all h.places h.triple h.sides) a b ((h.conflicts.exact a).0 ina) ((h.conflicts.exact b).0 inb) (same_Some (rename_conflict (place_at h.places) a) (rename_conflict (place_at h.places) b) same))
       h.conflicts.once)
 
@@ -107,7 +107,7 @@ module _ (all : Lockfiles) (cs : List Conflict) (h : IsInConflict all cs) where
 
 -- ---- moved references
 
-module _ (all : Lockfiles) (ps : List PackageData) (rs : List Moved) (h : IsFound all ps rs) where
+module _ (all : Lockfiles) (ps : List PackageData) (rs : List Moved) (h : IsMergeFound all ps rs) where
   a : IsAssembledMerge all h.places h.triple h.numbered ps
   a = assembled-at all h.places h.triple h.numbered ps h.sides h.merged h.assembled
 
@@ -121,25 +121,25 @@ module _ (all : Lockfiles) (ps : List PackageData) (rs : List Moved) (h : IsFoun
   unfolding IsMovedHere
   moved-here r (k, low, is) = subst IsMovedHere is (h.moved.each k r low)
 
-  placed-here : (r : Moved) → IsMovedHere r → IsMovedIn a.merge.placed a.merge.merged r × (places_of all r ≡ pair (places_in r))
+  placed-here : (r : Moved) → IsMovedHere r → IsMovedIn a.merge.placed a.merge.merged r × (moved_places all r ≡ pair (moved_numbers r))
   unfolding IsMovedHere pair
   placed-here r (x, y, is) =
       let (z, w, between, places) = moved-placed all h.places h.triple h.sides h.numbered h.merged a.merge.merged a.from a.into x y r.found is in
       ((z, w, subst (λ (s : Triple Place). IsMovedBetween s a.merge.merged z w r.found) (sym a.placed) between), places)
 
-  places-same : map (places_of all) rs ≡ map pair (map places_in rs)
-  places-same = maps-same (places_of all) (λ r. pair (places_in r)) rs (λ r among. (placed-here r (moved-here r among)).1) ∙ sym (map-map pair places_in rs)
+  places-same : map (moved_places all) rs ≡ map pair (map moved_numbers rs)
+  places-same = maps-same (moved_places all) (λ r. pair (moved_numbers r)) rs (λ r among. (placed-here r (moved-here r among)).1) ∙ sym (map-map pair moved_numbers rs)
 
-  numbers-of : (p : ℕ × ℕ) → Contains (map places_in rs) p → IsNumber h.places p.0 × IsNumber h.places p.1
+  numbers-of : (p : ℕ × ℕ) → Contains (map moved_numbers rs) p → IsNumber h.places p.0 × IsNumber h.places p.1
   unfolding IsMovedHere
   numbers-of p among =
-      let (r, there, same) = map-in places_in rs p among in
+      let (r, there, same) = map-in moved_numbers rs p among in
       let (x, y, is) = moved-here r there in
       let nx = merged-number all h.places h.triple h.sides h.numbered h.merged x is.moved.from in
       let ny = merged-number all h.places h.triple h.sides h.numbered h.merged y is.moved.to in
       (subst (IsNumber h.places) (sym is.from ∙ ap (λ (q : ℕ × ℕ). q.0) same) nx, subst (IsNumber h.places) (sym is.to ∙ ap (λ (q : ℕ × ℕ). q.1) same) ny)
 
-  pair-one : (p q : ℕ × ℕ) → Contains (map places_in rs) p → Contains (map places_in rs) q → pair p ≡ pair q → p ≡ q
+  pair-one : (p q : ℕ × ℕ) → Contains (map moved_numbers rs) p → Contains (map moved_numbers rs) q → pair p ≡ pair q → p ≡ q
   unfolding pair
   pair-one p q inp inq same =
       let (np, mp) = numbers-of p inp in
@@ -148,25 +148,25 @@ module _ (all : Lockfiles) (ps : List PackageData) (rs : List Moved) (h : IsFoun
       let f = numbers-one h.places p.1 q.1 mp mq (ap (λ (w : Place × Place). w.1) same) in
       λ i. (e i, f i)
 
-  moved-there : (z w : PlacedData Place) → IsMovedReference a.merge.placed a.merge.merged z w → Contains (map (places_of all) rs) (z.place, w.place)
+  moved-there : (z w : PlacedData Place) → IsMovedReference a.merge.placed a.merge.merged z w → Contains (map (moved_places all) rs) (z.place, w.place)
   unfolding pair
   moved-there z w r =
       let (x, y, moved, from, to) = moved-back all h.places h.triple h.sides h.numbered h.merged a.merge.merged a.from a.into z w (subst (λ (s : Triple Place). IsMovedReference s a.merge.merged z w) a.placed r) in
-      let among = in-map pair (map places_in rs) (x.place, y.place) (h.moved.all_there x y moved) in
+      let among = in-map pair (map moved_numbers rs) (x.place, y.place) (h.moved.all_there x y moved) in
       let same : (place_at h.places x.place, place_at h.places y.place) ≡ (z.place, w.place) = λ i. (sym from i, sym to i) in
-      subst (λ (zs : List (Place × Place)). Contains zs (z.place, w.place)) (sym places-same) (subst (Contains (map pair (map places_in rs))) same among)
+      subst (λ (zs : List (Place × Place)). Contains zs (z.place, w.place)) (sym places-same) (subst (Contains (map pair (map moved_numbers rs))) same among)
 
   pub moved-by-places : AreMovedByPlaces all ps rs
   moved-by-places = record {
     merge = a.merge;
     each = λ k d low. let r : Moved = get_or rs k d in (placed-here r (moved-here r (Contains-get_or rs k d low))).0;
     all_there = moved-there;
-    once = subst (AllPairs (λ p q. p ≢ q)) (sym places-same) (pairs-mapped pair (map places_in rs) pair-one h.moved.once);
+    once = subst (AllPairs (λ p q. p ≢ q)) (sym places-same) (pairs-mapped pair (map moved_numbers rs) pair-one h.moved.once);
   }
 
 -- ---- what a merge returns
 
-pub finds-by-places : (all : Lockfiles) (o : Outcome) → Finds all o → FindsByPlaces all o
+pub finds-by-places : (all : Lockfiles) (o : Outcome) → FindsMerge all o → FindsByPlaces all o
 finds-by-places all (Merged packages moved) h = moved-by-places all packages.items moved.items h
 finds-by-places all (Conflicts conflicts) h = conflicts-by-places all conflicts.items h
 

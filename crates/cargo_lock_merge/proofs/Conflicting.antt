@@ -2,25 +2,25 @@
 use Rattle.std.proofs.Common.{◌≡◌, ◌≢◌, ◌⊎◌, ◌↔◌, ◌<◌, ◌++◌, inl, inr, ℕ, suc, All, List, [], ◌∷◌, get_or, length, map, refl, sym, ap, subst, ◌∙◌, arith}
 use Rattle.std.specs.List.{AllPairs, Contains}
 use Rattle.std.specs.List.Sorted.{IsPermutation}
-use Rattle.std.proofs.lemmas.List.{get_or-map, length-map}
+use Rattle.std.proofs.lemmas.List.{get_or-map, length-map, map-append}
 use Rattle.std.proofs.lemmas.List.Elements.{All-append, All-map, Contains-append_cases, Contains-append_left, Contains-append_right}
 use Rattle.std.proofs.lemmas.List.Sorted.{All-permutation, Contains-permutation, IsPermutation-sym}
 use Rattle.std.proofs.lemmas.Simd.{map-map}
 use Rattle.cargo_lock_parts.specs.SourceKey.{Key}
-use Rattle.cargo_lock_merging.specs.declared.commits.SourceCommits.{SourceCommits}
-use Rattle.cargo_lock_merging.specs.declared.conflicts.Conflict as merging
-use Rattle.cargo_lock_merging.specs.declared.conflicts.Kind.{Kind}
-use Rattle.cargo_lock_merging.specs.declared.conflicts.Kind.TheVariants.{Checksum, Package, Replacement}
-use Rattle.cargo_lock_merging.specs.Conflicts.{AreConflicts, IsConflictAt, conflict_of, conflict_places}
-use Rattle.cargo_lock_merging.specs.Disputes.{AreDisputes, AreInDispute, HasCommits, source_key}
-use Rattle.cargo_lock_merging.specs.Merge.{ConflictData, IsConflict, OfChecksum, OfPackage, OfReplacement, OfSource, Triple, lockfiles_of}
-use Rattle.cargo_lock_merging.proofs.Ascending.{far-below}
-use Rattle.cargo_lock_merging.proofs.Members.{in-map, map-in}
-use Rattle.cargo_lock_merging.proofs.Moving.{map-append, pairs-append}
-use Rattle.cargo_lock_merging.proofs.Permuting.{map-permuted, pairs-permuted}
+use Rattle.lists.proofs.Pairs.{pairs-append}
+use Rattle.cargo_lock_merge_core.specs.declared.commits.SourceCommits.{SourceCommits}
+use Rattle.cargo_lock_merge_core.specs.declared.conflicts.Conflict as merging
+use Rattle.cargo_lock_merge_core.specs.declared.conflicts.Kind.{Kind}
+use Rattle.cargo_lock_merge_core.specs.declared.conflicts.Kind.TheVariants.{Checksum, Package, Replacement}
+use Rattle.cargo_lock_merge_core.specs.Conflicts.{AreConflicts, IsConflictAt, conflict_of, conflict_places}
+use Rattle.cargo_lock_merge_core.specs.Disputes.{AreDisputes, AreInDispute, HasCommits, source_key}
+use Rattle.cargo_lock_merge_core.specs.Merge.{ConflictData, IsConflict, OfChecksum, OfPackage, OfReplacement, OfSource, Triple, lockfiles_of}
+use Rattle.cargo_lock_merge_core.proofs.Ascending.{far-below}
+use Rattle.lists.proofs.Members.{in-map, map-in}
+use Rattle.cargo_lock_merge_core.proofs.Permuting.{map-permuted, pairs-permuted}
 use Rattle.cargo_lock_merge.specs.declared.conflict.Conflict.{Conflict}
 use Rattle.cargo_lock_merge.specs.declared.conflict.Conflict.TheVariants as variant
-use Rattle.cargo_lock_merge.specs.Conflict.{AreConflictsAtPlaces, AreConflictsOf, HasSubject, IsAtPlace, subject_at, subject_of}
+use Rattle.cargo_lock_merge.specs.Conflict.{AreConflictsAtPlaces, AreConflictsOf, HasSubject, IsAtPlace, conflict_subject, subject_at}
 
 place-in : ConflictData ℕ → ℕ
 place-in (OfPackage p) = p
@@ -155,10 +155,10 @@ module _ (s : Triple ℕ) (at : List merging.Conflict) (places : AreConflictsAtP
   source-of : SourceCommits → ConflictData ℕ
   source-of c = OfSource (source_key c)
 
-  subjects-all : map subject_of (map variant.AtPlace at ++ map variant.OfSource new) ≡ map subject_at at ++ map source-of new
+  subjects-all : map conflict_subject (map variant.AtPlace at ++ map variant.OfSource new) ≡ map subject_at at ++ map source-of new
   unfolding source-of
-  subjects-all = map-append subject_of (map variant.AtPlace at) (map variant.OfSource new)
-      ∙ (λ i. map-map subject_of variant.AtPlace at i ++ map-map subject_of variant.OfSource new i)
+  subjects-all = map-append conflict_subject (map variant.AtPlace at) (map variant.OfSource new)
+      ∙ (λ i. map-map conflict_subject variant.AtPlace at i ++ map-map conflict_subject variant.OfSource new i)
 
   moved : IsPermutation (map source_key old) (map source_key new)
   moved = map-permuted source_key old new perm

@@ -11,12 +11,12 @@ use Rattle.std.proofs.lemmas.Map.Entries.{lookup_tail}
 use Rattle.std.proofs.lemmas.Map.Text.{is_eq-slice_cmp}
 use Rattle.std.proofs.lemmas.Slice.Eq.{bytes_eq-Decides}
 use Rattle.cargo_lock.specs.CargoChecksums.{key_from}
-use Rattle.cargo_lock_merge.specs.OwnMetadata.{ChangesAt, IsMergedAt, IsMergedKey, IsReadyKey, is_checksum_at, is_key, own_metadata, own_value, value_at, without_packages}
+use Rattle.cargo_lock_merge.specs.OwnMetadata.{ChangesAt, IsMergedAt, IsMergedKey, IsReadyKey, is_checksum_at, is_key, own_metadata, own_value, value_at_key, without_packages}
 use Rattle.cargo_lock_merge.specs.declared.metadata.MetadataConflict.{MetadataConflict}
 use Rattle.cargo_lock_merge.specs.declared.metadata.MetadataMerge.{MetadataMerge}
 use Rattle.cargo_lock_merge.specs.declared.metadata.MetadataSides.{MetadataSides}
-use Rattle.cargo_lock_merging.proofs.Agreeing.{agreed-apart, agreed-once}
-use Rattle.cargo_lock_merging.specs.Rule3.{IsAgreed, IsInConflict}
+use Rattle.cargo_lock_merge_core.proofs.Agreeing.{agreed-apart, agreed-once}
+use Rattle.cargo_lock_merge_core.specs.Rule3.{IsAgreed, IsInConflict}
 use Rattle.cargo_lock_parts.specs.Identity.{PackageData}
 use Rattle.cargo_lock_parts.specs.Source.{Source}
 use Rattle.cargo_lock_encoding.specs.Lockfiles.{LockfileData}
@@ -45,7 +45,7 @@ key-apart q key apart = is_eq-slice_cmp q key ∙ by (bytes_eq q key) refl
 
 -- what an update leaves at the other keys
 pub updated-others : {X : Type 0} (m n : BTreeMap (List ℕ) X) (key q : List ℕ) (w : Option X)
-    → UpdatesBy (slice_cmp nat_cmp) (slice_cmp nat_cmp key) m n w → q ≢ key → value_at n q ≡ value_at m q
+    → UpdatesBy (slice_cmp nat_cmp) (slice_cmp nat_cmp key) m n w → q ≢ key → value_at_key n q ≡ value_at_key m q
 updated-others m n key q w h apart = h.2 q (key-apart key q (λ e. apart (sym e)))
 
 -- ---- the values at one key
@@ -76,7 +76,7 @@ module _ (s : MetadataSides) (old new : MetadataMerge) (key : List ℕ) (others 
   pub kept-merged : (q : List ℕ) → IsMergedKey s old q → IsMergedKey s new q
   kept-merged q h = elim (cases-key q key) [
     | inl e ↦ subst (λ (k : List ℕ). IsMergedKey s new k) (sym e) done
-    | inr apart ↦ merged-along (value_at s.base.now q) (value_at s.ours.now q) (value_at s.theirs.now q) _ _ _ _ (others.agreed q apart) (others.conflicts q apart) h
+    | inr apart ↦ merged-along (value_at_key s.base.now q) (value_at_key s.ours.now q) (value_at_key s.theirs.now q) _ _ _ _ (others.agreed q apart) (others.conflicts q apart) h
   ]
 
   pub kept-ready : (q : List ℕ) → IsReadyKey s old q → IsReadyKey s new q
@@ -100,11 +100,11 @@ module _ (s : MetadataSides) (old new : MetadataMerge) (key : List ℕ) (others 
   ]
 
 -- a key that no side has is merged
-pub absent-merged : (s : MetadataSides) (m : MetadataMerge) (key : List ℕ) → value_at s.ours.now key ≡ None → value_at s.theirs.now key ≡ None
+pub absent-merged : (s : MetadataSides) (m : MetadataMerge) (key : List ℕ) → value_at_key s.ours.now key ≡ None → value_at_key s.theirs.now key ≡ None
     → IsReadyKey s m key → IsMergedKey s m key
 absent-merged s m key o t (inl h) = h
 absent-merged s m key o t (inr h) =
-    merged-along (value_at s.base.now key) (value_at s.ours.now key) (value_at s.theirs.now key) None _ None _ h.0 h.1 (inl (o ∙ sym t, sym o))
+    merged-along (value_at_key s.base.now key) (value_at_key s.ours.now key) (value_at_key s.theirs.now key) None _ None _ h.0 h.1 (inl (o ∙ sym t, sym o))
 
 -- ---- the metadata of a lockfile
 
@@ -122,7 +122,7 @@ later v (inr (inr e)) f = absurd (let both : V4 ≡ V1 = sym e ∙ f in cc)
 
 -- a copy of the metadata from V2 on
 pub own-copy : (l : LockfileData) (m copy : BTreeMap (List ℕ) (List ℕ)) (key : List ℕ) → l.version ≢ V1 → l.metadata ≡ texts_of m.entries → copy.entries ≡ m.entries
-    → value_at copy key ≡ own_metadata l key
+    → value_at_key copy key ≡ own_metadata l key
 own-copy l m copy key later is same =
     ap (lookup (is_at (slice_cmp nat_cmp key))) same ∙ sym (get-view m key) ∙ ap (λ (t : Texts). get t key) (sym is) ∙ sym (own-later l.version l.metadata l.packages key later)
 

@@ -2,28 +2,28 @@
 use Rattle.std.proofs.Common.{◌≡◌, ◌≢◌, ◌⊎◌, ◌<◌, ◌+◌, ◌++◌, ◌∷◌, [], inl, inr, ℕ, All, List, Option, Some, None, get_or, length, map, slice_get, take, refl, sym, ap, subst, ◌∙◌, arith}
 use Rattle.std.specs.Bool.{Decides}
 use Rattle.std.specs.Prelude.{is_some}
-use Rattle.std.specs.List.{AllPairs, AllZip, Contains}
+use Rattle.std.specs.List.{AllPairs, Contains, flat_map}
 use Rattle.std.specs.List.Sorted.{IsPermutation, IsSorted}
 use Rattle.std.proofs.lemmas.Bool.{cases_order}
-use Rattle.std.proofs.lemmas.List.{take_more}
-use Rattle.std.proofs.lemmas.List.Elements.{All-cons, Contains-get_or}
+use Rattle.std.proofs.lemmas.List.{flat_map_more, take_more}
+use Rattle.std.proofs.lemmas.List.Elements.{All-cons, Contains-get_or, All-contains}
 use Rattle.std.proofs.lemmas.List.Sorted.{All-permutation, Contains-permutation}
 use Rattle.std.proofs.lemmas.Option.{slice_get_within}
 use Rattle.std.proofs.lemmas.Simd.{map-map}
 use Rattle.cargo_lock_parts.specs.Identity.{HasNameAndVersion, Identity, PackageData, identity_of}
 use Rattle.cargo_lock_graph.specs.Targets.{HoldsOf, IsLastBelow}
-use Rattle.cargo_lock_merging.specs.declared.moved.Moved as merging
-use Rattle.cargo_lock_merging.specs.Moved.{AreMoved, IsBefore, IsMoved, places_of_moved}
-use Rattle.cargo_lock_merging.specs.Placed.{PlacedData}
-use Rattle.cargo_lock_merging.proofs.Members.{in-map}
-use Rattle.cargo_lock_merging.proofs.Permuting.{map-permuted, pairs-permuted}
-use Rattle.cargo_lock_merging.proofs.Planning.{all-in}
+use Rattle.cargo_lock_merge_core.specs.declared.moved.Moved as merging
+use Rattle.cargo_lock_merge_core.specs.Moved.{AreMoved, IsMoved, IsPairBefore, places_of_moved}
+use Rattle.cargo_lock_merge_core.specs.Placed.{PlacedData}
+use Rattle.lists.proofs.Members.{in-map}
+use Rattle.cargo_lock_merge_core.proofs.Permuting.{map-permuted, pairs-permuted}
 use Rattle.cargo_lock_merge.specs.declared.moved.Moved.{Moved}
 use Rattle.cargo_lock_merge.specs.declared.moved.Named.{Named}
+use Rattle.cargo_lock_merge.specs.Lines.{moved_line, moved_lines}
 use Rattle.cargo_lock_merge.specs.Order.{moved_order}
-use Rattle.cargo_lock_merge.specs.Moved.{AreMarked, AreMovedReferences, AreNamed, HasNamesake, IsShownAmong, places_in}
+use Rattle.cargo_lock_merge.specs.Moved.{AreMarkedMoved, AreMovedReferences, AreNamedMoved, HasNamesake, IsShownAmong, moved_numbers}
 
-before-apart : (a b : ℕ × ℕ) → IsBefore a b → a ≢ b
+before-apart : (a b : ℕ × ℕ) → IsPairBefore a b → a ≢ b
 before-apart a b (inl less) e = let f = ap (λ (p : ℕ × ℕ). p.0) e in omega (arith, less, f)
 before-apart a b (inr (same, less)) e = let f = ap (λ (p : ℕ × ℕ). p.1) e in omega (arith, less, f)
 
@@ -41,17 +41,17 @@ are-moved o t m packages old new all h perm same sorted shown = record {
   shown = shown;
 }
   where
-    places : map places_of_moved new ≡ map places_in all
+    places : map places_of_moved new ≡ map moved_numbers all
     places = ap (map places_of_moved) (sym same) ∙ map-map places_of_moved (λ (r : Moved). r.found) all
 
     from : (P : merging.Moved → Type 0) → All P old → All (λ (r : Moved). P r.found) all
     from P each k d low =
         let r : Moved = get_or all k d in
-        all-in P new r.found (All-permutation P old new perm each)
+        All-contains P new r.found (All-permutation P old new perm each)
         (subst (λ (zs : List merging.Moved). Contains zs r.found) same (in-map (λ (w : Moved). w.found) all r (Contains-get_or all k d low)))
 
 -- what is marked of named references
-pub are-marked : (packages : List PackageData) (found : List merging.Moved) (ns : List Named) (all : List Moved) → AreNamed found ns → AreMarked packages ns all
+pub are-marked : (packages : List PackageData) (found : List merging.Moved) (ns : List Named) (all : List Moved) → AreNamedMoved found ns → AreMarkedMoved packages ns all
     → (map (λ (r : Moved). r.found) all ≡ found) × All (IsShownAmong packages) all
 are-marked packages [] [] [] named marked = (refl, λ k d low. absurd (omega (arith, low)))
 are-marked packages [] [] (r ∷ rs) named marked = absurd marked
@@ -97,3 +97,15 @@ module _ (packages : List PackageData) (i : Identity) where
       ]),
     )
     namesake (Some j) some = (λ e. (j, at, some.0, from-p j some.1, (p, here, named)), λ h. refl)
+
+-- ---- lines
+
+-- after the lines of the references before it, that of the next one
+pub moved-more : (ms : List Moved) (i : ℕ) (m : Moved) (a b line : List ℕ)
+    → i < length ms → m ≡ get_or ms i m → a ≡ moved_lines (take i ms)
+    → line ≡ moved_line m ++ 10 ∷ [] → b ≡ a ++ line → b ≡ moved_lines (take (i + 1) ms)
+moved-more ms i m a b line within is before text after =
+    let ended : Moved → List ℕ = λ r. moved_line r ++ 10 ∷ [] in
+    let item : take (i + 1) ms ≡ take i ms ++ m ∷ [] = take_more ms i m within ∙ ap (λ (x : Moved). take i ms ++ x ∷ []) (sym is) in
+    let more : a ++ line ≡ flat_map ended (take i ms) ++ ended m = rw (before, text) refl in
+    after ∙ more ∙ flat_map_more ended [] (take i ms) m ∙ ap (flat_map ended) (sym item)

@@ -8,17 +8,17 @@ use Rattle.std.proofs.lemmas.Slice.Zip.{AllZip-long}
 use Rattle.cargo_lock.specs.CargoChecksums.{unpinned}
 use Rattle.cargo_lock_parts.specs.Identity.{Identity, PackageData, identity_of}
 use Rattle.cargo_lock_parts.specs.Source.{Source}
-use Rattle.cargo_lock_merging.specs.Assembled.{AreSides, IsIdentityAt}
-use Rattle.cargo_lock_merging.specs.Commits.{Lockfiles, key_without_commit}
-use Rattle.cargo_lock_merging.specs.Lists.{place_at}
-use Rattle.cargo_lock_merging.specs.Merge.{IsMerge, Triple}
-use Rattle.cargo_lock_merging.specs.Placed.{HasAt, PlacedData}
-use Rattle.cargo_lock_merging.specs.Places.{Place, place_of}
-use Rattle.cargo_lock_merging.proofs.Assembling.{merged-place}
-use Rattle.cargo_lock_merging.proofs.ByPlaces.{merged-number}
-use Rattle.cargo_lock_merging.proofs.Kept.{AreKept, kept-pass, kept-push, kept-start}
-use Rattle.cargo_lock_merging.proofs.Permuting.{pairs-permuted}
-use Rattle.cargo_lock_merging.proofs.Slotting.{numbers-one, place-stated}
+use Rattle.cargo_lock_merge_core.specs.Assembled.{AreSides, IsIdentityAt}
+use Rattle.cargo_lock_merge_core.specs.Commits.{Lockfiles, key_without_commit}
+use Rattle.cargo_lock_merge_core.specs.Lists.{place_at}
+use Rattle.cargo_lock_merge_core.specs.Merge.{IsMerge, Triple}
+use Rattle.cargo_lock_merge_core.specs.Placed.{HasAt, PlacedData}
+use Rattle.cargo_lock_merge_core.specs.Places.{Place, merge_place}
+use Rattle.cargo_lock_merge_core.proofs.Assembling.{merged-place}
+use Rattle.cargo_lock_merge_core.proofs.ByPlaces.{merged-number}
+use Rattle.cargo_lock_merge_core.proofs.Kept.{AreKept, kept-pass, kept-push, kept-start}
+use Rattle.cargo_lock_merge_core.proofs.Permuting.{pairs-permuted}
+use Rattle.cargo_lock_merge_core.proofs.Slotting.{numbers-one, place-stated}
 use Rattle.cargo_lock_graph.proofs.Zipped.{zip-push}
 use Rattle.cargo_lock_merge.specs.Once.{AreApart, DependsApart, HasEachOnce, ReferToOne}
 use Rattle.cargo_lock_merge.specs.Referring.{IsReferenceTo, IsReferring}
@@ -69,8 +69,8 @@ apart-at-end m at k old new (ns, kept, zip) moved =
 module _ (all : Lockfiles) (places : List Place) (s : Triple ℕ) (are : AreSides all places s) (m : List (PlacedData ℕ)) (merge : IsMerge s m) where
   one-number : (y w : PlacedData ℕ) (i j : Identity) (a b : ℕ) → HasAt m a y → HasAt m b w → i ≡ identity_of y.content → j ≡ identity_of w.content → ReferToOne i j → a ≡ b
   one-number y w i j a b at at' is is' same =
-      let py : place_at places y.place ≡ place_of all y.content = merged-place all places s are m merge y y.content at.0 refl in
-      let pw : place_at places w.place ≡ place_of all w.content = merged-place all places s are m merge w w.content at'.0 refl in
+      let py : place_at places y.place ≡ merge_place all y.content = merged-place all places s are m merge y y.content at.0 refl in
+      let pw : place_at places w.place ≡ merge_place all w.content = merged-place all places s are m merge w w.content at'.0 refl in
       let named = place-stated all y.content w.content
       (ap (λ (k : Identity). k.name) (sym is) ∙ same.name ∙ ap (λ (k : Identity). k.name) is')
       (ap (λ (k : Identity). k.version) (sym is) ∙ same.version ∙ ap (λ (k : Identity). k.version) is')

@@ -1,16 +1,16 @@
 -- Each line is one line: each part of it is printable.
 use Rattle.std.proofs.Common.{ℕ, Bool, false, List, codes, Option, Some, None, refl}
-use Rattle.shown.specs.declared.form.Form.TheVariants.{Plain, Quoted}
-use Rattle.shown.proofs.LinesOf.{each-is-line}
-use Rattle.shown.proofs.Printable.{Prints, either_text, empty, join, literal, shown-prints, words}
+use Rattle.printing.specs.declared.form.Form.TheVariants.{Plain, Quoted}
+use Rattle.printing.proofs.LinesOf.{each-is-line}
+use Rattle.printing.proofs.Printable.{Prints, either_text, empty, join, literal, shown-prints, words}
 use Rattle.cargo_lock_parts.specs.Identity.{Identity, PackageData, identity_of}
 use Rattle.cargo_lock_parts.specs.IdentityOrder.{is_same_identity}
 use Rattle.cargo_lock_parts.specs.Source.{Branch, DefaultBranch, Directory, Git, GitReference, Kind, LocalRegistry, Path, Registry, Rev, Source, SparseRegistry, Tag, is_git}
-use Rattle.cargo_lock_merging.specs.declared.moved.Reference.{Reference}
-use Rattle.cargo_lock_merging.specs.declared.refusal.Refusal.{Refusal}
-use Rattle.cargo_lock_merging.specs.declared.refusal.Refusal.TheVariants.{Lost, OnePlace, TwoCommits, Unreplaced}
-use Rattle.cargo_lock_merging.specs.declared.triple.Role.{Role}
-use Rattle.cargo_lock_merging.specs.declared.triple.Role.TheVariants as role
+use Rattle.cargo_lock_merge_core.specs.declared.moved.Reference.{Reference}
+use Rattle.cargo_lock_merge_core.specs.declared.refusal.Refusal.{Refusal}
+use Rattle.cargo_lock_merge_core.specs.declared.refusal.Refusal.TheVariants.{Lost, OnePlace, TwoCommits, Unreplaced}
+use Rattle.cargo_lock_merge_core.specs.declared.triple.Role.{Role}
+use Rattle.cargo_lock_merge_core.specs.declared.triple.Role.TheVariants as role
 use Rattle.cargo_lock_merge.specs.declared.conflict.Conflict.{Conflict}
 use Rattle.cargo_lock_merge.specs.declared.conflict.Conflict.TheVariants.{AtPlace, OfSource}
 use Rattle.cargo_lock_merge.specs.declared.conflict.Subject.{Subject}
@@ -20,10 +20,8 @@ use Rattle.cargo_lock_merge.specs.declared.words.Value.{Value}
 use Rattle.cargo_lock_merge.specs.declared.words.Value.TheVariants as value
 use Rattle.cargo_lock_merge.specs.declared.words.Values.{Values}
 use Rattle.cargo_lock_merge.specs.Lines.{ConflictsAreLines, MovedAreLines, RefusalsAreLines, before_text, commit_values, conflict_line, line_of, moved_line, moved_text, one_place_text, reason_text, refused_line, role_text, subject_text}
-use Rattle.cargo_lock_merge.specs.Words.{bare_text, both_text, checksum_text, commit_mark, commit_text, identity_text, mark_of, named_text, query_of, reference_text, replacement_text, source_behind, source_text, value_text, values_by, values_text, with_commit_text}
-
-named-prints : (p : PackageData) → Prints (named_text p)
-named-prints p = join (shown-prints Plain p.name) (words (codes " ") refl (shown-prints Plain _))
+use Rattle.cargo_lock_merge.specs.Words.{bare_source_behind, bare_text, both_text, commit_mark, commit_text, identity_text, mark_of, query_of, reference_query, replacement_with_commit, side_value_text, source_text, values_by, values_text, with_commit_text}
+use Rattle.cargo_lock_display.proofs.Printed.{checksum-prints, named-prints}
 
 mark-prints : (c : Option (List ℕ)) → Prints (mark_of c)
 mark-prints None = empty
@@ -43,7 +41,7 @@ commit-prints : (c : Option (List ℕ)) → Prints (commit_text c)
 commit-prints None = literal (codes "none") refl
 commit-prints (Some c) = shown-prints Plain _
 
-reference-prints : (r : GitReference) → Prints (reference_text r)
+reference-prints : (r : GitReference) → Prints (reference_query r)
 reference-prints DefaultBranch = empty
 reference-prints (Tag v) = words (codes "?") refl (shown-prints Plain _)
 reference-prints (Branch v) = words (codes "?") refl (shown-prints Plain _)
@@ -63,19 +61,15 @@ bare-prints s = words (codes "git+") refl (join (shown-prints Plain _) (query-pr
 source-prints : (s : Source) → Prints (source_text s)
 source-prints s = either_text (is_git s.kind) (bare-prints s) (shown-prints Plain _)
 
-behind-prints : (s : Option Source) → Prints (source_behind s)
+behind-prints : (s : Option Source) → Prints (bare_source_behind s)
 behind-prints None = empty
 behind-prints (Some s) = words (codes " (") refl (join (source-prints s) (literal (codes ")") refl))
 
-checksum-prints : (c : Option (List ℕ)) → Prints (checksum_text c)
-checksum-prints None = literal (codes "none") refl
-checksum-prints (Some digest) = shown-prints Plain _
-
-replacement-prints : (i : Option Identity) → Prints (replacement_text i)
+replacement-prints : (i : Option Identity) → Prints (replacement_with_commit i)
 replacement-prints None = literal (codes "none") refl
 replacement-prints (Some i) = identity-prints i
 
-value-prints : (v : Value) → Prints (value_text v)
+value-prints : (v : Value) → Prints (side_value_text v)
 value-prints (value.Version p) = shown-prints Plain _
 value-prints (value.Commit s) = commit-prints s.now.precise
 value-prints (value.Checksum p) = checksum-prints p.now.checksum

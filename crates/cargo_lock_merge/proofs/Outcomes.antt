@@ -5,23 +5,23 @@ use Rattle.std.specs.List.Sorted.{IsPermutation}
 use Rattle.std.proofs.lemmas.List.Sorted.{Contains-permutation}
 use Rattle.std.proofs.lemmas.Option.{same_Some}
 use Rattle.cargo_lock_parts.specs.Identity.{Identity, PackageData}
-use Rattle.cargo_lock_merging.specs.declared.plan.Plan.{Plan}
-use Rattle.cargo_lock_merging.specs.Assembled.{IsAssembled, IsIdentityAt, IsIdentityAtIf}
-use Rattle.cargo_lock_merging.specs.Commits.{Lockfiles}
-use Rattle.cargo_lock_merging.specs.Merge.{AreInConflict, IsMerge, Triple}
-use Rattle.cargo_lock_merging.specs.Merged.{HasPlan}
-use Rattle.cargo_lock_merging.specs.Placed.{PlacedData}
-use Rattle.cargo_lock_merging.specs.Moved.{AreListed}
-use Rattle.cargo_lock_merging.specs.Plans.{IsNumbered, IsPlan}
-use Rattle.cargo_lock_merging.specs.Triples.{AreSidesOf}
-use Rattle.cargo_lock_merging.proofs.Assembling.{assembled-merge, list-closed, list-numbered}
-use Rattle.cargo_lock_merging.proofs.Members.{none-in}
-use Rattle.cargo_lock_merging.proofs.Zipping.{zip-left, zip-right}
+use Rattle.cargo_lock_merge_core.specs.declared.plan.Plan.{Plan}
+use Rattle.cargo_lock_merge_core.specs.Assembled.{IsAssembled, IsIdentityAt, IsIdentityAtIf}
+use Rattle.cargo_lock_merge_core.specs.Commits.{Lockfiles}
+use Rattle.cargo_lock_merge_core.specs.Merge.{AreInConflict, IsMerge, Triple}
+use Rattle.cargo_lock_merge_core.specs.Merged.{HasPlan}
+use Rattle.cargo_lock_merge_core.specs.Placed.{PlacedData}
+use Rattle.cargo_lock_merge_core.specs.Moved.{AreListedPackages}
+use Rattle.cargo_lock_merge_core.specs.Plans.{IsNumbered, IsPlan}
+use Rattle.cargo_lock_merge_core.specs.Triples.{AreSidesOf}
+use Rattle.cargo_lock_merge_core.proofs.Assembling.{assembled-merge, list-closed, list-numbered}
+use Rattle.lists.proofs.Members.{none-in}
+use Rattle.cargo_lock_merge_core.proofs.Zipping.{zip-left, zip-right}
 use Rattle.cargo_lock_merge.specs.declared.conflict.Conflict.{Conflict}
 use Rattle.cargo_lock_merge.specs.declared.outcome.Outcome.{Outcome}
 use Rattle.cargo_lock_merge.specs.declared.outcome.Outcome.TheVariants.{Conflicts, Merged}
-use Rattle.cargo_lock_merge.specs.Conflict.{AreConflictsOf, subject_of}
-use Rattle.cargo_lock_merge.specs.Outcome.{AreReady, Finds, IsIdentityIn, IsMergedOf, IsOutcomeOf, RefersInFull}
+use Rattle.cargo_lock_merge.specs.Conflict.{AreConflictsOf, conflict_subject}
+use Rattle.cargo_lock_merge.specs.Outcome.{AreReady, FindsMerge, IsIdentityIn, IsMergedOf, IsOutcomeOf, RefersInFull}
 use Rattle.cargo_lock_merge.proofs.Once.{all-once}
 
 -- the lists by numbers are ready to be merged
@@ -45,13 +45,13 @@ has-plan s plan r is = record {
   plan = is;
 }
 
-pub listed : (xs : List (PlacedData ℕ)) → IsNumbered xs → AreListed xs
+pub listed : (xs : List (PlacedData ℕ)) → IsNumbered xs → AreListedPackages xs
 listed xs h = record { order = h.order; each = h.each }
 
 -- where there is a conflict, it is among all of them
 pub some-listed : (s : Triple ℕ) (cs : List Conflict) → AreInConflict s → AreConflictsOf s cs → cs ≢ []
 some-listed s cs conflict are none =
-    conflict (λ c k. none-in c (subst (λ (ds : List Conflict). Contains (map subject_of ds) c) none ((are.exact c).1 k)))
+    conflict (λ c k. none-in c (subst (λ (ds : List Conflict). Contains (map conflict_subject ds) c) none ((are.exact c).1 k)))
 
 -- ---- the references of assembled packages
 
@@ -76,7 +76,7 @@ module _ (m xs : List (PlacedData ℕ)) (ps : List PackageData) (perm : IsPermut
       by x assembled (inr replaced) = replacement-in x.replacement p.replace i replaced assembled.replacement
 
 -- what is found by numbers is found
-pub finds : (all : Lockfiles) (s : Triple ℕ) (o : Outcome) → AreSidesOf all s → IsOutcomeOf s o → Finds all o
+pub finds : (all : Lockfiles) (s : Triple ℕ) (o : Outcome) → AreSidesOf all s → IsOutcomeOf s o → FindsMerge all o
 finds all s (Merged packages moved) (places, are) (m, merge, ((xs, perm, zip), order, references, apart)) = record {
   commits = record { base = are.base_commits; ours = are.our_commits; theirs = are.their_commits };
   merge = assembled-merge all places s m packages.items are merge (xs, perm, zip);

@@ -14,7 +14,7 @@ use Rattle.cargo_lock.specs.Shortest.{AreDistinct, IsAmong}
 use Rattle.cargo_lock_merge.specs.declared.patches.PatchSets.{PatchSets}
 use Rattle.cargo_lock_merge.specs.Order.{patch_order}
 use Rattle.cargo_lock_merge.specs.Patches.{AreKept, ArePatchesOf, IsIn, IsKeptOf, has_identity}
-use Rattle.cargo_lock_merging.specs.Rule3.{IsKept}
+use Rattle.cargo_lock_merge_core.specs.Rule3.{IsKept}
 use Rattle.cargo_lock_parts.specs.Identity.{Identity}
 use Rattle.cargo_lock_parts.specs.IdentityLaws.{identity_total, is_same_identity-Decides}
 use Rattle.cargo_lock_parts.specs.IdentityOrder.{is_same_identity}

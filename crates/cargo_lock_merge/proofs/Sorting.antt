@@ -17,9 +17,9 @@ use Rattle.cargo_lock.specs.CargoChecksums.{unpinned}
 use Rattle.cargo_lock_order.specs.Order.{by_kind_and_url, dependency_order, package_order}
 use Rattle.cargo_lock_merge.specs.declared.moved.Moved.{Moved}
 use Rattle.cargo_lock_merge.specs.declared.moved.Named.{Named}
-use Rattle.cargo_lock_merging.specs.declared.moved.Moved as merging
-use Rattle.cargo_lock_merge.specs.Moved.{AreMarked, AreNamed}
-use Rattle.cargo_lock_merge.specs.Order.{AreInOrder, HasSortedDependencies, moved_order, named_order, patch_order}
+use Rattle.cargo_lock_merge_core.specs.declared.moved.Moved as merging
+use Rattle.cargo_lock_merge.specs.Moved.{AreMarkedMoved, AreNamedMoved}
+use Rattle.cargo_lock_merge.specs.Order.{AreInCargoOrder, HasSortedDependencies, moved_order, named_order, patch_order}
 use Rattle.cargo_lock_merge.specs.Referring.{IsReferenceTo, IsReferring, unpinned_identity}
 use Rattle.cargo_lock_merge.proofs.Assembling.{zip-get}
 
@@ -81,7 +81,7 @@ dependencies-beside (p ∷ ps) (q ∷ qs) zip all =
     (dependencies-beside ps qs zip.1 (All-tail HasSortedDependencies p ps all))
 
 -- with commits or without, packages are in the same order
-pub referring-in-order : (ps qs : List PackageData) → AllZip IsReferring ps qs → AreInOrder ps → AreInOrder qs
+pub referring-in-order : (ps qs : List PackageData) → AllZip IsReferring ps qs → AreInCargoOrder ps → AreInCargoOrder qs
 referring-in-order ps qs zip h = record {
   packages = sorted-beside IsReferring package_order package_order packages-alike ps qs zip h.packages;
   dependencies = dependencies-beside ps qs zip h.dependencies;
@@ -110,7 +110,7 @@ record IsBeside (n : Named) (r : Moved) : Type 0 where
   from : n.found.merged.from.now ≡ r.found.merged.from.now
   to : n.to ≡ identity_of r.found.merged.to.now
 
-moved-beside : (packages : List PackageData) (fs : List merging.Moved) (ns : List Named) (rs : List Moved) → AreNamed fs ns → AreMarked packages ns rs → AllZip IsBeside ns rs
+moved-beside : (packages : List PackageData) (fs : List merging.Moved) (ns : List Named) (rs : List Moved) → AreNamedMoved fs ns → AreMarkedMoved packages ns rs → AllZip IsBeside ns rs
 moved-beside packages [] [] [] named marked = tt
 moved-beside packages [] [] (r ∷ rs) named marked = absurd marked
 moved-beside packages [] (n ∷ ns) rs named marked = absurd named
@@ -133,5 +133,5 @@ moved-alike a b p q first second =
     λ i. ordering_then (package_order (from i) (from' i)) (dependency_order (to i) (to' i))
 
 -- marked, references are in the same order
-pub moved-in-order : (packages : List PackageData) (fs : List merging.Moved) (ns : List Named) (rs : List Moved) → AreNamed fs ns → AreMarked packages ns rs → IsSorted named_order ns → IsSorted moved_order rs
+pub moved-in-order : (packages : List PackageData) (fs : List merging.Moved) (ns : List Named) (rs : List Moved) → AreNamedMoved fs ns → AreMarkedMoved packages ns rs → IsSorted named_order ns → IsSorted moved_order rs
 moved-in-order packages fs ns rs named marked = sorted-beside IsBeside named_order moved_order moved-alike ns rs (moved-beside packages fs ns rs named marked)

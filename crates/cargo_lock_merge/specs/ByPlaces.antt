@@ -3,15 +3,15 @@ use Rattle.std.specs.Prelude.{◌≡◌, ◌≢◌, ◌↔◌, All, List, [], �
 use Rattle.std.specs.Prelude.{option_map}
 use Rattle.std.specs.List.{AllPairs, AllZip, Contains}
 use Rattle.cargo_lock_parts.specs.Identity.{PackageData}
-use Rattle.cargo_lock_merging.specs.ByPlaces.{AreAllPlaced, HasPackagesAt, IsMovedBetween, place_in}
-use Rattle.cargo_lock_merging.specs.ByPlaces.{places_between}
-use Rattle.cargo_lock_merging.specs.Commits.{Lockfiles}
-use Rattle.cargo_lock_merging.specs.Conflicts.{conflict_of}
-use Rattle.cargo_lock_merging.specs.Disputes.{AreInDispute, HasCommits, source_key}
-use Rattle.cargo_lock_merging.specs.Merge.{ConflictData, IsConflict, IsMerge, IsMovedReference, Triple}
-use Rattle.cargo_lock_merging.specs.Merge as merge
-use Rattle.cargo_lock_merging.specs.Placed.{PlacedData}
-use Rattle.cargo_lock_merging.specs.Places.{IsMergeOf, Place}
+use Rattle.cargo_lock_merge_core.specs.ByPlaces.{AreAllPlaced, HasPackagesAt, IsMovedBetween, place_in}
+use Rattle.cargo_lock_merge_core.specs.ByPlaces.{places_between}
+use Rattle.cargo_lock_merge_core.specs.Commits.{Lockfiles}
+use Rattle.cargo_lock_merge_core.specs.Conflicts.{conflict_of}
+use Rattle.cargo_lock_merge_core.specs.Disputes.{AreInDispute, HasCommits, source_key}
+use Rattle.cargo_lock_merge_core.specs.Merge.{ConflictData, IsConflict, IsMerge, IsMovedReference, Triple}
+use Rattle.cargo_lock_merge_core.specs.Merge as merge
+use Rattle.cargo_lock_merge_core.specs.Placed.{PlacedData}
+use Rattle.cargo_lock_merge_core.specs.Places.{IsMergeOf, Place}
 use Rattle.cargo_lock_merge.specs.declared.conflict.Conflict.{Conflict}
 use Rattle.cargo_lock_merge.specs.declared.conflict.Conflict.TheVariants.{AtPlace, OfSource}
 use Rattle.cargo_lock_merge.specs.declared.lockfiles.LockfileMerge.{LockfileMerge}
@@ -20,7 +20,7 @@ use Rattle.cargo_lock_merge.specs.declared.moved.Moved.{Moved}
 use Rattle.cargo_lock_merge.specs.declared.outcome.Outcome.{Outcome}
 use Rattle.cargo_lock_merge.specs.declared.outcome.Outcome.TheVariants.{Conflicts, Merged}
 use Rattle.cargo_lock_merge.specs.MergedLockfiles.{LockfileTriple, MergesTo, packages_of}
-use Rattle.cargo_lock_merge.specs.Outcome.{Finds}
+use Rattle.cargo_lock_merge.specs.Outcome.{FindsMerge}
 use Rattle.cargo_lock_merge.specs.Referring.{IsReferring}
 
 -- ---- conflicts
@@ -50,8 +50,8 @@ pub record AreConflictsByPlaces (all : Lockfiles) (cs : List Conflict) : Type 0 
 -- ---- moved references
 
 -- the places of the packages of a moved reference
-abbrev pub places_of : Lockfiles → Moved → Place × Place
-places_of all r = places_between all r.found
+abbrev pub moved_places : Lockfiles → Moved → Place × Place
+moved_places all r = places_between all r.found
 
 -- the moved reference is one of the merge m
 abbrev pub IsMovedIn : Triple Place → List (PlacedData Place) → Moved → Type 0
@@ -63,8 +63,8 @@ pub record AreMovedByPlaces (all : Lockfiles) (packages : List PackageData) (rs 
     pub merge : IsMergeOf all packages
     pub each : All (IsMovedIn merge.placed merge.merged) rs
     pub all_there : (x y : PlacedData Place) → IsMovedReference merge.placed merge.merged x y
-        → Contains (map (places_of all) rs) (x.place, y.place)
-    pub once : AllPairs (λ a b. a ≢ b) (map (places_of all) rs)
+        → Contains (map (moved_places all) rs) (x.place, y.place)
+    pub once : AllPairs (λ a b. a ≢ b) (map (moved_places all) rs)
 
 -- ---- what a merge returns
 
@@ -90,7 +90,7 @@ MergesByPlaces s (lockfiles.InConflict conflicts) =
 
 -- what `merge` finds is so by places
 abbrev pub OutcomesAreByPlaces : Type 0
-OutcomesAreByPlaces = (all : Lockfiles) (o : Outcome) → Finds all o → FindsByPlaces all o
+OutcomesAreByPlaces = (all : Lockfiles) (o : Outcome) → FindsMerge all o → FindsByPlaces all o
 
 -- what `merge_lockfiles` returns is so by places
 abbrev pub MergesAreByPlaces : Type 0

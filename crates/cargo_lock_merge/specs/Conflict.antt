@@ -1,18 +1,18 @@
 -- What the two sides of a merge of three lists are in conflict about.
 use Rattle.std.specs.Prelude.{◌≢◌, ◌↔◌, ℕ, All, List, map}
 use Rattle.std.specs.List.{AllPairs, Contains}
-use Rattle.cargo_lock_merging.specs.declared.conflicts.Conflict as merging
-use Rattle.cargo_lock_merging.specs.Conflicts.{IsConflictAt, conflict_of}
-use Rattle.cargo_lock_merging.specs.Disputes.{AreInDispute, HasCommits, source_key}
-use Rattle.cargo_lock_merging.specs.Merge.{ConflictData, IsConflict, Triple, lockfiles_of}
-use Rattle.cargo_lock_merging.specs.Merge as merge
+use Rattle.cargo_lock_merge_core.specs.declared.conflicts.Conflict as merging
+use Rattle.cargo_lock_merge_core.specs.Conflicts.{IsConflictAt, conflict_of}
+use Rattle.cargo_lock_merge_core.specs.Disputes.{AreInDispute, HasCommits, source_key}
+use Rattle.cargo_lock_merge_core.specs.Merge.{ConflictData, IsConflict, Triple, lockfiles_of}
+use Rattle.cargo_lock_merge_core.specs.Merge as merge
 use Rattle.cargo_lock_merge.specs.declared.conflict.Conflict.{Conflict}
 use Rattle.cargo_lock_merge.specs.declared.conflict.Conflict.TheVariants.{AtPlace, OfSource}
 
 -- what the conflict is about
-abbrev pub subject_of : Conflict → ConflictData ℕ
-subject_of (AtPlace c) = conflict_of c.kind c.place
-subject_of (OfSource c) = merge.OfSource (source_key c)
+abbrev pub conflict_subject : Conflict → ConflictData ℕ
+conflict_subject (AtPlace c) = conflict_of c.kind c.place
+conflict_subject (OfSource c) = merge.OfSource (source_key c)
 
 -- the conflict has what the three lists have of its subject
 abbrev pub HasSubject : Triple ℕ → Conflict → Type 0
@@ -21,8 +21,8 @@ HasSubject s (OfSource c) = HasCommits (lockfiles_of s) c × AreInDispute c
 
 -- these are the conflicts, each once
 pub record AreConflictsOf (s : Triple ℕ) (all : List Conflict) : Type 0 where
-  pub exact : (c : ConflictData ℕ) → Contains (map subject_of all) c ↔ IsConflict s c
-  pub once : AllPairs (λ a b. a ≢ b) (map subject_of all)
+  pub exact : (c : ConflictData ℕ) → Contains (map conflict_subject all) c ↔ IsConflict s c
+  pub once : AllPairs (λ a b. a ≢ b) (map conflict_subject all)
   pub each : All (HasSubject s) all
 
 -- ---- as the program has them

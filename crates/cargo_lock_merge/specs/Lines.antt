@@ -9,16 +9,16 @@ use Rattle.cargo_lock_parts.specs.Ascii.{newline}
 use Rattle.cargo_lock_parts.specs.Identity.{PackageData, identity_of}
 use Rattle.cargo_lock_parts.specs.IdentityOrder.{is_same_identity}
 use Rattle.cargo_lock_parts.specs.Source.{Source}
-use Rattle.cargo_lock_merging.specs.declared.commits.SourceCommits.{SourceCommits}
-use Rattle.cargo_lock_merging.specs.declared.conflicts.Conflict as merging
-use Rattle.cargo_lock_merging.specs.declared.conflicts.Kind.{Kind}
-use Rattle.cargo_lock_merging.specs.declared.conflicts.Kind.TheVariants as kind
-use Rattle.cargo_lock_merging.specs.declared.moved.Reference.{Reference}
-use Rattle.cargo_lock_merging.specs.declared.refusal.Refusal.{Refusal}
-use Rattle.cargo_lock_merging.specs.declared.refusal.Refusal.TheVariants.{Lost, OnePlace, TwoCommits}
-use Rattle.cargo_lock_merging.specs.declared.refusal.Refusal.TheVariants.{Unreplaced}
-use Rattle.cargo_lock_merging.specs.declared.triple.Role.{Role}
-use Rattle.cargo_lock_merging.specs.declared.triple.Role.TheVariants as role
+use Rattle.cargo_lock_merge_core.specs.declared.commits.SourceCommits.{SourceCommits}
+use Rattle.cargo_lock_merge_core.specs.declared.conflicts.Conflict as merging
+use Rattle.cargo_lock_merge_core.specs.declared.conflicts.Kind.{Kind}
+use Rattle.cargo_lock_merge_core.specs.declared.conflicts.Kind.TheVariants as kind
+use Rattle.cargo_lock_merge_core.specs.declared.moved.Reference.{Reference}
+use Rattle.cargo_lock_merge_core.specs.declared.refusal.Refusal.{Refusal}
+use Rattle.cargo_lock_merge_core.specs.declared.refusal.Refusal.TheVariants.{Lost, OnePlace, TwoCommits}
+use Rattle.cargo_lock_merge_core.specs.declared.refusal.Refusal.TheVariants.{Unreplaced}
+use Rattle.cargo_lock_merge_core.specs.declared.triple.Role.{Role}
+use Rattle.cargo_lock_merge_core.specs.declared.triple.Role.TheVariants as role
 use Rattle.cargo_lock_merge.specs.declared.conflict.Conflict.{Conflict}
 use Rattle.cargo_lock_merge.specs.declared.conflict.Conflict.TheVariants.{AtPlace, OfSource}
 use Rattle.cargo_lock_merge.specs.declared.conflict.Line.{Line}
@@ -34,10 +34,11 @@ use Rattle.cargo_lock_merge.specs.declared.words.Value.TheVariants as value
 use Rattle.cargo_lock_merge.specs.declared.words.Values.{Values}
 use Rattle.cargo_lock_references.specs.Format.{number_of}
 use Rattle.cargo_lock_references.specs.declared.version.ResolveVersion.{ResolveVersion}
-use Rattle.cargo_lock_merge.specs.Words.{bare_text, commit_text, named_text, source_behind}
+use Rattle.cargo_lock_merge.specs.Words.{bare_source_behind, bare_text, commit_text}
+use Rattle.cargo_lock_display.specs.Line.{named_text}
 use Rattle.cargo_lock_merge.specs.Words.{values_text, with_commit_text}
-use Rattle.shown.specs.Shown.{shown}
-use Rattle.shown.specs.declared.form.Form.TheVariants.{Plain, Quoted}
+use Rattle.printing.specs.Shown.{shown}
+use Rattle.printing.specs.declared.form.Form.TheVariants.{Plain, Quoted}
 
 -- ---- conflicts
 
@@ -72,9 +73,9 @@ same_if None q = None
 same_if (Some p) q = if is_same_identity (identity_of p.now) (identity_of q) then Some p else None
 
 -- the checksum of a package, if it has one
-abbrev pub checksum_value : Option (Bor PackageData) → Option Value
-checksum_value None = None
-checksum_value (Some p) = if is_some p.now.checksum then Some (value.Checksum p) else None
+abbrev pub checksum_of_side : Option (Bor PackageData) → Option Value
+checksum_of_side None = None
+checksum_of_side (Some p) = if is_some p.now.checksum then Some (value.Checksum p) else None
 
 -- the replacement of a package, if it has one
 abbrev pub replacement_value : Option (Bor PackageData) → Option Value
@@ -82,9 +83,9 @@ replacement_value None = None
 replacement_value (Some p) = if is_some p.now.replace then Some (value.Replacement p) else None
 
 -- of a package that one side alone has, at another commit of its source than the merged one
-abbrev pub source_line : Bor PackageData → Option SourceCommits → Line
-source_line p None = record { subject = subject.Source p; values = absent }
-source_line p (Some c) = record { subject = subject.Source p; values = commit_values None c }
+abbrev pub other_commit_line : Bor PackageData → Option SourceCommits → Line
+other_commit_line p None = record { subject = subject.Source p; values = absent }
+other_commit_line p (Some c) = record { subject = subject.Source p; values = commit_values None c }
 
 -- what a conflict of this kind is about, and what the three have, where the sides have these packages
 abbrev pub line_by : Kind → Option (Bor PackageData) → Option (Bor PackageData) → merging.Conflict
@@ -97,12 +98,12 @@ line_by kind.Package (Some o) (Some t) c = record {
     theirs = value.Version t;
   };
 }
-line_by kind.Package (Some o) None c = source_line o c.source
-line_by kind.Package None (Some t) c = source_line t c.source
+line_by kind.Package (Some o) None c = other_commit_line o c.source
+line_by kind.Package None (Some t) c = other_commit_line t c.source
 line_by kind.Checksum (Some o) (Some t) c = record {
   subject = subject.Checksum o;
   values = record {
-    old = checksum_value (same_if c.base o.now);
+    old = checksum_of_side (same_if c.base o.now);
     ours = value.Checksum o;
     theirs = value.Checksum t;
   };
@@ -133,8 +134,8 @@ conflict_line (OfSource c) = codes "conflict: " ++ (bare_text c.source.now
 -- both packages of a reference, with their sources or without
 abbrev pub moved_text : Reference → Bool → List ℕ
 moved_text r with_sources = if with_sources
-    then with_commit_text r.from.now ++ (source_behind r.from.now.source ++ (codes " on "
-    ++ (with_commit_text r.to.now ++ source_behind r.to.now.source)))
+    then with_commit_text r.from.now ++ (bare_source_behind r.from.now.source ++ (codes " on "
+    ++ (with_commit_text r.to.now ++ bare_source_behind r.to.now.source)))
     else with_commit_text r.from.now ++ (codes " on " ++ with_commit_text r.to.now)
 
 -- the references that the sides have at the places
@@ -149,6 +150,10 @@ before_text (Some o) (Some t) = codes " (ours: " ++ (moved_text o false ++ (code
 abbrev pub moved_line : Moved → List ℕ
 moved_line r = codes "moved: " ++ (moved_text r.found.merged r.with_sources
     ++ before_text r.found.ours r.found.theirs)
+
+-- the lines of moved references
+abbrev pub moved_lines : List Moved → List ℕ
+moved_lines = flat_map (λ r. moved_line r ++ newline ∷ [])
 
 -- ---- refusals
 
@@ -206,8 +211,8 @@ metadata_line key c = codes "conflict: metadata `" ++ (shown Quoted key ++ (code
     ++ (metadata_value_text c.theirs ++ codes " (theirs)"))))))
 
 -- the lines of these conflicts
-abbrev pub metadata_lines : List (List ℕ × MetadataConflict) → List ℕ
-metadata_lines = flat_map (λ e. metadata_line e.0 e.1 ++ newline ∷ [])
+abbrev pub metadata_conflict_lines : List (List ℕ × MetadataConflict) → List ℕ
+metadata_conflict_lines = flat_map (λ e. metadata_line e.0 e.1 ++ newline ∷ [])
 
 -- the line of a format that does not keep the merge
 abbrev pub format_text : Option ResolveVersion → List ℕ
@@ -219,19 +224,18 @@ format_text (Some format) = codes "conflict: format V" ++ (digits 10 false (numb
 -- format
 abbrev pub conflicts_text : LockfileConflicts → List ℕ
 conflicts_text c = conflict_lines c.packages.items
-    ++ (metadata_lines c.metadata.entries ++ format_text c.format)
+    ++ (metadata_conflict_lines c.metadata.entries ++ format_text c.format)
 
 -- ---- laws
 
 -- each conflict is exactly one line, whatever its names, versions, sources and checksums hold
 abbrev pub ConflictsAreLines : Type 0
 ConflictsAreLines = (conflicts : List Conflict)
-    → lines (flat_map (λ c. conflict_line c ++ newline ∷ []) conflicts) ≡ map conflict_line conflicts
+    → lines (conflict_lines conflicts) ≡ map conflict_line conflicts
 
 -- so is each moved reference
 abbrev pub MovedAreLines : Type 0
-MovedAreLines = (moved : List Moved)
-    → lines (flat_map (λ r. moved_line r ++ newline ∷ []) moved) ≡ map moved_line moved
+MovedAreLines = (moved : List Moved) → lines (moved_lines moved) ≡ map moved_line moved
 
 -- so is each refusal, with the part of the lockfile
 abbrev pub RefusalsAreLines : Type 0

@@ -13,10 +13,10 @@ use Rattle.cargo_lock_lines.specs.Layout.{join_lines}
 use Rattle.cargo_lock_encoding.specs.Text.{lines_of}
 use Rattle.cargo_lock_merge.specs.Formats.{IsLaterFormat}
 use Rattle.cargo_lock_merge.specs.Once.{HasEachOnce}
-use Rattle.cargo_lock_merge.specs.Order.{AreInOrder}
-use Rattle.cargo_lock_merge.specs.Outcome.{IsFound, IsInConflict, three}
+use Rattle.cargo_lock_merge.specs.Order.{AreInCargoOrder}
+use Rattle.cargo_lock_merge.specs.Outcome.{AreInConflictAbout, IsMergeFound, three}
 use Rattle.cargo_lock_merge.specs.OwnMetadata.{AreMetadataConflicts, AreMetadataOf, IsMergedAt}
-use Rattle.cargo_lock_merge.specs.OwnMetadata.{own_metadata, value_at}
+use Rattle.cargo_lock_merge.specs.OwnMetadata.{own_metadata, value_at_key}
 use Rattle.cargo_lock_merge.specs.Patches.{ArePatchesOf}
 use Rattle.cargo_lock_merge.specs.Referring.{IsReferring}
 use Rattle.cargo_lock_merge.specs.declared.conflict.Conflict.{Conflict}
@@ -28,11 +28,11 @@ use Rattle.cargo_lock_merge.specs.declared.lockfiles.MergeError.TheVariants.{Mem
 use Rattle.cargo_lock_merge.specs.declared.lockfiles.Rest.{Rest}
 use Rattle.cargo_lock_merge.specs.declared.moved.Moved.{Moved}
 use Rattle.cargo_lock_merge.specs.declared.metadata.MetadataMerge.{MetadataMerge}
-use Rattle.cargo_lock_merging.specs.Commits.{Lockfiles}
-use Rattle.cargo_lock_merging.specs.Triples.{IsStop}
-use Rattle.cargo_lock_merging.specs.declared.triple.Role.{Role}
-use Rattle.cargo_lock_merging.specs.declared.triple.Role.TheVariants.{Base, Ours, Theirs}
-use Rattle.cargo_lock_merging.specs.declared.triple.Stop.TheVariants as stop
+use Rattle.cargo_lock_merge_core.specs.Commits.{Lockfiles}
+use Rattle.cargo_lock_merge_core.specs.Triples.{IsStop}
+use Rattle.cargo_lock_merge_core.specs.declared.triple.Role.{Role}
+use Rattle.cargo_lock_merge_core.specs.declared.triple.Role.TheVariants.{Base, Ours, Theirs}
+use Rattle.cargo_lock_merge_core.specs.declared.triple.Stop.TheVariants as stop
 use Rattle.cargo_lock_parts.specs.Error.{too_long}
 use Rattle.cargo_lock_parts.specs.Identity.{PackageData}
 use Rattle.cargo_lock_parts.specs.IdentityOrder.{is_same_package, is_same_patch}
@@ -82,7 +82,7 @@ pub record HaveNoRoots (s : LockfileTriple) : Type 0 where
 -- The packages are the merge of the three lists, with their references with commits or without.
 -- Beside them are the references that moved.
 abbrev pub AreMergedPackages : Lockfiles → List PackageData → List Moved → Type 0
-AreMergedPackages all packages moved = (merged : List PackageData) × IsFound all merged moved
+AreMergedPackages all packages moved = (merged : List PackageData) × IsMergeFound all merged moved
     × AllZip IsReferring merged packages
 
 -- The lockfile is the merge of two sides over a base: it has the later format of both sides, the
@@ -94,7 +94,7 @@ pub record IsMergedLockfile (s : LockfileTriple) (l : LockfileData) (rs : List M
     pub roots : HaveNoRoots s
     pub version : IsLaterFormat s.ours.version s.theirs.version l.version
     pub packages : AreMergedPackages (packages_of s) l.packages rs
-    pub order : AreInOrder l.packages
+    pub order : AreInCargoOrder l.packages
     pub root : l.root ≡ None
     pub metadata : AreMetadataOf s.base s.ours s.theirs l.metadata
     pub patch : ArePatchesOf s.base.patch s.ours.patch s.theirs.patch l.patch
@@ -116,28 +116,28 @@ abbrev pub text_of_lockfile : LockfileData → List ℕ
 text_of_lockfile l = join_lines (lines_of l)
 
 -- the merge has this format, and its text does not read back as it
-abbrev pub IsLostIn : LockfileTriple → ResolveVersion → Type 0
-IsLostIn s format = (l : LockfileData) × (moved : List Moved) × IsMergedLockfile s l moved
+abbrev pub IsMergeLostIn : LockfileTriple → ResolveVersion → Type 0
+IsMergeLostIn s format = (l : LockfileData) × (moved : List Moved) × IsMergedLockfile s l moved
     × (l.version ≡ format) × ¬ TextIsOf l (text_of_lockfile l)
 
 -- these are the conflicts of the packages, or there are none, and the packages have a merge
 abbrev pub AreConflictingPackages : Lockfiles → List Conflict → Type 0
 AreConflictingPackages all [] = (packages : List PackageData) × (moved : List Moved)
-    × IsFound all packages moved
-AreConflictingPackages all (c ∷ cs) = IsInConflict all (c ∷ cs)
+    × IsMergeFound all packages moved
+AreConflictingPackages all (c ∷ cs) = AreInConflictAbout all (c ∷ cs)
 
 -- the format does not keep the merge, if this is one
 abbrev pub IsLostInIf : LockfileTriple → Option ResolveVersion → Type 0
 IsLostInIf s None = Unit {0}
-IsLostInIf s (Some format) = IsLostIn s format
+IsLostInIf s (Some format) = IsMergeLostIn s format
 
 -- the sides are in conflict about something
 abbrev pub HasConflicts : LockfileConflicts → Type 0
 HasConflicts c = (c.packages.items ≢ [])
-    ⊎ (((key : List ℕ) × IsSome (value_at c.metadata key)) ⊎ IsSome c.format)
+    ⊎ (((key : List ℕ) × IsSome (value_at_key c.metadata key)) ⊎ IsSome c.format)
 
 -- The conflicts are exactly those of the sides, and there is one.
-pub record AreConflictsOf (s : LockfileTriple) (c : LockfileConflicts) : Type 0 where
+pub record AreLockfileConflicts (s : LockfileTriple) (c : LockfileConflicts) : Type 0 where
   pub roots : HaveNoRoots s
   pub packages : AreConflictingPackages (packages_of s) c.packages.items
   pub metadata : AreMetadataConflicts s.base s.ours s.theirs c.metadata
@@ -149,15 +149,15 @@ pub record AreConflictsOf (s : LockfileTriple) (c : LockfileConflicts) : Type 0 
 abbrev pub MergesTo : LockfileTriple → LockfileMerge → Type 0
 MergesTo s (Merged lockfile text moved) = IsMergedLockfile s lockfile moved.items
     × (string_bytes text ≡ text_of_lockfile lockfile) × TextIsOf lockfile (string_bytes text)
-MergesTo s (InConflict conflicts) = AreConflictsOf s conflicts
+MergesTo s (InConflict conflicts) = AreLockfileConflicts s conflicts
 
 -- ---- as the program has them
 
 -- these are the metadata of a merge, and the conflicts
 abbrev pub IsMetadataMergeOf : LockfileTriple → MetadataMerge → Type 0
 IsMetadataMergeOf s m = (key : List ℕ) → IsMergedAt (own_metadata s.base key)
-    (own_metadata s.ours key) (own_metadata s.theirs key) (value_at m.agreed key)
-    (value_at m.conflicts key)
+    (own_metadata s.ours key) (own_metadata s.theirs key) (value_at_key m.agreed key)
+    (value_at_key m.conflicts key)
 
 -- these are the parts of a merge besides its packages
 pub record IsRestOf (s : LockfileTriple) (r : Rest) : Type 0 where
@@ -166,8 +166,8 @@ pub record IsRestOf (s : LockfileTriple) (r : Rest) : Type 0 where
   pub patch : ArePatchesOf s.base.patch s.ours.patch s.theirs.patch r.patch
 
 -- the lockfile of these packages and the other parts
-abbrev pub lockfile_of : List PackageData → Rest → LockfileData
-lockfile_of packages r = record {
+abbrev pub joined_lockfile : List PackageData → Rest → LockfileData
+joined_lockfile packages r = record {
   version = r.version;
   packages = packages;
   root = None;

@@ -5,10 +5,10 @@ use Rattle.std.specs.List.{AllPairs, AllZip, Contains}
 use Rattle.std.specs.List.Sorted.{IsSorted}
 use Rattle.cargo_lock_parts.specs.Identity.{HasNameAndVersion, Identity, PackageData, identity_of}
 use Rattle.cargo_lock_graph.specs.Targets.{HoldsOf}
-use Rattle.cargo_lock_merging.specs.declared.moved.Moved as merging
-use Rattle.cargo_lock_merging.specs.Merge.{IsMovedReference}
-use Rattle.cargo_lock_merging.specs.Moved.{IsMoved, places_of_moved, sides}
-use Rattle.cargo_lock_merging.specs.Placed.{PlacedData}
+use Rattle.cargo_lock_merge_core.specs.declared.moved.Moved as merging
+use Rattle.cargo_lock_merge_core.specs.Merge.{IsMovedReference}
+use Rattle.cargo_lock_merge_core.specs.Moved.{IsMoved, places_of_moved, sides}
+use Rattle.cargo_lock_merge_core.specs.Placed.{PlacedData}
 use Rattle.cargo_lock_merge.specs.declared.moved.Moved.{Moved}
 use Rattle.cargo_lock_merge.specs.declared.moved.Named.{Named}
 use Rattle.cargo_lock_merge.specs.Order.{moved_order}
@@ -25,8 +25,8 @@ IsShownAmong packages r = Decides r.with_sources
     ⊎ HasNamesake packages (identity_of r.found.merged.to.now))
 
 -- the places of the packages
-abbrev pub places_in : Moved → ℕ × ℕ
-places_in r = places_of_moved r.found
+abbrev pub moved_numbers : Moved → ℕ × ℕ
+moved_numbers r = places_of_moved r.found
 
 -- These are the moved references of a merge m of the sides o and t, each once, in the order of their
 -- packages. The packages are those of the merge.
@@ -34,28 +34,28 @@ pub record AreMovedReferences (o t m : List (PlacedData ℕ)) (packages : List P
     (all : List Moved) : Type 0 where
   pub each : All (λ r. (x : PlacedData ℕ) × (y : PlacedData ℕ) × IsMoved o t m x y r.found) all
   pub all_there : (x y : PlacedData ℕ) → IsMovedReference (sides o t) m x y
-      → Contains (map places_in all) (x.place, y.place)
-  pub once : AllPairs (λ a b. a ≢ b) (map places_in all)
+      → Contains (map moved_numbers all) (x.place, y.place)
+  pub once : AllPairs (λ a b. a ≢ b) (map moved_numbers all)
   pub order : IsSorted moved_order all
   pub shown : All (IsShownAmong packages) all
 
 -- ---- as the program has them
 
 -- the reference with the identities of its packages
-pub record IsNamed (found : merging.Moved) (n : Named) : Type 0 where
+pub record IsNamedMoved (found : merging.Moved) (n : Named) : Type 0 where
   pub same : n.found ≡ found
   pub from : n.from ≡ identity_of found.merged.from.now
   pub to : n.to ≡ identity_of found.merged.to.now
 
 -- the same of each
-abbrev pub AreNamed : List merging.Moved → List Named → Type 0
-AreNamed = AllZip IsNamed
+abbrev pub AreNamedMoved : List merging.Moved → List Named → Type 0
+AreNamedMoved = AllZip IsNamedMoved
 
 -- the reference with whether its line has sources
-pub record IsMarked (packages : List PackageData) (n : Named) (r : Moved) : Type 0 where
+pub record IsMarkedMoved (packages : List PackageData) (n : Named) (r : Moved) : Type 0 where
   pub same : r.found ≡ n.found
   pub shown : Decides r.with_sources (HasNamesake packages n.from ⊎ HasNamesake packages n.to)
 
 -- the same of each
-abbrev pub AreMarked : List PackageData → List Named → List Moved → Type 0
-AreMarked packages = AllZip (IsMarked packages)
+abbrev pub AreMarkedMoved : List PackageData → List Named → List Moved → Type 0
+AreMarkedMoved packages = AllZip (IsMarkedMoved packages)

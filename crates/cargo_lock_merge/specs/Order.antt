@@ -15,7 +15,7 @@ abbrev pub HasSortedDependencies : PackageData → Type 0
 HasSortedDependencies p = IsSorted dependency_order p.dependencies
 
 -- the packages are in Cargo's order, and so are the dependencies of each
-pub record AreInOrder (ps : List PackageData) : Type 0 where
+pub record AreInCargoOrder (ps : List PackageData) : Type 0 where
   pub packages : IsSorted package_order ps
   pub dependencies : All HasSortedDependencies ps
 

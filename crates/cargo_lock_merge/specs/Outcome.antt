@@ -2,15 +2,15 @@
 use Rattle.std.specs.Prelude.{◌≡◌, ◌≢◌, ◌⊎◌, ℕ, All, List, [], Some}
 use Rattle.std.specs.List.{Contains}
 use Rattle.cargo_lock_parts.specs.Identity.{Identity, PackageData, identity_of}
-use Rattle.cargo_lock_merging.specs.declared.triple.Sides.{Sides}
-use Rattle.cargo_lock_merging.specs.Assembled.{AreAssembled, AreSides}
-use Rattle.cargo_lock_merging.specs.Commits.{Lockfiles}
-use Rattle.cargo_lock_merging.specs.LawsOfMerges.{HaveOneCommitEach}
-use Rattle.cargo_lock_merging.specs.Merge.{IsMerge, Triple}
-use Rattle.cargo_lock_merging.specs.Placed.{PlacedData}
-use Rattle.cargo_lock_merging.specs.Places.{IsMergeOf, Place}
-use Rattle.cargo_lock_merging.specs.Plans.{IsClosed, IsNumbered}
-use Rattle.cargo_lock_merging.specs.Triples.{AreSidesOf, triple_in}
+use Rattle.cargo_lock_merge_core.specs.declared.triple.Sides.{Sides}
+use Rattle.cargo_lock_merge_core.specs.Assembled.{AreAssembled, AreSides}
+use Rattle.cargo_lock_merge_core.specs.Commits.{Lockfiles}
+use Rattle.cargo_lock_merge_core.specs.LawsOfMerges.{HaveOneCommitEach}
+use Rattle.cargo_lock_merge_core.specs.Merge.{IsMerge, Triple}
+use Rattle.cargo_lock_merge_core.specs.Placed.{PlacedData}
+use Rattle.cargo_lock_merge_core.specs.Places.{IsMergeOf, Place}
+use Rattle.cargo_lock_merge_core.specs.Plans.{IsClosed, IsNumbered}
+use Rattle.cargo_lock_merge_core.specs.Triples.{AreSidesOf, triple_in}
 use Rattle.cargo_lock_merge.specs.declared.conflict.Conflict.{Conflict}
 use Rattle.cargo_lock_merge.specs.declared.moved.Moved.{Moved}
 use Rattle.cargo_lock_merge.specs.declared.outcome.Outcome.{Outcome}
@@ -18,7 +18,7 @@ use Rattle.cargo_lock_merge.specs.declared.outcome.Outcome.TheVariants.{Conflict
 use Rattle.cargo_lock_merge.specs.Conflict.{AreConflictsOf}
 use Rattle.cargo_lock_merge.specs.Moved.{AreMovedReferences}
 use Rattle.cargo_lock_merge.specs.Once.{DependsApart, HasEachOnce}
-use Rattle.cargo_lock_merge.specs.Order.{AreInOrder}
+use Rattle.cargo_lock_merge.specs.Order.{AreInCargoOrder}
 
 -- the base, ours and theirs
 abbrev pub three : List PackageData → List PackageData → List PackageData → Lockfiles
@@ -36,10 +36,10 @@ RefersInFull packages = (p : PackageData) (i : Identity) → Contains packages p
 -- The packages are the merge of the three lists, each of which has each git source at one commit,
 -- in the order in which Cargo writes them; no dependency is twice in a package. Beside them are the
 -- references that moved.
-pub record IsFound (all : Lockfiles) (ps : List PackageData) (rs : List Moved) : Type 0 where
+pub record IsMergeFound (all : Lockfiles) (ps : List PackageData) (rs : List Moved) : Type 0 where
   pub commits : HaveOneCommitEach all
   pub merge : IsMergeOf all ps
-  pub order : AreInOrder ps
+  pub order : AreInCargoOrder ps
   pub references : RefersInFull ps
   pub places : List Place
   pub triple : Triple ℕ
@@ -52,7 +52,7 @@ pub record IsFound (all : Lockfiles) (ps : List PackageData) (rs : List Moved) :
 
 -- There is no merge of the three lists, by the numbers of their places, since the sides are in
 -- conflict about these, of which there is at least one.
-pub record IsInConflict (all : Lockfiles) (cs : List Conflict) : Type 0 where
+pub record AreInConflictAbout (all : Lockfiles) (cs : List Conflict) : Type 0 where
   pub places : List Place
   pub triple : Triple ℕ
   pub sides : AreSides all places triple
@@ -61,9 +61,9 @@ pub record IsInConflict (all : Lockfiles) (cs : List Conflict) : Type 0 where
   pub some : cs ≢ []
 
 -- the packages are the merge of the three lists, or there is none
-abbrev pub Finds : Lockfiles → Outcome → Type 0
-Finds all (Merged packages moved) = IsFound all packages.items moved.items
-Finds all (Conflicts conflicts) = IsInConflict all conflicts.items
+abbrev pub FindsMerge : Lockfiles → Outcome → Type 0
+FindsMerge all (Merged packages moved) = IsMergeFound all packages.items moved.items
+FindsMerge all (Conflicts conflicts) = AreInConflictAbout all conflicts.items
 
 -- ---- as the program has them
 
@@ -71,7 +71,7 @@ Finds all (Conflicts conflicts) = IsInConflict all conflicts.items
 abbrev pub IsMergedOf : List (PlacedData ℕ) → List (PlacedData ℕ) → List (PlacedData ℕ) → Outcome
     → Type 0
 IsMergedOf o t m (Merged packages moved) = AreAssembled m packages.items
-    × AreInOrder packages.items × AreMovedReferences o t m packages.items moved.items
+    × AreInCargoOrder packages.items × AreMovedReferences o t m packages.items moved.items
     × All (DependsApart m) packages.items
 IsMergedOf o t m (Conflicts conflicts) = ⊥
 

@@ -14,7 +14,7 @@ use Rattle.cargo_lock_merge.specs.declared.metadata.MetadataConflict.{MetadataCo
 use Rattle.cargo_lock_merge.specs.declared.metadata.MetadataMerge.{MetadataMerge}
 use Rattle.cargo_lock_merge.specs.declared.metadata.MetadataSides.{MetadataSides}
 use Rattle.cargo_lock_merge.specs.declared.metadata.MetadataValues.{MetadataValues}
-use Rattle.cargo_lock_merging.specs.Rule3.{IsAgreed, IsInConflict}
+use Rattle.cargo_lock_merge_core.specs.Rule3.{IsAgreed, IsInConflict}
 use Rattle.cargo_lock_parts.specs.Identity.{PackageData}
 use Rattle.cargo_lock_references.specs.Records.{Texts}
 use Rattle.cargo_lock_references.specs.declared.version.ResolveVersion.{ResolveVersion}
@@ -50,16 +50,17 @@ own_metadata l = own_value l.version l.metadata l.packages
 -- ---- what a merge has
 
 -- both sides changed the value at a key, each to another one
-abbrev pub IsConflictAt : Option (List ℕ) → Option (List ℕ) → Option (List ℕ)
+abbrev pub IsMetadataConflictAt : Option (List ℕ) → Option (List ℕ) → Option (List ℕ)
     → Option MetadataConflict → Type 0
-IsConflictAt b o t None = ¬ IsInConflict b o t
-IsConflictAt b o t (Some c) = IsInConflict b o t × (c ≡ record { base = b; ours = o; theirs = t })
+IsMetadataConflictAt b o t None = ¬ IsInConflict b o t
+IsMetadataConflictAt b o t (Some c) = IsInConflict b o t
+    × (c ≡ record { base = b; ours = o; theirs = t })
 
 -- exactly the keys about whose values the sides are in conflict, with these values
 abbrev pub AreMetadataConflicts : LockfileData → LockfileData → LockfileData
     → BTreeMap (List ℕ) MetadataConflict → Type 0
 AreMetadataConflicts b o t conflicts = (key : List ℕ)
-    → IsConflictAt (own_metadata b key) (own_metadata o key) (own_metadata t key)
+    → IsMetadataConflictAt (own_metadata b key) (own_metadata o key) (own_metadata t key)
     (tree.get (slice_cmp nat_cmp) conflicts key)
 
 -- the metadata are those on which the three agree at each key, where an absent value is a value
@@ -71,8 +72,8 @@ AreMetadataOf b o t m = (key : List ℕ)
 -- ---- as the program has them
 
 -- the value at a key
-abbrev pub value_at : {X : Type 0} → BTreeMap (List ℕ) X → List ℕ → Option X
-value_at map key = tree.get (slice_cmp nat_cmp) map key
+abbrev pub value_at_key : {X : Type 0} → BTreeMap (List ℕ) X → List ℕ → Option X
+value_at_key map key = tree.get (slice_cmp nat_cmp) map key
 
 -- of the values at a key, this one is agreed on, or this is the conflict
 abbrev pub IsMergedAt : Option (List ℕ) → Option (List ℕ) → Option (List ℕ) → Option (List ℕ)
@@ -83,17 +84,17 @@ IsMergedAt b o t m (Some c) = IsInConflict b o t × (c ≡ record { base = b; ou
 
 -- the same of the values at a key of these metadata
 abbrev pub IsMergedKey : MetadataSides → MetadataMerge → List ℕ → Type 0
-IsMergedKey s m key = IsMergedAt (value_at s.base.now key) (value_at s.ours.now key)
-    (value_at s.theirs.now key) (value_at m.agreed key) (value_at m.conflicts key)
+IsMergedKey s m key = IsMergedAt (value_at_key s.base.now key) (value_at_key s.ours.now key)
+    (value_at_key s.theirs.now key) (value_at_key m.agreed key) (value_at_key m.conflicts key)
 
 -- or nothing is there yet
 abbrev pub IsReadyKey : MetadataSides → MetadataMerge → List ℕ → Type 0
 IsReadyKey s m key = IsMergedKey s m key
-    ⊎ ((value_at m.agreed key ≡ None) × (value_at m.conflicts key ≡ None))
+    ⊎ ((value_at_key m.agreed key ≡ None) × (value_at_key m.conflicts key ≡ None))
 
 -- two maps have the same value at the key
 abbrev pub IsSameAt : {X : Type 0} → BTreeMap (List ℕ) X → BTreeMap (List ℕ) X → List ℕ → Type 0
-IsSameAt one other key = value_at one key ≡ value_at other key
+IsSameAt one other key = value_at_key one key ≡ value_at_key other key
 
 -- nothing is changed but at the key
 pub record ChangesAt (key : List ℕ) (old new : MetadataMerge) : Type 0 where
@@ -101,8 +102,8 @@ pub record ChangesAt (key : List ℕ) (old new : MetadataMerge) : Type 0 where
   pub conflicts : (q : List ℕ) → q ≢ key → IsSameAt new.conflicts old.conflicts q
 
 -- the values of a conflict at a key
-abbrev pub conflict_of : MetadataValues → MetadataConflict
-conflict_of v = record {
+abbrev pub metadata_conflict : MetadataValues → MetadataConflict
+metadata_conflict v = record {
   base = option_copied v.base;
   ours = option_copied v.ours;
   theirs = option_copied v.theirs;

@@ -6,7 +6,7 @@ use Rattle.std.specs.List.Sorted.{IsSorted}
 use Rattle.cargo_lock.specs.Shortest.{AreDistinct, IsAmong}
 use Rattle.cargo_lock_merge.specs.Order.{patch_order}
 use Rattle.cargo_lock_merge.specs.declared.patches.PatchSets.{PatchSets}
-use Rattle.cargo_lock_merging.specs.Rule3.{IsKept}
+use Rattle.cargo_lock_merge_core.specs.Rule3.{IsKept}
 use Rattle.cargo_lock_parts.specs.Identity.{Identity}
 use Rattle.cargo_lock_parts.specs.IdentityOrder.{is_same_identity}
 

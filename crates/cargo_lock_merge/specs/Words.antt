@@ -5,26 +5,22 @@ use Rattle.std.specs.List.{flat_map}
 use Rattle.std.specs.Str.{chars}
 use Rattle.semver.specs.Identifiers.{parts_text}
 use Rattle.url.specs.Parts.{serialize}
-use Rattle.cargo_lock_parts.specs.Checksum.{digest_text}
 use Rattle.cargo_lock_parts.specs.Identity.{Identity, PackageData}
 use Rattle.cargo_lock_parts.specs.Source.{Branch, DefaultBranch, Directory, Git, GitReference, Kind}
 use Rattle.cargo_lock_parts.specs.Source.{LocalRegistry, Path, Registry, Rev, Source}
 use Rattle.cargo_lock_parts.specs.Source.{SparseRegistry, Tag, is_git}
 use Rattle.cargo_lock_parts.specs.SourceText.{pair_text, text_of}
+use Rattle.cargo_lock_display.specs.Line.{checksum_text, named_text}
 use Rattle.cargo_lock_merge.specs.declared.words.Value.{Value}
 use Rattle.cargo_lock_merge.specs.declared.words.Value.TheVariants.{Absent, Checksum, Commit}
 use Rattle.cargo_lock_merge.specs.declared.words.Value.TheVariants.{Replacement, Version}
 use Rattle.cargo_lock_merge.specs.declared.words.Values.{Values}
-use Rattle.shown.specs.Shown.{shown}
-use Rattle.shown.specs.declared.form.Form.TheVariants.{Plain}
+use Rattle.printing.specs.Shown.{shown}
+use Rattle.printing.specs.declared.form.Form.TheVariants.{Plain}
 
 -- the first eight characters of a text
 unfoldable pub start_of : List ℕ → List ℕ
 start_of text = flat_map encode_utf8 (take 8 (chars text))
-
--- the name and the version
-abbrev pub named_text : PackageData → List ℕ
-named_text p = shown Plain p.name ++ (codes " " ++ shown Plain (parts_text p.version))
 
 -- the beginning of a commit, after `#`, if there is one
 abbrev pub mark_of : Option (List ℕ) → List ℕ
@@ -51,15 +47,15 @@ commit_text None = codes "none"
 commit_text (Some commit) = shown Plain (start_of commit)
 
 -- the reference of a git source, after `?`
-abbrev pub reference_text : GitReference → List ℕ
-reference_text DefaultBranch = []
-reference_text (Tag value) = codes "?" ++ shown Plain (pair_text true (Tag value))
-reference_text (Branch value) = codes "?" ++ shown Plain (pair_text true (Branch value))
-reference_text (Rev value) = codes "?" ++ shown Plain (pair_text true (Rev value))
+abbrev pub reference_query : GitReference → List ℕ
+reference_query DefaultBranch = []
+reference_query (Tag value) = codes "?" ++ shown Plain (pair_text true (Tag value))
+reference_query (Branch value) = codes "?" ++ shown Plain (pair_text true (Branch value))
+reference_query (Rev value) = codes "?" ++ shown Plain (pair_text true (Rev value))
 
 -- the same of a kind
 abbrev pub query_of : Kind → List ℕ
-query_of (Git reference) = reference_text reference
+query_of (Git reference) = reference_query reference
 query_of Path = []
 query_of Registry = []
 query_of SparseRegistry = []
@@ -75,37 +71,32 @@ abbrev pub source_text : Source → List ℕ
 source_text s = if is_git s.kind then bare_text s else shown Plain (text_of false s)
 
 -- the source in round brackets, if there is one
-abbrev pub source_behind : Option Source → List ℕ
-source_behind None = []
-source_behind (Some s) = codes " (" ++ (source_text s ++ codes ")")
-
--- a checksum, or `none`
-abbrev pub checksum_text : Option (List ℕ) → List ℕ
-checksum_text None = codes "none"
-checksum_text (Some digest) = shown Plain (digest_text digest)
+abbrev pub bare_source_behind : Option Source → List ℕ
+bare_source_behind None = []
+bare_source_behind (Some s) = codes " (" ++ (source_text s ++ codes ")")
 
 -- a replacement, or `none`
-abbrev pub replacement_text : Option Identity → List ℕ
-replacement_text None = codes "none"
-replacement_text (Some i) = identity_text i
+abbrev pub replacement_with_commit : Option Identity → List ℕ
+replacement_with_commit None = codes "none"
+replacement_with_commit (Some i) = identity_text i
 
 -- what the base or a side has
-abbrev pub value_text : Value → List ℕ
-value_text (Version p) = shown Plain (parts_text p.now.version)
-value_text (Commit s) = commit_text s.now.precise
-value_text (Checksum p) = checksum_text p.now.checksum
-value_text (Replacement p) = replacement_text p.now.replace
-value_text Absent = codes "none"
+abbrev pub side_value_text : Value → List ℕ
+side_value_text (Version p) = shown Plain (parts_text p.now.version)
+side_value_text (Commit s) = commit_text s.now.precise
+side_value_text (Checksum p) = checksum_text p.now.checksum
+side_value_text (Replacement p) = replacement_with_commit p.now.replace
+side_value_text Absent = codes "none"
 
 -- what ours and theirs have
 abbrev pub both_text : Value → Value → List ℕ
-both_text ours theirs = value_text ours
-    ++ (codes " (ours), " ++ (value_text theirs ++ codes " (theirs)"))
+both_text ours theirs = side_value_text ours
+    ++ (codes " (ours), " ++ (side_value_text theirs ++ codes " (theirs)"))
 
 -- what the base has, if that is shown, and what ours and theirs have
 abbrev pub values_by : Option Value → Value → Value → List ℕ
 values_by None ours theirs = both_text ours theirs
-values_by (Some old) ours theirs = value_text old ++ (codes " -> " ++ both_text ours theirs)
+values_by (Some old) ours theirs = side_value_text old ++ (codes " -> " ++ both_text ours theirs)
 
 -- the same of all three
 abbrev pub values_text : Values → List ℕ

@@ -1,23 +1,21 @@
 //! The packages of a merge, as a lockfile has them.
 
-ghost use Rattle.std.specs.Prelude.{◌≡◌, ◌↔◌, ℕ, All, IfOk, IsOkUnless, MatchOption, map};
+ghost use Rattle.std.specs.Prelude.{◌≡◌, ◌↔◌, ℕ, All, IfOk, IsOkUnless, map};
 ghost use Rattle.std.specs.List.{AllZip, Contains};
 ghost use Rattle.std.specs.List.Sorted.{IsSorted, IsStrictlyIncreasing};
 ghost use Rattle.cargo_lock_parts.specs.declared.error.Error.TheVariants.{Memory};
-ghost use Rattle.cargo_lock_parts.specs.Identity.{Identity, identity_of};
-ghost use Rattle.cargo_lock_merging.specs.Assembled.{AreAssembled, IsAssembled, IsIdentityAt};
-ghost use Rattle.cargo_lock_merging.specs.Assembled.{IsIdentityAtIf};
-ghost use Rattle.cargo_lock_merging.specs.Merged.{merged_data};
-ghost use Rattle.cargo_lock_merging.specs.Placed.{HasAt, PlacedData};
-ghost use Rattle.cargo_lock_merging.specs.Kept.{AreInPlace, merged_places};
+ghost use Rattle.cargo_lock_parts.specs.Identity.{Identity};
+ghost use Rattle.cargo_lock_merge_core.specs.Assembled.{AreAssembled, IsAssembled, IsIdentityAt};
+ghost use Rattle.cargo_lock_merge_core.specs.Assembled.{IsIdentityAtIf};
+ghost use Rattle.cargo_lock_merge_core.specs.Merged.{merged_data};
+ghost use Rattle.cargo_lock_merge_core.specs.Kept.{AreInPlace, merged_places};
 ghost use Rattle.cargo_lock_order.specs.Order.{dependency_order};
 ghost use Rattle.cargo_lock_merge.specs.Once.{AreApart, DependsApart};
-ghost use Rattle.cargo_lock_merge.specs.Order.{AreInOrder, HasSortedDependencies};
+ghost use Rattle.cargo_lock_merge.specs.Order.{AreInCargoOrder, HasSortedDependencies};
 
 use crate::order::put_in_order;
-use cargo_lock_merging::merged::Merged;
-use cargo_lock_merging::moved::places_of_merged;
-use cargo_lock_merging::reach::index_of;
+use cargo_lock_merge_core::merged::Merged;
+use cargo_lock_merge_core::moved::{package_at, places_of_merged};
 use cargo_lock_parts::dependency::Dependency;
 use cargo_lock_parts::error::Result;
 use cargo_lock_parts::package::Package;
@@ -29,7 +27,7 @@ pub(crate) fn assemble(alloc: Global, merged: &[Merged<'_>]) -> Result<Vec<Packa
     requires { IsStrictlyIncreasing (merged_places merged.now) }
     ensures ok { IfOk result
         (λ packages. AreAssembled (map merged_data merged.now) packages.items) }
-    ensures order { IfOk result (λ packages. AreInOrder packages.items) }
+    ensures order { IfOk result (λ packages. AreInCargoOrder packages.items) }
     ensures err { IsOkUnless result Memory }
     ensures once { IfOk result (λ packages. AreInPlace merged.now
         → All (DependsApart (map merged_data merged.now)) packages.items) }
@@ -135,19 +133,5 @@ fn replacement(
     match package_at(merged, places, place) {
         Some(target) => Ok(Some(Dependency::of(target)?)),
         None => Ok(None),
-    }
-}
-
-// The package of a side with the identity of the merged one at a place.
-fn package_at<'a>(merged: &[Merged<'a>], places: &[usize], place: usize) -> Option<&'a Package>
-    requires places { places.now ≡ merged_places merged.now }
-    requires ascending { IsStrictlyIncreasing (merged_places merged.now) }
-    ensures { MatchOption result
-        ((y : PlacedData ℕ) → ¬ HasAt (map merged_data merged.now) place y)
-        (λ p. IsIdentityAt (map merged_data merged.now) place (identity_of p.now)) }
-{
-    match index_of(places, place) {
-        Some(at) => Some(merged[at].package),
-        None => None,
     }
 }

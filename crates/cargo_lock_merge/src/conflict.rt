@@ -2,24 +2,26 @@
 
 ghost use Rattle.std.specs.Prelude.{◌≡◌, ◌++◌, ℕ, IfOk, IsOkUnless, OnOk, is_some, map, option_map};
 ghost use Rattle.cargo_lock_parts.specs.declared.error.Error.TheVariants.{Memory};
-ghost use Rattle.cargo_lock_merging.specs.Merge.{Triple, lockfiles_of};
-ghost use Rattle.cargo_lock_merging.specs.Merged.{HasPlan};
-ghost use Rattle.cargo_lock_merging.specs.Plans.{triple_of};
+ghost use Rattle.cargo_lock_merge_core.specs.Merge.{Triple, lockfiles_of};
+ghost use Rattle.cargo_lock_merge_core.specs.Merged.{HasPlan};
+ghost use Rattle.cargo_lock_merge_core.specs.Plans.{numbered_triple};
 ghost use Rattle.cargo_lock_merge.specs.Conflict.{AreConflictsAtPlaces, AreConflictsOf};
 ghost use Rattle.cargo_lock_merge.specs.declared.conflict.Conflict.TheVariants.{AtPlace, OfSource};
-ghost use Rattle.cargo_lock_merge.specs.Lines.{absent, checksum_value, commit_value, commit_values};
-ghost use Rattle.cargo_lock_merge.specs.Lines.{line_of, replacement_value, same_if, source_line};
+ghost use Rattle.cargo_lock_merge.specs.Lines.{absent, checksum_of_side, commit_value};
+ghost use Rattle.cargo_lock_merge.specs.Lines.{commit_values, line_of, other_commit_line};
+ghost use Rattle.cargo_lock_merge.specs.Lines.{replacement_value, same_if};
 ghost use Rattle.cargo_lock_merge.specs.declared.words.Value.TheVariants.{Version};
 
-use crate::words::{BareSource, NamedPackage, Value, Values};
-use cargo_lock_merging::commits::{Commits, SourceCommits};
-use cargo_lock_merging::conflicts::{Conflict as PlaceConflict, Kind, conflicts};
-use cargo_lock_merging::disputes::disputes;
-use cargo_lock_merging::placed::{Placed, are_same, cmp_identities};
-use cargo_lock_merging::plan::Plan;
+use crate::words::{BareSource, Value, Values};
+use cargo_lock_display::NameVersion;
+use cargo_lock_merge_core::commits::{Commits, SourceCommits};
+use cargo_lock_merge_core::conflicts::{Conflict as PlaceConflict, Kind, conflicts};
+use cargo_lock_merge_core::disputes::disputes;
+use cargo_lock_merge_core::placed::{Placed, are_same, cmp_identities};
+use cargo_lock_merge_core::plan::Plan;
 use cargo_lock_parts::error::Result;
 use cargo_lock_parts::package::{Package, SourceId};
-use shown::Shown;
+use printing::Shown;
 use std::alloc::{AllocError, Global};
 use std::cmp::Ordering;
 use std::fmt;
@@ -43,9 +45,9 @@ pub(crate) fn conflicts_of<'a, 'd>(
     theirs: &'d [Placed<'a, 'd>],
     plan: &Plan<'a, 'd>,
 ) -> Result<Vec<Conflict<'a>>>
-    requires { HasPlan (triple_of base.now ours.now theirs.now) plan.now }
+    requires { HasPlan (numbered_triple base.now ours.now theirs.now) plan.now }
     ensures ok { IfOk result
-        (λ all. AreConflictsOf (triple_of base.now ours.now theirs.now) all.items) }
+        (λ all. AreConflictsOf (numbered_triple base.now ours.now theirs.now) all.items) }
     ensures err { IsOkUnless result Memory }
 {
     let commits = Commits::of(alloc, base, ours, theirs)?;
@@ -183,11 +185,11 @@ impl fmt::Display for Subject<'_> {
                 write!(f, "source of {name}")
             }
             Subject::Checksum(package) => {
-                let package = NamedPackage(package);
+                let package = NameVersion(package);
                 write!(f, "checksum of {package}")
             }
             Subject::Replacement(package) => {
-                let package = NamedPackage(package);
+                let package = NameVersion(package);
                 write!(f, "replacement of {package}")
             }
             Subject::Nothing => f.write_str("none"),
@@ -236,7 +238,7 @@ fn line_of<'a>(conflict: PlaceConflict<'a>) -> Line<'a>
 // The line of a package that one side alone has, at another commit of its source than the merged
 // one.
 fn source_line<'a>(only: &'a Package, source: Option<SourceCommits<'a>>) -> Line<'a>
-    ensures { result ≡ source_line only.entry source.entry }
+    ensures { result ≡ other_commit_line only.entry source.entry }
 {
     match source {
         Some(commits) => Line {
@@ -308,7 +310,7 @@ fn same_if<'a>(package: Option<&'a Package>, other: &Package) -> Option<&'a Pack
 
 // The checksum of the package, if it has one.
 fn checksum_if<'a>(package: Option<&'a Package>) -> Option<Value<'a>>
-    ensures { result ≡ checksum_value «package».entry }
+    ensures { result ≡ checksum_of_side «package».entry }
 {
     match package {
         Some(package) => {

@@ -1,4 +1,4 @@
-//! A merge of lockfiles by packages.
+//! The merge of three lockfiles by packages, its conflicts and what it moved, each as a line.
 #![tactic(auto)]
 
 mod assemble;

@@ -2,14 +2,15 @@
 
 ghost use Rattle.std.specs.Prelude.{Some};
 ghost use Rattle.std.specs.Fmt.{DisplaysOnOk};
-ghost use Rattle.cargo_lock_merge.specs.Lines.{conflict_lines, format_text, metadata_lines};
+ghost use Rattle.cargo_lock_merge.specs.Lines.{conflict_lines, format_text};
+ghost use Rattle.cargo_lock_merge.specs.Lines.{metadata_conflict_lines};
 
 use crate::conflict::Conflict;
 use crate::lockfiles::{LockfileConflicts, MergeError};
 use crate::metadata::MetadataConflict;
 use crate::refused::{Refused, RoleText};
 use cargo_lock::{MetadataKey, MetadataValue, ResolveVersion};
-use shown::Quoted;
+use printing::Quoted;
 use std::collections::BTreeMap;
 use std::fmt;
 
@@ -67,7 +68,7 @@ fn write_metadata<W: fmt::Write>(
     f: &mut fmt::Formatter<W>,
 ) -> fmt::Result
     ensures { DisplaysOnOk W.write_str_gives f.old result
-        (Some (metadata_lines conflicts.now.entries)) f.new }
+        (Some (metadata_conflict_lines conflicts.now.entries)) f.new }
 {
     for (key, conflict) in conflicts {
         let line = MetadataLine { key, conflict };

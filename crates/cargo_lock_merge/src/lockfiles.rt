@@ -4,12 +4,13 @@ ghost use Rattle.std.specs.Prelude.{◌≡◌, IfErr, IfOk, IsOkUnless, OnOk};
 ghost use Rattle.std.specs.Bool.{Decides};
 ghost use Rattle.cargo_lock.specs.CargoChecksums.{with_cargo_checksums_in};
 ghost use Rattle.cargo_lock_merge.specs.ByPlaces.{MergesByPlaces};
-ghost use Rattle.cargo_lock_merge.specs.MergedLockfiles.{HaveNoRoots, IsMergeError, IsMergedLockfile};
-ghost use Rattle.cargo_lock_merge.specs.MergedLockfiles.{IsMetadataMergeOf, IsRestOf, IsSameLockfile};
-ghost use Rattle.cargo_lock_merge.specs.MergedLockfiles.{IsUnread, LockfileTriple, MergesTo, TextIsOf};
-ghost use Rattle.cargo_lock_merge.specs.MergedLockfiles.{is_same_but_metadata, lockfile_of};
+ghost use Rattle.cargo_lock_merge.specs.MergedLockfiles.{HaveNoRoots, IsMergeError};
+ghost use Rattle.cargo_lock_merge.specs.MergedLockfiles.{IsMergedLockfile, IsMetadataMergeOf};
+ghost use Rattle.cargo_lock_merge.specs.MergedLockfiles.{IsRestOf, IsSameLockfile, IsUnread};
+ghost use Rattle.cargo_lock_merge.specs.MergedLockfiles.{LockfileTriple, MergesTo, TextIsOf};
+ghost use Rattle.cargo_lock_merge.specs.MergedLockfiles.{is_same_but_metadata, joined_lockfile};
 ghost use Rattle.cargo_lock_merge.specs.MergedLockfiles.{packages_of, triple_of};
-ghost use Rattle.cargo_lock_merge.specs.Outcome.{Finds, IsFound};
+ghost use Rattle.cargo_lock_merge.specs.Outcome.{FindsMerge, IsMergeFound};
 ghost use Rattle.cargo_lock_parts.specs.declared.error.Error.TheVariants.{Memory};
 
 use crate::conflict::Conflict;
@@ -22,8 +23,8 @@ use crate::outcome::{Outcome, merge};
 use crate::patches::merge_patches;
 use crate::referring::refer_as_cargo;
 use cargo_lock::{Error, Lockfile, MetadataKey, ResolveVersion};
-use cargo_lock_merging::refusal::Refusal;
-use cargo_lock_merging::triple::{Role, Stop};
+use cargo_lock_merge_core::refusal::Refusal;
+use cargo_lock_merge_core::triple::{Role, Stop};
 use cargo_lock_parts::error;
 use cargo_lock_parts::package::Package;
 use cargo_lock_parts::patch::Patch;
@@ -147,7 +148,7 @@ fn merged_packages<'a>(
     ours: &'a Lockfile,
     theirs: &'a Lockfile,
 ) -> Result<Outcome<'a>, MergeError<'a>>
-    ensures ok { IfOk result (Finds (packages_of (triple_of base.now ours.now theirs.now))) }
+    ensures ok { IfOk result (FindsMerge (packages_of (triple_of base.now ours.now theirs.now))) }
     ensures err { IfErr result (IsMergeError (triple_of base.now ours.now theirs.now)) }
 {
     match merge(alloc, &base.packages, &ours.packages, &theirs.packages) {
@@ -203,7 +204,7 @@ fn metadata_of(
 // The lockfile of these parts, or the conflicts.
 fn joined<'a>(alloc: Global, outcome: Outcome<'a>, rest: Rest) -> error::Result<LockfileMerge<'a>>
     ensures ok { IfOk result (λ merge. (s : LockfileTriple) → HaveNoRoots s
-        → Finds (packages_of s) outcome.entry → IsRestOf s rest → MergesTo s merge) }
+        → FindsMerge (packages_of s) outcome.entry → IsRestOf s rest → MergesTo s merge) }
     ensures err { IsOkUnless result Memory }
 {
     match outcome {
@@ -224,7 +225,7 @@ fn joined_packages<'a>(
     rest: Rest,
 ) -> error::Result<LockfileMerge<'a>>
     ensures ok { IfOk result (λ merge. (s : LockfileTriple) → HaveNoRoots s
-        → IsFound (packages_of s) packages.items moved.entry.items → IsRestOf s rest
+        → IsMergeFound (packages_of s) packages.items moved.entry.items → IsRestOf s rest
         → MergesTo s merge) }
     ensures err { IsOkUnless result Memory }
 {
@@ -242,7 +243,7 @@ fn joined_packages<'a>(
 
 // The lockfile of these parts.
 fn lockfile_of(packages: Vec<Package>, rest: Rest) -> Lockfile
-    ensures { result ≡ lockfile_of packages.items rest }
+    ensures { result ≡ joined_lockfile packages.items rest }
 {
     let Rest {
         version,

@@ -5,15 +5,15 @@ ghost use Rattle.std.specs.Prelude.{OnOk, Some, if◌then◌else◌, option_copi
 ghost use Rattle.std.specs.Bool.{Decides};
 ghost use Rattle.cargo_lock.specs.CargoChecksums.{key_from};
 ghost use Rattle.cargo_lock_merge.specs.OwnMetadata.{ChangesAt, IsMergedKey, IsReadyKey, IsSameAt};
-ghost use Rattle.cargo_lock_merge.specs.OwnMetadata.{conflict_of, is_checksum_at, own_metadata};
-ghost use Rattle.cargo_lock_merge.specs.OwnMetadata.{value_at, without_packages};
-ghost use Rattle.cargo_lock_merging.specs.Agreed.{AreEqual};
-ghost use Rattle.cargo_lock_merging.specs.Rule3.{IsAgreed, IsInConflict};
+ghost use Rattle.cargo_lock_merge.specs.OwnMetadata.{is_checksum_at, metadata_conflict};
+ghost use Rattle.cargo_lock_merge.specs.OwnMetadata.{own_metadata, value_at_key, without_packages};
+ghost use Rattle.cargo_lock_merge_core.specs.Agreed.{AreEqual};
+ghost use Rattle.cargo_lock_merge_core.specs.Rule3.{IsAgreed, IsInConflict};
 ghost use Rattle.cargo_lock_parts.specs.declared.error.Error.TheVariants.{Memory};
 ghost use Rattle.cargo_lock_references.specs.Records.{texts_of};
 
 use cargo_lock::{Lockfile, Metadata, MetadataKey, MetadataValue, ResolveVersion};
-use cargo_lock_merging::rule3::{Equal, Side, agreed_side};
+use cargo_lock_merge_core::rule3::{Equal, Side, agreed_side};
 use cargo_lock_parts::dependency::Dependency;
 use cargo_lock_parts::error::Result;
 use cargo_lock_parts::package::{Package, SourceId};
@@ -70,7 +70,7 @@ struct MetadataValues<'a> {
 /// one error is `Memory`.
 pub(crate) fn own_metadata(alloc: Global, lockfile: &Lockfile) -> Result<Metadata>
     ensures ok { IfOk result
-        (λ own. (key : List ℕ) → value_at own key ≡ own_metadata lockfile.now key) }
+        (λ own. (key : List ℕ) → value_at_key own key ≡ own_metadata lockfile.now key) }
     ensures err { IsOkUnless result Memory }
 {
     match lockfile.version {
@@ -83,7 +83,7 @@ pub(crate) fn own_metadata(alloc: Global, lockfile: &Lockfile) -> Result<Metadat
 
 // The metadata without the checksums of these packages.
 fn without_packages(alloc: Global, metadata: &Metadata, packages: &[Package]) -> Result<Metadata>
-    ensures ok { IfOk result (λ own. (key : List ℕ) → value_at own key
+    ensures ok { IfOk result (λ own. (key : List ℕ) → value_at_key own key
         ≡ without_packages (texts_of metadata.now.entries) packages.now key) }
     ensures err { IsOkUnless result Memory }
 {
@@ -103,8 +103,8 @@ fn copy_of(metadata: &Metadata) -> std::result::Result<Metadata, AllocError>
 
 // Removes the checksum of the package.
 fn remove_checksum(alloc: Global, metadata: &mut Metadata, package: &Package) -> Result<()>
-    ensures ok { OnOk result ((key : List ℕ) → value_at metadata.new key
-        ≡ (if is_checksum_at key «package».now then None else value_at metadata.old key)) }
+    ensures ok { OnOk result ((key : List ℕ) → value_at_key metadata.new key
+        ≡ (if is_checksum_at key «package».now then None else value_at_key metadata.old key)) }
     ensures err { IsOkUnless result Memory }
 {
     if package.checksum.is_none() {
@@ -158,7 +158,7 @@ impl MetadataMerge {
         ensures kept { OnOk result ((key : List ℕ)
             → IsMergedKey sides.now self.old key → IsMergedKey sides.now self.new key) }
         ensures done { OnOk result ((key : List ℕ)
-            → (value_at keys.now key ≡ None) ⊎ IsMergedKey sides.now self.new key) }
+            → (value_at_key keys.now key ≡ None) ⊎ IsMergedKey sides.now self.new key) }
         ensures err { IsOkUnless result Memory }
     {
         for (key, _) in keys {
@@ -183,9 +183,10 @@ impl MetadataMerge {
 
     // Puts the value that is agreed on.
     fn put_agreed(&mut self, key: &MetadataKey, value: Option<&MetadataValue>) -> Result<()>
-        requires { (value_at self.old.agreed key.now ≡ None)
-            ⊎ (value_at self.old.agreed key.now ≡ option_copied value) }
-        ensures put { OnOk result (value_at self.new.agreed key.now ≡ option_copied value.entry) }
+        requires { (value_at_key self.old.agreed key.now ≡ None)
+            ⊎ (value_at_key self.old.agreed key.now ≡ option_copied value) }
+        ensures put { OnOk result
+            (value_at_key self.new.agreed key.now ≡ option_copied value.entry) }
         ensures others { OnOk result (ChangesAt key.now self.old self.new) }
         ensures conflicts { OnOk result (IsSameAt self.new.conflicts self.old.conflicts key.now) }
         ensures err { IsOkUnless result Memory }
@@ -199,7 +200,7 @@ impl MetadataMerge {
     // Puts the conflict.
     fn put_conflict(&mut self, key: &MetadataKey, values: &MetadataValues<'_>) -> Result<()>
         ensures put { OnOk result
-            (value_at self.new.conflicts key.now ≡ Some (conflict_of values.now)) }
+            (value_at_key self.new.conflicts key.now ≡ Some (metadata_conflict values.now)) }
         ensures others { OnOk result (ChangesAt key.now self.old self.new) }
         ensures agreed { OnOk result (IsSameAt self.new.agreed self.old.agreed key.now) }
         ensures err { IsOkUnless result Memory }
@@ -213,9 +214,9 @@ impl MetadataMerge {
 impl<'a> MetadataSides<'a> {
     // The values at a key.
     fn at(&self, key: &MetadataKey) -> MetadataValues<'a>
-        ensures base { option_copied result.base ≡ value_at self.now.base.now key.now }
-        ensures ours { option_copied result.ours ≡ value_at self.now.ours.now key.now }
-        ensures theirs { option_copied result.theirs ≡ value_at self.now.theirs.now key.now }
+        ensures base { option_copied result.base ≡ value_at_key self.now.base.now key.now }
+        ensures ours { option_copied result.ours ≡ value_at_key self.now.ours.now key.now }
+        ensures theirs { option_copied result.theirs ≡ value_at_key self.now.theirs.now key.now }
     {
         MetadataValues {
             base: self.base.get(key),
@@ -254,7 +255,7 @@ impl<'a> MetadataValues<'a> {
 
     // The conflict with these values.
     fn conflict(&self) -> Result<MetadataConflict>
-        ensures ok { IfOk result (λ conflict. conflict ≡ conflict_of self.now) }
+        ensures ok { IfOk result (λ conflict. conflict ≡ metadata_conflict self.now) }
         ensures err { IsOkUnless result Memory }
     {
         Ok(MetadataConflict {

@@ -1,20 +1,22 @@
 //! The references that a merge moved.
 
-ghost use Rattle.std.specs.Prelude.{◌≡◌, ◌⊎◌, IfOk, IsOkUnless, map};
+ghost use Rattle.std.specs.Prelude.{◌≡◌, ◌⊎◌, IfOk, IsOkUnless, map, string_bytes};
 ghost use Rattle.std.specs.Bool.{Decides};
 ghost use Rattle.cargo_lock_parts.specs.declared.error.Error.TheVariants.{Memory};
-ghost use Rattle.cargo_lock_merging.specs.Kept.{AreInPlace};
-ghost use Rattle.cargo_lock_merging.specs.Merged.{merged_data};
-ghost use Rattle.cargo_lock_merging.specs.Moved.{AreListed};
-ghost use Rattle.cargo_lock_merging.specs.Numbered.{all_data};
-ghost use Rattle.cargo_lock_merge.specs.Moved.{AreMarked, AreMovedReferences, AreNamed, HasNamesake};
+ghost use Rattle.cargo_lock_merge_core.specs.Kept.{AreInPlace};
+ghost use Rattle.cargo_lock_merge_core.specs.Merged.{merged_data};
+ghost use Rattle.cargo_lock_merge_core.specs.Moved.{AreListedPackages};
+ghost use Rattle.cargo_lock_merge_core.specs.Numbered.{all_data};
+ghost use Rattle.cargo_lock_merge.specs.Lines.{moved_lines};
+ghost use Rattle.cargo_lock_merge.specs.Moved.{AreMarkedMoved, AreMovedReferences, AreNamedMoved};
+ghost use Rattle.cargo_lock_merge.specs.Moved.{HasNamesake};
 
 use crate::order::{Ordered, put_in_order};
 use crate::words::{SourceBehind, WithCommit};
 use cargo_lock_graph::versions::Versions;
-use cargo_lock_merging::merged::Merged;
-use cargo_lock_merging::moved::{Moved as Found, Reference, moved_references};
-use cargo_lock_merging::placed::Placed;
+use cargo_lock_merge_core::merged::Merged;
+use cargo_lock_merge_core::moved::{Moved as Found, Reference, moved_references};
+use cargo_lock_merge_core::placed::Placed;
 use cargo_lock_order::{dependency_order, package_order};
 use cargo_lock_parts::dependency::Dependency;
 use cargo_lock_parts::error::Result;
@@ -64,8 +66,8 @@ pub(crate) fn moved_of<'a>(
     packages: &[Package],
 ) -> Result<Vec<Moved<'a>>>
     requires merged { AreInPlace merged.now }
-    requires ours { AreListed (all_data ours.now) }
-    requires theirs { AreListed (all_data theirs.now) }
+    requires ours { AreListedPackages (all_data ours.now) }
+    requires theirs { AreListedPackages (all_data theirs.now) }
     ensures ok { IfOk result (λ all. AreMovedReferences (all_data ours.now) (all_data theirs.now)
         (map merged_data merged.now) packages.now all.items) }
     ensures err { IsOkUnless result Memory }
@@ -74,6 +76,18 @@ pub(crate) fn moved_of<'a>(
     let mut named = with_identities(alloc, &found)?;
     put_in_order(alloc, &mut named)?;
     Ok(marked(alloc, &named, packages)?)
+}
+
+/// The lines of moved references, as standard error of the program has them.
+pub fn moved_lines(alloc: Global, moved: &[Moved<'_>]) -> std::result::Result<String, AllocError>
+    ensures { IfOk result (λ lines. string_bytes lines ≡ moved_lines moved.now) }
+{
+    let mut lines = String::new(alloc);
+    for one in moved {
+        let line = format!(in alloc; "{one}\n")?;
+        lines.push_str(line.as_str())?;
+    }
+    Ok(lines)
 }
 
 // A reference with the identities of its merged packages.
@@ -100,7 +114,7 @@ impl Ordered for Named<'_> {
 
 // The references with their identities.
 fn with_identities<'a>(alloc: Global, found: &[Found<'a>]) -> Result<Vec<Named<'a>>>
-    ensures ok { IfOk result (λ all. AreNamed found.now all.items) }
+    ensures ok { IfOk result (λ all. AreNamedMoved found.now all.items) }
     ensures err { IsOkUnless result Memory }
 {
     let mut all = Vec::with_capacity(alloc, found.len())?;
@@ -122,7 +136,7 @@ fn marked<'a, 'd>(
     named: &'d [Named<'a>],
     packages: &'d [Package],
 ) -> std::result::Result<Vec<Moved<'a>>, AllocError>
-    ensures { IfOk result (λ all. AreMarked packages.now named.now all.items) }
+    ensures { IfOk result (λ all. AreMarkedMoved packages.now named.now all.items) }
 {
     let versions = Versions::of(alloc, packages)?;
     let mut all = Vec::with_capacity(alloc, named.len())?;

@@ -2,25 +2,25 @@
 
 ghost use Rattle.std.specs.Prelude.{IfErr, IfOk, IsOkUnless, map};
 ghost use Rattle.cargo_lock_parts.specs.declared.error.Error.TheVariants.{Memory};
-ghost use Rattle.cargo_lock_merging.specs.Commits.{Lockfiles};
-ghost use Rattle.cargo_lock_merging.specs.Kept.{AreInPlace};
-ghost use Rattle.cargo_lock_merging.specs.Merged.{merged_data};
-ghost use Rattle.cargo_lock_merging.specs.Moved.{AreListed};
-ghost use Rattle.cargo_lock_merging.specs.Numbered.{all_data};
-ghost use Rattle.cargo_lock_merging.specs.Plans.{triple_of};
-ghost use Rattle.cargo_lock_merging.specs.Triples.{AreSidesOf, IsStop, triple_in};
+ghost use Rattle.cargo_lock_merge_core.specs.Commits.{Lockfiles};
+ghost use Rattle.cargo_lock_merge_core.specs.Kept.{AreInPlace};
+ghost use Rattle.cargo_lock_merge_core.specs.Merged.{merged_data};
+ghost use Rattle.cargo_lock_merge_core.specs.Moved.{AreListedPackages};
+ghost use Rattle.cargo_lock_merge_core.specs.Numbered.{all_data};
+ghost use Rattle.cargo_lock_merge_core.specs.Plans.{numbered_triple};
+ghost use Rattle.cargo_lock_merge_core.specs.Triples.{AreSidesOf, IsStop, triple_in};
 ghost use Rattle.cargo_lock_merge.specs.ByPlaces.{FindsByPlaces};
-ghost use Rattle.cargo_lock_merge.specs.Outcome.{AreReady, Finds, IsMergedOf, IsOutcomeOf};
+ghost use Rattle.cargo_lock_merge.specs.Outcome.{AreReady, FindsMerge, IsMergedOf, IsOutcomeOf};
 ghost use Rattle.cargo_lock_merge.specs.Outcome.{IsTriple, three};
 
 use crate::assemble::assemble;
 use crate::conflict::{Conflict, conflicts_of};
 use crate::moved::{Moved, moved_of};
-use cargo_lock_merging::lists::placed;
-use cargo_lock_merging::merged::{Merged, merged_packages};
-use cargo_lock_merging::placed::Placed;
-use cargo_lock_merging::plan::Plan;
-use cargo_lock_merging::triple::{Sides, Stop};
+use cargo_lock_merge_core::merged::{Merged, merged_packages};
+use cargo_lock_merge_core::numbered::placed;
+use cargo_lock_merge_core::placed::Placed;
+use cargo_lock_merge_core::plan::Plan;
+use cargo_lock_merge_core::triple::{Sides, Stop};
 use cargo_lock_parts::error;
 use cargo_lock_parts::package::Package;
 use std::alloc::Global;
@@ -52,7 +52,7 @@ pub fn merge<'a>(
     ours: &'a Vec<Package>,
     theirs: &'a Vec<Package>,
 ) -> Result<Outcome<'a>, Stop<'a>>
-    ensures ok { IfOk result (Finds (three base.now.items ours.now.items theirs.now.items)) }
+    ensures ok { IfOk result (FindsMerge (three base.now.items ours.now.items theirs.now.items)) }
     ensures err { IfErr result (IsStop (three base.now.items ours.now.items theirs.now.items)) }
     ensures by_places { IfOk result
         (FindsByPlaces (three base.now.items ours.now.items theirs.now.items)) }
@@ -65,7 +65,7 @@ pub fn merge<'a>(
 fn merge_sides<'a>(alloc: Global, sides: &Sides<'a>) -> error::Result<Outcome<'a>>
     requires { IsTriple sides.now }
     ensures ok { IfOk result (λ outcome. (all : Lockfiles) → AreSidesOf all (triple_in sides.now)
-        → Finds all outcome) }
+        → FindsMerge all outcome) }
     ensures err { IsOkUnless result Memory }
 {
     let base = placed(alloc, &sides.base)?;
@@ -81,8 +81,8 @@ fn merge_placed<'a, 'd>(
     ours: &'d [Placed<'a, 'd>],
     theirs: &'d [Placed<'a, 'd>],
 ) -> error::Result<Outcome<'a>>
-    requires { AreReady (triple_of base.now ours.now theirs.now) }
-    ensures ok { IfOk result (IsOutcomeOf (triple_of base.now ours.now theirs.now)) }
+    requires { AreReady (numbered_triple base.now ours.now theirs.now) }
+    ensures ok { IfOk result (IsOutcomeOf (numbered_triple base.now ours.now theirs.now)) }
     ensures err { IsOkUnless result Memory }
 {
     let plan = Plan::of(alloc, base, ours, theirs)?;
@@ -100,8 +100,8 @@ fn merged_of<'a>(
     theirs: &[Placed<'a, '_>],
 ) -> error::Result<Outcome<'a>>
     requires merged { AreInPlace merged.now }
-    requires ours { AreListed (all_data ours.now) }
-    requires theirs { AreListed (all_data theirs.now) }
+    requires ours { AreListedPackages (all_data ours.now) }
+    requires theirs { AreListedPackages (all_data theirs.now) }
     ensures ok { IfOk result (IsMergedOf (all_data ours.now) (all_data theirs.now) (map merged_data
         merged.now)) }
     ensures err { IsOkUnless result Memory }

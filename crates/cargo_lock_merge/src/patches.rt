@@ -13,7 +13,7 @@ ghost use Rattle.cargo_lock_parts.specs.IdentityOrder.{is_same_identity};
 ghost use Rattle.cargo_lock_parts.specs.declared.error.Error.TheVariants.{Memory};
 
 use crate::order::put_in_order;
-use cargo_lock_merging::rule3::keeps;
+use cargo_lock_merge_core::rule3::keeps;
 use cargo_lock_parts::dependency::Dependency;
 use cargo_lock_parts::error::Result;
 use cargo_lock_parts::package::Package;

@@ -4,12 +4,13 @@ ghost use Rattle.std.specs.Prelude.{Some};
 ghost use Rattle.std.specs.Fmt.{DisplaysOnOk};
 ghost use Rattle.cargo_lock_merge.specs.Lines.{one_place_text};
 
-use crate::words::{BareSource, CommitText, NamedPackage};
-use cargo_lock_merging::placed::are_same;
-use cargo_lock_merging::refusal::Refusal;
-use cargo_lock_merging::triple::Role;
+use crate::words::{BareSource, CommitText};
+use cargo_lock_display::NameVersion;
+use cargo_lock_merge_core::placed::are_same;
+use cargo_lock_merge_core::refusal::Refusal;
+use cargo_lock_merge_core::triple::Role;
 use cargo_lock_parts::package::Package;
-use shown::Quoted;
+use printing::Quoted;
 use std::fmt;
 
 /// Why the lockfile with this part cannot be merged. `Display` writes it as a line without a
@@ -72,7 +73,7 @@ impl fmt::Display for ReasonText<'_, '_> {
                 write!(f, "{source} is at {commit} and {other}")
             }
             Refusal::Unreplaced(package) => {
-                let package = NamedPackage(package);
+                let package = NameVersion(package);
                 write!(f, "no package is the replacement of {package}")
             }
             Refusal::Lost(text) => {
@@ -91,10 +92,10 @@ fn write_one_place<W: fmt::Write>(
     ensures { DisplaysOnOk W.write_str_gives f.old result
         (Some (one_place_text one.now other.now)) f.new }
 {
-    let package = NamedPackage(one);
+    let package = NameVersion(one);
     if are_same(one, other) {
         return write!(f, "package {package} is listed twice");
     }
-    let other = NamedPackage(other);
+    let other = NameVersion(other);
     write!(f, "packages {package} and {other} are at one place")
 }

@@ -1,35 +1,17 @@
 //! The parts of the lines of conflicts, of moved references and of refusals. Texts that come from a
 //! lockfile are shown as `Shown` shows them.
 
-ghost use Rattle.std.specs.Prelude.{Some, option_map};
+ghost use Rattle.std.specs.Prelude.{Some};
 ghost use Rattle.std.specs.Fmt.{DisplaysOnOk};
-ghost use Rattle.cargo_lock_parts.specs.Checksum.{digest_of};
 ghost use Rattle.cargo_lock_parts.specs.Source.{git_reference_of};
-ghost use Rattle.cargo_lock_merge.specs.Words.{checksum_text, mark_of, reference_text};
-ghost use Rattle.cargo_lock_merge.specs.Words.{replacement_text, start_of};
+ghost use Rattle.cargo_lock_merge.specs.Words.{mark_of, reference_query, replacement_with_commit};
+ghost use Rattle.cargo_lock_merge.specs.Words.{start_of};
 
+use cargo_lock_display::{ChecksumText, NameVersion};
 use cargo_lock_parts::dependency::Dependency;
-use cargo_lock_parts::package::{Checksum, GitReference, Package, SourceId, SourceKind};
-use shown::Shown;
+use cargo_lock_parts::package::{GitReference, Package, SourceId, SourceKind};
+use printing::Shown;
 use std::fmt;
-
-// The name and the version.
-#[derive(Clone, Copy)]
-pub(crate) struct NamedPackage<'a>(pub(crate) &'a Package);
-
-impl fmt::Display for NamedPackage<'_> {
-    ghost use Rattle.std.specs.Prelude.{Some};
-    ghost use Rattle.cargo_lock_merge.specs.Words.{named_text};
-
-    ghost output = { λ shown. Some (named_text shown.0.now) };
-
-    fn fmt<W: fmt::Write>(&self, f: &mut fmt::Formatter<W>) -> fmt::Result {
-        let NamedPackage(package) = *self;
-        let name = Shown(&package.name);
-        let version = Shown(&package.version);
-        write!(f, "{name} {version}")
-    }
-}
 
 // The name, the version and the commit.
 #[derive(Clone, Copy)]
@@ -43,7 +25,7 @@ impl fmt::Display for WithCommit<'_> {
 
     fn fmt<W: fmt::Write>(&self, f: &mut fmt::Formatter<W>) -> fmt::Result {
         let WithCommit(package) = *self;
-        let named = NamedPackage(package);
+        let named = NameVersion(package);
         let commit = CommitMark(&package.source);
         write!(f, "{named}{commit}")
     }
@@ -160,9 +142,9 @@ pub(crate) struct SourceBehind<'a>(pub(crate) &'a Option<SourceId>);
 
 impl fmt::Display for SourceBehind<'_> {
     ghost use Rattle.std.specs.Prelude.{Some};
-    ghost use Rattle.cargo_lock_merge.specs.Words.{source_behind};
+    ghost use Rattle.cargo_lock_merge.specs.Words.{bare_source_behind};
 
-    ghost output = { λ shown. Some (source_behind shown.0.now) };
+    ghost output = { λ shown. Some (bare_source_behind shown.0.now) };
 
     fn fmt<W: fmt::Write>(&self, f: &mut fmt::Formatter<W>) -> fmt::Result {
         let SourceBehind(source) = *self;
@@ -240,7 +222,7 @@ fn write_reference<W: fmt::Write>(
     f: &mut fmt::Formatter<W>,
 ) -> fmt::Result
     ensures { DisplaysOnOk W.write_str_gives f.old result
-        (Some (reference_text (git_reference_of reference.now))) f.new }
+        (Some (reference_query (git_reference_of reference.now))) f.new }
 {
     match reference.pretty_ref(true) {
         Some(pair) => {
@@ -272,9 +254,9 @@ pub(crate) enum Value<'a> {
 
 impl fmt::Display for Value<'_> {
     ghost use Rattle.std.specs.Prelude.{Some};
-    ghost use Rattle.cargo_lock_merge.specs.Words.{value_text};
+    ghost use Rattle.cargo_lock_merge.specs.Words.{side_value_text};
 
-    ghost output = { λ value. Some (value_text value) };
+    ghost output = { λ value. Some (side_value_text value) };
 
     fn fmt<W: fmt::Write>(&self, f: &mut fmt::Formatter<W>) -> fmt::Result {
         match *self {
@@ -286,26 +268,13 @@ impl fmt::Display for Value<'_> {
                 let commit = CommitText(source);
                 write!(f, "{commit}")
             }
-            Value::Checksum(package) => write_checksum(&package.checksum, f),
+            Value::Checksum(package) => {
+                let checksum = ChecksumText(package);
+                write!(f, "{checksum}")
+            }
             Value::Replacement(package) => write_replacement(&package.replace, f),
             Value::Absent => f.write_str("none"),
         }
-    }
-}
-
-fn write_checksum<W: fmt::Write>(
-    checksum: &Option<Checksum>,
-    f: &mut fmt::Formatter<W>,
-) -> fmt::Result
-    ensures { DisplaysOnOk W.write_str_gives f.old result
-        (Some (checksum_text (option_map digest_of checksum.now))) f.new }
-{
-    match checksum {
-        Some(checksum) => {
-            let checksum = Shown(checksum);
-            write!(f, "{checksum}")
-        }
-        None => f.write_str("none"),
     }
 }
 
@@ -314,7 +283,7 @@ fn write_replacement<W: fmt::Write>(
     f: &mut fmt::Formatter<W>,
 ) -> fmt::Result
     ensures { DisplaysOnOk W.write_str_gives f.old result
-        (Some (replacement_text replace.now)) f.new }
+        (Some (replacement_with_commit replace.now)) f.new }
 {
     match replace {
         Some(identity) => {

@@ -1,41 +1,86 @@
 //! The URL of a source in the form in which Cargo compares packages.
 
-ghost use Rattle.std.specs.Prelude.{◌≡◌, IfOk, codes, if◌then◌else◌, map};
-ghost use Rattle.std.specs.Char.{to_ascii_lowercase};
-ghost use Rattle.cargo_lock_order.specs.Canonical.{canonical, is_at_github, without_end, without_slash};
+ghost use Rattle.std.specs.Prelude.{◌≡◌, ◌++◌, IfOk, codes, string_bytes};
+ghost use Rattle.url.specs.Parts.{text_between};
+ghost use Rattle.url.specs.declared.slicing.Position.TheVariants.{AfterFragment, AfterScheme};
+ghost use Rattle.cargo_lock_order.specs.Canonical.{canonical, is_at_github, path_at_github};
+ghost use Rattle.cargo_lock_order.specs.Canonical.{text_with_path, with_https, without_end};
+ghost use Rattle.cargo_lock_order.specs.Canonical.{without_slash};
 
 use std::alloc::{AllocError, Global};
-use url::{Position, Url};
+use url::{ParseError, Position, Url};
 
 /// The text of a URL as Cargo compares packages by it: a `/` at the end of the path is removed, and
-/// then a `.git`; for GitHub the scheme is `https` and the path is in lower case.
+/// then a `.git`. At GitHub the URL is read again with the scheme `https`, so that a port 443 goes,
+/// and the path is in lower case.
 pub(crate) fn canonical(alloc: Global, url: &Url) -> Result<Vec<u8>, AllocError>
     ensures { IfOk result (λ text. text.items ≡ canonical url.now) }
 {
-    let path = lower_path(alloc, url)?;
+    if is_at_github(url) {
+        canonical_at_github(alloc, url)
+    } else {
+        text_with_path(alloc, url, without_slash(url.path().as_bytes()))
+    }
+}
+
+fn canonical_at_github(alloc: Global, url: &Url) -> Result<Vec<u8>, AllocError>
+    ensures { IfOk result (λ text. text.items
+        ≡ text_with_path (with_https url.now) (path_at_github url.now (with_https url.now))) }
+{
+    let text = https_text(alloc, url)?;
+    match Url::parse(alloc, text.as_str()) {
+        Ok(read) => text_at_github(alloc, url, &read),
+        Err(ParseError::OutOfMemory) | Err(ParseError::Overflow) => Err(AllocError),
+        Err(_) => text_at_github(alloc, url, url),
+    }
+}
+
+// The text of a URL with the scheme `https`.
+fn https_text(alloc: Global, url: &Url) -> Result<String, AllocError>
+    ensures { IfOk result (λ text. string_bytes text
+        ≡ codes "https" ++ text_between url.now AfterScheme AfterFragment) }
+{
+    let mut text = String::from_str(alloc, "https")?;
+    text.push_str(url.slice(Position::AfterScheme, Position::AfterFragment))?;
+    Ok(text)
+}
+
+// The text of a URL at GitHub that was read again.
+fn text_at_github(alloc: Global, url: &Url, read: &Url) -> Result<Vec<u8>, AllocError>
+    ensures { IfOk result
+        (λ text. text.items ≡ text_with_path read.now (path_at_github url.now read.now)) }
+{
+    let path = path_at_github(alloc, url, read)?;
+    text_with_path(alloc, read, &path)
+}
+
+fn path_at_github(alloc: Global, url: &Url, read: &Url) -> Result<Vec<u8>, AllocError>
+    ensures { IfOk result (λ path. path.items ≡ path_at_github url.now read.now) }
+{
+    let path = read.path().as_bytes();
+    if url.path().as_bytes().ends_with(b"/") {
+        without_slash(path).to_ascii_lowercase(alloc)
+    } else {
+        path.to_ascii_lowercase(alloc)
+    }
+}
+
+// The text of a URL with this path, less `.git` at its end.
+fn text_with_path(alloc: Global, url: &Url, path: &[u8]) -> Result<Vec<u8>, AllocError>
+    ensures { IfOk result (λ text. text.items ≡ text_with_path url.now path.now) }
+{
     let mut text = Vec::new(alloc);
-    text.extend_from_slice(scheme(url).as_bytes())?;
+    text.extend_from_slice(url.scheme().as_bytes())?;
     text.extend_from_slice(
         url.slice(Position::AfterScheme, Position::BeforePath)
             .as_bytes(),
     )?;
-    text.extend_from_slice(without_end(&path, b".git"))?;
+    text.extend_from_slice(without_end(path, b".git"))?;
     text.extend_from_slice(
         url.slice(Position::AfterPath, Position::AfterFragment)
             .as_bytes(),
     )?;
     Ok(text)
-}
-
-// The scheme, `https` at GitHub.
-fn scheme(url: &Url) -> &str
-    ensures { result.now ≡ (if is_at_github url.now then codes "https" else url.now.scheme) }
-{
-    if is_at_github(url) {
-        "https"
-    } else {
-        url.scheme()
-    }
 }
 
 fn is_at_github(url: &Url) -> bool
@@ -44,20 +89,6 @@ fn is_at_github(url: &Url) -> bool
     match url.host_str() {
         Some(host) => host == "github.com",
         None => false,
-    }
-}
-
-// The path without a `/` at its end, in lower case at GitHub.
-fn lower_path(alloc: Global, url: &Url) -> Result<Vec<u8>, AllocError>
-    ensures { IfOk result (λ path. path.items ≡ (if is_at_github url.now
-        then map to_ascii_lowercase (without_slash url.now.path)
-        else without_slash url.now.path)) }
-{
-    let path = without_slash(url.path().as_bytes());
-    if is_at_github(url) {
-        path.to_ascii_lowercase(alloc)
-    } else {
-        path.to_vec(alloc)
     }
 }
 

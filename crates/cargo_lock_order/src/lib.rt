@@ -1,7 +1,9 @@
-//! The order in which Cargo writes packages, and the dependencies of a package.
+//! How Cargo orders packages and dependencies, and which URLs are one for it.
 #![tactic(auto)]
 
 mod canonical;
+pub mod crates_io;
 pub mod order;
 
+pub use crate::crates_io::is_canonically_crates_io;
 pub use crate::order::{dependency_order, package_order};

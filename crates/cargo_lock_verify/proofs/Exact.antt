@@ -1,150 +1,114 @@
 -- What is found is exactly what the relations say.
-use Rattle.std.proofs.Common.{◌≡◌, ◌≢◌, ◌⊎◌, ℕ, Bool, true, false, true≢false, List, [], ◌∷◌, Option, None, Some, is_some, map, refl, ap, sym, ◌∙◌, inl, inr, subst, if◌then◌else◌, arith}
+use Rattle.std.proofs.Common.{◌≡◌, ◌≢◌, ◌⊎◌, ℕ, Bool, true, false, true≢false, List, [], ◌∷◌, Option, None, Some, is_some, map, refl, ap, sym, ◌∙◌, subst, if◌then◌else◌}
 use Rattle.std.specs.List.{All, Contains, flat_map, list_any}
 use Rattle.std.proofs.lemmas.Slice.Eq.{bytes_eq-Decides}
 use Rattle.std.proofs.lemmas.Option.{same_Some}
 use Rattle.std.proofs.lemmas.List.Folds.{Any-from_list_any, list_any-from_Any}
-use Rattle.std.proofs.lemmas.List.Elements.{All-append, All-cons, All-contains, All-contains_itself, All-head, All-map, All-nil, All-tail, All-weaker, Contains-append_cases, Contains-append_left, Contains-append_right, Contains-push, Contains-push_cases}
+use Rattle.std.proofs.lemmas.List.Elements.{All-append, All-cons, All-contains, All-contains_itself, All-head, All-map, All-nil, All-tail, All-weaker}
 use Rattle.cargo_lock_parts.specs.Identity.{PackageData}
-use Rattle.cargo_lock_verify.specs.Archives.{ArchiveData, Changed, FindingData, FindingsAreExact, IsFound, IsFoundOf, IsVerified, Missing, NoneIfVerified, SubjectData}
-use Rattle.cargo_lock_verify.specs.Archives.{findings, found_by, found_in, found_of, is_digest}
-
--- ---- elements of lists
-
-pub no-element : {X : Type 0} (x : X) → ¬ Contains [] x
-no-element x h = let low = h.1 in absurd (omega (arith, low))
-
-pub cases : {X : Type 0} (y : X) (ys : List X) (x : X) → Contains (y ∷ ys) x → (y ≡ x) ⊎ Contains ys x
-cases y ys x h = elim (Contains-append_cases (y ∷ []) ys x h) [
-  | inl here ↦ elim (Contains-push_cases [] y x here) [
-    | inl none ↦ absurd (no-element x none)
-    | inr same ↦ inl same
-  ]
-  | inr there ↦ inr there
-]
-
-pub first : {X : Type 0} (y : X) (ys : List X) → Contains (y ∷ ys) y
-first y ys = Contains-append_left (y ∷ []) ys y (Contains-push [] y)
-
-pub later : {X : Type 0} (y : X) (ys : List X) (x : X) → Contains ys x → Contains (y ∷ ys) x
-later y ys x h = Contains-append_right (y ∷ []) ys x h
-
-pub in-map : {X Y : Type 0} (f : X → Y) (xs : List X) (x : X) → Contains xs x → Contains (map f xs) (f x)
-in-map f [] x h = absurd (no-element x h)
-in-map f (y ∷ ys) x h = elim (cases y ys x h) [
-  | inl same ↦ subst (λ z. Contains (f y ∷ map f ys) z) (ap f same) (first (f y) (map f ys))
-  | inr there ↦ later (f y) (map f ys) (f x) (in-map f ys x there)
-]
-
-pub in-flat : {X Y : Type 0} (f : X → List Y) (xs : List X) (x : X) (y : Y) → Contains xs x → Contains (f x) y
-    → Contains (flat_map f xs) y
-in-flat f [] x y h here = absurd (no-element x h)
-in-flat f (z ∷ zs) x y h here = elim (cases z zs x h) [
-  | inl same ↦ Contains-append_left (f z) (flat_map f zs) y (subst (λ w. Contains (f w) y) (sym same) here)
-  | inr there ↦ Contains-append_right (f z) (flat_map f zs) y (in-flat f zs x y there here)
-]
+use Rattle.cargo_lock_verify.specs.Archives.{ArchiveData, ArchiveFindingData, ArchiveFindingsAreExact, ArchiveSubjectData, Changed, IsArchiveFinding, IsArchiveFindingOf, IsVerified, Missing, NoneIfVerified}
+use Rattle.cargo_lock_verify.specs.Archives.{archive_findings, found_by_checksum, found_in, found_of_unverified, is_digest}
+use Rattle.lists.proofs.Members.{first-in as first, in-joined as in-flat, none-in as no-element}
+use Rattle.lists.proofs.Members.{none-left as no-elements}
+use Rattle.lists.proofs.Members.{in-map}
 
 -- ---- which packages are verified
 
-verified-is : (s : SubjectData) (c : List ℕ) → s.content.checksum ≡ Some c → IsVerified s → list_any (is_digest c) s.archives ≡ true
+verified-is : (s : ArchiveSubjectData) (c : List ℕ) → s.content.checksum ≡ Some c → IsVerified s → list_any (is_digest c) s.archives ≡ true
 verified-is s c is v = let (a, there, same) = v in let (k, low, at) = there in
     list_any-from_Any (is_digest c) s.archives
     (k, a, low, at, (bytes_eq-Decides a.digest c).1 (same_Some a.digest c (sym same ∙ is)))
 
-is-verified : (s : SubjectData) (c : List ℕ) → s.content.checksum ≡ Some c → list_any (is_digest c) s.archives ≡ true → IsVerified s
+is-verified : (s : ArchiveSubjectData) (c : List ℕ) → s.content.checksum ≡ Some c → list_any (is_digest c) s.archives ≡ true → IsVerified s
 is-verified s c is e = let (k, a, low, at, passes) = Any-from_list_any (is_digest c) s.archives e in
     (a, (k, low, at), is ∙ ap Some (sym ((bytes_eq-Decides a.digest c).0 passes)))
 
-has-one : (s : SubjectData) (c : List ℕ) → s.content.checksum ≡ Some c → s.content.checksum ≢ None
+has-one : (s : ArchiveSubjectData) (c : List ℕ) → s.content.checksum ≡ Some c → s.content.checksum ≢ None
 has-one s c is none = true≢false (ap is_some (sym is ∙ none))
 
 -- ---- what is found is so
 
-unverified : (s : SubjectData) → s.content.checksum ≢ None → (¬ IsVerified s) → (all : List ArchiveData) → s.archives ≡ all
-    → All (IsFoundOf s) (found_of s.content all)
-unverified s has unseen [] is = All-cons (IsFoundOf s) (Missing s.content) [] (refl, has, is) (All-nil (IsFoundOf s))
-unverified s has unseen (a ∷ rest) is = All-map (IsFoundOf s) (Changed s.content) (a ∷ rest)
-    (All-weaker (Contains s.archives) (λ x. IsFoundOf s (Changed s.content x)) (λ x there. (refl, has, unseen, there)) (a ∷ rest)
+unverified : (s : ArchiveSubjectData) → s.content.checksum ≢ None → (¬ IsVerified s) → (all : List ArchiveData) → s.archives ≡ all
+    → All (IsArchiveFindingOf s) (found_of_unverified s.content all)
+unverified s has unseen [] is = All-cons (IsArchiveFindingOf s) (Missing s.content) [] (refl, has, is) (All-nil (IsArchiveFindingOf s))
+unverified s has unseen (a ∷ rest) is = All-map (IsArchiveFindingOf s) (Changed s.content) (a ∷ rest)
+    (All-weaker (Contains s.archives) (λ x. IsArchiveFindingOf s (Changed s.content x)) (λ x there. (refl, has, unseen, there)) (a ∷ rest)
     (subst (λ xs. All (Contains s.archives) xs) is (All-contains_itself s.archives)))
 
-found-is-so : (s : SubjectData) → All (IsFoundOf s) (found_in s)
+found-is-so : (s : ArchiveSubjectData) → All (IsArchiveFindingOf s) (found_in s)
 found-is-so s = by s.content.checksum refl
   where
-    by : (c : Option (List ℕ)) → s.content.checksum ≡ c → All (IsFoundOf s) (found_by s c)
-    by None is = All-nil (IsFoundOf s)
+    by : (c : Option (List ℕ)) → s.content.checksum ≡ c → All (IsArchiveFindingOf s) (found_by_checksum s c)
+    by None is = All-nil (IsArchiveFindingOf s)
     by (Some c) is = either (list_any (is_digest c) s.archives) refl
       where
         either : (b : Bool) → list_any (is_digest c) s.archives ≡ b
-            → All (IsFoundOf s) (if b then [] else found_of s.content s.archives)
-        either true e = All-nil (IsFoundOf s)
+            → All (IsArchiveFindingOf s) (if b then [] else found_of_unverified s.content s.archives)
+        either true e = All-nil (IsArchiveFindingOf s)
         either false e = unverified s (has-one s c is)
             (λ v. true≢false (sym (verified-is s c is v) ∙ e)) s.archives refl
 
-all-so : (all xs : List SubjectData) → All (Contains all) xs → All (IsFound all) (flat_map found_in xs)
-all-so all [] h = All-nil (IsFound all)
-all-so all (s ∷ xs) h = All-append (IsFound all) (found_in s) (flat_map found_in xs)
-    (All-weaker (IsFoundOf s) (IsFound all) (λ f so. (s, All-head (Contains all) s xs h, so)) (found_in s) (found-is-so s))
+all-so : (all xs : List ArchiveSubjectData) → All (Contains all) xs → All (IsArchiveFinding all) (flat_map found_in xs)
+all-so all [] h = All-nil (IsArchiveFinding all)
+all-so all (s ∷ xs) h = All-append (IsArchiveFinding all) (found_in s) (flat_map found_in xs)
+    (All-weaker (IsArchiveFindingOf s) (IsArchiveFinding all) (λ f so. (s, All-head (Contains all) s xs h, so)) (found_in s) (found-is-so s))
     (all-so all xs (All-tail (Contains all) s xs h))
 
 -- ---- what is so is found
 
-has : (s : SubjectData) (f : FindingData) → IsFoundOf s f → s.content.checksum ≢ None
+has : (s : ArchiveSubjectData) (f : ArchiveFindingData) → IsArchiveFindingOf s f → s.content.checksum ≢ None
 has s (Changed p a) h = h.1
 has s (Missing p) h = h.1
 
-not-verified : (s : SubjectData) (f : FindingData) → IsFoundOf s f → ¬ IsVerified s
+not-verified : (s : ArchiveSubjectData) (f : ArchiveFindingData) → IsArchiveFindingOf s f → ¬ IsVerified s
 not-verified s (Changed p a) h v = h.2 v
 not-verified s (Missing p) h v = let (a, there, same) = v in
     no-element a (subst (λ xs. Contains xs a) h.2 there)
 
-in-found : (s : SubjectData) (f : FindingData) → IsFoundOf s f → Contains (found_in s) f
+in-found : (s : ArchiveSubjectData) (f : ArchiveFindingData) → IsArchiveFindingOf s f → Contains (found_in s) f
 in-found s f so = by s.content.checksum refl
   where
     none-left : (all : List ArchiveData) (p : PackageData) → s.archives ≡ all → p ≡ s.content → s.archives ≡ []
-        → Contains (found_of s.content all) (Missing p)
-    none-left all p is same empty = subst (λ xs. Contains (found_of s.content xs) (Missing p)) (sym empty ∙ is)
+        → Contains (found_of_unverified s.content all) (Missing p)
+    none-left all p is same empty = subst (λ xs. Contains (found_of_unverified s.content xs) (Missing p)) (sym empty ∙ is)
         (subst (λ q. Contains (Missing s.content ∷ []) (Missing q)) (sym same) (first (Missing s.content) []))
 
     among : (all : List ArchiveData) (p : PackageData) (a : ArchiveData) → p ≡ s.content → Contains all a
-        → Contains (found_of s.content all) (Changed p a)
+        → Contains (found_of_unverified s.content all) (Changed p a)
     among [] p a same there = absurd (no-element a there)
     among (b ∷ rest) p a same there = subst (λ q. Contains (map (Changed s.content) (b ∷ rest)) (Changed q a)) (sym same)
         (in-map (Changed s.content) (b ∷ rest) a there)
 
-    listed : (g : FindingData) → IsFoundOf s g → Contains (found_of s.content s.archives) g
+    listed : (g : ArchiveFindingData) → IsArchiveFindingOf s g → Contains (found_of_unverified s.content s.archives) g
     listed (Changed p a) h = among s.archives p a h.0 h.3
     listed (Missing p) h = none-left s.archives p refl h.0 h.2
 
-    by : (c : Option (List ℕ)) → s.content.checksum ≡ c → Contains (found_by s c) f
+    by : (c : Option (List ℕ)) → s.content.checksum ≡ c → Contains (found_by_checksum s c) f
     by None is = absurd (has s f so is)
     by (Some c) is = either (list_any (is_digest c) s.archives) refl
       where
         either : (b : Bool) → list_any (is_digest c) s.archives ≡ b
-            → Contains (if b then [] else found_of s.content s.archives) f
+            → Contains (if b then [] else found_of_unverified s.content s.archives) f
         either true e = absurd (not-verified s f so (is-verified s c is e))
         either false e = listed f so
 
-pub findings-are-exact : FindingsAreExact
+pub findings-are-exact : ArchiveFindingsAreExact
 findings-are-exact subjects f = (
-  λ h. All-contains (IsFound subjects) (findings subjects) f (all-so subjects subjects (All-contains_itself subjects)) h,
+  λ h. All-contains (IsArchiveFinding subjects) (archive_findings subjects) f (all-so subjects subjects (All-contains_itself subjects)) h,
   λ h. let (s, there, so) = h in in-flat found_in subjects s f there (in-found s f so),
 )
 
 -- ---- nothing is found
 
-some-found : (p : PackageData) (all : List ArchiveData) → (f : FindingData) × Contains (found_of p all) f
+some-found : (p : PackageData) (all : List ArchiveData) → (f : ArchiveFindingData) × Contains (found_of_unverified p all) f
 some-found p [] = (Missing p, first (Missing p) [])
 some-found p (a ∷ rest) = (Changed p a, first (Changed p a) (map (Changed p) rest))
 
-pub no-elements : {X : Type 0} (xs : List X) → ((x : X) → ¬ Contains xs x) → xs ≡ []
-no-elements [] h = refl
-no-elements (x ∷ xs) h = absurd (h x (first x xs))
-
-verified-if-none : (subjects : List SubjectData) → findings subjects ≡ [] → (s : SubjectData) → Contains subjects s
+verified-if-none : (subjects : List ArchiveSubjectData) → archive_findings subjects ≡ [] → (s : ArchiveSubjectData) → Contains subjects s
     → s.content.checksum ≢ None → IsVerified s
 verified-if-none subjects none s there has-checksum = by s.content.checksum refl
   where
-    nothing : (f : FindingData) → ¬ Contains (found_in s) f
+    nothing : (f : ArchiveFindingData) → ¬ Contains (found_in s) f
     nothing f h = no-element f (subst (λ xs. Contains xs f) none (in-flat found_in subjects s f there h))
 
     by : (c : Option (List ℕ)) → s.content.checksum ≡ c → IsVerified s
@@ -154,12 +118,12 @@ verified-if-none subjects none s there has-checksum = by s.content.checksum refl
         either : (b : Bool) → list_any (is_digest c) s.archives ≡ b → IsVerified s
         either true e = is-verified s c is e
         either false e = let (f, here) = some-found s.content s.archives in
-            absurd (nothing f (subst (λ o. Contains (found_by s o) f) (sym is)
-            (subst (λ b. Contains (if b then [] else found_of s.content s.archives) f) (sym e) here)))
+            absurd (nothing f (subst (λ o. Contains (found_by_checksum s o) f) (sym is)
+            (subst (λ b. Contains (if b then [] else found_of_unverified s.content s.archives) f) (sym e) here)))
 
 pub none-if-verified : NoneIfVerified
 none-if-verified subjects = (
   verified-if-none subjects,
-  λ all. no-elements (findings subjects) (λ f h. let (s, there, so) = (findings-are-exact subjects f).0 h in
+  λ all. no-elements (archive_findings subjects) (λ f h. let (s, there, so) = (findings-are-exact subjects f).0 h in
       not-verified s f so (all s there (has s f so))),
 )

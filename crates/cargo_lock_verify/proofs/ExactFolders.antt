@@ -10,9 +10,10 @@ use Rattle.cargo_lock_parts.specs.Checksum.{digest_of}
 use Rattle.cargo_lock_parts.specs.Identity.{PackageData}
 use Rattle.cargo_lock_parts.specs.Source.{Source}
 use Rattle.cargo_lock_verify.specs.declared.folder.Folder.{Folder}
-use Rattle.cargo_lock_verify.specs.Vendored.{Absent, FindingData, FolderFindingsAreExact, IsAsListed, IsFoundIn, IsFoundOf, IsVendored, Link, ListedData, NoFolder, NoneIfVendored, OtherArchive, OtherFile, Unlisted, VendoredData}
-use Rattle.cargo_lock_verify.specs.Vendored.{archive_found, digest_at, files_found, files_of, findings, folder_found, folders_found, found_by, is_same_archive, links_found, listed_by, listed_found, of_file, of_listed, vendored_found}
-use Rattle.cargo_lock_verify.proofs.Exact.{cases, first, in-flat, in-map, later, no-element, no-elements}
+use Rattle.cargo_lock_verify.specs.Vendored.{Absent, FolderFindingData, FolderFindingsAreExact, IsAsListed, IsFolderFindingOf, IsFoundIn, IsVendored, Link, ListedData, NoFolder, NoneIfVendored, OtherArchive, OtherFile, Unlisted, VendoredData}
+use Rattle.cargo_lock_verify.specs.Vendored.{archive_found, digest_at, files_found, files_of, folder_findings, folder_found, folders_found, found_by_source, is_same_archive, links_found, listed_by, listed_found, of_file, of_listed, vendored_found}
+use Rattle.lists.proofs.Members.{contains-cases as cases, first-in as first, in-joined as in-flat, in-map, later-in as later, none-in as no-element}
+use Rattle.lists.proofs.Members.{none-left as no-elements}
 
 -- ---- digests that may be absent
 
@@ -95,7 +96,7 @@ folder-so p f = All-append (IsFoundIn p f) (archive_found p f) _ (archive-so p f
     (All-append (IsFoundIn p f) (listed_found p f) _ (flat-so (IsFoundIn p f) (of_listed p f) (files_of f.listed) (listed-so p f))
     (All-append (IsFoundIn p f) (files_found p f) _ (flat-so (IsFoundIn p f) (of_file p f) (files_of f.files) (file-so p f)) (link-so p f)))
 
-of-folder : (v : VendoredData) (f : Folder) → Contains v.folders f → (x : FindingData) → IsFoundIn v.content f x → IsFoundOf v x
+of-folder : (v : VendoredData) (f : Folder) → Contains v.folders f → (x : FolderFindingData) → IsFoundIn v.content f x → IsFolderFindingOf v x
 of-folder v f there (NoFolder q) h = absurd h
 of-folder v f there (OtherArchive q g) h = (f, there, h)
 of-folder v f there (Absent q g path) h = (f, there, h)
@@ -103,32 +104,32 @@ of-folder v f there (OtherFile q g path d l) h = (f, there, h)
 of-folder v f there (Unlisted q g path) h = (f, there, h)
 of-folder v f there (Link q g path) h = (f, there, h)
 
-folders-so : (v : VendoredData) → All (IsFoundOf v) (folders_found v.content v.folders)
+folders-so : (v : VendoredData) → All (IsFolderFindingOf v) (folders_found v.content v.folders)
 folders-so v = by v.folders refl
   where
-    by : (fs : List Folder) → v.folders ≡ fs → All (IsFoundOf v) (folders_found v.content fs)
-    by [] is = All-cons (IsFoundOf v) (NoFolder v.content) [] (refl, is) (All-nil (IsFoundOf v))
-    by (f ∷ rest) is = flat-so (IsFoundOf v) (folder_found v.content) (f ∷ rest)
-        (λ g there. All-weaker (IsFoundIn v.content g) (IsFoundOf v) (of-folder v g (subst (λ fs. Contains fs g) (sym is) there))
+    by : (fs : List Folder) → v.folders ≡ fs → All (IsFolderFindingOf v) (folders_found v.content fs)
+    by [] is = All-cons (IsFolderFindingOf v) (NoFolder v.content) [] (refl, is) (All-nil (IsFolderFindingOf v))
+    by (f ∷ rest) is = flat-so (IsFolderFindingOf v) (folder_found v.content) (f ∷ rest)
+        (λ g there. All-weaker (IsFoundIn v.content g) (IsFolderFindingOf v) (of-folder v g (subst (λ fs. Contains fs g) (sym is) there))
         (folder_found v.content g) (folder-so v.content g))
 
 -- this is found of a package with a source
-abbrev IsFoundWith : VendoredData → FindingData → Type 0
-IsFoundWith v x = (v.content.source ≢ None) × IsFoundOf v x
+abbrev IsFoundWith : VendoredData → FolderFindingData → Type 0
+IsFoundWith v x = (v.content.source ≢ None) × IsFolderFindingOf v x
 
 vendored-so : (v : VendoredData) → All (IsFoundWith v) (vendored_found v)
 vendored-so v = by v.content.source refl
   where
-    by : (o : Option Source) → v.content.source ≡ o → All (IsFoundWith v) (found_by v o)
+    by : (o : Option Source) → v.content.source ≡ o → All (IsFoundWith v) (found_by_source v o)
     by None is = All-nil (IsFoundWith v)
-    by (Some s) is = All-weaker (IsFoundOf v) (IsFoundWith v) (λ x h. (λ none. true≢false (ap is_some (sym is ∙ none)), h))
+    by (Some s) is = All-weaker (IsFolderFindingOf v) (IsFoundWith v) (λ x h. (λ none. true≢false (ap is_some (sym is ∙ none)), h))
         (folders_found v.content v.folders) (folders-so v)
 
 -- this is found of one of the packages
-abbrev IsFoundAmong : List VendoredData → FindingData → Type 0
-IsFoundAmong all x = (v : VendoredData) × Contains all v × (v.content.source ≢ None) × IsFoundOf v x
+abbrev IsFoundAmong : List VendoredData → FolderFindingData → Type 0
+IsFoundAmong all x = (v : VendoredData) × Contains all v × (v.content.source ≢ None) × IsFolderFindingOf v x
 
-all-so : (all : List VendoredData) → All (IsFoundAmong all) (findings all)
+all-so : (all : List VendoredData) → All (IsFoundAmong all) (folder_findings all)
 all-so all = flat-so (IsFoundAmong all) vendored_found all
     (λ v there. All-weaker (IsFoundWith v) (IsFoundAmong all) (λ x h. (v, there, h.0, h.1)) (vendored_found v) (vendored-so v))
 
@@ -157,7 +158,7 @@ unlisted-in : (p : PackageData) (f : Folder) (l : ListedData) → digest_at f.li
 unlisted-in p f l is = subst (λ (b : Bool). Contains (if b then Unlisted p f l.path ∷ [] else []) (Unlisted p f l.path))
     (sym (at-absent f l.path is)) (first (Unlisted p f l.path) [])
 
-map-in : {X : Type 0} (F : X → List ℕ) (G : List ℕ → FindingData) (xs : List X) (y : List ℕ) → Contains (map F xs) y
+map-in : {X : Type 0} (F : X → List ℕ) (G : List ℕ → FolderFindingData) (xs : List X) (y : List ℕ) → Contains (map F xs) y
     → Contains (map (λ x. G (F x)) xs) (G y)
 map-in F G [] y h = absurd (no-element y h)
 map-in F G (x ∷ xs) y h = elim (cases (F x) (map F xs) y h) [
@@ -168,30 +169,30 @@ map-in F G (x ∷ xs) y h = elim (cases (F x) (map F xs) y h) [
 link-in : (p : PackageData) (f : Folder) (path : List ℕ) → Contains (map string_bytes f.links.items) path → Contains (links_found p f) (Link p f path)
 link-in p f path h = map-in string_bytes (Link p f) f.links.items path h
 
-in-archive : (p : PackageData) (f : Folder) (x : FindingData) → Contains (archive_found p f) x → Contains (folder_found p f) x
+in-archive : (p : PackageData) (f : Folder) (x : FolderFindingData) → Contains (archive_found p f) x → Contains (folder_found p f) x
 in-archive p f x = Contains-append_left (archive_found p f) _ x
 
-in-listed : (p : PackageData) (f : Folder) (l : ListedData) (x : FindingData) → Contains (files_of f.listed) l → Contains (of_listed p f l) x
+in-listed : (p : PackageData) (f : Folder) (l : ListedData) (x : FolderFindingData) → Contains (files_of f.listed) l → Contains (of_listed p f l) x
     → Contains (folder_found p f) x
 in-listed p f l x there here = Contains-append_right (archive_found p f) _ x
     (Contains-append_left (listed_found p f) _ x (in-flat (of_listed p f) (files_of f.listed) l x there here))
 
-in-files : (p : PackageData) (f : Folder) (l : ListedData) (x : FindingData) → Contains (files_of f.files) l → Contains (of_file p f l) x
+in-files : (p : PackageData) (f : Folder) (l : ListedData) (x : FolderFindingData) → Contains (files_of f.files) l → Contains (of_file p f l) x
     → Contains (folder_found p f) x
 in-files p f l x there here = Contains-append_right (archive_found p f) _ x (Contains-append_right (listed_found p f) _ x
     (Contains-append_left (files_found p f) _ x (in-flat (of_file p f) (files_of f.files) l x there here)))
 
-in-links : (p : PackageData) (f : Folder) (x : FindingData) → Contains (links_found p f) x → Contains (folder_found p f) x
+in-links : (p : PackageData) (f : Folder) (x : FolderFindingData) → Contains (links_found p f) x → Contains (folder_found p f) x
 in-links p f x h = Contains-append_right (archive_found p f) _ x (Contains-append_right (listed_found p f) _ x
     (Contains-append_right (files_found p f) (links_found p f) x h))
 
 -- of the package and the folder that a finding names
-named : (p : PackageData) (f : Folder) (q : PackageData) (g : Folder) (F : PackageData → Folder → FindingData) → q ≡ p → g ≡ f
+named : (p : PackageData) (f : Folder) (q : PackageData) (g : Folder) (F : PackageData → Folder → FolderFindingData) → q ≡ p → g ≡ f
     → Contains (folder_found p f) (F p f) → Contains (folder_found p f) (F q g)
 named p f q g F same-p same-f h = subst (λ r. Contains (folder_found p f) (F r g)) (sym same-p)
     (subst (λ e. Contains (folder_found p f) (F p e)) (sym same-f) h)
 
-folder-in : (p : PackageData) (f : Folder) (x : FindingData) → IsFoundIn p f x → Contains (folder_found p f) x
+folder-in : (p : PackageData) (f : Folder) (x : FolderFindingData) → IsFoundIn p f x → Contains (folder_found p f) x
 folder-in p f (NoFolder q) h = absurd h
 folder-in p f (OtherArchive q g) h = named p f q g OtherArchive h.0 h.1
     (in-archive p f (OtherArchive p f) (archive-in p f h.2))
@@ -206,12 +207,12 @@ folder-in p f (Unlisted q g path) h = let (l, there, same, is) = h.2 in
     (in-files p f l (Unlisted p f l.path) there (unlisted-in p f l (ap (digest_at f.listed) same ∙ is))))
 folder-in p f (Link q g path) h = named p f q g (λ r e. Link r e path) h.0 h.1 (in-links p f (Link p f path) (link-in p f path h.2))
 
-some-folder : (p : PackageData) (fs : List Folder) (f : Folder) (x : FindingData) → Contains fs f → Contains (folder_found p f) x
+some-folder : (p : PackageData) (fs : List Folder) (f : Folder) (x : FolderFindingData) → Contains fs f → Contains (folder_found p f) x
     → Contains (folders_found p fs) x
 some-folder p [] f x there here = absurd (no-element f there)
 some-folder p (g ∷ rest) f x there here = in-flat (folder_found p) (g ∷ rest) f x there here
 
-of-in : (v : VendoredData) (x : FindingData) → IsFoundOf v x → Contains (folders_found v.content v.folders) x
+of-in : (v : VendoredData) (x : FolderFindingData) → IsFolderFindingOf v x → Contains (folders_found v.content v.folders) x
 of-in v (NoFolder q) h = subst (λ fs. Contains (folders_found v.content fs) (NoFolder q)) (sym h.1)
     (subst (λ p. Contains (NoFolder v.content ∷ []) (NoFolder p)) (sym h.0) (first (NoFolder v.content) []))
 of-in v (OtherArchive q g) h = let (f, there, so) = h in some-folder v.content v.folders f _ there (folder-in v.content f (OtherArchive q g) so)
@@ -221,17 +222,17 @@ of-in v (OtherFile q g path d l) h = let (f, there, so) = h in
 of-in v (Unlisted q g path) h = let (f, there, so) = h in some-folder v.content v.folders f _ there (folder-in v.content f (Unlisted q g path) so)
 of-in v (Link q g path) h = let (f, there, so) = h in some-folder v.content v.folders f _ there (folder-in v.content f (Link q g path) so)
 
-vendored-in : (v : VendoredData) (x : FindingData) → v.content.source ≢ None → Contains (folders_found v.content v.folders) x
+vendored-in : (v : VendoredData) (x : FolderFindingData) → v.content.source ≢ None → Contains (folders_found v.content v.folders) x
     → Contains (vendored_found v) x
 vendored-in v x has h = by v.content.source refl
   where
-    by : (o : Option Source) → v.content.source ≡ o → Contains (found_by v o) x
+    by : (o : Option Source) → v.content.source ≡ o → Contains (found_by_source v o) x
     by None is = absurd (has is)
     by (Some s) is = h
 
 pub folder-findings-are-exact : FolderFindingsAreExact
 folder-findings-are-exact all x = (
-  All-contains (IsFoundAmong all) (findings all) x (all-so all),
+  All-contains (IsFoundAmong all) (folder_findings all) x (all-so all),
   λ h. let (v, there, has, so) = h in in-flat vendored_found all v x there (vendored-in v x has (of-in v x so)),
 )
 
@@ -239,7 +240,7 @@ folder-findings-are-exact all x = (
 
 -- nothing is found of a folder
 abbrev IsQuiet : PackageData → Folder → Type 0
-IsQuiet p f = (x : FindingData) → ¬ IsFoundIn p f x
+IsQuiet p f = (x : FolderFindingData) → ¬ IsFoundIn p f x
 
 archive-is : (p : PackageData) (f : Folder) → IsQuiet p f → option_map digest_of f.archive ≡ p.checksum
 archive-is p f quiet = by (is_same_archive p f) refl
@@ -280,10 +281,10 @@ as-listed p f quiet = record {
   links = links-are p f quiet;
 }
 
-vendored-if-none : (all : List VendoredData) → findings all ≡ [] → (v : VendoredData) → Contains all v → v.content.source ≢ None → IsVendored v
+vendored-if-none : (all : List VendoredData) → folder_findings all ≡ [] → (v : VendoredData) → Contains all v → v.content.source ≢ None → IsVendored v
 vendored-if-none all none v there has = record { some = some; each = each }
   where
-    nothing : (x : FindingData) → ¬ IsFoundOf v x
+    nothing : (x : FolderFindingData) → ¬ IsFolderFindingOf v x
     nothing x h = no-element x (subst (λ xs. Contains xs x) none ((folder-findings-are-exact all x).1 (v, there, has, h)))
 
     some : v.folders ≢ []
@@ -306,7 +307,7 @@ quiet-of p f is (Unlisted q g path) h = let (l, there, same, none) = h.2 in
     some-is-not-none (digest_at f.listed l.path) (is.files l there) (ap (digest_at f.listed) same ∙ none)
 quiet-of p f is (Link q g path) h = no-element path (subst (λ ls. Contains (map string_bytes ls) path) is.links h.2)
 
-none-of : (v : VendoredData) (x : FindingData) → IsVendored v → ¬ IsFoundOf v x
+none-of : (v : VendoredData) (x : FolderFindingData) → IsVendored v → ¬ IsFolderFindingOf v x
 none-of v (NoFolder q) is h = is.some h.1
 none-of v (OtherArchive q g) is h = let (f, there, so) = h in quiet-of v.content f (is.each f there) (OtherArchive q g) so
 none-of v (Absent q g path) is h = let (f, there, so) = h in quiet-of v.content f (is.each f there) (Absent q g path) so
@@ -317,5 +318,5 @@ none-of v (Link q g path) is h = let (f, there, so) = h in quiet-of v.content f 
 pub none-if-vendored : NoneIfVendored
 none-if-vendored all = (
   vendored-if-none all,
-  λ is. no-elements (findings all) (λ x h. let (v, there, has, so) = (folder-findings-are-exact all x).0 h in none-of v x (is v there has) so),
+  λ is. no-elements (folder_findings all) (λ x h. let (v, there, has, so) = (folder-findings-are-exact all x).0 h in none-of v x (is v there has) so),
 )

@@ -2,3 +2,4 @@ mod Exact
 mod ExactFolders
 mod Listing
 mod OneLine
+pub mod DocumentDepth

@@ -4,8 +4,8 @@ use Rattle.std.specs.List.{list_any}
 use Rattle.cargo_lock_parts.specs.Identity.{PackageData}
 use Rattle.cargo_lock_verify.specs.declared.finding.Archive.{Archive}
 use Rattle.cargo_lock_verify.specs.declared.finding.Finding.{Finding}
-use Rattle.cargo_lock_verify.specs.Archives.{Changed, archive_of, changed_of, finding_of, found_of, is_digest}
-use Rattle.cargo_lock_verify.specs.Archives.{FindingData}
+use Rattle.cargo_lock_verify.specs.Archives.{Changed, archive_finding_of, archive_of, changed_of, found_of_unverified, is_digest}
+use Rattle.cargo_lock_verify.specs.Archives.{ArchiveFindingData}
 use Rattle.cargo_lock_verify.specs.Report.{is_changed}
 
 pub any-of-data : (digest : List ℕ) (archives : List Archive)
@@ -18,16 +18,16 @@ changed-of-data p [] = refl
 changed-of-data p (a ∷ rest) = ap (λ xs. changed_of p a ∷ xs) (changed-of-data p rest)
 
 pub found-of-some : (p : PackageData) (archives : List Archive) → nat_eq (length archives) 0 ≡ false
-    → found_of p (map archive_of archives) ≡ map (changed_of p) archives
+    → found_of_unverified p (map archive_of archives) ≡ map (changed_of p) archives
 found-of-some p [] e = absurd (true≢false e)
 found-of-some p (a ∷ rest) e = ap (λ xs. changed_of p a ∷ xs) (changed-of-data p rest)
 
-pub changed-of-found : (found : List Finding) → map finding_of (filter (λ f. is_changed (finding_of f)) found) ≡ filter is_changed (map finding_of found)
+pub changed-of-found : (found : List Finding) → map archive_finding_of (filter (λ f. is_changed (archive_finding_of f)) found) ≡ filter is_changed (map archive_finding_of found)
 changed-of-found [] = refl
-changed-of-found (f ∷ rest) = by (is_changed (finding_of f)) (changed-of-found rest)
+changed-of-found (f ∷ rest) = by (is_changed (archive_finding_of f)) (changed-of-found rest)
   where
-    by : (b : Bool) → map finding_of (filter (λ g. is_changed (finding_of g)) rest) ≡ filter is_changed (map finding_of rest)
-        → map finding_of (cond b (f ∷ filter (λ g. is_changed (finding_of g)) rest) (filter (λ g. is_changed (finding_of g)) rest))
-        ≡ cond b (finding_of f ∷ filter is_changed (map finding_of rest)) (filter is_changed (map finding_of rest))
-    by true same = ap (λ (xs : List FindingData). finding_of f ∷ xs) same
+    by : (b : Bool) → map archive_finding_of (filter (λ g. is_changed (archive_finding_of g)) rest) ≡ filter is_changed (map archive_finding_of rest)
+        → map archive_finding_of (cond b (f ∷ filter (λ g. is_changed (archive_finding_of g)) rest) (filter (λ g. is_changed (archive_finding_of g)) rest))
+        ≡ cond b (archive_finding_of f ∷ filter is_changed (map archive_finding_of rest)) (filter is_changed (map archive_finding_of rest))
+    by true same = ap (λ (xs : List ArchiveFindingData). archive_finding_of f ∷ xs) same
     by false same = same

@@ -1,42 +1,40 @@
 -- Each finding is one line: each part of it is printable.
 use Rattle.std.proofs.Common.{ℕ, List, codes, option_map, refl, string_bytes}
-use Rattle.shown.specs.declared.form.Form.TheVariants.{Plain, Quoted}
-use Rattle.shown.proofs.LinesOf.{each-is-line}
-use Rattle.shown.proofs.Printable.{Prints, join, literal, shown-prints, words}
-use Rattle.cargo_lock_diff.proofs.OneLine.{checksum-prints, package-prints}
-use Rattle.cargo_lock_verify.specs.Archives.{Changed, FindingData, Missing}
+use Rattle.printing.specs.declared.form.Form.TheVariants.{Plain, Quoted}
+use Rattle.printing.proofs.LinesOf.{each-is-line}
+use Rattle.printing.proofs.Printable.{Prints, join, literal, shown-prints, words}
+use Rattle.cargo_lock_display.proofs.Printed.{checksum-prints, package-prints}
+use Rattle.cargo_lock_verify.specs.Archives.{ArchiveFindingData, Changed, Missing}
 use Rattle.cargo_lock_parts.specs.Identity.{PackageData}
-use Rattle.cargo_lock_verify.specs.Lines.{EachIsOneLine, finding_line}
+use Rattle.cargo_lock_verify.specs.Lines.{EachArchiveFindingIsOneLine, archive_finding_line}
 use Rattle.cargo_lock_parts.specs.Checksum.{digest_of}
 use Rattle.cargo_lock_verify.specs.declared.folder.Folder.{Folder}
-use Rattle.cargo_lock_verify.specs.Vendored as vendored
-use Rattle.cargo_lock_verify.specs.VendoredLines as vendored_lines
-use Rattle.cargo_lock_verify.specs.VendoredLines.{file_text}
-use Rattle.cargo_lock_verify.specs.VendoredLines.{finding_line as vendored_line}
+use Rattle.cargo_lock_verify.specs.Vendored.{Absent, FolderFindingData, Link, NoFolder, OtherArchive, OtherFile, Unlisted}
+use Rattle.cargo_lock_verify.specs.VendoredLines.{EachFolderFindingIsOneLine, file_text, folder_finding_line}
 
-line-prints : (f : FindingData) → Prints (finding_line f)
+line-prints : (f : ArchiveFindingData) → Prints (archive_finding_line f)
 line-prints (Changed p a) = words (codes "! ") refl (join (package-prints p) (words (codes ": `") refl
     (join (shown-prints Quoted a.path) (words (codes "` is ") refl (join (shown-prints Plain _)
     (words (codes ", not ") refl (checksum-prints p.checksum)))))))
 line-prints (Missing p) = words (codes "- ") refl (join (package-prints p) (literal (codes ": no archive") refl))
 
-pub each-is-one-line : EachIsOneLine
-each-is-one-line found = each-is-line finding_line line-prints found
+pub each-is-one-line : EachArchiveFindingIsOneLine
+each-is-one-line found = each-is-line archive_finding_line line-prints found
 
 file-prints : (p : PackageData) (f : Folder) (path : List ℕ) → Prints (file_text p f path)
 file-prints p f path = join (package-prints p) (words (codes ": `") refl (join (shown-prints Quoted (string_bytes f.path))
     (words (codes "/") refl (join (shown-prints Quoted path) (literal (codes "`") refl)))))
 
-folder-prints : (x : vendored.FindingData) → Prints (vendored_line x)
-folder-prints (vendored.NoFolder p) = words (codes "- ") refl (join (package-prints p) (literal (codes ": no folder") refl))
-folder-prints (vendored.OtherArchive p f) = words (codes "! ") refl (join (package-prints p) (words (codes ": `") refl
+folder-prints : (x : FolderFindingData) → Prints (folder_finding_line x)
+folder-prints (NoFolder p) = words (codes "- ") refl (join (package-prints p) (literal (codes ": no folder") refl))
+folder-prints (OtherArchive p f) = words (codes "! ") refl (join (package-prints p) (words (codes ": `") refl
     (join (shown-prints Quoted (string_bytes f.path)) (words (codes "` has the archive ") refl
     (join (checksum-prints (option_map digest_of f.archive)) (words (codes ", not ") refl (checksum-prints p.checksum)))))))
-folder-prints (vendored.Absent p f path) = words (codes "- ") refl (join (file-prints p f path) (literal (codes " is missing") refl))
-folder-prints (vendored.OtherFile p f path digest listed) = words (codes "! ") refl (join (file-prints p f path)
+folder-prints (Absent p f path) = words (codes "- ") refl (join (file-prints p f path) (literal (codes " is missing") refl))
+folder-prints (OtherFile p f path digest listed) = words (codes "! ") refl (join (file-prints p f path)
     (words (codes " is ") refl (join (shown-prints Plain _) (words (codes ", not ") refl (shown-prints Plain _)))))
-folder-prints (vendored.Unlisted p f path) = words (codes "+ ") refl (join (file-prints p f path) (literal (codes " is not in the list") refl))
-folder-prints (vendored.Link p f path) = words (codes "! ") refl (join (file-prints p f path) (literal (codes " is a link") refl))
+folder-prints (Unlisted p f path) = words (codes "+ ") refl (join (file-prints p f path) (literal (codes " is not in the list") refl))
+folder-prints (Link p f path) = words (codes "! ") refl (join (file-prints p f path) (literal (codes " is a link") refl))
 
-pub each-of-folders-is-one-line : vendored_lines.EachIsOneLine
-each-of-folders-is-one-line found = each-is-line vendored_line folder-prints found
+pub each-of-folders-is-one-line : EachFolderFindingIsOneLine
+each-of-folders-is-one-line found = each-is-line folder_finding_line folder-prints found

@@ -5,3 +5,6 @@ pub mod Report
 pub mod Vendored
 pub mod VendoredLines
 pub mod VendorReport
+pub mod Document
+pub mod ArchivesDocument
+pub mod FoldersDocument

@@ -44,88 +44,88 @@ digest_at files path = option_map digest_of (get_by_text files path)
 -- What is found: a package with a source has no folder; the list of a folder has another digest of
 -- the archive than the lockfile; a file of a list is missing, or has another digest, which comes
 -- first, than the list says; a file is not in the list; or there is a link.
-pub data FindingData : Type 0 where
-  NoFolder : PackageData → FindingData
-  OtherArchive : PackageData → Folder → FindingData
-  Absent : PackageData → Folder → List ℕ → FindingData
-  OtherFile : PackageData → Folder → List ℕ → List ℕ → List ℕ → FindingData
-  Unlisted : PackageData → Folder → List ℕ → FindingData
-  Link : PackageData → Folder → List ℕ → FindingData
+pub data FolderFindingData : Type 0 where
+  NoFolder : PackageData → FolderFindingData
+  OtherArchive : PackageData → Folder → FolderFindingData
+  Absent : PackageData → Folder → List ℕ → FolderFindingData
+  OtherFile : PackageData → Folder → List ℕ → List ℕ → List ℕ → FolderFindingData
+  Unlisted : PackageData → Folder → List ℕ → FolderFindingData
+  Link : PackageData → Folder → List ℕ → FolderFindingData
 
 -- the data of a finding of the program
-abbrev pub finding_of : FolderFinding → FindingData
-finding_of (finding.NoFolder p) = NoFolder p.now
-finding_of (finding.OtherArchive p f) = OtherArchive p.now f.now
-finding_of (finding.Absent p f path) = Absent p.now f.now (string_bytes path.now)
-finding_of (finding.OtherFile p f file) = OtherFile p.now f.now (string_bytes file.path.now)
+abbrev pub folder_finding_of : FolderFinding → FolderFindingData
+folder_finding_of (finding.NoFolder p) = NoFolder p.now
+folder_finding_of (finding.OtherArchive p f) = OtherArchive p.now f.now
+folder_finding_of (finding.Absent p f path) = Absent p.now f.now (string_bytes path.now)
+folder_finding_of (finding.OtherFile p f file) = OtherFile p.now f.now (string_bytes file.path.now)
     (digest_of file.digest.now) (digest_of file.listed.now)
-finding_of (finding.Unlisted p f path) = Unlisted p.now f.now (string_bytes path.now)
-finding_of (finding.Link p f path) = Link p.now f.now (string_bytes path.now)
+folder_finding_of (finding.Unlisted p f path) = Unlisted p.now f.now (string_bytes path.now)
+folder_finding_of (finding.Link p f path) = Link p.now f.now (string_bytes path.now)
 
 -- the list of the folder has the digest of the archive that the lockfile has, if both have one
 abbrev pub is_same_archive : PackageData → Folder → Bool
 is_same_archive p f = option_eq bytes_eq (option_map digest_of f.archive) p.checksum
 
 -- what is found of the archive in the list of a folder
-abbrev pub archive_found : PackageData → Folder → List FindingData
+abbrev pub archive_found : PackageData → Folder → List FolderFindingData
 archive_found p f = if is_same_archive p f then [] else OtherArchive p f ∷ []
 
 -- what is found of a file of the list, where this digest, or none, is that of the file
-abbrev pub listed_by : PackageData → Folder → ListedData → Option (List ℕ) → List FindingData
+abbrev pub listed_by : PackageData → Folder → ListedData → Option (List ℕ) → List FolderFindingData
 listed_by p f l None = Absent p f l.path ∷ []
 listed_by p f l (Some digest) = if bytes_eq digest l.digest then []
     else OtherFile p f l.path digest l.digest ∷ []
 
 -- what is found of a file of the list
-abbrev pub of_listed : PackageData → Folder → ListedData → List FindingData
+abbrev pub of_listed : PackageData → Folder → ListedData → List FolderFindingData
 of_listed p f l = listed_by p f l (digest_at f.files l.path)
 
 -- what is found of the files of the list
-abbrev pub listed_found : PackageData → Folder → List FindingData
+abbrev pub listed_found : PackageData → Folder → List FolderFindingData
 listed_found p f = flat_map (of_listed p f) (files_of f.listed)
 
 -- what is found of a file that is there
-abbrev pub of_file : PackageData → Folder → ListedData → List FindingData
+abbrev pub of_file : PackageData → Folder → ListedData → List FolderFindingData
 of_file p f l = if is_none (get_by_text f.listed l.path) then Unlisted p f l.path ∷ [] else []
 
 -- what is found of the files that are there
-abbrev pub files_found : PackageData → Folder → List FindingData
+abbrev pub files_found : PackageData → Folder → List FolderFindingData
 files_found p f = flat_map (of_file p f) (files_of f.files)
 
 -- what is found of the links that are there
-abbrev pub links_found : PackageData → Folder → List FindingData
+abbrev pub links_found : PackageData → Folder → List FolderFindingData
 links_found p f = map (λ l. Link p f (string_bytes l)) f.links.items
 
 -- what is found of a folder
-abbrev pub folder_found : PackageData → Folder → List FindingData
+abbrev pub folder_found : PackageData → Folder → List FolderFindingData
 folder_found p f = archive_found p f ++ (listed_found p f ++ (files_found p f ++ links_found p f))
 
 -- what is found of each of some folders
-abbrev pub each_found : PackageData → List Folder → List FindingData
+abbrev pub each_found : PackageData → List Folder → List FolderFindingData
 each_found p = flat_map (folder_found p)
 
 -- what is found of the folders of a package with a source
-abbrev pub folders_found : PackageData → List Folder → List FindingData
+abbrev pub folders_found : PackageData → List Folder → List FolderFindingData
 folders_found p [] = NoFolder p ∷ []
 folders_found p (f ∷ rest) = each_found p (f ∷ rest)
 
 -- what is found of the folders of a package, which has this source
-abbrev pub found_by : VendoredData → Option Source → List FindingData
-found_by v None = []
-found_by v (Some s) = folders_found v.content v.folders
+abbrev pub found_by_source : VendoredData → Option Source → List FolderFindingData
+found_by_source v None = []
+found_by_source v (Some s) = folders_found v.content v.folders
 
 -- what is found of the folders of a package
-abbrev pub vendored_found : VendoredData → List FindingData
-vendored_found v = found_by v v.content.source
+abbrev pub vendored_found : VendoredData → List FolderFindingData
+vendored_found v = found_by_source v v.content.source
 
 -- what is found of packages, in their order
-abbrev pub findings : List VendoredData → List FindingData
-findings = flat_map vendored_found
+abbrev pub folder_findings : List VendoredData → List FolderFindingData
+folder_findings = flat_map vendored_found
 
 -- ---- as the program has them
 
 -- what is found of a file of the program
-abbrev pub file_found : PackageData → Folder → FileDigests → List FindingData
+abbrev pub file_found : PackageData → Folder → FileDigests → List FolderFindingData
 file_found p f file = listed_by p f (listed_of file.path.now file.listed.now)
     (Some (digest_of file.digest.now))
 
@@ -149,11 +149,11 @@ pub record IsVendored (v : VendoredData) : Type 0 where
 -- nothing is found exactly if each package with a source has a folder, and each of its folders is
 -- as its list says
 abbrev pub NoneIfVendored : Type 0
-NoneIfVendored = (all : List VendoredData) → (findings all ≡ [])
+NoneIfVendored = (all : List VendoredData) → (folder_findings all ≡ [])
     ↔ ((v : VendoredData) → Contains all v → v.content.source ≢ None → IsVendored v)
 
 -- this is found of the folder of a package
-abbrev pub IsFoundIn : PackageData → Folder → FindingData → Type 0
+abbrev pub IsFoundIn : PackageData → Folder → FolderFindingData → Type 0
 IsFoundIn p f (NoFolder q) = ⊥
 IsFoundIn p f (OtherArchive q g) = (q ≡ p) × (g ≡ f) × (option_map digest_of f.archive ≢ p.checksum)
 IsFoundIn p f (Absent q g path) = (q ≡ p) × (g ≡ f) × ((l : ListedData)
@@ -166,11 +166,12 @@ IsFoundIn p f (Unlisted q g path) = (q ≡ p) × (g ≡ f) × ((l : ListedData)
 IsFoundIn p f (Link q g path) = (q ≡ p) × (g ≡ f) × Contains (map string_bytes f.links.items) path
 
 -- this is found of the folders of a package with a source: it has none, or it is found of one
-abbrev pub IsFoundOf : VendoredData → FindingData → Type 0
-IsFoundOf v (NoFolder q) = (q ≡ v.content) × (v.folders ≡ [])
-IsFoundOf v other = (f : Folder) × Contains v.folders f × IsFoundIn v.content f other
+abbrev pub IsFolderFindingOf : VendoredData → FolderFindingData → Type 0
+IsFolderFindingOf v (NoFolder q) = (q ≡ v.content) × (v.folders ≡ [])
+IsFolderFindingOf v other = (f : Folder) × Contains v.folders f × IsFoundIn v.content f other
 
 -- what is found is exactly that, of each package with a source
 abbrev pub FolderFindingsAreExact : Type 0
-FolderFindingsAreExact = (all : List VendoredData) (x : FindingData) → Contains (findings all) x
-    ↔ ((v : VendoredData) × Contains all v × (v.content.source ≢ None) × IsFoundOf v x)
+FolderFindingsAreExact = (all : List VendoredData) (x : FolderFindingData)
+    → Contains (folder_findings all) x
+    ↔ ((v : VendoredData) × Contains all v × (v.content.source ≢ None) × IsFolderFindingOf v x)

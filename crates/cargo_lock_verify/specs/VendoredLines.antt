@@ -2,15 +2,15 @@
 use Rattle.std.specs.Prelude.{◌≡◌, ◌++◌, [], ◌∷◌, ℕ, List, codes, map, option_map, string_bytes}
 use Rattle.std.specs.List.{flat_map}
 use Rattle.std.specs.Str.Lines.{lines}
-use Rattle.shown.specs.Shown.{shown}
-use Rattle.shown.specs.declared.form.Form.TheVariants.{Plain, Quoted}
+use Rattle.printing.specs.Shown.{shown}
+use Rattle.printing.specs.declared.form.Form.TheVariants.{Plain, Quoted}
 use Rattle.cargo_lock_parts.specs.Ascii.{newline}
 use Rattle.cargo_lock_parts.specs.Checksum.{digest_of, digest_text}
 use Rattle.cargo_lock_parts.specs.Identity.{PackageData}
-use Rattle.cargo_lock_diff.specs.Change.{checksum_text, package_text}
+use Rattle.cargo_lock_display.specs.Line.{checksum_text, package_text}
 use Rattle.cargo_lock_verify.specs.declared.folder.Folder.{Folder}
-use Rattle.cargo_lock_verify.specs.Vendored.{FindingData, Absent, Link, NoFolder, OtherArchive}
-use Rattle.cargo_lock_verify.specs.Vendored.{OtherFile, Unlisted}
+use Rattle.cargo_lock_verify.specs.Vendored.{FolderFindingData, Absent, Link, NoFolder}
+use Rattle.cargo_lock_verify.specs.Vendored.{OtherArchive, OtherFile, Unlisted}
 
 -- a package, and the path of a file in its folder
 abbrev pub file_text : PackageData → Folder → List ℕ → List ℕ
@@ -30,18 +30,20 @@ other_file_line p f path digest listed = codes "! " ++ (file_text p f path ++ (c
     ++ (shown Plain (digest_text digest) ++ (codes ", not " ++ shown Plain (digest_text listed)))))
 
 -- the line of a finding
-abbrev pub finding_line : FindingData → List ℕ
-finding_line (NoFolder p) = codes "- " ++ (package_text p ++ codes ": no folder")
-finding_line (OtherArchive p f) = other_archive_line p f
-finding_line (Absent p f path) = codes "- " ++ (file_text p f path ++ codes " is missing")
-finding_line (OtherFile p f path digest listed) = other_file_line p f path digest listed
-finding_line (Unlisted p f path) = codes "+ " ++ (file_text p f path ++ codes " is not in the list")
-finding_line (Link p f path) = codes "! " ++ (file_text p f path ++ codes " is a link")
+abbrev pub folder_finding_line : FolderFindingData → List ℕ
+folder_finding_line (NoFolder p) = codes "- " ++ (package_text p ++ codes ": no folder")
+folder_finding_line (OtherArchive p f) = other_archive_line p f
+folder_finding_line (Absent p f path) = codes "- " ++ (file_text p f path ++ codes " is missing")
+folder_finding_line (OtherFile p f path digest listed) = other_file_line p f path digest listed
+folder_finding_line (Unlisted p f path) =
+    codes "+ " ++ (file_text p f path ++ codes " is not in the list")
+folder_finding_line (Link p f path) = codes "! " ++ (file_text p f path ++ codes " is a link")
 
 -- the line of each finding, with its newline
-abbrev pub findings_text : List FindingData → List ℕ
-findings_text = flat_map (λ x. finding_line x ++ newline ∷ [])
+abbrev pub folder_findings_text : List FolderFindingData → List ℕ
+folder_findings_text = flat_map (λ x. folder_finding_line x ++ newline ∷ [])
 
 -- each finding is exactly one line, whatever names, versions, sources and paths hold
-abbrev pub EachIsOneLine : Type 0
-EachIsOneLine = (found : List FindingData) → lines (findings_text found) ≡ map finding_line found
+abbrev pub EachFolderFindingIsOneLine : Type 0
+EachFolderFindingIsOneLine = (found : List FolderFindingData)
+    → lines (folder_findings_text found) ≡ map folder_finding_line found

@@ -1,8 +1,8 @@
 //! What is found of packages and their archives, each as a line.
 
-use cargo_lock_diff::{ChecksumText, PackageText};
+use cargo_lock_display::{ChecksumText, PackageText};
 use cargo_lock_parts::package::{Checksum, Package};
-use shown::{Quoted, Shown};
+use printing::{Quoted, Shown};
 use std::fmt;
 
 /// An archive of a package.
@@ -30,10 +30,10 @@ pub enum Finding<'p, 'a> {
 
 impl fmt::Display for Finding<'_, '_> {
     ghost use Rattle.std.specs.Prelude.{Some};
-    ghost use Rattle.cargo_lock_verify.specs.Archives.{finding_of};
-    ghost use Rattle.cargo_lock_verify.specs.Lines.{finding_line};
+    ghost use Rattle.cargo_lock_verify.specs.Archives.{archive_finding_of};
+    ghost use Rattle.cargo_lock_verify.specs.Lines.{archive_finding_line};
 
-    ghost output = { λ finding. Some (finding_line (finding_of finding)) };
+    ghost output = { λ finding. Some (archive_finding_line (archive_finding_of finding)) };
 
     fn fmt<W: fmt::Write>(&self, f: &mut fmt::Formatter<W>) -> fmt::Result {
         match self {

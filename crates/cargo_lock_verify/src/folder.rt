@@ -5,9 +5,9 @@ ghost use Rattle.std.specs.Fmt.{DisplaysOnOk};
 ghost use Rattle.cargo_lock_parts.specs.Checksum.{digest_of};
 ghost use Rattle.cargo_lock_verify.specs.VendoredLines.{other_archive_line, other_file_line};
 
-use cargo_lock_diff::{ChecksumText, PackageText};
+use cargo_lock_display::{ChecksumText, PackageText};
 use cargo_lock_parts::package::{Checksum, Package};
-use shown::{Quoted, Shown};
+use printing::{Quoted, Shown};
 use std::collections::BTreeMap;
 use std::fmt;
 
@@ -79,10 +79,10 @@ pub struct FileDigests<'a> {
 
 impl fmt::Display for FolderFinding<'_, '_> {
     ghost use Rattle.std.specs.Prelude.{Some};
-    ghost use Rattle.cargo_lock_verify.specs.Vendored.{finding_of};
-    ghost use Rattle.cargo_lock_verify.specs.VendoredLines.{finding_line};
+    ghost use Rattle.cargo_lock_verify.specs.Vendored.{folder_finding_of};
+    ghost use Rattle.cargo_lock_verify.specs.VendoredLines.{folder_finding_line};
 
-    ghost output = { λ finding. Some (finding_line (finding_of finding)) };
+    ghost output = { λ finding. Some (folder_finding_line (folder_finding_of finding)) };
 
     fn fmt<W: fmt::Write>(&self, f: &mut fmt::Formatter<W>) -> fmt::Result {
         match *self {
@@ -171,7 +171,7 @@ struct DigestText<'a>(&'a Option<Checksum>);
 impl fmt::Display for DigestText<'_> {
     ghost use Rattle.std.specs.Prelude.{Some, option_map};
     ghost use Rattle.cargo_lock_parts.specs.Checksum.{digest_of};
-    ghost use Rattle.cargo_lock_diff.specs.Change.{checksum_text};
+    ghost use Rattle.cargo_lock_display.specs.Line.{checksum_text};
 
     ghost output = { λ shown. Some (checksum_text (option_map digest_of shown.0.now)) };
 

@@ -1,14 +1,14 @@
 //! Laws of what is found, each the contract of a function without a body.
 
-ghost use Rattle.cargo_lock_verify.specs.Archives.{FindingsAreExact, NoneIfVerified};
-ghost use Rattle.cargo_lock_verify.specs.Lines.{EachIsOneLine};
+ghost use Rattle.cargo_lock_verify.specs.Archives.{ArchiveFindingsAreExact, NoneIfVerified};
+ghost use Rattle.cargo_lock_verify.specs.Lines.{EachArchiveFindingIsOneLine};
 ghost use Rattle.cargo_lock_verify.specs.Vendored.{FolderFindingsAreExact, NoneIfVendored};
-ghost use Rattle.cargo_lock_verify.specs.VendoredLines as vendored;
+ghost use Rattle.cargo_lock_verify.specs.VendoredLines.{EachFolderFindingIsOneLine};
 
 /// What is found is exactly each archive of a package with a checksum that is not verified, and each
 /// package with a checksum and no archive.
 pub fn findings_are_exact()
-    ensures { FindingsAreExact }
+    ensures { ArchiveFindingsAreExact }
 {}
 
 /// Nothing is found exactly if an archive of each package with a checksum has that checksum.
@@ -18,7 +18,7 @@ pub fn none_if_verified()
 
 /// Each finding is one line, whatever names, sources and paths hold.
 pub fn each_is_one_line()
-    ensures { EachIsOneLine }
+    ensures { EachArchiveFindingIsOneLine }
 {}
 
 /// What is found of folders is exactly what is wrong with those of each package with a source.
@@ -34,5 +34,5 @@ pub fn none_if_vendored()
 
 /// Each finding of a folder is one line, whatever names, sources and paths hold.
 pub fn each_of_folders_is_one_line()
-    ensures { vendored.EachIsOneLine }
+    ensures { EachFolderFindingIsOneLine }
 {}

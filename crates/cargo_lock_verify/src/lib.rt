@@ -1,8 +1,11 @@
 //! Whether the archives of packages are those that a lockfile names, by the SHA-256 of their bytes.
 #![tactic(auto)]
 
+pub mod archives_document;
+mod document;
 pub mod finding;
 pub mod folder;
+pub mod folders_document;
 pub mod hashing;
 pub mod laws;
 pub mod report;
@@ -10,8 +13,10 @@ pub mod subject;
 pub mod vendor_report;
 pub mod vendored;
 
+pub use crate::archives_document::archives_json;
 pub use crate::finding::{Archive, Finding};
 pub use crate::folder::{FileDigests, Folder, FolderFinding, Vendored};
+pub use crate::folders_document::folders_json;
 pub use crate::hashing::digest;
 pub use crate::report::Report;
 pub use crate::subject::{Subject, findings};

@@ -1,9 +1,9 @@
 //! What a comparison of archives with a lockfile reports.
 
 ghost use Rattle.std.specs.Prelude.{◌≡◌, IfOk, count_by, filter, map};
-ghost use Rattle.cargo_lock_verify.specs.Archives.{finding_of, subject_of};
-ghost use Rattle.cargo_lock_verify.specs.Report.{is_changed, is_verified, reported};
-ghost use Rattle.cargo_lock_verify.specs.Archives as spec;
+ghost use Rattle.cargo_lock_verify.specs.Archives.{archive_finding_of, archive_findings};
+ghost use Rattle.cargo_lock_verify.specs.Archives.{archive_subject_of};
+ghost use Rattle.cargo_lock_verify.specs.Report.{is_changed, is_verified_by_archive, reported};
 
 use crate::finding::Finding;
 use crate::subject::{Subject, findings, has_checksum};
@@ -29,10 +29,10 @@ impl<'p, 'a> Report<'p, 'a> {
         subjects: &'a [Subject<'p>],
         with_missing: bool,
     ) -> Result<Report<'p, 'a>, AllocError>
-        ensures findings { IfOk result (λ report. map finding_of report.findings.items
-            ≡ reported with_missing (spec.findings (map subject_of subjects.now))) }
+        ensures findings { IfOk result (λ report. map archive_finding_of report.findings.items
+            ≡ reported with_missing (archive_findings (map archive_subject_of subjects.now))) }
         ensures verified { IfOk result (λ report. report.verified
-            ≡ count_by is_verified (map subject_of subjects.now)) }
+            ≡ count_by is_verified_by_archive (map archive_subject_of subjects.now)) }
     {
         let verified = count_verified(subjects);
         let findings = if with_missing {
@@ -49,8 +49,8 @@ fn changed_alone<'p, 'a>(
     alloc: Global,
     subjects: &'a [Subject<'p>],
 ) -> Result<Vec<Finding<'p, 'a>>, AllocError>
-    ensures { IfOk result (λ found. map finding_of found.items
-        ≡ filter is_changed (spec.findings (map subject_of subjects.now))) }
+    ensures { IfOk result (λ found. map archive_finding_of found.items
+        ≡ filter is_changed (archive_findings (map archive_subject_of subjects.now))) }
 {
     let mut found = findings(alloc, subjects)?;
     found.retain(is_of_changed);
@@ -59,14 +59,14 @@ fn changed_alone<'p, 'a>(
 
 // Whether an archive is changed.
 fn is_of_changed(finding: &Finding<'_, '_>) -> bool
-    ensures { result ≡ is_changed (finding_of finding.now) }
+    ensures { result ≡ is_changed (archive_finding_of finding.now) }
 {
     matches!(finding, Finding::Changed(_, _))
 }
 
 // How many packages have an archive with their checksum.
 fn count_verified(subjects: &[Subject<'_>]) -> usize
-    ensures { result ≡ count_by is_verified (map subject_of subjects.now) }
+    ensures { result ≡ count_by is_verified_by_archive (map archive_subject_of subjects.now) }
 {
     let mut number = 0;
     for subject in subjects {
@@ -79,7 +79,7 @@ fn count_verified(subjects: &[Subject<'_>]) -> usize
 
 // Whether an archive of the package has its checksum.
 fn is_of_verified(subject: &Subject<'_>) -> bool
-    ensures { result ≡ is_verified (subject_of subject.now) }
+    ensures { result ≡ is_verified_by_archive (archive_subject_of subject.now) }
 {
     let package = subject.package;
     match &package.checksum {
@@ -90,11 +90,11 @@ fn is_of_verified(subject: &Subject<'_>) -> bool
 
 impl fmt::Display for Report<'_, '_> {
     ghost use Rattle.std.specs.Prelude.{Some, map};
-    ghost use Rattle.cargo_lock_verify.specs.Archives.{finding_of};
-    ghost use Rattle.cargo_lock_verify.specs.Report.{report_text};
+    ghost use Rattle.cargo_lock_verify.specs.Archives.{archive_finding_of};
+    ghost use Rattle.cargo_lock_verify.specs.Report.{archive_report_text};
 
     ghost output = { λ report.
-        Some (report_text (map finding_of report.findings.items) report.verified) };
+        Some (archive_report_text (map archive_finding_of report.findings.items) report.verified) };
 
     fn fmt<W: fmt::Write>(&self, f: &mut fmt::Formatter<W>) -> fmt::Result {
         for finding in &self.findings {

@@ -3,9 +3,10 @@
 ghost use Rattle.std.specs.Prelude.{◌≡◌, ◌++◌, IfOk, OnOk, map};
 ghost use Rattle.std.specs.List.{list_any};
 ghost use Rattle.cargo_lock_parts.specs.Checksum.{digest_of};
-ghost use Rattle.cargo_lock_verify.specs.Archives.{archive_of, finding_of, found_in, found_of};
-ghost use Rattle.cargo_lock_verify.specs.Archives.{changed_of, found_if, is_digest, subject_of};
-ghost use Rattle.cargo_lock_verify.specs.Archives as spec;
+ghost use Rattle.cargo_lock_verify.specs.Archives.{archive_finding_of, archive_findings};
+ghost use Rattle.cargo_lock_verify.specs.Archives.{archive_of, archive_subject_of, changed_of};
+ghost use Rattle.cargo_lock_verify.specs.Archives.{found_if, found_in, found_of_unverified};
+ghost use Rattle.cargo_lock_verify.specs.Archives.{is_digest};
 
 use crate::finding::{Archive, Finding};
 use cargo_lock_parts::package::{Checksum, Package};
@@ -32,8 +33,8 @@ pub fn findings<'p, 'a>(
     alloc: Global,
     subjects: &'a [Subject<'p>],
 ) -> Result<Vec<Finding<'p, 'a>>, AllocError>
-    ensures { IfOk result (λ found. map finding_of found.items
-        ≡ spec.findings (map subject_of subjects.now)) }
+    ensures { IfOk result (λ found. map archive_finding_of found.items
+        ≡ archive_findings (map archive_subject_of subjects.now)) }
 {
     let mut found = Vec::new(alloc);
     for subject in subjects {
@@ -47,8 +48,8 @@ fn put_findings<'p, 'a>(
     found: &mut Vec<Finding<'p, 'a>>,
     subject: &'a Subject<'p>,
 ) -> Result<(), AllocError>
-    ensures { OnOk result (map finding_of found.new.items
-        ≡ map finding_of found.old.items ++ found_in (subject_of subject.now)) }
+    ensures { OnOk result (map archive_finding_of found.new.items
+        ≡ map archive_finding_of found.old.items ++ found_in (archive_subject_of subject.now)) }
 {
     let package = subject.package;
     match &package.checksum {
@@ -64,7 +65,8 @@ fn put_unless_verified<'p, 'a>(
     archives: &'a [Archive],
     checksum: &Checksum,
 ) -> Result<(), AllocError>
-    ensures { OnOk result (map finding_of found.new.items ≡ map finding_of found.old.items
+    ensures { OnOk result (map archive_finding_of found.new.items
+        ≡ map archive_finding_of found.old.items
         ++ found_if «package».now (map archive_of archives.now) (digest_of checksum.now)) }
 {
     if has_checksum(archives, checksum) {
@@ -94,8 +96,9 @@ fn put_unverified<'p, 'a>(
     package: &'p Package,
     archives: &'a [Archive],
 ) -> Result<(), AllocError>
-    ensures { OnOk result (map finding_of found.new.items
-        ≡ map finding_of found.old.items ++ found_of «package».now (map archive_of archives.now)) }
+    ensures { OnOk result (map archive_finding_of found.new.items
+        ≡ map archive_finding_of found.old.items
+        ++ found_of_unverified «package».now (map archive_of archives.now)) }
 {
     if archives.is_empty() {
         found.push(Finding::Missing(package))?;
@@ -110,8 +113,8 @@ fn put_changed<'p, 'a>(
     package: &'p Package,
     archives: &'a [Archive],
 ) -> Result<(), AllocError>
-    ensures { OnOk result (map finding_of found.new.items
-        ≡ map finding_of found.old.items ++ map (changed_of «package».now) archives.now) }
+    ensures { OnOk result (map archive_finding_of found.new.items
+        ≡ map archive_finding_of found.old.items ++ map (changed_of «package».now) archives.now) }
 {
     for archive in archives {
         found.push(Finding::Changed(package, archive))?;

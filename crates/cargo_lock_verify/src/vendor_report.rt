@@ -1,9 +1,9 @@
 //! What a comparison of folders with their lists and with a lockfile reports.
 
 ghost use Rattle.std.specs.Prelude.{◌≡◌, IfOk, count_by, is_some, map};
-ghost use Rattle.cargo_lock_verify.specs.Vendored.{finding_of, vendored_of};
-ghost use Rattle.cargo_lock_verify.specs.Vendored as spec;
-ghost use Rattle.cargo_lock_verify.specs.VendorReport.{is_as_listed, is_verified};
+ghost use Rattle.cargo_lock_verify.specs.Vendored.{folder_finding_of, folder_findings};
+ghost use Rattle.cargo_lock_verify.specs.Vendored.{vendored_of};
+ghost use Rattle.cargo_lock_verify.specs.VendorReport.{is_as_listed, is_verified_by_folders};
 
 use crate::folder::{FolderFinding, Vendored};
 use crate::vendored::{put_vendored, vendored_findings};
@@ -31,10 +31,10 @@ impl<'p, 'a> VendorReport<'p, 'a> {
         alloc: Global,
         vendored: &'a [Vendored<'p>],
     ) -> Result<VendorReport<'p, 'a>, AllocError>
-        ensures findings { IfOk result (λ report. map finding_of report.findings.items
-            ≡ spec.findings (map vendored_of vendored.now)) }
+        ensures findings { IfOk result (λ report. map folder_finding_of report.findings.items
+            ≡ folder_findings (map vendored_of vendored.now)) }
         ensures verified { IfOk result (λ report. report.verified
-            ≡ count_by is_verified (map vendored_of vendored.now)) }
+            ≡ count_by is_verified_by_folders (map vendored_of vendored.now)) }
     {
         let verified = count_verified(alloc, vendored)?;
         let findings = vendored_findings(alloc, vendored)?;
@@ -44,7 +44,8 @@ impl<'p, 'a> VendorReport<'p, 'a> {
 
 // How many packages with a source have only folders that are as their lists say.
 fn count_verified(alloc: Global, vendored: &[Vendored<'_>]) -> Result<usize, AllocError>
-    ensures { IfOk result (λ n. n ≡ count_by is_verified (map vendored_of vendored.now)) }
+    ensures { IfOk result (λ n. n
+        ≡ count_by is_verified_by_folders (map vendored_of vendored.now)) }
 {
     let mut number = 0;
     for one in vendored {
@@ -57,7 +58,7 @@ fn count_verified(alloc: Global, vendored: &[Vendored<'_>]) -> Result<usize, All
 
 // Whether the package has a source, and only folders that are as their lists say.
 fn is_of_verified(alloc: Global, vendored: &Vendored<'_>) -> Result<bool, AllocError>
-    ensures { IfOk result (λ is. is ≡ is_verified (vendored_of vendored.now)) }
+    ensures { IfOk result (λ is. is ≡ is_verified_by_folders (vendored_of vendored.now)) }
 {
     if has_source(vendored) {
         has_no_finding(alloc, vendored)
@@ -84,11 +85,11 @@ fn has_no_finding(alloc: Global, vendored: &Vendored<'_>) -> Result<bool, AllocE
 
 impl fmt::Display for VendorReport<'_, '_> {
     ghost use Rattle.std.specs.Prelude.{Some, map};
-    ghost use Rattle.cargo_lock_verify.specs.Vendored.{finding_of};
-    ghost use Rattle.cargo_lock_verify.specs.VendorReport.{report_text};
+    ghost use Rattle.cargo_lock_verify.specs.Vendored.{folder_finding_of};
+    ghost use Rattle.cargo_lock_verify.specs.VendorReport.{folder_report_text};
 
     ghost output = { λ report.
-        Some (report_text (map finding_of report.findings.items) report.verified) };
+        Some (folder_report_text (map folder_finding_of report.findings.items) report.verified) };
 
     fn fmt<W: fmt::Write>(&self, f: &mut fmt::Formatter<W>) -> fmt::Result {
         for finding in &self.findings {

@@ -3,11 +3,11 @@
 ghost use Rattle.std.specs.Prelude.{◌≡◌, ◌++◌, IfOk, OnOk, map, option_map};
 ghost use Rattle.std.specs.Bool.{Decides};
 ghost use Rattle.cargo_lock_parts.specs.Checksum.{digest_of};
-ghost use Rattle.cargo_lock_verify.specs.Vendored.{archive_found, file_found, files_found};
+ghost use Rattle.cargo_lock_verify.specs.Vendored.{archive_found, each_found, file_found};
+ghost use Rattle.cargo_lock_verify.specs.Vendored.{files_found, folder_finding_of, folder_findings};
 ghost use Rattle.cargo_lock_verify.specs.Vendored.{folder_found, folders_found, is_same_archive};
 ghost use Rattle.cargo_lock_verify.specs.Vendored.{links_found, listed_found, listed_of, of_file};
 ghost use Rattle.cargo_lock_verify.specs.Vendored.{of_listed, vendored_found, vendored_of};
-ghost use Rattle.cargo_lock_verify.specs.Vendored as spec;
 
 use crate::folder::{FileDigests, Folder, FolderFinding, Vendored};
 use cargo_lock_parts::package::{Checksum, Package};
@@ -27,8 +27,8 @@ pub fn vendored_findings<'p, 'a>(
     alloc: Global,
     vendored: &'a [Vendored<'p>],
 ) -> Result<Vec<FolderFinding<'p, 'a>>, AllocError>
-    ensures { IfOk result (λ found. map spec.finding_of found.items
-        ≡ spec.findings (map vendored_of vendored.now)) }
+    ensures { IfOk result (λ found. map folder_finding_of found.items
+        ≡ folder_findings (map vendored_of vendored.now)) }
 {
     let mut found = Vec::new(alloc);
     for one in vendored {
@@ -42,8 +42,8 @@ pub(crate) fn put_vendored<'p, 'a>(
     found: &mut Vec<FolderFinding<'p, 'a>>,
     vendored: &'a Vendored<'p>,
 ) -> Result<(), AllocError>
-    ensures { OnOk result (map spec.finding_of found.new.items
-        ≡ map spec.finding_of found.old.items ++ vendored_found (vendored_of vendored.now)) }
+    ensures { OnOk result (map folder_finding_of found.new.items
+        ≡ map folder_finding_of found.old.items ++ vendored_found (vendored_of vendored.now)) }
 {
     let package = vendored.package;
     match &package.source {
@@ -58,8 +58,8 @@ fn put_all_folders<'p, 'a>(
     package: &'p Package,
     folders: &'a [Folder],
 ) -> Result<(), AllocError>
-    ensures { OnOk result (map spec.finding_of found.new.items
-        ≡ map spec.finding_of found.old.items ++ folders_found «package».now folders.now) }
+    ensures { OnOk result (map folder_finding_of found.new.items
+        ≡ map folder_finding_of found.old.items ++ folders_found «package».now folders.now) }
 {
     if folders.is_empty() {
         found.push(FolderFinding::NoFolder(package))?;
@@ -74,8 +74,8 @@ fn put_folders<'p, 'a>(
     package: &'p Package,
     folders: &'a [Folder],
 ) -> Result<(), AllocError>
-    ensures { OnOk result (map spec.finding_of found.new.items
-        ≡ map spec.finding_of found.old.items ++ spec.each_found «package».now folders.now) }
+    ensures { OnOk result (map folder_finding_of found.new.items
+        ≡ map folder_finding_of found.old.items ++ each_found «package».now folders.now) }
 {
     for folder in folders {
         put_folder(found, package, folder)?;
@@ -89,8 +89,8 @@ fn put_folder<'p, 'a>(
     package: &'p Package,
     folder: &'a Folder,
 ) -> Result<(), AllocError>
-    ensures { OnOk result (map spec.finding_of found.new.items
-        ≡ map spec.finding_of found.old.items ++ folder_found «package».now folder.now) }
+    ensures { OnOk result (map folder_finding_of found.new.items
+        ≡ map folder_finding_of found.old.items ++ folder_found «package».now folder.now) }
 {
     put_archive(found, package, folder)?;
     put_listed(found, package, folder)?;
@@ -104,8 +104,8 @@ fn put_archive<'p, 'a>(
     package: &'p Package,
     folder: &'a Folder,
 ) -> Result<(), AllocError>
-    ensures { OnOk result (map spec.finding_of found.new.items
-        ≡ map spec.finding_of found.old.items ++ archive_found «package».now folder.now) }
+    ensures { OnOk result (map folder_finding_of found.new.items
+        ≡ map folder_finding_of found.old.items ++ archive_found «package».now folder.now) }
 {
     if !has_archive(package, folder) {
         found.push(FolderFinding::OtherArchive(package, folder))?;
@@ -126,8 +126,8 @@ fn put_listed<'p, 'a>(
     package: &'p Package,
     folder: &'a Folder,
 ) -> Result<(), AllocError>
-    ensures { OnOk result (map spec.finding_of found.new.items
-        ≡ map spec.finding_of found.old.items ++ listed_found «package».now folder.now) }
+    ensures { OnOk result (map folder_finding_of found.new.items
+        ≡ map folder_finding_of found.old.items ++ listed_found «package».now folder.now) }
 {
     for (path, digest) in &folder.listed {
         put_listed_file(found, package, folder, path, digest)?;
@@ -143,7 +143,8 @@ fn put_listed_file<'p, 'a>(
     path: &'a String,
     listed: &'a Checksum,
 ) -> Result<(), AllocError>
-    ensures { OnOk result (map spec.finding_of found.new.items ≡ map spec.finding_of found.old.items
+    ensures { OnOk result (map folder_finding_of found.new.items
+        ≡ map folder_finding_of found.old.items
         ++ of_listed «package».now folder.now (listed_of path.now listed.now)) }
 {
     match folder.files.get(path.as_str()) {
@@ -171,8 +172,8 @@ fn put_other<'p, 'a>(
     folder: &'a Folder,
     file: FileDigests<'a>,
 ) -> Result<(), AllocError>
-    ensures { OnOk result (map spec.finding_of found.new.items
-        ≡ map spec.finding_of found.old.items ++ file_found «package».now folder.now file.entry) }
+    ensures { OnOk result (map folder_finding_of found.new.items
+        ≡ map folder_finding_of found.old.items ++ file_found «package».now folder.now file.entry) }
 {
     if *file.digest != *file.listed {
         found.push(FolderFinding::OtherFile(package, folder, file))?;
@@ -186,8 +187,8 @@ fn put_files<'p, 'a>(
     package: &'p Package,
     folder: &'a Folder,
 ) -> Result<(), AllocError>
-    ensures { OnOk result (map spec.finding_of found.new.items
-        ≡ map spec.finding_of found.old.items ++ files_found «package».now folder.now) }
+    ensures { OnOk result (map folder_finding_of found.new.items
+        ≡ map folder_finding_of found.old.items ++ files_found «package».now folder.now) }
 {
     for (path, digest) in &folder.files {
         put_file(found, package, folder, path, digest)?;
@@ -203,7 +204,8 @@ fn put_file<'p, 'a>(
     path: &'a String,
     digest: &Checksum,
 ) -> Result<(), AllocError>
-    ensures { OnOk result (map spec.finding_of found.new.items ≡ map spec.finding_of found.old.items
+    ensures { OnOk result (map folder_finding_of found.new.items
+        ≡ map folder_finding_of found.old.items
         ++ of_file «package».now folder.now (listed_of path.now digest.now)) }
 {
     let _ = digest;
@@ -219,8 +221,8 @@ fn put_links<'p, 'a>(
     package: &'p Package,
     folder: &'a Folder,
 ) -> Result<(), AllocError>
-    ensures { OnOk result (map spec.finding_of found.new.items
-        ≡ map spec.finding_of found.old.items ++ links_found «package».now folder.now) }
+    ensures { OnOk result (map folder_finding_of found.new.items
+        ≡ map folder_finding_of found.old.items ++ links_found «package».now folder.now) }
 {
     for path in &folder.links {
         found.push(FolderFinding::Link(package, folder, path))?;

@@ -8,20 +8,20 @@ use Rattle.cli.specs.declared.Chosen.{Chosen}
 use Rattle.cli.specs.declared.Chosen.TheVariants.{Audit, Bom, Check, Diff, Duplicates, Graph}
 use Rattle.cli.specs.declared.Chosen.TheVariants.{Json, Licenses, List as Listing, Merge}
 use Rattle.cli.specs.declared.Chosen.TheVariants.{Translate, Tree, Verify, Why}
-use Rattle.cli_tools.specs.Audit.{PrintsAudit}
-use Rattle.cli_tools.specs.Bom.{PrintsBill}
+use Rattle.cli_folder_commands.specs.Audit.{PrintsAudit}
+use Rattle.cli_folder_commands.specs.Bom.{PrintsBill}
 use Rattle.cli.specs.Check.{PrintsCheck}
-use Rattle.cli_views.specs.Diff.{PrintsDifference}
-use Rattle.cli_views.specs.Duplicates.{PrintsDuplicates}
-use Rattle.cli_views.specs.Graph.{DrawsGraph}
-use Rattle.cli_tools.specs.Json.{PrintsLockfile}
-use Rattle.cli_tools.specs.Licenses.{PrintsLicenses}
-use Rattle.cli_views.specs.List.{PrintsList}
+use Rattle.cli_lockfile_commands.specs.Diff.{PrintsDifference}
+use Rattle.cli_lockfile_commands.specs.Duplicates.{PrintsDuplicates}
+use Rattle.cli_lockfile_commands.specs.Graph.{DrawsGraph}
+use Rattle.cli_folder_commands.specs.Json.{PrintsLockfile}
+use Rattle.cli_folder_commands.specs.Licenses.{PrintsLicenses}
+use Rattle.cli_lockfile_commands.specs.List.{PrintsList}
 use Rattle.cli.specs.Merge.{PrintsMerge}
-use Rattle.cli_views.specs.Translate.{PrintsTranslation}
-use Rattle.cli_views.specs.Tree.{PrintsTrees}
-use Rattle.cli_tools.specs.Verify.{PrintsVerified}
-use Rattle.cli_views.specs.Why.{PrintsWhy}
+use Rattle.cli_lockfile_commands.specs.Translate.{PrintsTranslation}
+use Rattle.cli_lockfile_commands.specs.Tree.{PrintsTrees}
+use Rattle.cli_folder_commands.specs.Verify.{PrintsVerified}
+use Rattle.cli_lockfile_commands.specs.Why.{PrintsWhy}
 
 -- the name of a command
 abbrev pub name_of : Chosen → List ℕ
@@ -50,7 +50,7 @@ Follows Check found old new failure success = PrintsCheck found old new failure 
 Follows Diff found old new failure success = PrintsDifference found old new failure success
 Follows Duplicates found old new failure success = PrintsDuplicates found old new failure success
 Follows Graph found old new failure success = DrawsGraph found old new × success
-Follows Json found old new failure success = PrintsLockfile old new × success
+Follows Json found old new failure success = PrintsLockfile found old new × success
 Follows Licenses found old new failure success = PrintsLicenses found old new failure success
 Follows Listing found old new failure success = PrintsList found old new × success
 Follows Merge found old new failure success = PrintsMerge found old new failure success

@@ -1,3 +1,4 @@
 pub mod Check
 pub mod Commands
+pub mod Ending
 pub mod Merge

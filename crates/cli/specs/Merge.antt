@@ -7,7 +7,7 @@ use Rattle.cargo_lock_encoding.specs.Lockfiles.{LockfileData}
 use Rattle.cargo_lock_merge.specs.MergedLockfiles.{LockfileTriple, MergesTo, triple_of}
 use Rattle.cargo_lock_merge.specs.declared.lockfiles.LockfileMerge.{LockfileMerge}
 use Rattle.cargo_lock_merge.specs.declared.lockfiles.LockfileMerge.TheVariants.{InConflict, Merged}
-use Rattle.cli_lockfiles.specs.Load.{IsCompared}
+use Rattle.cli_input.specs.Load.{IsMeantWithCargoChecksums}
 use Rattle.cli.specs.declared.merge.Three.{Three}
 use Rattle.cli_support.specs.Destination.{TakesOutput}
 
@@ -23,15 +23,16 @@ PrintsMergeOf found (InConflict conflicts) old new failure success = Keeps old n
 -- reads
 abbrev pub PrintsMerge : Found → Option (List ℕ) → Option (List ℕ) → Type 0 → Type 0 → Type 0
 PrintsMerge found old new failure success = (b o t : LockfileData) × (m : LockfileMerge)
-    × IsCompared b × IsCompared o × IsCompared t × MergesTo (triple_of b o t) m
+    × IsMeantWithCargoChecksums b × IsMeantWithCargoChecksums o × IsMeantWithCargoChecksums t
+    × MergesTo (triple_of b o t) m
     × PrintsMergeOf found m old new failure success
 
 -- the three lockfiles
-abbrev pub triple_in : Three → LockfileTriple
-triple_in three = triple_of three.base three.ours three.theirs
+abbrev pub triple_of_files : Three → LockfileTriple
+triple_of_files three = triple_of three.base three.ours three.theirs
 
 -- each of the three is a lockfile that some text means, with the checksums that Cargo reads
 pub record AreCompared (three : Three) : Type 0 where
-  pub base : IsCompared three.base
-  pub ours : IsCompared three.ours
-  pub theirs : IsCompared three.theirs
+  pub base : IsMeantWithCargoChecksums three.base
+  pub ours : IsMeantWithCargoChecksums three.ours
+  pub theirs : IsMeantWithCargoChecksums three.theirs

@@ -1,23 +1,18 @@
 //! The command `check`: what is wrong with a lockfile.
-ghost use Rattle.std.specs.Prelude.{◌≡◌, IfOk, OnOk, map};
-ghost use Rattle.std.specs.Io.KnownBytes.{Appends};
+ghost use Rattle.std.specs.Prelude.{◌≡◌, IfOk, map};
 ghost use Rattle.clap.specs.Matches.{found_of};
-ghost use Rattle.cargo_lock_check.specs.Finding.{finding_of, findings_text};
-ghost use Rattle.cargo_lock_findings.specs.Findings.{findings_json};
-ghost use Rattle.json_line.specs.Text.{IsJsonText};
-ghost use Rattle.cli.specs.Check.{IsFindingsStatus, PrintsFound, PrintsCheck, PrintsFindings};
-ghost use Rattle.cli.specs.Check.{PrintsFindingsOf};
-ghost use Rattle.cli_lockfiles.specs.Json.{PrintsLine};
+ghost use Rattle.cargo_lock_check.specs.Finding.{lockfile_finding_of};
+ghost use Rattle.cli.specs.Check.{IsFindingsStatus, PrintsCheck, PrintsFindings, PrintsFindingsOf};
 
 use cargo_lock::Lockfile;
-use cargo_lock_check::{Finding, Findings};
-use cargo_lock_findings::findings_json;
-use cargo_lock_json::File;
+use cargo_lock_check::{Finding, Findings, findings_json};
+use cargo_lock_display::File;
 use clap::{ArgMatches, Command};
-use cli_lockfiles::load::{file, named_lockfile_of, named_text};
-use cli_support::output::put;
+use cli_input::answer::{Answer, print_answer};
+use cli_input::load::{file, named_lockfile_of, named_text};
 use cli_support::{Fault, words};
 use std::alloc::{AllocError, Global};
+use std::fmt;
 use std::io::{Input, Write};
 use std::process::ExitCode;
 use std::rt::Files;
@@ -103,57 +98,43 @@ fn report_findings<W: Write>(
         (status ≡ ExitCode.FAILURE) (status ≡ ExitCode.SUCCESS)) }
 {
     let all = findings.all(alloc)?;
-    print_found(alloc, options, file, &all, out)?;
+    print_answer(alloc, options, file, &Told(&all), out)?;
     Ok(status(&all))
 }
 
-/// Prints findings as the arguments ask for it: in JSON, or as lines.
-fn print_found<W: Write>(
-    alloc: Global,
-    options: &ArgMatches<'_>,
-    file: &File<'_>,
-    findings: &[Finding<'_>],
-    out: &mut W,
-) -> Result<(), Fault>
-    ensures { OnOk result (PrintsFound (found_of options.now) file.now
-        (map finding_of findings.now) (W.contents out.old) (W.contents out.new)) }
-{
-    if options.get_flag("json") {
-        print_document(alloc, file, findings, out)
-    } else {
-        print_findings(out, findings)
+/// All findings. `Display` writes them in their order, each with its newline.
+#[derive(Clone, Copy)]
+struct Told<'a, 'f>(&'a [Finding<'f>]);
+
+impl fmt::Display for Told<'_, '_> {
+    ghost use Rattle.std.specs.Prelude.{Some, map};
+    ghost use Rattle.cargo_lock_check.specs.Finding.{lockfile_finding_of, lockfile_findings_text};
+
+    ghost output = { λ told. Some (lockfile_findings_text (map lockfile_finding_of told.0.now)) };
+
+    fn fmt<W: fmt::Write>(&self, f: &mut fmt::Formatter<W>) -> fmt::Result {
+        let Told(findings) = *self;
+        for finding in findings {
+            write!(f, "{finding}\n")?;
+        }
+        Ok(())
     }
 }
 
-/// Prints the document of findings, and a newline.
-fn print_document<W: Write>(
-    alloc: Global,
-    file: &File<'_>,
-    findings: &[Finding<'_>],
-    out: &mut W,
-) -> Result<(), Fault>
-    ensures { OnOk result (PrintsLine
-        (IsJsonText (findings_json file.now (map finding_of findings.now)))
-        (W.contents out.old) (W.contents out.new)) }
-{
-    let text = findings_json(alloc, file, findings)?;
-    put(out, format_args!("{text}\n"))?;
-    Ok(())
-}
+impl Answer for Told<'_, '_> {
+    ghost use Rattle.std.specs.Prelude.{map};
+    ghost use Rattle.cargo_lock_check.specs.Finding.{lockfile_finding_of};
+    ghost use Rattle.cargo_lock_check.specs.Document.{findings_json};
 
-/// Prints the findings in their order.
-fn print_findings<W: Write>(out: &mut W, findings: &[Finding<'_>]) -> Result<(), Fault>
-    ensures { OnOk result (Appends (W.contents out.old) (W.contents out.new)
-        (findings_text (map finding_of findings.now))) }
-{
-    for finding in findings {
-        put(out, format_args!("{finding}\n"))?;
+    ghost json = { λ file told. findings_json file (map lockfile_finding_of told.0.now) };
+
+    fn document(&self, alloc: Global, file: &File<'_>) -> Result<String, AllocError> {
+        findings_json(alloc, file, self.0)
     }
-    Ok(())
 }
 
 fn status(findings: &[Finding<'_>]) -> ExitCode
-    ensures { IsFindingsStatus (map finding_of findings.now)
+    ensures { IsFindingsStatus (map lockfile_finding_of findings.now)
         (result ≡ ExitCode.FAILURE) (result ≡ ExitCode.SUCCESS) }
 {
     if findings.is_empty() {

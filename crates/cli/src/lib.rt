@@ -13,8 +13,9 @@
 ghost use Rattle.std.specs.Prelude.{◌≡◌, ◌⊎◌, IfErr, IfOk, IfSome, codes, map};
 ghost use Rattle.std.specs.Io.KnownBytes.{Keeps};
 ghost use Rattle.clap.specs.Matches.{found_of};
-ghost use Rattle.cli_support.specs.Status.{IsFaultStatus, IsNamed};
+ghost use Rattle.cli_support.specs.Status.{IsCommandNamed, IsFaultStatus};
 ghost use Rattle.cli.specs.Commands.{Follows, FollowsMatches, name_of};
+ghost use Rattle.cli.specs.Ending.{status_in};
 
 mod check;
 mod ending;
@@ -23,11 +24,11 @@ mod merge;
 use crate::ending::Ended;
 use cargo_lock_bom::options::VERSION;
 use clap::{ArgMatches, Command};
+use cli_folder_commands::{audit, bom, json, licenses, verify};
+use cli_lockfile_commands::{diff, duplicates, graph, list, translate, tree, why};
 pub use cli_support::Fault;
 use cli_support::message::put_message;
 use cli_support::{output, status, words};
-use cli_tools::{audit, bom, json, licenses, verify};
-use cli_views::{diff, duplicates, graph, list, translate, tree, why};
 use std::alloc::{AllocError, Global};
 use std::convert::AsStr;
 use std::env::Env;
@@ -46,10 +47,11 @@ pub fn run<R: Files + Input + Env + Clock + AllocGlobal, S: AsStr, W: Write, E: 
     out: &mut W,
     err: &mut E,
 ) -> ExitCode
-    ensures kept { result ≡ ExitCode.SUCCESS → (¬ IsNamed (codes "merge") (map S.text words.now))
+    ensures kept { result ≡ ExitCode.SUCCESS
+        → (¬ IsCommandNamed (codes "merge") (map S.text words.now))
         → Keeps (E.contents err.old) (E.contents err.new) }
     ensures fault { (Keeps (E.contents err.old) (E.contents err.new))
-        ⊎ (IsNamed (codes "merge") (map S.text words.now)
+        ⊎ (IsCommandNamed (codes "merge") (map S.text words.now)
         ⊎ IsFaultStatus (map S.text words.now) result) }
 {
     status_of(err, words, execute(rt, words, out))
@@ -62,28 +64,27 @@ fn status_of<S: AsStr, E: Write>(
     words: &[S],
     outcome: Result<Ended, Fault>,
 ) -> ExitCode
-    ensures status { IfOk outcome (λ ended. result ≡ ended.status) }
+    ensures status { IfOk outcome (λ ended. result ≡ status_in ended) }
     ensures ok { IfOk outcome (λ _. (Keeps (E.contents err.old) (E.contents err.new))
-        ⊎ IsNamed (codes "merge") (map S.text words.now)) }
+        ⊎ IsCommandNamed (codes "merge") (map S.text words.now)) }
     ensures fault { IfErr outcome (λ _. IsFaultStatus (map S.text words.now) result) }
 {
     match outcome {
-        Ok(ended) => {
+        Ok(Ended::Silent(status)) => status,
+        Ok(Ended::WithLines(status, lines)) => {
             if words::name_command(words, "merge") {
-                put_lines(err, &ended);
+                put_lines(err, &lines);
             }
-            ended.status
+            status
         }
         Err(fault) => report(err, &fault, status::of_fault(words)),
     }
 }
 
 /// Prints the lines of a finished command. A writer that fails has what it took of them.
-fn put_lines<E: Write>(err: &mut E, ended: &Ended) {
-    if let Some(lines) = &ended.lines {
-        let _ = output::put_all(err, lines.as_bytes());
-        let _ = err.flush();
-    }
+fn put_lines<E: Write>(err: &mut E, lines: &str) {
+    let _ = output::put_all(err, lines.as_bytes());
+    let _ = err.flush();
 }
 
 /// Prints the message of an error. Returns the given status, even if printing fails.
@@ -110,7 +111,7 @@ fn execute<R: Files + Input + Env + Clock + AllocGlobal, S: AsStr, W: Write>(
                 return Err(Fault::from(error));
             }
             output::put(out, format_args!("{error}"))?;
-            Ended::silent(ExitCode::SUCCESS)
+            Ended::Silent(ExitCode::SUCCESS)
         }
     };
     out.flush()?;
@@ -192,7 +193,7 @@ fn dispatch<R: Files + Input + Env + Clock + AllocGlobal, W: Write>(
 ) -> Result<Ended, Fault>
     ensures { IfOk result (λ ended. FollowsMatches matches.now
         (W.contents out.old) (W.contents out.new)
-        (ended.status ≡ ExitCode.FAILURE) (ended.status ≡ ExitCode.SUCCESS)) }
+        (status_in ended ≡ ExitCode.FAILURE) (status_in ended ≡ ExitCode.SUCCESS)) }
 {
     let Some((name, options)) = matches.subcommand() else {
         return Err(Fault::NoCommand);
@@ -212,79 +213,43 @@ fn follow<R: Files + Input + Env + Clock + AllocGlobal, W: Write>(
 ) -> Result<Ended, Fault>
     ensures { IfOk result (λ ended. Follows command (found_of options.now)
         (W.contents out.old) (W.contents out.new)
-        (ended.status ≡ ExitCode.FAILURE) (ended.status ≡ ExitCode.SUCCESS)) }
+        (status_in ended ≡ ExitCode.FAILURE) (status_in ended ≡ ExitCode.SUCCESS)) }
 {
     match command {
-        Chosen::Audit => {
-            let status = audit::run(rt, options, out)?;
-            Ok(Ended {
-                status,
-                lines: None,
-            })
-        }
+        Chosen::Audit => Ok(Ended::Silent(audit::run(rt, options, out)?)),
         Chosen::Bom => {
             bom::run(rt, options, out)?;
-            Ok(Ended::silent(ExitCode::SUCCESS))
+            Ok(Ended::Silent(ExitCode::SUCCESS))
         }
-        Chosen::Check => {
-            let status = check::run(rt, options, out)?;
-            Ok(Ended {
-                status,
-                lines: None,
-            })
-        }
-        Chosen::Diff => {
-            let status = diff::run(rt, options, out)?;
-            Ok(Ended {
-                status,
-                lines: None,
-            })
-        }
-        Chosen::Duplicates => {
-            let status = duplicates::run(rt, options, out)?;
-            Ok(Ended {
-                status,
-                lines: None,
-            })
-        }
+        Chosen::Check => Ok(Ended::Silent(check::run(rt, options, out)?)),
+        Chosen::Diff => Ok(Ended::Silent(diff::run(rt, options, out)?)),
+        Chosen::Duplicates => Ok(Ended::Silent(duplicates::run(rt, options, out)?)),
         Chosen::Graph => {
             graph::run(rt, options, out)?;
-            Ok(Ended::silent(ExitCode::SUCCESS))
+            Ok(Ended::Silent(ExitCode::SUCCESS))
         }
         Chosen::Json => {
             json::run(rt, options, out)?;
-            Ok(Ended::silent(ExitCode::SUCCESS))
+            Ok(Ended::Silent(ExitCode::SUCCESS))
         }
-        Chosen::Licenses => {
-            let status = licenses::run(rt, options, out)?;
-            Ok(Ended {
-                status,
-                lines: None,
-            })
-        }
+        Chosen::Licenses => Ok(Ended::Silent(licenses::run(rt, options, out)?)),
         Chosen::List => {
             list::run(rt, options, out)?;
-            Ok(Ended::silent(ExitCode::SUCCESS))
+            Ok(Ended::Silent(ExitCode::SUCCESS))
         }
         Chosen::Merge => merge::run(rt, options, out),
         Chosen::Translate => {
             translate::run(rt, options, out)?;
-            Ok(Ended::silent(ExitCode::SUCCESS))
+            Ok(Ended::Silent(ExitCode::SUCCESS))
         }
         Chosen::Tree => {
             tree::run(rt, options, out)?;
-            Ok(Ended::silent(ExitCode::SUCCESS))
+            Ok(Ended::Silent(ExitCode::SUCCESS))
         }
-        Chosen::Verify => {
-            let status = verify::run(rt, options, out)?;
-            Ok(Ended {
-                status,
-                lines: None,
-            })
-        }
+        Chosen::Verify => Ok(Ended::Silent(verify::run(rt, options, out)?)),
         Chosen::Why => {
             why::run(rt, options, out)?;
-            Ok(Ended::silent(ExitCode::SUCCESS))
+            Ok(Ended::Silent(ExitCode::SUCCESS))
         }
     }
 }

@@ -2,15 +2,16 @@
 ghost use Rattle.std.specs.Prelude.{◌≡◌, IfOk};
 ghost use Rattle.clap.specs.Matches.{found_of};
 ghost use Rattle.cargo_lock_merge.specs.MergedLockfiles.{MergesTo};
-ghost use Rattle.cli_lockfiles.specs.Load.{IsCompared};
-ghost use Rattle.cli.specs.Merge.{AreCompared, PrintsMerge, PrintsMergeOf, triple_in};
+ghost use Rattle.cli_input.specs.Load.{IsMeantWithCargoChecksums};
+ghost use Rattle.cli.specs.Ending.{status_in};
+ghost use Rattle.cli.specs.Merge.{AreCompared, PrintsMerge, PrintsMergeOf, triple_of_files};
 
 use crate::ending::Ended;
 use cargo_lock::{Error, Lockfile};
 use cargo_lock_merge::lockfiles::{LockfileMerge, MergeError, merge_lockfiles};
-use cargo_lock_merge::moved::Moved;
+use cargo_lock_merge::moved::moved_lines;
 use clap::{Arg, ArgAction, ArgMatches, Command};
-use cli_lockfiles::load::{compared_lockfile, lockfile_without_packages};
+use cli_input::load::{compared_lockfile, lockfile_without_packages};
 use cli_support::Fault;
 use cli_support::destination::put_own_out;
 use cli_support::words::{any_size, is_standard, output};
@@ -75,7 +76,7 @@ pub(crate) fn run<R: Files + Input + AllocGlobal, W: Write>(
 ) -> Result<Ended, Fault>
     ensures { IfOk result (λ ended. PrintsMerge (found_of options.now)
         (W.contents out.old) (W.contents out.new)
-        (ended.status ≡ ExitCode.FAILURE) (ended.status ≡ ExitCode.SUCCESS)) }
+        (status_in ended ≡ ExitCode.FAILURE) (status_in ended ≡ ExitCode.SUCCESS)) }
 {
     let three = three_lockfiles(rt, options)?;
     let merge = merge_of(rt.alloc(), &three)?;
@@ -113,7 +114,7 @@ fn base_lockfile<R: Files + Input + AllocGlobal>(
     rt: &R,
     options: &ArgMatches<'_>,
 ) -> Result<Lockfile, Fault>
-    ensures { IfOk result IsCompared }
+    ensures { IfOk result IsMeantWithCargoChecksums }
 {
     match compared_lockfile(rt, options, "base") {
         Ok(lockfile) => Ok(lockfile),
@@ -126,7 +127,7 @@ fn base_lockfile<R: Files + Input + AllocGlobal>(
 
 /// The merge of the lockfiles. Fails if one of them cannot be merged.
 fn merge_of(alloc: Global, three: &Three) -> Result<LockfileMerge<'_>, Fault>
-    ensures { IfOk result (MergesTo (triple_in three.now)) }
+    ensures { IfOk result (MergesTo (triple_of_files three.now)) }
 {
     match merge_lockfiles(alloc, &three.base, &three.ours, &three.theirs) {
         Ok(merge) => Ok(merge),
@@ -154,33 +155,17 @@ fn put_merge<R: Files + AllocGlobal, W: Write>(
 ) -> Result<Ended, Fault>
     ensures { IfOk result (λ ended. PrintsMergeOf (found_of options.now) merge.entry
         (W.contents out.old) (W.contents out.new)
-        (ended.status ≡ ExitCode.FAILURE) (ended.status ≡ ExitCode.SUCCESS)) }
+        (status_in ended ≡ ExitCode.FAILURE) (status_in ended ≡ ExitCode.SUCCESS)) }
 {
     match merge {
         LockfileMerge::Merged(_, text, moved) => {
             let lines = moved_lines(rt.alloc(), &moved)?;
             put_own_out(rt, options, text.as_str(), out)?;
-            Ok(Ended {
-                status: ExitCode::SUCCESS,
-                lines: Some(lines),
-            })
+            Ok(Ended::WithLines(ExitCode::SUCCESS, lines))
         }
         LockfileMerge::InConflict(conflicts) => {
             let lines = format!(in rt.alloc(); "{conflicts}")?;
-            Ok(Ended {
-                status: ExitCode::FAILURE,
-                lines: Some(lines),
-            })
+            Ok(Ended::WithLines(ExitCode::FAILURE, lines))
         }
     }
-}
-
-/// The lines of moved references.
-fn moved_lines(alloc: Global, moved: &[Moved<'_>]) -> Result<String, AllocError> {
-    let mut lines = String::new(alloc);
-    for one in moved {
-        let line = format!(in alloc; "{one}\n")?;
-        lines.push_str(line.as_str())?;
-    }
-    Ok(lines)
 }

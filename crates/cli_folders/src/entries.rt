@@ -3,8 +3,6 @@
 ghost use Rattle.std.specs.Prelude.{◌≡◌, [], IfOk, None};
 
 use crate::files::{digest_at, fault_at, is_file, is_folder, names_in, path_of};
-use crate::manifest::put_manifest;
-use cargo_lock_licenses::Manifest;
 use cargo_lock_parts::package::Package;
 use cargo_lock_verify::Archive;
 use cli_support::Fault;
@@ -78,33 +76,29 @@ impl Entries {
         if package.checksum.is_none() {
             return Ok(archives);
         }
-        if let Some(paths) = self.paths.get(archive_name(rt.alloc(), package)?.as_str()) {
-            for path in paths {
-                put_archive(rt, path, &mut archives)?;
-            }
+        let name = archive_name(rt.alloc(), package)?;
+        for path in self.paths_of(&name) {
+            put_archive(rt, path, &mut archives)?;
         }
         Ok(archives)
     }
 
-    /// What the manifests of a package with a source say of its licence, in folders that are named
-    /// as Cargo names those of unpacked archives. Fails if one is not read.
-    pub fn manifests_of<R: Files + AllocGlobal>(
+    /// The paths that are named as Cargo names the folder of an unpacked archive of a package.
+    pub(crate) fn folder_paths(
         &self,
-        rt: &R,
+        alloc: Global,
         package: &Package,
-    ) -> Result<Vec<Manifest>, Fault>
-        ensures { IfOk result (λ manifests. «package».now.source ≡ None → manifests.items ≡ []) }
-    {
-        let mut manifests = Vec::new(rt.alloc());
-        if package.source.is_none() {
-            return Ok(manifests);
+    ) -> Result<&[String], AllocError> {
+        let name = folder_name(alloc, package)?;
+        Ok(self.paths_of(&name))
+    }
+
+    // The paths with this name.
+    fn paths_of(&self, name: &str) -> &[String] {
+        match self.paths.get(name) {
+            Some(paths) => paths.as_slice(),
+            None => &[],
         }
-        if let Some(paths) = self.paths.get(folder_name(rt.alloc(), package)?.as_str()) {
-            for path in paths {
-                put_manifest(rt, &mut manifests, path)?;
-            }
-        }
-        Ok(manifests)
     }
 }
 

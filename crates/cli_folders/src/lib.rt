@@ -9,8 +9,10 @@ mod advisories;
 mod entries;
 mod files;
 mod manifest;
+mod manifests;
 mod vendor;
 
 pub use crate::advisories::{advisory_files, database_fault};
 pub use crate::entries::Entries;
+pub use crate::manifests::Manifests;
 pub use crate::vendor::Vendor;

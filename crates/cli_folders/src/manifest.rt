@@ -67,8 +67,5 @@ fn manifest_in(alloc: Global, table: &Table) -> Result<Manifest, AllocError> {
 
 // The text, if there is one.
 fn owned(alloc: Global, text: Option<&str>) -> Result<Option<String>, AllocError> {
-    match text {
-        Some(text) => Ok(Some(String::from_str(alloc, text)?)),
-        None => Ok(None),
-    }
+    text.map(|text| String::from_str(alloc, text)).transpose()
 }

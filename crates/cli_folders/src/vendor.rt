@@ -5,8 +5,7 @@ ghost use Rattle.std.specs.Prelude.{◌≡◌, [], IfOk, None};
 use crate::files::{
     all_names_in, digest_at, fault_at, fault_of, is_file_and_no_link, names_in, path_of, text_at,
 };
-use crate::manifest::{manifest_path, put_manifest, table_at, text_in};
-use cargo_lock_licenses::Manifest;
+use crate::manifest::{manifest_path, table_at, text_in};
 use cargo_lock_parts::Error;
 use cargo_lock_parts::package::{Checksum, Package};
 use cargo_lock_verify::Folder;
@@ -86,33 +85,23 @@ impl Vendor {
         if package.source.is_none() {
             return Ok(folders);
         }
-        let identity = identity_of(rt.alloc(), package)?;
-        if let Some(paths) = self.folders.get(identity.as_str()) {
-            for path in paths {
-                folders.push(folder_at(rt, path)?)?;
-            }
+        for path in self.folder_paths(rt.alloc(), package)? {
+            folders.push(folder_at(rt, path)?)?;
         }
         Ok(folders)
     }
 
-    /// What the manifests of a package with a source say of its licence. Fails if one is not read.
-    pub fn manifests_of<R: Files + AllocGlobal>(
+    /// The paths of the folders whose manifest has the name and the version of a package.
+    pub(crate) fn folder_paths(
         &self,
-        rt: &R,
+        alloc: Global,
         package: &Package,
-    ) -> Result<Vec<Manifest>, Fault>
-        ensures { IfOk result (λ manifests. «package».now.source ≡ None → manifests.items ≡ []) }
-    {
-        let mut manifests = Vec::new(rt.alloc());
-        if package.source.is_none() {
-            return Ok(manifests);
+    ) -> Result<&[String], AllocError> {
+        let identity = identity_of(alloc, package)?;
+        match self.folders.get(identity.as_str()) {
+            Some(paths) => Ok(paths.as_slice()),
+            None => Ok(&[]),
         }
-        if let Some(paths) = self.folders.get(identity_of(rt.alloc(), package)?.as_str()) {
-            for path in paths {
-                put_manifest(rt, &mut manifests, path)?;
-            }
-        }
-        Ok(manifests)
     }
 }
 

@@ -10,9 +10,9 @@ use Rattle.std.proofs.lemmas.List.{append-nil}
 use Rattle.std.proofs.lemmas.List.Elements.{All-append, All-cons, All-nil, All-same, All-weaker}
 use Rattle.std.proofs.lemmas.Str.{IsUtf8-encode, IsUtf8-from_ascii, chars-IsAscii, chars-append, chars-nil, chars_past_char, scalars-chars}
 use Rattle.std.proofs.lemmas.Str.Ascii.{IsAscii-from_all}
-use Rattle.shown.specs.Shown.{shown}
-use Rattle.shown.specs.declared.form.Form.TheVariants.{Plain}
-use Rattle.shown.proofs.Printable.{shown-printable}
+use Rattle.printing.specs.Shown.{shown}
+use Rattle.printing.specs.declared.form.Form.TheVariants.{Plain}
+use Rattle.printing.proofs.Printable.{shown-printable}
 use Rattle.cli_support.specs.Terminal.{NothingIsHidden, is_hidden, visible, visible_char}
 
 -- the character is shown by a terminal

@@ -1,10 +1,8 @@
 -- Texts that a writer takes in pieces.
-use Rattle.std.proofs.Common.{◌≡◌, ℕ, List, [], ◌∷◌, ◌++◌, Option, Some, None, Result, Ok, Err, refl, sym, ap, subst, take, map, length, get_or, ◌+◌, ◌<◌, ◌∙◌, append_assoc}
+use Rattle.std.proofs.Common.{◌≡◌, ℕ, List, [], ◌++◌, Option, Some, None, Result, Ok, Err, subst, take}
 use Rattle.std.specs.Prelude.{IfOk, IfSome, IsErr, OnOk}
-use Rattle.std.specs.Io.KnownBytes.{Appends, Keeps}
-use Rattle.std.specs.List.{flat_map}
-use Rattle.std.proofs.lemmas.List.{append-nil, map_more}
-use Rattle.std.proofs.lemmas.List.Concat.{flat_map-append}
+use Rattle.std.specs.Io.KnownBytes.{Appends}
+use Rattle.std.proofs.lemmas.List.{append-nil}
 use Rattle.cargo_lock_parts.proofs.Appended.{appends_more}
 use Rattle.cli_support.specs.Output.{IsWrittenOut}
 
@@ -28,23 +26,7 @@ pub fault_after : {T E : Type 0} (r : Result T E) (old new : Option (List ℕ)) 
 fault_after (Ok x) old new text front rest e is h = absurd cc
 fault_after (Err x) old new text front rest e is h = (front, rest, is, h)
 
--- what is not written to keeps its bytes
-pub keeps_self : (o : Option (List ℕ)) → Keeps o o
-keeps_self None = tt
-keeps_self (Some xs) = refl
-
 -- what holds at Ok in place of another fact
 pub on_ok_weaken : {T E : Type 0} (r : Result T E) (P Q : Type 0) → (P → Q) → OnOk r P → OnOk r Q
 on_ok_weaken (Ok x) P Q k h = k h
 on_ok_weaken (Err e) P Q k h = tt
-
--- one more text of a list was taken
-pub appends_next : {A B : Type 0} (text : B → List ℕ) (shown : A → B) (a b c : Option (List ℕ)) (xs : List A) (i : ℕ) (x : A)
-    → i < length xs → x ≡ get_or xs i x → Appends a b (flat_map text (map shown (take i xs))) → Appends b c (text (shown x))
-    → Appends a c (flat_map text (map shown (take (i + 1) xs)))
-appends_next {A} {B} text shown a b c xs i x lt at h k =
-    let done : List B = map shown (take i xs) in
-    let more : map shown (take (i + 1) xs) ≡ done ++ shown x ∷ [] = map_more shown xs i x lt ∙ ap (λ (y : A). done ++ shown y ∷ []) (sym at) in
-    subst (λ (ws : List ℕ). Appends a c ws)
-    (sym (ap (flat_map text) more ∙ flat_map-append text done (shown x ∷ []) ∙ ap (λ (ws : List ℕ). flat_map text done ++ ws) (append-nil (text (shown x)))))
-    (appends_more a b c (flat_map text done) (text (shown x)) h k)

@@ -22,8 +22,8 @@ begin_with name [] = false
 begin_with name (word ∷ rest) = bytes_eq word name
 
 -- the arguments name this command
-abbrev pub IsNamed : List ℕ → List (List ℕ) → Type 0
-IsNamed name words = IsTrue (begin_with name (without_lock words))
+abbrev pub IsCommandNamed : List ℕ → List (List ℕ) → Type 0
+IsCommandNamed name words = IsTrue (begin_with name (without_lock words))
 
 -- the first of the arguments is the name of such a command
 abbrev pub begin_with_own : List (List ℕ) → Bool

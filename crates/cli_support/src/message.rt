@@ -3,7 +3,7 @@
 use crate::fault::Fault;
 use crate::output::{put, put_all};
 use crate::terminal::is_hidden_in_line;
-use shown::Shown;
+use printing::Shown;
 use std::io::{ErrorKind, Write};
 use std::{fmt, io};
 

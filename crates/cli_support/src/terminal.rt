@@ -6,7 +6,7 @@ ghost use Rattle.cli_support.specs.Terminal.{in_line_char, visible, visible_char
 ghost use Rattle.cli_support.specs.Terminal as spec;
 
 use crate::output::put;
-use shown::Shown;
+use printing::Shown;
 use std::alloc::{AllocError, Global};
 use std::io;
 use std::io::{ErrorKind, Write};

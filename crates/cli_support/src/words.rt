@@ -60,7 +60,7 @@ pub fn with_command<'a, S: AsStr>(
 
 /// Whether the arguments name this command.
 pub fn name_command<S: AsStr>(words: &[S], command: &str) -> bool
-    ensures { IsTrue result ↔ spec.IsNamed command.now (map S.text words.now) }
+    ensures { IsTrue result ↔ spec.IsCommandNamed command.now (map S.text words.now) }
 {
     match without_lock(words).first() {
         Some(first) => first.as_str() == command,

@@ -6,8 +6,10 @@ use crate::print_line;
 use cargo_lock::dependency::Tree;
 use cargo_lock::dependency::graph::{Graph, NodeIndex};
 use cargo_lock::{Error, ResolveVersion};
-use cargo_lock_ask::{Answer, Answers, chains_of_each, needers, shortest_chain, why, why_each};
-use cargo_lock_json::{File, answers_json};
+use cargo_lock_display::File;
+use cargo_lock_query::{
+    Answer, Answers, answers_json, chains_of_each, needers, shortest_chain, why, why_each,
+};
 
 /// Prints why each package of a tree is there.
 pub fn print_reasons(rt: &HostRuntime, tree: &Tree) -> Result<(), Error> {
@@ -98,7 +100,7 @@ pub fn print_answers(rt: &HostRuntime, tree: &Tree, nodes: &[NodeIndex]) -> Resu
 /// Prints the document of answers.
 pub fn print_answers_document(rt: &HostRuntime, answers: &Answers<'_>) -> Result<(), Error> {
     let file = File {
-        path: "Cargo.lock",
+        path: Some("Cargo.lock"),
         format: ResolveVersion::V3,
     };
     let text = answers_json(rt.alloc(), &file, &answers.answers)?;

@@ -4,7 +4,7 @@ use Rattle.std.proofs.lemmas.List.Sorted.{IsPermutation-map}
 use Rattle.std.proofs.lemmas.Result.{err_from_is_err_and}
 use Rattle.cargo_lock_audit.specs.declared.database.AdvisoryFile.{AdvisoryFile}
 use Rattle.cargo_lock_audit.specs.Advisory.{AdvisoryData}
-use Rattle.cargo_lock_audit.specs.Database.{AreInOrder, advisories_of}
+use Rattle.cargo_lock_audit.specs.Database.{AreInOrderOfIds, advisories_of}
 use Rattle.cargo_lock_audit.proofs.Ordered.{refused-permuted}
 use Rattle.cargo_lock_audit.proofs.database.database_of.Goals as goal
 
@@ -26,5 +26,5 @@ returns-clause-ok c =
       placed = search rules;
       same = subst (λ (zs : List AdvisoryData). IsPermutation (advisories_of c.args.files.items) zs) (sym same)
           (IsPermutation-map (λ (f : AdvisoryFile). f.advisory) c.args.files.items c.in_ok-files-2.files.items permuted);
-      in_order = subst AreInOrder (sym same) c.in_ok-files-3.ensures.apart;
+      in_order = subst AreInOrderOfIds (sym same) c.in_ok-files-3.ensures.apart;
     }

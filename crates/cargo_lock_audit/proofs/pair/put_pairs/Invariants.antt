@@ -1,8 +1,8 @@
 use Rattle.std.proofs.Common.{◌≡◌, ◌++◌, map, take}
-use Rattle.cargo_lock_audit.specs.Pairs.{pair_of, pairs_of}
+use Rattle.cargo_lock_audit.specs.Pairs.{advisory_pair_of, advisory_pairs_of}
 use Rattle.cargo_lock_audit.proofs.pair.put_pairs.Given as goal
 
 -- the pairs with the advisories so far were added
 abbrev pub invariant-loop-advisory : goal.invariant-loop-advisory
-invariant-loop-advisory l = map pair_of l.pairs.items
-    ≡ map pair_of l.initial.pairs.items ++ pairs_of (take l.advisory-index l.advisories) l.package
+invariant-loop-advisory l = map advisory_pair_of l.pairs.items
+    ≡ map advisory_pair_of l.initial.pairs.items ++ advisory_pairs_of (take l.advisory-index l.advisories) l.package

@@ -1,5 +1,5 @@
 use Rattle.std.proofs.Common.{◌∙◌, bytes_eq, string_bytes, sym}
-use Rattle.cargo_lock_audit.proofs.Lists.{any-map}
+use Rattle.lists.proofs.Tests.{any-map}
 use Rattle.cargo_lock_audit.proofs.report.is_listed.Goals as goal
 
 pub returns : goal.returns

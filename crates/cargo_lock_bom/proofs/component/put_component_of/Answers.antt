@@ -3,9 +3,11 @@ use Rattle.semver.specs.Identifiers.{parts_text}
 use Rattle.json.specs.Token.{key, string}
 use Rattle.cargo_lock_parts.specs.Identity.{PackageData}
 use Rattle.cargo_lock_bom.specs.Component.{hashes_of, repositories_if}
-use Rattle.cargo_lock_bom.specs.Draft.{Adds, member_tokens}
+use Rattle.cargo_lock_bom.specs.Tokens.{member_tokens}
+use Rattle.printing.specs.Json.{Adds}
 use Rattle.cargo_lock_bom.proofs.Members.{component-tokens}
-use Rattle.cargo_lock_bom.proofs.Writing.{as_tokens, then}
+use Rattle.printing.proofs.Drafts.{as_tokens}
+use Rattle.printing.proofs.Behind.{then}
 use Rattle.cargo_lock_bom.proofs.component.put_component_of.Goals as goal
 
 pub returns : goal.returns

@@ -1,6 +1,6 @@
 use Rattle.std.proofs.Common.{◌≡◌, map, option_map, string_bytes, take}
 use Rattle.cargo_lock_bom.specs.Component.{component_at}
-use Rattle.cargo_lock_bom.specs.Draft.{extended}
+use Rattle.printing.specs.Json.{extended}
 use Rattle.cargo_lock_bom.proofs.Writing.{items_so_far}
 use Rattle.cargo_lock_bom.proofs.component.put_components.Given as goal
 

@@ -1,4 +1,4 @@
-use Rattle.cargo_lock_bom.proofs.Writing.{then}
+use Rattle.printing.proofs.Behind.{then}
 use Rattle.cargo_lock_bom.proofs.component.put_license.Goals as goal
 
 pub returns : goal.returns

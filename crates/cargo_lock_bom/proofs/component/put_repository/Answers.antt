@@ -1,7 +1,7 @@
 use Rattle.std.proofs.Common.{subst, sym, option_copied}
-use Rattle.cargo_lock_bom.specs.Draft.{Adds}
+use Rattle.printing.specs.Json.{Adds}
 use Rattle.cargo_lock_bom.proofs.Members.{repository-tokens}
-use Rattle.cargo_lock_bom.proofs.Writing.{then}
+use Rattle.printing.proofs.Behind.{then}
 use Rattle.cargo_lock_bom.proofs.component.put_repository.Goals as goal
 
 pub returns : goal.returns

@@ -1,7 +1,7 @@
 use Rattle.std.proofs.Common.{◌≡◌, ◌∙◌, ap, arith, map, string_bytes, take}
 use Rattle.std.proofs.lemmas.List.{take_all}
 use Rattle.cargo_lock_bom.specs.Contents.{entry_by}
-use Rattle.cargo_lock_bom.specs.Draft.{extended}
+use Rattle.printing.specs.Json.{extended}
 use Rattle.cargo_lock_bom.proofs.Writing.{array_ends, items_so_far, next}
 use Rattle.cargo_lock_bom.proofs.dependencies.put_entries.Goals as goal
 

@@ -1,6 +1,6 @@
 use Rattle.std.proofs.Common.{◌≡◌, map, string_bytes, take}
 use Rattle.cargo_lock_bom.specs.Contents.{entry_by}
-use Rattle.cargo_lock_bom.specs.Draft.{extended}
+use Rattle.printing.specs.Json.{extended}
 use Rattle.cargo_lock_bom.proofs.Writing.{items_so_far}
 use Rattle.cargo_lock_bom.proofs.dependencies.put_entries.Given as goal
 

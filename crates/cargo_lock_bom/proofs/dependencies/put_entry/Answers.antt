@@ -2,8 +2,9 @@ use Rattle.std.proofs.Common.{List, ℕ, ap, map, string_bytes}
 use Rattle.serde_json.specs.Data.{array, string}
 use Rattle.serde_json.specs.View.{items_of}
 use Rattle.cargo_lock_bom.specs.Contents.{text_at}
-use Rattle.cargo_lock_bom.specs.Draft.{data_tokens}
-use Rattle.cargo_lock_bom.proofs.Writing.{as_tokens, then}
+use Rattle.cargo_lock_bom.specs.Tokens.{data_tokens}
+use Rattle.printing.proofs.Drafts.{as_tokens}
+use Rattle.printing.proofs.Behind.{then}
 use Rattle.cargo_lock_bom.proofs.dependencies.put_entry.Goals as goal
 
 pub returns : goal.returns

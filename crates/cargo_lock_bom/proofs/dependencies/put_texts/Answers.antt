@@ -3,8 +3,9 @@ use Rattle.std.proofs.lemmas.List.{take_all}
 use Rattle.json.specs.Token as token
 use Rattle.serde_json.specs.Data.{string}
 use Rattle.cargo_lock_bom.specs.Contents.{text_at}
-use Rattle.cargo_lock_bom.specs.Draft.{extended}
-use Rattle.cargo_lock_bom.proofs.Writing.{array_ends, as_tokens, items_so_far, next}
+use Rattle.printing.specs.Json.{extended}
+use Rattle.printing.proofs.Drafts.{as_tokens}
+use Rattle.cargo_lock_bom.proofs.Writing.{array_ends, items_so_far, next}
 use Rattle.cargo_lock_bom.proofs.dependencies.put_texts.Goals as goal
 
 pub loop-node-init : goal.loop-node-init

@@ -1,7 +1,7 @@
 use Rattle.std.proofs.Common.{◌≡◌, ℕ, map, string_bytes, take}
 use Rattle.serde_json.specs.Data.{string}
 use Rattle.cargo_lock_bom.specs.Contents.{text_at}
-use Rattle.cargo_lock_bom.specs.Draft.{extended}
+use Rattle.printing.specs.Json.{extended}
 use Rattle.cargo_lock_bom.proofs.Writing.{items_so_far}
 use Rattle.cargo_lock_bom.proofs.dependencies.put_texts.Given as goal
 

@@ -1,18 +1,18 @@
 use Rattle.std.proofs.Common.{◌≡◌, ◌∙◌, ◌<◌, All, List, ℕ, ap, arith, length, map, option_map, string_bytes, subst, sym}
-use Rattle.std.specs.Fmt.{digits}
-use Rattle.json.proofs.Printed.Decimals.{IsNumber-decimal}
 use Rattle.serde_json.specs.Data.{Data, array}
 use Rattle.serde_json.specs.View.{items_of}
 use Rattle.cargo_lock_bom.specs.declared.dependencies.Entry.{Entry}
 use Rattle.cargo_lock_bom.specs.declared.root.Root.TheVariants.{Package}
 use Rattle.cargo_lock_bom.specs.Component.{component_at}
 use Rattle.cargo_lock_bom.specs.Contents.{entry_by, entry_for, metadata_with}
-use Rattle.cargo_lock_bom.specs.Draft.{Adds, data_tokens}
+use Rattle.cargo_lock_bom.specs.Tokens.{data_tokens}
+use Rattle.printing.specs.Json.{Adds}
 use Rattle.cargo_lock_bom.specs.Options.{OptionsData}
-use Rattle.cargo_lock_bom.proofs.Chosen.{places-within}
+use Rattle.lists.proofs.Places.{places-within}
 use Rattle.cargo_lock_bom.proofs.Members.{bill-tokens}
 use Rattle.cargo_lock_bom.proofs.Texts.{entries_same}
-use Rattle.cargo_lock_bom.proofs.Writing.{as_tokens, then}
+use Rattle.printing.proofs.Drafts.{as_tokens}
+use Rattle.printing.proofs.Behind.{then}
 use Rattle.cargo_lock_bom.proofs.document.put_bill.Goals as goal
 
 pub put_components-requires-clause-within : goal.put_components-requires-clause-within
@@ -20,10 +20,6 @@ put_components-requires-clause-within c =
     let n : ℕ = length c.args.graph.now.packages in
     subst (λ (ks : List ℕ). All (λ k. k < n) ks) (sym c.as_slice-nodes.ensures.value)
     (places-within (λ k. ¬ (c.args.contents.now.root ≡ Package k)) n c.args.contents.now.nodes.items c.requires.are_others)
-
-pub number-requires : goal.number-requires
-unfolding digits
-number-requires c = IsNumber-decimal 1 (omega arith)
 
 pub returns : goal.returns
 returns c =
@@ -42,4 +38,4 @@ returns c =
     (then (as_tokens (licenses ∙ nodes) c.in_ok-put_components.ensures) (then c.in_ok-key-2.ensures
     (then (as_tokens (listed ∙ entries) c.in_ok-put_entries.ensures) (then c.in_ok-key-3.ensures
     (then c.in_ok-put_metadata.ensures (then c.in_ok-put_text_if.ensures (then c.in_ok-string_member-2.ensures
-    (then c.in_ok-key-4.ensures (then c.in_ok-number.ensures c.end_object.ensures))))))))))))
+    (then c.in_ok-number_member.ensures c.end_object.ensures)))))))))))

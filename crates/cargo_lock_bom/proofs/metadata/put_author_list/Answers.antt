@@ -3,9 +3,11 @@ use Rattle.std.proofs.lemmas.List.{take_all}
 use Rattle.std.proofs.lemmas.Simd.{map-map}
 use Rattle.serde_json.specs.Data.{array}
 use Rattle.serde_json.specs.View.{items_of}
-use Rattle.cargo_lock_bom.specs.Draft.{data_tokens, extended}
+use Rattle.cargo_lock_bom.specs.Tokens.{data_tokens}
+use Rattle.printing.specs.Json.{extended}
 use Rattle.cargo_lock_bom.specs.Metadata.{author_of}
-use Rattle.cargo_lock_bom.proofs.Writing.{array_ends, as_tokens, items_so_far, next}
+use Rattle.printing.proofs.Drafts.{as_tokens}
+use Rattle.cargo_lock_bom.proofs.Writing.{array_ends, items_so_far, next}
 use Rattle.cargo_lock_bom.proofs.metadata.put_author_list.Goals as goal
 
 pub loop-name-init : goal.loop-name-init

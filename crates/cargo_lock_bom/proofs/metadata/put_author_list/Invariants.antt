@@ -1,5 +1,5 @@
 use Rattle.std.proofs.Common.{◌≡◌, take}
-use Rattle.cargo_lock_bom.specs.Draft.{extended}
+use Rattle.printing.specs.Json.{extended}
 use Rattle.cargo_lock_bom.specs.Metadata.{author_of}
 use Rattle.cargo_lock_bom.proofs.Writing.{items_so_far}
 use Rattle.cargo_lock_bom.proofs.metadata.put_author_list.Given as goal

@@ -1,8 +1,8 @@
 use Rattle.std.proofs.Common.{option_map, string_bytes, subst, sym}
 use Rattle.cargo_lock_bom.specs.Component.{root_component}
-use Rattle.cargo_lock_bom.specs.Draft.{Adds}
+use Rattle.printing.specs.Json.{Adds}
 use Rattle.cargo_lock_bom.proofs.Members.{metadata-tokens}
-use Rattle.cargo_lock_bom.proofs.Writing.{then}
+use Rattle.printing.proofs.Behind.{then}
 use Rattle.cargo_lock_bom.proofs.metadata.put_metadata.Goals as goal
 
 pub returns : goal.returns

@@ -1,11 +1,12 @@
 use Rattle.std.proofs.Common.{◌≡◌, ◌≤◌, ◌||◌, ℕ, true, false, inl, inr, List, length, map, not, string_bytes, slice_get, sym, ap, subst, ◌∙◌, ⊎_elim}
+use Rattle.std.proofs.lemmas.Bool.{not-false, not-true}
 use Rattle.std.proofs.lemmas.List.{take_all}
 use Rattle.std.specs.BTreeSet.{contains_text}
 use Rattle.cargo_lock_parts.specs.Identity.{PackageData}
 use Rattle.cargo_lock_bom.specs.References.{package_reference}
 use Rattle.std.specs.Str.{bytes_eq}
 use Rattle.cargo_lock_bom.proofs.Texts.{text_of}
-use Rattle.cargo_lock_bom.proofs.Seen.{AreSeen, next-seen, none-seen, not-false, not-true, seen-distinct, seen-repeated}
+use Rattle.cargo_lock_bom.proofs.Seen.{AreSeen, next-seen, none-seen, seen-distinct, seen-repeated}
 use Rattle.cargo_lock_bom.proofs.reference.check_distinct.Goals as goal
 
 pub loop-node-init : goal.loop-node-init

@@ -1,6 +1,6 @@
 use Rattle.std.proofs.Common.{◌≡◌, ◌<◌, ℕ, true}
 use Rattle.cargo_lock_bom.specs.Root.{is_member}
-use Rattle.cargo_lock_bom.specs.Search.{IsMarked}
+use Rattle.lists.specs.Marks.{IsMarked}
 use Rattle.cargo_lock_bom.proofs.root.have_marks.Given as goal
 
 -- each package of the workspace so far has a mark

@@ -1,6 +1,6 @@
 use Rattle.std.proofs.Common.{◌≡◌, ◌∙◌, ◌+◌, ℕ, true, false, length, sym, ap, refl, arith}
 use Rattle.cargo_lock_bom.specs.Root.{is_member}
-use Rattle.cargo_lock_bom.proofs.Chosen.{places-put, places-pass, places-end}
+use Rattle.lists.proofs.Places.{places-put, places-pass, places-end}
 use Rattle.cargo_lock_bom.proofs.root.members.Goals as goal
 use Rattle.cargo_lock_bom.proofs.root.members.Goals.{then-is_member+in_ok-push, else-is_member}
 

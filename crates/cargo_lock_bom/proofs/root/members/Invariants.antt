@@ -1,5 +1,5 @@
 use Rattle.std.proofs.Common.{◌≡◌, true}
-use Rattle.cargo_lock_bom.specs.Places.{IsPlaces}
+use Rattle.lists.specs.Places.{IsPlaces}
 use Rattle.cargo_lock_bom.specs.Root.{is_member}
 use Rattle.cargo_lock_bom.proofs.root.members.Given as goal
 

@@ -1,6 +1,6 @@
 use Rattle.std.proofs.Common.{◌≡◌, ◌∙◌, ◌+◌, ℕ, true, false, length, sym, ap, refl, arith}
 use Rattle.cargo_lock_bom.specs.declared.root.Root.TheVariants.{Package}
-use Rattle.cargo_lock_bom.proofs.Chosen.{places-put, places-pass, places-end}
+use Rattle.lists.proofs.Places.{places-put, places-pass, places-end}
 use Rattle.cargo_lock_bom.proofs.root.others.Goals as goal
 use Rattle.cargo_lock_bom.proofs.root.others.Goals.{then-not-is_package+in_ok-push, else-not-is_package}
 

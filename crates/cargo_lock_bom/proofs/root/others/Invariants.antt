@@ -1,6 +1,6 @@
 use Rattle.std.proofs.Common.{◌≡◌}
 use Rattle.cargo_lock_bom.specs.declared.root.Root.TheVariants.{Package}
-use Rattle.cargo_lock_bom.specs.Places.{IsPlaces}
+use Rattle.lists.specs.Places.{IsPlaces}
 use Rattle.cargo_lock_bom.proofs.root.others.Given as goal
 
 abbrev pub invariant-loop-node : goal.invariant-loop-node

@@ -1,7 +1,8 @@
-use Rattle.std.proofs.Common.{◌≡◌, ◌≤◌, ◌<◌, ◌⊎◌, ap, length, rules, arith, inl, inr}
+use Rattle.std.proofs.Common.{◌≡◌, ◌≤◌, ◌<◌, ◌⊎◌, ap, length, rules, arith, inl}
 use Rattle.cargo_lock_c.specs.Graph.{IsUnresolvedText, LacksPackage}
 use Rattle.cargo_lock_c.specs.Statuses.{status_of}
 use Rattle.cargo_lock_c.specs.Texts.{RefusesText}
+use Rattle.cargo_lock_c.proofs.GraphTexts.{unresolved-text}
 use Rattle.cargo_lock_c.proofs.Refusals.{memory-is-three, memory-text, refusal-passed}
 use Rattle.cargo_lock_c.proofs.tree.drawing.Goals as goal
 
@@ -9,10 +10,7 @@ pub returns-in_err-tree-clause-unresolved : goal.returns-in_err-tree-clause-unre
 returns-in_err-tree-clause-unresolved c =
     let refusal = c.in_err-tree.field-0.0 in
     refusal-passed (λ refusal. status_of refusal ≡ 7 → IsUnresolvedText c.args.bytes.now) c.from_residual-in_err-tree.result refusal c.from_residual-in_err-tree.ensures.1
-    (λ seven. elim c.in_err-tree.ensures.err [
-      | inl memory ↦ let bad : 7 ≡ 3 = memory-is-three refusal 7 memory seven in absurd (omega (arith, bad))
-      | inr lost ↦ (c.in_ok-lockfile.lockfile, lost.1, c.in_ok-lockfile.ensures.ok, lost.2)
-    ])
+    (unresolved-text c.args.bytes.now c.in_ok-lockfile.lockfile refusal c.in_ok-lockfile.ensures.ok c.in_err-tree.ensures.err)
 
 pub returns-then-index-node_count-clause-no_package :
     goal.returns-then-index-node_count-clause-no_package

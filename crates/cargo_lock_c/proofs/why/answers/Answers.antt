@@ -1,10 +1,10 @@
-use Rattle.std.proofs.Common.{◌≡◌, ◌≤◌, ◌⊎◌, arith, inl, inr, rules, string_bytes, subst}
-use Rattle.cargo_lock_graph.specs.Edges.{GraphData}
+use Rattle.std.proofs.Common.{◌≡◌, ◌≤◌, ◌⊎◌, rules, string_bytes}
 use Rattle.cargo_lock_c.specs.Documents.{FitsNone, IsWhyOf}
 use Rattle.cargo_lock_c.specs.Graph.{IsUnresolvedText}
 use Rattle.cargo_lock_c.specs.Statuses.{status_of}
 use Rattle.cargo_lock_c.specs.Texts.{RefusesText}
-use Rattle.cargo_lock_c.proofs.Refusals.{memory-is-three, refusal-passed}
+use Rattle.cargo_lock_c.proofs.GraphTexts.{told-of-graph, unresolved-text}
+use Rattle.cargo_lock_c.proofs.Refusals.{refusal-passed}
 use Rattle.cargo_lock_c.proofs.Unanswered.{SaysOfSpec, no-answer}
 use Rattle.cargo_lock_c.proofs.why.answers.Goals as goal
 
@@ -12,10 +12,7 @@ pub returns-in_err-tree-clause-unresolved : goal.returns-in_err-tree-clause-unre
 returns-in_err-tree-clause-unresolved c =
     let refusal = c.in_err-tree.field-0.0 in
     refusal-passed (λ refusal. status_of refusal ≡ 7 → IsUnresolvedText c.args.bytes.now) c.from_residual-in_err-tree.result refusal c.from_residual-in_err-tree.ensures.1
-    (λ seven. elim c.in_err-tree.ensures.err [
-      | inl memory ↦ let bad : 7 ≡ 3 = memory-is-three refusal 7 memory seven in absurd (omega (arith, bad))
-      | inr lost ↦ (c.in_ok-lockfile.lockfile, lost.1, c.in_ok-lockfile.ensures.ok, lost.2)
-    ])
+    (unresolved-text c.args.bytes.now c.in_ok-lockfile.lockfile refusal c.in_ok-lockfile.ensures.ok c.in_err-tree.ensures.err)
 
 pub returns-in_err-answers-clause-unresolved : goal.returns-in_err-answers-clause-unresolved
 returns-in_err-answers-clause-unresolved c =
@@ -47,11 +44,6 @@ returns-in_err-answers-clause-kind c =
 
 pub returns-clause-ok : goal.returns-clause-ok
 returns-clause-ok c =
-    let tree = c.in_ok-tree.tree in
-    let graph : c.graph.result.now ≡ tree.graph = search rules in (
-      c.in_ok-lockfile.lockfile,
-      tree.graph,
-      c.in_ok-lockfile.ensures.ok,
-      record { packages = c.in_ok-tree.ensures.packages; edges = c.in_ok-tree.ensures.edges },
-      subst (λ (g : GraphData). IsWhyOf c.in_ok-lockfile.lockfile g c.args.spec.now c.args.all (string_bytes c.in_ok-answers.answers)) graph c.in_ok-answers.ensures.ok,
-    )
+    let graph : c.graph.result.now ≡ c.in_ok-tree.tree.graph = search rules in
+    told-of-graph (λ l g. IsWhyOf l g c.args.spec.now c.args.all (string_bytes c.in_ok-answers.answers)) c.args.bytes.now c.in_ok-lockfile.lockfile c.in_ok-tree.tree.graph c.graph.result.now
+    c.in_ok-lockfile.ensures.ok c.in_ok-tree.ensures.packages c.in_ok-tree.ensures.edges graph c.in_ok-answers.ensures.ok

@@ -1,7 +1,7 @@
 use Rattle.std.proofs.Common.{◌≡◌, ◌∙◌, ◌<◌, ℕ, List, All, ap, arith, inr, length, refl, subst, sym}
 use Rattle.std.proofs.lemmas.Bool.{eqb-true}
-use Rattle.cargo_lock_ask.proofs.Placing.{places-within}
-use Rattle.cargo_lock_ask.specs.Spec.{Fits}
+use Rattle.lists.proofs.Places.{places-within}
+use Rattle.cargo_lock_query.specs.Spec.{SpecFits}
 use Rattle.cargo_lock_encoding.specs.Lockfiles.{LockfileData}
 use Rattle.cargo_lock_parts.specs.Identity.{PackageData}
 use Rattle.cargo_lock_c.proofs.Unanswered.{none-fits}
@@ -14,7 +14,7 @@ returns-then-is_empty-clause-err c =
     let same : c.as_slice.result.now ≡ c.args.lockfile.now.packages = c.as_slice.ensures.value ∙ ap (λ (l : LockfileData). l.packages) c.lockfile.view_is in
     inr (
       refl,
-      subst (λ (ps : List PackageData). (place : ℕ) → ¬ Fits c.args.spec.now ps place) same
+      subst (λ (ps : List PackageData). (place : ℕ) → ¬ SpecFits c.args.spec.now ps place) same
           (none-fits c.args.spec.now c.as_slice.result.now nodes c.in_ok-nodes.ensures none),
     )
 

@@ -3,7 +3,7 @@ use Rattle.std.proofs.lemmas.List.Sorted.{IsPermutation-refl}
 use Rattle.cargo_lock_diff.specs.declared.matching.Placed.{Placed}
 use Rattle.cargo_lock_diff.specs.Matching.{AreMatched, is_alike_at}
 use Rattle.cargo_lock_diff.specs.Pairing.{ArePaired, AreSplit}
-use Rattle.cargo_lock_diff.specs.Placing.{are_alike, pair_of}
+use Rattle.cargo_lock_diff.specs.Placing.{are_alike, unplaced_pair}
 use Rattle.cargo_lock_diff.proofs.Orders.{laws_at, placed_laws}
 use Rattle.cargo_lock_diff.proofs.Once.{paired}
 use Rattle.cargo_lock_diff.proofs.InOrder.{put-in-order}
@@ -29,7 +29,7 @@ returns-clause-paired c =
     let whole : ArePaired same so sn m.pairs.items jo jn = paired same (placed_laws c.args.likeness) so sn os.alone.items ns.alone.items os.others.items ns.others.items m.pairs.items m.old.items m.new.items jo jn
     o_split n_split matched
     (subst (λ (zs : List Placed). IsPermutation zs jo) o_joined (IsPermutation-refl jo)) (subst (λ (zs : List Placed). IsPermutation zs jn) n_joined (IsPermutation-refl jn)) in
-    paired-permuted (is_alike_at c.args.likeness) (map item so) (map item sn) (map pair_of m.pairs.items) (map item jo) (map item jn)
+    paired-permuted (is_alike_at c.args.likeness) (map item so) (map item sn) (map unplaced_pair m.pairs.items) (map item jo) (map item jn)
     c.args.olds.now.items c.args.news.now.items c.in_ok-pairs.pairs.items c.in_ok-old.old.items c.in_ok-new.new.items
     (paired-map item (is_alike_at c.args.likeness) (laws_at c.args.likeness) so sn m.pairs.items jo jn whole)
     c.in_ok-olds.ensures.items c.in_ok-news.ensures.items c.in_ok-pairs.ensures.items c.in_ok-old.ensures.items c.in_ok-new.ensures.items

@@ -63,11 +63,9 @@ loop-at-preserved c =
 
 pub returns : goal.returns
 returns c =
-    let packages : List PackageData = c.args.packages.now in
     let p : PackageData = c.index-packages-place.result in
-    let here : slice_get packages c.args.place ≡ Some p = slice_get_read packages (length packages) c.args.place p refl c.requires.within c.index-packages-place.is in
     let ds : List Identity = c.as_slice-dependencies.result.now in
     let whole : ds ≡ p.dependencies = c.as_slice-dependencies.ensures.value ∙ ap (λ (q : PackageData). q.dependencies) c.«package».view_is in
     let past = c.loop-at-test.false in
-    let long = ap length whole in
-    next-package (λ d es j. (i : ℕ) × (i < j) × HoldsOfDependency (IsSameDependency d) es i) packages c.args.place c.loop-at.at p c.loop-at.places.items here (omega (arith, past, long)) c.loop-at.invariant.told
+    next-package (λ d es j. (i : ℕ) × (i < j) × HoldsOfDependency (IsSameDependency d) es i) c.args.packages.now c.args.place c.loop-at.at p ds
+    c.loop-at.places.items c.requires.within c.index-packages-place.is whole (omega (arith, past)) c.loop-at.invariant.told

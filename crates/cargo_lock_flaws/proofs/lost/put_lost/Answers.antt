@@ -5,7 +5,7 @@ use Rattle.cargo_lock_parts.specs.Identity.{Identity, PackageData}
 use Rattle.cargo_lock_graph.specs.Targets.{IsLost}
 use Rattle.cargo_lock_flaws.specs.Dependencies.{HoldsOfDependency}
 use Rattle.cargo_lock_flaws.specs.Lost.{IsLostAt}
-use Rattle.cargo_lock_flaws.proofs.DependencyPlaces.{next-package, of-dependency, pass, put, there}
+use Rattle.cargo_lock_flaws.proofs.DependencyPlaces.{next-from, of-dependency, pass, put, there}
 use Rattle.cargo_lock_flaws.proofs.lost.put_lost.Goals as goal
 use Rattle.cargo_lock_flaws.proofs.lost.put_lost.Goals.{then-is_lost+in_ok-push, else-is_lost}
 
@@ -45,5 +45,5 @@ returns c =
     ∙ ap (λ (q : PackageData). q.dependencies) c.«package».view_is in
     let past = c.loop-at-test.false in
     let long = ap length whole in
-    next-package (λ d ds j. IsLost packages d) packages c.args.place c.loop-at.at p
+    next-from (λ d ds j. IsLost packages d) packages c.args.place c.loop-at.at p
     c.loop-at.lost.items c.requires.«package» (omega (arith, past, long)) c.loop-at.invariant

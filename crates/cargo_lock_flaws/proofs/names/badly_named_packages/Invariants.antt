@@ -1,5 +1,5 @@
 use Rattle.cargo_lock_flaws.specs.Names.{IsBadlyNamed}
-use Rattle.cargo_lock_flaws.specs.Places.{IsPlaces}
+use Rattle.lists.specs.Places.{IsPlaces}
 use Rattle.cargo_lock_flaws.proofs.names.badly_named_packages.Given as goal
 
 abbrev pub invariant-loop-place : goal.invariant-loop-place

@@ -1,7 +1,7 @@
 use Rattle.std.proofs.Common.{◌∙◌, refl, sym}
 use Rattle.std.proofs.lemmas.Bool.{false≢true}
 use Rattle.cargo_lock_flaws.specs.Packages.{IsMisplaced}
-use Rattle.cargo_lock_flaws.proofs.Places.{places-pass, places-put}
+use Rattle.lists.proofs.Places.{places-pass, places-put}
 use Rattle.cargo_lock_flaws.proofs.packages.misplaced_packages.Goals as goal
 use Rattle.cargo_lock_flaws.proofs.packages.misplaced_packages.Goals.{then-branch+in_ok-push, else-branch}
 

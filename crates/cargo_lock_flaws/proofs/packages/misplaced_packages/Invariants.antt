@@ -1,5 +1,5 @@
 use Rattle.cargo_lock_flaws.specs.Packages.{IsMisplaced}
-use Rattle.cargo_lock_flaws.specs.Places.{IsPlaces}
+use Rattle.lists.specs.Places.{IsPlaces}
 use Rattle.cargo_lock_flaws.proofs.packages.misplaced_packages.Given as goal
 
 abbrev pub invariant-loop-place : goal.invariant-loop-place

@@ -3,7 +3,7 @@ use Rattle.std.proofs.lemmas.Bool.{false≢true}
 use Rattle.cargo_lock_index.specs.Near.{last_place}
 use Rattle.cargo_lock_graph.specs.Candidates.{keys_of}
 use Rattle.cargo_lock_flaws.specs.Packages.{IsTwice}
-use Rattle.cargo_lock_flaws.proofs.Places.{places-end, places-pass, places-put}
+use Rattle.lists.proofs.Places.{places-end, places-pass, places-put}
 use Rattle.cargo_lock_flaws.proofs.SeenBefore.{twice-known}
 use Rattle.cargo_lock_flaws.proofs.packages.packages_twice.Goals as goal
 use Rattle.cargo_lock_flaws.proofs.packages.packages_twice.Goals.{then-is_some+in_ok-push, else-is_some}

@@ -1,7 +1,7 @@
 use Rattle.std.proofs.Common.{◌∙◌, IsTrue, ◌↔◌, refl, sym, length, arith}
 use Rattle.std.proofs.lemmas.Bool.{false≢true}
 use Rattle.cargo_lock_flaws.specs.Packages.{IsWithoutChecksum}
-use Rattle.cargo_lock_flaws.proofs.Places.{places-end, places-pass, places-put}
+use Rattle.lists.proofs.Places.{places-end, places-pass, places-put}
 use Rattle.cargo_lock_flaws.proofs.SeenBefore.{without-known}
 use Rattle.cargo_lock_flaws.proofs.packages.packages_without_checksum.Goals as goal
 use Rattle.cargo_lock_flaws.proofs.packages.packages_without_checksum.Goals.{then-lacks_checksum+in_ok-push, else-lacks_checksum}

@@ -1,5 +1,5 @@
 use Rattle.cargo_lock_flaws.specs.Packages.{IsUnchecked}
-use Rattle.cargo_lock_flaws.specs.Places.{IsPlaces}
+use Rattle.lists.specs.Places.{IsPlaces}
 use Rattle.cargo_lock_flaws.specs.Seen.{AreOwn}
 use Rattle.cargo_lock_flaws.proofs.packages.unchecked_registries.Given as goal
 

@@ -1,5 +1,5 @@
 use Rattle.std.proofs.Common.{◌≡◌, List, Bool, Some, false, length, slice_get, subst}
-use Rattle.cargo_lock_flaws.specs.Places.{IsPlaces}
+use Rattle.lists.specs.Places.{IsPlaces}
 use Rattle.cargo_lock_flaws.proofs.Searching.{orphans-told}
 use Rattle.cargo_lock_flaws.proofs.reach.orphans_among.Goals as goal
 

@@ -1,6 +1,6 @@
 use Rattle.std.proofs.Common.{◌≡◌, ◌∙◌, ◌+◌, Some, false, true, slice_get, get_or, length, sym, ap, refl, arith}
 use Rattle.std.proofs.lemmas.Option.{slice_get-get_or}
-use Rattle.cargo_lock_flaws.proofs.Places.{places-put, places-pass, places-end}
+use Rattle.lists.proofs.Places.{places-put, places-pass, places-end}
 use Rattle.cargo_lock_flaws.proofs.reach.unmarked.Goals as goal
 use Rattle.cargo_lock_flaws.proofs.reach.unmarked.Goals.{then-not-mark+in_ok-push, else-not-mark}
 

@@ -1,5 +1,5 @@
 use Rattle.std.proofs.Common.{◌≡◌, false, Some, slice_get}
-use Rattle.cargo_lock_flaws.specs.Places.{IsPlaces}
+use Rattle.lists.specs.Places.{IsPlaces}
 use Rattle.cargo_lock_flaws.proofs.reach.unmarked.Given as goal
 
 abbrev pub invariant-loop-place : goal.invariant-loop-place

@@ -1,4 +1,4 @@
-use Rattle.cargo_lock_flaws.specs.Places.{IsPlaces}
+use Rattle.lists.specs.Places.{IsPlaces}
 use Rattle.cargo_lock_flaws.specs.Sources.{IsFromAt, IsLookAlike}
 use Rattle.cargo_lock_flaws.proofs.sources.look_alike_sources.Given as goal
 

@@ -1,4 +1,4 @@
-use Rattle.cargo_lock_flaws.specs.Places.{IsPlaces}
+use Rattle.lists.specs.Places.{IsPlaces}
 use Rattle.cargo_lock_flaws.specs.Sources.{HasUserInfo, IsFromAt}
 use Rattle.cargo_lock_flaws.proofs.sources.sources_with_user_info.Given as goal
 

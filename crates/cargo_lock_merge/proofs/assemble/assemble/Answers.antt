@@ -1,8 +1,8 @@
 use Rattle.std.proofs.Common.{ℕ, List, map}
 use Rattle.std.proofs.lemmas.List.Sorted.{All-permutation}
-use Rattle.cargo_lock_merging.specs.Assembled.{IsAssembled}
-use Rattle.cargo_lock_merging.specs.Merged.{merged_data}
-use Rattle.cargo_lock_merging.specs.Placed.{PlacedData}
+use Rattle.cargo_lock_merge_core.specs.Assembled.{IsAssembled}
+use Rattle.cargo_lock_merge_core.specs.Merged.{merged_data}
+use Rattle.cargo_lock_merge_core.specs.Placed.{PlacedData}
 use Rattle.cargo_lock_merge.specs.Once.{DependsApart}
 use Rattle.cargo_lock_merge.specs.Order.{HasSortedDependencies}
 use Rattle.cargo_lock_merge.proofs.Assembling.{zip-permuted}

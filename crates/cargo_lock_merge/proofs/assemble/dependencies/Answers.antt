@@ -3,11 +3,11 @@ use Rattle.std.specs.List.{Contains}
 use Rattle.std.proofs.lemmas.List.{get_or_default, take_all}
 use Rattle.std.proofs.lemmas.List.Sorted.{Contains-permutation, IsPermutation-sym}
 use Rattle.cargo_lock_parts.specs.Identity.{Identity}
-use Rattle.cargo_lock_merging.specs.Assembled.{IsIdentityAt}
-use Rattle.cargo_lock_merging.specs.Merged.{merged_data}
-use Rattle.cargo_lock_merging.specs.Placed.{PlacedData}
-use Rattle.cargo_lock_merging.proofs.Members.{none-in}
-use Rattle.cargo_lock_merge.proofs.Assembling.{looked-up, only-at, passed-by}
+use Rattle.cargo_lock_merge_core.specs.Assembled.{IsIdentityAt}
+use Rattle.cargo_lock_merge_core.specs.Merged.{merged_data}
+use Rattle.cargo_lock_merge_core.specs.Placed.{PlacedData}
+use Rattle.lists.proofs.Members.{none-in}
+use Rattle.cargo_lock_merge.proofs.Assembling.{identity-at, looked-up, none-at, only-at, passed-by}
 use Rattle.cargo_lock_merge.proofs.Once.{AreSoFar, apart-at-end, more-so-far, none-so-far, passed-so-far}
 use Rattle.cargo_lock_merge.proofs.assemble.dependencies.Goals as goal
 use Rattle.cargo_lock_merge.proofs.assemble.dependencies.Goals.{in-Some+in_ok-of+in_ok-push, in_default}
@@ -33,14 +33,14 @@ loop-place-preserved c =
     elim c.match-package_at.branch [
       | in-Some+in_ok-of+in_ok-push w ↦
           let d : Identity = w.in_ok-of.field-0 in
-          let found : IsIdentityAt m n d = (w.in-Some.ensures.0, w.in-Some.ensures.1, w.in_ok-of.ensures.ok ∙ w.in-Some.ensures.2) in record {
+          let found : IsIdentityAt m n d = identity-at c.args.merged.now n w.in-Some.target.now d w.in-Some.ensures w.in_ok-of.ensures.ok in record {
             listed = looked-up m ns k n old c.match-package_at.all.items d low (get_or_default ns k 0 n low) c.loop-place.invariant.listed (λ i other. only-at c.args.merged.now n i d c.requires.ascending other found) found (ap (λ v. v.items) w.all-is ∙ w.in_ok-push.ensures.items);
             once = λ up. more-so-far m ns k old c.match-package_at.all.items d up low (c.loop-place.invariant.once up) found (ap (λ v. v.items) w.all-is ∙ w.in_ok-push.ensures.items);
           }
       | in_default w ↦ record {
         listed = subst (λ (is : List Identity). (i : Identity) → Contains is i ↔ ((j : ℕ) × Contains (take (k + 1) ns) j × IsIdentityAt m j i)) (sym (ap (λ v. v.items) w.all-is))
-            (passed-by m ns k n old low (get_or_default ns k 0 n low) c.loop-place.invariant.listed w.in_default.ensures);
-        once = λ up. passed-so-far m ns k old c.match-package_at.all.items up low (c.loop-place.invariant.once up) w.in_default.ensures (ap (λ v. v.items) w.all-is);
+            (passed-by m ns k n old low (get_or_default ns k 0 n low) c.loop-place.invariant.listed (none-at c.args.merged.now n w.in_default.ensures));
+        once = λ up. passed-so-far m ns k old c.match-package_at.all.items up low (c.loop-place.invariant.once up) (none-at c.args.merged.now n w.in_default.ensures) (ap (λ v. v.items) w.all-is);
       }
     ]
 

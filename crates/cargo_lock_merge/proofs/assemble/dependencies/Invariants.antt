@@ -2,8 +2,8 @@ use Rattle.std.proofs.Common.{◌↔◌, ℕ, map, take}
 use Rattle.std.specs.List.{Contains}
 use Rattle.std.specs.List.Sorted.{IsStrictlyIncreasing}
 use Rattle.cargo_lock_parts.specs.Identity.{Identity}
-use Rattle.cargo_lock_merging.specs.Assembled.{IsIdentityAt}
-use Rattle.cargo_lock_merging.specs.Merged.{merged_data}
+use Rattle.cargo_lock_merge_core.specs.Assembled.{IsIdentityAt}
+use Rattle.cargo_lock_merge_core.specs.Merged.{merged_data}
 use Rattle.cargo_lock_merge.proofs.Once.{AreSoFar}
 use Rattle.cargo_lock_merge.proofs.assemble.dependencies.Given as goal
 

@@ -1,9 +1,9 @@
 use Rattle.std.proofs.Common.{◌∙◌, ◌↔◌, ℕ, List, map, refl, subst, sym}
 use Rattle.std.specs.List.{Contains}
 use Rattle.std.specs.List.Sorted.{IsStrictlyIncreasing}
-use Rattle.cargo_lock_merging.specs.Assembled.{IsIdentityAt}
-use Rattle.cargo_lock_merging.specs.Merged.{merged_data}
-use Rattle.cargo_lock_merging.specs.Placed.{PlacedData}
+use Rattle.cargo_lock_merge_core.specs.Assembled.{IsIdentityAt}
+use Rattle.cargo_lock_merge_core.specs.Merged.{merged_data}
+use Rattle.cargo_lock_merge_core.specs.Placed.{PlacedData}
 use Rattle.cargo_lock_merge.proofs.assemble.package.Goals as goal
 
 pub returns-clause-ok : goal.returns-clause-ok

@@ -3,10 +3,10 @@ use Rattle.std.specs.List.{AllZip}
 use Rattle.std.specs.List.Sorted.{IsStrictlyIncreasing}
 use Rattle.std.proofs.lemmas.List.{take_all}
 use Rattle.std.proofs.lemmas.List.Elements.{All-push}
-use Rattle.cargo_lock_merging.specs.Assembled.{IsAssembled}
-use Rattle.cargo_lock_merging.specs.declared.merged.Merged.{Merged}
-use Rattle.cargo_lock_merging.specs.Merged.{merged_data}
-use Rattle.cargo_lock_merging.specs.Placed.{PlacedData}
+use Rattle.cargo_lock_merge_core.specs.Assembled.{IsAssembled}
+use Rattle.cargo_lock_merge_core.specs.declared.merged.Merged.{Merged}
+use Rattle.cargo_lock_merge_core.specs.Merged.{merged_data}
+use Rattle.cargo_lock_merge_core.specs.Placed.{PlacedData}
 use Rattle.cargo_lock_merge.specs.Once.{DependsApart}
 use Rattle.cargo_lock_merge.specs.Order.{HasSortedDependencies}
 use Rattle.cargo_lock_merge.proofs.Assembling.{zip-one-more}

@@ -1,8 +1,8 @@
 use Rattle.std.proofs.Common.{All, map, take}
 use Rattle.std.specs.List.{AllZip}
-use Rattle.cargo_lock_merging.specs.Assembled.{IsAssembled}
-use Rattle.cargo_lock_merging.specs.Merged.{merged_data}
-use Rattle.cargo_lock_merging.specs.Kept.{AreInPlace}
+use Rattle.cargo_lock_merge_core.specs.Assembled.{IsAssembled}
+use Rattle.cargo_lock_merge_core.specs.Merged.{merged_data}
+use Rattle.cargo_lock_merge_core.specs.Kept.{AreInPlace}
 use Rattle.cargo_lock_merge.specs.Once.{DependsApart}
 use Rattle.cargo_lock_merge.specs.Order.{HasSortedDependencies}
 use Rattle.cargo_lock_merge.proofs.assemble.packages.Given as goal

@@ -1,6 +1,6 @@
 use Rattle.std.proofs.Common.{◌≡◌, ◌∙◌, ◌++◌, List, ap, subst}
 use Rattle.std.specs.List.Sorted.{IsPermutation}
-use Rattle.cargo_lock_merging.specs.declared.conflicts.Conflict as merging
+use Rattle.cargo_lock_merge_core.specs.declared.conflicts.Conflict as merging
 use Rattle.cargo_lock_merge.proofs.Conflicting.{at-places}
 use Rattle.cargo_lock_merge.proofs.conflict.conflicts_at_places.Goals as goal
 

@@ -1,6 +1,6 @@
 use Rattle.std.proofs.Common.{◌≡◌, ◌∙◌, ◌++◌, map}
-use Rattle.cargo_lock_merging.specs.Merge.{Triple, lockfiles_of}
-use Rattle.cargo_lock_merging.specs.Plans.{triple_of}
+use Rattle.cargo_lock_merge_core.specs.Merge.{Triple, lockfiles_of}
+use Rattle.cargo_lock_merge_core.specs.Plans.{numbered_triple}
 use Rattle.cargo_lock_merge.specs.declared.conflict.Conflict.TheVariants.{AtPlace, OfSource}
 use Rattle.cargo_lock_merge.proofs.Conflicting.{are-conflicts}
 use Rattle.cargo_lock_merge.proofs.conflict.conflicts_of.Goals as goal
@@ -16,7 +16,7 @@ of-requires-clause-theirs c = c.requires.theirs.commits
 
 pub returns-clause-ok : goal.returns-clause-ok
 returns-clause-ok c =
-    let s : Triple _ = triple_of c.args.base.now c.args.ours.now c.args.theirs.now in
+    let s : Triple _ = numbered_triple c.args.base.now c.args.ours.now c.args.theirs.now in
     let same : c.in_ok-commits.commits ≡ lockfiles_of s = c.in_ok-commits.ensures.ok in
     are-conflicts s c.in_ok-at_places.at_places.items (c.in_ok-at_places.ensures.ok s c.requires same) c.in_ok-sources.sources.items c.sort_by.new.self.items
     (c.in_ok-sources.ensures.ok s c.requires same) c.in_ok-sort_by.ensures.permutation c.in_ok-joined.field-0.items

@@ -7,17 +7,17 @@ use Rattle.std.proofs.lemmas.Grind.{flat_map-append}
 use Rattle.std.proofs.lemmas.Map.Iter.{iter_end}
 use Rattle.cargo_lock_parts.specs.Ascii.{newline}
 use Rattle.cargo_lock_merge.specs.declared.metadata.MetadataConflict.{MetadataConflict}
-use Rattle.cargo_lock_merge.specs.Lines.{metadata_line, metadata_lines}
+use Rattle.cargo_lock_merge.specs.Lines.{metadata_conflict_lines, metadata_line}
 use Rattle.cargo_lock_merge.proofs.lines.write_metadata.Goals as goal
 
-lines-behind : (es : List (Bor (List ℕ) × Bor MetadataConflict)) → flat_map (λ e. metadata_line e.0.now e.1.now ++ newline ∷ []) es ≡ metadata_lines (map deref_pair es)
+lines-behind : (es : List (Bor (List ℕ) × Bor MetadataConflict)) → flat_map (λ e. metadata_line e.0.now e.1.now ++ newline ∷ []) es ≡ metadata_conflict_lines (map deref_pair es)
 lines-behind [] = refl
 lines-behind (e ∷ es) = ap (λ (rest : List ℕ). (metadata_line e.0.now e.1.now ++ newline ∷ []) ++ rest) (lines-behind es)
 
 pub returns : goal.returns
 returns g c = λ plain ok.
     let e : map deref_pair c.loop-key.yielded ≡ c.args.conflicts.now.entries = search (rules, iter_end) in
-    has_written_of_eq _ _ _ _ _ (lines-behind c.loop-key.yielded ∙ ap metadata_lines e) (c.loop-key.invariant plain)
+    has_written_of_eq _ _ _ _ _ (lines-behind c.loop-key.yielded ∙ ap metadata_conflict_lines e) (c.loop-key.invariant plain)
 
 line-next : (es : List (Bor (List ℕ) × Bor MetadataConflict)) (e : Bor (List ℕ) × Bor MetadataConflict)
     → flat_map (λ x. metadata_line x.0.now x.1.now ++ newline ∷ []) es ++ (metadata_line e.0.now e.1.now ++ newline ∷ [])

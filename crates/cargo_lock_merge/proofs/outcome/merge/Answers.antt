@@ -1,4 +1,4 @@
-use Rattle.cargo_lock_merging.specs.Commits.{Lockfiles}
+use Rattle.cargo_lock_merge_core.specs.Commits.{Lockfiles}
 use Rattle.cargo_lock_merge.specs.Outcome.{three}
 use Rattle.cargo_lock_merge.proofs.ByPlaces.{finds-by-places}
 use Rattle.cargo_lock_merge.proofs.outcome.merge.Goals as goal

@@ -1,12 +1,12 @@
 use Rattle.std.proofs.Common.{◌≡◌, ℕ, IfSome, List, MatchOption, Option, Some, None, map, subst, sym}
 use Rattle.std.proofs.lemmas.Result.{IfOk-weaker}
-use Rattle.cargo_lock_merging.specs.declared.merged.Merged.{Merged}
-use Rattle.cargo_lock_merging.specs.Kept.{AreInPlace}
-use Rattle.cargo_lock_merging.specs.Merge.{AreInConflict, IsMerge, Triple}
-use Rattle.cargo_lock_merging.specs.Merged.{merged_data}
-use Rattle.cargo_lock_merging.specs.Numbered.{all_data}
-use Rattle.cargo_lock_merging.specs.Placed.{PlacedData}
-use Rattle.cargo_lock_merging.specs.Plans.{triple_of}
+use Rattle.cargo_lock_merge_core.specs.declared.merged.Merged.{Merged}
+use Rattle.cargo_lock_merge_core.specs.Kept.{AreInPlace}
+use Rattle.cargo_lock_merge_core.specs.Merge.{AreInConflict, IsMerge, Triple}
+use Rattle.cargo_lock_merge_core.specs.Merged.{merged_data}
+use Rattle.cargo_lock_merge_core.specs.Numbered.{all_data}
+use Rattle.cargo_lock_merge_core.specs.Placed.{PlacedData}
+use Rattle.cargo_lock_merge_core.specs.Plans.{numbered_triple}
 use Rattle.cargo_lock_merge.specs.Outcome.{IsMergedOf}
 use Rattle.cargo_lock_merge.proofs.Outcomes.{has-plan, is-outcome, listed, some-listed}
 use Rattle.cargo_lock_merge.proofs.outcome.merge_placed.Goals as goal
@@ -31,7 +31,7 @@ of-requires-clause-theirs c = c.requires.theirs
 
 pub merged_of-requires-clause-merged : goal.merged_of-requires-clause-merged
 merged_of-requires-clause-merged c =
-    let s : Triple ℕ = triple_of c.args.base.now c.args.ours.now c.args.theirs.now in
+    let s : Triple ℕ = numbered_triple c.args.base.now c.args.ours.now c.args.theirs.now in
     let plan = has-plan s c.in_ok-plan.plan c.requires c.in_ok-plan.ensures.ok in
     subst AreInPlace (sym c.deref.ensures.value)
     (if-some (λ v. AreInPlace v.items) c.in_ok-merged.field-0 c.in-Some.merged c.in-Some.is (c.in_ok-merged.ensures.in_place s plan))
@@ -44,11 +44,11 @@ merged_of-requires-clause-theirs c = listed (all_data c.args.theirs.now) c.requi
 
 pub conflicts_of-requires : goal.conflicts_of-requires
 conflicts_of-requires c =
-    has-plan (triple_of c.args.base.now c.args.ours.now c.args.theirs.now) c.in_ok-plan.plan c.requires c.in_ok-plan.ensures.ok
+    has-plan (numbered_triple c.args.base.now c.args.ours.now c.args.theirs.now) c.in_ok-plan.plan c.requires c.in_ok-plan.ensures.ok
 
 pub returns-in-Some-clause-ok : goal.returns-in-Some-clause-ok
 returns-in-Some-clause-ok c =
-    let s : Triple ℕ = triple_of c.args.base.now c.args.ours.now c.args.theirs.now in
+    let s : Triple ℕ = numbered_triple c.args.base.now c.args.ours.now c.args.theirs.now in
     let plan = has-plan s c.in_ok-plan.plan c.requires c.in_ok-plan.ensures.ok in
     let ms : List Merged = c.in-Some.merged.items in
     let merge = matched ((m : List (PlacedData ℕ)) → ¬ IsMerge s m) (λ v. IsMerge s (map merged_data v.items)) c.in_ok-merged.field-0 c.in-Some.merged c.in-Some.is
@@ -59,7 +59,7 @@ returns-in-Some-clause-ok c =
 
 pub returns-clause-ok : goal.returns-clause-ok
 returns-clause-ok c =
-    let s : Triple ℕ = triple_of c.args.base.now c.args.ours.now c.args.theirs.now in
+    let s : Triple ℕ = numbered_triple c.args.base.now c.args.ours.now c.args.theirs.now in
     let plan = has-plan s c.in_ok-plan.plan c.requires c.in_ok-plan.ensures.ok in
     let none = unmatched ((m : List (PlacedData ℕ)) → ¬ IsMerge s m) (λ v. IsMerge s (map merged_data v.items)) c.in_ok-merged.field-0 c.in-None.is (c.in_ok-merged.ensures.merge s plan) in
     let conflict = unmatched (AreInConflict s) (λ v. Unit {0}) c.in_ok-merged.field-0 c.in-None.is (c.in_ok-merged.ensures.conflict s plan) in

@@ -1,7 +1,7 @@
 use Rattle.std.proofs.Common.{List, map, subst}
 use Rattle.cargo_lock_parts.specs.Identity.{PackageData}
-use Rattle.cargo_lock_merging.specs.Merged.{merged_data}
-use Rattle.cargo_lock_merging.specs.Numbered.{all_data}
+use Rattle.cargo_lock_merge_core.specs.Merged.{merged_data}
+use Rattle.cargo_lock_merge_core.specs.Numbered.{all_data}
 use Rattle.cargo_lock_merge.specs.Moved.{AreMovedReferences}
 use Rattle.cargo_lock_merge.proofs.outcome.merged_of.Goals as goal
 

@@ -5,7 +5,7 @@ use Rattle.std.proofs.lemmas.Result.{IfOk-weaker}
 use Rattle.cargo_lock_merge.specs.Patches.{IsIn}
 use Rattle.cargo_lock_merge.specs.declared.patches.PatchSets.{PatchSets}
 use Rattle.cargo_lock_merge.proofs.Patching.{kept-are}
-use Rattle.cargo_lock_merging.specs.Rule3.{IsKept}
+use Rattle.cargo_lock_merge_core.specs.Rule3.{IsKept}
 use Rattle.cargo_lock_parts.specs.Identity.{Identity}
 use Rattle.cargo_lock_parts.specs.IdentityOrder.{is_same_identity}
 use Rattle.cargo_lock_merge.proofs.patches.kept_patches.Goals as goal

@@ -1,7 +1,7 @@
 use Rattle.std.proofs.Common.{◌≡◌, ◌∙◌, rules, List, ap, filter, map}
 use Rattle.std.proofs.lemmas.Fn.{filter_same}
 use Rattle.cargo_lock_verify.specs.declared.finding.Finding.{Finding}
-use Rattle.cargo_lock_verify.specs.Archives.{finding_of}
+use Rattle.cargo_lock_verify.specs.Archives.{archive_finding_of}
 use Rattle.cargo_lock_verify.specs.Report.{is_changed}
 use Rattle.cargo_lock_verify.proofs.Listing.{changed-of-found}
 use Rattle.cargo_lock_verify.proofs.report.changed_alone.Goals as goal
@@ -9,6 +9,6 @@ use Rattle.cargo_lock_verify.proofs.report.changed_alone.Goals as goal
 pub returns : goal.returns
 returns c =
     let found : List Finding = c.in_ok-found.found.items in
-    let kept : c.retain.new.self.items ≡ filter (λ (f : Finding). is_changed (finding_of f)) found =
-    filter_same _ (λ (f : Finding). is_changed (finding_of f)) _ (λ x b f' k. search rules) _ _ c.retain.ensures.filtered in
-    ap (map finding_of) kept ∙ changed-of-found found ∙ ap (filter is_changed) c.in_ok-found.ensures
+    let kept : c.retain.new.self.items ≡ filter (λ (f : Finding). is_changed (archive_finding_of f)) found =
+    filter_same _ (λ (f : Finding). is_changed (archive_finding_of f)) _ (λ x b f' k. search rules) _ _ c.retain.ensures.filtered in
+    ap (map archive_finding_of) kept ∙ changed-of-found found ∙ ap (filter is_changed) c.in_ok-found.ensures

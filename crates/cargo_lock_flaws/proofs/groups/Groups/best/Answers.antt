@@ -1,7 +1,7 @@
 use Rattle.std.proofs.Common.{◌≡◌, ◌∙◌, Bool, List, ap, subst, sym}
 use Rattle.std.proofs.lemmas.Bool.{false≢true}
 use Rattle.cargo_lock_flaws.specs.Groups.{AreOnly, Grouping}
-use Rattle.cargo_lock_flaws.specs.Places.{IsMarked}
+use Rattle.lists.specs.Marks.{IsMarked}
 use Rattle.cargo_lock_flaws.proofs.OnlyOnes.{none-marked, none-named, only-match, only-miss, only-place}
 use Rattle.cargo_lock_flaws.proofs.groups.Groups.best.Goals as goal
 

@@ -1,7 +1,7 @@
 use Rattle.std.proofs.Common.{inl, inr, arith, nat_lt, subst}
-use Rattle.std.proofs.lemmas.Bool.{cases_Bool, ltb-true, ltb-false}
+use Rattle.std.proofs.lemmas.Bool.{cases_Bool, cases_eq, ltb-true, ltb-false}
 use Rattle.cargo_lock_graph.specs.Targets.{MatchesAt}
-use Rattle.cargo_lock_flaws.proofs.Grouping.{below-or-here, rank-positive, rank-small}
+use Rattle.cargo_lock_flaws.proofs.Grouping.{rank-positive, rank-small}
 use Rattle.cargo_lock_flaws.proofs.groups.Groups.best_group.Goals as goal
 
 pub loop-rank-init : goal.loop-rank-init
@@ -19,10 +19,10 @@ returns-in-Some c = record {
 }
 
 pub loop-rank-preserved : goal.loop-rank-preserved
-loop-rank-preserved c = λ k other low f. elim (below-or-here other c.loop-rank.rank low) [
-  | inl below ↦ c.loop-rank.invariant k other below f
-  | inr same ↦ c.in_default.ensures k (subst (λ n. MatchesAt c.args.self.now.packages
+loop-rank-preserved c = λ k other low f. elim (cases_eq other c.loop-rank.rank) [
+  | inl same ↦ c.in_default.ensures k (subst (λ n. MatchesAt c.args.self.now.packages
       c.args.dependency.now k n) same f)
+  | inr differs ↦ c.loop-rank.invariant k other (omega (arith, low, differs)) f
 ]
 
 pub returns : goal.returns

@@ -3,7 +3,7 @@ use Rattle.std.specs.List.{Contains}
 use Rattle.std.proofs.lemmas.Bool.{false≢true}
 use Rattle.std.proofs.lemmas.List.{take_all}
 use Rattle.cargo_lock_graph.specs.Targets.{MatchesAt}
-use Rattle.cargo_lock_flaws.proofs.Searching.{same-place, taken-cases}
+use Rattle.lists.proofs.Members.{same-place, taken-cases}
 use Rattle.cargo_lock_flaws.proofs.groups.Groups.group_with_match.Goals as goal
 
 pub returns-then-is_match : goal.returns-then-is_match

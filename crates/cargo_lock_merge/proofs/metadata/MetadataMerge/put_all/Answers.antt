@@ -1,7 +1,7 @@
 use Rattle.std.proofs.Common.{◌≡◌, None}
 use Rattle.std.proofs.lemmas.Map.Iter.{rest_more}
 use Rattle.std.specs.Map.Iter.{deref_pair}
-use Rattle.cargo_lock_merge.specs.OwnMetadata.{value_at}
+use Rattle.cargo_lock_merge.specs.OwnMetadata.{value_at_key}
 use Rattle.cargo_lock_merge.proofs.MetadataMerging.{kept-merged, kept-ready, passed}
 use Rattle.cargo_lock_merge.proofs.metadata.MetadataMerge.put_all.Goals as goal
 
@@ -18,5 +18,5 @@ loop-key-preserved c =
       finite = tt;
       ready = λ q. kept-ready s old new key others done q (c.loop-key.invariant.ready q);
       kept = λ q h. kept-merged s old new key others done q (c.loop-key.invariant.kept q h);
-      passed = passed s old new key others done c.loop-key.key-iterator c.next.new.self c.in-Some.field-0-1.now (λ q. value_at c.args.keys.now q ≡ None) (rest_more deref_pair c.loop-key.key-iterator c.next.new.self c.next.result (c.in-Some.key, c.in-Some.field-0-1) c.in-Some.is c.next.ensures.steps) c.loop-key.invariant.passed;
+      passed = passed s old new key others done c.loop-key.key-iterator c.next.new.self c.in-Some.field-0-1.now (λ q. value_at_key c.args.keys.now q ≡ None) (rest_more deref_pair c.loop-key.key-iterator c.next.new.self c.next.result (c.in-Some.key, c.in-Some.field-0-1) c.in-Some.is c.next.ensures.steps) c.loop-key.invariant.passed;
     }

@@ -3,7 +3,7 @@ use Rattle.std.specs.BTreeMap.{is_at}
 use Rattle.std.specs.Cmp.Lexicographic.{slice_cmp}
 use Rattle.std.specs.Map.{lookup}
 use Rattle.std.specs.Ordering.{nat_cmp}
-use Rattle.cargo_lock_merge.specs.OwnMetadata.{IsMergedKey, IsReadyKey, value_at}
+use Rattle.cargo_lock_merge.specs.OwnMetadata.{IsMergedKey, IsReadyKey, value_at_key}
 use Rattle.cargo_lock_merge.proofs.metadata.MetadataMerge.put_all.Given as goal
 
 -- each key that is not left is merged, if it is one of the keys
@@ -13,5 +13,5 @@ invariant-loop-key l = record {
   finite : (goal.iterator-loop-key).is_finite l.key-iterator;
   ready : (q : List ℕ) → IsReadyKey l.sides l.self q;
   kept : (q : List ℕ) → IsMergedKey l.sides l.fn.self q → IsMergedKey l.sides l.self q;
-  passed : (q : List ℕ) → lookup (is_at (slice_cmp nat_cmp q)) l.key-iterator ≡ None → (value_at l.keys q ≡ None) ⊎ IsMergedKey l.sides l.self q;
+  passed : (q : List ℕ) → lookup (is_at (slice_cmp nat_cmp q)) l.key-iterator ≡ None → (value_at_key l.keys q ≡ None) ⊎ IsMergedKey l.sides l.self q;
 }

@@ -1,10 +1,10 @@
 use Rattle.std.proofs.Common.{map, take}
 use Rattle.std.specs.Fmt.{HasWritten, IsPlainFormatter}
-use Rattle.cargo_lock_verify.specs.Archives.{finding_of}
-use Rattle.cargo_lock_verify.specs.Lines.{findings_text}
+use Rattle.cargo_lock_verify.specs.Archives.{archive_finding_of}
+use Rattle.cargo_lock_verify.specs.Lines.{archive_findings_text}
 use Rattle.cargo_lock_verify.proofs.report.ReportDisplay.fmt.Given as goal
 
 -- the lines of the findings so far are written
 abbrev pub invariant-loop-finding : goal.invariant-loop-finding
 invariant-loop-finding g l = IsPlainFormatter l.initial.f → HasWritten g.W.Write.write_str_gives l.initial.f
-    (findings_text (map finding_of (take l.finding-index l.finding-items))) l.f
+    (archive_findings_text (map archive_finding_of (take l.finding-index l.finding-items))) l.f

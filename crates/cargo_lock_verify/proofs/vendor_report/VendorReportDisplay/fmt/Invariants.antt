@@ -1,10 +1,10 @@
 use Rattle.std.proofs.Common.{map, take}
 use Rattle.std.specs.Fmt.{HasWritten, IsPlainFormatter}
-use Rattle.cargo_lock_verify.specs.Vendored.{finding_of}
-use Rattle.cargo_lock_verify.specs.VendoredLines.{findings_text}
+use Rattle.cargo_lock_verify.specs.Vendored.{folder_finding_of}
+use Rattle.cargo_lock_verify.specs.VendoredLines.{folder_findings_text}
 use Rattle.cargo_lock_verify.proofs.vendor_report.VendorReportDisplay.fmt.Given as goal
 
 -- the lines of the findings so far are written
 abbrev pub invariant-loop-finding : goal.invariant-loop-finding
 invariant-loop-finding g l = IsPlainFormatter l.initial.f → HasWritten g.W.Write.write_str_gives l.initial.f
-    (findings_text (map finding_of (take l.finding-index l.finding-items))) l.f
+    (folder_findings_text (map folder_finding_of (take l.finding-index l.finding-items))) l.f

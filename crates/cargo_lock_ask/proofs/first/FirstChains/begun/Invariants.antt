@@ -1,7 +1,0 @@
-use Rattle.cargo_lock_ask.specs.FirstChains.{linked_by}
-use Rattle.cargo_lock_ask.proofs.Following.{AreBegun}
-use Rattle.cargo_lock_ask.proofs.first.FirstChains.begun.Given as goal
-
--- the starts so far are found
-abbrev pub invariant-loop-start : goal.invariant-loop-start
-invariant-loop-start l = AreBegun l.fn.graph l.starts l.start-index (linked_by l.chains)

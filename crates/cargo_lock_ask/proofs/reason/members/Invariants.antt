@@ -1,7 +1,0 @@
-use Rattle.cargo_lock_ask.specs.Places.{IsPlaces}
-use Rattle.cargo_lock_ask.specs.Starts.{IsMember}
-use Rattle.cargo_lock_ask.proofs.reason.members.Given as goal
-
--- the places so far
-abbrev pub invariant-loop-place : goal.invariant-loop-place
-invariant-loop-place l = IsPlaces (IsMember l.graph) l.place l.members.items

@@ -1,6 +1,0 @@
-use Rattle.cargo_lock_ask.specs.Groups.{AreGroups}
-use Rattle.cargo_lock_ask.proofs.repeated.Groups.of.Given as goal
-
--- the groups of the packages so far
-abbrev pub invariant-loop-place : goal.invariant-loop-place
-invariant-loop-place l = AreGroups l.graph.packages l.place l.groups

@@ -1,9 +1,0 @@
-use Rattle.std.proofs.Common.{map, take}
-use Rattle.std.specs.Fmt.{HasWritten, IsPlainFormatter}
-use Rattle.std.specs.List.{flat_map}
-use Rattle.cargo_lock_ask.specs.Tally.{group_of, group_text}
-use Rattle.cargo_lock_ask.proofs.tally.GroupLinesDisplay.fmt.Given as goal
-
-abbrev pub invariant-loop-group : goal.invariant-loop-group
-invariant-loop-group g l = IsPlainFormatter l.initial.f → HasWritten g.W.Write.write_str_gives l.initial.f
-    (flat_map group_text (map group_of (take l.group-index l.group-items))) l.f

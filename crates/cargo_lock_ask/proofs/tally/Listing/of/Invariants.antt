@@ -1,9 +1,0 @@
-use Rattle.std.proofs.Common.{Global, Vec, map, take}
-use Rattle.std.specs.List.{AllZip}
-use Rattle.cargo_lock_ask.specs.Tally.{IsGroupOf, group_of}
-use Rattle.cargo_lock_ask.specs.declared.repeated.Duplicate.{Duplicate}
-use Rattle.cargo_lock_ask.proofs.tally.Listing.of.Given as goal
-
--- the groups so far
-abbrev pub invariant-loop-group : goal.invariant-loop-group
-invariant-loop-group l = AllZip (IsGroupOf l.graph.packages) (map (λ (group : Vec Duplicate Global). group.items) (take l.group-index l.groups)) (map group_of l.made.items)

@@ -1,0 +1,27 @@
+-- The depth of the document of advisories.
+use Rattle.std.proofs.Common.{◌≤◌, ℕ, List, arith, map}
+use Rattle.json.specs.Json.{string}
+use Rattle.json.specs.Tree.{depth}
+use Rattle.cargo_lock_audit.specs.Findings.{AdvisoryFindingData}
+use Rattle.cargo_lock_audit.specs.Requirement.{RequirementData}
+use Rattle.cargo_lock_parts.specs.Identity.{identity_of}
+use Rattle.cargo_lock_audit.specs.Document.{advisories_json, advisory_finding_json, texts_json}
+use Rattle.cargo_lock_display.specs.File.{FileData, document_json}
+use Rattle.cargo_lock_display.proofs.Depth.{identity-depth}
+use Rattle.printing.proofs.Depth.{array-depth, text-depth}
+
+texts-depth : (texts : List (List ℕ)) → depth (texts_json texts) ≤ 1
+texts-depth = array-depth 0 string (λ (text : List ℕ). omega arith)
+
+finding-depth : (f : AdvisoryFindingData) → depth (advisory_finding_json f) ≤ 4
+unfolding advisory_finding_json
+finding-depth f = omega (
+  arith,
+  identity-depth (identity_of f.content) f.content.checksum,
+  texts-depth (map (λ (r : RequirementData). r.text) f.advisory.patched),
+)
+
+pub advisories-depth : (file : FileData) (findings : List AdvisoryFindingData) (ids : List (List ℕ))
+    → depth (advisories_json file findings ids) ≤ 6
+unfolding advisories_json document_json
+advisories-depth file findings ids = omega (arith, text-depth file.path, array-depth 4 advisory_finding_json finding-depth findings, texts-depth ids)

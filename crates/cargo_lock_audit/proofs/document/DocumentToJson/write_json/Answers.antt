@@ -1,0 +1,18 @@
+use Rattle.std.proofs.Common.{codes, sym}
+use Rattle.json.specs.Json.{string}
+use Rattle.cargo_lock_audit.specs.Findings.{advisory_finding_of, id_of}
+use Rattle.cargo_lock_audit.specs.Document.{advisories_json, advisory_finding_json}
+use Rattle.cargo_lock_display.specs.File.{document_json}
+use Rattle.cargo_lock_display.proofs.Begins.{begins}
+use Rattle.printing.proofs.Arrays.{by_another}
+use Rattle.printing.proofs.Behind.{then}
+use Rattle.cargo_lock_audit.proofs.document.DocumentToJson.write_json.Goals as goal
+
+pub returns : goal.returns
+unfolding advisories_json document_json
+returns c = rw (sym c.deref.ensures.value, sym c.deref-2.ensures.value)
+    (begins (codes "cargo-lock-audit/1") c.args.self.now.file.now _ c.in_ok-begin_document.ensures
+    (then c.in_ok-key.ensures
+    (then (by_another advisory_finding_json advisory_finding_of _ c.in_ok-write_array.ensures)
+    (then c.in_ok-key-2.ensures
+    (then (by_another string id_of _ c.in_ok-write_array-2.ensures) c.end_object.ensures)))))

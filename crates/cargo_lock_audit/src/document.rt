@@ -1,0 +1,126 @@
+//! What is found of packages by advisories, as a document of JSON.
+
+ghost use Rattle.std.specs.Prelude.{◌≡◌, ◌∷◌, IfOk, codes, map, string_bytes};
+ghost use Rattle.json.specs.Token.{key, string};
+ghost use Rattle.json.specs.Tree.{json_tokens};
+ghost use Rattle.cargo_lock_audit.specs.Findings.{advisory_finding_of, id_of};
+ghost use Rattle.cargo_lock_audit.specs.Document.{advisory_finding_json, advisory_kind, texts_json};
+ghost use Rattle.cargo_lock_audit.specs.Document as spec;
+ghost use Rattle.printing.specs.Json.{Adds, IsJsonText};
+
+use crate::advisory::Advisory;
+use crate::finding::Finding;
+use crate::report::{Report, Unmet};
+use crate::requirement::Requirement;
+use cargo_lock_display::{File, begin_document, put_package};
+use printing::{JsonWriter, ToJson, json_line, write_array};
+use std::alloc::{AllocError, Global};
+
+/// The document of what is found of packages by advisories, in one line:
+/// `{"schema":"cargo-lock-audit/1","path":"Cargo.lock","format":4,"findings":[..],"unmet":[..]}`.
+/// Fails when out of memory.
+///
+/// ```
+/// let text = advisories_json(rt.alloc(), &file, report)?;
+/// ```
+pub fn advisories_json(
+    alloc: Global,
+    file: &File<'_>,
+    report: &Report<'_, '_, '_>,
+) -> Result<String, AllocError>
+    ensures { IfOk result (λ text. IsJsonText
+        (spec.advisories_json file.now (map advisory_finding_of report.now.findings.items)
+        (map id_of report.now.unmet.items)) (string_bytes text)) }
+{
+    json_line(alloc, &Document { file, report })
+}
+
+// What the document has.
+#[derive(Clone, Copy)]
+struct Document<'d, 'r> {
+    file: &'d File<'d>,
+    report: &'d Report<'r, 'r, 'r>,
+}
+
+impl ToJson for Document<'_, '_> {
+    ghost use Rattle.std.specs.Prelude.{map};
+    ghost use Rattle.cargo_lock_audit.specs.Findings.{advisory_finding_of, id_of};
+    ghost use Rattle.cargo_lock_audit.specs.Document.{advisories_json};
+
+    ghost json = { λ d. advisories_json d.file.now
+        (map advisory_finding_of d.report.now.findings.items)
+        (map id_of d.report.now.unmet.items) };
+
+    fn write_json(&self, out: &mut JsonWriter) -> Result<(), AllocError> {
+        begin_document(out, "cargo-lock-audit/1", self.file)?;
+        out.key("findings")?;
+        write_array(out, &self.report.findings)?;
+        out.key("unmet")?;
+        write_array(out, &self.report.unmet)?;
+        out.end_object()
+    }
+}
+
+impl ToJson for Finding<'_, '_> {
+    ghost use Rattle.cargo_lock_audit.specs.Findings.{advisory_finding_of};
+    ghost use Rattle.cargo_lock_audit.specs.Document.{advisory_finding_json};
+
+    ghost json = { λ finding. advisory_finding_json (advisory_finding_of finding) };
+
+    fn write_json(&self, out: &mut JsonWriter) -> Result<(), AllocError> {
+        let advisory = self.advisory;
+        out.begin_object()?;
+        out.string_member("kind", kind(advisory))?;
+        out.boolean_member("denied", self.is_denied)?;
+        out.displayed_member("message", self)?;
+        out.key("package")?;
+        put_package(out, self.package)?;
+        put_advisory(out, advisory)?;
+        out.end_object()
+    }
+}
+
+// The kind of an advisory: that of an informational one, or else a vulnerability.
+fn kind(advisory: &Advisory) -> &str
+    ensures { result.now ≡ advisory_kind advisory.now }
+{
+    match &advisory.informational {
+        Some(kind) => kind.as_str(),
+        None => "vulnerability",
+    }
+}
+
+// Writes the members of an advisory.
+fn put_advisory(out: &mut JsonWriter, advisory: &Advisory) -> Result<(), AllocError>
+    ensures { Adds result out.old out.new (key (codes "id") ∷ string advisory.now.id
+        ∷ key (codes "title") ∷ string advisory.now.title
+        ∷ key (codes "patched")
+        ∷ json_tokens (texts_json (map (λ r. r.text) advisory.now.patched))) }
+{
+    out.string_member("id", advisory.id.as_str())?;
+    out.string_member("title", advisory.title.as_str())?;
+    out.key("patched")?;
+    write_array(out, &advisory.patched)
+}
+
+// A requirement is the text that the advisory has.
+impl ToJson for Requirement {
+    ghost use Rattle.json.specs.Json.{string};
+
+    ghost json = { λ requirement. string requirement.text };
+
+    fn write_json(&self, out: &mut JsonWriter) -> Result<(), AllocError> {
+        out.string(self.text.as_str())
+    }
+}
+
+impl ToJson for Unmet<'_> {
+    ghost use Rattle.json.specs.Json.{string};
+    ghost use Rattle.cargo_lock_audit.specs.Findings.{id_of};
+
+    ghost json = { λ unmet. string (id_of unmet) };
+
+    fn write_json(&self, out: &mut JsonWriter) -> Result<(), AllocError> {
+        out.string(self.0.as_str())
+    }
+}

@@ -1,0 +1,110 @@
+-- A difference in JSON: the document that `diff --json` prints.
+use Rattle.std.specs.Prelude.{ℕ, ◌==◌, Bool, true, false, List, [], codes, decimal, map, not}
+use Rattle.std.specs.Prelude.{Option, None, Some, if◌then◌else◌}
+use Rattle.json.specs.Json.{Json, array, boolean, number, string, object, member, no_members}
+use Rattle.cargo_lock_parts.specs.Identity.{Identity, PackageData}
+use Rattle.cargo_lock_diff.specs.Change.{ChangeData, Alarm, Moved, Checksum, Replaced, Updated}
+use Rattle.cargo_lock_diff.specs.Change.{Removed, Added, OtherDependencies, is_downgrade}
+use Rattle.cargo_lock_diff.specs.Summary.{summary_of}
+use Rattle.cargo_lock_diff.specs.declared.summary.Summary.{Summary}
+use Rattle.cargo_lock_display.specs.File.{FileData, file_json}
+use Rattle.cargo_lock_display.specs.PackageJson.{dependency_json, package_or_null}
+use Rattle.printing.specs.Json.{items_of}
+
+-- ---- changes
+
+-- the kind of a change; an alarm is about a checksum
+abbrev pub change_kind_text : ChangeData → List ℕ
+change_kind_text (Alarm old new) = codes "checksum"
+change_kind_text (Moved old new) = codes "source"
+change_kind_text (Checksum old new) = codes "checksum"
+change_kind_text (Replaced old new) = codes "replacement"
+change_kind_text (Updated old new) =
+    if is_downgrade old new then codes "downgraded" else codes "updated"
+change_kind_text (Removed old) = codes "removed"
+change_kind_text (Added new) = codes "added"
+change_kind_text (OtherDependencies old new gone came) = codes "dependencies"
+
+-- the change is an alarm
+abbrev pub is_alarm_change : ChangeData → Bool
+is_alarm_change (Alarm old new) = true
+is_alarm_change other = false
+
+-- the old package of a change, none if a package was added
+abbrev pub old_of : ChangeData → Option PackageData
+old_of (Alarm old new) = Some old
+old_of (Moved old new) = Some old
+old_of (Checksum old new) = Some old
+old_of (Replaced old new) = Some old
+old_of (Updated old new) = Some old
+old_of (Removed old) = Some old
+old_of (Added new) = None
+old_of (OtherDependencies old new gone came) = Some old
+
+-- the new package of a change, none if a package was removed
+abbrev pub new_of : ChangeData → Option PackageData
+new_of (Alarm old new) = Some new
+new_of (Moved old new) = Some new
+new_of (Checksum old new) = Some new
+new_of (Replaced old new) = Some new
+new_of (Updated old new) = Some new
+new_of (Removed old) = None
+new_of (Added new) = Some new
+new_of (OtherDependencies old new gone came) = Some new
+
+-- the dependencies that only the old package has, if the change is one of dependencies
+abbrev pub removed_of : ChangeData → List Identity
+removed_of (OtherDependencies old new gone came) = gone
+removed_of other = []
+
+-- the dependencies that only the new package has, if the change is one of dependencies
+abbrev pub added_of : ChangeData → List Identity
+added_of (OtherDependencies old new gone came) = came
+added_of other = []
+
+-- the array of the dependencies
+abbrev pub dependencies_json : List Identity → Json
+dependencies_json ds = array (items_of (map dependency_json ds))
+
+-- the JSON of a change
+unfoldable pub change_json : ChangeData → Json
+change_json c = object
+    (member (codes "kind") (string (change_kind_text c))
+    (member (codes "alarm") (boolean (is_alarm_change c))
+    (member (codes "old") (package_or_null (old_of c))
+    (member (codes "new") (package_or_null (new_of c))
+    (member (codes "removed") (dependencies_json (removed_of c))
+    (member (codes "added") (dependencies_json (added_of c)) no_members))))))
+
+-- ---- the document
+
+-- the JSON of a count
+abbrev pub count_json : ℕ → Json
+count_json n = number (decimal n)
+
+-- how many changes of each kind there are, as the last line of `diff` has it
+unfoldable pub counts_json : Summary → Json
+counts_json s = object
+    (member (codes "alarm") (count_json s.alarms)
+    (member (codes "source") (count_json s.sources)
+    (member (codes "checksum") (count_json s.checksums)
+    (member (codes "replacement") (count_json s.replacements)
+    (member (codes "updated") (count_json s.updated)
+    (member (codes "downgraded") (count_json s.downgraded)
+    (member (codes "removed") (count_json s.removed)
+    (member (codes "added") (count_json s.added)
+    (member (codes "dependencies") (count_json s.dependencies) no_members)))))))))
+
+-- the document of two lockfiles, of how many changes of each kind there are, and of the changes
+unfoldable pub difference_document : FileData → FileData → Summary → List ChangeData → Json
+difference_document old new summary changes = object
+    (member (codes "schema") (string (codes "cargo-lock-diff/1"))
+    (member (codes "old") (file_json old)
+    (member (codes "new") (file_json new)
+    (member (codes "alarm") (boolean (not (summary.alarms == 0)))
+    (member (codes "counts") (counts_json summary)
+    (member (codes "changes") (array (items_of (map change_json changes))) no_members))))))
+
+-- the changes between two lockfiles, each once and in order
+abbrev pub difference_json : FileData → FileData → List ChangeData → Json
+difference_json old new changes = difference_document old new (summary_of changes) changes

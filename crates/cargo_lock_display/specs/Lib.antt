@@ -1,0 +1,4 @@
+pub mod File
+pub mod Line
+pub mod PackageJson
+pub mod SourceJson

@@ -1,7 +1,0 @@
-use Rattle.std.proofs.Common.{take}
-use Rattle.std.specs.List.{AllZip}
-use Rattle.cargo_lock_document.specs.Leads.{IsLead}
-use Rattle.cargo_lock_document.proofs.leads.leads_of.Given as goal
-
-abbrev pub invariant-loop-dependency : goal.invariant-loop-dependency
-invariant-loop-dependency l = AllZip (IsLead l.candidates) (take l.dependency-index l.dependencies) l.leads.items

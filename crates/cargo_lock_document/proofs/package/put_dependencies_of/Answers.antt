@@ -1,5 +1,0 @@
-use Rattle.json_line.proofs.Behind.{then}
-use Rattle.cargo_lock_document.proofs.package.put_dependencies_of.Goals as goal
-
-pub returns : goal.returns
-returns c = then c.in_ok-key.ensures c.put_places.ensures

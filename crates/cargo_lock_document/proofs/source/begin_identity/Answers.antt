@@ -1,8 +1,0 @@
-use Rattle.std.proofs.Common.{sym}
-use Rattle.json_line.proofs.Behind.{then}
-use Rattle.cargo_lock_document.proofs.source.begin_identity.Goals as goal
-
-pub returns : goal.returns
-returns c = rw (sym c.as_str.ensures) (then c.in_ok-begin_object.ensures
-    (then c.in_ok-string_member.ensures (then c.in_ok-displayed_member.ensures
-    (then c.in_ok-key.ensures c.put_source_or_null.ensures))))

@@ -1,5 +1,0 @@
-pub mod Source
-pub mod Linked
-pub mod Package
-pub mod Leads
-pub mod Document

@@ -1,8 +1,0 @@
-use Rattle.cargo_lock_findings.specs.Findings.{findings_json}
-use Rattle.json_line.proofs.Behind.{then}
-use Rattle.cargo_lock_findings.proofs.findings.put_findings.Goals as goal
-
-pub returns : goal.returns
-unfolding findings_json
-returns c = then c.in_ok-begin_document.ensures
-    (then c.in_ok-key.ensures (then c.in_ok-put_array.ensures c.end_object.ensures))

@@ -1,9 +1,0 @@
-use Rattle.std.proofs.Common.{sym}
-use Rattle.cargo_lock_json.specs.Verify.{verified_json}
-use Rattle.json_line.proofs.Behind.{then}
-use Rattle.cargo_lock_json.proofs.archives.put_archives.Goals as goal
-
-pub returns : goal.returns
-unfolding verified_json
-returns c = rw (sym c.deref.ensures.value) (then c.in_ok-begin_verified.ensures
-    (then c.in_ok-put_array.ensures c.end_object.ensures))

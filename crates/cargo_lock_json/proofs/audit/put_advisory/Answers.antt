@@ -1,8 +1,0 @@
-use Rattle.std.proofs.Common.{sym}
-use Rattle.json_line.proofs.Behind.{then}
-use Rattle.cargo_lock_json.proofs.audit.put_advisory.Goals as goal
-
-pub returns : goal.returns
-returns c = rw (sym c.advisory.view_is, sym c.as_str.ensures.value, sym c.as_str-2.ensures.value, sym c.deref.ensures.value)
-    (then c.in_ok-string_member.ensures (then c.in_ok-string_member-2.ensures
-    (then c.in_ok-key.ensures c.put_requirements.ensures)))

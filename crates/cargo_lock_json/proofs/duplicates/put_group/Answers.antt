@@ -1,9 +1,0 @@
-use Rattle.std.proofs.Common.{sym}
-use Rattle.cargo_lock_json.specs.Duplicates.{group_json}
-use Rattle.json_line.proofs.Behind.{then}
-use Rattle.cargo_lock_json.proofs.duplicates.put_group.Goals as goal
-
-pub returns : goal.returns
-unfolding group_json
-returns c = rw (sym c.as_slice-rows.ensures.value) (then c.in_ok-begin_object.ensures (then c.in_ok-put_name.ensures
-    (then c.in_ok-key.ensures (then c.in_ok-put_rows.ensures c.end_object.ensures))))

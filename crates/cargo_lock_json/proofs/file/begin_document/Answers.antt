@@ -1,6 +1,0 @@
-use Rattle.json_line.proofs.Behind.{then}
-use Rattle.cargo_lock_json.proofs.file.begin_document.Goals as goal
-
-pub returns : goal.returns
-returns c = then c.in_ok-begin_object.ensures
-    (then c.in_ok-string_member.ensures c.put_members.ensures)

@@ -1,8 +1,0 @@
-use Rattle.cargo_lock_json.specs.File.{file_json}
-use Rattle.json_line.proofs.Behind.{then}
-use Rattle.cargo_lock_json.proofs.file.put_file.Goals as goal
-
-pub returns : goal.returns
-unfolding file_json
-returns c = then c.in_ok-key.ensures (then c.in_ok-begin_object.ensures
-    (then c.in_ok-put_members.ensures c.end_object.ensures))

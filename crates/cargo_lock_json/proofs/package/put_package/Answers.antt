@@ -1,9 +1,0 @@
-use Rattle.std.proofs.Common.{sym}
-use Rattle.cargo_lock_json.specs.Package.{identity_json}
-use Rattle.json_line.proofs.Behind.{then}
-use Rattle.cargo_lock_json.proofs.package.put_package.Goals as goal
-
-pub returns : goal.returns
-unfolding identity_json
-returns c = rw (sym c.package.view_is) (then c.in_ok-put_identity.ensures
-    (then c.in_ok-put_digest_or_null.ensures c.end_object.ensures))

@@ -1,5 +1,0 @@
-use Rattle.json_line.proofs.Behind.{then}
-use Rattle.cargo_lock_json.proofs.verify.begin_verified.Goals as goal
-
-pub returns : goal.returns
-returns c = then c.in_ok-begin_document.ensures (then c.in_ok-number_member.ensures c.key.ensures)

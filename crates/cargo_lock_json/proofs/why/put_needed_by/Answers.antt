@@ -1,9 +1,0 @@
-use Rattle.std.proofs.Common.{sym}
-use Rattle.json_line.proofs.Behind.{then}
-use Rattle.cargo_lock_json.proofs.why.put_needed_by.Goals as goal
-
-pub returns-in-Needed : goal.returns-in-Needed
-returns-in-Needed c = rw (c.in-Needed.is, sym c.deref.ensures.value) (then c.in_ok-key.ensures c.put_packages.ensures)
-
-pub returns-in-Nothing : goal.returns-in-Nothing
-returns-in-Nothing c = rw c.in-Nothing.is (then c.in_ok-key.ensures c.null.ensures)

@@ -1,0 +1,5 @@
+use Rattle.cargo_lock_merge_core.proofs.Origins.{lists-with-itself}
+use Rattle.cargo_lock_merge_core.proofs.laws.merge_of_lists_with_itself.Goals as goal
+
+pub returns : goal.returns
+returns c = lists-with-itself

@@ -1,8 +1,0 @@
-use Rattle.std.proofs.Common.{ap}
-use Rattle.cargo_lock_merging.specs.Numbered.{data_if, data_of}
-use Rattle.cargo_lock_merging.proofs.Agreeing.{same-as-some}
-use Rattle.cargo_lock_merging.proofs.choices.is_same_as.Goals as goal
-
-pub returns-in-Some : goal.returns-in-Some
-returns-in-Some c =
-    same-as-some (data_of c.args.«package») (data_of c.in-Some.base) (data_if c.args.base) c.are_same.result (ap data_if c.in-Some.is) c.are_same.ensures

@@ -1,9 +1,0 @@
-use Rattle.std.proofs.Common.{take}
-use Rattle.cargo_lock_merging.specs.CommitMaps.{AreCommitsOf}
-use Rattle.cargo_lock_merging.specs.Numbered.{all_data}
-use Rattle.cargo_lock_merging.specs.Placed.{contents_of}
-use Rattle.cargo_lock_merging.proofs.commits.Sources.of.Given as goal
-
--- the commits of the packages so far
-abbrev pub invariant-loop-package : goal.invariant-loop-package
-invariant-loop-package l = AreCommitsOf (contents_of (all_data (take l.package-index l.packages))) l.commits

@@ -1,5 +1,0 @@
-use Rattle.cargo_lock_merging.proofs.Assembling.{assembled-merge}
-use Rattle.cargo_lock_merging.proofs.laws.assembled_are_merge.Goals as goal
-
-pub returns : goal.returns
-returns c = λ all places s m ps sides h are. assembled-merge all places s m ps sides h are

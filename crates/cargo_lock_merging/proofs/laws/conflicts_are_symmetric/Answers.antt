@@ -1,5 +1,0 @@
-use Rattle.cargo_lock_merging.proofs.Sides.{conflict-turned}
-use Rattle.cargo_lock_merging.proofs.laws.conflicts_are_symmetric.Goals as goal
-
-pub returns : goal.returns
-returns c = λ s k h. conflict-turned s k h

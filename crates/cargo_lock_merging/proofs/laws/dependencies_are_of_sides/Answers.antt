@@ -1,5 +1,0 @@
-use Rattle.cargo_lock_merging.proofs.Sides.{dependency-side}
-use Rattle.cargo_lock_merging.proofs.laws.dependencies_are_of_sides.Goals as goal
-
-pub returns : goal.returns
-returns c = λ s m x d h k j. dependency-side s m x d h k j

@@ -1,5 +1,0 @@
-use Rattle.cargo_lock_merging.proofs.Soundness.{no-conflict}
-use Rattle.cargo_lock_merging.proofs.laws.merge_excludes_conflicts.Goals as goal
-
-pub returns : goal.returns
-returns c = λ s m k are h. no-conflict s are m h k

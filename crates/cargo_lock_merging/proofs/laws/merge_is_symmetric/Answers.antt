@@ -1,5 +1,0 @@
-use Rattle.cargo_lock_merging.proofs.Sides.{merge-flip}
-use Rattle.cargo_lock_merging.proofs.laws.merge_is_symmetric.Goals as goal
-
-pub returns : goal.returns
-returns c = λ s m h. merge-flip s m h

@@ -1,5 +1,0 @@
-use Rattle.cargo_lock_merging.proofs.Alike.{merge-once}
-use Rattle.cargo_lock_merging.proofs.laws.merge_is_unique.Goals as goal
-
-pub returns : goal.returns
-returns c = λ s m n one h k. merge-once s m n one h k

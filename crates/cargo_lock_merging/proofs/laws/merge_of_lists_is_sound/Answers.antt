@@ -1,5 +1,0 @@
-use Rattle.cargo_lock_merging.proofs.Soundness.{lists-sound}
-use Rattle.cargo_lock_merging.proofs.laws.merge_of_lists_is_sound.Goals as goal
-
-pub returns : goal.returns
-returns c = λ all m h one. lists-sound all m h one

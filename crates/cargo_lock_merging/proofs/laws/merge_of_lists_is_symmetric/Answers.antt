@@ -1,5 +1,0 @@
-use Rattle.cargo_lock_merging.proofs.Listings.{merge-of-lists-flip}
-use Rattle.cargo_lock_merging.proofs.laws.merge_of_lists_is_symmetric.Goals as goal
-
-pub returns : goal.returns
-returns c = merge-of-lists-flip

@@ -1,5 +1,0 @@
-use Rattle.cargo_lock_merging.proofs.Listings.{one-merge-of-lists}
-use Rattle.cargo_lock_merging.proofs.laws.merge_of_lists_is_unique.Goals as goal
-
-pub returns : goal.returns
-returns c = one-merge-of-lists

@@ -1,5 +1,0 @@
-use Rattle.cargo_lock_merging.proofs.Unchanged.{the-other}
-use Rattle.cargo_lock_merging.proofs.laws.merge_with_base.Goals as goal
-
-pub returns : goal.returns
-returns c = λ b x base side agree. the-other b x base side agree

@@ -1,5 +1,0 @@
-use Rattle.cargo_lock_merging.proofs.Unchanged.{each-side}
-use Rattle.cargo_lock_merging.proofs.laws.merge_with_itself.Goals as goal
-
-pub returns : goal.returns
-returns c = λ b x base side. each-side b x base side

@@ -1,7 +1,0 @@
-use Rattle.cargo_lock_merging.specs.Lists.{all_numbered}
-use Rattle.cargo_lock_merging.proofs.Slotting.{AreFirst}
-use Rattle.cargo_lock_merging.proofs.lists.numbered_slots.Given as goal
-
--- the packages of the slots so far
-abbrev pub invariant-loop-slot : goal.invariant-loop-slot
-invariant-loop-slot l = AreFirst l.numbers l.offset l.linked l.slots l.slot-index (all_numbered l.all.items)

@@ -1,8 +1,0 @@
-use Rattle.std.proofs.Common.{◌≡◌, take}
-use Rattle.cargo_lock_merging.specs.Lists.{all_numbered}
-use Rattle.cargo_lock_merging.specs.Numbered.{all_data}
-use Rattle.cargo_lock_merging.proofs.lists.placed.Given as goal
-
--- the packages so far
-abbrev pub invariant-loop-one : goal.invariant-loop-one
-invariant-loop-one l = all_data l.all.items ≡ all_numbered (take l.one-index l.list)

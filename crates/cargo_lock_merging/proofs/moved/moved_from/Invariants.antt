@@ -1,6 +1,0 @@
-use Rattle.cargo_lock_merging.proofs.Moving.{AreFirst}
-use Rattle.cargo_lock_merging.proofs.moved.moved_from.Given as goal
-
--- those of the dependencies so far
-abbrev pub invariant-loop-to : goal.invariant-loop-to
-invariant-loop-to l = AreFirst l.ours l.theirs l.merged l.one l.to-index l.all.items

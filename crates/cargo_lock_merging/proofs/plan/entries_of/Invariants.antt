@@ -1,9 +1,0 @@
-use Rattle.std.proofs.Common.{◌≡◌, map, take, All}
-use Rattle.cargo_lock_merging.specs.Entries.{IsEntry}
-use Rattle.cargo_lock_merging.proofs.plan.entries_of.Given as goal
-
-abbrev pub invariant-loop-row : goal.invariant-loop-row
-invariant-loop-row l = record {
-  rows : map (λ e. e.row) l.all.items ≡ take l.row-index l.rows;
-  each : All (IsEntry l.commits) l.all.items;
-}

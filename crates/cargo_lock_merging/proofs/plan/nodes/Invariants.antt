@@ -1,7 +1,0 @@
-use Rattle.std.proofs.Common.{take}
-use Rattle.std.specs.List.{AllZip}
-use Rattle.cargo_lock_merging.specs.Plans.{IsNodeOf}
-use Rattle.cargo_lock_merging.proofs.plan.nodes.Given as goal
-
-abbrev pub invariant-loop-entry : goal.invariant-loop-entry
-invariant-loop-entry l = AllZip IsNodeOf (take l.entry-index l.entries) l.nodes.items

@@ -1,7 +1,0 @@
-use Rattle.cargo_lock_merging.specs.Search.{HasReached}
-use Rattle.cargo_lock_merging.proofs.Searching.{TargetsOf}
-use Rattle.cargo_lock_merging.proofs.reach.Search.follow.Given as goal
-
--- the targets so far are reached
-abbrev pub invariant-loop-target : goal.invariant-loop-target
-invariant-loop-target l = HasReached (TargetsOf l.places l.targets l.target-index) l.initial.self l.self

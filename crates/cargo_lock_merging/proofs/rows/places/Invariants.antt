@@ -1,6 +1,0 @@
-use Rattle.std.proofs.Common.{◌≡◌, take}
-use Rattle.cargo_lock_merging.specs.Numbered.{all_data, places_of}
-use Rattle.cargo_lock_merging.proofs.rows.places.Given as goal
-
-abbrev pub invariant-loop-package : goal.invariant-loop-package
-invariant-loop-package l = l.places.items ≡ places_of (all_data (take l.package-index l.list))

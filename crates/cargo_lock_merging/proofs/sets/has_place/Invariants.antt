@@ -1,9 +1,0 @@
-use Rattle.std.proofs.Common.{length, ◌-◌}
-use Rattle.cargo_lock_merging.specs.Sets.{AreBelow}
-use Rattle.cargo_lock_merging.proofs.sets.has_place.Given as goal
-
-abbrev pub invariant-loop-at : goal.invariant-loop-at
-invariant-loop-at l = AreBelow l.list l.at l.place
-
-abbrev pub decreases-loop-at : goal.decreases-loop-at
-decreases-loop-at l = length l.list - l.at

@@ -1,9 +1,0 @@
-pub mod Members
-pub mod Reaching
-pub mod Placing
-pub mod Pairs
-pub mod Arrowing
-pub mod Escaping
-pub mod Quoting
-pub mod DiagramLines
-pub mod PictureRead

@@ -1,5 +1,0 @@
-use Rattle.cargo_lock_picture.proofs.DiagramLines.{package-line}
-use Rattle.cargo_lock_picture.proofs.laws.each_package_is_one_line.Goals as goal
-
-pub returns : goal.returns
-returns c = package-line

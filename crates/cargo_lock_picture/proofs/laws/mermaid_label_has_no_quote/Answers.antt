@@ -1,5 +1,0 @@
-use Rattle.cargo_lock_picture.proofs.Quoting.{mermaid-no-quote}
-use Rattle.cargo_lock_picture.proofs.laws.mermaid_label_has_no_quote.Goals as goal
-
-pub returns : goal.returns
-returns c = mermaid-no-quote

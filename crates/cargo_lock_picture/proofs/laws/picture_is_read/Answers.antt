@@ -1,5 +1,0 @@
-use Rattle.cargo_lock_picture.proofs.PictureRead.{picture-read}
-use Rattle.cargo_lock_picture.proofs.laws.picture_is_read.Goals as goal
-
-pub returns : goal.returns
-returns c = picture-read

@@ -1,7 +1,0 @@
-use Rattle.cargo_lock_picture.specs.Marks.{IsMarked}
-use Rattle.cargo_lock_picture.specs.Places.{IsPlaces}
-use Rattle.cargo_lock_picture.proofs.scene.marked.Given as goal
-
--- the nodes so far
-abbrev pub invariant-loop-place : goal.invariant-loop-place
-invariant-loop-place l = IsPlaces (IsMarked l.marks) l.place l.nodes.items

@@ -1,0 +1,15 @@
+pub mod Members
+pub mod Needing
+pub mod Counting
+pub mod Walking
+pub mod Earlier
+pub mod Following
+pub mod Reasoning
+pub mod Starting
+pub mod Specified
+pub mod Grouping
+pub mod Writing
+pub mod Rowing
+pub mod Answering
+pub mod Digests
+pub mod DocumentDepth

@@ -1,0 +1,15 @@
+pub mod Spec
+pub mod Chains
+pub mod Starts
+pub mod Steps
+pub mod FirstChains
+pub mod Reasons
+pub mod Needers
+pub mod Lines
+pub mod Answers
+pub mod Listing
+pub mod Duplicates
+pub mod Groups
+pub mod Tally
+pub mod WhyDocument
+pub mod DuplicatesDocument

@@ -1,0 +1,106 @@
+//! What is printed of the answers.
+
+ghost use Rattle.std.specs.Prelude.{◌≡◌, IfOk, map};
+ghost use Rattle.cargo_lock_query.specs.Lines.{needers_in};
+ghost use Rattle.cargo_lock_query.specs.Lines as spec;
+
+use cargo_lock_display::NameVersion;
+use cargo_lock_graph::graph::{Graph, NodeIndex};
+use cargo_lock_parts::package::Package;
+use std::alloc::{AllocError, Global};
+use std::fmt;
+
+/// Why a package is there. `Display` writes it as lines, the last one without a newline. Texts that
+/// come from a lockfile are shown as `Shown` shows them.
+///
+/// ```
+/// let answer = Answer::Nothing(package);
+/// println!(rt; "{answer}")?;
+/// ```
+#[derive(Drop)]
+pub enum Answer<'a> {
+    /// A chain of dependencies leads to the package: `NAME VERSION` and, for each package that
+    /// needs the one of the line before, `  needed by NAME VERSION`.
+    Needed(&'a Package, Vec<&'a Package>),
+
+    /// No chain leads to the package: `nothing leads to NAME VERSION`.
+    Nothing(&'a Package),
+}
+
+impl fmt::Display for Answer<'_> {
+    ghost use Rattle.std.specs.Prelude.{Some};
+    ghost use Rattle.cargo_lock_query.specs.Lines.{answer_lines, answer_of};
+
+    ghost output = { λ answer. Some (answer_lines (answer_of answer)) };
+
+    fn fmt<W: fmt::Write>(&self, f: &mut fmt::Formatter<W>) -> fmt::Result {
+        match self {
+            Answer::Needed(package, needers) => {
+                let package = NameVersion(package);
+                let needers = Needers(needers);
+                write!(f, "{package}{needers}")
+            }
+            Answer::Nothing(package) => {
+                let package = NameVersion(package);
+                write!(f, "nothing leads to {package}")
+            }
+        }
+    }
+}
+
+/// The packages of the other nodes of a chain, from its last node back, as `Answer` has them. Fails
+/// when out of memory.
+pub fn needers_of_chain<'a>(
+    alloc: Global,
+    graph: &'a Graph,
+    chain: &[NodeIndex],
+) -> Result<Vec<&'a Package>, AllocError>
+    ensures { IfOk result (λ needers. map (λ p. p.now) needers.items
+        ≡ needers_in graph.now.packages chain.now) }
+{
+    let mut needers = packages_at(alloc, graph, chain)?;
+    needers.reverse();
+    if !needers.is_empty() {
+        needers.remove(0);
+    }
+    Ok(needers)
+}
+
+// The packages of some nodes, in their order.
+pub(crate) fn packages_at<'a>(
+    alloc: Global,
+    graph: &'a Graph,
+    nodes: &[NodeIndex],
+) -> Result<Vec<&'a Package>, AllocError>
+    ensures { IfOk result (λ packages. map (λ p. p.now) packages.items
+        ≡ spec.packages_at graph.now.packages nodes.now) }
+{
+    let mut packages = Vec::with_capacity(alloc, nodes.len())?;
+    for node in nodes {
+        if let Some(one) = graph.node_weight(*node) {
+            packages.push(one)?;
+        }
+    }
+    Ok(packages)
+}
+
+// Packages each of which needs the one of the line before.
+#[derive(Clone, Copy)]
+struct Needers<'a>(&'a Vec<&'a Package>);
+
+impl fmt::Display for Needers<'_> {
+    ghost use Rattle.std.specs.Prelude.{Some, map};
+    ghost use Rattle.std.specs.List.{flat_map};
+    ghost use Rattle.cargo_lock_query.specs.Lines.{needer_line};
+
+    ghost output = { λ shown. Some (flat_map needer_line (map (λ p. p.now) shown.0.now.items)) };
+
+    fn fmt<W: fmt::Write>(&self, f: &mut fmt::Formatter<W>) -> fmt::Result {
+        let Needers(needers) = *self;
+        for needer in needers {
+            let needer = NameVersion(needer);
+            write!(f, "\n  needed by {needer}")?;
+        }
+        Ok(())
+    }
+}

@@ -1,0 +1,80 @@
+-- What is found of folders, in JSON: the document that `verify --vendor --json` prints.
+use Rattle.std.specs.Prelude.{◌++◌, ℕ, List, Option, None, Some, codes, map, option_map}
+use Rattle.std.specs.Prelude.{string_bytes}
+use Rattle.json.specs.Json.{Json}
+use Rattle.cargo_lock_parts.specs.Checksum.{digest_of}
+use Rattle.cargo_lock_parts.specs.Identity.{PackageData}
+use Rattle.cargo_lock_verify.specs.declared.folder.Folder.{Folder}
+use Rattle.cargo_lock_verify.specs.Vendored.{FolderFindingData, Absent, Link, NoFolder}
+use Rattle.cargo_lock_verify.specs.Vendored.{OtherArchive, OtherFile, Unlisted, digest_at}
+use Rattle.cargo_lock_verify.specs.VendoredLines.{folder_finding_line}
+use Rattle.cargo_lock_display.specs.File.{FileData}
+use Rattle.cargo_lock_verify.specs.Document.{FoundData, found_json, verified_json}
+
+-- the kind of a finding
+abbrev pub folder_finding_kind : FolderFindingData → List ℕ
+folder_finding_kind (NoFolder p) = codes "no-folder"
+folder_finding_kind (OtherArchive p f) = codes "other-archive"
+folder_finding_kind (Absent p f path) = codes "missing-file"
+folder_finding_kind (OtherFile p f path digest listed) = codes "changed-file"
+folder_finding_kind (Unlisted p f path) = codes "unlisted-file"
+folder_finding_kind (Link p f path) = codes "link"
+
+-- the package that is not verified
+abbrev pub folder_finding_package : FolderFindingData → PackageData
+folder_finding_package (NoFolder p) = p
+folder_finding_package (OtherArchive p f) = p
+folder_finding_package (Absent p f path) = p
+folder_finding_package (OtherFile p f path digest listed) = p
+folder_finding_package (Unlisted p f path) = p
+folder_finding_package (Link p f path) = p
+
+-- the path of a file in a folder
+abbrev pub file_path : Folder → List ℕ → List ℕ
+file_path f path = string_bytes f.path ++ (codes "/" ++ path)
+
+-- the path of the folder, or of the file or the link in it
+abbrev pub folder_finding_path : FolderFindingData → Option (List ℕ)
+folder_finding_path (NoFolder p) = None
+folder_finding_path (OtherArchive p f) = Some (string_bytes f.path)
+folder_finding_path (Absent p f path) = Some (file_path f path)
+folder_finding_path (OtherFile p f path digest listed) = Some (file_path f path)
+folder_finding_path (Unlisted p f path) = Some (file_path f path)
+folder_finding_path (Link p f path) = Some (file_path f path)
+
+-- the digest that was found: that of the archive in the list, or that of the file
+abbrev pub folder_finding_digest : FolderFindingData → Option (List ℕ)
+folder_finding_digest (NoFolder p) = None
+folder_finding_digest (OtherArchive p f) = option_map digest_of f.archive
+folder_finding_digest (Absent p f path) = None
+folder_finding_digest (OtherFile p f path digest listed) = Some digest
+folder_finding_digest (Unlisted p f path) = digest_at f.files path
+folder_finding_digest (Link p f path) = None
+
+-- the digest that was expected: that of the archive in the lockfile, or of the file in the list
+abbrev pub folder_finding_expected : FolderFindingData → Option (List ℕ)
+folder_finding_expected (NoFolder p) = p.checksum
+folder_finding_expected (OtherArchive p f) = p.checksum
+folder_finding_expected (Absent p f path) = digest_at f.listed path
+folder_finding_expected (OtherFile p f path digest listed) = Some listed
+folder_finding_expected (Unlisted p f path) = None
+folder_finding_expected (Link p f path) = None
+
+-- what the document says of a finding
+abbrev pub said_of_folder_finding : FolderFindingData → FoundData
+said_of_folder_finding f = record {
+  kind = folder_finding_kind f;
+  message = folder_finding_line f;
+  content = folder_finding_package f;
+  path = folder_finding_path f;
+  digest = folder_finding_digest f;
+  expected = folder_finding_expected f;
+}
+
+-- the JSON of a finding
+abbrev pub folder_finding_json : FolderFindingData → Json
+folder_finding_json f = found_json (said_of_folder_finding f)
+
+-- how many packages are verified, and the findings, each once and in order
+abbrev pub folders_json : FileData → ℕ → List FolderFindingData → Json
+folders_json file verified findings = verified_json file verified (map folder_finding_json findings)

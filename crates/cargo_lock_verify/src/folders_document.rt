@@ -1,0 +1,149 @@
+//! What is found of folders, as a document of JSON.
+
+ghost use Rattle.std.specs.Prelude.{◌≡◌, ◌∷◌, [], IfOk, codes, map, option_map, string_bytes};
+ghost use Rattle.json.specs.Json.{array};
+ghost use Rattle.json.specs.Token.{key, string};
+ghost use Rattle.json.specs.Tree.{json_tokens};
+ghost use Rattle.cargo_lock_parts.specs.Checksum.{digest_of};
+ghost use Rattle.cargo_lock_verify.specs.Vendored.{folder_finding_of};
+ghost use Rattle.cargo_lock_verify.specs.Vendored as vendored;
+ghost use Rattle.cargo_lock_verify.specs.FoldersDocument.{file_path, folder_finding_digest};
+ghost use Rattle.cargo_lock_verify.specs.FoldersDocument.{folder_finding_expected};
+ghost use Rattle.cargo_lock_verify.specs.FoldersDocument.{folder_finding_json, folder_finding_kind};
+ghost use Rattle.cargo_lock_verify.specs.FoldersDocument.{folder_finding_package};
+ghost use Rattle.cargo_lock_verify.specs.FoldersDocument.{folder_finding_path};
+ghost use Rattle.cargo_lock_verify.specs.FoldersDocument as spec;
+ghost use Rattle.printing.specs.Value.{text_or_null};
+ghost use Rattle.printing.specs.Json.{Adds, IsJsonText, items_of};
+
+use crate::document::verified_document;
+use crate::folder::{Folder, FolderFinding};
+use crate::vendor_report::VendorReport;
+use cargo_lock_display::{File, put_digest_or_null, put_package};
+use cargo_lock_parts::package::{Checksum, Package};
+use printing::{JsonWriter, ToJson};
+use std::alloc::{AllocError, Global};
+use std::collections::BTreeMap;
+
+/// The document of what is found of folders, in one line, as `archives_json` returns it of
+/// archives. Fails when out of memory.
+///
+/// ```
+/// let text = folders_json(rt.alloc(), &file, report)?;
+/// ```
+pub fn folders_json(
+    alloc: Global,
+    file: &File<'_>,
+    report: &VendorReport<'_, '_>,
+) -> Result<String, AllocError>
+    ensures { IfOk result (λ text. IsJsonText
+        (spec.folders_json file.now report.now.verified
+        (map folder_finding_of report.now.findings.items)) (string_bytes text)) }
+{
+    verified_document(alloc, file, report.verified, &report.findings)
+}
+
+impl ToJson for FolderFinding<'_, '_> {
+    ghost use Rattle.cargo_lock_verify.specs.Vendored.{folder_finding_of};
+    ghost use Rattle.cargo_lock_verify.specs.FoldersDocument.{folder_finding_json};
+
+    ghost json = { λ finding. folder_finding_json (folder_finding_of finding) };
+
+    fn write_json(&self, out: &mut JsonWriter) -> Result<(), AllocError> {
+        out.begin_object()?;
+        out.string_member("kind", kind(self))?;
+        out.displayed_member("message", self)?;
+        out.key("package")?;
+        put_package(out, package(self))?;
+        put_path(out, self)?;
+        put_digest_or_null(out, "digest", &digest(self))?;
+        put_digest_or_null(out, "expected", &expected(self))?;
+        out.end_object()
+    }
+}
+
+// The kind of a finding, as the document has it.
+fn kind(finding: &FolderFinding<'_, '_>) -> &'static str
+    ensures { result.now ≡ folder_finding_kind (folder_finding_of finding.now) }
+{
+    match finding {
+        FolderFinding::NoFolder(_) => "no-folder",
+        FolderFinding::OtherArchive(_, _) => "other-archive",
+        FolderFinding::Absent(_, _, _) => "missing-file",
+        FolderFinding::OtherFile(_, _, _) => "changed-file",
+        FolderFinding::Unlisted(_, _, _) => "unlisted-file",
+        FolderFinding::Link(_, _, _) => "link",
+    }
+}
+
+// The package that is not verified.
+fn package<'p>(finding: &FolderFinding<'p, '_>) -> &'p Package
+    ensures { result.now ≡ folder_finding_package (folder_finding_of finding.now) }
+{
+    match *finding {
+        FolderFinding::NoFolder(package)
+        | FolderFinding::OtherArchive(package, _)
+        | FolderFinding::Absent(package, _, _)
+        | FolderFinding::OtherFile(package, _, _)
+        | FolderFinding::Unlisted(package, _, _)
+        | FolderFinding::Link(package, _, _) => package,
+    }
+}
+
+// Writes the member with the path of the folder, or of the file or the link in it.
+fn put_path(out: &mut JsonWriter, finding: &FolderFinding<'_, '_>) -> Result<(), AllocError>
+    ensures { Adds result out.old out.new (key (codes "path")
+        ∷ json_tokens (text_or_null (folder_finding_path (folder_finding_of finding.now)))) }
+{
+    match *finding {
+        FolderFinding::NoFolder(_) => out.null_member("path"),
+        FolderFinding::OtherArchive(_, folder) => out.string_member("path", folder.path.as_str()),
+        FolderFinding::OtherFile(_, folder, file) => put_file_path(out, folder, file.path),
+        FolderFinding::Absent(_, folder, path)
+        | FolderFinding::Unlisted(_, folder, path)
+        | FolderFinding::Link(_, folder, path) => put_file_path(out, folder, path),
+    }
+}
+
+// Writes the member with the path of a file in a folder.
+fn put_file_path(out: &mut JsonWriter, folder: &Folder, path: &str) -> Result<(), AllocError>
+    ensures { Adds result out.old out.new (key (codes "path")
+        ∷ string (file_path folder.now path.now) ∷ []) }
+{
+    let folder = folder.path.as_str();
+    out.displayed_member("path", &format_args!("{folder}/{path}"))
+}
+
+// The digest that was found.
+fn digest(finding: &FolderFinding<'_, '_>) -> Option<Checksum>
+    ensures { option_map digest_of result ≡ folder_finding_digest (folder_finding_of finding.now) }
+{
+    match *finding {
+        FolderFinding::OtherArchive(_, folder) => folder.archive,
+        FolderFinding::OtherFile(_, _, file) => Some(*file.digest),
+        FolderFinding::Unlisted(_, folder, path) => digest_at(&folder.files, path),
+        _ => None,
+    }
+}
+
+// The digest that was expected.
+fn expected(finding: &FolderFinding<'_, '_>) -> Option<Checksum>
+    ensures { option_map digest_of result
+        ≡ folder_finding_expected (folder_finding_of finding.now) }
+{
+    match *finding {
+        FolderFinding::NoFolder(package) | FolderFinding::OtherArchive(package, _) => {
+            package.checksum
+        }
+        FolderFinding::Absent(_, folder, path) => digest_at(&folder.listed, path),
+        FolderFinding::OtherFile(_, _, file) => Some(*file.listed),
+        _ => None,
+    }
+}
+
+// The digest of the file at a path.
+fn digest_at(files: &BTreeMap<String, Checksum>, path: &str) -> Option<Checksum>
+    ensures { option_map digest_of result ≡ vendored.digest_at files.now path.now }
+{
+    files.get(path).copied()
+}

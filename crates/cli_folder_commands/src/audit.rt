@@ -1,0 +1,156 @@
+//! The command `audit`: which packages of a lockfile have a known vulnerability, by a folder of
+//! advisories.
+ghost use Rattle.std.specs.Prelude.{◌≡◌, IfOk, map};
+ghost use Rattle.std.specs.List.{list_any};
+ghost use Rattle.clap.specs.Matches.{found_of};
+ghost use Rattle.cargo_lock_audit.specs.Database.{AreInOrderOfIds};
+ghost use Rattle.cargo_lock_audit.specs.Findings.{advisory_finding_of};
+ghost use Rattle.cli_folder_commands.specs.Audit.{PrintsAudit, PrintsAuditOf, PrintsAuditReport};
+
+use crate::folders::folder;
+use crate::texts;
+use crate::verify::status_of;
+use cargo_lock::Lockfile;
+use cargo_lock::package::Package;
+use cargo_lock_audit::{Advisory, AdvisoryFile, Report, database_of};
+use cargo_lock_display::File;
+use clap::{Arg, ArgMatches, Command};
+use cli_folders::{advisory_files, database_fault};
+use cli_input::answer::print_answer;
+use cli_input::load::{file, named_lockfile};
+use cli_support::words::{any_size, json};
+use cli_support::{Fault, words};
+use std::alloc::{AllocError, Global};
+use std::io::{Input, Write};
+use std::process::ExitCode;
+use std::rt::Files;
+
+/// The lines of `audit`, as help shows them.
+const AUDIT_HELP: &str = "\
+Each advisory that concerns a package of crates.io has a line, for each such package:
+  ! NAME VERSION SRC: ID: TITLE; patched REQUIREMENT or REQUIREMENT
+  ? NAME VERSION SRC: ID: KIND: TITLE               it is informational, as `unmaintained`
+  - ID: nothing to ignore                           no package has this advisory
+
+An advisory concerns a package with its name whose version lies in none of the requirements of \
+`patched` and `unaffected`, by the precedence of SemVer: `1.6.1-rc.1` is before `1.6.1`. One that \
+was withdrawn concerns none.
+
+FOLDER is like a checkout of the database of RustSec: an advisory is a file \
+FOLDER/crates/NAME/RUSTSEC-*.md. Only folders of names in the lockfile are read. If one of their \
+advisories does not read, nothing else is printed.
+
+The status is 1 where a line begins with `!`, and 2 where the lockfile, a folder or an advisory \
+cannot be read.";
+
+/// The options, as help shows them.
+const DATABASE_HELP: &str = "The folder of the advisories";
+
+const IGNORE_HELP: &str = "Leaves out this advisory, and others that are given so";
+
+const DENY_HELP: &str = "Counts informational advisories of this kind as vulnerabilities";
+
+/// The parser of this command: its options.
+pub fn command<'a>(alloc: Global) -> Result<Command<'a>, AllocError> {
+    Command::new(alloc, "audit")
+        .about("Prints the advisories that concern packages of a lockfile")
+        .after_help(AUDIT_HELP)
+        .arg(words::file(alloc))?
+        .arg(any_size(alloc)?)?
+        .arg(database_option(alloc))?
+        .arg(texts::option(alloc, "ignore", "ID").help(IGNORE_HELP))?
+        .arg(texts::option(alloc, "deny", "KIND").help(DENY_HELP))?
+        .arg(json(alloc)?)
+}
+
+/// The option for the folder of the advisories.
+fn database_option<'a>(alloc: Global) -> Arg<'a> {
+    folder(alloc, "db").help(DATABASE_HELP).required(true)
+}
+
+/// Prints which advisories concern packages of the lockfile, a line for each, or, if the arguments
+/// ask for it, all as one line of JSON. The status is 1 if one of them is a vulnerability or of a
+/// kind that is denied, and otherwise 0. Fails if the lockfile, a folder or an advisory is not read,
+/// or if `out` fails; a prefix of the text was then written in the last case, and nothing in the
+/// others.
+pub fn run<R: Files + Input + AllocGlobal, W: Write>(
+    rt: &R,
+    options: &ArgMatches<'_>,
+    out: &mut W,
+) -> Result<ExitCode, Fault>
+    ensures { IfOk result (λ status. PrintsAudit (found_of options.now)
+        (W.contents out.old) (W.contents out.new)
+        (status ≡ ExitCode.FAILURE) (status ≡ ExitCode.SUCCESS)) }
+{
+    let lockfile = named_lockfile(rt, options, "file")?;
+    let file = file(options, "file", &lockfile);
+    print_audit(rt, options, &file, &lockfile, out)
+}
+
+/// Prints which advisories concern packages of this lockfile. Returns the status.
+fn print_audit<R: Files + AllocGlobal, W: Write>(
+    rt: &R,
+    options: &ArgMatches<'_>,
+    file: &File<'_>,
+    lockfile: &Lockfile,
+    out: &mut W,
+) -> Result<ExitCode, Fault>
+    ensures { IfOk result (λ status. PrintsAuditOf (found_of options.now) file.now
+        lockfile.now.packages (W.contents out.old) (W.contents out.new)
+        (status ≡ ExitCode.FAILURE) (status ≡ ExitCode.SUCCESS)) }
+{
+    let packages = lockfile.packages.as_slice();
+    let advisories = advisories_about(rt, options.get_str("db").unwrap_or(""), packages)?;
+    print_report(rt.alloc(), options, file, packages, &advisories, out)
+}
+
+/// The advisories in a folder about packages with the name of one of these, in the order of their
+/// ids.
+fn advisories_about<R: Files + AllocGlobal>(
+    rt: &R,
+    folder: &str,
+    packages: &[Package],
+) -> Result<Vec<Advisory>, Fault>
+    ensures { IfOk result (λ advisories. AreInOrderOfIds advisories.items) }
+{
+    let files = advisory_files(rt, folder, packages)?;
+    advisories_of(rt.alloc(), files)
+}
+
+/// The advisories of files, in the order of their ids.
+fn advisories_of(alloc: Global, files: Vec<AdvisoryFile>) -> Result<Vec<Advisory>, Fault>
+    ensures { IfOk result (λ advisories. AreInOrderOfIds advisories.items) }
+{
+    match database_of(alloc, files) {
+        Ok(advisories) => Ok(advisories),
+        Err(fault) => Err(database_fault(alloc, &fault)),
+    }
+}
+
+/// Prints which of these advisories concern packages. Returns the status.
+fn print_report<W: Write>(
+    alloc: Global,
+    options: &ArgMatches<'_>,
+    file: &File<'_>,
+    packages: &[Package],
+    advisories: &[Advisory],
+    out: &mut W,
+) -> Result<ExitCode, Fault>
+    ensures { IfOk result (λ status. PrintsAuditReport (found_of options.now) file.now packages.now
+        advisories.now (W.contents out.old) (W.contents out.new)
+        (status ≡ ExitCode.FAILURE) (status ≡ ExitCode.SUCCESS)) }
+{
+    let ignored = texts::given(alloc, options, "ignore")?;
+    let denied = texts::given(alloc, options, "deny")?;
+    let report = Report::of(alloc, packages, advisories, &ignored, &denied)?;
+    print_answer(alloc, options, file, &report, out)?;
+    Ok(status_of(!is_denied(&report)))
+}
+
+/// Whether a finding is denied.
+fn is_denied(report: &Report<'_, '_, '_>) -> bool
+    ensures { result ≡ list_any (λ f. f.is_denied)
+        (map advisory_finding_of report.now.findings.items) }
+{
+    report.is_denied()
+}

@@ -1,0 +1,147 @@
+//! The licence expressions that a bill has of packages, by their manifests in a folder.
+ghost use Rattle.std.specs.Prelude.{◌≡◌, IfOk, Some, codes, map, option_map, string_bytes, true};
+ghost use Rattle.std.specs.List.{AllZip};
+ghost use Rattle.clap.specs.Matches.{first_value, found_of};
+ghost use Rattle.cargo_lock_licenses.specs.Grammar.{IsExpression, Tree};
+ghost use Rattle.cargo_lock_licenses.specs.Printed.{printed};
+ghost use Rattle.cargo_lock_licenses.specs.Subjects.{license_subject_of};
+ghost use Rattle.cargo_lock_licenses.specs.Tokens.{tokens};
+ghost use Rattle.cargo_lock_licenses.specs.Verdicts.{verdict_of};
+ghost use Rattle.cli_folder_commands.specs.BillLicenses.{AreLicensesBy, AreLicensesOf, IsLicense};
+ghost use Rattle.cli_folder_commands.specs.BillLicenses.{IsLicenseIf};
+ghost use Rattle.cli_folder_commands.specs.BillLicenses.{IsReadable};
+ghost use Rattle.cli_folder_commands.specs.BillLicenses as spec;
+ghost use Rattle.cli_folder_commands.specs.Licenses.{AreLicensed};
+
+use crate::folders::folder;
+use crate::licenses::licensed;
+use cargo_lock::package::Package;
+use cargo_lock_licenses::{Expression, Subject, Verdict};
+use clap::{Arg, ArgMatches};
+use cli_folders::{Entries, Manifests, Vendor};
+use cli_support::Fault;
+use std::alloc::{AllocError, Global};
+use std::rt::Files;
+
+/// The option, as help shows it.
+const LICENSES_HELP: &str = "Adds licences, by a folder of `cargo vendor` or of unpacked archives";
+
+/// The option for the folder of manifests.
+pub(crate) fn option<'a>(alloc: Global) -> Arg<'a> {
+    folder(alloc, "licenses").help(LICENSES_HELP)
+}
+
+/// The licence expressions of these packages, in their order, if the arguments name a folder of
+/// manifests, and an empty list if they name none. Fails if the folder or a manifest is not read.
+pub(crate) fn asked<R: Files + AllocGlobal>(
+    rt: &R,
+    options: &ArgMatches<'_>,
+    packages: &[Package],
+) -> Result<Vec<Option<String>>, Fault>
+    ensures { IfOk result (λ licenses. AreLicensesBy
+        (first_value (found_of options.now) (codes "licenses")) packages.now
+        (map (option_map string_bytes) licenses.items)) }
+{
+    match options.get_str("licenses") {
+        Some(folder) => licenses_in(rt, folder, packages),
+        None => Ok(Vec::new(rt.alloc())),
+    }
+}
+
+/// The licence expressions of these packages, by their manifests in a folder.
+fn licenses_in<R: Files + AllocGlobal>(
+    rt: &R,
+    folder: &str,
+    packages: &[Package],
+) -> Result<Vec<Option<String>>, Fault>
+    ensures { IfOk result (λ licenses. AreLicensesOf packages.now
+        (map (option_map string_bytes) licenses.items)) }
+{
+    let subjects = subjects_in(rt, folder, packages)?;
+    let licenses = licenses_of(rt.alloc(), &subjects)?;
+    Ok(licenses)
+}
+
+/// The packages, each with what its manifests say in a folder that `cargo vendor` made or in one of
+/// unpacked archives.
+fn subjects_in<'a, R: Files + AllocGlobal>(
+    rt: &R,
+    folder: &str,
+    packages: &'a [Package],
+) -> Result<Vec<Subject<'a>>, Fault>
+    ensures { IfOk result
+        (λ subjects. AreLicensed packages.now (map license_subject_of subjects.items)) }
+{
+    let manifests = manifests_in(rt, folder)?;
+    licensed(rt, &manifests, packages)
+}
+
+/// The manifests in a folder. Where folders in the folder have manifests, as `cargo vendor` leaves
+/// them, they are found by name and version, and otherwise by the name of the unpacked archive.
+fn manifests_in<R: Files + AllocGlobal>(rt: &R, folder: &str) -> Result<Manifests, Fault> {
+    let vendor = Vendor::of(rt, folder)?;
+    let entries = Entries::of(rt, folder)?;
+    if vendor.is_empty() {
+        Ok(Manifests::Unpacked(entries))
+    } else {
+        Ok(Manifests::Vendored(vendor))
+    }
+}
+
+/// The licence expressions of these subjects, in their order.
+fn licenses_of(alloc: Global, subjects: &[Subject<'_>]) -> Result<Vec<Option<String>>, AllocError>
+    ensures { IfOk result (λ licenses. AllZip IsLicense (map license_subject_of subjects.now)
+        (map (option_map string_bytes) licenses.items)) }
+{
+    let mut licenses = Vec::with_capacity(alloc, subjects.len())?;
+    for subject in subjects {
+        licenses.push(license_of(alloc, subject)?)?;
+    }
+    Ok(licenses)
+}
+
+/// The licence expression of a subject, if its package has a source and its manifests agree on one.
+fn license_of(alloc: Global, subject: &Subject<'_>) -> Result<Option<String>, AllocError>
+    ensures { IfOk result
+        (λ license. IsLicense (license_subject_of subject.now) (option_map string_bytes license)) }
+{
+    let package = subject.package;
+    if package.source.is_none() {
+        return Ok(None);
+    }
+    agreed(alloc, subject)
+}
+
+/// The licence expression on which the manifests of a subject agree, if they agree on one.
+fn agreed(alloc: Global, subject: &Subject<'_>) -> Result<Option<String>, AllocError>
+    ensures { IfOk result (λ license. IsLicenseIf true (license_subject_of subject.now)
+        (option_map string_bytes license)) }
+{
+    let verdict = Verdict::of(alloc, subject, &[])?;
+    expression_in(alloc, &verdict)
+}
+
+/// The expression of a verdict that has an allowed one, as it is printed.
+fn expression_in(alloc: Global, verdict: &Verdict<'_, '_>) -> Result<Option<String>, AllocError>
+    ensures { IfOk result (λ license. IsReadable (verdict_of verdict.now)
+        → option_map string_bytes license ≡ spec.expression_in (verdict_of verdict.now)) }
+{
+    match *verdict {
+        Verdict::Allowed(_, text) => printed_text(alloc, text),
+        Verdict::NotAllowed(_, _) | Verdict::NoExpression(_, _) | Verdict::OnlyFile(_, _) => {
+            Ok(None)
+        }
+        Verdict::NoLicense(_) | Verdict::NoManifest(_) | Verdict::Differ(_) => Ok(None),
+    }
+}
+
+/// The expression in a text, as it is printed, if the text is one.
+fn printed_text(alloc: Global, text: &str) -> Result<Option<String>, AllocError>
+    ensures { IfOk result (λ made. (e : Tree) → IsExpression text.now e
+        → option_map string_bytes made ≡ Some (printed (tokens text.now))) }
+{
+    match Expression::parse(alloc, text)? {
+        Some(expression) => Ok(Some(format!(in alloc; "{expression}")?)),
+        None => Ok(None),
+    }
+}

@@ -1,0 +1,220 @@
+//! The command `verify`: whether the archives of packages are those that a lockfile names, or the
+//! folders that `cargo vendor` made are as their lists say.
+ghost use Rattle.std.specs.Prelude.{◌≡◌, IfOk, false, map, true};
+ghost use Rattle.clap.specs.Matches.{found_of};
+ghost use Rattle.cargo_lock_verify.specs.Archives.{archive_subject_of};
+ghost use Rattle.cargo_lock_verify.specs.Vendored.{vendored_of};
+ghost use Rattle.cli_folder_commands.specs.Verify.{AreSubjectsOf, AreVendoredOf, PrintsReport};
+ghost use Rattle.cli_folder_commands.specs.Verify.{PrintsVendorReport, PrintsVerified, PrintsVerifiedOf};
+
+use crate::folders::{cache, check_folder, vendor};
+use cargo_lock::Lockfile;
+use cargo_lock::package::Package;
+use cargo_lock_display::File;
+use cargo_lock_verify::{Report, Subject, VendorReport, Vendored};
+use clap::{Arg, ArgMatches, Command};
+use cli_folders::{Entries, Vendor};
+use cli_input::answer::print_answer;
+use cli_input::load::{compared_lockfile, file};
+use cli_support::words::{any_size, json, long_flag};
+use cli_support::{Fault, words};
+use std::alloc::{AllocError, Global};
+use std::io::{Input, Write};
+use std::process::ExitCode;
+use std::rt::Files;
+
+/// The lines of `verify`, as help shows them.
+const VERIFY_HELP: &str = "\
+With --cache, the archive of a package is NAME-VERSION.crate, in FOLDER or in a folder in it. Each \
+package with a checksum has an archive with that SHA-256, or a line:
+  ! NAME VERSION SRC: `PATH` is DIGEST, not CHECKSUM    none has it, and this is one of them
+  - NAME VERSION SRC: no archive                        with --all
+Cargo compares an archive with its checksum once, when it downloads it.
+
+With --vendor, the folder of a package with a source is the one in FOLDER whose manifest has its \
+name and version. It is as its .cargo-checksum.json says, or there are lines:
+  - NAME VERSION SRC: no folder
+  ! NAME VERSION SRC: `FOLDER` has the archive DIGEST, not CHECKSUM
+  - NAME VERSION SRC: `FILE` is missing
+  ! NAME VERSION SRC: `FILE` is DIGEST, not DIGEST      the second is that of the list
+  + NAME VERSION SRC: `FILE` is not in the list
+  ! NAME VERSION SRC: `FILE` is a link
+That a folder is as its list says does not show that its files are those of the archive.
+
+The last line is how many packages are right. The status is 1 where a line is printed for a \
+package, and 2 where the lockfile, an archive or a folder cannot be read.";
+
+/// The options, as help shows them.
+const CACHE_HELP: &str = "The folder of the archives, as registry/cache of Cargo";
+
+const ALL_HELP: &str = "Reports packages without an archive too";
+
+/// The parser of this command: its options.
+pub fn command<'a>(alloc: Global) -> Result<Command<'a>, AllocError> {
+    Command::new(alloc, "verify")
+        .about("Compares archives, or vendored folders, with the checksums of a lockfile")
+        .after_help(VERIFY_HELP)
+        .arg(words::file(alloc))?
+        .arg(any_size(alloc)?)?
+        .arg(cache(alloc, CACHE_HELP))?
+        .arg(vendor(alloc)?)?
+        .arg(all(alloc)?)?
+        .arg(json(alloc)?)
+}
+
+/// The option to report packages without an archive.
+fn all<'a>(alloc: Global) -> Result<Arg<'a>, AllocError> {
+    long_flag(alloc, "all")?
+        .help(ALL_HELP)
+        .conflicts_with("vendor")
+}
+
+/// Prints which packages of the lockfile have no archive with their checksum, or no folder that is
+/// as its list says, and how many have one, or, if the arguments ask for it, all as one line of
+/// JSON. The status is 1 if something is found of a package, and otherwise 0. Fails if the arguments
+/// name no folder, if the lockfile, a folder or a file is not read, or if `out` fails; a prefix of
+/// the text was then written in the last case, and nothing in the others.
+pub fn run<R: Files + Input + AllocGlobal, W: Write>(
+    rt: &R,
+    options: &ArgMatches<'_>,
+    out: &mut W,
+) -> Result<ExitCode, Fault>
+    ensures { IfOk result (λ status. PrintsVerified (found_of options.now)
+        (W.contents out.old) (W.contents out.new)
+        (status ≡ ExitCode.FAILURE) (status ≡ ExitCode.SUCCESS)) }
+{
+    check_folder(options)?;
+    let lockfile = compared_lockfile(rt, options, "file")?;
+    let file = file(options, "file", &lockfile);
+    print_verified(rt, options, &file, &lockfile, out)
+}
+
+/// Prints what is found of these packages. Returns the status.
+fn print_verified<R: Files + AllocGlobal, W: Write>(
+    rt: &R,
+    options: &ArgMatches<'_>,
+    file: &File<'_>,
+    lockfile: &Lockfile,
+    out: &mut W,
+) -> Result<ExitCode, Fault>
+    ensures { IfOk result (λ status. PrintsVerifiedOf (found_of options.now) file.now
+        lockfile.now.packages (W.contents out.old) (W.contents out.new)
+        (status ≡ ExitCode.FAILURE) (status ≡ ExitCode.SUCCESS)) }
+{
+    match options.get_str("vendor") {
+        Some(folder) => {
+            let vendored = vendored_of(rt, folder, &lockfile.packages)?;
+            print_vendor_report(rt.alloc(), options, file, &vendored, out)
+        }
+        None => {
+            let subjects = subjects_of(rt, options, &lockfile.packages)?;
+            print_archive_report(rt.alloc(), options, file, &subjects, out)
+        }
+    }
+}
+
+/// The packages, each with its folders in a folder that `cargo vendor` made.
+fn vendored_of<'a, R: Files + AllocGlobal>(
+    rt: &R,
+    folder: &str,
+    packages: &'a [Package],
+) -> Result<Vec<Vendored<'a>>, Fault>
+    ensures { IfOk result
+        (λ vendored. AreVendoredOf packages.now (map vendored_of vendored.items)) }
+{
+    let vendor = Vendor::of(rt, folder)?;
+    vendored_with(rt, &vendor, packages)
+}
+
+/// The packages, each with its folders.
+fn vendored_with<'a, R: Files + AllocGlobal>(
+    rt: &R,
+    vendor: &Vendor,
+    packages: &'a [Package],
+) -> Result<Vec<Vendored<'a>>, Fault>
+    ensures { IfOk result
+        (λ vendored. AreVendoredOf packages.now (map vendored_of vendored.items)) }
+{
+    let mut vendored = Vec::with_capacity(rt.alloc(), packages.len())?;
+    for package in packages {
+        let folders = vendor.folders_of(rt, package)?;
+        vendored.push(Vendored { package, folders })?;
+    }
+    Ok(vendored)
+}
+
+/// Prints what is found of these folders. Returns the status.
+fn print_vendor_report<W: Write>(
+    alloc: Global,
+    options: &ArgMatches<'_>,
+    file: &File<'_>,
+    vendored: &[Vendored<'_>],
+    out: &mut W,
+) -> Result<ExitCode, Fault>
+    ensures { IfOk result (λ status. PrintsVendorReport (found_of options.now) file.now
+        (map vendored_of vendored.now) (W.contents out.old) (W.contents out.new)
+        (status ≡ ExitCode.FAILURE) (status ≡ ExitCode.SUCCESS)) }
+{
+    let report = VendorReport::of(alloc, vendored)?;
+    print_answer(alloc, options, file, &report, out)?;
+    Ok(status_of(report.findings.is_empty()))
+}
+
+/// The packages, each with its archives in the folder that the arguments name.
+fn subjects_of<'a, R: Files + AllocGlobal>(
+    rt: &R,
+    options: &ArgMatches<'_>,
+    packages: &'a [Package],
+) -> Result<Vec<Subject<'a>>, Fault>
+    ensures { IfOk result
+        (λ subjects. AreSubjectsOf packages.now (map archive_subject_of subjects.items)) }
+{
+    let entries = Entries::of(rt, options.get_str("cache").unwrap_or(""))?;
+    subjects_with(rt, &entries, packages)
+}
+
+/// The packages, each with its archives.
+fn subjects_with<'a, R: Files + AllocGlobal>(
+    rt: &R,
+    entries: &Entries,
+    packages: &'a [Package],
+) -> Result<Vec<Subject<'a>>, Fault>
+    ensures { IfOk result
+        (λ subjects. AreSubjectsOf packages.now (map archive_subject_of subjects.items)) }
+{
+    let mut subjects = Vec::with_capacity(rt.alloc(), packages.len())?;
+    for package in packages {
+        let archives = entries.archives_of(rt, package)?;
+        subjects.push(Subject { package, archives })?;
+    }
+    Ok(subjects)
+}
+
+/// Prints what is found of these subjects. Returns the status.
+fn print_archive_report<W: Write>(
+    alloc: Global,
+    options: &ArgMatches<'_>,
+    file: &File<'_>,
+    subjects: &[Subject<'_>],
+    out: &mut W,
+) -> Result<ExitCode, Fault>
+    ensures { IfOk result (λ status. PrintsReport (found_of options.now) file.now
+        (map archive_subject_of subjects.now) (W.contents out.old) (W.contents out.new)
+        (status ≡ ExitCode.FAILURE) (status ≡ ExitCode.SUCCESS)) }
+{
+    let report = Report::of(alloc, subjects, options.get_flag("all"))?;
+    print_answer(alloc, options, file, &report, out)?;
+    Ok(status_of(report.findings.is_empty()))
+}
+
+/// The status where nothing is found, or something.
+pub(crate) fn status_of(is_quiet: bool) -> ExitCode
+    ensures quiet { is_quiet ≡ true → result ≡ ExitCode.SUCCESS }
+    ensures found { is_quiet ≡ false → result ≡ ExitCode.FAILURE }
+{
+    if is_quiet {
+        ExitCode::SUCCESS
+    } else {
+        ExitCode::FAILURE
+    }
+}

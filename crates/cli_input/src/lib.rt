@@ -1,0 +1,7 @@
+//! The lockfiles that the arguments of the program `cargo-lock` name, the packages in them that its
+//! arguments name, and how an answer about a lockfile is printed.
+#![tactic(auto)]
+
+pub mod answer;
+pub mod load;
+pub mod spec;

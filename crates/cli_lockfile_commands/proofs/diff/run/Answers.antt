@@ -1,0 +1,12 @@
+use Rattle.cli_support.proofs.Writes.{if_ok_weaken}
+use Rattle.cli_lockfile_commands.proofs.diff.run.Goals as goal
+
+pub returns : goal.returns
+returns g c =
+    if_ok_weaken c.report.result _ _ (λ status told. (
+      c.in_ok-old.old,
+      c.in_ok-new.new,
+      c.in_ok-old.ensures,
+      c.in_ok-new.ensures,
+      told,
+    )) c.report.ensures

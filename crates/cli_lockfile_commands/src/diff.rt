@@ -1,0 +1,214 @@
+//! The command `diff`: what differs between the packages of two lockfiles.
+ghost use Rattle.std.specs.Prelude.{◌≡◌, IfOk, Some, map};
+ghost use Rattle.std.specs.Fmt.{DisplaysOnOk};
+ghost use Rattle.clap.specs.Matches.{found_of};
+ghost use Rattle.cargo_lock_diff.specs.Change.{change_of, changes_text};
+ghost use Rattle.cli_lockfile_commands.specs.Diff.{IsStatus, IsTold, PrintsChanges};
+ghost use Rattle.cli_lockfile_commands.specs.Diff.{PrintsDifference, PrintsDifferenceOf, last_line};
+
+use cargo_lock::Lockfile;
+use cargo_lock_diff::{Change, Difference, Summary, difference_json};
+use cargo_lock_display::File;
+use clap::{Arg, ArgAction, ArgMatches, Command};
+use cli_input::answer::{Answer, print_answer};
+use cli_input::load::{compared_lockfile, file};
+use cli_support::Fault;
+use cli_support::words::{any_size, flag, is_standard, json, long_flag};
+use std::alloc::{AllocError, Global};
+use std::fmt;
+use std::io::{Input, Write};
+use std::process::ExitCode;
+use std::rt::Files;
+
+/// The lines of `diff`, as help shows them.
+const DIFF_HELP: &str = "\
+Each change is a line, in this order:
+  ! NAME VERSION SRC: checksum OLD -> NEW     an alarm: one version with another archive
+  > NAME VERSION: SRC -> SRC                  another source
+  ? NAME VERSION SRC: checksum none -> NEW    a checksum that was not there
+  @ NAME VERSION SRC: replacement OLD -> NEW  another replacement
+  ~ NAME OLD -> NEW                           another version, (downgrade) if an earlier one
+  - NAME VERSION SRC                          a package only in OLD
+  + NAME VERSION SRC                          a package only in NEW
+  = NAME VERSION SRC: - DEP + DEP             other dependencies, with -d
+SRC is in round brackets: (path) for a package without a source, and nothing for crates.io. The last \
+line counts the changes. The order of the packages and the format do not matter. No lockfile says \
+whether a version was yanked.
+
+The status is 1 where there is an alarm, and with --exit-code where anything is printed. It is 2 \
+where a lockfile cannot be read.";
+
+/// The two arguments, as help shows them.
+const OLD_HELP: &str = "The old lockfile, - for standard input";
+
+const NEW_HELP: &str = "The new lockfile, - for standard input";
+
+/// The parser of this command: its options and the paths of two lockfiles.
+pub fn command<'a>(alloc: Global) -> Result<Command<'a>, AllocError> {
+    Command::new(alloc, "diff")
+        .about("Shows what differs between the packages of two lockfiles")
+        .after_help(DIFF_HELP)
+        .arg(path(alloc, "old", "OLD").help(OLD_HELP))?
+        .arg(path(alloc, "new", "NEW").help(NEW_HELP))?
+        .arg(any_size(alloc)?)?
+        .arg(flag(alloc, "dependencies", 'd')?.help("Shows other dependencies of packages too"))?
+        .arg(long_flag(alloc, "exit-code")?.help(
+            "Ends with status 1 where anything differs, dependencies only with -d",
+        ))?
+        .arg(json(alloc)?)
+}
+
+/// The path of a lockfile, which help shows as `shown`.
+fn path<'a>(alloc: Global, name: &'a str, shown: &'a str) -> Arg<'a> {
+    Arg::new(alloc, name)
+        .value_name(shown)
+        .required(true)
+        .action(ArgAction::Set)
+}
+
+/// Prints what differs between the packages of two lockfiles, a line for each change, and if the
+/// arguments ask for it also what differs between their dependencies, or all as one line of JSON.
+/// The status is 1 if there is an alarm, or, if the arguments ask for it, if anything differs.
+/// Otherwise it is 0. Fails if a lockfile is not read or `out` fails; a prefix of the text was then
+/// written in the last case, and nothing in the others.
+pub fn run<R: Files + Input + AllocGlobal, W: Write>(
+    rt: &R,
+    options: &ArgMatches<'_>,
+    out: &mut W,
+) -> Result<ExitCode, Fault>
+    ensures { IfOk result (λ status. PrintsDifference (found_of options.now)
+        (W.contents out.old) (W.contents out.new)
+        (status ≡ ExitCode.FAILURE) (status ≡ ExitCode.SUCCESS)) }
+{
+    if is_standard(options, "old") && is_standard(options, "new") {
+        return Err(Fault::OneInput);
+    }
+    let old = compared_lockfile(rt, options, "old")?;
+    let new = compared_lockfile(rt, options, "new")?;
+    report(rt.alloc(), options, &old, &new, out)
+}
+
+/// Prints what differs between the packages of two lockfiles. Returns the status.
+fn report<W: Write>(
+    alloc: Global,
+    options: &ArgMatches<'_>,
+    old: &Lockfile,
+    new: &Lockfile,
+    out: &mut W,
+) -> Result<ExitCode, Fault>
+    ensures { IfOk result (λ status. PrintsDifferenceOf (found_of options.now) old.now new.now
+        (W.contents out.old) (W.contents out.new)
+        (status ≡ ExitCode.FAILURE) (status ≡ ExitCode.SUCCESS)) }
+{
+    let difference = Difference::of(alloc, &old.packages, &new.packages)?;
+    let before = file(options, "old", old);
+    let after = file(options, "new", new);
+    report_changes(alloc, options, &before, &after, &difference, out)
+}
+
+/// Prints the changes of a difference. Returns the status.
+fn report_changes<W: Write>(
+    alloc: Global,
+    options: &ArgMatches<'_>,
+    before: &File<'_>,
+    after: &File<'_>,
+    difference: &Difference<'_>,
+    out: &mut W,
+) -> Result<ExitCode, Fault>
+    ensures { IfOk result (λ status. PrintsChanges (found_of options.now) before.now after.now
+        difference.now (W.contents out.old) (W.contents out.new)
+        (status ≡ ExitCode.FAILURE) (status ≡ ExitCode.SUCCESS)) }
+{
+    let changes = changes(alloc, options, difference)?;
+    let told = Told {
+        before,
+        changes: &changes,
+    };
+    print_answer(alloc, options, after, &told, out)?;
+    Ok(status(options, difference, &changes))
+}
+
+/// The changes that the arguments ask for: those of packages, and then those of dependencies.
+fn changes<'d>(
+    alloc: Global,
+    options: &ArgMatches<'_>,
+    difference: &'d Difference<'_>,
+) -> Result<Vec<Change<'d>>, Fault>
+    ensures { IfOk result (λ changes. IsTold (found_of options.now) difference.now
+        (map change_of changes.items)) }
+{
+    let changes = difference.all_changes(alloc, options.get_flag("dependencies"))?;
+    Ok(changes)
+}
+
+/// The changes that are printed, and the lockfile before them. `Display` writes the changes in their
+/// order, and then how many of each kind there are.
+#[derive(Clone, Copy)]
+struct Told<'a, 'b, 'd> {
+    before: &'a File<'b>,
+    changes: &'a [Change<'d>],
+}
+
+impl fmt::Display for Told<'_, '_, '_> {
+    ghost use Rattle.std.specs.Prelude.{Some, map};
+    ghost use Rattle.cargo_lock_diff.specs.Change.{change_of};
+    ghost use Rattle.cli_lockfile_commands.specs.Diff.{told_text};
+
+    ghost output = { λ told. Some (told_text (map change_of told.changes.now)) };
+
+    fn fmt<W: fmt::Write>(&self, f: &mut fmt::Formatter<W>) -> fmt::Result {
+        write_changes(self.changes, f)?;
+        write_last_line(self.changes, f)
+    }
+}
+
+impl Answer for Told<'_, '_, '_> {
+    ghost use Rattle.std.specs.Prelude.{map};
+    ghost use Rattle.cargo_lock_diff.specs.Change.{change_of};
+    ghost use Rattle.cargo_lock_diff.specs.Document.{difference_json};
+
+    ghost json = { λ after told.
+        difference_json told.before.now after (map change_of told.changes.now) };
+
+    fn document(&self, alloc: Global, after: &File<'_>) -> Result<String, AllocError> {
+        difference_json(alloc, self.before, after, self.changes)
+    }
+}
+
+/// Writes the changes in their order.
+fn write_changes<W: fmt::Write>(changes: &[Change<'_>], f: &mut fmt::Formatter<W>) -> fmt::Result
+    ensures { DisplaysOnOk W.write_str_gives f.old result
+        (Some (changes_text (map change_of changes.now))) f.new }
+{
+    for change in changes {
+        write!(f, "{change}\n")?;
+    }
+    Ok(())
+}
+
+/// Writes how many changes of each kind there are, if there are any.
+fn write_last_line<W: fmt::Write>(changes: &[Change<'_>], f: &mut fmt::Formatter<W>) -> fmt::Result
+    ensures { DisplaysOnOk W.write_str_gives f.old result
+        (Some (last_line (map change_of changes.now))) f.new }
+{
+    if changes.is_empty() {
+        return Ok(());
+    }
+    let summary = Summary::of(changes);
+    write!(f, "{summary}\n")
+}
+
+/// The status for a difference and the changes that are printed.
+fn status(options: &ArgMatches<'_>, difference: &Difference<'_>, changes: &[Change<'_>]) -> ExitCode
+    ensures { IsStatus (found_of options.now) difference.now (map change_of changes.now)
+        (result ≡ ExitCode.FAILURE) (result ≡ ExitCode.SUCCESS) }
+{
+    if difference.has_alarm() {
+        return ExitCode::FAILURE;
+    }
+    if options.get_flag("exit-code") && !changes.is_empty() {
+        ExitCode::FAILURE
+    } else {
+        ExitCode::SUCCESS
+    }
+}

@@ -1,7 +1,0 @@
-use Rattle.std.proofs.Common.{◌∙◌}
-use Rattle.clap.proofs.WalkLemmas.{list_any-map}
-use Rattle.cargo_lock_audit.specs.Findings.{FindingData, finding_of}
-use Rattle.cli_tools.proofs.audit.is_denied.Goals as goal
-
-pub returns : goal.returns
-returns c = c.is_denied.ensures ∙ list_any-map (λ (f : FindingData). f.is_denied) finding_of c.args.report.now.findings.items

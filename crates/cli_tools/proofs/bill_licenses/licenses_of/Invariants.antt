@@ -1,9 +1,0 @@
-use Rattle.std.proofs.Common.{map, option_map, string_bytes, take}
-use Rattle.std.specs.List.{AllZip}
-use Rattle.cargo_lock_licenses.specs.Subjects.{subject_of}
-use Rattle.cli_tools.specs.BillLicenses.{IsLicense}
-use Rattle.cli_tools.proofs.bill_licenses.licenses_of.Given as goal
-
--- the licence expressions of the subjects so far
-abbrev pub invariant-loop-subject : goal.invariant-loop-subject
-invariant-loop-subject l = AllZip IsLicense (map subject_of (take l.subject-index l.subjects)) (map (option_map string_bytes) l.licenses.items)

@@ -1,7 +1,0 @@
-use Rattle.std.proofs.Common.{◌≡◌, map, take}
-use Rattle.cargo_lock_licenses.specs.Subjects.{subject_of}
-use Rattle.cli_tools.proofs.licenses.cached_with.Given as goal
-
--- the packages so far
-abbrev pub invariant-loop-package : goal.invariant-loop-package
-invariant-loop-package g l = map (λ s. s.content) (map subject_of l.subjects.items) ≡ take l.package-index l.packages

@@ -1,0 +1,10 @@
+pub mod Showing
+pub mod Printable
+pub mod Apart
+pub mod LinesOf
+pub mod Drafts
+pub mod Behind
+pub mod Arrays
+pub mod OneLine
+pub mod Texts
+pub mod Depth
