@@ -1,6 +1,6 @@
 //! The files of a database of advisories.
 
-use crate::files::{is_file, names_in, path_of, text_at};
+use crate::files::{Entry, names_in, path_of, target_at, text_at};
 use cargo_lock_audit::{Advisory, AdvisoryFile, DatabaseFault};
 use cargo_lock_parts::Error;
 use cargo_lock_parts::package::Package;
@@ -76,7 +76,7 @@ fn put_file<R: Files + AllocGlobal>(
     folder: &str,
     path: String,
 ) -> Result<(), Fault> {
-    if !is_file(rt, &path) {
+    if target_at(rt, &path)? != Some(Entry::File) {
         return Ok(());
     }
     let text = text_at(rt, &path)?;

@@ -2,7 +2,7 @@
 
 ghost use Rattle.std.specs.Prelude.{◌≡◌, [], IfOk, None};
 
-use crate::files::{digest_at, fault_at, is_file, is_folder, names_in, path_of};
+use crate::files::{Entry, digest_at, fault_at, names_in, path_of, target_at};
 use cargo_lock_parts::package::Package;
 use cargo_lock_verify::Archive;
 use cli_support::Fault;
@@ -37,7 +37,7 @@ impl Entries {
         path: String,
         name: &str,
     ) -> Result<(), Fault> {
-        if is_folder(rt, &path) {
+        if target_at(rt, &path)? == Some(Entry::Folder) {
             self.put_all(rt, &path)?;
         }
         self.put(rt.alloc(), name, path)?;
@@ -129,7 +129,7 @@ fn put_archive<R: Files + AllocGlobal>(
     path: &str,
     archives: &mut Vec<Archive>,
 ) -> Result<(), Fault> {
-    if !is_file(rt, path) {
+    if target_at(rt, path)? != Some(Entry::File) {
         return Ok(());
     }
     match digest_at(rt, path) {

@@ -1,6 +1,6 @@
 //! The manifests of packages.
 
-use crate::files::{fault_of, is_file_and_no_link, path_of, text_at};
+use crate::files::{Entry, entry_at, fault_of, path_of, text_at};
 use cargo_lock_licenses::Manifest;
 use cargo_lock_parts::Error;
 use cli_support::Fault;
@@ -41,7 +41,7 @@ pub(crate) fn put_manifest<R: Files + AllocGlobal>(
     folder: &str,
 ) -> Result<(), Fault> {
     let path = manifest_path(rt.alloc(), folder)?;
-    if is_file_and_no_link(rt, &path) {
+    if entry_at(rt, &path)? == Some(Entry::File) {
         let manifest = manifest_at(rt, &path)?;
         manifests.push(manifest)?;
     }

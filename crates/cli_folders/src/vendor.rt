@@ -3,7 +3,7 @@
 ghost use Rattle.std.specs.Prelude.{◌≡◌, [], IfOk, None};
 
 use crate::files::{
-    all_names_in, digest_at, fault_at, fault_of, is_file_and_no_link, names_in, path_of, text_at,
+    Entry, all_names_in, digest_at, entry_at, fault_at, fault_of, names_in, path_of, text_at,
 };
 use crate::manifest::{manifest_path, table_at, text_in};
 use cargo_lock_parts::Error;
@@ -13,8 +13,6 @@ use cli_support::Fault;
 use serde_json::{Category, Value};
 use std::alloc::{AllocError, Global};
 use std::collections::BTreeMap;
-use std::fs;
-use std::path::Path;
 use std::rt::Files;
 use toml::Table;
 
@@ -47,7 +45,9 @@ impl Vendor {
     /// Adds what is at a path, if it is a folder with a manifest.
     fn put<R: Files + AllocGlobal>(&mut self, rt: &R, path: String) -> Result<(), Fault> {
         let manifest = manifest_path(rt.alloc(), &path)?;
-        if kind_at(rt, &path)? != Kind::Folder || !is_file_and_no_link(rt, &manifest) {
+        if entry_at(rt, &path)? != Some(Entry::Folder)
+            || entry_at(rt, &manifest)? != Some(Entry::File)
+        {
             return Ok(());
         }
         match identity_at(rt, &manifest)? {
@@ -129,33 +129,6 @@ fn identity_in(alloc: Global, manifest: &Table) -> Result<Option<String>, AllocE
 
 // ---- a folder
 
-/// What is at a path.
-#[derive(Clone, Copy, PartialEq, Eq)]
-enum Kind {
-    /// A file.
-    File,
-
-    /// A folder.
-    Folder,
-
-    /// A link.
-    Link,
-
-    /// Nothing of these.
-    Other,
-}
-
-/// What is at a path. A link is not followed.
-fn kind_at<R: Files + AllocGlobal>(rt: &R, path: &str) -> Result<Kind, Fault> {
-    match fs::symlink_metadata(rt, Path::new(path)) {
-        Ok(found) if found.is_file() => Ok(Kind::File),
-        Ok(found) if found.is_dir() => Ok(Kind::Folder),
-        Ok(found) if found.is_symlink() => Ok(Kind::Link),
-        Ok(_) => Ok(Kind::Other),
-        Err(error) => Err(fault_at(rt.alloc(), path, error)),
-    }
-}
-
 /// The list of the folder at a path, and the files and links in it.
 fn folder_at<R: Files + AllocGlobal>(rt: &R, path: &str) -> Result<Folder, Fault> {
     let mut folder = Folder {
@@ -217,12 +190,12 @@ fn put_at<R: Files + AllocGlobal>(
     path: String,
 ) -> Result<(), Fault> {
     let at = path_of(rt.alloc(), &folder.path, &path)?;
-    match kind_at(rt, &at)? {
-        Kind::Folder => waiting.push(path)?,
-        Kind::Link => folder.links.push(path)?,
-        Kind::File if path.as_str() == LIST => {}
-        Kind::File => put_file(rt, folder, path, &at)?,
-        Kind::Other => return Err(fault_of(rt.alloc(), &at, "it is no file")),
+    match entry_at(rt, &at)? {
+        Some(Entry::Folder) => waiting.push(path)?,
+        Some(Entry::Link) => folder.links.push(path)?,
+        Some(Entry::File) if path.as_str() == LIST => {}
+        Some(Entry::File) => put_file(rt, folder, path, &at)?,
+        _ => return Err(fault_of(rt.alloc(), &at, "it is no file")),
     }
     Ok(())
 }
@@ -248,7 +221,7 @@ fn put_file<R: Files + AllocGlobal>(
 /// Adds what the list of the folder says.
 fn put_list<R: Files + AllocGlobal>(rt: &R, folder: &mut Folder) -> Result<(), Fault> {
     let path = path_of(rt.alloc(), &folder.path, LIST)?;
-    if kind_at(rt, &path)? != Kind::File {
+    if entry_at(rt, &path)? != Some(Entry::File) {
         return Err(fault_of(rt.alloc(), &path, "it is no file"));
     }
     let text = text_at(rt, &path)?;
