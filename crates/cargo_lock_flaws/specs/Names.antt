@@ -16,14 +16,18 @@ use Rattle.cargo_lock_graph.specs.Targets.{HoldsOf}
 abbrev pub may_begin : ℕ → Bool
 may_begin c = c == underscore || is_xid_start c
 
--- the character may follow in a name: `-`, or one that follows in an identifier (XID_Continue)
-abbrev pub may_follow : ℕ → Bool
-may_follow c = c == hyphen || is_xid_continue c
+-- the first of these characters may begin a name
+abbrev pub begins_name : List ℕ → Bool
+begins_name [] = false
+begins_name (c ∷ cs) = may_begin c
+
+-- the character may be in a name: `-`, or one that is in identifiers (XID_Continue)
+abbrev pub may_be_in_name : ℕ → Bool
+may_be_in_name c = c == hyphen || is_xid_continue c
 
 -- these are the characters of a name that Cargo accepts
 abbrev pub is_cargo_name : List ℕ → Bool
-is_cargo_name [] = false
-is_cargo_name (c ∷ cs) = may_begin c && list_all may_follow cs
+is_cargo_name characters = begins_name characters && list_all may_be_in_name characters
 
 -- the source is crates.io
 abbrev pub is_crates_io : Option Source → Bool

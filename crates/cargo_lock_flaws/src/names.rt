@@ -6,7 +6,8 @@ ghost use Rattle.std.specs.Char.{is_ascii};
 ghost use Rattle.std.specs.List.{list_all};
 ghost use Rattle.std.specs.Str.{chars};
 ghost use Rattle.cargo_lock_flaws.specs.Names.{IsBadlyNamed, is_cargo_name, is_crates_io};
-ghost use Rattle.cargo_lock_flaws.specs.Names.{is_well_named, may_begin, may_follow};
+ghost use Rattle.cargo_lock_flaws.specs.Names.{begins_name, is_well_named, may_be_in_name};
+ghost use Rattle.cargo_lock_flaws.specs.Names.{may_begin};
 ghost use Rattle.lists.specs.Places.{IsPlaces};
 
 use cargo_lock_parts::package::{Package, SourceId};
@@ -69,9 +70,22 @@ fn is_crates_io(source: &Option<SourceId>) -> bool
 pub fn is_cargo_name(name: &str) -> bool
     ensures { result ≡ is_cargo_name (chars name.now) }
 {
-    let mut rest = name.chars();
-    match rest.next() {
-        Some(first) => may_begin(first) && rest.all(may_follow),
+    begins_name(name) && has_name_characters(name)
+}
+
+// Whether each character may be in a name.
+fn has_name_characters(name: &str) -> bool
+    ensures { result ≡ list_all may_be_in_name (chars name.now) }
+{
+    name.chars().all(may_be_in_name)
+}
+
+// Whether the first character may begin a name.
+fn begins_name(name: &str) -> bool
+    ensures { result ≡ begins_name (chars name.now) }
+{
+    match name.chars().next() {
+        Some(first) => may_begin(first),
         None => false,
     }
 }
@@ -82,8 +96,8 @@ fn may_begin(c: char) -> bool
     c == '_' || is_xid_start(c)
 }
 
-fn may_follow(c: char) -> bool
-    ensures { result ≡ may_follow c }
+fn may_be_in_name(c: char) -> bool
+    ensures { result ≡ may_be_in_name c }
 {
     c == '-' || is_xid_continue(c)
 }
