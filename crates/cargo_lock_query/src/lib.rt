@@ -22,7 +22,7 @@ pub use crate::duplicates_document::groups_json;
 pub use crate::lines::{Answer, needers_of_chain};
 pub use crate::listing::{Row, Rows};
 pub use crate::need::needers;
-pub use crate::reason::{members, why, why_each};
+pub use crate::reason::{why, why_each};
 pub use crate::repeated::{Duplicate, duplicates};
 pub use crate::spec::fitting;
 pub use crate::tally::Listing;

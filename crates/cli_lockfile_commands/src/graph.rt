@@ -12,7 +12,7 @@ use cargo_lock::Package;
 use cargo_lock::dependency::graph::{Graph, NodeIndex};
 use cargo_lock::dependency::tree::roots_of;
 use cargo_lock_diagram::{Diagram, Picture, Target, picture_from};
-use cargo_lock_query::members;
+use cargo_lock_query::reason::members;
 use clap::{Arg, ArgAction, ArgMatches, Command};
 use cli_input::load::named_graph;
 use cli_input::spec::{some_fitting, specs};
