@@ -158,17 +158,18 @@ NoneIfVerified = (subjects : List ArchiveSubjectData) → (archive_findings subj
     ↔ ((s : ArchiveSubjectData) → Contains subjects s
     → (s.content.checksum ≢ None → IsVerified s) × (¬ IsUnchecked s.content))
 
--- what the class of a subject means
-pub record ArchiveClassMeans (s : ArchiveSubjectData) : Type 0 where
-  pub matches : (archive_class s ≡ class.Matches) ↔ IsVerified s
-  pub changed : (archive_class s ≡ class.Changed) ↔ IsChanged s
-  pub missing : (archive_class s ≡ class.Missing) ↔ IsMissing s
-  pub without_checksum : (archive_class s ≡ class.NoChecksum) ↔ IsUnchecked s.content
-  pub not_compared : (archive_class s ≡ class.NotCompared) ↔ IsNotCompared s
+-- what each class of a subject means
+abbrev pub IsOfArchiveClass : ArchiveSubjectData → Class → Type 0
+IsOfArchiveClass s class.Matches = IsVerified s
+IsOfArchiveClass s class.Changed = IsChanged s
+IsOfArchiveClass s class.Missing = IsMissing s
+IsOfArchiveClass s class.NoChecksum = IsUnchecked s.content
+IsOfArchiveClass s class.NotCompared = IsNotCompared s
 
 -- each subject is in exactly the class whose meaning it has
 abbrev pub ArchiveClassesAreExact : Type 0
-ArchiveClassesAreExact = (s : ArchiveSubjectData) → ArchiveClassMeans s
+ArchiveClassesAreExact = (s : ArchiveSubjectData) (c : Class)
+    → (archive_class s ≡ c) ↔ IsOfArchiveClass s c
 
 -- nothing that counts is found of subjects: none is changed; if all is asked for, each package that
 -- can be compared has an archive and a checksum; and if there is such a package, one is verified

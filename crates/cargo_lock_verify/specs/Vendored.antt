@@ -228,17 +228,19 @@ FolderFindingsAreExact = (all : List VendoredData) (x : FolderFindingData)
     → Contains (folder_findings all) x
     ↔ ((v : VendoredData) × Contains all v × (v.content.source ≢ None) × IsFolderFindingOf v x)
 
--- what the class of a package means
-pub record FolderClassMeans (v : VendoredData) : Type 0 where
-  pub matches : (folder_class v ≡ class.Matches)
-      ↔ ((v.content.source ≢ None) × (¬ IsWithoutChecksum v.content) × IsVendored v)
-  pub changed : (folder_class v ≡ class.Changed) ↔ ((v.content.source ≢ None)
-      × (¬ IsWithoutChecksum v.content) × (v.folders ≢ []) × (¬ IsVendored v))
-  pub missing : (folder_class v ≡ class.Missing) ↔ ((v.content.source ≢ None)
-      × (¬ IsWithoutChecksum v.content) × (v.folders ≡ []))
-  pub without_checksum : (folder_class v ≡ class.NoChecksum) ↔ IsWithoutChecksum v.content
-  pub not_compared : (folder_class v ≡ class.NotCompared) ↔ (v.content.source ≡ None)
+-- the package has a source, and the lockfile has its checksum if it is of a registry
+abbrev pub IsCompared : PackageData → Type 0
+IsCompared p = (p.source ≢ None) × (¬ IsWithoutChecksum p)
+
+-- what each class of a package means
+abbrev pub IsOfFolderClass : VendoredData → Class → Type 0
+IsOfFolderClass v class.Matches = IsCompared v.content × IsVendored v
+IsOfFolderClass v class.Changed = IsCompared v.content × (v.folders ≢ []) × (¬ IsVendored v)
+IsOfFolderClass v class.Missing = IsCompared v.content × (v.folders ≡ [])
+IsOfFolderClass v class.NoChecksum = IsWithoutChecksum v.content
+IsOfFolderClass v class.NotCompared = v.content.source ≡ None
 
 -- each package is in exactly the class whose meaning it has
 abbrev pub FolderClassesAreExact : Type 0
-FolderClassesAreExact = (v : VendoredData) → FolderClassMeans v
+FolderClassesAreExact = (v : VendoredData) (c : Class)
+    → (folder_class v ≡ c) ↔ IsOfFolderClass v c

@@ -260,8 +260,9 @@ fn put_file<R: Files + AllocGlobal>(
 /// Adds what the list of the folder says.
 fn put_list<R: Files + AllocGlobal>(rt: &R, folder: &mut Folder) -> Result<(), Fault> {
     let path = path_of(rt.alloc(), &folder.path, LIST)?;
-    if entry_at(rt, &path)? != Some(files::Entry::File) {
-        return Err(fault_of(rt.alloc(), &path, "it is no file"));
+    match entry_at(rt, &path)? {
+        Some(files::Entry::File) | None => {}
+        Some(_) => return Err(fault_of(rt.alloc(), &path, "it is no file")),
     }
     let text = text_at(rt, &path)?;
     match Value::from_str(rt.alloc(), text.as_str()) {
