@@ -9,11 +9,11 @@ use Rattle.cargo_lock_parts.specs.Source.{Source}
 use Rattle.cargo_lock_verify.specs.declared.class.Class.{Class}
 use Rattle.cargo_lock_verify.specs.declared.class.Class.TheVariants as class
 use Rattle.cargo_lock_verify.specs.declared.class.Counts.{Counts}
-use Rattle.cargo_lock_verify.specs.Class.{CountsArePartition, counts_of, is_class, is_clean, is_complete, is_of_registry}
+use Rattle.cargo_lock_verify.specs.Class.{CountsArePartition, is_class, is_clean, is_of_registry}
 use Rattle.cargo_lock_verify.specs.Archives.{ArchiveClassesAreExact, ArchiveData, ArchiveSubjectData, ArchivesAreClean, IsChanged, IsCleanOf, IsMissing, IsNotCompared, IsOfArchiveClass, IsUnchecked, IsVerified}
-use Rattle.cargo_lock_verify.specs.Archives.{archive_class, archive_counts, class_by_checksum, class_of_unchecked, class_of_unverified, is_digest}
-use Rattle.cargo_lock_verify.specs.Vendored.{FolderClassesAreExact, IsCompared, IsOfFolderClass, IsVendored, IsWithoutChecksum, VendoredData}
-use Rattle.cargo_lock_verify.specs.Vendored.{class_by_source, class_of_sourced, folder_class, folders_found, is_as_listed, is_unchecked}
+use Rattle.cargo_lock_verify.specs.Archives.{archive_class, archive_counts, class_by_checksum, class_of_unverified, is_digest}
+use Rattle.cargo_lock_verify.specs.Vendored.{FolderClassesAreExact, IsCompared, IsOfFolderClass, VendoredData}
+use Rattle.cargo_lock_verify.specs.Vendored.{class_by_source, class_of_sourced, folder_class, is_as_listed, is_unchecked}
 use Rattle.cargo_lock_verify.proofs.Exact.{has-one, is-verified, no-archives, verified-is}
 use Rattle.cargo_lock_verify.proofs.ExactFolders.{empty-if-vendored, vendored-if-empty}
 
@@ -75,8 +75,8 @@ none-counted of c xs x zero there is =
 count-none : {X : Type 0} (of : X → Class) (c : Class) (xs : List X) → ((x : X) → Contains xs x → of x ≢ c) → count_by (is_class c) (map of xs) ≡ 0
 count-none of c xs none =
     let empty : filter (is_class c) (map of xs) ≡ [] = no-elements (filter (is_class c) (map of xs)) (λ d h.
-        let (there, passes) = kept-in (is_class c) (map of xs) d h in let (x, in-it, is) = map-in of xs d there in
-        none x in-it (is ∙ same c d passes)) in
+    let (there, passes) = kept-in (is_class c) (map of xs) d h in let (x, in-it, is) = map-in of xs d there in
+    none x in-it (is ∙ same c d passes)) in
     sym (length-filter (is_class c) (map of xs)) ∙ ap length empty
 
 some-counted : {X : Type 0} (of : X → Class) (c : Class) (xs : List X) → count_by (is_class c) (map of xs) ≢ 0 → (x : X) × Contains xs x × (of x ≡ c)
@@ -176,8 +176,11 @@ sourced-so v has = by (is_unchecked v.content) refl
           where
             quiet : (q : Bool) → is_as_listed v ≡ q → IsOfFolderClass v (if q then class.Matches else class.Changed)
             quiet true y = (compared, vendored-if-empty v (empty-is _ y))
-            quiet false y = (compared, λ none. true≢false (sym (is-empty v.folders none) ∙ z),
-                λ is. true≢false (sym (is-empty _ (empty-if-vendored v is compared.1)) ∙ y))
+            quiet false y = (
+              compared,
+              λ none. true≢false (sym (is-empty v.folders none) ∙ z),
+              λ is. true≢false (sym (is-empty _ (empty-if-vendored v is compared.1)) ∙ y),
+            )
 
 folder-class-so : (v : VendoredData) → IsOfFolderClass v (folder_class v)
 folder-class-so v = by v.content.source refl
@@ -298,9 +301,10 @@ lacking : (all : Bool) (subjects : List ArchiveSubjectData) → IsCleanOf all su
 lacking all subjects is c compared none some =
     let (s, there, at) = some-counted archive_class c subjects (not-zero _ some) in
     let h : IsOfArchiveClass s c = subst (IsOfArchiveClass s) at (class-so s) in
-    let (t, in-it, verified) = is.one s there (compared s h) in
-    (untrue all (λ asked. none asked s there h),
-    untrue _ (λ zero. none-counted archive_class class.Matches subjects t (is-zero _ zero) in-it (class-verified t verified)))
+    let (t, in-it, verified) = is.one s there (compared s h) in (
+      untrue all (λ asked. none asked s there h),
+      untrue _ (λ zero. none-counted archive_class class.Matches subjects t (is-zero _ zero) in-it (class-verified t verified)),
+    )
 
 -- clean tests
 join-tests : (all changed missing without matches : Bool) → changed ≡ true → (missing ≡ false → (all ≡ false) × (matches ≡ false))

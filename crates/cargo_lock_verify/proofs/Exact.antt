@@ -1,5 +1,5 @@
 -- What is found is exactly what the relations say.
-use Rattle.std.proofs.Common.{◌≡◌, ◌≢◌, ◌⊎◌, ℕ, Bool, true, false, true≢false, List, [], ◌∷◌, Option, None, Some, is_some, map, refl, ap, sym, ◌∙◌, subst, if◌then◌else◌}
+use Rattle.std.proofs.Common.{◌≡◌, ◌≢◌, ℕ, Bool, true, false, true≢false, List, [], ◌∷◌, Option, None, Some, is_some, map, refl, ap, sym, ◌∙◌, subst, if◌then◌else◌}
 use Rattle.std.specs.List.{All, Contains, flat_map, list_any}
 use Rattle.std.proofs.lemmas.Slice.Eq.{bytes_eq-Decides}
 use Rattle.std.proofs.lemmas.Option.{same_Some}
@@ -40,7 +40,7 @@ unchecked : (s : ArchiveSubjectData) → s.content.checksum ≡ None → All (Is
 unchecked s none = by (is_of_registry s.content.source) refl
   where
     by : (b : Bool) → is_of_registry s.content.source ≡ b → All (IsArchiveFindingOf s) (if b then NoChecksum s.content ∷ [] else [])
-    by true e = All-cons (IsArchiveFindingOf s) (NoChecksum s.content) [] (refl, none, e) (All-nil (IsArchiveFindingOf s))
+    by true e = All-cons (IsArchiveFindingOf s) (NoChecksum s.content) [] (refl, (none, e)) (All-nil (IsArchiveFindingOf s))
     by false e = All-nil (IsArchiveFindingOf s)
 
 found-is-so : (s : ArchiveSubjectData) → All (IsArchiveFindingOf s) (found_in s)

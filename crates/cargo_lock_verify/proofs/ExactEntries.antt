@@ -1,6 +1,6 @@
 -- What is found of entries is exactly what the relations say.
-use Rattle.std.proofs.Common.{◌≡◌, ◌≢◌, ◌⊎◌, inl, inr, ℕ, Bool, true, false, true≢false, List, [], ◌∷◌, Option, None, Some, is_some, map, refl, ap, sym, ◌∙◌, subst, if◌then◌else◌}
-use Rattle.std.specs.List.{Contains, list_any}
+use Rattle.std.proofs.Common.{◌≡◌, ◌≢◌, ◌&&◌, ◌⊎◌, inl, inr, ℕ, Bool, true, false, true≢false, List, [], ◌∷◌, Option, None, Some, is_some, refl, ap, sym, ◌∙◌, subst, if◌then◌else◌}
+use Rattle.std.specs.List.{Contains}
 use Rattle.std.proofs.lemmas.Bool.{and_parts}
 use Rattle.std.proofs.lemmas.List.Folds.{Any-from_list_any, list_any-from_Any}
 use Rattle.semver.specs.Parse.{Parts}
@@ -11,8 +11,8 @@ use Rattle.cargo_lock_verify.specs.declared.entry.Flaw.{Flaw}
 use Rattle.cargo_lock_verify.specs.declared.entry.Flaw.TheVariants as flaw
 use Rattle.cargo_lock_verify.specs.declared.entry.Others.{Others}
 use Rattle.cargo_lock_verify.specs.declared.entry.Others.TheVariants as others
-use Rattle.cargo_lock_verify.specs.Entries.{ContentData, EntryData, EntryFindingsAreExact, Folder, IsFolderOfPackage, IsOther, LinesOfEntriesAreExact, Link, LinkedManifest, Nameless, PassedOver}
-use Rattle.cargo_lock_verify.specs.Entries.{entry_findings, entry_found, flaw_of, flaw_of_folder, flaw_of_other, found_at, is_folder_of, is_wanted}
+use Rattle.cargo_lock_verify.specs.Entries.{ContentData, EntryFindingsAreExact, Folder, IsFolderOfPackage, IsOther, LinesOfEntriesAreExact, Link, LinkedManifest, Nameless, PassedOver}
+use Rattle.cargo_lock_verify.specs.Entries.{entry_found, flaw_of, flaw_of_folder, flaw_of_other, found_at, is_folder_of, is_wanted}
 use Rattle.cargo_lock_verify.specs.Vendored.{FolderFindingData, OfEntry, VendoredData}
 
 -- ---- folders of packages
@@ -21,9 +21,13 @@ wanted-is : (all : List VendoredData) (name : List ℕ) (version : Parts) → is
 wanted-is all name version e =
     let (k, v, low, at, passes) = Any-from_list_any (is_folder_of name version) all e in
     let sourced = and_parts (is_some v.content.source) (same_text v.content.name name && same_parts v.content.version version) passes in
-    let named = and_parts (same_text v.content.name name) (same_parts v.content.version version) sourced.1 in
-    (v, (k, low, at), sourced.0, ap (λ n. Folder n version) (sym (same_text-yes _ _ named.0))
-    ∙ ap (Folder v.content.name) (sym (same_parts-yes _ _ named.1)))
+    let named = and_parts (same_text v.content.name name) (same_parts v.content.version version) sourced.1 in (
+      v,
+      (k, low, at),
+      sourced.0,
+      ap (λ n. Folder n version) (sym (same_text-yes _ _ named.0))
+          ∙ ap (Folder v.content.name) (sym (same_parts-yes _ _ named.1)),
+    )
 
 is-wanted : (all : List VendoredData) (v : VendoredData) → Contains all v → is_some v.content.source ≡ true
     → is_wanted all v.content.name v.content.version ≡ true
@@ -53,7 +57,7 @@ quiet-folder who all name version = by (is_wanted all name version) refl
   where
     by : (b : Bool) → is_wanted all name version ≡ b → (if b then None else flaw_of_other who) ≡ None → IsQuiet who all (Folder name version)
     by true e none = inr (inl (wanted-is all name version e))
-    by false e none = inr (inr (other-passed who none, name, version, refl))
+    by false e none = inr (inr (other-passed who none, (name, (version, refl))))
 
 quiet-so : (who : Others) (all : List VendoredData) (c : ContentData) → flaw_of who all c ≡ None → IsQuiet who all c
 quiet-so who all PassedOver e = inl refl
@@ -77,7 +81,7 @@ so-quiet : (who : Others) (all : List VendoredData) (c : ContentData) → IsQuie
 so-quiet who all c h = elim h [
   | inl passed ↦ ap (flaw_of who all) passed
   | inr (inl (v, there, has, is)) ↦ ap (flaw_of who all) is ∙ package-quiet who all v there has
-  | inr (inr (passed, name, version, is)) ↦ ap (flaw_of who all) is ∙ ap (λ (w : Others). flaw_of_folder w all name version) passed ∙ other-quiet all name version
+  | inr (inr (passed, (name, (version, is)))) ↦ ap (flaw_of who all) is ∙ ap (λ (w : Others). flaw_of_folder w all name version) passed ∙ other-quiet all name version
 ]
 
 pub lines-of-entries-are-exact : LinesOfEntriesAreExact
@@ -98,6 +102,6 @@ found-so path (Some f) x h = elim (cases (OfEntry path f) [] x h) [
 pub entry-findings-are-exact : EntryFindingsAreExact
 entry-findings-are-exact who all entries x = (
   λ h. let (e, there, here) = joined-in (entry_found who all) entries x h in (e, there, found-so e.path (flaw_of who all e.content) x here),
-  λ h. let (e, there, f, is, same) = h in in-joined (entry_found who all) entries e x there
+  λ h. let (e, there, (f, is, same)) = h in in-joined (entry_found who all) entries e x there
       (subst (λ o. Contains (found_at e.path o) x) (sym is) (subst (λ y. Contains (OfEntry e.path f ∷ []) y) (sym same) (first (OfEntry e.path f) []))),
 )

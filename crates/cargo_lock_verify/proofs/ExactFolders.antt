@@ -1,5 +1,5 @@
 -- What is found of folders is exactly what the relations say.
-use Rattle.std.proofs.Common.{◌≡◌, ◌≢◌, ℕ, Bool, true, false, true≢false, List, [], ◌∷◌, Option, None, Some, IsSome, is_none, is_some, map, refl, ap, sym, ◌∙◌, inl, inr, subst, if◌then◌else◌, bytes_eq, option_map, string_bytes}
+use Rattle.std.proofs.Common.{◌≡◌, ◌≢◌, ◌++◌, ℕ, Bool, true, false, true≢false, List, [], ◌∷◌, Option, None, Some, IsSome, is_none, is_some, map, refl, ap, sym, ◌∙◌, inl, inr, subst, if◌then◌else◌, bytes_eq, option_map, string_bytes}
 use Rattle.std.specs.BTreeMap.{get_by_text}
 use Rattle.std.specs.List.{All, Contains, flat_map}
 use Rattle.std.specs.Option.{option_eq}

@@ -1,17 +1,11 @@
--- Archives of the program and their data.
-use Rattle.std.proofs.Common.{◌≡◌, ◌||◌, cond, filter, ℕ, Bool, true, false, true≢false, List, [], ◌∷◌, ap, map, length, nat_eq, refl}
-use Rattle.std.specs.List.{list_any}
+-- What the program has, and its data.
+use Rattle.std.proofs.Common.{◌≡◌, cond, filter, Bool, true, false, true≢false, List, [], ◌∷◌, ap, map, length, nat_eq, refl}
 use Rattle.cargo_lock_parts.specs.Identity.{PackageData}
 use Rattle.cargo_lock_verify.specs.declared.finding.Archive.{Archive}
 use Rattle.cargo_lock_verify.specs.declared.finding.Finding.{Finding}
-use Rattle.cargo_lock_verify.specs.Archives.{Changed, archive_finding_of, archive_of, changed_of, found_of_unverified, is_digest}
+use Rattle.cargo_lock_verify.specs.Archives.{Changed, archive_finding_of, archive_of, changed_of, found_of_unverified}
 use Rattle.cargo_lock_verify.specs.Archives.{ArchiveFindingData}
 use Rattle.cargo_lock_verify.specs.Report.{is_of_archive}
-
-pub any-of-data : (digest : List ℕ) (archives : List Archive)
-    → list_any (is_digest digest) (map archive_of archives) ≡ list_any (λ a. is_digest digest (archive_of a)) archives
-any-of-data digest [] = refl
-any-of-data digest (a ∷ rest) = ap (λ b. is_digest digest (archive_of a) || b) (any-of-data digest rest)
 
 changed-of-data : (p : PackageData) (archives : List Archive) → map (Changed p) (map archive_of archives) ≡ map (changed_of p) archives
 changed-of-data p [] = refl

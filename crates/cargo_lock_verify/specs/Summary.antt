@@ -22,7 +22,7 @@ archive_summary c = amount_text c.matches (codes "archive matches") (codes "arch
     ++ (text_behind c.missing (codes "package has no archive") (codes "packages have no archive")
     ++ (unchecked_behind c.without_checksum
     ++ text_behind c.not_compared (codes "package has no registry")
-        (codes "packages have no registry"))))
+    (codes "packages have no registry"))))
 
 -- the same of folders
 abbrev pub folder_summary : Counts → List ℕ
@@ -31,4 +31,4 @@ folder_summary c = amount_text c.matches (codes "folder matches") (codes "folder
     ++ (text_behind c.missing (codes "package has no folder") (codes "packages have no folder")
     ++ (unchecked_behind c.without_checksum
     ++ text_behind c.not_compared (codes "package has no source")
-        (codes "packages have no source"))))
+    (codes "packages have no source"))))

@@ -82,9 +82,8 @@ fn package<'p>(finding: &Finding<'p, '_>) -> &'p Package
     ensures { result.now ≡ archive_finding_package (archive_finding_of finding.now) }
 {
     match *finding {
-        Finding::Changed(package, _)
-        | Finding::Missing(package)
-        | Finding::NoChecksum(package) => package,
+        Finding::Changed(package, _) | Finding::Missing(package) | Finding::NoChecksum(package) =>
+            package,
     }
 }
 

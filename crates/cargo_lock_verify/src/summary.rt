@@ -88,7 +88,7 @@ struct Amount<'a> {
 impl<'a> Amount<'a> {
     // The number with these words.
     fn of(number: usize, one: &'a str, more: &'a str) -> Amount<'a>
-        ensures { result ≡ record { number = number; one = one.entry; more = more.entry; } }
+        ensures { result ≡ record { number = number; one = one.entry; more = more.entry } }
     {
         Amount { number, one, more }
     }
@@ -118,7 +118,7 @@ struct Behind<'a> {
 impl<'a> Behind<'a> {
     // The number with these words.
     fn of(number: usize, one: &'a str, more: &'a str) -> Behind<'a>
-        ensures { result ≡ record { number = number; one = one.entry; more = more.entry; } }
+        ensures { result ≡ record { number = number; one = one.entry; more = more.entry } }
     {
         Behind { number, one, more }
     }
