@@ -114,7 +114,7 @@ _cargo_lock() {
         case $previous in
         -f | --file) _cargo_lock_files ;;
         --cache | --vendor) _cargo_lock_files ;;
-        *) _cargo_lock_offer '-f --file --any-size --cache --vendor --all --json -h --help' ;;
+        *) _cargo_lock_offer '-f --file --any-size --cache --vendor --all --others --json -h --help' ;;
         esac
         ;;
     licenses)

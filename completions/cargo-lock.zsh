@@ -136,7 +136,8 @@ _cargo-lock() {
             '--any-size[Reads a lockfile of 256 MiB or more too]' \
             '--cache[The folder of the archives, as registry/cache of Cargo]:FOLDER:_files -/' \
             '--vendor[The folder that `cargo vendor` made]:FOLDER:_files -/' \
-            '--all[Reports packages without an archive too]' \
+            '--all[Counts packages without an archive or a checksum too]' \
+            '--others[Passes over folders of packages that the lockfile does not have]' \
             '--json[Prints one line of JSON]' \
             '(- *)'{-h,--help}'[Print help]'
         ;;

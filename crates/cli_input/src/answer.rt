@@ -81,7 +81,7 @@ impl Answer for cargo_lock_verify::Report<'_, '_> {
     ghost use Rattle.cargo_lock_verify.specs.Archives.{archive_finding_of};
 
     ghost json = { λ file report.
-        archives_json file report.verified (map archive_finding_of report.findings.items) };
+        archives_json file report.counts (map archive_finding_of report.findings.items) };
 
     fn document(&self, alloc: Global, file: &File<'_>) -> Result<String, AllocError> {
         archives_json(alloc, file, self)
@@ -93,7 +93,7 @@ impl Answer for VendorReport<'_, '_> {
     ghost use Rattle.cargo_lock_verify.specs.Vendored.{folder_finding_of};
 
     ghost json = { λ file report.
-        folders_json file report.verified (map folder_finding_of report.findings.items) };
+        folders_json file report.counts (map folder_finding_of report.findings.items) };
 
     fn document(&self, alloc: Global, file: &File<'_>) -> Result<String, AllocError> {
         folders_json(alloc, file, self)
