@@ -6,7 +6,7 @@ ghost use Rattle.cargo_lock_licenses.specs.Subjects.{license_subject_of};
 ghost use Rattle.cli_folder_commands.specs.Licenses.{AreLicensed, PrintsLicenseReport, PrintsLicenses};
 ghost use Rattle.cli_folder_commands.specs.Licenses.{PrintsLicensesOf};
 
-use crate::folders::{cache, check_folder, vendor};
+use crate::folders::manifests;
 use crate::texts;
 use crate::verify::status_of;
 use cargo_lock::Lockfile;
@@ -14,7 +14,7 @@ use cargo_lock::package::Package;
 use cargo_lock_display::File;
 use cargo_lock_licenses::{Report, Subject};
 use clap::{ArgMatches, Command};
-use cli_folders::{Entries, Manifests, Vendor};
+use cli_folders::Manifests;
 use cli_input::answer::print_answer;
 use cli_input::load::{file, named_lockfile};
 use cli_support::words::{any_size, json};
@@ -40,14 +40,15 @@ term is a name, or `NAME WITH NAME`. It is allowed if it is one of the TERMs to 
 if both sides are, and an OR if one is. Without --allow each expression is allowed. No list of \
 licences is built in.
 
-With --vendor, the manifest of a package is the one in FOLDER that has its name and version, and \
-with --cache the one of the folder NAME-VERSION in FOLDER or in a folder in it.
+FOLDER is the one that `cargo vendor` made, registry/src of Cargo, or an index folder in it. The \
+manifest of a package has its name and version; in a folder of Cargo it is the one of the folder \
+NAME-VERSION. Links are not followed.
 
 The status is 1 where a line begins with `!`, and 2 where the lockfile, a folder or a manifest \
-cannot be read.";
+cannot be read, where no manifest is of a package, and where there may be one that was not read.";
 
 /// The options, as help shows them.
-const CACHE_HELP: &str = "The folder of unpacked archives, as registry/src of Cargo";
+const MANIFESTS_HELP: &str = "The folder of `cargo vendor`, or registry/src of Cargo";
 
 const ALLOW_HELP: &str = "Allows this term, and others that are given so";
 
@@ -58,17 +59,15 @@ pub fn command<'a>(alloc: Global) -> Result<Command<'a>, AllocError> {
         .after_help(LICENSES_HELP)
         .arg(words::file(alloc))?
         .arg(any_size(alloc)?)?
-        .arg(cache(alloc, CACHE_HELP))?
-        .arg(vendor(alloc)?)?
+        .arg(manifests(alloc, MANIFESTS_HELP).required(true))?
         .arg(texts::option(alloc, "allow", "TERM").help(ALLOW_HELP))?
         .arg(json(alloc)?)
 }
 
 /// Prints what is found of the licences of the packages of the lockfile, a line for each, or, if
 /// the arguments ask for it, all as one line of JSON. The status is 1 if one is not allowed or not
-/// known, and otherwise 0. Fails if the arguments name no folder, if the lockfile, a folder or a
-/// manifest is not read, or if `out` fails; a prefix of the text was then written in the last case,
-/// and nothing in the others.
+/// known, and otherwise 0. Fails if the lockfile, a folder or a manifest is not read, or if `out`
+/// fails; a prefix of the text was then written in the last case, and nothing in the others.
 pub fn run<R: Files + Input + AllocGlobal, W: Write>(
     rt: &R,
     options: &ArgMatches<'_>,
@@ -78,7 +77,6 @@ pub fn run<R: Files + Input + AllocGlobal, W: Write>(
         (W.contents out.old) (W.contents out.new)
         (status ≡ ExitCode.FAILURE) (status ≡ ExitCode.SUCCESS)) }
 {
-    check_folder(options)?;
     let lockfile = named_lockfile(rt, options, "file")?;
     let file = file(options, "file", &lockfile);
     print_licenses(rt, options, &file, &lockfile, out)
@@ -109,25 +107,36 @@ fn subjects_of<'a, R: Files + AllocGlobal>(
     ensures { IfOk result
         (λ subjects. AreLicensed packages.now (map license_subject_of subjects.items)) }
 {
-    let manifests = match options.get_str("vendor") {
-        Some(folder) => Manifests::Vendored(Vendor::of(rt, folder)?),
-        None => Manifests::Unpacked(Entries::of(rt, options.get_str("cache").unwrap_or(""))?),
-    };
-    licensed(rt, &manifests, packages)
+    let folder = options.get_str("manifests").unwrap_or("");
+    subjects_in(rt, folder, packages)
 }
 
-/// The packages, each with what its manifests say.
-pub(crate) fn licensed<'a, R: Files + AllocGlobal>(
+/// The packages, each with what its manifests say in a folder.
+pub(crate) fn subjects_in<'a, R: Files + AllocGlobal>(
     rt: &R,
-    folder: &Manifests,
+    folder: &str,
     packages: &'a [Package],
 ) -> Result<Vec<Subject<'a>>, Fault>
     ensures { IfOk result
         (λ subjects. AreLicensed packages.now (map license_subject_of subjects.items)) }
 {
-    let mut subjects = Vec::with_capacity(rt.alloc(), packages.len())?;
+    let manifests = Manifests::of(rt, folder, packages)?;
+    let subjects = licensed(rt.alloc(), &manifests, packages)?;
+    Ok(subjects)
+}
+
+/// The packages, each with what its manifests say.
+fn licensed<'a>(
+    alloc: Global,
+    folder: &Manifests,
+    packages: &'a [Package],
+) -> Result<Vec<Subject<'a>>, AllocError>
+    ensures { IfOk result
+        (λ subjects. AreLicensed packages.now (map license_subject_of subjects.items)) }
+{
+    let mut subjects = Vec::with_capacity(alloc, packages.len())?;
     for package in packages {
-        let manifests = folder.of_package(rt, package)?;
+        let manifests = folder.of_package(alloc, package)?;
         subjects.push(Subject { package, manifests })?;
     }
     Ok(subjects)
