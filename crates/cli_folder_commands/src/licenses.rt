@@ -2,17 +2,19 @@
 //! are not allowed.
 ghost use Rattle.std.specs.Prelude.{◌≡◌, IfOk, map};
 ghost use Rattle.clap.specs.Matches.{found_of};
+ghost use Rattle.cargo_lock_licenses.specs.Policy as spec;
 ghost use Rattle.cargo_lock_licenses.specs.Subjects.{license_subject_of};
 ghost use Rattle.cli_folder_commands.specs.Licenses.{AreLicensed, PrintsLicenseReport, PrintsLicenses};
 ghost use Rattle.cli_folder_commands.specs.Licenses.{PrintsLicensesOf};
 
 use crate::folders::manifests;
+use crate::policy::policy_of;
 use crate::texts;
 use crate::verify::status_of;
 use cargo_lock::Lockfile;
 use cargo_lock::package::Package;
 use cargo_lock_display::File;
-use cargo_lock_licenses::{Report, Subject};
+use cargo_lock_licenses::{Policy, Report, Subject};
 use clap::{ArgMatches, Command};
 use cli_folders::Manifests;
 use cli_input::answer::print_answer;
@@ -34,11 +36,15 @@ Each package with a source has a line, by the field `license` of its manifest:
   ! NAME VERSION SRC: only a file: `PATH`           it has `license-file` in place of it
   ! NAME VERSION SRC: no manifest
   ! NAME VERSION SRC: manifests differ              there are several, which say different things
+  - TERM: nothing to allow                          no expression has this term of --allow
+  - NAME@VERSION=EXPRESSION: no such package        so for --exempt; there is none with a source
+Behind a line is ` (given)` where the expression is that of --license, or \
+` (given; its manifest says TEXT)`.
 
 An expression joins terms by AND and by OR, or by `/` as in old manifests; AND binds more tightly. A \
 term is a name, or `NAME WITH NAME`. It is allowed if it is one of the TERMs to the letter, an AND \
-if both sides are, and an OR if one is. Without --allow each expression is allowed. No list of \
-licences is built in.
+if both sides are, and an OR if one is. Without --allow each expression is allowed; --exempt adds to \
+the TERMs for one package. No list of licences is built in.
 
 FOLDER is the one that `cargo vendor` made, registry/src of Cargo, or an index folder in it. The \
 manifest of a package has its name and version; in a folder of Cargo it is the one of the folder \
@@ -52,6 +58,10 @@ const MANIFESTS_HELP: &str = "The folder of `cargo vendor`, or registry/src of C
 
 const ALLOW_HELP: &str = "Allows this term, and others that are given so";
 
+const LICENSE_HELP: &str = "Takes this expression in place of what the manifest says";
+
+const EXEMPT_HELP: &str = "Allows this term for this package alone";
+
 /// The parser of this command: its options.
 pub fn command<'a>(alloc: Global) -> Result<Command<'a>, AllocError> {
     Command::new(alloc, "licenses")
@@ -61,13 +71,15 @@ pub fn command<'a>(alloc: Global) -> Result<Command<'a>, AllocError> {
         .arg(any_size(alloc)?)?
         .arg(manifests(alloc, MANIFESTS_HELP).required(true))?
         .arg(texts::option(alloc, "allow", "TERM").help(ALLOW_HELP))?
+        .arg(texts::option(alloc, "license", "NAME@VERSION=EXPRESSION").help(LICENSE_HELP))?
+        .arg(texts::option(alloc, "exempt", "NAME[@VERSION]=TERM").help(EXEMPT_HELP))?
         .arg(json(alloc)?)
 }
 
 /// Prints what is found of the licences of the packages of the lockfile, a line for each, or, if
 /// the arguments ask for it, all as one line of JSON. The status is 1 if one is not allowed or not
-/// known, and otherwise 0. Fails if the lockfile, a folder or a manifest is not read, or if `out`
-/// fails; a prefix of the text was then written in the last case, and nothing in the others.
+/// known, and otherwise 0. Fails if words of the arguments, the lockfile, a folder or a manifest are
+/// not read, or if `out` fails; a prefix of the text was then written in the last case, and nothing in the others.
 pub fn run<R: Files + Input + AllocGlobal, W: Write>(
     rt: &R,
     options: &ArgMatches<'_>,
@@ -77,25 +89,27 @@ pub fn run<R: Files + Input + AllocGlobal, W: Write>(
         (W.contents out.old) (W.contents out.new)
         (status ≡ ExitCode.FAILURE) (status ≡ ExitCode.SUCCESS)) }
 {
+    let policy = policy_of(rt.alloc(), options)?;
     let lockfile = named_lockfile(rt, options, "file")?;
     let file = file(options, "file", &lockfile);
-    print_licenses(rt, options, &file, &lockfile, out)
+    print_licenses(rt, options, &policy, &file, &lockfile, out)
 }
 
-/// Prints what is found of the licences of these packages. Returns the status.
+/// Prints what is found of the licences of these packages by a policy. Returns the status.
 fn print_licenses<R: Files + AllocGlobal, W: Write>(
     rt: &R,
     options: &ArgMatches<'_>,
+    policy: &Policy,
     file: &File<'_>,
     lockfile: &Lockfile,
     out: &mut W,
 ) -> Result<ExitCode, Fault>
-    ensures { IfOk result (λ status. PrintsLicensesOf (found_of options.now) file.now
-        lockfile.now.packages (W.contents out.old) (W.contents out.new)
+    ensures { IfOk result (λ status. PrintsLicensesOf (found_of options.now)
+        (spec.policy_of policy.now) file.now lockfile.now.packages (W.contents out.old) (W.contents out.new)
         (status ≡ ExitCode.FAILURE) (status ≡ ExitCode.SUCCESS)) }
 {
     let subjects = subjects_of(rt, options, &lockfile.packages)?;
-    print_report(rt.alloc(), options, file, &subjects, out)
+    print_report(rt.alloc(), options, policy, file, &subjects, out)
 }
 
 /// The packages, each with what its manifests say in the folder that the arguments name.
@@ -142,20 +156,21 @@ fn licensed<'a>(
     Ok(subjects)
 }
 
-/// Prints what is found of these subjects. Returns the status.
+/// Prints what is found of these subjects by a policy. Returns the status.
 fn print_report<W: Write>(
     alloc: Global,
     options: &ArgMatches<'_>,
+    policy: &Policy,
     file: &File<'_>,
     subjects: &[Subject<'_>],
     out: &mut W,
 ) -> Result<ExitCode, Fault>
-    ensures { IfOk result (λ status. PrintsLicenseReport (found_of options.now) file.now
-        (map license_subject_of subjects.now) (W.contents out.old) (W.contents out.new)
+    ensures { IfOk result (λ status. PrintsLicenseReport (found_of options.now)
+        (spec.policy_of policy.now) file.now (map license_subject_of subjects.now)
+        (W.contents out.old) (W.contents out.new)
         (status ≡ ExitCode.FAILURE) (status ≡ ExitCode.SUCCESS)) }
 {
-    let allowed = texts::given(alloc, options, "allow")?;
-    let report = Report::of(alloc, subjects, &allowed)?;
+    let report = Report::of(alloc, subjects, policy)?;
     print_answer(alloc, options, file, &report, out)?;
     Ok(status_of(!report.has_finding()))
 }
