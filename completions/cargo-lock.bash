@@ -42,10 +42,10 @@ _cargo_lock() {
     bom)
         case $previous in
         -f | --file | -o | --output) _cargo_lock_files ;;
-        --licenses) _cargo_lock_files ;;
+        --manifests) _cargo_lock_files ;;
         --root) _cargo_lock_packages ;;
         --author) ;;
-        *) _cargo_lock_offer '-f --file --any-size -o --output --root --author --timestamp --serial --licenses --compact -h --help' ;;
+        *) _cargo_lock_offer '-f --file --any-size -o --output --root --author --timestamp --serial --manifests --compact -h --help' ;;
         esac
         ;;
     json)
@@ -120,9 +120,9 @@ _cargo_lock() {
     licenses)
         case $previous in
         -f | --file) _cargo_lock_files ;;
-        --cache | --vendor) _cargo_lock_files ;;
+        --manifests) _cargo_lock_files ;;
         --allow) ;;
-        *) _cargo_lock_offer '-f --file --any-size --cache --vendor --allow --json -h --help' ;;
+        *) _cargo_lock_offer '-f --file --any-size --manifests --allow --json -h --help' ;;
         esac
         ;;
     audit)

@@ -62,7 +62,7 @@ complete -c cargo-lock -n '__cargo_lock_runs bom' -l root -x -a '(__cargo_lock_p
 complete -c cargo-lock -n '__cargo_lock_runs bom' -l author -x -d 'Names this author of the bill, and others that are given so'
 complete -c cargo-lock -n '__cargo_lock_runs bom' -l timestamp -d 'Adds the time: of SOURCE_DATE_EPOCH, or else of the clock'
 complete -c cargo-lock -n '__cargo_lock_runs bom' -l serial -d 'Adds a serial number, equal for equal bills'
-complete -c cargo-lock -n '__cargo_lock_runs bom' -l licenses -r -F -d 'Adds licences, by a folder of `cargo vendor` or of unpacked archives'
+complete -c cargo-lock -n '__cargo_lock_runs bom' -l manifests -r -F -d 'Adds licences, by the folder of `cargo vendor`, or registry/src of Cargo'
 complete -c cargo-lock -n '__cargo_lock_runs bom' -l compact -d 'Writes one line, without spaces'
 complete -c cargo-lock -n '__cargo_lock_runs bom' -s h -l help -d 'Print help'
 
@@ -118,8 +118,7 @@ complete -c cargo-lock -n '__cargo_lock_runs verify' -s h -l help -d 'Print help
 
 complete -c cargo-lock -n '__cargo_lock_runs licenses' -s f -l file -r -F -d 'The lockfile, - for standard input'
 complete -c cargo-lock -n '__cargo_lock_runs licenses' -l any-size -d 'Reads a lockfile of 256 MiB or more too'
-complete -c cargo-lock -n '__cargo_lock_runs licenses' -l cache -r -F -d 'The folder of unpacked archives, as registry/src of Cargo'
-complete -c cargo-lock -n '__cargo_lock_runs licenses' -l vendor -r -F -d 'The folder that `cargo vendor` made'
+complete -c cargo-lock -n '__cargo_lock_runs licenses' -l manifests -r -F -d 'The folder of `cargo vendor`, or registry/src of Cargo'
 complete -c cargo-lock -n '__cargo_lock_runs licenses' -l allow -r -d 'Allows this term, and others that are given so'
 complete -c cargo-lock -n '__cargo_lock_runs licenses' -l json -d 'Prints one line of JSON'
 complete -c cargo-lock -n '__cargo_lock_runs licenses' -s h -l help -d 'Print help'

@@ -68,7 +68,7 @@ _cargo-lock() {
             '*--author[Names this author of the bill, and others that are given so]:NAME:' \
             '--timestamp[Adds the time: of SOURCE_DATE_EPOCH, or else of the clock]' \
             '--serial[Adds a serial number, equal for equal bills]' \
-            '--licenses[Adds licences, by a folder of `cargo vendor` or of unpacked archives]:FOLDER:_files -/' \
+            '--manifests[Adds licences, by the folder of `cargo vendor`, or registry/src of Cargo]:FOLDER:_files -/' \
             '--compact[Writes one line, without spaces]' \
             '(- *)'{-h,--help}'[Print help]'
         ;;
@@ -145,8 +145,7 @@ _cargo-lock() {
         _arguments -s \
             '(-f --file)'{-f,--file}'[The lockfile, - for standard input]:PATH:_files' \
             '--any-size[Reads a lockfile of 256 MiB or more too]' \
-            '--cache[The folder of unpacked archives, as registry/src of Cargo]:FOLDER:_files -/' \
-            '--vendor[The folder that `cargo vendor` made]:FOLDER:_files -/' \
+            '--manifests[The folder of `cargo vendor`, or registry/src of Cargo]:FOLDER:_files -/' \
             '*--allow[Allows this term, and others that are given so]:TERM:' \
             '--json[Prints one line of JSON]' \
             '(- *)'{-h,--help}'[Print help]'

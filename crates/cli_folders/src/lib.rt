@@ -8,6 +8,7 @@
 mod advisories;
 mod entries;
 mod files;
+mod found;
 mod manifest;
 mod manifests;
 mod vendor;

@@ -5,7 +5,7 @@ ghost use Rattle.cli_input.specs.Json.{PrintsAnswer};
 
 use cargo_lock_audit::advisories_json;
 use cargo_lock_display::File;
-use cargo_lock_licenses::verdicts_json;
+use cargo_lock_licenses::licenses_json;
 use cargo_lock_query::{Answers, Listing, answers_json, groups_json};
 use cargo_lock_verify::{VendorReport, archives_json, folders_json};
 use clap::ArgMatches;
@@ -101,13 +101,15 @@ impl Answer for VendorReport<'_, '_> {
 }
 
 impl Answer for cargo_lock_licenses::Report<'_, '_> {
-    ghost use Rattle.cargo_lock_licenses.specs.Document.{verdicts_json};
-    ghost use Rattle.cargo_lock_licenses.specs.Verdicts.{verdict_of};
+    ghost use Rattle.cargo_lock_licenses.specs.Document.{licenses_json};
+    ghost use Rattle.cargo_lock_licenses.specs.Judged.{judged_of};
+    ghost use Rattle.cargo_lock_licenses.specs.Report.{unmet_of};
 
-    ghost json = { λ file report. verdicts_json file (map verdict_of report.verdicts.items) };
+    ghost json = { λ file report. licenses_json file (map judged_of report.judged.items)
+        (map unmet_of report.unmet.items) };
 
     fn document(&self, alloc: Global, file: &File<'_>) -> Result<String, AllocError> {
-        verdicts_json(alloc, file, &self.verdicts)
+        licenses_json(alloc, file, self)
     }
 }
 
