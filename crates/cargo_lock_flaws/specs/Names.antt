@@ -30,14 +30,14 @@ abbrev pub is_cargo_name : List ℕ → Bool
 is_cargo_name characters = begins_name characters && list_all may_be_in_name characters
 
 -- the source is crates.io
-abbrev pub is_crates_io : Option Source → Bool
-is_crates_io None = false
-is_crates_io (Some source) = is_default_registry source
+abbrev pub is_of_crates_io : Option Source → Bool
+is_of_crates_io None = false
+is_of_crates_io (Some source) = is_default_registry source
 
 -- Cargo accepts the name of the package, and so does crates.io, if the package is from there
 abbrev pub is_well_named : PackageData → Bool
 is_well_named p =
-    is_cargo_name (chars p.name) && (not (is_crates_io p.source) || list_all is_ascii p.name)
+    is_cargo_name (chars p.name) && (not (is_of_crates_io p.source) || list_all is_ascii p.name)
 
 -- the name of the package at the place is not accepted
 abbrev pub IsBadlyNamed : List PackageData → ℕ → Type 0

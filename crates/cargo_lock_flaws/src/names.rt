@@ -5,7 +5,7 @@ ghost use Rattle.std.specs.Bool.{Decides};
 ghost use Rattle.std.specs.Char.{is_ascii};
 ghost use Rattle.std.specs.List.{list_all};
 ghost use Rattle.std.specs.Str.{chars};
-ghost use Rattle.cargo_lock_flaws.specs.Names.{IsBadlyNamed, is_cargo_name, is_crates_io};
+ghost use Rattle.cargo_lock_flaws.specs.Names.{IsBadlyNamed, is_cargo_name, is_of_crates_io};
 ghost use Rattle.cargo_lock_flaws.specs.Names.{begins_name, is_well_named, may_be_in_name};
 ghost use Rattle.cargo_lock_flaws.specs.Names.{may_begin};
 ghost use Rattle.lists.specs.Places.{IsPlaces};
@@ -48,11 +48,11 @@ fn is_well_named(package: &Package) -> bool
     ensures { result ≡ is_well_named «package».now }
 {
     let name = package.name.as_str();
-    is_cargo_name(name) && (!is_crates_io(&package.source) || is_in_ascii(name))
+    is_cargo_name(name) && (!is_of_crates_io(&package.source) || is_in_ascii(name))
 }
 
-fn is_crates_io(source: &Option<SourceId>) -> bool
-    ensures { result ≡ is_crates_io source.now }
+fn is_of_crates_io(source: &Option<SourceId>) -> bool
+    ensures { result ≡ is_of_crates_io source.now }
 {
     match source {
         Some(source) => source.is_default_registry(),
