@@ -122,7 +122,9 @@ _cargo_lock() {
         -f | --file) _cargo_lock_files ;;
         --manifests) _cargo_lock_files ;;
         --allow) ;;
-        *) _cargo_lock_offer '-f --file --any-size --manifests --allow --json -h --help' ;;
+        --license) ;;
+        --exempt) ;;
+        *) _cargo_lock_offer '-f --file --any-size --manifests --allow --license --exempt --json -h --help' ;;
         esac
         ;;
     audit)

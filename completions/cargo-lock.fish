@@ -120,6 +120,8 @@ complete -c cargo-lock -n '__cargo_lock_runs licenses' -s f -l file -r -F -d 'Th
 complete -c cargo-lock -n '__cargo_lock_runs licenses' -l any-size -d 'Reads a lockfile of 256 MiB or more too'
 complete -c cargo-lock -n '__cargo_lock_runs licenses' -l manifests -r -F -d 'The folder of `cargo vendor`, or registry/src of Cargo'
 complete -c cargo-lock -n '__cargo_lock_runs licenses' -l allow -r -d 'Allows this term, and others that are given so'
+complete -c cargo-lock -n '__cargo_lock_runs licenses' -l license -r -d 'Takes this expression in place of what the manifest says'
+complete -c cargo-lock -n '__cargo_lock_runs licenses' -l exempt -r -d 'Allows this term for this package alone'
 complete -c cargo-lock -n '__cargo_lock_runs licenses' -l json -d 'Prints one line of JSON'
 complete -c cargo-lock -n '__cargo_lock_runs licenses' -s h -l help -d 'Print help'
 

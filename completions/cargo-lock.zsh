@@ -147,6 +147,8 @@ _cargo-lock() {
             '--any-size[Reads a lockfile of 256 MiB or more too]' \
             '--manifests[The folder of `cargo vendor`, or registry/src of Cargo]:FOLDER:_files -/' \
             '*--allow[Allows this term, and others that are given so]:TERM:' \
+            '*--license[Takes this expression in place of what the manifest says]:NAME@VERSION=EXPRESSION:' \
+            '*--exempt[Allows this term for this package alone]:NAME[@VERSION]=TERM:' \
             '--json[Prints one line of JSON]' \
             '(- *)'{-h,--help}'[Print help]'
         ;;
