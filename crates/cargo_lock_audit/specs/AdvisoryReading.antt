@@ -173,7 +173,7 @@ advisory_at title ms = do
   ranges ← ranges_in (get_member (codes "versions") ms)
   aliases ← texts_in (get_member (codes "aliases") members)
   Some (assembled (titled_names title fields aliases) (kinds_of fields) source ranges
-    fields.is_withdrawn)
+      fields.is_withdrawn)
 
 -- ---- the text
 

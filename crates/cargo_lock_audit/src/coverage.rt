@@ -147,7 +147,10 @@ impl fmt::Display for Coverage<'_> {
             number: count_from(Origin::Git, others),
             words: "from git",
         };
-        let registry = git.then(count_from(Origin::Registry, others), "from other registries");
+        let registry = git.then(
+            count_from(Origin::Registry, others),
+            "from other registries",
+        );
         let folder = registry.then(count_from(Origin::Folder, others), "from folders");
         let unsaid = folder.then(count_from(Origin::Unsaid, others), "without a source");
         write!(

@@ -51,10 +51,10 @@ cannot be read.";
 /// The options, as help shows them.
 const DATABASE_HELP: &str = "The folder of the advisories";
 
-const IGNORE_HELP: &str = "Leaves out the advisory with this id or alias, and others given so";
+const IGNORE_HELP: &str = "Leaves out the advisory of this id or alias, and others that are given so";
 
 const DENY_HELP: &str =
-    "Counts informational advisories of this kind as vulnerabilities, all by `warnings`";
+    "Counts informational advisories of this kind as vulnerabilities; warnings are all kinds";
 
 /// The kinds of informational advisories that RustSec has, and the word for all of them.
 const KINDS: [&str; 4] = ["unmaintained", "unsound", "notice", "warnings"];
