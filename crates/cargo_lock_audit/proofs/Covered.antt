@@ -1,10 +1,8 @@
 -- Which packages are compared.
-use Rattle.std.proofs.Common.{◌≡◌, ◌↔◌, ◌++◌, Bool, true, false, List, ap, not, refl}
-use Rattle.std.specs.List.{Contains, filter}
+use Rattle.std.proofs.Common.{ap, not, refl}
 use Rattle.std.proofs.lemmas.List.Sorted.{IsPermutation-filter_both}
 use Rattle.lists.proofs.Members.{in-kept, kept-in}
 use Rattle.lists.proofs.Tests.{not-true}
-use Rattle.cargo_lock_parts.specs.Identity.{PackageData}
 use Rattle.cargo_lock_audit.specs.Coverage.{CoverageIsExact, is_compared, is_not_compared}
 
 pub coverage-is-exact : CoverageIsExact
@@ -12,7 +10,7 @@ coverage-is-exact packages n = (
   IsPermutation-filter_both is_compared is_not_compared (λ p. refl) packages,
   λ p. (kept-in is_compared packages p, λ h. in-kept is_compared packages p h.0 h.1),
   λ p. (
-    λ h. let (there, no) = kept-in is_not_compared packages p h in (there, not-true (is_compared p) no),
+    λ h. let (there, other) = kept-in is_not_compared packages p h in (there, not-true (is_compared p) other),
     λ h. in-kept is_not_compared packages p h.0 (ap not h.1),
   ),
 )

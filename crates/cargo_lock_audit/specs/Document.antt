@@ -8,7 +8,6 @@ use Rattle.cargo_lock_audit.specs.Report.{ReportData}
 use Rattle.cargo_lock_display.specs.File.{FileData, document_json}
 use Rattle.cargo_lock_display.specs.PackageJson.{package_json, packages_json}
 use Rattle.printing.specs.Json.{items_of}
-use Rattle.printing.specs.Value.{text_or_null}
 
 -- the kind of an advisory: that of an informational one, or else a vulnerability
 abbrev pub advisory_kind : AdvisoryData → List ℕ

@@ -179,8 +179,9 @@ struct Part<'a> {
 impl<'a> Part<'a> {
     // The number after this one.
     fn then(self, number: usize, words: &'a str) -> Part<'a>
-        ensures { (result.lead.now ≡ lead_after self.entry.lead.now self.entry.number)
-            × (result.number ≡ number) × (result.words ≡ words.entry) }
+        ensures lead { result.lead.now ≡ lead_after self.entry.lead.now self.entry.number }
+        ensures number { result.number ≡ number }
+        ensures words { result.words.now ≡ words.entry.now }
     {
         let lead = if self.number == 0 { self.lead } else { ", " };
         Part {

@@ -3,7 +3,7 @@
 ghost use Rattle.std.specs.Prelude.{◌≡◌, ◌∷◌, IfOk, codes, decimal, length, map, string_bytes};
 ghost use Rattle.json.specs.Token.{key, number, string};
 ghost use Rattle.json.specs.Tree.{json_tokens};
-ghost use Rattle.cargo_lock_audit.specs.Coverage.{package_at};
+ghost use Rattle.cargo_lock_audit.specs.Coverage.{coverage_data_of};
 ghost use Rattle.cargo_lock_audit.specs.Document.{advisory_kind, texts_json};
 ghost use Rattle.cargo_lock_audit.specs.Document as spec;
 ghost use Rattle.cargo_lock_audit.specs.Report.{report_data_of};
@@ -64,10 +64,10 @@ impl ToJson for Document<'_, '_> {
 // Writes the members of what was compared.
 fn put_coverage(out: &mut JsonWriter, coverage: &Coverage<'_>) -> Result<(), AllocError>
     ensures { Adds result out.old out.new
-        (key (codes "compared") ∷ number (decimal (length coverage.now.compared.items))
+        (key (codes "compared") ∷ number (decimal (length (coverage_data_of coverage.now).compared))
         ∷ key (codes "advisories") ∷ number (decimal coverage.now.advisories)
         ∷ key (codes "not_compared")
-        ∷ json_tokens (packages_json (map package_at coverage.now.not_compared.items))) }
+        ∷ json_tokens (packages_json (coverage_data_of coverage.now).not_compared)) }
 {
     out.number_member("compared", coverage.compared.len() as u64)?;
     out.number_member("advisories", coverage.advisories as u64)?;
