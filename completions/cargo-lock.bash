@@ -132,7 +132,7 @@ _cargo_lock() {
         -f | --file) _cargo_lock_files ;;
         --db) _cargo_lock_files ;;
         --ignore) ;;
-        --deny) _cargo_lock_offer 'unmaintained unsound notice' ;;
+        --deny) _cargo_lock_offer 'unmaintained unsound notice warnings' ;;
         *) _cargo_lock_offer '-f --file --any-size --db --ignore --deny --json -h --help' ;;
         esac
         ;;

@@ -157,8 +157,8 @@ _cargo-lock() {
             '(-f --file)'{-f,--file}'[The lockfile, - for standard input]:PATH:_files' \
             '--any-size[Reads a lockfile of 256 MiB or more too]' \
             '--db[The folder of the advisories]:FOLDER:_files -/' \
-            '*--ignore[Leaves out this advisory, and others that are given so]:ID:' \
-            '*--deny[Counts informational advisories of this kind as vulnerabilities]:KIND:(unmaintained unsound notice)' \
+            '*--ignore[Leaves out the advisory of this id or alias, and others that are given so]:ID:' \
+            '*--deny[Counts informational advisories of this kind as vulnerabilities; warnings are all kinds]:KIND:(unmaintained unsound notice warnings)' \
             '--json[Prints one line of JSON]' \
             '(- *)'{-h,--help}'[Print help]'
         ;;

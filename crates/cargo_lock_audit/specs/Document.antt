@@ -1,13 +1,13 @@
 -- What is found of packages by advisories, in JSON: the document that `audit --json` prints.
-use Rattle.std.specs.Prelude.{ℕ, List, codes, decimal, map, unwrap_or}
+use Rattle.std.specs.Prelude.{ℕ, List, codes, decimal, length, map, unwrap_or}
 use Rattle.json.specs.Json.{Json, array, boolean, number, string, object, member, no_members}
 use Rattle.cargo_lock_audit.specs.Advisory.{AdvisoryData}
 use Rattle.cargo_lock_audit.specs.Findings.{AdvisoryFindingData}
 use Rattle.cargo_lock_audit.specs.Lines.{advisory_finding_line}
+use Rattle.cargo_lock_audit.specs.Report.{ReportData}
 use Rattle.cargo_lock_display.specs.File.{FileData, document_json}
-use Rattle.cargo_lock_display.specs.PackageJson.{package_json}
+use Rattle.cargo_lock_display.specs.PackageJson.{package_json, packages_json}
 use Rattle.printing.specs.Json.{items_of}
-use Rattle.printing.specs.Value.{text_or_null}
 
 -- the kind of an advisory: that of an informational one, or else a vulnerability
 abbrev pub advisory_kind : AdvisoryData → List ℕ
@@ -28,8 +28,12 @@ advisory_finding_json f = object
     (member (codes "title") (string f.advisory.title)
     (member (codes "patched") (texts_json (map (λ r. r.text) f.advisory.patched)) no_members)))))))
 
--- the findings, each once and in order, and the ids of which no package has the advisory
-unfoldable pub advisories_json : FileData → List AdvisoryFindingData → List (List ℕ) → Json
-advisories_json file findings ids = document_json (codes "cargo-lock-audit/1") file
-    (member (codes "findings") (array (items_of (map advisory_finding_json findings)))
-    (member (codes "unmet") (texts_json ids) no_members))
+-- the findings, each once and in order, the texts that are ignored and of which no package has the
+-- advisory, how many packages were compared with how many advisories, and the packages that were not
+unfoldable pub advisories_json : FileData → ReportData → Json
+advisories_json file r = document_json (codes "cargo-lock-audit/1") file
+    (member (codes "findings") (array (items_of (map advisory_finding_json r.findings)))
+    (member (codes "unmet") (texts_json r.unmet)
+    (member (codes "compared") (number (decimal (length r.coverage.compared)))
+    (member (codes "advisories") (number (decimal r.coverage.advisories))
+    (member (codes "not_compared") (packages_json r.coverage.not_compared) no_members)))))

@@ -114,11 +114,10 @@ impl Answer for cargo_lock_licenses::Report<'_, '_> {
 }
 
 impl Answer for cargo_lock_audit::Report<'_, '_, '_> {
-    ghost use Rattle.cargo_lock_audit.specs.Findings.{advisory_finding_of, id_of};
     ghost use Rattle.cargo_lock_audit.specs.Document.{advisories_json};
+    ghost use Rattle.cargo_lock_audit.specs.Report.{report_data_of};
 
-    ghost json = { λ file report. advisories_json file
-        (map advisory_finding_of report.findings.items) (map id_of report.unmet.items) };
+    ghost json = { λ file report. advisories_json file (report_data_of report) };
 
     fn document(&self, alloc: Global, file: &File<'_>) -> Result<String, AllocError> {
         advisories_json(alloc, file, self)
