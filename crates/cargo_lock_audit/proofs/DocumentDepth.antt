@@ -23,9 +23,6 @@ finding-depth f = omega (
   texts-depth (map (λ (r : RequirementData). r.text) f.advisory.patched),
 )
 
-package-depth : (p : PackageData) → depth (package_json p) ≤ 3
-package-depth p = identity-depth (identity_of p) p.checksum
-
 pub advisories-depth : (file : FileData) (r : ReportData) → depth (advisories_json file r) ≤ 6
 unfolding advisories_json document_json
 advisories-depth file r = omega (
@@ -33,5 +30,5 @@ advisories-depth file r = omega (
   text-depth file.path,
   array-depth 4 advisory_finding_json finding-depth r.findings,
   texts-depth r.unmet,
-  array-depth 3 package_json package-depth r.coverage.not_compared,
+  array-depth 3 package_json (λ (p : PackageData). identity-depth (identity_of p) p.checksum) r.coverage.not_compared,
 )

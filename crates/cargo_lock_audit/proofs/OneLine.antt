@@ -15,7 +15,7 @@ use Rattle.cargo_lock_display.proofs.Printed.{package-prints}
 use Rattle.cargo_lock_audit.specs.declared.database.DatabaseFault.TheVariants as fault
 use Rattle.cargo_lock_audit.specs.declared.coverage.Origin.TheVariants as origin
 use Rattle.cargo_lock_audit.specs.Advisory.{AdvisoryData}
-use Rattle.cargo_lock_audit.specs.Coverage.{CoverageData, count_from, coverage_line, lead_after, not_compared_text, noun, part_text}
+use Rattle.cargo_lock_audit.specs.Coverage.{CoverageData, count_from, coverage_line, lead_after, not_compared_text, noun, counted_part}
 use Rattle.cargo_lock_audit.specs.Findings.{AdvisoryFindingData}
 use Rattle.cargo_lock_audit.specs.Lines.{EachAuditedIsOneLine, FaultsArePrintable, LinesArePrintable, advisory_finding_line, audit_report_text, file_line, or_text, patched_text, said, text_of_lines, title_char, title_text, unmet_line, unmet_text}
 use Rattle.cargo_lock_audit.specs.Report.{ReportData}
@@ -44,7 +44,7 @@ unmet-prints : (id : List ℕ) → Prints (unmet_line id)
 unfolding unmet_line
 unmet-prints id = words (codes "- ") refl (join (shown-prints Plain id) (literal (codes ": nothing to ignore") refl))
 
-part-prints : (lead : List ℕ) (n : ℕ) (end : List ℕ) → Prints lead → Prints end → Prints (part_text lead n end)
+part-prints : (lead : List ℕ) (n : ℕ) (end : List ℕ) → Prints lead → Prints end → Prints (counted_part lead n end)
 part-prints lead n end h k = either_text (n == 0) empty (join h (join (decimal-prints n) (words (codes " ") refl k)))
 
 after-prints : (lead : List ℕ) (n : ℕ) → Prints lead → Prints (lead_after lead n)

@@ -55,9 +55,9 @@ read_all read no_items = Some []
 read_all read (item d ds) = read d >>= λ x. option_map (λ xs. x ∷ xs) (read_all read ds)
 
 -- texts, none if they are absent
-abbrev pub texts_in : Option Data → Option (List (List ℕ))
-texts_in None = Some []
-texts_in (Some d) = items_in d >>= read_all text_in
+abbrev pub texts_at_key : Option Data → Option (List (List ℕ))
+texts_at_key None = Some []
+texts_at_key (Some d) = items_in d >>= read_all text_in
 
 -- the source that a value reads as
 abbrev pub source_in : Data → Option Source
@@ -171,7 +171,7 @@ advisory_at title ms = do
   fields ← fields_at members
   source ← optional_by source_in (get_member (codes "source") members)
   ranges ← ranges_in (get_member (codes "versions") ms)
-  aliases ← texts_in (get_member (codes "aliases") members)
+  aliases ← texts_at_key (get_member (codes "aliases") members)
   Some (assembled (titled_names title fields aliases) (kinds_of fields) source ranges
       fields.is_withdrawn)
 

@@ -18,14 +18,14 @@ pub record CoverageData : Type 0 where
   pub advisories : ℕ
 
 -- the package at a reference of the program
-abbrev pub package_at : Bor PackageData → PackageData
-package_at p = p.now
+abbrev pub package_by_place : Bor PackageData → PackageData
+package_by_place p = p.now
 
 -- the data of the program
 abbrev pub coverage_data_of : Coverage → CoverageData
 coverage_data_of c = record {
-  compared = map package_at c.compared.items;
-  not_compared = map package_at c.not_compared.items;
+  compared = map package_by_place c.compared.items;
+  not_compared = map package_by_place c.not_compared.items;
   advisories = c.advisories;
 }
 
@@ -83,8 +83,8 @@ abbrev pub noun : ℕ → List ℕ → List ℕ → List ℕ
 noun n one more = if n == 1 then one else more
 
 -- how many packages come from somewhere, after what leads to it; nothing for zero
-abbrev pub part_text : List ℕ → ℕ → List ℕ → List ℕ
-part_text lead n words = if n == 0 then [] else lead ++ (decimal n ++ (codes " " ++ words))
+abbrev pub counted_part : List ℕ → ℕ → List ℕ → List ℕ
+counted_part lead n words = if n == 0 then [] else lead ++ (decimal n ++ (codes " " ++ words))
 
 -- what leads to the next number: the same, unless this one is shown
 abbrev pub lead_after : List ℕ → ℕ → List ℕ
@@ -101,10 +101,10 @@ not_compared_text others =
     let lead_2 = lead_after lead_1 git in
     let lead_3 = lead_after lead_2 registry in
     let lead_4 = lead_after lead_3 folder in
-    part_text lead_1 git (codes "from git")
-    ++ (part_text lead_2 registry (codes "from other registries")
-    ++ (part_text lead_3 folder (codes "from folders")
-    ++ part_text lead_4 unsaid (codes "without a source")))
+    counted_part lead_1 git (codes "from git")
+    ++ (counted_part lead_2 registry (codes "from other registries")
+    ++ (counted_part lead_3 folder (codes "from folders")
+    ++ counted_part lead_4 unsaid (codes "without a source")))
 
 -- how many packages are compared with how many advisories, and where the others come from
 abbrev pub coverage_line : CoverageData → List ℕ

@@ -12,7 +12,7 @@ ghost use Rattle.cargo_lock_audit.specs.AdvisoryReading.{optional_by, optional_t
 ghost use Rattle.cargo_lock_audit.specs.AdvisoryReading.{ranges_in, read_all, required_members};
 ghost use Rattle.cargo_lock_audit.specs.AdvisoryReading.{required_text, requirement_in};
 ghost use Rattle.cargo_lock_audit.specs.AdvisoryReading.{requirements_in, source_in, text_in};
-ghost use Rattle.cargo_lock_audit.specs.AdvisoryReading.{texts_in};
+ghost use Rattle.cargo_lock_audit.specs.AdvisoryReading.{texts_at_key};
 ghost use Rattle.cargo_lock_audit.specs.AdvisoryReading.{assembled, kinds_of, titled_names};
 ghost use Rattle.cargo_lock_audit.specs.Texts.{bytes_of_texts};
 
@@ -87,7 +87,7 @@ fn advisory_at(alloc: Global, table: &Table, title: &str) -> Result<Advisory>
     let fields = fields_at(alloc, members)?;
     let source = source_at(alloc, members, "source")?;
     let ranges = ranges_in(alloc, table, "versions")?;
-    let aliases = texts_in(alloc, members, "aliases")?;
+    let aliases = texts_at_key(alloc, members, "aliases")?;
     let names = names_of(alloc, title, &fields, aliases)?;
     let kinds = kinds_of(alloc, &fields)?;
     let is_withdrawn = fields.is_withdrawn;
@@ -265,9 +265,9 @@ fn source_in(alloc: Global, value: &Value, key: &str) -> Result<SourceId>
 // ---- texts
 
 // The texts at a key, or none if the key is absent.
-fn texts_in(alloc: Global, table: &Table, key: &str) -> Result<Vec<String>>
+fn texts_at_key(alloc: Global, table: &Table, key: &str) -> Result<Vec<String>>
     ensures { Reads (λ v. bytes_of_texts v.items) result
-        (texts_in (get_member key.now (table_view table.now))) }
+        (texts_at_key (get_member key.now (table_view table.now))) }
 {
     let Some(value) = value_at(table, key) else {
         return Ok(Vec::new(alloc));

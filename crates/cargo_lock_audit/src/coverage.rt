@@ -2,7 +2,7 @@
 
 ghost use Rattle.std.specs.Prelude.{◌≡◌, ◌++◌, ◌==◌, IfOk, OnOk, count_by, if◌then◌else◌, map};
 ghost use Rattle.cargo_lock_audit.specs.Coverage.{compared_if, coverage_data_of, is_from, lead_after};
-ghost use Rattle.cargo_lock_audit.specs.Coverage.{not_compared_if, package_at};
+ghost use Rattle.cargo_lock_audit.specs.Coverage.{not_compared_if, package_by_place};
 ghost use Rattle.cargo_lock_audit.specs.Coverage as spec;
 ghost use Rattle.cargo_lock_parts.specs.Identity.{PackageData};
 
@@ -61,10 +61,10 @@ fn put_package<'p>(
     coverage: &mut Coverage<'p>,
     package: &'p Package,
 ) -> Result<(), AllocError>
-    ensures compared { OnOk result (map package_at coverage.new.compared.items
-        ≡ map package_at coverage.old.compared.items ++ compared_if «package».now) }
-    ensures not_compared { OnOk result (map package_at coverage.new.not_compared.items
-        ≡ map package_at coverage.old.not_compared.items ++ not_compared_if «package».now) }
+    ensures compared { OnOk result (map package_by_place coverage.new.compared.items
+        ≡ map package_by_place coverage.old.compared.items ++ compared_if «package».now) }
+    ensures not_compared { OnOk result (map package_by_place coverage.new.not_compared.items
+        ≡ map package_by_place coverage.old.not_compared.items ++ not_compared_if «package».now) }
     ensures advisories { OnOk result (coverage.new.advisories ≡ coverage.old.advisories) }
 {
     if is_crates_io(alloc, &package.source)? {
@@ -119,7 +119,7 @@ impl Origin {
 
 // How many packages come from there.
 fn count_from(origin: Origin, packages: &[&Package]) -> usize
-    ensures { result ≡ spec.count_from origin (map package_at packages.now) }
+    ensures { result ≡ spec.count_from origin (map package_by_place packages.now) }
 {
     let mut number = 0;
     for package in packages {
@@ -194,9 +194,9 @@ impl<'a> Part<'a> {
 
 impl fmt::Display for Part<'_> {
     ghost use Rattle.std.specs.Prelude.{Some};
-    ghost use Rattle.cargo_lock_audit.specs.Coverage.{part_text};
+    ghost use Rattle.cargo_lock_audit.specs.Coverage.{counted_part};
 
-    ghost output = { λ part. Some (part_text part.lead.now part.number part.words.now) };
+    ghost output = { λ part. Some (counted_part part.lead.now part.number part.words.now) };
 
     fn fmt<W: fmt::Write>(&self, f: &mut fmt::Formatter<W>) -> fmt::Result {
         if self.number == 0 {

@@ -10,7 +10,7 @@ use Rattle.cargo_lock_verify.specs.declared.class.Class.{Class}
 use Rattle.cargo_lock_verify.specs.declared.class.Class.TheVariants as class
 use Rattle.cargo_lock_verify.specs.declared.class.Counts.{Counts}
 use Rattle.cargo_lock_verify.specs.Class.{CountsArePartition, is_class, is_clean, is_of_registry}
-use Rattle.cargo_lock_verify.specs.Archives.{ArchiveClassesAreExact, ArchiveData, ArchiveSubjectData, ArchivesAreClean, IsChanged, IsCleanOf, IsMissing, IsNotCompared, IsOfArchiveClass, IsUnchecked, IsVerified}
+use Rattle.cargo_lock_verify.specs.Archives.{ArchiveClassesAreExact, ArchiveData, ArchiveSubjectData, ArchivesAreClean, IsChanged, IsCleanOf, IsMissing, IsNotCompared, IsOfArchiveClass, IsOfRegistryUnchecked, IsVerified}
 use Rattle.cargo_lock_verify.specs.Archives.{archive_class, archive_counts, class_by_checksum, class_of_unverified, is_digest}
 use Rattle.cargo_lock_verify.specs.Vendored.{FolderClassesAreExact, IsCompared, IsOfFolderClass, VendoredData}
 use Rattle.cargo_lock_verify.specs.Vendored.{class_by_source, class_of_sourced, folder_class, is_as_listed, is_unchecked}
@@ -258,7 +258,7 @@ no-such subjects c zero s there h = none-counted archive_class c subjects s zero
 
 -- one of the packages that can be compared matches
 one-of : (subjects : List ArchiveSubjectData) (s : ArchiveSubjectData) → Contains subjects s → (¬ IsNotCompared s) → (¬ IsChanged s) → (¬ IsMissing s)
-    → (¬ IsUnchecked s.content) → (t : ArchiveSubjectData) × Contains subjects t × IsVerified t
+    → (¬ IsOfRegistryUnchecked s.content) → (t : ArchiveSubjectData) × Contains subjects t × IsVerified t
 one-of subjects s there compared unchanged present checked = by (archive_class s) (class-so s)
   where
     by : (c : Class) → IsOfArchiveClass s c → (t : ArchiveSubjectData) × Contains subjects t × IsVerified t

@@ -6,7 +6,7 @@ use Rattle.std.proofs.lemmas.Option.{same_Some}
 use Rattle.std.proofs.lemmas.List.Folds.{Any-from_list_any, list_any-from_Any}
 use Rattle.std.proofs.lemmas.List.Elements.{All-append, All-cons, All-contains, All-contains_itself, All-head, All-map, All-nil, All-tail, All-weaker}
 use Rattle.cargo_lock_parts.specs.Identity.{PackageData}
-use Rattle.cargo_lock_verify.specs.Archives.{ArchiveData, ArchiveFindingData, ArchiveFindingsAreExact, ArchiveSubjectData, Changed, IsArchiveFinding, IsArchiveFindingOf, IsUnchecked, IsVerified, Missing, NoChecksum, NoneIfVerified}
+use Rattle.cargo_lock_verify.specs.Archives.{ArchiveData, ArchiveFindingData, ArchiveFindingsAreExact, ArchiveSubjectData, Changed, IsArchiveFinding, IsArchiveFindingOf, IsOfRegistryUnchecked, IsVerified, Missing, NoChecksum, NoneIfVerified}
 use Rattle.cargo_lock_verify.specs.Archives.{archive_findings, found_by_checksum, found_in, found_of_unchecked, found_of_unverified, is_digest}
 use Rattle.cargo_lock_verify.specs.Class.{is_of_registry}
 use Rattle.lists.proofs.Members.{first-in as first, in-joined as in-flat, none-in as no-element}
@@ -80,7 +80,7 @@ in-checked s f unseen has here = by s.content.checksum refl
         either true e = absurd (unseen (is-verified s c is e))
         either false e = here
 
-in-unchecked : (s : ArchiveSubjectData) → IsUnchecked s.content → Contains (found_in s) (NoChecksum s.content)
+in-unchecked : (s : ArchiveSubjectData) → IsOfRegistryUnchecked s.content → Contains (found_in s) (NoChecksum s.content)
 in-unchecked s h = subst (λ (c : Option (List ℕ)). Contains (found_by_checksum s c) (NoChecksum s.content)) (sym h.0)
     (subst (λ (b : Bool). Contains (if b then NoChecksum s.content ∷ [] else []) (NoChecksum s.content)) (sym h.1)
     (first (NoChecksum s.content) []))
@@ -115,7 +115,7 @@ some-found p [] = (Missing p, first (Missing p) [])
 some-found p (a ∷ rest) = (Changed p a, first (Changed p a) (map (Changed p) rest))
 
 verified-if-none : (subjects : List ArchiveSubjectData) → archive_findings subjects ≡ [] → (s : ArchiveSubjectData) → Contains subjects s
-    → (s.content.checksum ≢ None → IsVerified s) × (¬ IsUnchecked s.content)
+    → (s.content.checksum ≢ None → IsVerified s) × (¬ IsOfRegistryUnchecked s.content)
 verified-if-none subjects none s there = (by s.content.checksum refl, λ h. nothing (NoChecksum s.content) (in-unchecked s h))
   where
     nothing : (f : ArchiveFindingData) → ¬ Contains (found_in s) f
@@ -132,7 +132,7 @@ verified-if-none subjects none s there = (by s.content.checksum refl, λ h. noth
             (subst (λ b. Contains (if b then [] else found_of_unverified s.content s.archives) f) (sym e) here)))
 
 -- where each with a checksum is verified, and each of a registry has one, this is not found
-not-found : (s : ArchiveSubjectData) (f : ArchiveFindingData) → (s.content.checksum ≢ None → IsVerified s) → (¬ IsUnchecked s.content)
+not-found : (s : ArchiveSubjectData) (f : ArchiveFindingData) → (s.content.checksum ≢ None → IsVerified s) → (¬ IsOfRegistryUnchecked s.content)
     → ¬ IsArchiveFindingOf s f
 not-found s (Changed p a) verified checked h = h.2 (verified h.1)
 not-found s (Missing p) verified checked h = no-archives s h.2 (verified h.1)

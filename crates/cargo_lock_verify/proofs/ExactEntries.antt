@@ -11,13 +11,13 @@ use Rattle.cargo_lock_verify.specs.declared.entry.Flaw.{Flaw}
 use Rattle.cargo_lock_verify.specs.declared.entry.Flaw.TheVariants as flaw
 use Rattle.cargo_lock_verify.specs.declared.entry.Others.{Others}
 use Rattle.cargo_lock_verify.specs.declared.entry.Others.TheVariants as others
-use Rattle.cargo_lock_verify.specs.Entries.{ContentData, EntryFindingsAreExact, Folder, IsFolderOfPackage, IsOther, LinesOfEntriesAreExact, Link, LinkedManifest, Nameless, PassedOver}
-use Rattle.cargo_lock_verify.specs.Entries.{entry_found, flaw_of, flaw_of_folder, flaw_of_other, found_at, is_folder_of, is_wanted}
+use Rattle.cargo_lock_verify.specs.Entries.{ContentData, EntryFindingsAreExact, Folder, IsFolderOfPackage, IsOfAnother, LinesOfEntriesAreExact, Link, LinkedManifest, Nameless, PassedOver}
+use Rattle.cargo_lock_verify.specs.Entries.{entry_found, flaw_of, flaw_of_folder, flaw_of_other, found_at, is_folder_of, has_folder_of}
 use Rattle.cargo_lock_verify.specs.Vendored.{FolderFindingData, OfEntry, VendoredData}
 
 -- ---- folders of packages
 
-wanted-is : (all : List VendoredData) (name : List ℕ) (version : Parts) → is_wanted all name version ≡ true → IsFolderOfPackage all (Folder name version)
+wanted-is : (all : List VendoredData) (name : List ℕ) (version : Parts) → has_folder_of all name version ≡ true → IsFolderOfPackage all (Folder name version)
 wanted-is all name version e =
     let (k, v, low, at, passes) = Any-from_list_any (is_folder_of name version) all e in
     let sourced = and_parts (is_some v.content.source) (same_text v.content.name name && same_parts v.content.version version) passes in
@@ -30,7 +30,7 @@ wanted-is all name version e =
     )
 
 is-wanted : (all : List VendoredData) (v : VendoredData) → Contains all v → is_some v.content.source ≡ true
-    → is_wanted all v.content.name v.content.version ≡ true
+    → has_folder_of all v.content.name v.content.version ≡ true
 is-wanted all v there has = let (k, low, at) = there in list_any-from_Any (is_folder_of v.content.name v.content.version) all
     (k, v, low, at, rw (has, same_text-refl v.content.name) (same_parts-refl v.content.version))
 
@@ -49,13 +49,13 @@ other-passed others.PassedOver e = refl
 
 -- why nothing is found of what an entry is
 abbrev IsQuiet : Others → List VendoredData → ContentData → Type 0
-IsQuiet who all c = (c ≡ PassedOver) ⊎ (IsFolderOfPackage all c ⊎ IsOther who c)
+IsQuiet who all c = (c ≡ PassedOver) ⊎ (IsFolderOfPackage all c ⊎ IsOfAnother who c)
 
 quiet-folder : (who : Others) (all : List VendoredData) (name : List ℕ) (version : Parts) → flaw_of_folder who all name version ≡ None
     → IsQuiet who all (Folder name version)
-quiet-folder who all name version = by (is_wanted all name version) refl
+quiet-folder who all name version = by (has_folder_of all name version) refl
   where
-    by : (b : Bool) → is_wanted all name version ≡ b → (if b then None else flaw_of_other who) ≡ None → IsQuiet who all (Folder name version)
+    by : (b : Bool) → has_folder_of all name version ≡ b → (if b then None else flaw_of_other who) ≡ None → IsQuiet who all (Folder name version)
     by true e none = inr (inl (wanted-is all name version e))
     by false e none = inr (inr (other-passed who none, (name, (version, refl))))
 
@@ -71,7 +71,7 @@ package-quiet : (who : Others) (all : List VendoredData) (v : VendoredData) → 
 package-quiet who all v there has = ap (λ (b : Bool). if b then None else flaw_of_other who) (is-wanted all v there has)
 
 other-quiet : (all : List VendoredData) (name : List ℕ) (version : Parts) → flaw_of_folder others.PassedOver all name version ≡ None
-other-quiet all name version = by (is_wanted all name version)
+other-quiet all name version = by (has_folder_of all name version)
   where
     by : (b : Bool) → (if b then None else flaw_of_other others.PassedOver) ≡ None
     by true = refl

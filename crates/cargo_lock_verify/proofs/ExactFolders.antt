@@ -10,7 +10,7 @@ use Rattle.cargo_lock_parts.specs.Checksum.{digest_of}
 use Rattle.cargo_lock_parts.specs.Identity.{PackageData}
 use Rattle.cargo_lock_parts.specs.Source.{Source}
 use Rattle.cargo_lock_verify.specs.declared.folder.Folder.{Folder}
-use Rattle.cargo_lock_verify.specs.Vendored.{Absent, FolderFindingData, FolderFindingsAreExact, IsAsListed, IsFolderFindingOf, IsFoundIn, IsVendored, IsWithoutChecksum, Link, ListedData, NoChecksum, NoFolder, NoneIfVendored, OfEntry, OtherArchive, OtherFile, Unlisted, VendoredData}
+use Rattle.cargo_lock_verify.specs.Vendored.{Absent, FolderFindingData, FolderFindingsAreExact, IsAsListed, IsFolderFindingOf, IsFoundIn, IsVendored, IsOfRegistryWithout, Link, ListedData, NoChecksum, NoFolder, NoneIfVendored, OfEntry, OtherArchive, OtherFile, Unlisted, VendoredData}
 use Rattle.cargo_lock_verify.specs.Vendored.{archive_found, checksum_found, digest_at, files_found, files_of, folder_findings, folder_found, folders_found, found_by_source, is_same_archive, is_unchecked, links_found, listed_by, listed_found, of_file, of_listed, vendored_found}
 use Rattle.lists.proofs.Members.{contains-cases as cases, first-in as first, in-joined as in-flat, in-map, later-in as later, none-in as no-element}
 use Rattle.lists.proofs.Members.{none-left as no-elements}
@@ -224,7 +224,7 @@ some-folder : (p : PackageData) (fs : List Folder) (f : Folder) (x : FolderFindi
 some-folder p [] f x there here = absurd (no-element f there)
 some-folder p (g ∷ rest) f x there here = in-flat (folder_found p) (g ∷ rest) f x there here
 
-checksum-in : (p : PackageData) → IsWithoutChecksum p → Contains (checksum_found p) (NoChecksum p)
+checksum-in : (p : PackageData) → IsOfRegistryWithout p → Contains (checksum_found p) (NoChecksum p)
 checksum-in p e = subst (λ (b : Bool). Contains (if b then NoChecksum p ∷ [] else []) (NoChecksum p)) (sym e) (first (NoChecksum p) [])
 
 -- all that is found of a package with a source
@@ -307,7 +307,7 @@ as-listed p f quiet = record {
 }
 
 vendored-if-none : (all : List VendoredData) → folder_findings all ≡ [] → (v : VendoredData) → Contains all v → v.content.source ≢ None
-    → IsVendored v × (¬ IsWithoutChecksum v.content)
+    → IsVendored v × (¬ IsOfRegistryWithout v.content)
 vendored-if-none all none v there has = (record { some = some; each = each }, λ h. nothing (NoChecksum v.content) (refl, h))
   where
     nothing : (x : FolderFindingData) → ¬ IsFolderFindingOf v x
@@ -335,7 +335,7 @@ quiet-of p f is (Link q g path) h = no-element path (subst (λ ls. Contains (map
 quiet-of p f is (NoChecksum q) h = h
 quiet-of p f is (OfEntry path flaw) h = h
 
-none-of : (v : VendoredData) (x : FolderFindingData) → IsVendored v → (¬ IsWithoutChecksum v.content) → ¬ IsFolderFindingOf v x
+none-of : (v : VendoredData) (x : FolderFindingData) → IsVendored v → (¬ IsOfRegistryWithout v.content) → ¬ IsFolderFindingOf v x
 none-of v (NoFolder q) is checked h = is.some h.1
 none-of v (OtherArchive q g) is checked h = let (f, there, so) = h in quiet-of v.content f (is.each f there) (OtherArchive q g) so
 none-of v (Absent q g path) is checked h = let (f, there, so) = h in quiet-of v.content f (is.each f there) (Absent q g path) so
@@ -369,6 +369,6 @@ vendored-if-empty v none = record { some = some; each = each }
     each f in-it = as-listed v.content f (λ x h. nothing x (some-folder v.content v.folders f x in-it (folder-in v.content f x h)))
 
 -- and then nothing is
-pub empty-if-vendored : (v : VendoredData) → IsVendored v → (¬ IsWithoutChecksum v.content) → folders_found v.content v.folders ≡ []
+pub empty-if-vendored : (v : VendoredData) → IsVendored v → (¬ IsOfRegistryWithout v.content) → folders_found v.content v.folders ≡ []
 empty-if-vendored v is checked = no-elements (folders_found v.content v.folders)
     (λ x h. none-of v x is checked (All-contains (IsFolderFindingOf v) (folders_found v.content v.folders) x (folders-so v) h))

@@ -118,8 +118,8 @@ abbrev pub IsVerified : ArchiveSubjectData → Type 0
 IsVerified s = (a : ArchiveData) × Contains s.archives a × (s.content.checksum ≡ Some a.digest)
 
 -- the package is of a registry, and the lockfile has no checksum of it
-abbrev pub IsUnchecked : PackageData → Type 0
-IsUnchecked p = (p.checksum ≡ None) × (is_of_registry p.source ≡ true)
+abbrev pub IsOfRegistryUnchecked : PackageData → Type 0
+IsOfRegistryUnchecked p = (p.checksum ≡ None) × (is_of_registry p.source ≡ true)
 
 -- this is found of the subject: its package has a checksum and is not verified, and the archive is
 -- one of it, or it has none; or its package is of a registry and has no checksum
@@ -127,7 +127,7 @@ abbrev pub IsArchiveFindingOf : ArchiveSubjectData → ArchiveFindingData → Ty
 IsArchiveFindingOf s (Changed p a) = (p ≡ s.content) × (s.content.checksum ≢ None)
     × (¬ IsVerified s) × Contains s.archives a
 IsArchiveFindingOf s (Missing p) = (p ≡ s.content) × (s.content.checksum ≢ None) × (s.archives ≡ [])
-IsArchiveFindingOf s (NoChecksum p) = (p ≡ s.content) × IsUnchecked s.content
+IsArchiveFindingOf s (NoChecksum p) = (p ≡ s.content) × IsOfRegistryUnchecked s.content
 
 -- this is found of one of the subjects
 abbrev pub IsArchiveFinding : List ArchiveSubjectData → ArchiveFindingData → Type 0
@@ -156,14 +156,14 @@ IsNotCompared s = (s.content.checksum ≡ None) × (is_of_registry s.content.sou
 abbrev pub NoneIfVerified : Type 0
 NoneIfVerified = (subjects : List ArchiveSubjectData) → (archive_findings subjects ≡ [])
     ↔ ((s : ArchiveSubjectData) → Contains subjects s
-    → (s.content.checksum ≢ None → IsVerified s) × (¬ IsUnchecked s.content))
+    → (s.content.checksum ≢ None → IsVerified s) × (¬ IsOfRegistryUnchecked s.content))
 
 -- what each class of a subject means
 abbrev pub IsOfArchiveClass : ArchiveSubjectData → Class → Type 0
 IsOfArchiveClass s class.Matches = IsVerified s
 IsOfArchiveClass s class.Changed = IsChanged s
 IsOfArchiveClass s class.Missing = IsMissing s
-IsOfArchiveClass s class.NoChecksum = IsUnchecked s.content
+IsOfArchiveClass s class.NoChecksum = IsOfRegistryUnchecked s.content
 IsOfArchiveClass s class.NotCompared = IsNotCompared s
 
 -- each subject is in exactly the class whose meaning it has
@@ -176,7 +176,7 @@ ArchiveClassesAreExact = (s : ArchiveSubjectData) (c : Class)
 pub record IsCleanOf (all : Bool) (subjects : List ArchiveSubjectData) : Type 0 where
   pub unchanged : (s : ArchiveSubjectData) → Contains subjects s → ¬ IsChanged s
   pub complete : all ≡ true → (s : ArchiveSubjectData) → Contains subjects s
-      → (¬ IsMissing s) × (¬ IsUnchecked s.content)
+      → (¬ IsMissing s) × (¬ IsOfRegistryUnchecked s.content)
   pub one : (s : ArchiveSubjectData) → Contains subjects s → ¬ IsNotCompared s
       → (t : ArchiveSubjectData) × Contains subjects t × IsVerified t
 

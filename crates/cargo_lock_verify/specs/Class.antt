@@ -29,18 +29,18 @@ counts_of classes = record {
 }
 
 -- each package has what it is compared with: an archive or a folder, and, of a registry, a checksum
-abbrev pub is_complete : Counts → Bool
-is_complete c = c.missing == 0 && c.without_checksum == 0
+abbrev pub has_all_compared : Counts → Bool
+has_all_compared c = c.missing == 0 && c.without_checksum == 0
 
 -- nothing that counts is found: no package is changed, and each has what it is compared with; if
 -- all is not asked for, one that matches is enough in place of the latter
 abbrev pub is_clean : Bool → Counts → Bool
-is_clean all c = c.changed == 0 && (is_complete c || not all && not (c.matches == 0))
+is_clean all c = c.changed == 0 && (has_all_compared c || not all && not (c.matches == 0))
 
 -- there is a source, and it is a registry
 abbrev pub is_of_registry : Option Source → Bool
 is_of_registry None = false
-is_of_registry (Some s) = is_registry s.kind
+is_of_registry (Some source) = is_registry source.kind
 
 -- ---- each is in one class
 

@@ -40,8 +40,8 @@ pub record EntryData : Type 0 where
   pub content : ContentData
 
 -- the data of an entry of the program
-abbrev pub entry_of : Entry → EntryData
-entry_of e = record { path = string_bytes e.path; content = content_of e.content }
+abbrev pub vendored_entry : Entry → EntryData
+vendored_entry e = record { path = string_bytes e.path; content = content_of e.content }
 
 -- the package has a source, and this name and version: its folder is compared with its list
 abbrev pub is_folder_of : List ℕ → Parts → VendoredData → Bool
@@ -49,8 +49,8 @@ is_folder_of name version v = is_some v.content.source
     && has_name_and_version name version (identity_of v.content)
 
 -- a package with a source has this name and version
-abbrev pub is_wanted : List VendoredData → List ℕ → Parts → Bool
-is_wanted all name version = list_any (is_folder_of name version) all
+abbrev pub has_folder_of : List VendoredData → List ℕ → Parts → Bool
+has_folder_of all name version = list_any (is_folder_of name version) all
 
 -- what is wrong with a folder of no package
 abbrev pub flaw_of_other : Others → Option Flaw
@@ -60,7 +60,7 @@ flaw_of_other others.PassedOver = None
 -- what is wrong with a folder of this name and version
 abbrev pub flaw_of_folder : Others → List VendoredData → List ℕ → Parts → Option Flaw
 flaw_of_folder who all name version =
-    if is_wanted all name version then None else flaw_of_other who
+    if has_folder_of all name version then None else flaw_of_other who
 
 -- what is wrong with an entry, if anything is
 abbrev pub flaw_of : Others → List VendoredData → ContentData → Option Flaw
@@ -91,8 +91,8 @@ IsFolderOfPackage all c = (v : VendoredData) × Contains all v × (is_some v.con
     × (c ≡ Folder v.content.name v.content.version)
 
 -- the entry is a folder of another package, and these are passed over
-abbrev pub IsOther : Others → ContentData → Type 0
-IsOther who c = (who ≡ others.PassedOver) × ((name : List ℕ) × ((version : Parts)
+abbrev pub IsOfAnother : Others → ContentData → Type 0
+IsOfAnother who c = (who ≡ others.PassedOver) × ((name : List ℕ) × ((version : Parts)
     × (c ≡ Folder name version)))
 
 -- an entry has a line exactly if Cargo does not pass it over, it is no folder of a package, and it is
@@ -100,7 +100,7 @@ IsOther who c = (who ≡ others.PassedOver) × ((name : List ℕ) × ((version :
 abbrev pub LinesOfEntriesAreExact : Type 0
 LinesOfEntriesAreExact = (who : Others) (all : List VendoredData) (e : EntryData)
     → (entry_found who all e ≡ []) ↔ ((e.content ≡ PassedOver) ⊎ (IsFolderOfPackage all e.content
-    ⊎ IsOther who e.content))
+    ⊎ IsOfAnother who e.content))
 
 -- what is found of entries is exactly what is wrong with each
 abbrev pub EntryFindingsAreExact : Type 0

@@ -190,15 +190,15 @@ pub record IsVendored (v : VendoredData) : Type 0 where
   pub each : (f : Folder) → Contains v.folders f → IsAsListed v.content f
 
 -- the package is of a registry, and the lockfile has no checksum of it
-abbrev pub IsWithoutChecksum : PackageData → Type 0
-IsWithoutChecksum p = is_unchecked p ≡ true
+abbrev pub IsOfRegistryWithout : PackageData → Type 0
+IsOfRegistryWithout p = is_unchecked p ≡ true
 
 -- nothing is found exactly if each package with a source has a folder, each of its folders is as its
 -- list says, and, if it is of a registry, the lockfile has its checksum
 abbrev pub NoneIfVendored : Type 0
 NoneIfVendored = (all : List VendoredData) → (folder_findings all ≡ [])
     ↔ ((v : VendoredData) → Contains all v → v.content.source ≢ None
-    → IsVendored v × (¬ IsWithoutChecksum v.content))
+    → IsVendored v × (¬ IsOfRegistryWithout v.content))
 
 -- this is found of the folder of a package
 abbrev pub IsFoundIn : PackageData → Folder → FolderFindingData → Type 0
@@ -219,7 +219,7 @@ IsFoundIn p f (OfEntry path flaw) = ⊥
 -- registry; or it is found of one of its folders
 abbrev pub IsFolderFindingOf : VendoredData → FolderFindingData → Type 0
 IsFolderFindingOf v (NoFolder q) = (q ≡ v.content) × (v.folders ≡ [])
-IsFolderFindingOf v (NoChecksum q) = (q ≡ v.content) × IsWithoutChecksum v.content
+IsFolderFindingOf v (NoChecksum q) = (q ≡ v.content) × IsOfRegistryWithout v.content
 IsFolderFindingOf v other = (f : Folder) × Contains v.folders f × IsFoundIn v.content f other
 
 -- what is found is exactly that, of each package with a source
@@ -230,14 +230,14 @@ FolderFindingsAreExact = (all : List VendoredData) (x : FolderFindingData)
 
 -- the package has a source, and the lockfile has its checksum if it is of a registry
 abbrev pub IsCompared : PackageData → Type 0
-IsCompared p = (p.source ≢ None) × (¬ IsWithoutChecksum p)
+IsCompared p = (p.source ≢ None) × (¬ IsOfRegistryWithout p)
 
 -- what each class of a package means
 abbrev pub IsOfFolderClass : VendoredData → Class → Type 0
 IsOfFolderClass v class.Matches = IsCompared v.content × IsVendored v
 IsOfFolderClass v class.Changed = IsCompared v.content × (v.folders ≢ []) × (¬ IsVendored v)
 IsOfFolderClass v class.Missing = IsCompared v.content × (v.folders ≡ [])
-IsOfFolderClass v class.NoChecksum = IsWithoutChecksum v.content
+IsOfFolderClass v class.NoChecksum = IsOfRegistryWithout v.content
 IsOfFolderClass v class.NotCompared = v.content.source ≡ None
 
 -- each package is in exactly the class whose meaning it has

@@ -83,12 +83,12 @@ impl Counts {
     pub fn is_clean(&self, all: bool) -> bool
         ensures { result ≡ spec.is_clean all self.now }
     {
-        self.changed == 0 && (self.is_complete() || !all && self.matches != 0)
+        self.changed == 0 && (self.has_all_compared() || !all && self.matches != 0)
     }
 
     // Whether each package has what it is compared with.
-    fn is_complete(&self) -> bool
-        ensures { result ≡ spec.is_complete self.now }
+    fn has_all_compared(&self) -> bool
+        ensures { result ≡ spec.has_all_compared self.now }
     {
         self.missing == 0 && self.without_checksum == 0
     }

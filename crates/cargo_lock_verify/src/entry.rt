@@ -5,7 +5,7 @@ ghost use Rattle.std.specs.Prelude.{◌≡◌, ◌++◌, IfOk, OnOk, map};
 ghost use Rattle.std.specs.List.{list_any};
 ghost use Rattle.semver.specs.Identifiers.{parts_of};
 ghost use Rattle.cargo_lock_verify.specs.Entries as spec;
-ghost use Rattle.cargo_lock_verify.specs.Entries.{content_of, entry_found, entry_of};
+ghost use Rattle.cargo_lock_verify.specs.Entries.{content_of, entry_found, vendored_entry};
 ghost use Rattle.cargo_lock_verify.specs.Vendored.{folder_finding_of, vendored_of};
 
 use crate::folder::{FolderFinding, Vendored};
@@ -84,7 +84,7 @@ pub fn entry_findings<'p, 'a>(
     others: Others,
 ) -> Result<Vec<FolderFinding<'p, 'a>>, AllocError>
     ensures { IfOk result (λ found. map folder_finding_of found.items
-        ≡ spec.entry_findings others (map vendored_of vendored.now) (map entry_of entries.now)) }
+        ≡ spec.entry_findings others (map vendored_of vendored.now) (map vendored_entry entries.now)) }
 {
     let mut found = Vec::new(alloc);
     put_entries(&mut found, vendored, entries, others)?;
@@ -100,7 +100,7 @@ pub(crate) fn put_entries<'p, 'a>(
 ) -> Result<(), AllocError>
     ensures { OnOk result (map folder_finding_of found.new.items
         ≡ map folder_finding_of found.old.items
-        ++ spec.entry_findings others (map vendored_of vendored.now) (map entry_of entries.now)) }
+        ++ spec.entry_findings others (map vendored_of vendored.now) (map vendored_entry entries.now)) }
 {
     for entry in entries {
         put_entry(found, vendored, entry, others)?;
@@ -117,7 +117,7 @@ fn put_entry<'p, 'a>(
 ) -> Result<(), AllocError>
     ensures { OnOk result (map folder_finding_of found.new.items
         ≡ map folder_finding_of found.old.items
-        ++ entry_found others (map vendored_of vendored.now) (entry_of entry.now)) }
+        ++ entry_found others (map vendored_of vendored.now) (vendored_entry entry.now)) }
 {
     match flaw_of(vendored, &entry.content, others) {
         Some(flaw) => {
@@ -151,7 +151,7 @@ fn flaw_of_folder(
     ensures { result ≡ spec.flaw_of_folder others (map vendored_of vendored.now)
         name.now (parts_of version.now) }
 {
-    if is_wanted(vendored, name, version) {
+    if has_folder_of(vendored, name, version) {
         return None;
     }
     match others {
@@ -161,8 +161,8 @@ fn flaw_of_folder(
 }
 
 // Whether a package with a source has this name and version.
-fn is_wanted(vendored: &[Vendored<'_>], name: &Name, version: &Version) -> bool
-    ensures { result ≡ spec.is_wanted (map vendored_of vendored.now)
+fn has_folder_of(vendored: &[Vendored<'_>], name: &Name, version: &Version) -> bool
+    ensures { result ≡ spec.has_folder_of (map vendored_of vendored.now)
         name.now (parts_of version.now) }
 {
     is_among(vendored, name, version)

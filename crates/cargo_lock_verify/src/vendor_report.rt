@@ -1,7 +1,7 @@
 //! What a comparison of folders with their lists and with a lockfile reports.
 
 ghost use Rattle.std.specs.Prelude.{◌≡◌, IfOk, map};
-ghost use Rattle.cargo_lock_verify.specs.Entries.{entry_of};
+ghost use Rattle.cargo_lock_verify.specs.Entries.{vendored_entry};
 ghost use Rattle.cargo_lock_verify.specs.Vendored.{class_of_sourced, folder_class, folder_counts};
 ghost use Rattle.cargo_lock_verify.specs.Vendored.{folder_finding_of, is_as_listed, vendored_of};
 ghost use Rattle.cargo_lock_verify.specs.VendorReport.{vendor_findings};
@@ -41,7 +41,7 @@ impl<'p, 'a> VendorReport<'p, 'a> {
         others: Others,
     ) -> Result<VendorReport<'p, 'a>, AllocError>
         ensures findings { IfOk result (λ report. map folder_finding_of report.findings.items
-            ≡ vendor_findings others (map vendored_of vendored.now) (map entry_of entries.now)) }
+            ≡ vendor_findings others (map vendored_of vendored.now) (map vendored_entry entries.now)) }
         ensures counts { IfOk result (λ report. report.counts
             ≡ folder_counts (map vendored_of vendored.now)) }
     {
@@ -59,7 +59,7 @@ fn findings_of<'p, 'a>(
     others: Others,
 ) -> Result<Vec<FolderFinding<'p, 'a>>, AllocError>
     ensures { IfOk result (λ found. map folder_finding_of found.items
-        ≡ vendor_findings others (map vendored_of vendored.now) (map entry_of entries.now)) }
+        ≡ vendor_findings others (map vendored_of vendored.now) (map vendored_entry entries.now)) }
 {
     let mut found = vendored_findings(alloc, vendored)?;
     put_entries(&mut found, vendored, entries, others)?;

@@ -3,7 +3,7 @@
 ghost use Rattle.std.specs.Prelude.{◌≡◌, IfOk, false, map, true};
 ghost use Rattle.clap.specs.Matches.{found_of};
 ghost use Rattle.cargo_lock_verify.specs.Archives.{archive_subject_of};
-ghost use Rattle.cargo_lock_verify.specs.Entries.{entry_of};
+ghost use Rattle.cargo_lock_verify.specs.Entries.{vendored_entry};
 ghost use Rattle.cargo_lock_verify.specs.Vendored.{vendored_of};
 ghost use Rattle.cli_folder_commands.specs.Verify as spec;
 ghost use Rattle.cli_folder_commands.specs.Verify.{AreSubjectsOf, AreVendoredOf, PrintsReport};
@@ -165,7 +165,7 @@ fn print_vendor_report<W: Write>(
     out: &mut W,
 ) -> Result<ExitCode, Fault>
     ensures { IfOk result (λ status. PrintsVendorReport (found_of options.now) file.now
-        (map vendored_of vendored.now) (map entry_of entries.now)
+        (map vendored_of vendored.now) (map vendored_entry entries.now)
         (W.contents out.old) (W.contents out.new)
         (status ≡ ExitCode.FAILURE) (status ≡ ExitCode.SUCCESS)) }
 {

@@ -1,6 +1,6 @@
 use Rattle.std.proofs.Common.{◌∙◌, sym}
 use Rattle.std.proofs.lemmas.List.{length-map}
-use Rattle.cargo_lock_audit.specs.Coverage.{package_at}
+use Rattle.cargo_lock_audit.specs.Coverage.{package_by_place}
 use Rattle.cargo_lock_audit.proofs.coverage.CoverageDisplay.fmt.Goals as goal
 
 pub returns-clause-writes : goal.returns-clause-writes
@@ -26,5 +26,5 @@ returns-clause-writes g c =
       c.noun-package.ensures,
       c.noun-advisory.ensures,
       c.len-compared.ensures ∙ c.args.self.now.compared.ok.0,
-      sym (length-map c.args.self.now.compared.items package_at),
+      sym (length-map c.args.self.now.compared.items package_by_place),
     ) at c.write.ensures.writes

@@ -3,7 +3,7 @@ use Rattle.semver.specs.Identifiers.{parts_of}
 use Rattle.cargo_lock_verify.specs.Entries.{is_folder_of}
 use Rattle.cargo_lock_verify.specs.Vendored.{vendored_of}
 use Rattle.lists.proofs.Tests.{any-map}
-use Rattle.cargo_lock_verify.proofs.entry.is_wanted.Goals as goal
+use Rattle.cargo_lock_verify.proofs.entry.has_folder_of.Goals as goal
 
 pub returns : goal.returns
 returns c = c.is_among.ensures
