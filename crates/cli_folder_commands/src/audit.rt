@@ -51,7 +51,8 @@ cannot be read.";
 /// The options, as help shows them.
 const DATABASE_HELP: &str = "The folder of the advisories";
 
-const IGNORE_HELP: &str = "Leaves out the advisory of this id or alias, and others that are given so";
+const IGNORE_HELP: &str =
+    "Leaves out the advisory of this id or alias, and others that are given so";
 
 const DENY_HELP: &str =
     "Counts informational advisories of this kind as vulnerabilities; warnings are all kinds";

@@ -15,8 +15,7 @@ returns-clause-within c =
 
 pub returns-clause-drawn : goal.returns-clause-drawn
 returns-clause-drawn c =
-    let members : List ℕ = c.in_ok-members.members.items in
-    (
+    let members : List ℕ = c.in_ok-members.members.items in (
       members,
       c.in_ok-members.ensures,
       c.in_ok-extend_from_slice.ensures.items ∙ (λ i. c.in_ok-starts.ensures.ok i ++ c.deref.ensures.value i),
