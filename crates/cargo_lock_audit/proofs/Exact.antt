@@ -1,6 +1,7 @@
 -- What is found is exactly what the relations say.
 use Rattle.std.proofs.Common.{◌≡◌, ◌⊎◌, ◌&&◌, ◌||◌, ◌++◌, ℕ, Bool, true, false, true≢false, cond, filter, List, [], ◌∷◌, Option, None, Some, is_some, not, refl, ap, sym, ◌∙◌, inl, inr, subst, if◌then◌else◌, bytes_eq, codes}
 use Rattle.std.specs.List.{Contains, list_any}
+use Rattle.std.proofs.lemmas.Bool.{or_left, or_right}
 use Rattle.std.proofs.lemmas.Slice.Eq.{bytes_eq-Decides}
 use Rattle.std.proofs.lemmas.Option.{same_Some}
 use Rattle.std.proofs.lemmas.List.Elements.{filter-append}
@@ -54,11 +55,6 @@ is-collection (Some c) (inl e) = absurd (true≢false (ap is_some e))
 is-collection (Some c) (inr e) = (bytes_eq-Decides c (codes "crates")).1 (same_Some c (codes "crates") e)
 
 -- ---- two tests
-
-or-one : (a b : Bool) → (a ≡ true) ⊎ (b ≡ true) → (a || b) ≡ true
-or-one true b h = refl
-or-one false b (inl e) = absurd (true≢false (sym e))
-or-one false b (inr e) = e
 
 record Two (a b : Bool) : Type 0 where
   one : a ≡ true
@@ -151,8 +147,8 @@ named a t e = elim (or-cases (bytes_eq a.id t) (is_listed a.aliases t) e) [
 ]
 
 is-named : (a : AdvisoryData) (t : List ℕ) → IsNameOf a t → is_name_of a t ≡ true
-is-named a t (inl same) = or-one (bytes_eq a.id t) (is_listed a.aliases t) (inl ((bytes_eq-Decides a.id t).1 same))
-is-named a t (inr there) = or-one (bytes_eq a.id t) (is_listed a.aliases t) (inr (is-listed a.aliases t there))
+is-named a t (inl same) = or_left (bytes_eq a.id t) (is_listed a.aliases t) ((bytes_eq-Decides a.id t).1 same)
+is-named a t (inr there) = or_right (bytes_eq a.id t) (is_listed a.aliases t) (is-listed a.aliases t there)
 
 -- no text is a name of the advisory
 unignored : (texts : List (List ℕ)) (a : AdvisoryData) → is_ignored texts a ≡ false → ¬ IsIgnored texts a
@@ -231,7 +227,7 @@ none-without-crates-io packages advisories ignored denied none =
 denied-kind : (denied : List (List ℕ)) (kind : Option (List ℕ)) → Contains denied warnings → is_denied_kind denied kind ≡ true
 denied-kind denied None all = refl
 denied-kind denied (Some kind) all =
-    or-one (is_listed denied kind) (is_listed denied warnings) (inr (is-listed denied warnings all))
+    or_right (is_listed denied kind) (is_listed denied warnings) (is-listed denied warnings all)
 
 pub warnings-deny-all : WarningsDenyAll
 warnings-deny-all packages advisories ignored denied f all there =
