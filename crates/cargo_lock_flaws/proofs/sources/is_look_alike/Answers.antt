@@ -15,7 +15,7 @@ named-alike s r other tells = (λ h. record { named = tells.0 h; other = other }
 pub returns-then-is_named : goal.returns-then-is_named
 returns-then-is_named c =
     let s = c.args.source.now in
-    let other = sym c.in_ok-is_canonically_crates_io.ensures ∙ c.if-is_canonically_crates_io.false in
+    let other = sym c.in_ok-is_canonically_crates_io.ensures ∙ c.if-branch.false in
     let text : c.as_bytes.result.now ≡ serialize s.url = c.as_bytes.ensures.value ∙ c.as_str-url.ensures.value ∙ ap serialize c.url.ensures in
     let plain = subst (λ (t : List ℕ). Decides c.in_ok-is_named.is_named (NamesIndex t)) text c.in_ok-is_named.ensures in
     named-alike s _ other (decides-first c.in_ok-is_named.is_named _ c.if-is_named.true refl plain)
@@ -23,7 +23,7 @@ returns-then-is_named c =
 pub returns-else-is_named : goal.returns-else-is_named
 returns-else-is_named c =
     let s = c.args.source.now in
-    let other = sym c.in_ok-is_canonically_crates_io.ensures ∙ c.if-is_canonically_crates_io.false in
+    let other = sym c.in_ok-is_canonically_crates_io.ensures ∙ c.if-branch.false in
     let url : c.as_str-url.result.now ≡ serialize s.url = c.as_str-url.ensures.value ∙ ap serialize c.url.ensures in
     let plain = subst (λ (t : List ℕ). Decides c.in_ok-is_named.is_named (NamesIndex t)) (c.as_bytes.ensures.value ∙ url) c.in_ok-is_named.ensures in
     let decoded = subst (λ (t : List ℕ). Decides c.in_ok-is_named_by_escapes.is_named_by_escapes (NamesIndex t))
