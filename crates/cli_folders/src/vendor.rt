@@ -2,9 +2,7 @@
 
 ghost use Rattle.std.specs.Prelude.{◌≡◌, [], IfOk, None};
 
-use crate::files::{
-    self, all_names_in, digest_at, entry_at, fault_at, fault_of, path_of, text_at,
-};
+use crate::files::{self, all_names_in, digest_at, entry_at, fault_at, fault_of, path_of, text_at};
 use crate::manifest::{manifest_path, table_at, text_in};
 use cargo_lock_parts::Error;
 use cargo_lock_parts::package::{Checksum, Name, Package};
