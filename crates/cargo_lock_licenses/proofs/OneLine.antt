@@ -10,7 +10,7 @@ use Rattle.printing.proofs.Printable.{Prints, join, literal, shown-prints, words
 use Rattle.cargo_lock_display.proofs.Printed.{package-prints}
 use Rattle.cargo_lock_licenses.specs.Lines.{EachVerdictIsOneLine, verdict_line}
 use Rattle.cargo_lock_licenses.specs.Judged.{Given, JudgedData, Manifests, WordData, judged_line, worded}
-use Rattle.cargo_lock_licenses.specs.Report.{EachIsOneLine, Term, UnmetData, Words, unmet_line}
+use Rattle.cargo_lock_licenses.specs.Report.{EachIsOneLine, Term, UnmetData, Words, vain_line}
 use Rattle.cargo_lock_licenses.specs.Verdicts.{Allowed, Differ, NoExpression, NoLicense, NoManifest, NotAllowed, OnlyFile, VerdictData}
 
 line-prints : (v : VerdictData) → Prints (verdict_line v)
@@ -37,7 +37,7 @@ worded-prints line (Given (Some text)) prints = join prints (words (codes " (giv
 judged-prints : (j : JudgedData) → Prints (judged_line j)
 judged-prints j = worded-prints (verdict_line j.verdict) j.word (line-prints j.verdict)
 
-unmet-prints : (u : UnmetData) → Prints (unmet_line u)
+unmet-prints : (u : UnmetData) → Prints (vain_line u)
 unmet-prints (Term text) = words (codes "- ") refl (join (shown-prints Quoted text) (literal (codes ": nothing to allow") refl))
 unmet-prints (Words text) = words (codes "- ") refl (join (shown-prints Quoted text) (literal (codes ": no such package") refl))
 
@@ -47,7 +47,7 @@ data Row : Type 0 where
 
 row : Row → List ℕ
 row (Said j) = judged_line j
-row (Unsaid u) = unmet_line u
+row (Unsaid u) = vain_line u
 
 row-prints : (r : Row) → Prints (row r)
 unfolding row
@@ -71,6 +71,6 @@ each-of-report judged unmet =
     let text = flat_map-append (λ r. row r ++ newline ∷ []) said unsaid ∙ ap (λ xs. xs ++ written unsaid) (text-of Said judged) ∙ ap (λ xs. flat_map (λ j. judged_line j ++ newline ∷ []) judged ++ xs) (text-of Unsaid unmet) in
     ap lines (sym text) ∙ each-is-line row row-prints (said ++ unsaid) ∙ rows-of Said judged unsaid ∙ ap (λ ys. map judged_line judged ++ ys) (rows-only unmet)
   where
-    rows-only : (us : List UnmetData) → map row (map Unsaid us) ≡ map unmet_line us
+    rows-only : (us : List UnmetData) → map row (map Unsaid us) ≡ map vain_line us
     rows-only [] = refl
-    rows-only (u ∷ us) = ap (λ ys. unmet_line u ∷ ys) (rows-only us)
+    rows-only (u ∷ us) = ap (λ ys. vain_line u ∷ ys) (rows-only us)

@@ -3,7 +3,8 @@ use Rattle.std.proofs.Common.{◌≡◌, ◌≢◌, ◌∙◌, ◌++◌, ◌∷�
 use Rattle.std.specs.Prelude.{option_map}
 use Rattle.std.specs.List.{All, Contains, find, list_any}
 use Rattle.std.proofs.lemmas.List.Elements.{All-cons, All-contains, All-nil, Contains-append_cases, Contains-append_left, Contains-append_right}
-use Rattle.lists.proofs.Members.{first-in, in-joined, joined-in, later-in}
+use Rattle.lists.proofs.Members.{in-joined, joined-in}
+use Rattle.lists.proofs.Pairs.{all-of}
 use Rattle.cargo_lock_parts.specs.Identity.{PackageData}
 use Rattle.cargo_lock_licenses.specs.Judged.{ExemptionsReachTheirOwn, GivenReachTheirOwn, IsJudgedBy, JudgedData, MoreExemptionsAddNoFinding, is_judged_finding}
 use Rattle.cargo_lock_licenses.specs.declared.policy.Given.{Given}
@@ -41,10 +42,6 @@ given-reach-their-own policy before after g s j other h = record {
 
 -- ---- more exemptions
 
-all-from : {X : Type 0} (P : X → Type 0) (xs : List X) → ((x : X) → Contains xs x → P x) → All P xs
-all-from P [] h = All-nil P
-all-from P (x ∷ xs) h = All-cons P x xs (h x (first-in x xs)) (all-from P xs (λ y there. h y (later-in x xs y there)))
-
 more-terms : (p : PackageData) (some more : List ExemptionData) → All (Contains more) some → (t : List ℕ) → Contains (exempt_terms some p) t → Contains (exempt_terms more p) t
 more-terms p some more within t there =
     let (x, in-some, own) = joined-in (exempt_if p) some t there in
@@ -54,7 +51,7 @@ within-terms : (p : PackageData) (some more : List ExemptionData) → All (Conta
     → All (Contains (with_exempt allowed (exempt_terms more p))) (with_exempt allowed (exempt_terms some p))
 within-terms p some more within [] = All-nil (Contains [])
 within-terms p some more within (a ∷ rest) =
-    all-from (Contains ((a ∷ rest) ++ exempt_terms more p)) ((a ∷ rest) ++ exempt_terms some p) (λ t there. elim (Contains-append_cases (a ∷ rest) (exempt_terms some p) t there) [
+    all-of (Contains ((a ∷ rest) ++ exempt_terms more p)) ((a ∷ rest) ++ exempt_terms some p) (λ t there. elim (Contains-append_cases (a ∷ rest) (exempt_terms some p) t there) [
       | inl left ↦ Contains-append_left (a ∷ rest) (exempt_terms more p) t left
       | inr right ↦ Contains-append_right (a ∷ rest) (exempt_terms more p) t (more-terms p some more within t right)
     ])

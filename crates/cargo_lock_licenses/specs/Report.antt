@@ -78,21 +78,21 @@ all_unmet policy subjects judged = flat_map (unmet_term (terms_had judged)) poli
 
 -- ---- lines
 
-abbrev pub unmet_line : UnmetData → List ℕ
-unmet_line (Term text) = codes "- " ++ (shown Quoted text ++ codes ": nothing to allow")
-unmet_line (Words words) = codes "- " ++ (shown Quoted words ++ codes ": no such package")
+abbrev pub vain_line : UnmetData → List ℕ
+vain_line (Term text) = codes "- " ++ (shown Quoted text ++ codes ": nothing to allow")
+vain_line (Words words) = codes "- " ++ (shown Quoted words ++ codes ": no such package")
 
 -- the line of each judgement, and then of each that was said in vain, each with its newline
 abbrev pub judged_text : List JudgedData → List ℕ
 judged_text = flat_map (λ j. judged_line j ++ newline ∷ [])
 
-abbrev pub unmet_text : List UnmetData → List ℕ
-unmet_text = flat_map (λ u. unmet_line u ++ newline ∷ [])
+abbrev pub vain_text : List UnmetData → List ℕ
+vain_text = flat_map (λ u. vain_line u ++ newline ∷ [])
 
 abbrev pub report_text : List JudgedData → List UnmetData → List ℕ
-report_text judged unmet = judged_text judged ++ unmet_text unmet
+report_text judged unmet = judged_text judged ++ vain_text unmet
 
 -- each is exactly one line, whatever names, versions, sources, paths, texts and words hold
 abbrev pub EachIsOneLine : Type 0
 EachIsOneLine = (judged : List JudgedData) (unmet : List UnmetData)
-    → lines (report_text judged unmet) ≡ map judged_line judged ++ map unmet_line unmet
+    → lines (report_text judged unmet) ≡ map judged_line judged ++ map vain_line unmet

@@ -8,7 +8,7 @@ ghost use Rattle.cargo_lock_licenses.specs.Policy.{exemption_of, given_of, polic
 ghost use Rattle.cargo_lock_licenses.specs.Report.{AddsJudged, AreJudged, all_unmet, is_exempted};
 ghost use Rattle.cargo_lock_licenses.specs.Report.{is_given, judged_text, terms_had, terms_of};
 ghost use Rattle.cargo_lock_licenses.specs.Report.{unmet_exemption, unmet_given, unmet_of};
-ghost use Rattle.cargo_lock_licenses.specs.Report.{unmet_term, unmet_text};
+ghost use Rattle.cargo_lock_licenses.specs.Report.{unmet_term, vain_text};
 ghost use Rattle.cargo_lock_licenses.specs.Subjects.{license_subject_of, subject_has_source};
 ghost use Rattle.cargo_lock_licenses.specs.Terms as spec;
 ghost use Rattle.cargo_lock_licenses.specs.Verdicts.{verdict_of};
@@ -326,9 +326,9 @@ fn has_exemption(subject: &Subject<'_>, exemption: &Exemption) -> bool
 
 impl fmt::Display for Unmet<'_> {
     ghost use Rattle.std.specs.Prelude.{Some};
-    ghost use Rattle.cargo_lock_licenses.specs.Report.{unmet_line, unmet_of};
+    ghost use Rattle.cargo_lock_licenses.specs.Report.{vain_line, unmet_of};
 
-    ghost output = { λ unmet. Some (unmet_line (unmet_of unmet)) };
+    ghost output = { λ unmet. Some (vain_line (unmet_of unmet)) };
 
     fn fmt<W: fmt::Write>(&self, f: &mut fmt::Formatter<W>) -> fmt::Result {
         match *self {
@@ -372,10 +372,10 @@ fn write_judged<W: fmt::Write>(all: &[Judged<'_, '_>], f: &mut fmt::Formatter<W>
 // Writes the line of each part that was said in vain.
 fn write_unmet<W: fmt::Write>(all: &[Unmet<'_>], f: &mut fmt::Formatter<W>) -> fmt::Result
     ensures { DisplaysOnOk W.write_str_gives f.old result
-        (Some (unmet_text (map unmet_of all.now))) f.new }
+        (Some (vain_text (map unmet_of all.now))) f.new }
 {
-    for unmet in all {
-        write!(f, "{unmet}\n")?;
+    for part in all {
+        write!(f, "{part}\n")?;
     }
     Ok(())
 }

@@ -10,13 +10,13 @@ use Rattle.cargo_lock_licenses.specs.Subjects.{ManifestData, manifest_of}
 use Rattle.cli_folders.specs.declared.found.Found.{Found}
 
 -- what was found under a name and a version: what a manifest says, or none that counts
-pub record FoundData : Type 0 where
+pub record FoundManifestData : Type 0 where
   pub name : List ℕ
   pub version : Parts
   pub manifest : Option ManifestData
 
 -- the data of what the program found
-abbrev pub found_of : Found → FoundData
+abbrev pub found_of : Found → FoundManifestData
 found_of f = record {
   name = string_bytes f.name;
   version = parts_of f.version;
@@ -24,19 +24,19 @@ found_of f = record {
 }
 
 -- it has the name and the version of the package
-abbrev pub is_of : PackageData → FoundData → Bool
-is_of p f = bytes_eq p.name f.name && same_parts p.version f.version
+abbrev pub is_named_as : PackageData → FoundManifestData → Bool
+is_named_as p f = bytes_eq p.name f.name && same_parts p.version f.version
 
 -- it has them, and no manifest that counts
-abbrev pub is_without : PackageData → FoundData → Bool
-is_without p f = is_of p f && is_none f.manifest
+abbrev pub is_without : PackageData → FoundManifestData → Bool
+is_without p f = is_named_as p f && is_none f.manifest
 
 -- its manifest, if it is of the package
-abbrev pub manifests_if : PackageData → FoundData → List ManifestData
-manifests_if p f = if is_of p f then option_to_list f.manifest else []
+abbrev pub manifests_if : PackageData → FoundManifestData → List ManifestData
+manifests_if p f = if is_named_as p f then option_to_list f.manifest else []
 
 -- the manifests of a package: those of its name and its version, if it has a source and all that
 -- was found under these counts
-abbrev pub manifests_of : PackageData → List FoundData → List ManifestData
+abbrev pub manifests_of : PackageData → List FoundManifestData → List ManifestData
 manifests_of p found = if is_some p.source && not (list_any (is_without p) found)
     then flat_map (manifests_if p) found else []

@@ -166,7 +166,7 @@ impl Manifests {
         package: &Package,
     ) -> Result<(), Fault> {
         match unpacked_at(rt, path)? {
-            Some(found) if found.is_of(package) => self.found.push(found)?,
+            Some(found) if found.is_named_as(package) => self.found.push(found)?,
             _ => self
                 .found
                 .push(Found::without_manifest(rt.alloc(), package)?)?,
