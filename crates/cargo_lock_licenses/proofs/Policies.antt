@@ -2,7 +2,7 @@
 use Rattle.std.proofs.Common.{◌≡◌, ◌≢◌, ◌∙◌, ◌++◌, ◌∷◌, ◌||◌, [], ℕ, Bool, true, false, List, None, Option, Some, ap, Bor, cond, if◌then◌else◌, inl, inr, map, refl, subst, sym}
 use Rattle.std.specs.Prelude.{option_map}
 use Rattle.std.specs.List.{All, Contains, find, list_any}
-use Rattle.std.proofs.lemmas.List.Elements.{All-contains, All-nil, Contains-append_cases, Contains-append_left, Contains-append_right}
+use Rattle.std.proofs.lemmas.List.Elements.{All-cons, All-contains, All-nil, Contains-append_cases, Contains-append_left, Contains-append_right}
 use Rattle.lists.proofs.Members.{in-joined, joined-in}
 use Rattle.lists.proofs.Pairs.{all-of}
 use Rattle.cargo_lock_parts.specs.Identity.{PackageData}

@@ -110,9 +110,12 @@ abbrev pub cut_at : (ℕ → Bool) → List ℕ → Option (List ℕ × List ℕ
 cut_at is text = if has_sign is text then Some (before_first is text, after_first is text) else None
 
 -- the name and the version before and after the first `@` of a text
+abbrev pub versioned_at : List ℕ → Parts → List ℕ × Parts
+versioned_at name v = (name, v)
+
 abbrev pub versioned_of : Option (List ℕ × List ℕ) → Option (List ℕ × Parts)
 versioned_of None = None
-versioned_of (Some x) = option_map (λ v. (x.0, v)) (version_of x.1)
+versioned_of (Some x) = option_map (versioned_at x.0) (version_of x.1)
 
 abbrev pub versioned : List ℕ → Option (List ℕ × Parts)
 versioned text = versioned_of (cut_at is_at_sign text)

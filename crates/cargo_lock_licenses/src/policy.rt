@@ -12,7 +12,7 @@ ghost use Rattle.cargo_lock_licenses.specs.Policy.{exempt_terms, exemption_of, e
 ghost use Rattle.cargo_lock_licenses.specs.Policy.{expression_for, given_of, gives, is_at_sign};
 ghost use Rattle.cargo_lock_licenses.specs.Policy.{is_equals_sign, is_exempt, pinned, pinned_at};
 ghost use Rattle.cargo_lock_licenses.specs.Policy.{policy_of};
-ghost use Rattle.cargo_lock_licenses.specs.Policy.{terms_for, versioned};
+ghost use Rattle.cargo_lock_licenses.specs.Policy.{terms_for, versioned, versioned_at};
 
 use crate::expression::Expression;
 use crate::terms::is_term;
@@ -277,14 +277,29 @@ fn versioned(alloc: Global, text: &str) -> Result<Option<(String, Version)>, All
     ensures { IfOk result (λ found. option_map (λ x. (string_bytes x.0, parts_of x.1)) found
         ≡ versioned text.now) }
 {
-    let Some((name, version)) = cut_at_at_sign(text) else {
-        return Ok(None);
-    };
-    let Some(version) = version_in(alloc, version)? else {
-        return Ok(None);
-    };
-    let name = String::from_str(alloc, name)?;
-    Ok(Some((name, version)))
+    match cut_at_at_sign(text) {
+        Some((name, version)) => named_version(alloc, name, version),
+        None => Ok(None),
+    }
+}
+
+// The name and the version that a text is, if it is one. Fails when out of memory.
+fn named_version(
+    alloc: Global,
+    name: &str,
+    version: &str,
+) -> Result<Option<(String, Version)>, AllocError>
+    ensures { IfOk result (λ found. option_map (λ x. (string_bytes x.0, parts_of x.1)) found
+        ≡ option_map (versioned_at name.now) (reference.version_of version.now)) }
+{
+    match version_of(alloc, version) {
+        Ok(version) => {
+            let name = String::from_str(alloc, name)?;
+            Ok(Some((name, version)))
+        }
+        Err(Error::Parse(_)) => Ok(None),
+        Err(_) => Err(AllocError),
+    }
 }
 
 // The name and the version of a text `NAME@VERSION` or `NAME`, if it is one. Fails when out of
@@ -302,7 +317,7 @@ fn pinned(alloc: Global, text: &str) -> Result<Option<(String, Option<Version>)>
     }
 }
 
-// The name and the version that is read of a text, if it is one. Fails when out of memory.
+// The name and the version that a text is, if it is one, as a package may have it.
 fn pinned_to(
     alloc: Global,
     name: &str,
@@ -312,22 +327,9 @@ fn pinned_to(
         option_map (λ x. (string_bytes x.0, option_map parts_of x.1)) found
         ≡ option_map (pinned_at name.now) (reference.version_of version.now)) }
 {
-    let Some(version) = version_in(alloc, version)? else {
-        return Ok(None);
-    };
-    let name = String::from_str(alloc, name)?;
-    Ok(Some((name, Some(version))))
-}
-
-// The version that a text is, if it is one. Fails when out of memory.
-fn version_in(alloc: Global, text: &str) -> Result<Option<Version>, AllocError>
-    ensures { IfOk result
-        (λ version. option_map parts_of version ≡ reference.version_of text.now) }
-{
-    match version_of(alloc, text) {
-        Ok(version) => Ok(Some(version)),
-        Err(Error::Parse(_)) => Ok(None),
-        Err(_) => Err(AllocError),
+    match named_version(alloc, name, version)? {
+        Some((name, version)) => Ok(Some((name, Some(version)))),
+        None => Ok(None),
     }
 }
 

@@ -374,8 +374,8 @@ fn write_unmet<W: fmt::Write>(all: &[Unmet<'_>], f: &mut fmt::Formatter<W>) -> f
     ensures { DisplaysOnOk W.write_str_gives f.old result
         (Some (vain_text (map unmet_of all.now))) f.new }
 {
-    for unmet in all {
-        write!(f, "{unmet}\n")?;
+    for part in all {
+        write!(f, "{part}\n")?;
     }
     Ok(())
 }

@@ -24,16 +24,16 @@ found_of f = record {
 }
 
 -- it has the name and the version of the package
-abbrev pub is_manifest_of : PackageData → FoundManifestData → Bool
-is_manifest_of p f = bytes_eq p.name f.name && same_parts p.version f.version
+abbrev pub is_named_as : PackageData → FoundManifestData → Bool
+is_named_as p f = bytes_eq p.name f.name && same_parts p.version f.version
 
 -- it has them, and no manifest that counts
 abbrev pub is_without : PackageData → FoundManifestData → Bool
-is_without p f = is_manifest_of p f && is_none f.manifest
+is_without p f = is_named_as p f && is_none f.manifest
 
 -- its manifest, if it is of the package
 abbrev pub manifests_if : PackageData → FoundManifestData → List ManifestData
-manifests_if p f = if is_manifest_of p f then option_to_list f.manifest else []
+manifests_if p f = if is_named_as p f then option_to_list f.manifest else []
 
 -- the manifests of a package: those of its name and its version, if it has a source and all that
 -- was found under these counts

@@ -3,7 +3,7 @@
 ghost use Rattle.std.specs.Prelude.{◌≡◌, ◌++◌, IfOk, OnOk, map, option_map, option_to_list};
 ghost use Rattle.std.specs.Prelude.{string_bytes};
 ghost use Rattle.cargo_lock_licenses.specs.Subjects.{manifest_of};
-ghost use Rattle.cli_folders.specs.Manifests.{found_of, is_manifest_of, is_without, manifests_if};
+ghost use Rattle.cli_folders.specs.Manifests.{found_of, is_named_as, is_without, manifests_if};
 
 use cargo_lock_licenses::Manifest;
 use cargo_lock_parts::package::{Package, Version};
@@ -35,8 +35,8 @@ impl Found {
     }
 
     /// Whether it has the name and the version of a package.
-    pub(crate) fn is_manifest_of(&self, package: &Package) -> bool
-        ensures { result ≡ is_manifest_of «package».now (found_of self.now) }
+    pub(crate) fn is_named_as(&self, package: &Package) -> bool
+        ensures { result ≡ is_named_as «package».now (found_of self.now) }
     {
         package.name.as_str() == self.name.as_str() && same_version(&package.version, &self.version)
     }
@@ -45,7 +45,7 @@ impl Found {
     pub(crate) fn is_without(&self, package: &Package) -> bool
         ensures { result ≡ is_without «package».now (found_of self.now) }
     {
-        self.is_manifest_of(package) && self.manifest.is_none()
+        self.is_named_as(package) && self.manifest.is_none()
     }
 
     /// Adds its manifest, if it is of a package.
@@ -58,7 +58,7 @@ impl Found {
         ensures { OnOk result (map manifest_of manifests.new.items
             ≡ map manifest_of manifests.old.items ++ manifests_if «package».now (found_of self.now)) }
     {
-        if !self.is_manifest_of(package) {
+        if !self.is_named_as(package) {
             return Ok(());
         }
         self.put(alloc, manifests)

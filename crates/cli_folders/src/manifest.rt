@@ -11,7 +11,7 @@ use std::rt::Files;
 use toml::{Table, Value};
 
 /// The name of a manifest.
-const MANIFEST: &str = "Cargo.toml";
+pub(crate) const MANIFEST: &str = "Cargo.toml";
 
 /// The path of the manifest in a folder.
 pub(crate) fn manifest_path(alloc: Global, folder: &str) -> Result<String, AllocError> {

@@ -7,7 +7,7 @@ ghost use Rattle.cli_folders.specs.Manifests.{found_of, is_without, manifests_if
 
 use crate::files::{Entry, all_names_in, entry_at, fault_of, path_of};
 use crate::found::Found;
-use crate::manifest::{manifest_at, manifest_path};
+use crate::manifest::{MANIFEST, manifest_at, manifest_path};
 use cargo_lock_licenses::Manifest;
 use cargo_lock_parts::package::Package;
 use cli_support::Fault;
@@ -17,6 +17,9 @@ use std::rt::Files;
 
 /// What Cargo leaves in each folder that it unpacks, and `cargo vendor` in none.
 const UNPACKED: &str = ".cargo-ok";
+
+/// What `cargo vendor` leaves in each folder, and Cargo asks of each vendored one.
+const VENDORED: &str = ".cargo-checksum.json";
 
 /// The manifests that were found in a folder.
 #[derive(Drop)]
@@ -30,7 +33,8 @@ enum Kind {
     /// Folders of packages, as `cargo vendor` leaves them: one has a manifest.
     Vendored,
 
-    /// Folders of packages that Cargo unpacked: one has a manifest and `.cargo-ok`.
+    /// Folders of packages that Cargo unpacked: one has a manifest and `.cargo-ok`, and none a
+    /// manifest and `.cargo-checksum.json`.
     Unpacked,
 
     /// Folders of such folders, as in Cargo's `registry/src`.
@@ -47,8 +51,8 @@ impl Manifests {
     ///
     /// No path is made of a name of a lockfile, no link is followed, and entries that begin with a
     /// dot are passed over. Fails if a folder or a manifest is not read, and if there may be a
-    /// manifest that nobody looked at: at a folder that is a link, and in a vendored folder at a
-    /// manifest that is no file or has no name and no version. Fails too if packages have a source,
+    /// manifest that nobody looked at: at a folder that is a link, in a vendored folder at a manifest
+    /// that is no file or has no name and no version, and at a vendored folder in an index folder. Fails too if packages have a source,
     /// and no manifest is of one of them.
     pub fn of<R: Files + AllocGlobal>(
         rt: &R,
@@ -166,7 +170,7 @@ impl Manifests {
         package: &Package,
     ) -> Result<(), Fault> {
         match unpacked_at(rt, path)? {
-            Some(found) if found.is_manifest_of(package) => self.found.push(found)?,
+            Some(found) if found.is_named_as(package) => self.found.push(found)?,
             _ => self
                 .found
                 .push(Found::without_manifest(rt.alloc(), package)?)?,
@@ -227,11 +231,11 @@ fn put_folder<R: Files + AllocGlobal>(
 fn kind_of<R: Files + AllocGlobal>(rt: &R, folders: &[String]) -> Result<Kind, Fault> {
     let mut kind = Kind::Other;
     for folder in folders {
-        if has_manifest(rt, folder)? {
-            if entry_at(rt, &path_of(rt.alloc(), folder, UNPACKED)?)?.is_some() {
-                return Ok(Kind::Unpacked);
+        if has(rt, folder, MANIFEST)? {
+            if has(rt, folder, VENDORED)? {
+                return Ok(Kind::Vendored);
             }
-            kind = Kind::Vendored;
+            kind = with_folder(kind, has(rt, folder, UNPACKED)?);
         }
     }
     if kind == Kind::Other && is_one_index(rt, folders)? {
@@ -240,9 +244,18 @@ fn kind_of<R: Files + AllocGlobal>(rt: &R, folders: &[String]) -> Result<Kind, F
     Ok(kind)
 }
 
-// Whether something is in a folder that is named as a manifest.
-fn has_manifest<R: Files + AllocGlobal>(rt: &R, folder: &str) -> Result<bool, Fault> {
-    let path = manifest_path(rt.alloc(), folder)?;
+// What folders are with one more that has a manifest, and that Cargo unpacked or not.
+fn with_folder(kind: Kind, is_unpacked: bool) -> Kind {
+    if is_unpacked || kind == Kind::Unpacked {
+        Kind::Unpacked
+    } else {
+        Kind::Vendored
+    }
+}
+
+// Whether something of this name is in a folder.
+fn has<R: Files + AllocGlobal>(rt: &R, folder: &str, name: &str) -> Result<bool, Fault> {
+    let path = path_of(rt.alloc(), folder, name)?;
     Ok(entry_at(rt, &path)?.is_some())
 }
 
@@ -260,17 +273,21 @@ fn is_one_index<R: Files + AllocGlobal>(rt: &R, folders: &[String]) -> Result<bo
 fn is_index<R: Files + AllocGlobal>(rt: &R, folder: &str) -> Result<bool, Fault> {
     for name in &all_names_in(rt, folder)? {
         let path = path_of(rt.alloc(), folder, name)?;
-        if entry_at(rt, &path)? == Some(Entry::Folder) && has_manifest(rt, &path)? {
+        if entry_at(rt, &path)? == Some(Entry::Folder) && has(rt, &path, MANIFEST)? {
             return Ok(true);
         }
     }
     Ok(false)
 }
 
-// What the manifest in the folder at a path says, if it is a folder with one.
+// What the manifest in the folder at a path says, if it is a folder with one. Fails at one that is
+// vendored, beside which there may be others of the package.
 fn unpacked_at<R: Files + AllocGlobal>(rt: &R, path: &str) -> Result<Option<Found>, Fault> {
     if entry_at(rt, path)? != Some(Entry::Folder) {
         return Ok(None);
+    }
+    if has(rt, path, VENDORED)? {
+        return Err(fault_of(rt.alloc(), path, "it is a vendored folder"));
     }
     let manifest = manifest_path(rt.alloc(), path)?;
     if entry_at(rt, &manifest)? != Some(Entry::File) {
