@@ -21,6 +21,8 @@ finding-depth f = omega (
   arith,
   identity-depth (identity_of f.content) f.content.checksum,
   texts-depth (map (λ (r : RequirementData). r.text) f.advisory.patched),
+  texts-depth f.advisory.aliases,
+  texts-depth (map (λ (r : RequirementData). r.text) f.advisory.unaffected),
 )
 
 pub advisories-depth : (file : FileData) (r : ReportData) → depth (advisories_json file r) ≤ 6

@@ -17,7 +17,7 @@ use Rattle.cargo_lock_audit.specs.declared.coverage.Origin.TheVariants as origin
 use Rattle.cargo_lock_audit.specs.Advisory.{AdvisoryData}
 use Rattle.cargo_lock_audit.specs.Coverage.{CoverageData, count_from, coverage_line, lead_after, not_compared_text, noun, counted_part}
 use Rattle.cargo_lock_audit.specs.Findings.{AdvisoryFindingData}
-use Rattle.cargo_lock_audit.specs.Lines.{EachAuditedIsOneLine, FaultsArePrintable, LinesArePrintable, advisory_finding_line, audit_report_text, file_line, or_text, patched_text, said, text_of_lines, title_char, title_text, unmet_line, unmet_text}
+use Rattle.cargo_lock_audit.specs.Lines.{EachAuditedIsOneLine, FaultsArePrintable, LinesArePrintable, advisory_finding_line, audit_report_text, file_line, or_text, patched_text, said, text_of_lines, title_char, title_text, titled, unmet_line, unmet_text}
 use Rattle.cargo_lock_audit.specs.Report.{ReportData}
 use Rattle.cargo_lock_audit.specs.Requirement.{RequirementData}
 use Rattle.cargo_lock_parts.specs.Identity.{PackageData}
@@ -31,9 +31,12 @@ title-prints : (title : List ℕ) → Prints (title_text title)
 title-prints title = join_each title_char
     (λ (c : ℕ). either_text (c == backquote) (literal (codes "`") refl) (shown-prints Quoted (encode_utf8 c))) (chars title)
 
+titled-prints : (a : AdvisoryData) → Prints (titled a)
+titled-prints a = join (title-prints a.title) (words (codes "; ") refl (patched-prints a.patched))
+
 said-prints : (a : AdvisoryData) (kind : Option (List ℕ)) → Prints (said a kind)
-said-prints a None = join (title-prints a.title) (words (codes "; ") refl (patched-prints a.patched))
-said-prints a (Some kind) = join (shown-prints Plain kind) (words (codes ": ") refl (title-prints a.title))
+said-prints a None = titled-prints a
+said-prints a (Some kind) = join (shown-prints Plain kind) (words (codes ": ") refl (titled-prints a))
 
 line-prints : (f : AdvisoryFindingData) → Prints (advisory_finding_line f)
 line-prints f = join (either_text f.is_denied (literal (codes "!") refl) (literal (codes "?") refl))

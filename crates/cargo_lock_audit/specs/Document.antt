@@ -5,6 +5,7 @@ use Rattle.cargo_lock_audit.specs.Advisory.{AdvisoryData}
 use Rattle.cargo_lock_audit.specs.Findings.{AdvisoryFindingData}
 use Rattle.cargo_lock_audit.specs.Lines.{advisory_finding_line}
 use Rattle.cargo_lock_audit.specs.Report.{ReportData}
+use Rattle.cargo_lock_audit.specs.Requirement.{RequirementData}
 use Rattle.cargo_lock_display.specs.File.{FileData, document_json}
 use Rattle.cargo_lock_display.specs.PackageJson.{package_json, packages_json}
 use Rattle.printing.specs.Json.{items_of}
@@ -17,6 +18,10 @@ advisory_kind a = unwrap_or a.informational (codes "vulnerability")
 abbrev pub texts_json : List (List ℕ) → Json
 texts_json texts = array (items_of (map string texts))
 
+-- the texts of requirements, in their order
+abbrev pub requirements_json : List RequirementData → Json
+requirements_json rs = texts_json (map (λ r. r.text) rs)
+
 -- the JSON of a finding
 unfoldable pub advisory_finding_json : AdvisoryFindingData → Json
 advisory_finding_json f = object
@@ -26,7 +31,9 @@ advisory_finding_json f = object
     (member (codes "package") (package_json f.content)
     (member (codes "id") (string f.advisory.id)
     (member (codes "title") (string f.advisory.title)
-    (member (codes "patched") (texts_json (map (λ r. r.text) f.advisory.patched)) no_members)))))))
+    (member (codes "patched") (requirements_json f.advisory.patched)
+    (member (codes "aliases") (texts_json f.advisory.aliases)
+    (member (codes "unaffected") (requirements_json f.advisory.unaffected) no_members)))))))))
 
 -- the findings, each once and in order, the texts that are ignored and of which no package has the
 -- advisory, how many packages were compared with how many advisories, and the packages that were not

@@ -43,11 +43,14 @@ abbrev pub patched_text : List RequirementData → List ℕ
 patched_text [] = codes "no patched version"
 patched_text (r ∷ rest) = codes "patched " ++ (shown Quoted r.text ++ or_texts rest)
 
--- what an advisory says, by its kind: that and its title, or else its title and which versions are
--- patched
+-- the title of an advisory, and which versions are patched
+abbrev pub titled : AdvisoryData → List ℕ
+titled a = title_text a.title ++ (codes "; " ++ patched_text a.patched)
+
+-- what an advisory says: its kind, if it is no vulnerability, and that
 abbrev pub said : AdvisoryData → Option (List ℕ) → List ℕ
-said a None = title_text a.title ++ (codes "; " ++ patched_text a.patched)
-said a (Some kind) = shown Plain kind ++ (codes ": " ++ title_text a.title)
+said a None = titled a
+said a (Some kind) = shown Plain kind ++ (codes ": " ++ titled a)
 
 -- the id of an advisory, and what it says
 abbrev pub advisory_text : AdvisoryData → List ℕ

@@ -1,12 +1,13 @@
 //! What is found of packages by advisories, as a document of JSON.
 
-ghost use Rattle.std.specs.Prelude.{◌≡◌, ◌∷◌, IfOk, codes, decimal, length, map, string_bytes};
+ghost use Rattle.std.specs.Prelude.{◌≡◌, ◌∷◌, IfOk, codes, decimal, length, string_bytes};
 ghost use Rattle.json.specs.Token.{key, number, string};
 ghost use Rattle.json.specs.Tree.{json_tokens};
 ghost use Rattle.cargo_lock_audit.specs.Coverage.{coverage_data_of};
-ghost use Rattle.cargo_lock_audit.specs.Document.{advisory_kind, texts_json};
+ghost use Rattle.cargo_lock_audit.specs.Document.{advisory_kind, requirements_json, texts_json};
 ghost use Rattle.cargo_lock_audit.specs.Document as spec;
 ghost use Rattle.cargo_lock_audit.specs.Report.{report_data_of};
+ghost use Rattle.cargo_lock_audit.specs.Texts.{bytes_of_texts};
 ghost use Rattle.cargo_lock_display.specs.PackageJson.{packages_json};
 ghost use Rattle.printing.specs.Json.{Adds, IsJsonText};
 
@@ -90,6 +91,8 @@ impl ToJson for Finding<'_, '_> {
         out.key("package")?;
         put_package(out, self.package)?;
         put_advisory(out, advisory)?;
+        put_aliases(out, advisory)?;
+        put_unaffected(out, advisory)?;
         out.end_object()
     }
 }
@@ -104,17 +107,56 @@ fn kind(advisory: &Advisory) -> &str
     }
 }
 
-// Writes the members of an advisory.
+// Writes the members with the id of an advisory, its title, and which versions are patched.
 fn put_advisory(out: &mut JsonWriter, advisory: &Advisory) -> Result<(), AllocError>
     ensures { Adds result out.old out.new (key (codes "id") ∷ string advisory.now.id
         ∷ key (codes "title") ∷ string advisory.now.title
-        ∷ key (codes "patched")
-        ∷ json_tokens (texts_json (map (λ r. r.text) advisory.now.patched))) }
+        ∷ key (codes "patched") ∷ json_tokens (requirements_json advisory.now.patched)) }
 {
     out.string_member("id", advisory.id.as_str())?;
     out.string_member("title", advisory.title.as_str())?;
-    out.key("patched")?;
-    write_array(out, &advisory.patched)
+    put_requirements(out, "patched", &advisory.patched)
+}
+
+// Writes the member with the ids of an advisory in other databases.
+fn put_aliases(out: &mut JsonWriter, advisory: &Advisory) -> Result<(), AllocError>
+    ensures { Adds result out.old out.new
+        (key (codes "aliases") ∷ json_tokens (texts_json advisory.now.aliases)) }
+{
+    out.key("aliases")?;
+    write_texts(out, &advisory.aliases)
+}
+
+// Writes the member with the versions that were never affected.
+fn put_unaffected(out: &mut JsonWriter, advisory: &Advisory) -> Result<(), AllocError>
+    ensures { Adds result out.old out.new
+        (key (codes "unaffected") ∷ json_tokens (requirements_json advisory.now.unaffected)) }
+{
+    put_requirements(out, "unaffected", &advisory.unaffected)
+}
+
+// Writes a member whose value is a list of requirements.
+fn put_requirements(
+    out: &mut JsonWriter,
+    name: &str,
+    requirements: &[Requirement],
+) -> Result<(), AllocError>
+    ensures { Adds result out.old out.new
+        (key name.now ∷ json_tokens (requirements_json requirements.now)) }
+{
+    out.key(name)?;
+    write_array(out, requirements)
+}
+
+// Writes the array of texts.
+fn write_texts(out: &mut JsonWriter, texts: &[String]) -> Result<(), AllocError>
+    ensures { Adds result out.old out.new (json_tokens (texts_json (bytes_of_texts texts.now))) }
+{
+    out.begin_array()?;
+    for text in texts {
+        out.string(text.as_str())?;
+    }
+    out.end_array()
 }
 
 // A requirement is the text that the advisory has.

@@ -30,7 +30,7 @@ use std::rt::Files;
 const AUDIT_HELP: &str = "\
 Each advisory that concerns a package of crates.io has a line, for each such package:
   ! NAME VERSION SRC: ID: TITLE; patched REQUIREMENT or REQUIREMENT
-  ? NAME VERSION SRC: ID: KIND: TITLE               it is informational, as `unmaintained`
+  ? NAME VERSION SRC: ID: KIND: TITLE; patched ..   it is informational, as `unmaintained`
   - ID: nothing to ignore                           no package has this advisory
 The last line says how many packages were compared with how many advisories of FOLDER, and how many \
 were not, since they are not of crates.io:
