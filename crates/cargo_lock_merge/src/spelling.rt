@@ -63,9 +63,17 @@ fn respell_dependencies(alloc: Global, dependencies: &mut [Dependency]) -> Resul
     ensures err { IsOkUnless result Memory }
 {
     for dependency in dependencies.iter_mut() {
-        respell(alloc, &mut dependency.source)?;
+        respell_dependency(alloc, dependency)?;
     }
     Ok(())
+}
+
+// Writes the source of a dependency as Cargo does.
+fn respell_dependency(alloc: Global, one: &mut Dependency) -> Result<()>
+    ensures ok { OnOk result (one.new ≡ identity_as_written one.old) }
+    ensures err { IsOkUnless result Memory }
+{
+    respell(alloc, &mut one.source)
 }
 
 // Writes the source of a replacement as Cargo does.
@@ -74,7 +82,7 @@ fn respell_replacement(alloc: Global, replace: &mut Option<Dependency>) -> Resul
     ensures err { IsOkUnless result Memory }
 {
     if let Some(dependency) = replace {
-        respell(alloc, &mut dependency.source)?;
+        respell_dependency(alloc, dependency)?;
     }
     Ok(())
 }
