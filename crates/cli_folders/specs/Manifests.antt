@@ -35,8 +35,10 @@ is_without p f = is_named_as p f && is_none f.manifest
 abbrev pub manifests_if : PackageData → FoundManifestData → List ManifestData
 manifests_if p f = if is_named_as p f then option_to_list f.manifest else []
 
--- the manifests of a package: those of its name and its version, if it has a source and all that
--- was found under these counts
+-- the package has a source, and all counts that was found under its name and its version
+abbrev pub is_sought : PackageData → List FoundManifestData → Bool
+is_sought p found = is_some p.source && not (list_any (is_without p) found)
+
+-- the manifests of a package: those of its name and its version
 abbrev pub manifests_of : PackageData → List FoundManifestData → List ManifestData
-manifests_of p found = if is_some p.source && not (list_any (is_without p) found)
-    then flat_map (manifests_if p) found else []
+manifests_of p found = if is_sought p found then flat_map (manifests_if p) found else []

@@ -1,9 +1,10 @@
 //! The manifests of packages in a folder.
 
-ghost use Rattle.std.specs.Prelude.{◌≡◌, IfOk, IfSome, map};
+ghost use Rattle.std.specs.Prelude.{◌≡◌, IfOk, map};
 ghost use Rattle.std.specs.List.{flat_map, list_any};
 ghost use Rattle.cargo_lock_licenses.specs.Subjects.{manifest_of};
-ghost use Rattle.cli_folders.specs.Manifests.{found_of, is_without, manifests_if, manifests_of};
+ghost use Rattle.cli_folders.specs.Manifests.{found_of, is_sought, is_without, manifests_if};
+ghost use Rattle.cli_folders.specs.Manifests.{manifests_of};
 
 use crate::files::{Entry, all_names_in, entry_at, fault_of, path_of};
 use crate::found::Found;
@@ -79,7 +80,7 @@ impl Manifests {
         ensures { IfOk result (λ manifests. map manifest_of manifests.items
             ≡ manifests_of «package».now (map found_of self.now.found.items)) }
     {
-        if package.source.is_none() || is_one_without(&self.found, package) {
+        if !is_sought(&self.found, package) {
             return Ok(Vec::new(alloc));
         }
         manifests_of(alloc, &self.found, package)
@@ -179,8 +180,22 @@ impl Manifests {
     }
 }
 
+// Whether a package has a source, and all counts that was found under its name and its version.
+fn is_sought(found: &[Found], package: &Package) -> bool
+    ensures { result ≡ is_sought «package».now (map found_of found.now) }
+{
+    package.source.is_some() && !is_one_without(found, package)
+}
+
 // Whether something was found of a package that has no manifest that counts.
 fn is_one_without(found: &[Found], package: &Package) -> bool
+    ensures { result ≡ list_any (is_without «package».now) (map found_of found.now) }
+{
+    has_one_without(found, package)
+}
+
+// The same, as a test of each that was found.
+fn has_one_without(found: &[Found], package: &Package) -> bool
     ensures { result ≡ list_any (λ f. is_without «package».now (found_of f)) found.now }
 {
     found.iter().any(|found| found.is_without(package))
