@@ -1,5 +1,5 @@
 -- Each finding is one line: each part of it is printable.
-use Rattle.std.proofs.Common.{Bool, cond, true, false, codes, Option, Some, None, refl}
+use Rattle.std.proofs.Common.{Bool, if◌then◌else◌, true, false, codes, Option, Some, None, refl}
 use Rattle.std.specs.Str.{chars}
 use Rattle.cargo_lock_flaws.specs.Names.{is_cargo_name}
 use Rattle.printing.specs.declared.form.Form.TheVariants.{Plain, Quoted}

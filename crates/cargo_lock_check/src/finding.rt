@@ -1,6 +1,6 @@
 //! The findings of a lockfile, each displayed as a line.
 
-ghost use Rattle.std.specs.Prelude.{Some};
+ghost use Rattle.std.specs.Prelude.{◌≡◌, Some};
 ghost use Rattle.std.specs.Fmt.{DisplaysOnOk};
 ghost use Rattle.cargo_lock_check.specs.Finding as told;
 ghost use Rattle.cargo_lock_check.specs.Finding.{lockfile_finding_line};
