@@ -29,7 +29,7 @@ PrintsAuditReport found file packages advisories size = PrintsAudited found file
     (given_texts found (codes "deny")))
 
 -- advisories in the order of their ids, of a database that has this many, and one or more
-pub record IsDatabaseRead (advisories : List AdvisoryData) (size : ℕ) : Type 0 where
+pub record IsSomeDatabase (advisories : List AdvisoryData) (size : ℕ) : Type 0 where
   pub in_order : AreInOrderOfIds advisories
   pub some : 0 < size
 
@@ -37,7 +37,7 @@ pub record IsDatabaseRead (advisories : List AdvisoryData) (size : ℕ) : Type 0
 abbrev pub PrintsAuditOf : Found → FileData → List PackageData → Option (List ℕ) → Option (List ℕ)
     → Type 0 → Type 0 → Type 0
 PrintsAuditOf found file packages old new failure success =
-    (advisories : List AdvisoryData) × (size : ℕ) × IsDatabaseRead advisories size
+    (advisories : List AdvisoryData) × (size : ℕ) × IsSomeDatabase advisories size
     × PrintsAuditReport found file packages advisories size old new failure success
 
 -- the same of the packages of a lockfile that some text means

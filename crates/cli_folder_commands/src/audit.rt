@@ -5,7 +5,7 @@ ghost use Rattle.std.specs.List.{list_any};
 ghost use Rattle.clap.specs.Matches.{found_of};
 ghost use Rattle.cargo_lock_audit.specs.Database.{AreInOrderOfIds};
 ghost use Rattle.cargo_lock_audit.specs.Report.{report_data_of};
-ghost use Rattle.cli_folder_commands.specs.Audit.{IsDatabaseRead, PrintsAudit, PrintsAuditOf};
+ghost use Rattle.cli_folder_commands.specs.Audit.{IsSomeDatabase, PrintsAudit, PrintsAuditOf};
 ghost use Rattle.cli_folder_commands.specs.Audit.{PrintsAuditReport};
 
 use crate::folders::folder;
@@ -127,7 +127,7 @@ fn database_in<R: Files + AllocGlobal>(
     folder: &str,
     packages: &[Package],
 ) -> Result<Database, Fault>
-    ensures { IfOk result (λ database. IsDatabaseRead database.advisories.items database.size) }
+    ensures { IfOk result (λ database. IsSomeDatabase database.advisories.items database.size) }
 {
     let AdvisoryFiles { wanted, count } = advisory_files(rt, folder, packages)?;
     let advisories = advisories_of(rt.alloc(), wanted)?;
