@@ -158,7 +158,7 @@ _cargo-lock() {
             '--any-size[Reads a lockfile of 256 MiB or more too]' \
             '--db[The folder of the advisories]:FOLDER:_files -/' \
             '*--ignore[Leaves out the advisory of this id or alias, and others that are given so]:ID:' \
-            '*--deny[Counts informational advisories of this kind as vulnerabilities; warnings are all kinds]:KIND:(unmaintained unsound notice warnings)' \
+            '*--deny[Counts informational advisories of this kind as vulnerabilities]:KIND:(unmaintained unsound notice warnings)' \
             '--json[Prints one line of JSON]' \
             '(- *)'{-h,--help}'[Print help]'
         ;;
