@@ -1,6 +1,6 @@
 use Rattle.std.proofs.Common.{map, string_bytes, take}
 use Rattle.std.specs.List.{AllZip}
-use Rattle.cargo_lock_licenses.specs.Policy.{exemption_of, given_of}
+use Rattle.cargo_lock_licenses.specs.Policy.{exemption_of}
 use Rattle.cli_folder_commands.specs.Policy.{IsExemptionBy}
 use Rattle.cli_folder_commands.proofs.policy.all_exemptions.Given as goal
 
