@@ -35,6 +35,7 @@ def tokens_of(text):
 def drawn(label, node):
     """The lines of a label as they are drawn: its escapes and its character references stand for
     what they say."""
+    # (`%3` is the name of a graph that has none)
     ends, said = {"n": "\n", "l": "\n", "r": "\n"}, {"N": node, "G": "%3", "L": label}
     escape = lambda it: ends.get(it[1]) or said.get(it[1], it[1])
     text = re.sub(r"\\(.)", escape, label, flags=re.S)
