@@ -42,10 +42,10 @@ _cargo_lock() {
     bom)
         case $previous in
         -f | --file | -o | --output) _cargo_lock_files ;;
-        --licenses) _cargo_lock_files ;;
+        --manifests) _cargo_lock_files ;;
         --root) _cargo_lock_packages ;;
         --author) ;;
-        *) _cargo_lock_offer '-f --file --any-size -o --output --root --author --timestamp --serial --licenses --compact -h --help' ;;
+        *) _cargo_lock_offer '-f --file --any-size -o --output --root --author --timestamp --serial --manifests --compact -h --help' ;;
         esac
         ;;
     json)
@@ -114,15 +114,17 @@ _cargo_lock() {
         case $previous in
         -f | --file) _cargo_lock_files ;;
         --cache | --vendor) _cargo_lock_files ;;
-        *) _cargo_lock_offer '-f --file --any-size --cache --vendor --all --json -h --help' ;;
+        *) _cargo_lock_offer '-f --file --any-size --cache --vendor --all --others --json -h --help' ;;
         esac
         ;;
     licenses)
         case $previous in
         -f | --file) _cargo_lock_files ;;
-        --cache | --vendor) _cargo_lock_files ;;
+        --manifests) _cargo_lock_files ;;
         --allow) ;;
-        *) _cargo_lock_offer '-f --file --any-size --cache --vendor --allow --json -h --help' ;;
+        --license) ;;
+        --exempt) ;;
+        *) _cargo_lock_offer '-f --file --any-size --manifests --allow --license --exempt --json -h --help' ;;
         esac
         ;;
     audit)
@@ -130,7 +132,7 @@ _cargo_lock() {
         -f | --file) _cargo_lock_files ;;
         --db) _cargo_lock_files ;;
         --ignore) ;;
-        --deny) _cargo_lock_offer 'unmaintained unsound notice' ;;
+        --deny) _cargo_lock_offer 'unmaintained unsound notice warnings' ;;
         *) _cargo_lock_offer '-f --file --any-size --db --ignore --deny --json -h --help' ;;
         esac
         ;;

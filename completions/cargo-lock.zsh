@@ -68,7 +68,7 @@ _cargo-lock() {
             '*--author[Names this author of the bill, and others that are given so]:NAME:' \
             '--timestamp[Adds the time: of SOURCE_DATE_EPOCH, or else of the clock]' \
             '--serial[Adds a serial number, equal for equal bills]' \
-            '--licenses[Adds licences, by a folder of `cargo vendor` or of unpacked archives]:FOLDER:_files -/' \
+            '--manifests[Adds licences, by the folder of `cargo vendor`, or registry/src of Cargo]:FOLDER:_files -/' \
             '--compact[Writes one line, without spaces]' \
             '(- *)'{-h,--help}'[Print help]'
         ;;
@@ -136,7 +136,8 @@ _cargo-lock() {
             '--any-size[Reads a lockfile of 256 MiB or more too]' \
             '--cache[The folder of the archives, as registry/cache of Cargo]:FOLDER:_files -/' \
             '--vendor[The folder that `cargo vendor` made]:FOLDER:_files -/' \
-            '--all[Reports packages without an archive too]' \
+            '--all[Counts packages without an archive or a checksum too]' \
+            '--others[Passes over folders of packages that the lockfile does not have]' \
             '--json[Prints one line of JSON]' \
             '(- *)'{-h,--help}'[Print help]'
         ;;
@@ -144,9 +145,10 @@ _cargo-lock() {
         _arguments -s \
             '(-f --file)'{-f,--file}'[The lockfile, - for standard input]:PATH:_files' \
             '--any-size[Reads a lockfile of 256 MiB or more too]' \
-            '--cache[The folder of unpacked archives, as registry/src of Cargo]:FOLDER:_files -/' \
-            '--vendor[The folder that `cargo vendor` made]:FOLDER:_files -/' \
+            '--manifests[The folder of `cargo vendor`, or registry/src of Cargo]:FOLDER:_files -/' \
             '*--allow[Allows this term, and others that are given so]:TERM:' \
+            '*--license[Takes this expression in place of what the manifest says]:NAME@VERSION=EXPRESSION:' \
+            '*--exempt[Allows this term for this package alone]:NAME[@VERSION]=TERM:' \
             '--json[Prints one line of JSON]' \
             '(- *)'{-h,--help}'[Print help]'
         ;;
@@ -155,8 +157,8 @@ _cargo-lock() {
             '(-f --file)'{-f,--file}'[The lockfile, - for standard input]:PATH:_files' \
             '--any-size[Reads a lockfile of 256 MiB or more too]' \
             '--db[The folder of the advisories]:FOLDER:_files -/' \
-            '*--ignore[Leaves out this advisory, and others that are given so]:ID:' \
-            '*--deny[Counts informational advisories of this kind as vulnerabilities]:KIND:(unmaintained unsound notice)' \
+            '*--ignore[Leaves out the advisory of this id or alias, and others that are given so]:ID:' \
+            '*--deny[Counts informational advisories of this kind as vulnerabilities]:KIND:(unmaintained unsound notice warnings)' \
             '--json[Prints one line of JSON]' \
             '(- *)'{-h,--help}'[Print help]'
         ;;

@@ -35,9 +35,10 @@ def packages(lockfile):
 
 
 def make(lockfile, draw, room):
-    """Makes the folders `cache`, `vendor` and `db` in a folder."""
+    """Makes the folders `cache`, `vendor` and `db` in a folder. A database has an advisory."""
     for folder in ["cache", "vendor", "db/crates"]:
         os.makedirs(f"{room}/{folder}", exist_ok=True)
+    write(f"{room}/db/crates/of-no-lockfile/RUSTSEC-2020-0001.md", "counted, and not read")
     for it in packages(lockfile):
         place = f"{it['name']}-{it['version']}"
         if draw.random() < 0.7:

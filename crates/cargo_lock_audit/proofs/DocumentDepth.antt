@@ -4,7 +4,9 @@ use Rattle.json.specs.Json.{string}
 use Rattle.json.specs.Tree.{depth}
 use Rattle.cargo_lock_audit.specs.Findings.{AdvisoryFindingData}
 use Rattle.cargo_lock_audit.specs.Requirement.{RequirementData}
-use Rattle.cargo_lock_parts.specs.Identity.{identity_of}
+use Rattle.cargo_lock_audit.specs.Report.{ReportData}
+use Rattle.cargo_lock_display.specs.PackageJson.{package_json}
+use Rattle.cargo_lock_parts.specs.Identity.{PackageData, identity_of}
 use Rattle.cargo_lock_audit.specs.Document.{advisories_json, advisory_finding_json, texts_json}
 use Rattle.cargo_lock_display.specs.File.{FileData, document_json}
 use Rattle.cargo_lock_display.proofs.Depth.{identity-depth}
@@ -19,9 +21,16 @@ finding-depth f = omega (
   arith,
   identity-depth (identity_of f.content) f.content.checksum,
   texts-depth (map (λ (r : RequirementData). r.text) f.advisory.patched),
+  texts-depth f.advisory.aliases,
+  texts-depth (map (λ (r : RequirementData). r.text) f.advisory.unaffected),
 )
 
-pub advisories-depth : (file : FileData) (findings : List AdvisoryFindingData) (ids : List (List ℕ))
-    → depth (advisories_json file findings ids) ≤ 6
+pub advisories-depth : (file : FileData) (r : ReportData) → depth (advisories_json file r) ≤ 6
 unfolding advisories_json document_json
-advisories-depth file findings ids = omega (arith, text-depth file.path, array-depth 4 advisory_finding_json finding-depth findings, texts-depth ids)
+advisories-depth file r = omega (
+  arith,
+  text-depth file.path,
+  array-depth 4 advisory_finding_json finding-depth r.findings,
+  texts-depth r.unmet,
+  array-depth 3 package_json (λ (p : PackageData). identity-depth (identity_of p) p.checksum) r.coverage.not_compared,
+)

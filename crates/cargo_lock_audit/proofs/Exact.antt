@@ -1,6 +1,7 @@
 -- What is found is exactly what the relations say.
 use Rattle.std.proofs.Common.{◌≡◌, ◌⊎◌, ◌&&◌, ◌||◌, ◌++◌, ℕ, Bool, true, false, true≢false, cond, filter, List, [], ◌∷◌, Option, None, Some, is_some, not, refl, ap, sym, ◌∙◌, inl, inr, subst, if◌then◌else◌, bytes_eq, codes}
 use Rattle.std.specs.List.{Contains, list_any}
+use Rattle.std.proofs.lemmas.Bool.{or_left, or_right}
 use Rattle.std.proofs.lemmas.Slice.Eq.{bytes_eq-Decides}
 use Rattle.std.proofs.lemmas.Option.{same_Some}
 use Rattle.std.proofs.lemmas.List.Elements.{filter-append}
@@ -8,13 +9,14 @@ use Rattle.std.proofs.lemmas.List.Folds.{list_any-append}
 use Rattle.semver.specs.Parse.{Parts}
 use Rattle.cargo_lock_parts.specs.Identity.{PackageData}
 use Rattle.cargo_lock_parts.specs.Source.{Source}
-use Rattle.cargo_lock_audit.specs.Advisory.{AdvisoryData, ConcernIsExact, Concerns, LiesIn, affects, affects_package, comes_from_crates_io, concerns, is_about_crates, is_of_collection, is_of_source}
-use Rattle.cargo_lock_audit.specs.Findings.{AdvisoryFindingData, AdvisoryFindingsAreExact, IgnoringLeavesOut, NoneIfUnconcerned, NoneWithoutCratesIo}
-use Rattle.cargo_lock_audit.specs.Findings.{advisory_findings, finding_if, findings_of, is_denied_kind, is_listed, is_not_ignored, judged}
+use Rattle.cargo_lock_audit.specs.Advisory.{AdvisoryData, ConcernIsExact, Concerns, IsNameOf, LiesIn, affects, affects_package, comes_from_crates_io, concerns, is_about_crates, is_name_of, is_of_collection, is_of_source}
+use Rattle.cargo_lock_audit.specs.Texts.{is_listed}
+use Rattle.cargo_lock_audit.specs.Findings.{AdvisoryFindingData, AdvisoryFindingsAreExact, IgnoringLeavesOut, IsIgnored, NoneIfUnconcerned, NoneWithoutCratesIo, WarningsDenyAll}
+use Rattle.cargo_lock_audit.specs.Findings.{advisory_findings, finding_if, findings_of, is_denied_kind, is_ignored, is_not_ignored, judged, warnings}
 use Rattle.cargo_lock_audit.specs.Pairs.{PairData, advisory_pairs_of, pair_if, pairs}
 use Rattle.cargo_lock_audit.specs.Requirement.{RequirementData, lies_in, meets}
 use Rattle.lists.proofs.Members.{first-in as first, in-joined as in-flat, joined-in as from-flat, none-in as no-element}
-use Rattle.lists.proofs.Tests.{all-passes, and-both, any-none, any-one, is-false, none-any, not-both, not-true, only, passes-all}
+use Rattle.lists.proofs.Tests.{all-passes, and-both, any-none, any-one, is-false, none-any, not-both, not-true, only, or-cases, passes-all}
 use Rattle.lists.proofs.Members.{none-left as no-elements}
 
 -- ---- requirements
@@ -108,15 +110,15 @@ to-pair p a e = let q : PairData = record { content = p; advisory = a } in
     subst (λ (b : Bool). Contains (if b then q ∷ [] else []) q) (sym e) (first q [])
 
 from-finding : (ignored denied : List (List ℕ)) (q : PairData) (f : AdvisoryFindingData) → Contains (finding_if ignored denied q) f
-    → (is_listed ignored q.advisory.id ≡ false) × (judged denied q ≡ f)
-from-finding ignored denied q f = by (is_listed ignored q.advisory.id) refl
+    → (is_ignored ignored q.advisory ≡ false) × (judged denied q ≡ f)
+from-finding ignored denied q f = by (is_ignored ignored q.advisory) refl
   where
-    by : (b : Bool) → is_listed ignored q.advisory.id ≡ b → Contains (if b then [] else judged denied q ∷ []) f
-        → (is_listed ignored q.advisory.id ≡ false) × (judged denied q ≡ f)
+    by : (b : Bool) → is_ignored ignored q.advisory ≡ b → Contains (if b then [] else judged denied q ∷ []) f
+        → (is_ignored ignored q.advisory ≡ false) × (judged denied q ≡ f)
     by true e h = absurd (no-element f h)
     by false e h = (e, only (judged denied q) f h)
 
-to-finding : (ignored denied : List (List ℕ)) (q : PairData) → is_listed ignored q.advisory.id ≡ false
+to-finding : (ignored denied : List (List ℕ)) (q : PairData) → is_ignored ignored q.advisory ≡ false
     → Contains (finding_if ignored denied q) (judged denied q)
 to-finding ignored denied q e =
     subst (λ (b : Bool). Contains (if b then [] else judged denied q ∷ []) (judged denied q)) (sym e) (first (judged denied q) [])
@@ -128,10 +130,38 @@ listed : (texts : List (List ℕ)) (t : List ℕ) → is_listed texts t ≡ true
 listed texts t e = let (x, there, same) = any-one (bytes_eq t) texts e in
     subst (λ y. Contains texts y) (sym ((bytes_eq-Decides t x).0 same)) there
 
+is-listed : (texts : List (List ℕ)) (t : List ℕ) → Contains texts t → is_listed texts t ≡ true
+is-listed texts t there = by (is_listed texts t) refl
+  where
+    by : (b : Bool) → is_listed texts t ≡ b → is_listed texts t ≡ true
+    by true e = e
+    by false e = absurd (unlisted texts t e there)
+
+-- ---- names
+
+-- the text is a name of the advisory
+named : (a : AdvisoryData) (t : List ℕ) → is_name_of a t ≡ true → IsNameOf a t
+named a t e = elim (or-cases (bytes_eq a.id t) (is_listed a.aliases t) e) [
+  | inl same ↦ inl ((bytes_eq-Decides a.id t).0 same)
+  | inr there ↦ inr (listed a.aliases t there)
+]
+
+is-named : (a : AdvisoryData) (t : List ℕ) → IsNameOf a t → is_name_of a t ≡ true
+is-named a t (inl same) = or_left (bytes_eq a.id t) (is_listed a.aliases t) ((bytes_eq-Decides a.id t).1 same)
+is-named a t (inr there) = or_right (bytes_eq a.id t) (is_listed a.aliases t) (is-listed a.aliases t there)
+
+-- no text is a name of the advisory
+unignored : (texts : List (List ℕ)) (a : AdvisoryData) → is_ignored texts a ≡ false → ¬ IsIgnored texts a
+unignored texts a e (t, there, name) = not-both (is_name_of a t) (is-named a t name) (any-none (is_name_of a) texts e t there)
+
+-- one of the texts is
+ignored-by : (texts : List (List ℕ)) (a : AdvisoryData) → is_ignored texts a ≡ true → IsIgnored texts a
+ignored-by texts a e = let (t, there, name) = any-one (is_name_of a) texts e in (t, there, named a t name)
+
 -- what is so of a finding
 abbrev IsSo : List PackageData → List AdvisoryData → List (List ℕ) → List (List ℕ) → AdvisoryFindingData → Type 0
 IsSo packages advisories ignored denied f = Contains packages f.content × Contains advisories f.advisory
-    × Concerns f.advisory f.content × (¬ Contains ignored f.advisory.id)
+    × Concerns f.advisory f.content × (¬ IsIgnored ignored f.advisory)
     × (f.is_denied ≡ is_denied_kind denied f.advisory.informational)
 
 is-so : (packages : List PackageData) (advisories : List AdvisoryData) (ignored denied : List (List ℕ)) (f : AdvisoryFindingData)
@@ -145,10 +175,10 @@ is-so packages advisories ignored denied f h =
     let there : Contains (finding_if ignored denied r) f = subst (λ (z : PairData). Contains (finding_if ignored denied z) f) (sym same) here in
     let (free, is) = from-finding ignored denied r f there in
     subst (λ (z : AdvisoryFindingData). IsSo packages advisories ignored denied z) is
-    (among, known, (concern-is-exact a p).0 concerned, unlisted ignored a.id free, refl)
+    (among, known, (concern-is-exact a p).0 concerned, unignored ignored a free, refl)
 
 is-found : (packages : List PackageData) (advisories : List AdvisoryData) (ignored denied : List (List ℕ)) (p : PackageData) (a : AdvisoryData)
-    → Contains packages p → Contains advisories a → Concerns a p → is_listed ignored a.id ≡ false
+    → Contains packages p → Contains advisories a → Concerns a p → is_ignored ignored a ≡ false
     → Contains (advisory_findings packages advisories ignored denied) (judged denied (record { content = p; advisory = a }))
 is-found packages advisories ignored denied p a among known concerned free =
     let q : PairData = record { content = p; advisory = a } in
@@ -166,21 +196,21 @@ findings-are-exact packages advisories ignored denied f = (is-so packages adviso
         let same : judged denied q ≡ f = ap (λ (b : Bool). let g : AdvisoryFindingData = record { content = f.content; advisory = f.advisory; is_denied = b } in g) (sym is) in
         subst (λ (z : AdvisoryFindingData). Contains (advisory_findings packages advisories ignored denied) z) same
         (is-found packages advisories ignored denied f.content f.advisory among known concerned
-        (is-false (is_listed ignored f.advisory.id) (λ t. free (listed ignored f.advisory.id t))))
+        (is-false (is_ignored ignored f.advisory) (λ t. free (ignored-by ignored f.advisory t))))
 
 pub none-if-unconcerned : NoneIfUnconcerned
 none-if-unconcerned packages advisories ignored denied = (to, back)
   where
     to : advisory_findings packages advisories ignored denied ≡ [] → (p : PackageData) (a : AdvisoryData) → Contains packages p
-        → Contains advisories a → Concerns a p → Contains ignored a.id
-    to none p a among known concerned = by (is_listed ignored a.id) refl
+        → Contains advisories a → Concerns a p → IsIgnored ignored a
+    to none p a among known concerned = by (is_ignored ignored a) refl
       where
-        by : (b : Bool) → is_listed ignored a.id ≡ b → Contains ignored a.id
-        by true e = listed ignored a.id e
+        by : (b : Bool) → is_ignored ignored a ≡ b → IsIgnored ignored a
+        by true e = ignored-by ignored a e
         by false e = let f : AdvisoryFindingData = judged denied (record { content = p; advisory = a }) in
             absurd (no-element f (subst (λ xs. Contains xs f) none (is-found packages advisories ignored denied p a among known concerned e)))
 
-    back : ((p : PackageData) (a : AdvisoryData) → Contains packages p → Contains advisories a → Concerns a p → Contains ignored a.id)
+    back : ((p : PackageData) (a : AdvisoryData) → Contains packages p → Contains advisories a → Concerns a p → IsIgnored ignored a)
         → advisory_findings packages advisories ignored denied ≡ []
     back all = no-elements (advisory_findings packages advisories ignored denied) (λ f h.
         let (among, known, concerned, free, is) = is-so packages advisories ignored denied f h in
@@ -192,15 +222,27 @@ none-without-crates-io packages advisories ignored denied none =
     let (among, known, concerned, free, is) = is-so packages advisories ignored denied f h in
     not-both (comes_from_crates_io f.content.source) concerned.registry (none f.content among))
 
--- ---- more ids that are ignored
+-- ---- each informational advisory is denied
+
+denied-kind : (denied : List (List ℕ)) (kind : Option (List ℕ)) → Contains denied warnings → is_denied_kind denied kind ≡ true
+denied-kind denied None all = refl
+denied-kind denied (Some kind) all =
+    or_right (is_listed denied kind) (is_listed denied warnings) (is-listed denied warnings all)
+
+pub warnings-deny-all : WarningsDenyAll
+warnings-deny-all packages advisories ignored denied f all there =
+    let (among, known, concerned, free, is) = is-so packages advisories ignored denied f there in
+    is ∙ denied-kind denied f.advisory.informational all
+
+-- ---- more texts that are ignored
 
 one-left : (ignored more denied : List (List ℕ)) (q : PairData)
     → finding_if (ignored ++ more) denied q ≡ filter (is_not_ignored more) (finding_if ignored denied q)
 one-left ignored more denied q =
     subst (λ (b : Bool). (if b then [] else judged denied q ∷ []) ≡ filter (is_not_ignored more) (finding_if ignored denied q))
-    (sym (list_any-append (bytes_eq q.advisory.id) ignored more)) (by (is_listed ignored q.advisory.id) (is_listed more q.advisory.id) refl)
+    (sym (list_any-append (is_name_of q.advisory) ignored more)) (by (is_ignored ignored q.advisory) (is_ignored more q.advisory) refl)
   where
-    by : (b c : Bool) → is_listed more q.advisory.id ≡ c
+    by : (b c : Bool) → is_ignored more q.advisory ≡ c
         → (if b || c then [] else judged denied q ∷ []) ≡ filter (is_not_ignored more) (if b then [] else judged denied q ∷ [])
     by true c e = refl
     by false true e = subst (λ (c : Bool). [] ≡ cond (not c) (judged denied q ∷ []) []) (sym e) refl

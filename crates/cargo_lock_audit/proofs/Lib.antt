@@ -1,3 +1,4 @@
+mod Covered
 mod Exact
 mod OneLine
 mod Ordered

@@ -1,5 +1,5 @@
 -- What an advisory says, and which packages it concerns.
-use Rattle.std.specs.Prelude.{◌≡◌, ◌⊎◌, ◌↔◌, ◌&&◌, ℕ, Bool, false, true, List, Option, None}
+use Rattle.std.specs.Prelude.{◌≡◌, ◌⊎◌, ◌↔◌, ◌&&◌, ◌||◌, ℕ, Bool, false, true, List, Option, None}
 use Rattle.std.specs.Prelude.{Some}
 use Rattle.std.specs.Prelude.{bytes_eq, codes, not}
 use Rattle.std.specs.List.{Contains, list_any}
@@ -7,13 +7,15 @@ use Rattle.semver.specs.Parse.{Parts}
 use Rattle.cargo_lock_parts.specs.Identity.{PackageData}
 use Rattle.cargo_lock_parts.specs.Source.{Source}
 use Rattle.cargo_lock_order.specs.Canonical.{is_canonically_crates_io}
+use Rattle.cargo_lock_audit.specs.Texts.{is_listed}
 use Rattle.cargo_lock_audit.specs.Requirement.{BoundData, RequirementData, lies_in, meets}
 
--- an advisory: its id, the name of its package, its title; its kind if it is no vulnerability; the
--- source and the collection of its package, if they are said; whether it was withdrawn; and which
--- versions are patched, or were never affected
+-- an advisory: its id, its ids in other databases, the name of its package, its title; its kind if it
+-- is no vulnerability; the source and the collection of its package, if they are said; whether it was
+-- withdrawn; and which versions are patched, or were never affected
 pub record AdvisoryData : Type 0 where
   pub id : List ℕ
+  pub aliases : List (List ℕ)
   pub name : List ℕ
   pub title : List ℕ
   pub informational : Option (List ℕ)
@@ -22,6 +24,10 @@ pub record AdvisoryData : Type 0 where
   pub is_withdrawn : Bool
   pub patched : List RequirementData
   pub unaffected : List RequirementData
+
+-- the text is the id of the advisory or one of its aliases
+abbrev pub is_name_of : AdvisoryData → List ℕ → Bool
+is_name_of a text = bytes_eq a.id text || is_listed a.aliases text
 
 -- the source is crates.io for Cargo, however it is spelt
 abbrev pub comes_from_crates_io : Option Source → Bool
@@ -55,6 +61,10 @@ abbrev pub concerns : AdvisoryData → PackageData → Bool
 concerns a p = affects_package a p && (is_about_crates a && comes_from_crates_io p.source)
 
 -- ---- the same as relations
+
+-- the text is the id of the advisory or one of its aliases
+abbrev pub IsNameOf : AdvisoryData → List ℕ → Type 0
+IsNameOf a text = (a.id ≡ text) ⊎ Contains a.aliases text
 
 -- the version meets each bound of the requirement
 abbrev pub LiesIn : Parts → RequirementData → Type 0

@@ -54,6 +54,11 @@ abbrev pub read_all : {X : Type 0} → (Data → Option X) → Items → Option 
 read_all read no_items = Some []
 read_all read (item d ds) = read d >>= λ x. option_map (λ xs. x ∷ xs) (read_all read ds)
 
+-- texts, none if they are absent
+abbrev pub texts_at_key : Option Data → Option (List (List ℕ))
+texts_at_key None = Some []
+texts_at_key (Some d) = items_in d >>= read_all text_in
+
 -- the source that a value reads as
 abbrev pub source_in : Data → Option Source
 source_in d = text_in d >>= source_of
@@ -123,9 +128,10 @@ fields_at ms = do
     is_withdrawn = is_some withdrawn;
   })
 
--- the texts that each advisory has
+-- the texts that each advisory has, and its ids in other databases
 pub record NamesData : Type 0 where
   pub id : List ℕ
+  pub aliases : List (List ℕ)
   pub name : List ℕ
   pub title : List ℕ
 
@@ -134,9 +140,10 @@ pub record KindsData : Type 0 where
   pub informational : Option (List ℕ)
   pub collection : Option (List ℕ)
 
--- the texts of a table, and a title
-abbrev pub titled_names : List ℕ → FieldsData → NamesData
-titled_names title f = record { id = f.id; name = f.name; title = title }
+-- the texts of a table, with a title and aliases
+abbrev pub titled_names : List ℕ → FieldsData → List (List ℕ) → NamesData
+titled_names title f aliases =
+    record { id = f.id; aliases = aliases; name = f.name; title = title }
 
 -- the kind and the collection of a table
 abbrev pub kinds_of : FieldsData → KindsData
@@ -146,6 +153,7 @@ kinds_of f = record { informational = f.informational; collection = f.collection
 abbrev pub assembled : NamesData → KindsData → Option Source → RangesData → Bool → AdvisoryData
 assembled n k source ranges is_withdrawn = record {
   id = n.id;
+  aliases = n.aliases;
   name = n.name;
   title = n.title;
   informational = k.informational;
@@ -163,7 +171,9 @@ advisory_at title ms = do
   fields ← fields_at members
   source ← optional_by source_in (get_member (codes "source") members)
   ranges ← ranges_in (get_member (codes "versions") ms)
-  Some (assembled (titled_names title fields) (kinds_of fields) source ranges fields.is_withdrawn)
+  aliases ← texts_at_key (get_member (codes "aliases") members)
+  Some (assembled (titled_names title fields aliases) (kinds_of fields) source ranges
+      fields.is_withdrawn)
 
 -- ---- the text
 

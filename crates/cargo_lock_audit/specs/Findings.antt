@@ -1,13 +1,15 @@
 -- What is found: the packages that advisories concern, but for ignored advisories.
-use Rattle.std.specs.Prelude.{◌≡◌, ◌↔◌, ◌++◌, [], ◌∷◌, ℕ, Bool, false, true, List, Option}
+use Rattle.std.specs.Prelude.{◌≡◌, ◌↔◌, ◌||◌, ◌++◌, [], ◌∷◌, ℕ, Bool, false, true, List, Option}
 use Rattle.std.specs.Prelude.{None, Some}
-use Rattle.std.specs.Prelude.{bytes_eq, filter, if◌then◌else◌, not, string_bytes}
+use Rattle.std.specs.Prelude.{codes, filter, if◌then◌else◌, not, string_bytes}
 use Rattle.std.specs.List.{Contains, flat_map, list_any}
 use Rattle.cargo_lock_parts.specs.Identity.{PackageData}
 use Rattle.cargo_lock_audit.specs.declared.finding.Finding.{Finding}
 use Rattle.cargo_lock_audit.specs.declared.report.Unmet.{Unmet}
-use Rattle.cargo_lock_audit.specs.Advisory.{AdvisoryData, Concerns, comes_from_crates_io}
+use Rattle.cargo_lock_audit.specs.Advisory.{AdvisoryData, Concerns, IsNameOf, comes_from_crates_io}
+use Rattle.cargo_lock_audit.specs.Advisory.{is_name_of}
 use Rattle.cargo_lock_audit.specs.Pairs.{PairData, pairs}
+use Rattle.cargo_lock_audit.specs.Texts.{is_listed}
 
 -- a package that an advisory concerns, and whether it is denied
 pub record AdvisoryFindingData : Type 0 where
@@ -23,14 +25,19 @@ advisory_finding_of f = record {
   is_denied = f.is_denied;
 }
 
--- the text is one of the list
-abbrev pub is_listed : List (List ℕ) → List ℕ → Bool
-is_listed texts text = list_any (bytes_eq text) texts
+-- the word that denies each informational advisory
+abbrev pub warnings : List ℕ
+warnings = codes "warnings"
 
--- an advisory of this kind is denied: a vulnerability, or informational of a kind that is denied
+-- an advisory of this kind is denied: a vulnerability, or informational where its kind or
+-- `warnings` is denied
 abbrev pub is_denied_kind : List (List ℕ) → Option (List ℕ) → Bool
 is_denied_kind denied None = true
-is_denied_kind denied (Some kind) = is_listed denied kind
+is_denied_kind denied (Some kind) = is_listed denied kind || is_listed denied warnings
+
+-- one of the texts is the id of the advisory or one of its aliases
+abbrev pub is_ignored : List (List ℕ) → AdvisoryData → Bool
+is_ignored ignored a = list_any (is_name_of a) ignored
 
 -- the finding of a pair
 abbrev pub judged : List (List ℕ) → PairData → AdvisoryFindingData
@@ -43,7 +50,7 @@ judged denied q = record {
 -- the finding of a pair, unless its advisory is ignored
 abbrev pub finding_if : List (List ℕ) → List (List ℕ) → PairData → List AdvisoryFindingData
 finding_if ignored denied q =
-    if is_listed ignored q.advisory.id then [] else judged denied q ∷ []
+    if is_ignored ignored q.advisory then [] else judged denied q ∷ []
 
 -- what is found of pairs, in their order
 abbrev pub findings_of : List (List ℕ) → List (List ℕ) → List PairData → List AdvisoryFindingData
@@ -56,21 +63,27 @@ abbrev pub advisory_findings : List PackageData → List AdvisoryData → List (
 advisory_findings packages advisories ignored denied =
     findings_of ignored denied (pairs packages advisories)
 
--- the bytes of an id of the program
+-- the bytes of a text of the program that was ignored in vain
 abbrev pub id_of : Unmet → List ℕ
 id_of u = string_bytes u.0.now
 
--- the pair has the advisory of this id
+-- the pair has the advisory of this id or alias
 abbrev pub is_pair_with : List ℕ → PairData → Bool
-is_pair_with id q = bytes_eq q.advisory.id id
+is_pair_with id q = is_name_of q.advisory id
 
--- the id, if no pair has its advisory
+-- the text, if no pair has its advisory
 abbrev pub unmet_if : List PairData → List ℕ → List (List ℕ)
 unmet_if all id = if list_any (is_pair_with id) all then [] else id ∷ []
 
--- the ids that are ignored and of which no pair has the advisory, in their order
+-- the texts that are ignored and of which no pair has the advisory, in their order
 abbrev pub unmet : List PairData → List (List ℕ) → List (List ℕ)
 unmet all = flat_map (unmet_if all)
+
+-- ---- the same as relations
+
+-- the advisory is ignored: one of the texts is its id or one of its aliases
+abbrev pub IsIgnored : List (List ℕ) → AdvisoryData → Type 0
+IsIgnored ignored a = (text : List ℕ) × Contains ignored text × IsNameOf a text
 
 -- ---- laws
 
@@ -81,7 +94,7 @@ AdvisoryFindingsAreExact = (packages : List PackageData) (advisories : List Advi
     (ignored denied : List (List ℕ)) (f : AdvisoryFindingData)
     → Contains (advisory_findings packages advisories ignored denied) f
     ↔ (Contains packages f.content × Contains advisories f.advisory × Concerns f.advisory f.content
-    × (¬ Contains ignored f.advisory.id)
+    × (¬ IsIgnored ignored f.advisory)
     × (f.is_denied ≡ is_denied_kind denied f.advisory.informational))
 
 -- nothing is found exactly if each advisory that concerns a package is ignored
@@ -89,7 +102,7 @@ abbrev pub NoneIfUnconcerned : Type 0
 NoneIfUnconcerned = (packages : List PackageData) (advisories : List AdvisoryData)
     (ignored denied : List (List ℕ)) → (advisory_findings packages advisories ignored denied ≡ [])
     ↔ ((p : PackageData) (a : AdvisoryData) → Contains packages p → Contains advisories a
-    → Concerns a p → Contains ignored a.id)
+    → Concerns a p → IsIgnored ignored a)
 
 -- nothing is found in a lockfile without packages of crates.io
 abbrev pub NoneWithoutCratesIo : Type 0
@@ -98,9 +111,9 @@ NoneWithoutCratesIo = (packages : List PackageData) (advisories : List AdvisoryD
     → ((p : PackageData) → Contains packages p → comes_from_crates_io p.source ≡ false)
     → advisory_findings packages advisories ignored denied ≡ []
 
--- the finding is of an advisory that is not in the list
+-- the finding is of an advisory that the texts do not ignore
 abbrev pub is_not_ignored : List (List ℕ) → AdvisoryFindingData → Bool
-is_not_ignored ignored f = not (is_listed ignored f.advisory.id)
+is_not_ignored ignored f = not (is_ignored ignored f.advisory)
 
 -- to ignore more advisories leaves out their findings, and changes nothing else
 abbrev pub IgnoringLeavesOut : Type 0
@@ -108,3 +121,9 @@ IgnoringLeavesOut = (packages : List PackageData) (advisories : List AdvisoryDat
     (ignored more denied : List (List ℕ))
     → advisory_findings packages advisories (ignored ++ more) denied
     ≡ filter (is_not_ignored more) (advisory_findings packages advisories ignored denied)
+
+-- where `warnings` is denied, each finding is denied
+abbrev pub WarningsDenyAll : Type 0
+WarningsDenyAll = (packages : List PackageData) (advisories : List AdvisoryData)
+    (ignored denied : List (List ℕ)) (f : AdvisoryFindingData) → Contains denied warnings
+    → Contains (advisory_findings packages advisories ignored denied) f → f.is_denied ≡ true

@@ -1,10 +1,12 @@
 pub mod Advisory
 pub mod AdvisoryReading
+pub mod Coverage
 pub mod Database
 pub mod Findings
 pub mod FrontMatter
 pub mod Lines
 pub mod Pairs
+pub mod Report
 pub mod Requirement
 pub mod RequirementReading
 pub mod Texts

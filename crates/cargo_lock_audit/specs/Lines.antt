@@ -13,7 +13,9 @@ use Rattle.cargo_lock_audit.specs.declared.database.AdvisoryFile.{AdvisoryFile}
 use Rattle.cargo_lock_audit.specs.declared.database.DatabaseFault.{DatabaseFault}
 use Rattle.cargo_lock_audit.specs.declared.database.DatabaseFault.TheVariants as fault
 use Rattle.cargo_lock_audit.specs.Advisory.{AdvisoryData}
+use Rattle.cargo_lock_audit.specs.Coverage.{CoverageData, coverage_line}
 use Rattle.cargo_lock_audit.specs.Findings.{AdvisoryFindingData}
+use Rattle.cargo_lock_audit.specs.Report.{ReportData}
 use Rattle.cargo_lock_audit.specs.Requirement.{RequirementData}
 
 -- `!` for what is denied, and `?` for the rest
@@ -41,11 +43,14 @@ abbrev pub patched_text : List RequirementData → List ℕ
 patched_text [] = codes "no patched version"
 patched_text (r ∷ rest) = codes "patched " ++ (shown Quoted r.text ++ or_texts rest)
 
--- what an advisory says, by its kind: that and its title, or else its title and which versions are
--- patched
+-- the title of an advisory, and which versions are patched
+abbrev pub titled : AdvisoryData → List ℕ
+titled a = title_text a.title ++ (codes "; " ++ patched_text a.patched)
+
+-- what an advisory says: its kind, if it is no vulnerability, and that
 abbrev pub said : AdvisoryData → Option (List ℕ) → List ℕ
-said a None = title_text a.title ++ (codes "; " ++ patched_text a.patched)
-said a (Some kind) = shown Plain kind ++ (codes ": " ++ title_text a.title)
+said a None = titled a
+said a (Some kind) = shown Plain kind ++ (codes ": " ++ titled a)
 
 -- the id of an advisory, and what it says
 abbrev pub advisory_text : AdvisoryData → List ℕ
@@ -56,7 +61,7 @@ abbrev pub advisory_finding_line : AdvisoryFindingData → List ℕ
 advisory_finding_line f = mark_text f.is_denied ++ (codes " " ++ (package_text f.content
     ++ (codes ": " ++ advisory_text f.advisory)))
 
--- the line of an id that is ignored, and of which no package has the advisory
+-- the line of a text that is ignored, and of which no package has the advisory
 unfoldable pub unmet_line : List ℕ → List ℕ
 unmet_line id = codes "- " ++ (shown Plain id ++ codes ": nothing to ignore")
 
@@ -72,19 +77,22 @@ advisory_findings_text = flat_map (λ f. advisory_finding_line f ++ newline ∷ 
 abbrev pub unmet_text : List (List ℕ) → List ℕ
 unmet_text = flat_map (λ id. unmet_line id ++ newline ∷ [])
 
--- the report: the line of each finding, and then of each id that was ignored in vain
-abbrev pub audit_report_text : List AdvisoryFindingData → List (List ℕ) → List ℕ
-audit_report_text found ids = advisory_findings_text found ++ unmet_text ids
+-- the report: the line of each finding, then of each text that was ignored in vain, and at last what
+-- was compared
+abbrev pub audit_report_text : ReportData → List ℕ
+audit_report_text r = advisory_findings_text r.findings
+    ++ (unmet_text r.unmet ++ (coverage_line r.coverage ++ newline ∷ []))
 
 -- the report is exactly these lines, whatever names, ids, titles and requirements hold
 abbrev pub EachAuditedIsOneLine : Type 0
-EachAuditedIsOneLine = (found : List AdvisoryFindingData) (ids : List (List ℕ))
-    → lines (audit_report_text found ids) ≡ map advisory_finding_line found ++ map unmet_line ids
+EachAuditedIsOneLine = (r : ReportData) → lines (audit_report_text r)
+    ≡ map advisory_finding_line r.findings ++ (map unmet_line r.unmet ++ coverage_line r.coverage ∷ [])
 
 -- and each of them is printable ASCII
 abbrev pub LinesArePrintable : Type 0
 LinesArePrintable = ((f : AdvisoryFindingData) → IsPrintable (advisory_finding_line f))
     × ((id : List ℕ) → IsPrintable (unmet_line id))
+    × ((c : CoverageData) → IsPrintable (coverage_line c))
 
 -- ---- why a database is refused
 

@@ -1,13 +1,15 @@
 //! Advisories, and which packages one concerns.
 
-ghost use Rattle.std.specs.Prelude.{◌≡◌, IfOk, option_map, string_bytes};
+ghost use Rattle.std.specs.Prelude.{◌≡◌, IfOk, bytes_eq, option_map, string_bytes};
 ghost use Rattle.std.specs.List.{list_any};
 ghost use Rattle.semver.specs.Identifiers.{parts_of};
 ghost use Rattle.cargo_lock_audit.specs.Advisory.{affects, affects_package, comes_from_crates_io};
-ghost use Rattle.cargo_lock_audit.specs.Advisory.{concerns, is_about_crates, is_of_collection};
+ghost use Rattle.cargo_lock_audit.specs.Advisory.{concerns, is_about_crates, is_name_of};
+ghost use Rattle.cargo_lock_audit.specs.Advisory.{is_of_collection};
 ghost use Rattle.cargo_lock_audit.specs.Requirement.{lies_in};
 
 use crate::requirement::Requirement;
+use crate::texts::is_listed;
 use cargo_lock_order::is_canonically_crates_io;
 use cargo_lock_parts::package::{Package, SourceId};
 use semver::Version;
@@ -20,6 +22,9 @@ use std::marker::Model;
 pub struct Advisory {
     /// Its id, as `RUSTSEC-2021-0003`.
     pub id: String,
+
+    /// Its ids in other databases, as `CVE-2021-25900`.
+    pub aliases: Vec<String>,
 
     /// The name of the package that it is about.
     pub package: String,
@@ -49,11 +54,13 @@ pub struct Advisory {
 impl Model for Advisory {
     ghost use Rattle.std.specs.Prelude.{option_map, string_bytes};
     ghost use Rattle.cargo_lock_audit.specs.Advisory.{AdvisoryData};
+    ghost use Rattle.cargo_lock_audit.specs.Texts.{bytes_of_texts};
 
     ghost Value = { AdvisoryData };
 
     ghost view = { λ a. record {
       id = string_bytes a.id;
+      aliases = bytes_of_texts a.aliases.items;
       name = string_bytes a.«package»;
       title = string_bytes a.title;
       informational = option_map string_bytes a.informational;
@@ -89,6 +96,17 @@ impl Advisory {
         is_crates_io(alloc, &package.source)
     }
 
+    /// Whether the text is its id or one of its aliases.
+    ///
+    /// ```
+    /// let is_it = advisory.is_named("CVE-2021-25900");
+    /// ```
+    pub fn is_named(&self, text: &str) -> bool
+        ensures { result ≡ is_name_of self.now text.now }
+    {
+        self.id.as_str() == text || is_listed(&self.aliases, text)
+    }
+
     // Whether it is about a crate of this name, was not withdrawn, and affects this version.
     fn fits(&self, package: &Package) -> bool
         ensures { result ≡ affects_package self.now «package».now }
@@ -120,7 +138,7 @@ impl Advisory {
 }
 
 // Whether the source is crates.io for Cargo.
-fn is_crates_io(alloc: Global, source: &Option<SourceId>) -> Result<bool, AllocError>
+pub(crate) fn is_crates_io(alloc: Global, source: &Option<SourceId>) -> Result<bool, AllocError>
     ensures { IfOk result (λ is_so. is_so ≡ comes_from_crates_io source.now) }
 {
     if let Some(source) = source {

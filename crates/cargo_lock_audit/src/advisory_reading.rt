@@ -12,7 +12,9 @@ ghost use Rattle.cargo_lock_audit.specs.AdvisoryReading.{optional_by, optional_t
 ghost use Rattle.cargo_lock_audit.specs.AdvisoryReading.{ranges_in, read_all, required_members};
 ghost use Rattle.cargo_lock_audit.specs.AdvisoryReading.{required_text, requirement_in};
 ghost use Rattle.cargo_lock_audit.specs.AdvisoryReading.{requirements_in, source_in, text_in};
+ghost use Rattle.cargo_lock_audit.specs.AdvisoryReading.{texts_at_key};
 ghost use Rattle.cargo_lock_audit.specs.AdvisoryReading.{assembled, kinds_of, titled_names};
+ghost use Rattle.cargo_lock_audit.specs.Texts.{bytes_of_texts};
 
 use crate::advisory::Advisory;
 use crate::front_matter::{body_of, front_length, front_of, lines_from_first, title_after};
@@ -30,8 +32,9 @@ impl Advisory {
     /// "```toml"; the front matter follows, a table of TOML, up to the next line that begins with
     /// "```"; and the first line after that which is not empty is `# TITLE`. In the table,
     /// `advisory` is a table with the texts `id`, `package` and `date`, and perhaps
-    /// `informational`, `source`, `collection` and `withdrawn`; `versions` may be a table with the
-    /// lists `patched` and `unaffected`, of requirements. Other keys count for nothing.
+    /// `informational`, `source`, `collection` and `withdrawn`, and a list of texts `aliases`;
+    /// `versions` may be a table with the lists `patched` and `unaffected`, of requirements. Other
+    /// keys count for nothing.
     ///
     /// `Parse` says what is wrong: a line that is missing, text that is no TOML, a key that is
     /// missing or of another type, a source or a requirement that does not read. It also comes for
@@ -84,7 +87,8 @@ fn advisory_at(alloc: Global, table: &Table, title: &str) -> Result<Advisory>
     let fields = fields_at(alloc, members)?;
     let source = source_at(alloc, members, "source")?;
     let ranges = ranges_in(alloc, table, "versions")?;
-    let names = names_of(alloc, title, &fields)?;
+    let aliases = texts_at_key(alloc, members, "aliases")?;
+    let names = names_of(alloc, title, &fields, aliases)?;
     let kinds = kinds_of(alloc, &fields)?;
     let is_withdrawn = fields.is_withdrawn;
     Ok(assembled(names, kinds, source, ranges, is_withdrawn))
@@ -110,7 +114,12 @@ fn assembled(
 ) -> Advisory
     ensures { result ≡ assembled names kinds source ranges is_withdrawn }
 {
-    let Names { id, package, title } = names;
+    let Names {
+        id,
+        aliases,
+        package,
+        title,
+    } = names;
     let Kinds {
         informational,
         collection,
@@ -121,6 +130,7 @@ fn assembled(
     } = ranges;
     Advisory {
         id,
+        aliases,
         package,
         title,
         informational,
@@ -132,10 +142,11 @@ fn assembled(
     }
 }
 
-// The texts that each advisory has.
+// The texts that each advisory has, and its ids in other databases.
 #[derive(Drop)]
 struct Names {
     id: String,
+    aliases: Vec<String>,
     package: String,
     title: String,
 }
@@ -143,11 +154,13 @@ struct Names {
 impl Model for Names {
     ghost use Rattle.std.specs.Prelude.{string_bytes};
     ghost use Rattle.cargo_lock_audit.specs.AdvisoryReading.{NamesData};
+    ghost use Rattle.cargo_lock_audit.specs.Texts.{bytes_of_texts};
 
     ghost Value = { NamesData };
 
     ghost view = { λ n. record {
       id = string_bytes n.id;
+      aliases = bytes_of_texts n.aliases.items;
       name = string_bytes n.«package»;
       title = string_bytes n.title;
     } };
@@ -157,13 +170,16 @@ fn names_of(
     alloc: Global,
     title: &str,
     fields: &Fields<'_>,
+    aliases: Vec<String>,
 ) -> std::result::Result<Names, AllocError>
-    ensures { IfOk result (λ n. n ≡ titled_names title.now (fields_of fields.now)) }
+    ensures { IfOk result (λ n. n ≡ titled_names title.now (fields_of fields.now)
+        (bytes_of_texts aliases.items)) }
 {
     Ok(Names {
         id: String::from_str(alloc, fields.id)?,
         package: String::from_str(alloc, fields.package)?,
         title: String::from_str(alloc, title)?,
+        aliases,
     })
 }
 
@@ -244,6 +260,42 @@ fn source_in(alloc: Global, value: &Value, key: &str) -> Result<SourceId>
     let text = text_in(alloc, value, key)?;
     let source = SourceId::from_str(alloc, text)?;
     Ok(source)
+}
+
+// ---- texts
+
+// The texts at a key, or none if the key is absent.
+fn texts_at_key(alloc: Global, table: &Table, key: &str) -> Result<Vec<String>>
+    ensures { Reads (λ v. bytes_of_texts v.items) result
+        (texts_at_key (get_member key.now (table_view table.now))) }
+{
+    let Some(value) = value_at(table, key) else {
+        return Ok(Vec::new(alloc));
+    };
+    let list = list_in(alloc, value, key)?;
+    texts_of(alloc, list, key)
+}
+
+// The texts of a list.
+fn texts_of(alloc: Global, list: &[Value], key: &str) -> Result<Vec<String>>
+    ensures { Reads (λ v. bytes_of_texts v.items) result
+        (read_all text_in (items_view list.now)) }
+{
+    let mut texts = Vec::with_capacity(alloc, list.len())?;
+    for value in list {
+        let text = owned_text_in(alloc, value, key)?;
+        texts.push(text)?;
+    }
+    Ok(texts)
+}
+
+// The text that a value is, as a text of its own.
+fn owned_text_in(alloc: Global, value: &Value, key: &str) -> Result<String>
+    ensures { Reads string_bytes result (text_in (view value.now)) }
+{
+    let text = text_in(alloc, value, key)?;
+    let text = String::from_str(alloc, text)?;
+    Ok(text)
 }
 
 // ---- requirements

@@ -27,6 +27,16 @@ pub struct AdvisoryFile {
     pub advisory: Advisory,
 }
 
+/// A database of advisories, as far as some packages ask for it.
+#[derive(Drop)]
+pub struct Database {
+    /// The advisories about packages of their names, in the order of their ids.
+    pub advisories: Vec<Advisory>,
+
+    /// How many advisories it has, about packages of all names.
+    pub size: usize,
+}
+
 /// Why a database is refused. `Display` writes a line without a newline, `advisory PATH: WHAT`, or
 /// `out of memory`.
 #[derive(Drop)]

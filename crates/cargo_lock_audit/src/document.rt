@@ -1,24 +1,28 @@
 //! What is found of packages by advisories, as a document of JSON.
 
-ghost use Rattle.std.specs.Prelude.{◌≡◌, ◌∷◌, IfOk, codes, map, string_bytes};
-ghost use Rattle.json.specs.Token.{key, string};
+ghost use Rattle.std.specs.Prelude.{◌≡◌, ◌∷◌, IfOk, codes, decimal, length, string_bytes};
+ghost use Rattle.json.specs.Token.{key, number, string};
 ghost use Rattle.json.specs.Tree.{json_tokens};
-ghost use Rattle.cargo_lock_audit.specs.Findings.{advisory_finding_of, id_of};
-ghost use Rattle.cargo_lock_audit.specs.Document.{advisory_finding_json, advisory_kind, texts_json};
+ghost use Rattle.cargo_lock_audit.specs.Coverage.{coverage_data_of};
+ghost use Rattle.cargo_lock_audit.specs.Document.{advisory_kind, requirements_json, texts_json};
 ghost use Rattle.cargo_lock_audit.specs.Document as spec;
+ghost use Rattle.cargo_lock_audit.specs.Report.{report_data_of};
+ghost use Rattle.cargo_lock_audit.specs.Texts.{bytes_of_texts};
+ghost use Rattle.cargo_lock_display.specs.PackageJson.{packages_json};
 ghost use Rattle.printing.specs.Json.{Adds, IsJsonText};
 
 use crate::advisory::Advisory;
+use crate::coverage::Coverage;
 use crate::finding::Finding;
 use crate::report::{Report, Unmet};
 use crate::requirement::Requirement;
-use cargo_lock_display::{File, begin_document, put_package};
+use cargo_lock_display::{File, begin_document, put_package, put_packages};
 use printing::{JsonWriter, ToJson, json_line, write_array};
 use std::alloc::{AllocError, Global};
 
 /// The document of what is found of packages by advisories, in one line:
-/// `{"schema":"cargo-lock-audit/1","path":"Cargo.lock","format":4,"findings":[..],"unmet":[..]}`.
-/// Fails when out of memory.
+/// `{"schema":"cargo-lock-audit/1","path":"Cargo.lock","format":4,"findings":[..],"unmet":[..],
+/// "compared":39,"advisories":812,"not_compared":[..]}`. Fails when out of memory.
 ///
 /// ```
 /// let text = advisories_json(rt.alloc(), &file, report)?;
@@ -29,8 +33,7 @@ pub fn advisories_json(
     report: &Report<'_, '_, '_>,
 ) -> Result<String, AllocError>
     ensures { IfOk result (λ text. IsJsonText
-        (spec.advisories_json file.now (map advisory_finding_of report.now.findings.items)
-        (map id_of report.now.unmet.items)) (string_bytes text)) }
+        (spec.advisories_json file.now (report_data_of report.now)) (string_bytes text)) }
 {
     json_line(alloc, &Document { file, report })
 }
@@ -43,13 +46,10 @@ struct Document<'d, 'r> {
 }
 
 impl ToJson for Document<'_, '_> {
-    ghost use Rattle.std.specs.Prelude.{map};
-    ghost use Rattle.cargo_lock_audit.specs.Findings.{advisory_finding_of, id_of};
     ghost use Rattle.cargo_lock_audit.specs.Document.{advisories_json};
+    ghost use Rattle.cargo_lock_audit.specs.Report.{report_data_of};
 
-    ghost json = { λ d. advisories_json d.file.now
-        (map advisory_finding_of d.report.now.findings.items)
-        (map id_of d.report.now.unmet.items) };
+    ghost json = { λ d. advisories_json d.file.now (report_data_of d.report.now) };
 
     fn write_json(&self, out: &mut JsonWriter) -> Result<(), AllocError> {
         begin_document(out, "cargo-lock-audit/1", self.file)?;
@@ -57,8 +57,23 @@ impl ToJson for Document<'_, '_> {
         write_array(out, &self.report.findings)?;
         out.key("unmet")?;
         write_array(out, &self.report.unmet)?;
+        put_coverage(out, &self.report.coverage)?;
         out.end_object()
     }
+}
+
+// Writes the members of what was compared.
+fn put_coverage(out: &mut JsonWriter, coverage: &Coverage<'_>) -> Result<(), AllocError>
+    ensures { Adds result out.old out.new
+        (key (codes "compared") ∷ number (decimal (length (coverage_data_of coverage.now).compared))
+        ∷ key (codes "advisories") ∷ number (decimal coverage.now.advisories)
+        ∷ key (codes "not_compared")
+        ∷ json_tokens (packages_json (coverage_data_of coverage.now).not_compared)) }
+{
+    out.number_member("compared", coverage.compared.len() as u64)?;
+    out.number_member("advisories", coverage.advisories as u64)?;
+    out.key("not_compared")?;
+    put_packages(out, &coverage.not_compared)
 }
 
 impl ToJson for Finding<'_, '_> {
@@ -76,6 +91,8 @@ impl ToJson for Finding<'_, '_> {
         out.key("package")?;
         put_package(out, self.package)?;
         put_advisory(out, advisory)?;
+        put_aliases(out, advisory)?;
+        put_unaffected(out, advisory)?;
         out.end_object()
     }
 }
@@ -90,17 +107,56 @@ fn kind(advisory: &Advisory) -> &str
     }
 }
 
-// Writes the members of an advisory.
+// Writes the members with the id of an advisory, its title, and which versions are patched.
 fn put_advisory(out: &mut JsonWriter, advisory: &Advisory) -> Result<(), AllocError>
     ensures { Adds result out.old out.new (key (codes "id") ∷ string advisory.now.id
         ∷ key (codes "title") ∷ string advisory.now.title
-        ∷ key (codes "patched")
-        ∷ json_tokens (texts_json (map (λ r. r.text) advisory.now.patched))) }
+        ∷ key (codes "patched") ∷ json_tokens (requirements_json advisory.now.patched)) }
 {
     out.string_member("id", advisory.id.as_str())?;
     out.string_member("title", advisory.title.as_str())?;
-    out.key("patched")?;
-    write_array(out, &advisory.patched)
+    put_requirements(out, "patched", &advisory.patched)
+}
+
+// Writes the member with the ids of an advisory in other databases.
+fn put_aliases(out: &mut JsonWriter, advisory: &Advisory) -> Result<(), AllocError>
+    ensures { Adds result out.old out.new
+        (key (codes "aliases") ∷ json_tokens (texts_json advisory.now.aliases)) }
+{
+    out.key("aliases")?;
+    write_texts(out, &advisory.aliases)
+}
+
+// Writes the member with the versions that were never affected.
+fn put_unaffected(out: &mut JsonWriter, advisory: &Advisory) -> Result<(), AllocError>
+    ensures { Adds result out.old out.new
+        (key (codes "unaffected") ∷ json_tokens (requirements_json advisory.now.unaffected)) }
+{
+    put_requirements(out, "unaffected", &advisory.unaffected)
+}
+
+// Writes a member whose value is a list of requirements.
+fn put_requirements(
+    out: &mut JsonWriter,
+    name: &str,
+    requirements: &[Requirement],
+) -> Result<(), AllocError>
+    ensures { Adds result out.old out.new
+        (key name.now ∷ json_tokens (requirements_json requirements.now)) }
+{
+    out.key(name)?;
+    write_array(out, requirements)
+}
+
+// Writes the array of texts.
+fn write_texts(out: &mut JsonWriter, texts: &[String]) -> Result<(), AllocError>
+    ensures { Adds result out.old out.new (json_tokens (texts_json (bytes_of_texts texts.now))) }
+{
+    out.begin_array()?;
+    for text in texts {
+        out.string(text.as_str())?;
+    }
+    out.end_array()
 }
 
 // A requirement is the text that the advisory has.

@@ -13,8 +13,8 @@ use std::fmt;
 
 /// A package that an advisory concerns. `Display` writes a line without a newline:
 /// `! NAME VERSION: ID: TITLE; patched REQUIREMENT or REQUIREMENT`, or `; no patched version`, for
-/// a vulnerability, and `? NAME VERSION: ID: KIND: TITLE` for an informational advisory, with `!`
-/// if its kind is denied. Texts of a stranger are shown as the crate `shown` does; in a title the
+/// a vulnerability, and `? NAME VERSION: ID: KIND: TITLE; patched REQUIREMENT` for an informational
+/// advisory, with `!` if its kind is denied. Texts of a stranger are shown as the crate `shown` does; in a title the
 /// backquote is kept.
 #[derive(Clone, Copy)]
 pub struct Finding<'p, 'a> {
@@ -64,15 +64,13 @@ impl fmt::Display for AdvisoryText<'_> {
         let AdvisoryText(advisory) = *self;
         let id = Shown(&advisory.id);
         let title = TitleText(&advisory.title);
+        let patched = PatchedText(&advisory.patched);
         match &advisory.informational {
             Some(kind) => {
                 let kind = Shown(kind);
-                write!(f, "{id}: {kind}: {title}")
+                write!(f, "{id}: {kind}: {title}; {patched}")
             }
-            None => {
-                let patched = PatchedText(&advisory.patched);
-                write!(f, "{id}: {title}; {patched}")
-            }
+            None => write!(f, "{id}: {title}; {patched}"),
         }
     }
 }

@@ -2,7 +2,9 @@
 
 ghost use Rattle.cargo_lock_audit.specs.Advisory.{ConcernIsExact};
 ghost use Rattle.cargo_lock_audit.specs.Findings.{AdvisoryFindingsAreExact, IgnoringLeavesOut};
+ghost use Rattle.cargo_lock_audit.specs.Coverage.{CoverageIsExact};
 ghost use Rattle.cargo_lock_audit.specs.Findings.{NoneIfUnconcerned, NoneWithoutCratesIo};
+ghost use Rattle.cargo_lock_audit.specs.Findings.{WarningsDenyAll};
 ghost use Rattle.cargo_lock_audit.specs.Lines.{EachAuditedIsOneLine, FaultsArePrintable};
 ghost use Rattle.cargo_lock_audit.specs.Lines.{LinesArePrintable};
 
@@ -32,8 +34,19 @@ pub fn ignoring_leaves_out()
     ensures { IgnoringLeavesOut }
 {}
 
-/// A report is a line for each finding and for each id that was ignored in vain, whatever names,
-/// ids, titles and requirements hold.
+/// Where `warnings` is denied, each finding is denied.
+pub fn warnings_deny_all()
+    ensures { WarningsDenyAll }
+{}
+
+/// The packages that are compared with advisories and those that are not are together the packages,
+/// each once, and exactly those of crates.io are compared.
+pub fn coverage_is_exact()
+    ensures { CoverageIsExact }
+{}
+
+/// A report is a line for each finding, for each text that was ignored in vain, and for what was
+/// compared, whatever names, ids, titles and requirements hold.
 pub fn each_is_one_line()
     ensures { EachAuditedIsOneLine }
 {}

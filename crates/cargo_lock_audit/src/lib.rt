@@ -3,6 +3,7 @@
 
 pub mod advisory;
 mod advisory_reading;
+pub mod coverage;
 pub mod database;
 pub mod document;
 pub mod finding;
@@ -12,9 +13,11 @@ pub mod pair;
 pub mod report;
 pub mod requirement;
 mod requirement_reading;
+mod texts;
 
 pub use crate::advisory::Advisory;
-pub use crate::database::{AdvisoryFile, DatabaseFault, database_of};
+pub use crate::coverage::Coverage;
+pub use crate::database::{AdvisoryFile, Database, DatabaseFault, database_of};
 pub use crate::document::advisories_json;
 pub use crate::finding::Finding;
 pub use crate::pair::{Pair, pairs};

@@ -1,37 +1,47 @@
 //! What an audit of packages by advisories reports.
 
-ghost use Rattle.std.specs.Prelude.{◌≡◌, ◌++◌, IfOk, OnOk, Some, bytes_eq, map, option_map};
-ghost use Rattle.std.specs.Prelude.{string_bytes};
+ghost use Rattle.std.specs.Prelude.{◌≡◌, ◌++◌, IfOk, OnOk, Some, map, option_map, string_bytes};
 ghost use Rattle.std.specs.Fmt.{DisplaysOnOk};
 ghost use Rattle.std.specs.List.{list_any};
-ghost use Rattle.cargo_lock_audit.specs.Findings.{advisory_finding_of, advisory_findings};
-ghost use Rattle.cargo_lock_audit.specs.Findings.{finding_if, findings_of, id_of, is_denied_kind};
-ghost use Rattle.cargo_lock_audit.specs.Findings.{is_listed, is_pair_with, unmet, unmet_if};
+ghost use Rattle.cargo_lock_audit.specs.Advisory.{is_name_of};
+ghost use Rattle.cargo_lock_audit.specs.Findings.{advisory_finding_of, finding_if, findings_of};
+ghost use Rattle.cargo_lock_audit.specs.Findings.{id_of, is_denied_kind, is_ignored, is_pair_with};
+ghost use Rattle.cargo_lock_audit.specs.Findings.{unmet, unmet_if};
 ghost use Rattle.cargo_lock_audit.specs.Lines.{advisory_findings_text, unmet_text};
 ghost use Rattle.cargo_lock_audit.specs.Pairs.{advisory_pair_of};
-ghost use Rattle.cargo_lock_audit.specs.Pairs as pair;
+ghost use Rattle.cargo_lock_audit.specs.Report.{report_data_of, report_of};
 ghost use Rattle.cargo_lock_audit.specs.Texts.{bytes_of_texts};
 
 use crate::advisory::Advisory;
+use crate::coverage::Coverage;
+use crate::database::Database;
 use crate::finding::Finding;
 use crate::pair::{Pair, pairs};
+use crate::texts::is_listed;
 use cargo_lock_parts::package::Package;
 use printing::Shown;
 use std::alloc::{AllocError, Global};
 use std::fmt;
 
-/// What an audit reports. `Display` writes a line for each finding, and then for each id that was
-/// ignored in vain `- ID: nothing to ignore`, each with its newline.
+/// The word that denies each informational advisory.
+const WARNINGS: &str = "warnings";
+
+/// What an audit reports. `Display` writes a line for each finding, then for each text that was
+/// ignored in vain `- ID: nothing to ignore`, and at last the line of what was compared, each with its
+/// newline.
 #[derive(Drop)]
 pub struct Report<'p, 'a, 'i> {
     /// The findings, in the order of the packages and then of the advisories.
     pub findings: Vec<Finding<'p, 'a>>,
 
-    /// The ids that were to be ignored, and of which no package has the advisory.
+    /// The ids and aliases that were to be ignored, and of which no package has the advisory.
     pub unmet: Vec<Unmet<'i>>,
+
+    /// Which packages were compared with advisories, and which were not.
+    pub coverage: Coverage<'p>,
 }
 
-/// An id that was to be ignored, and of which no package has the advisory. `Display` writes
+/// An id or alias that was to be ignored, and of which no package has the advisory. `Display` writes
 /// `- ID: nothing to ignore`, without a newline.
 #[derive(Clone, Copy)]
 pub struct Unmet<'i>(pub &'i String);
@@ -52,30 +62,33 @@ impl fmt::Display for Unmet<'_> {
 }
 
 impl<'p, 'a, 'i> Report<'p, 'a, 'i> {
-    /// What is reported of these packages: each advisory that concerns one, but for those whose ids
-    /// are ignored. `denied` are the kinds of informational advisories that count as much as a
-    /// vulnerability. Fails when out of memory.
+    /// What is reported of these packages: each advisory that concerns one, but for those whose id or
+    /// alias is ignored. `denied` are the kinds of informational advisories that count as much as a
+    /// vulnerability; `warnings` names all kinds. Fails when out of memory.
     ///
     /// ```
-    /// let report = Report::of(alloc, &lockfile.packages, &advisories, &ignored, &denied)?;
+    /// let report = Report::of(alloc, &lockfile.packages, &database, &ignored, &denied)?;
     /// ```
     pub fn of(
         alloc: Global,
         packages: &'p [Package],
-        advisories: &'a [Advisory],
+        database: &'a Database,
         ignored: &'i [String],
         denied: &[String],
     ) -> Result<Report<'p, 'a, 'i>, AllocError>
-        ensures findings { IfOk result (λ report. map advisory_finding_of report.findings.items
-            ≡ advisory_findings packages.now advisories.now (bytes_of_texts ignored.now)
+        ensures { IfOk result (λ report. report_data_of report ≡ report_of packages.now
+            database.now.advisories.items database.now.size (bytes_of_texts ignored.now)
             (bytes_of_texts denied.now)) }
-        ensures unmet { IfOk result (λ report. map id_of report.unmet.items
-            ≡ unmet (pair.pairs packages.now advisories.now) (bytes_of_texts ignored.now)) }
     {
-        let pairs = pairs(alloc, packages, advisories)?;
+        let pairs = pairs(alloc, packages, &database.advisories)?;
         let unmet = unmet_of(alloc, &pairs, ignored)?;
         let findings = findings_of(alloc, &pairs, ignored, denied)?;
-        Ok(Report { findings, unmet })
+        let coverage = Coverage::of(alloc, packages, database.size)?;
+        Ok(Report {
+            findings,
+            unmet,
+            coverage,
+        })
     }
 
     /// Whether a package is denied, so whether a finding has the mark `!`.
@@ -116,7 +129,7 @@ fn put_finding<'p, 'a>(
         (bytes_of_texts denied.now) (advisory_pair_of pair.entry)) }
 {
     let Pair { package, advisory } = pair;
-    if !is_listed(ignored, &advisory.id) {
+    if !is_ignored(ignored, advisory) {
         let is_denied = is_denied_kind(denied, &advisory.informational);
         found.push(Finding {
             package,
@@ -133,28 +146,28 @@ fn is_denied_kind(denied: &[String], informational: &Option<String>) -> bool
         informational.now) }
 {
     match informational {
-        Some(kind) => is_listed(denied, kind),
+        Some(kind) => is_listed(denied, kind) || is_listed(denied, WARNINGS),
         None => true,
     }
 }
 
-// Whether the text is one of the list.
-fn is_listed(texts: &[String], text: &str) -> bool
-    ensures { result ≡ is_listed (bytes_of_texts texts.now) text.now }
+// Whether one of the texts is the id of the advisory or one of its aliases.
+fn is_ignored(ignored: &[String], advisory: &Advisory) -> bool
+    ensures { result ≡ is_ignored (bytes_of_texts ignored.now) advisory.now }
 {
-    is_among(texts, text)
+    is_named_by_one(ignored, advisory)
 }
 
 // The same, as a test of each text.
-fn is_among(texts: &[String], text: &str) -> bool
-    ensures { result ≡ list_any (λ s. bytes_eq text.now (string_bytes s)) texts.now }
+fn is_named_by_one(texts: &[String], advisory: &Advisory) -> bool
+    ensures { result ≡ list_any (λ s. is_name_of advisory.now (string_bytes s)) texts.now }
 {
-    texts.iter().any(|one| text == one.as_str())
+    texts.iter().any(|text| advisory.is_named(text))
 }
 
-// ---- ids that are ignored in vain
+// ---- what is ignored in vain
 
-// The ids of which no pair has the advisory.
+// The texts of which no pair has the advisory.
 fn unmet_of<'i>(
     alloc: Global,
     pairs: &[Pair<'_, '_>],
@@ -170,7 +183,7 @@ fn unmet_of<'i>(
     Ok(unmet)
 }
 
-// Adds the id if no pair has its advisory.
+// Adds the text if no pair has its advisory.
 fn put_unmet<'i>(
     unmet: &mut Vec<Unmet<'i>>,
     pairs: &[Pair<'_, '_>],
@@ -185,7 +198,7 @@ fn put_unmet<'i>(
     Ok(())
 }
 
-// Whether a pair has the advisory of this id.
+// Whether a pair has the advisory of this id or alias.
 fn is_met(pairs: &[Pair<'_, '_>], id: &str) -> bool
     ensures { result ≡ list_any (is_pair_with id.now) (map advisory_pair_of pairs.now) }
 {
@@ -199,27 +212,28 @@ fn is_with_one(pairs: &[Pair<'_, '_>], id: &str) -> bool
     pairs.iter().any(|pair| is_with(pair, id))
 }
 
-// Whether the pair has the advisory of this id.
+// Whether the pair has the advisory of this id or alias.
 fn is_with(pair: &Pair<'_, '_>, id: &str) -> bool
     ensures { result ≡ is_pair_with id.now (advisory_pair_of pair.now) }
 {
     let advisory = pair.advisory;
-    advisory.id.as_str() == id
+    advisory.is_named(id)
 }
 
 // ---- lines
 
 impl fmt::Display for Report<'_, '_, '_> {
-    ghost use Rattle.std.specs.Prelude.{Some, map};
-    ghost use Rattle.cargo_lock_audit.specs.Findings.{advisory_finding_of, id_of};
+    ghost use Rattle.std.specs.Prelude.{Some};
     ghost use Rattle.cargo_lock_audit.specs.Lines.{audit_report_text};
+    ghost use Rattle.cargo_lock_audit.specs.Report.{report_data_of};
 
-    ghost output = { λ report. Some (audit_report_text
-        (map advisory_finding_of report.findings.items) (map id_of report.unmet.items)) };
+    ghost output = { λ report. Some (audit_report_text (report_data_of report)) };
 
     fn fmt<W: fmt::Write>(&self, f: &mut fmt::Formatter<W>) -> fmt::Result {
         write_findings(&self.findings, f)?;
-        write_unmet(&self.unmet, f)
+        write_unmet(&self.unmet, f)?;
+        let coverage = &self.coverage;
+        write!(f, "{coverage}\n")
     }
 }
 
@@ -237,7 +251,7 @@ fn write_findings<W: fmt::Write>(
     Ok(())
 }
 
-// Writes the line of each id that was ignored in vain.
+// Writes the line of each text that was ignored in vain.
 fn write_unmet<W: fmt::Write>(all: &[Unmet<'_>], f: &mut fmt::Formatter<W>) -> fmt::Result
     ensures { DisplaysOnOk W.write_str_gives f.old result
         (Some (unmet_text (map id_of all.now))) f.new }

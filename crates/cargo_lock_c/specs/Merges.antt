@@ -7,6 +7,7 @@ use Rattle.cargo_lock_encoding.specs.Means.{TextMeans}
 use Rattle.cargo_lock_merge.specs.Lines.{conflicts_text, merge_error_text, moved_lines}
 use Rattle.cargo_lock_merge.specs.MergedLockfiles.{IsMergeError, LockfileTriple, MergesTo}
 use Rattle.cargo_lock_merge.specs.MergedLockfiles.{triple_of}
+use Rattle.cargo_lock_merge.specs.Spelling.{with_cargo_spelling}
 use Rattle.cargo_lock_merge.specs.declared.lockfiles.LockfileMerge.{LockfileMerge}
 use Rattle.cargo_lock_merge.specs.declared.lockfiles.LockfileMerge.TheVariants as merge
 use Rattle.cargo_lock_merge.specs.declared.lockfiles.MergeError.{MergeError}
@@ -34,9 +35,11 @@ use Rattle.cargo_lock_c.specs.Texts.{MeansNothing}
 abbrev pub MeansLockfile : List ℕ → Type 0
 MeansLockfile text = (l : LockfileData) × TextMeans text l
 
--- the text is that of a lockfile, and this is it with the checksums that Cargo reads
+-- the text is that of a lockfile, and this is it with the checksums that Cargo reads, and with
+-- crates.io as Cargo writes it
 abbrev pub IsComparedOf : List ℕ → LockfileData → Type 0
-IsComparedOf text x = (l : LockfileData) × TextMeans text l × (x ≡ with_cargo_checksums_in l)
+IsComparedOf text x = (l : LockfileData) × TextMeans text l
+    × (x ≡ with_cargo_spelling (with_cargo_checksums_in l))
 
 -- these are the lockfiles of the three texts
 pub record AreOfTexts (first second third : List ℕ) (s : LockfileTriple) : Type 0 where

@@ -1,18 +1,22 @@
 //! The lockfiles of the three texts of a merge.
 
-ghost use Rattle.std.specs.Prelude.{◌≤◌, IfErr, IfOk, List, ℕ};
+ghost use Rattle.std.specs.Prelude.{◌≡◌, ◌≤◌, IfErr, IfOk, List, ℕ};
+ghost use Rattle.cargo_lock.specs.CargoChecksums.{with_cargo_checksums_in};
 ghost use Rattle.cargo_lock_c.specs.Merges.{AreOfTexts, IsComparedOf, LacksMerge, MeansLockfile};
 ghost use Rattle.cargo_lock_c.specs.Merges.{triple_of_texts};
 ghost use Rattle.cargo_lock_c.specs.Statuses.{status_of};
 ghost use Rattle.cargo_lock_c.specs.Texts.{RefusesText};
+ghost use Rattle.cargo_lock_c.specs.declared.refusal.Refusal.TheVariants.{NoMemory};
+ghost use Rattle.cargo_lock_merge.specs.Spelling.{with_cargo_spelling};
 
 use crate::difference::compared;
 use crate::reading::read;
 use crate::refusal::Refusal;
 use cargo_lock::Lockfile;
+use cargo_lock_merge::with_cargo_spelling;
 use std::alloc::Global;
 
-/// The lockfiles of a merge, with the checksums that Cargo reads.
+/// The lockfiles of a merge, with the checksums that Cargo reads, and crates.io as Cargo writes it.
 #[derive(Drop)]
 pub(crate) struct Three {
     pub(crate) base: Lockfile,
@@ -77,13 +81,26 @@ fn read_third(alloc: Global, bytes: &[u8]) -> Result<Lockfile, Refusal>
     }
 }
 
-/// The lockfile of a text's bytes, with the checksums that Cargo reads.
+/// The lockfile of a text's bytes as it is merged.
 fn read_compared(alloc: Global, bytes: &[u8]) -> Result<Lockfile, Refusal>
     ensures ok { IfOk result (IsComparedOf bytes.now) }
     ensures refused { IfErr result (λ refusal. RefusesText bytes.now (status_of refusal)) }
     ensures below { IfErr result (λ refusal. status_of refusal ≤ 3) }
 {
     let lockfile = read(alloc, bytes)?;
-    let whole = compared(alloc, lockfile)?;
+    let whole = as_merged(alloc, lockfile)?;
     Ok(whole)
+}
+
+/// The lockfile with the checksums that Cargo reads, and with crates.io as Cargo writes it.
+fn as_merged(alloc: Global, lockfile: Lockfile) -> Result<Lockfile, Refusal>
+    ensures ok { IfOk result
+        (λ l. l ≡ with_cargo_spelling (with_cargo_checksums_in lockfile)) }
+    ensures err { IfErr result (λ refusal. refusal ≡ NoMemory) }
+{
+    let whole = compared(alloc, lockfile)?;
+    match with_cargo_spelling(alloc, whole) {
+        Ok(spelt) => Ok(spelt),
+        Err(_) => Err(Refusal::NoMemory),
+    }
 }

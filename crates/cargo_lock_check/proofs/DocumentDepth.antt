@@ -1,7 +1,7 @@
 -- The depth of the document of findings.
 use Rattle.std.proofs.Common.{◌≤◌, List, None, arith}
 use Rattle.json.specs.Tree.{depth}
-use Rattle.cargo_lock_check.specs.Finding.{Alike, BadName, LockfileFindingData, LookAlike, LossySource, LostDependency, Misplaced, MisplacedDependency, NoChecksum, NoChecksums, NoRoot, NotKept, Orphan, OtherLine, RepeatedDependency, StaleChecksum, Twice, UserInfo}
+use Rattle.cargo_lock_check.specs.Finding.{Alike, BadName, LockfileFindingData, LookAlike, LossySource, LostDependency, Misplaced, MisplacedDependency, NoChecksum, NoChecksums, NoRoot, NotKept, Orphan, OtherLine, RepeatedDependency, Respelt, StaleChecksum, Twice, UserInfo}
 use Rattle.cargo_lock_parts.specs.Identity.{identity_of}
 use Rattle.cargo_lock_display.specs.File.{FileData}
 use Rattle.cargo_lock_check.specs.Document.{findings_json, line_json, lockfile_finding_json, lockfile_finding_package, other_json}
@@ -16,6 +16,7 @@ line-depth (RepeatedDependency p d) = omega arith
 line-depth (BadName p) = omega arith
 line-depth (Alike p q) = omega arith
 line-depth (LookAlike source) = omega arith
+line-depth (Respelt source) = omega arith
 line-depth (UserInfo source) = omega arith
 line-depth NoRoot = omega arith
 line-depth (Orphan p) = omega arith
@@ -36,6 +37,7 @@ other-depth (MisplacedDependency p d next) = identity-depth d None
 other-depth (Twice p) = omega arith
 other-depth (BadName p) = omega arith
 other-depth (LookAlike source) = omega arith
+other-depth (Respelt source) = omega arith
 other-depth (UserInfo source) = omega arith
 other-depth NoRoot = omega arith
 other-depth (Orphan p) = omega arith

@@ -1,5 +1,7 @@
 -- Each finding is one line: each part of it is printable.
-use Rattle.std.proofs.Common.{codes, Option, Some, None, refl}
+use Rattle.std.proofs.Common.{Bool, if◌then◌else◌, true, false, codes, Option, Some, None, refl}
+use Rattle.std.specs.Str.{chars}
+use Rattle.cargo_lock_flaws.specs.Names.{is_cargo_name}
 use Rattle.printing.specs.declared.form.Form.TheVariants.{Plain, Quoted}
 use Rattle.printing.proofs.LinesOf.{each-is-line}
 use Rattle.printing.proofs.Printable.{Prints, decimal-prints, empty, join, literal, shown-prints, words}
@@ -10,7 +12,7 @@ use Rattle.cargo_lock_check.specs.Finding.{Alike, BadName, EachLockfileFindingIs
 use Rattle.cargo_lock_check.specs.Finding.{LockfileFindingData, LookAlike, LossySource}
 use Rattle.cargo_lock_check.specs.Finding.{LostDependency, Misplaced, MisplacedDependency}
 use Rattle.cargo_lock_check.specs.Finding.{NoChecksum, NoChecksums, NoRoot, NotKept, Orphan}
-use Rattle.cargo_lock_check.specs.Finding.{OtherLine, RepeatedDependency, StaleChecksum, Twice}
+use Rattle.cargo_lock_check.specs.Finding.{OtherLine, RepeatedDependency, Respelt, StaleChecksum, Twice}
 use Rattle.cargo_lock_check.specs.Finding.{UserInfo, source_in_brackets, identity_shown}
 use Rattle.cargo_lock_check.specs.Finding.{lockfile_finding_line, package_shown}
 
@@ -24,6 +26,10 @@ identity-prints i = join (shown-prints Plain i.name) (words (codes " ") refl (jo
 package-prints : (p : PackageData) → Prints (package_shown p)
 package-prints p = identity-prints (identity_of p)
 
+refuser-prints : (b : Bool) → Prints (if b then codes "crates.io" else codes "Cargo")
+refuser-prints true = literal (codes "crates.io") refl
+refuser-prints false = literal (codes "Cargo") refl
+
 line-prints : (f : LockfileFindingData) → Prints (lockfile_finding_line f)
 line-prints (LostDependency p d) =
     words (codes "reference: ") refl (join (package-prints p)
@@ -32,11 +38,14 @@ line-prints (Twice p) = words (codes "twice: ") refl (join (package-prints p) (l
 line-prints (RepeatedDependency p d) =
     words (codes "twice: ") refl (join (package-prints p)
     (words (codes " lists ") refl (join (identity-prints d) (literal (codes " more than once") refl))))
-line-prints (BadName p) = words (codes "name: ") refl (join (shown-prints Plain p.name) (literal (codes " is not a name that Cargo accepts") refl))
+line-prints (BadName p) =
+    words (codes "name: ") refl (join (shown-prints Plain p.name)
+    (words (codes " is not a name that ") refl (join (refuser-prints (is_cargo_name (chars p.name))) (literal (codes " accepts") refl))))
 line-prints (Alike p q) =
     words (codes "alike: ") refl (join (package-prints p)
     (words (codes " and ") refl (join (package-prints q) (literal (codes " have one name on crates.io") refl))))
 line-prints (LookAlike s) = words (codes "source: ") refl (join (shown-prints Plain _) (literal (codes " is not crates.io") refl))
+line-prints (Respelt s) = words (codes "source: ") refl (join (shown-prints Plain _) (literal (codes " is crates.io for Cargo, but not as Cargo writes it") refl))
 line-prints (UserInfo s) = words (codes "source: ") refl (join (shown-prints Plain _) (literal (codes " has user info") refl))
 line-prints NoRoot = literal (codes "root: no package is of the workspace") refl
 line-prints (Orphan p) = words (codes "orphan: ") refl (join (package-prints p) (literal (codes ": no package of the workspace leads to it") refl))
@@ -49,7 +58,7 @@ line-prints (MisplacedDependency p d next) =
     (words (codes " lists ") refl (join (identity-prints d) (words (codes " before ") refl (identity-prints next)))))
 line-prints (LossySource version text) =
     words (codes "format: V") refl (join (decimal-prints (number_of version))
-    (words (codes " loses the tag, branch or revision of `") refl (join (shown-prints Quoted text) (literal (codes "`; V4 keeps it") refl))))
+    (words (codes " loses the tag, branch or revision of `") refl (join (shown-prints Quoted text) (literal (codes "`, and Cargo takes whatever it names now; V4 keeps it") refl))))
 line-prints (NotKept version) = words (codes "format: V") refl (join (decimal-prints (number_of version)) (literal (codes " does not keep this lockfile") refl))
 line-prints (OtherLine other) =
     words (codes "text: line ") refl (join (decimal-prints other.number)

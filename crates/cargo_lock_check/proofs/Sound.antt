@@ -14,8 +14,8 @@ use Rattle.cargo_lock_parts.specs.Identity.{Identity}
 use Rattle.cargo_lock.specs.CargoChecksums.{cargo_checksum, with_checksum}
 use Rattle.std.proofs.lemmas.List.{length-map}
 use Rattle.cargo_lock_flaws.specs.Dependencies.{AreDependencies, HoldsAt, HoldsOfDependency, IsDependencyMisplacedAt, IsRepeatedAt, IsSameDependency}
-use Rattle.cargo_lock_check.specs.Finding.{Alike, BadName, LockfileFindingData, LookAlike, LossySource, LostDependency, Misplaced, MisplacedDependency, NoChecksum, NoChecksums, NoRoot, Orphan, OtherLine, RepeatedDependency, StaleChecksum, Twice, UserInfo}
-use Rattle.cargo_lock_check.specs.Findings.{AreFindings, AreLossy, FindingsData, HasNoFindings, IsSourceLostIn, IsOther, IsOtherLine, IsWrittenByCargo, alike_at, checked_packages, dependency_at, misplaced_at, misplaced_dependency_at, flawed_at, source_finding_at, told_of, told_of_checksums, told_of_format, told_of_formats, told_of_misleading, told_of_order, told_of_orphans, told_of_twice, with_next}
+use Rattle.cargo_lock_check.specs.Finding.{Alike, BadName, LockfileFindingData, LookAlike, LossySource, LostDependency, Misplaced, MisplacedDependency, NoChecksum, NoChecksums, NoRoot, Orphan, OtherLine, RepeatedDependency, Respelt, StaleChecksum, Twice, UserInfo}
+use Rattle.cargo_lock_check.specs.Findings.{AreFindings, AreLossy, FindingsData, HasNoFindings, HasNothingMisleading, IsSourceLostIn, IsOther, IsOtherLine, IsWrittenByCargo, alike_at, checked_packages, dependency_at, misplaced_at, misplaced_dependency_at, flawed_at, source_finding_at, told_of, told_of_checksums, told_of_format, told_of_formats, told_of_misleading, told_of_order, told_of_orphans, told_of_twice, with_next}
 use Rattle.cargo_lock_flaws.specs.Alike.{AreAlikeAt, ArePairsAlike, IsFirstAlike}
 use Rattle.cargo_lock_flaws.specs.Lost.{IsLostAt}
 use Rattle.cargo_lock_flaws.specs.Names.{IsBadlyNamed}
@@ -23,7 +23,7 @@ use Rattle.cargo_lock_flaws.specs.Packages.{IsFirstUnchecked, IsMisplaced, IsTwi
 use Rattle.lists.specs.Places.{IsPlaces}
 use Rattle.cargo_lock_flaws.specs.Reach.{IsOrphan}
 use Rattle.cargo_lock_check.specs.Sound.{EmptyIfSound, NoneToldIfEmpty}
-use Rattle.cargo_lock_flaws.specs.Sources.{HasUserInfo, IsFrom, IsFromAt, IsLookAlike}
+use Rattle.cargo_lock_flaws.specs.Sources.{HasUserInfo, IsFrom, IsFromAt, IsLookAlike, IsRespelt}
 use Rattle.cargo_lock_flaws.specs.Stale.{stale_keys}
 use Rattle.cargo_lock_check.specs.Text.{OtherLineData}
 use Rattle.lists.proofs.Members.{first-in, none-in, none-left}
@@ -100,10 +100,11 @@ empty_if_sound text l f is = (
     dependencies = (dependencies-empty (IsLostAt l.packages) f.lost_dependencies (is.lost_dependencies.asked e.lossy)).0 e.lost_dependencies;
     once = λ k h. (places-empty (IsTwice l.packages) (length l.packages) f.twice is.twice).0 e.twice k (within _ l.packages k h) h;
     listed_once = (dependencies-empty (IsRepeatedAt l.packages) f.repeated is.repeated).0 e.repeated;
-    named = λ k h. (places-empty (IsBadlyNamed l.packages) (length l.packages) f.badly_named is.badly_named).0 e.badly_named k (within _ l.packages k h) h;
-    apart = (alike-empty l.packages f.alike is.alike).0 e.alike;
-    genuine = λ k h. (places-empty (IsFromAt IsLookAlike l.packages) (length l.packages) f.look_alikes is.look_alikes).0 e.look_alikes k (within _ l.packages k h) h;
-    anonymous = λ k h. (places-empty (IsFromAt HasUserInfo l.packages) (length l.packages) f.with_user_info is.with_user_info).0 e.with_user_info k (within _ l.packages k h) h;
+    named = λ k h. (places-empty (IsBadlyNamed l.packages) (length l.packages) f.badly_named is.badly_named).0 e.plain.badly_named k (within _ l.packages k h) h;
+    apart = (alike-empty l.packages f.alike is.alike).0 e.plain.alike;
+    genuine = λ k h. (places-empty (IsFromAt IsLookAlike l.packages) (length l.packages) f.look_alikes is.look_alikes).0 e.plain.look_alikes k (within _ l.packages k h) h;
+    as_written = λ k h. (places-empty (IsFromAt IsRespelt l.packages) (length l.packages) f.respelt is.respelt).0 e.plain.respelt k (within _ l.packages k h) h;
+    anonymous = λ k h. (places-empty (IsFromAt HasUserInfo l.packages) (length l.packages) f.with_user_info is.with_user_info).0 e.plain.with_user_info k (within _ l.packages k h) h;
     needed = (places-empty (IsOrphan l.packages l.root) (length l.packages) f.orphans (is.orphans.asked e.lossy)).0 e.orphans;
     checksums = λ k h. (places-empty (IsWithoutChecksum (checked_packages l)) (length l.packages) f.without_checksum is.without_checksum).0 e.without_checksum k (within-checked _ l k h) h;
     checked = λ k h. (places-empty (IsUnchecked (checked_packages l)) (length l.packages) f.unchecked is.unchecked).0 e.unchecked k (within-checked _ l k h) h;
@@ -120,10 +121,13 @@ empty_if_sound text l f is = (
     lost_dependencies = (dependencies-empty (IsLostAt l.packages) f.lost_dependencies (is.lost_dependencies.asked none)).1 s.dependencies;
     twice = (places-empty (IsTwice l.packages) (length l.packages) f.twice is.twice).1 (λ k _. s.once k);
     repeated = (dependencies-empty (IsRepeatedAt l.packages) f.repeated is.repeated).1 s.listed_once;
-    badly_named = (places-empty (IsBadlyNamed l.packages) (length l.packages) f.badly_named is.badly_named).1 (λ k _. s.named k);
-    alike = (alike-empty l.packages f.alike is.alike).1 s.apart;
-    look_alikes = (places-empty (IsFromAt IsLookAlike l.packages) (length l.packages) f.look_alikes is.look_alikes).1 (λ k _. s.genuine k);
-    with_user_info = (places-empty (IsFromAt HasUserInfo l.packages) (length l.packages) f.with_user_info is.with_user_info).1 (λ k _. s.anonymous k);
+    plain = record {
+      badly_named = (places-empty (IsBadlyNamed l.packages) (length l.packages) f.badly_named is.badly_named).1 (λ k _. s.named k);
+      alike = (alike-empty l.packages f.alike is.alike).1 s.apart;
+      look_alikes = (places-empty (IsFromAt IsLookAlike l.packages) (length l.packages) f.look_alikes is.look_alikes).1 (λ k _. s.genuine k);
+      respelt = (places-empty (IsFromAt IsRespelt l.packages) (length l.packages) f.respelt is.respelt).1 (λ k _. s.as_written k);
+      with_user_info = (places-empty (IsFromAt HasUserInfo l.packages) (length l.packages) f.with_user_info is.with_user_info).1 (λ k _. s.anonymous k);
+    };
     orphans = (places-empty (IsOrphan l.packages l.root) (length l.packages) f.orphans (is.orphans.asked none)).1 s.needed;
     without_checksum = (places-empty (IsWithoutChecksum (checked_packages l)) (length l.packages) f.without_checksum is.without_checksum).1 (λ k _. s.checksums k);
     unchecked = (places-empty (IsUnchecked (checked_packages l)) (length l.packages) f.unchecked is.unchecked).1 (λ k _. s.checked k);
@@ -260,6 +264,7 @@ told-nothing text l f is e =
     let m1 = append-none (filter_map (flawed_at BadName f.packages) f.badly_named) _ m.0 in
     let m2 = append-none (filter_map (alike_at f.packages) f.alike) _ m1.1 in
     let m3 = append-none (filter_map (source_finding_at LookAlike f.packages) f.look_alikes) _ m2.1 in
+    let m4 = append-none (filter_map (source_finding_at Respelt f.packages) f.respelt) _ m3.1 in
     let e3 = append-none (told_of_orphans f.has_workspace f.packages f.orphans) _ m.1 in
     let e4 = append-none (told_of_checksums f) _ e3.1 in
     let u = append-none (filter_map (flawed_at NoChecksum f.packages) f.without_checksum) _ e4.0 in
@@ -278,12 +283,15 @@ told-nothing text l f is e =
       repeated = filter_map-none (dependency_at RepeatedDependency l.packages) f.repeated
           (λ k c. dependency-there RepeatedDependency (λ d ds at. (j : ℕ) × (j < at) × HoldsOfDependency (IsSameDependency d) ds j) l.packages k ((is.repeated.told k.0 k.1).0 c))
           (subst (λ ps. filter_map (dependency_at RepeatedDependency ps) f.repeated ≡ []) here t.1);
-      badly_named = told-none (IsBadlyNamed l.packages) BadName l.packages f.badly_named is.badly_named (subst (λ ps. filter_map (flawed_at BadName ps) f.badly_named ≡ []) here m1.0);
-      alike = filter_map-none (alike_at l.packages) f.alike (λ k c. let first = (is.alike.told k.0 k.1).0 c in alike-there l.packages k first.1)
-          (subst (λ ps. filter_map (alike_at ps) f.alike ≡ []) here m2.0);
-      look_alikes = sources-none IsLookAlike LookAlike l.packages f.look_alikes is.look_alikes (subst (λ ps. filter_map (source_finding_at LookAlike ps) f.look_alikes ≡ []) here m3.0);
-      with_user_info = sources-none HasUserInfo UserInfo l.packages f.with_user_info is.with_user_info
-          (subst (λ ps. filter_map (source_finding_at UserInfo ps) f.with_user_info ≡ []) here m3.1);
+      plain = record {
+        badly_named = told-none (IsBadlyNamed l.packages) BadName l.packages f.badly_named is.badly_named (subst (λ ps. filter_map (flawed_at BadName ps) f.badly_named ≡ []) here m1.0);
+        alike = filter_map-none (alike_at l.packages) f.alike (λ k c. let first = (is.alike.told k.0 k.1).0 c in alike-there l.packages k first.1)
+            (subst (λ ps. filter_map (alike_at ps) f.alike ≡ []) here m2.0);
+        look_alikes = sources-none IsLookAlike LookAlike l.packages f.look_alikes is.look_alikes (subst (λ ps. filter_map (source_finding_at LookAlike ps) f.look_alikes ≡ []) here m3.0);
+        respelt = sources-none IsRespelt Respelt l.packages f.respelt is.respelt (subst (λ ps. filter_map (source_finding_at Respelt ps) f.respelt ≡ []) here m4.0);
+        with_user_info = sources-none HasUserInfo UserInfo l.packages f.with_user_info is.with_user_info
+            (subst (λ ps. filter_map (source_finding_at UserInfo ps) f.with_user_info ≡ []) here m4.1);
+      };
       orphans = orphans-none l.root f.has_workspace l.packages f.orphans (is.orphans.asked none)
           (subst (λ ps. told_of_orphans f.has_workspace ps f.orphans ≡ []) here e3.0);
       without_checksum = told-none (IsWithoutChecksum (checked_packages l)) NoChecksum l.packages f.without_checksum is.without_checksum
@@ -305,10 +313,11 @@ nothing-told f e =
     (λ i. filter_map (dependency_at LostDependency f.packages) (e.lost_dependencies i)
     ++ ((filter_map (flawed_at Twice f.packages) (e.twice i)
     ++ filter_map (dependency_at RepeatedDependency f.packages) (e.repeated i))
-    ++ ((filter_map (flawed_at BadName f.packages) (e.badly_named i)
-    ++ (filter_map (alike_at f.packages) (e.alike i)
-    ++ (filter_map (source_finding_at LookAlike f.packages) (e.look_alikes i)
-    ++ filter_map (source_finding_at UserInfo f.packages) (e.with_user_info i))))
+    ++ ((filter_map (flawed_at BadName f.packages) (e.plain.badly_named i)
+    ++ (filter_map (alike_at f.packages) (e.plain.alike i)
+    ++ (filter_map (source_finding_at LookAlike f.packages) (e.plain.look_alikes i)
+    ++ (filter_map (source_finding_at Respelt f.packages) (e.plain.respelt i)
+    ++ filter_map (source_finding_at UserInfo f.packages) (e.plain.with_user_info i)))))
     ++ (told_of_orphans f.has_workspace f.packages (e.orphans i)
     ++ ((filter_map (flawed_at NoChecksum f.packages) (e.without_checksum i)
     ++ filter_map (source_finding_at NoChecksums f.packages) (e.unchecked i))

@@ -3,8 +3,8 @@ use Rattle.std.specs.Prelude.{ℕ, List, codes, decimal, map, Option, None, Some
 use Rattle.json.specs.Json.{Json, array, null, number, string, object, member, no_members}
 use Rattle.cargo_lock_parts.specs.Identity.{PackageData}
 use Rattle.cargo_lock_check.specs.Finding.{LockfileFindingData, LostDependency, Twice}
-use Rattle.cargo_lock_check.specs.Finding.{RepeatedDependency, BadName, Alike, LookAlike, UserInfo}
-use Rattle.cargo_lock_check.specs.Finding.{NoRoot, Orphan, NoChecksum, NoChecksums, StaleChecksum}
+use Rattle.cargo_lock_check.specs.Finding.{RepeatedDependency, BadName, Alike, LookAlike, Respelt}
+use Rattle.cargo_lock_check.specs.Finding.{UserInfo, NoRoot, Orphan, NoChecksum, NoChecksums, StaleChecksum}
 use Rattle.cargo_lock_check.specs.Finding.{Misplaced, MisplacedDependency, LossySource, NotKept}
 use Rattle.cargo_lock_check.specs.Finding.{OtherLine, lockfile_finding_line}
 use Rattle.cargo_lock_display.specs.File.{FileData, list_document}
@@ -20,6 +20,7 @@ lockfile_finding_kind (RepeatedDependency p d) = codes "repeated-dependency"
 lockfile_finding_kind (BadName p) = codes "bad-name"
 lockfile_finding_kind (Alike p q) = codes "alike"
 lockfile_finding_kind (LookAlike source) = codes "look-alike"
+lockfile_finding_kind (Respelt source) = codes "respelt"
 lockfile_finding_kind (UserInfo source) = codes "user-info"
 lockfile_finding_kind NoRoot = codes "no-root"
 lockfile_finding_kind (Orphan p) = codes "orphan"

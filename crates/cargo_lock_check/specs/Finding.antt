@@ -1,6 +1,7 @@
 -- The findings of a lockfile, and the line of each.
-use Rattle.std.specs.Prelude.{◌≡◌, ℕ, List, [], ◌∷◌, ◌++◌, codes, decimal, false, map, Option, None, Some}
+use Rattle.std.specs.Prelude.{◌≡◌, ℕ, List, [], ◌∷◌, ◌++◌, codes, decimal, false, if◌then◌else◌, map, Option, None, Some}
 use Rattle.std.specs.List.{flat_map}
+use Rattle.std.specs.Str.{chars}
 use Rattle.std.specs.Str.Lines.{lines}
 use Rattle.semver.specs.Identifiers.{parts_text}
 use Rattle.printing.specs.Shown.{shown}
@@ -11,8 +12,9 @@ use Rattle.cargo_lock_parts.specs.Source.{Source}
 use Rattle.cargo_lock_parts.specs.SourceText.{text_of}
 use Rattle.cargo_lock_references.specs.declared.version.ResolveVersion.{ResolveVersion}
 use Rattle.cargo_lock_references.specs.Format.{number_of}
+use Rattle.cargo_lock_flaws.specs.Names.{is_cargo_name}
 use Rattle.cargo_lock_check.specs.declared.finding.Finding.{Finding}
-use Rattle.cargo_lock_check.specs.declared.finding.Finding.TheVariants.{LostDependency as LostDependencyAt, Twice as TwiceAt, RepeatedDependency as RepeatedDependencyAt, BadName as BadNameAt, Alike as AlikeAt, LookAlike as LookAlikeAt, UserInfo as UserInfoAt, NoRoot as NoRootAt, Orphan as OrphanAt, NoChecksum as NoChecksumAt, NoChecksums as NoChecksumsAt, StaleChecksum as StaleChecksumAt, Misplaced as MisplacedAt, MisplacedDependency as MisplacedDependencyAt, LossySource as LossySourceAt, NotKept as NotKeptAt, OtherLine as OtherLineAt}
+use Rattle.cargo_lock_check.specs.declared.finding.Finding.TheVariants.{LostDependency as LostDependencyAt, Twice as TwiceAt, RepeatedDependency as RepeatedDependencyAt, BadName as BadNameAt, Alike as AlikeAt, LookAlike as LookAlikeAt, Respelt as RespeltAt, UserInfo as UserInfoAt, NoRoot as NoRootAt, Orphan as OrphanAt, NoChecksum as NoChecksumAt, NoChecksums as NoChecksumsAt, StaleChecksum as StaleChecksumAt, Misplaced as MisplacedAt, MisplacedDependency as MisplacedDependencyAt, LossySource as LossySourceAt, NotKept as NotKeptAt, OtherLine as OtherLineAt}
 use Rattle.cargo_lock_check.specs.Text.{OtherLineData}
 
 -- one thing that is wrong
@@ -23,6 +25,7 @@ pub data LockfileFindingData : Type 0 where
   BadName : PackageData → LockfileFindingData
   Alike : PackageData → PackageData → LockfileFindingData
   LookAlike : Source → LockfileFindingData
+  Respelt : Source → LockfileFindingData
   UserInfo : Source → LockfileFindingData
   NoRoot : LockfileFindingData
   Orphan : PackageData → LockfileFindingData
@@ -43,6 +46,7 @@ lockfile_finding_of (RepeatedDependencyAt p d) = RepeatedDependency p.now d.now
 lockfile_finding_of (BadNameAt p) = BadName p.now
 lockfile_finding_of (AlikeAt p q) = Alike p.now q.now
 lockfile_finding_of (LookAlikeAt source) = LookAlike source.now
+lockfile_finding_of (RespeltAt source) = Respelt source.now
 lockfile_finding_of (UserInfoAt source) = UserInfo source.now
 lockfile_finding_of NoRootAt = NoRoot
 lockfile_finding_of (OrphanAt p) = Orphan p.now
@@ -75,6 +79,10 @@ identity_shown i = shown Plain i.name
 abbrev pub package_shown : PackageData → List ℕ
 package_shown p = identity_shown (identity_of p)
 
+-- who does not accept a name: crates.io, if Cargo does
+abbrev pub refuser : List ℕ → List ℕ
+refuser name = if is_cargo_name (chars name) then codes "crates.io" else codes "Cargo"
+
 -- the line of a finding
 abbrev pub lockfile_finding_line : LockfileFindingData → List ℕ
 lockfile_finding_line (LostDependency p d) = codes "reference: " ++ (package_shown p
@@ -83,12 +91,14 @@ lockfile_finding_line (Twice p) =
     codes "twice: " ++ (package_shown p ++ codes " is listed more than once")
 lockfile_finding_line (RepeatedDependency p d) = codes "twice: " ++ (package_shown p
     ++ (codes " lists " ++ (identity_shown d ++ codes " more than once")))
-lockfile_finding_line (BadName p) =
-    codes "name: " ++ (shown Plain p.name ++ codes " is not a name that Cargo accepts")
+lockfile_finding_line (BadName p) = codes "name: " ++ (shown Plain p.name
+    ++ (codes " is not a name that " ++ (refuser p.name ++ codes " accepts")))
 lockfile_finding_line (Alike p q) = codes "alike: " ++ (package_shown p
     ++ (codes " and " ++ (package_shown q ++ codes " have one name on crates.io")))
 lockfile_finding_line (LookAlike source) =
     codes "source: " ++ (source_shown source ++ codes " is not crates.io")
+lockfile_finding_line (Respelt source) = codes "source: "
+    ++ (source_shown source ++ codes " is crates.io for Cargo, but not as Cargo writes it")
 lockfile_finding_line (UserInfo source) =
     codes "source: " ++ (source_shown source ++ codes " has user info")
 lockfile_finding_line NoRoot = codes "root: no package is of the workspace"
@@ -106,7 +116,8 @@ lockfile_finding_line (MisplacedDependency p d next) = codes "order: " ++ (packa
     ++ (codes " lists " ++ (identity_shown d ++ (codes " before " ++ identity_shown next))))
 lockfile_finding_line (LossySource version text) = codes "format: V" ++ (decimal (number_of version)
     ++ (codes " loses the tag, branch or revision of `"
-    ++ (shown Quoted text ++ codes "`; V4 keeps it")))
+    ++ (shown Quoted text
+    ++ codes "`, and Cargo takes whatever it names now; V4 keeps it")))
 lockfile_finding_line (NotKept version) =
     codes "format: V" ++ (decimal (number_of version) ++ codes " does not keep this lockfile")
 lockfile_finding_line (OtherLine line) = codes "text: line " ++ (decimal line.number

@@ -17,7 +17,7 @@ use Rattle.cargo_lock_check.specs.Finding.{Alike, BadName, LockfileFindingData, 
 use Rattle.cargo_lock_check.specs.Finding.{LossySource, LostDependency, Misplaced}
 use Rattle.cargo_lock_check.specs.Finding.{MisplacedDependency, NoChecksum, NoChecksums, NoRoot}
 use Rattle.cargo_lock_check.specs.Finding.{NotKept, Orphan, OtherLine, RepeatedDependency}
-use Rattle.cargo_lock_check.specs.Finding.{StaleChecksum, Twice, UserInfo}
+use Rattle.cargo_lock_check.specs.Finding.{Respelt, StaleChecksum, Twice, UserInfo}
 use Rattle.cargo_lock_check.specs.declared.findings.DependencyFlaw.{DependencyFlaw}
 use Rattle.cargo_lock_check.specs.declared.findings.DependencyFlaw.TheVariants as dependency_flaw
 use Rattle.cargo_lock_check.specs.declared.findings.Flaw.{Flaw}
@@ -32,7 +32,7 @@ use Rattle.cargo_lock_flaws.specs.Names.{IsBadlyNamed}
 use Rattle.cargo_lock_flaws.specs.Packages.{IsMisplaced, IsTwice, IsUnchecked, IsWithoutChecksum}
 use Rattle.lists.specs.Places.{IsPlaces}
 use Rattle.cargo_lock_flaws.specs.Reach.{IsOrphan}
-use Rattle.cargo_lock_flaws.specs.Sources.{HasUserInfo, IsFromAt, IsLookAlike}
+use Rattle.cargo_lock_flaws.specs.Sources.{HasUserInfo, IsFromAt, IsLookAlike, IsRespelt}
 use Rattle.cargo_lock_flaws.specs.Stale.{stale_keys}
 use Rattle.cargo_lock_check.specs.Text.{AreSameLines, IsFirstOther, OtherLineData, cargo_lines}
 
@@ -47,6 +47,7 @@ pub record FindingsData : Type 0 where
   pub badly_named : List ℕ
   pub alike : List (ℕ × ℕ)
   pub look_alikes : List ℕ
+  pub respelt : List ℕ
   pub with_user_info : List ℕ
   pub has_workspace : Bool
   pub orphans : List ℕ
@@ -164,6 +165,7 @@ pub record AreFindings (text : List ℕ) (l : LockfileData) (f : FindingsData) :
   pub badly_named : IsPlaces (IsBadlyNamed l.packages) (length l.packages) f.badly_named
   pub alike : ArePairsAlike l.packages f.alike
   pub look_alikes : IsPlaces (IsFromAt IsLookAlike l.packages) (length l.packages) f.look_alikes
+  pub respelt : IsPlaces (IsFromAt IsRespelt l.packages) (length l.packages) f.respelt
   pub with_user_info : IsPlaces (IsFromAt HasUserInfo l.packages) (length l.packages)
       f.with_user_info
   pub has_workspace : f.has_workspace ≡ has_workspace l
@@ -178,16 +180,21 @@ pub record AreFindings (text : List ℕ) (l : LockfileData) (f : FindingsData) :
   pub is_kept : IsAskedUnless f.lossy (IsTrue f.is_kept ↔ Survives l l.version) (f.is_kept ≡ true)
   pub other_line : IsAskedUnless f.lossy (IsOtherLine text l f.other_line) (f.other_line ≡ None)
 
+-- no name and no source is found that may mislead a reader
+pub record HasNothingMisleading (f : FindingsData) : Type 0 where
+  pub badly_named : f.badly_named ≡ []
+  pub alike : f.alike ≡ []
+  pub look_alikes : f.look_alikes ≡ []
+  pub respelt : f.respelt ≡ []
+  pub with_user_info : f.with_user_info ≡ []
+
 -- nothing is found
 pub record HasNoFindings (f : FindingsData) : Type 0 where
+  pub plain : HasNothingMisleading f
   pub lossy : f.lossy ≡ []
   pub lost_dependencies : f.lost_dependencies ≡ []
   pub twice : f.twice ≡ []
   pub repeated : f.repeated ≡ []
-  pub badly_named : f.badly_named ≡ []
-  pub alike : f.alike ≡ []
-  pub look_alikes : f.look_alikes ≡ []
-  pub with_user_info : f.with_user_info ≡ []
   pub orphans : f.orphans ≡ []
   pub without_checksum : f.without_checksum ≡ []
   pub unchecked : f.unchecked ≡ []
@@ -239,6 +246,7 @@ alike_at packages k = option_and_then
 -- the finding of a source with a flaw
 abbrev pub source_finding_by : SourceFlaw → Source → LockfileFindingData
 source_finding_by source_flaw.LookAlike = LookAlike
+source_finding_by source_flaw.Respelt = Respelt
 source_finding_by source_flaw.UserInfo = UserInfo
 source_finding_by source_flaw.Unchecked = NoChecksums
 
@@ -271,7 +279,8 @@ abbrev pub told_of_misleading : FindingsData → List LockfileFindingData
 told_of_misleading f = filter_map (flawed_at BadName f.packages) f.badly_named
     ++ (filter_map (alike_at f.packages) f.alike
     ++ (filter_map (source_finding_at LookAlike f.packages) f.look_alikes
-    ++ filter_map (source_finding_at UserInfo f.packages) f.with_user_info))
+    ++ (filter_map (source_finding_at Respelt f.packages) f.respelt
+    ++ filter_map (source_finding_at UserInfo f.packages) f.with_user_info)))
 
 -- each package and each dependency that is listed more than once
 abbrev pub told_of_twice : FindingsData → List LockfileFindingData

@@ -11,14 +11,14 @@ use Rattle.cargo_lock_flaws.specs.Lost.{IsLostAt}
 use Rattle.cargo_lock_flaws.specs.Names.{IsBadlyNamed}
 use Rattle.cargo_lock_flaws.specs.Packages.{IsMisplaced, IsTwice, IsUnchecked, IsWithoutChecksum}
 use Rattle.cargo_lock_flaws.specs.Reach.{IsOrphan}
-use Rattle.cargo_lock_flaws.specs.Sources.{HasUserInfo, IsFromAt, IsLookAlike}
+use Rattle.cargo_lock_flaws.specs.Sources.{HasUserInfo, IsFromAt, IsLookAlike, IsRespelt}
 use Rattle.cargo_lock_flaws.specs.Stale.{IsStale}
 
 -- The format keeps the tag, branch or revision of each source. A package matches each dependency.
 -- No package has the identity of an earlier one, lists a dependency more than once, has a name that
--- Cargo does not accept, is from a source that looks like crates.io but is another one, is from a
--- source with user info, lacks a checksum that others have, or is out of order, and neither is a
--- dependency. Each registry on the network has a package with a checksum, and each checksum in the
+-- Cargo does not accept, is from a source that looks like crates.io but is another one or that Cargo
+-- takes for crates.io and writes otherwise, is from a source with user info, lacks a checksum that
+-- others have, or is out of order, and neither is a dependency. Each registry on the network has a package with a checksum, and each checksum in the
 -- metadata is of a package. No two packages have different names that are the same to crates.io.
 -- The lockfile survives its format. The packages of the workspace lead to each package, and a
 -- separate root is one of them. If there is no separate root, each line of the text is as Cargo
@@ -31,6 +31,7 @@ pub record IsSoundLockfile (text : List ℕ) (l : LockfileData) : Type 0 where
   pub named : (k : ℕ) → ¬ IsBadlyNamed l.packages k
   pub apart : (i j : ℕ) → i < j → ¬ AreAlikeAt l.packages i j
   pub genuine : (k : ℕ) → ¬ IsFromAt IsLookAlike l.packages k
+  pub as_written : (k : ℕ) → ¬ IsFromAt IsRespelt l.packages k
   pub anonymous : (k : ℕ) → ¬ IsFromAt HasUserInfo l.packages k
   pub needed : (k : ℕ) → k < length l.packages → ¬ IsOrphan l.packages l.root k
   pub checksums : (k : ℕ) → ¬ IsWithoutChecksum (checked_packages l) k

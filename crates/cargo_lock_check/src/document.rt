@@ -67,6 +67,7 @@ fn kind(finding: &Finding<'_>) -> &'static str
         Finding::BadName(_) => "bad-name",
         Finding::Alike(_, _) => "alike",
         Finding::LookAlike(_) => "look-alike",
+        Finding::Respelt(_) => "respelt",
         Finding::UserInfo(_) => "user-info",
         Finding::NoRoot => "no-root",
         Finding::Orphan(_) => "orphan",

@@ -1,11 +1,12 @@
 //! The findings of a lockfile, each displayed as a line.
 
-ghost use Rattle.std.specs.Prelude.{Some};
+ghost use Rattle.std.specs.Prelude.{◌≡◌, Some};
 ghost use Rattle.std.specs.Fmt.{DisplaysOnOk};
 ghost use Rattle.cargo_lock_check.specs.Finding as told;
 ghost use Rattle.cargo_lock_check.specs.Finding.{lockfile_finding_line};
 
 use crate::text::OtherLine;
+use cargo_lock_flaws::is_cargo_name;
 use cargo_lock_parts::dependency::Dependency;
 use cargo_lock_parts::package::{Package, SourceId};
 use cargo_lock_references::{MetadataKey, ResolveVersion};
@@ -35,8 +36,10 @@ pub enum Finding<'a> {
     /// `twice: PACKAGE lists DEPENDENCY more than once`.
     RepeatedDependency(&'a Package, &'a Dependency),
 
-    /// A package has a name that Cargo does not accept:
-    /// `name: NAME is not a name that Cargo accepts`.
+    /// A package has a name that Cargo does not accept, or is from crates.io and has one that is not
+    /// accepted there:
+    /// `name: NAME is not a name that Cargo accepts`,
+    /// `name: NAME is not a name that crates.io accepts`.
     BadName(&'a Package),
 
     /// Two packages from crates.io have different names that are the same name to crates.io:
@@ -46,6 +49,10 @@ pub enum Finding<'a> {
     /// A package is from a source that looks like crates.io but is another one:
     /// `source: SOURCE is not crates.io`.
     LookAlike(&'a SourceId),
+
+    /// A package is from a source that Cargo takes for crates.io:
+    /// `source: SOURCE is crates.io for Cargo, but not as Cargo writes it`.
+    Respelt(&'a SourceId),
 
     /// A package is from a source whose URL has a user name or a password:
     /// `source: SOURCE has user info`.
@@ -80,7 +87,8 @@ pub enum Finding<'a> {
     MisplacedDependency(&'a Package, &'a Dependency, &'a Dependency),
 
     /// A git source whose tag, branch or revision does not read back as it is written, in V1 to V3:
-    /// ``format: V3 loses the tag, branch or revision of `SOURCE`; V4 keeps it``.
+    /// ``format: V3 loses the tag, branch or revision of `SOURCE`, and Cargo takes whatever it names
+    /// now; V4 keeps it``.
     LossySource(ResolveVersion, &'a str),
 
     /// The lockfile does not read back from what is written in its format:
@@ -106,14 +114,18 @@ impl fmt::Display for Finding<'_> {
                 write!(f, "twice: {one} is listed more than once")
             }
             Finding::RepeatedDependency(one, dependency) => write_repeated(one, dependency, f),
-            Finding::BadName(one) => {
-                let name = Shown(&one.name);
-                write!(f, "name: {name} is not a name that Cargo accepts")
-            }
+            Finding::BadName(one) => write_bad_name(one, f),
             Finding::Alike(one, other) => write_alike(one, other, f),
             Finding::LookAlike(source) => {
                 let source = Shown(*source);
                 write!(f, "source: {source} is not crates.io")
+            }
+            Finding::Respelt(source) => {
+                let source = Shown(*source);
+                write!(
+                    f,
+                    "source: {source} is crates.io for Cargo, but not as Cargo writes it"
+                )
             }
             Finding::UserInfo(source) => {
                 let source = Shown(*source);
@@ -174,6 +186,26 @@ fn write_repeated<W: fmt::Write>(
     let one = PackageText(one);
     let dependency = DependencyText(dependency);
     write!(f, "twice: {one} lists {dependency} more than once")
+}
+
+fn write_bad_name<W: fmt::Write>(one: &Package, f: &mut fmt::Formatter<W>) -> fmt::Result
+    ensures { DisplaysOnOk W.write_str_gives f.old result
+        (Some (lockfile_finding_line (told.BadName one.now))) f.new }
+{
+    let name = Shown(&one.name);
+    let refuser = refuser(one.name.as_str());
+    write!(f, "name: {name} is not a name that {refuser} accepts")
+}
+
+// Who does not accept a name.
+fn refuser(name: &str) -> &'static str
+    ensures { result.now ≡ told.refuser name.now }
+{
+    if is_cargo_name(name) {
+        "crates.io"
+    } else {
+        "Cargo"
+    }
 }
 
 fn write_alike<W: fmt::Write>(
@@ -241,7 +273,8 @@ fn write_lossy<W: fmt::Write>(
     let text = Quoted(text);
     write!(
         f,
-        "format: V{number} loses the tag, branch or revision of `{text}`; V4 keeps it"
+        "format: V{number} loses the tag, branch or revision of `{text}`, \
+        and Cargo takes whatever it names now; V4 keeps it"
     )
 }
 

@@ -18,7 +18,7 @@ ghost use Rattle.cargo_lock_flaws.specs.Dependencies.{IsRepeatedAt};
 ghost use Rattle.cargo_lock_flaws.specs.Names.{IsBadlyNamed};
 ghost use Rattle.cargo_lock_flaws.specs.Packages.{IsMisplaced, IsTwice};
 ghost use Rattle.lists.specs.Places.{IsPlaces};
-ghost use Rattle.cargo_lock_flaws.specs.Sources.{HasUserInfo, IsFromAt, IsLookAlike};
+ghost use Rattle.cargo_lock_flaws.specs.Sources.{HasUserInfo, IsFromAt, IsLookAlike, IsRespelt};
 
 use crate::asked::TextFindings;
 use crate::finding::Finding;
@@ -26,7 +26,7 @@ use crate::text::OtherLine;
 use cargo_lock::Lockfile;
 use cargo_lock_flaws::{
     badly_named_packages, look_alike_sources, misplaced_dependencies, misplaced_packages,
-    packages_alike, packages_twice, repeated_dependencies, sources_with_user_info,
+    packages_alike, packages_twice, repeated_dependencies, respelt_sources, sources_with_user_info,
 };
 use cargo_lock_parts::error::Result;
 use cargo_lock_parts::package::Package;
@@ -77,6 +77,10 @@ pub struct Findings<'a> {
     /// The packages from a source that looks like crates.io but is another one (see
     /// `look_alike_sources`).
     pub look_alikes: Vec<usize>,
+
+    /// The packages from a source that Cargo takes for crates.io, though it writes crates.io
+    /// otherwise (see `respelt_sources`).
+    pub respelt: Vec<usize>,
 
     /// The packages from a source whose URL has a user name or a password.
     pub with_user_info: Vec<usize>,
@@ -144,6 +148,7 @@ impl<'a> Model for Findings<'a> {
       badly_named = f.badly_named.items;
       alike = f.alike.items;
       look_alikes = f.look_alikes.items;
+      respelt = f.respelt.items;
       with_user_info = f.with_user_info.items;
       has_workspace = f.has_workspace;
       orphans = f.orphans.items;
@@ -167,7 +172,7 @@ struct ListPlaces {
 }
 
 impl<'a> Findings<'a> {
-    ghost use Rattle.cargo_lock_check.specs.Findings.{HasNoFindings, told_of, told_of_checksums, told_of_formats, told_of_misleading, told_of_order, told_of_twice};
+    ghost use Rattle.cargo_lock_check.specs.Findings.{HasNoFindings, HasNothingMisleading, told_of, told_of_checksums, told_of_formats, told_of_misleading, told_of_order, told_of_twice};
 
     /// What is wrong with a lockfile that was read from this text. The one error is `Memory`.
     pub fn of(alloc: Global, text: &str, lockfile: &'a Lockfile) -> Result<Findings<'a>>
@@ -191,6 +196,7 @@ impl<'a> Findings<'a> {
             badly_named: misleading.badly_named,
             alike: misleading.alike,
             look_alikes: misleading.look_alikes,
+            respelt: misleading.respelt,
             with_user_info: misleading.with_user_info,
             has_workspace: has_workspace(lockfile),
             orphans: asked.orphans,
@@ -208,14 +214,11 @@ impl<'a> Findings<'a> {
     pub fn is_empty(&self) -> bool
         ensures { IsTrue result ↔ HasNoFindings self.now }
     {
-        self.lossy.is_empty()
+        self.is_plain()
+            && self.lossy.is_empty()
             && self.lost_dependencies.is_empty()
             && self.twice.is_empty()
             && self.repeated.is_empty()
-            && self.badly_named.is_empty()
-            && self.alike.is_empty()
-            && self.look_alikes.is_empty()
-            && self.with_user_info.is_empty()
             && self.orphans.is_empty()
             && self.without_checksum.is_empty()
             && self.unchecked.is_empty()
@@ -226,12 +229,24 @@ impl<'a> Findings<'a> {
             && self.other_line.is_none()
     }
 
+    // Whether no name and no source may mislead a reader.
+    fn is_plain(&self) -> bool
+        ensures { IsTrue result ↔ HasNothingMisleading self.now }
+    {
+        self.badly_named.is_empty()
+            && self.alike.is_empty()
+            && self.look_alikes.is_empty()
+            && self.respelt.is_empty()
+            && self.with_user_info.is_empty()
+    }
+
     /// The findings, in this order: lost dependencies, packages and dependencies that are listed
     /// more than once, names that Cargo does not accept, names that are the same to crates.io,
-    /// sources that look like crates.io, sources with user info, orphans, packages without a
-    /// checksum, registries without any, stale checksums, packages and dependencies that are out of
-    /// order, sources that the format loses, the format, the text. If no package is of the
-    /// workspace, that is reported in place of the orphans. Fails when out of memory.
+    /// sources that look like crates.io, sources that Cargo takes for crates.io and writes
+    /// otherwise, sources with user info, orphans, packages without a checksum, registries without
+    /// any, stale checksums, packages and dependencies that are out of order, sources that the
+    /// format loses, the format, the text. If no package is of the workspace, that is reported in
+    /// place of the orphans. Fails when out of memory.
     pub fn all<'s>(&'s self, alloc: Global) -> std::result::Result<Vec<Finding<'s>>, AllocError>
         ensures { IfOk result (λ all. map lockfile_finding_of all.items ≡ told_of self.now) }
     {
@@ -307,6 +322,7 @@ impl<'a> Findings<'a> {
         add_flawed(all, self.packages, &self.badly_named, Flaw::BadName)?;
         add_alike(all, self.packages, &self.alike)?;
         add_sources(all, self.packages, &self.look_alikes, SourceFlaw::LookAlike)?;
+        add_sources(all, self.packages, &self.respelt, SourceFlaw::Respelt)?;
         add_sources(
             all,
             self.packages,
@@ -344,6 +360,7 @@ struct MisleadingPlaces {
     badly_named: Vec<usize>,
     alike: Vec<(usize, usize)>,
     look_alikes: Vec<usize>,
+    respelt: Vec<usize>,
     with_user_info: Vec<usize>,
 }
 
@@ -354,6 +371,8 @@ impl MisleadingPlaces {
         ensures alike { IfOk result (λ f. ArePairsAlike packages.now f.alike.items) }
         ensures look_alikes { IfOk result (λ f. IsPlaces (IsFromAt IsLookAlike packages.now)
             (length packages.now) f.look_alikes.items) }
+        ensures respelt { IfOk result (λ f. IsPlaces (IsFromAt IsRespelt packages.now)
+            (length packages.now) f.respelt.items) }
         ensures with_user_info { IfOk result (λ f. IsPlaces (IsFromAt HasUserInfo packages.now)
             (length packages.now) f.with_user_info.items) }
     {
@@ -361,6 +380,7 @@ impl MisleadingPlaces {
             badly_named: badly_named_packages(alloc, packages)?,
             alike: packages_alike(alloc, packages)?,
             look_alikes: look_alike_sources(alloc, packages)?,
+            respelt: respelt_sources(alloc, packages)?,
             with_user_info: sources_with_user_info(alloc, packages)?,
         })
     }
@@ -499,6 +519,9 @@ enum SourceFlaw {
     // It looks like crates.io but is another one.
     LookAlike,
 
+    // Cargo takes it for crates.io, and writes crates.io otherwise.
+    Respelt,
+
     // Its URL has a user name or a password.
     UserInfo,
 
@@ -531,6 +554,7 @@ fn flawed_source<'a>(packages: &'a [Package], place: usize, flaw: SourceFlaw) ->
     let source = package.source.as_ref()?;
     Some(match flaw {
         SourceFlaw::LookAlike => Finding::LookAlike(source),
+        SourceFlaw::Respelt => Finding::Respelt(source),
         SourceFlaw::UserInfo => Finding::UserInfo(source),
         SourceFlaw::Unchecked => Finding::NoChecksums(source),
     })

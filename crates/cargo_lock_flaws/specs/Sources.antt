@@ -7,6 +7,7 @@ use Rattle.url.specs.Parts.{has_credentials, serialize}
 use Rattle.cargo_lock_parts.specs.Identity.{PackageData}
 use Rattle.cargo_lock_parts.specs.Source.{Source}
 use Rattle.cargo_lock_parts.specs.SourceShown.{is_default_registry}
+use Rattle.cargo_lock_order.specs.Canonical.{is_canonically_crates_io}
 use Rattle.cargo_lock_graph.specs.Targets.{HoldsOf}
 
 -- the text has the name of one of the two indexes of crates.io in it, in any case
@@ -14,10 +15,15 @@ abbrev pub NamesIndex : List ℕ → Type 0
 NamesIndex text = HasSubslice (map to_ascii_lowercase text) (codes "crates.io-index")
     ⊎ HasSubslice (map to_ascii_lowercase text) (codes "index.crates.io")
 
--- the source looks like crates.io by its URL, unchanged or with its escapes decoded, and is neither
--- of the two indexes of crates.io
+-- the source looks like crates.io by its URL, unchanged or with its escapes decoded, and Cargo takes
+-- it for another one
 pub record IsLookAlike (source : Source) : Type 0 where
   pub named : NamesIndex (serialize source.url) ⊎ NamesIndex (percent_decode (serialize source.url))
+  pub other : is_canonically_crates_io source ≡ false
+
+-- Cargo takes the source for crates.io, and writes crates.io otherwise
+pub record IsRespelt (source : Source) : Type 0 where
+  pub taken : is_canonically_crates_io source ≡ true
   pub other : is_default_registry source ≡ false
 
 -- the URL has a user name or a password

@@ -2,8 +2,8 @@
 //!
 //! - packages with the identity of an earlier one, and dependencies that are listed more than once,
 //! - names that Cargo does not accept, and names on crates.io that are the same to crates.io,
-//! - sources that look like crates.io but are another one, and sources with a user name or a
-//! password,
+//! - sources that look like crates.io but are another one, sources that Cargo takes for crates.io
+//! and writes otherwise, and sources with a user name or a password,
 //! - packages that no package of the workspace leads to, and dependencies that no package matches,
 //! - packages without the checksum that others of their registry have, the first packages of
 //! registries without checksums, and checksums of no package,
@@ -34,12 +34,12 @@ pub mod unmatched;
 pub use crate::alike::packages_alike;
 pub use crate::dependencies::{misplaced_dependencies, repeated_dependencies};
 pub use crate::lost::lost_dependencies;
-pub use crate::names::badly_named_packages;
+pub use crate::names::{badly_named_packages, is_cargo_name};
 pub use crate::packages::{
     misplaced_packages, packages_twice, packages_without_checksum, unchecked_registries,
 };
 pub use crate::reach::orphans;
-pub use crate::sources::{look_alike_sources, sources_with_user_info};
+pub use crate::sources::{look_alike_sources, respelt_sources, sources_with_user_info};
 pub use crate::stale::stale_keys;
 pub use crate::unmatched::Unmatched;
 pub use cargo_lock_order::{dependency_order, package_order};

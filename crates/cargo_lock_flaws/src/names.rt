@@ -1,17 +1,22 @@
 //! Names of packages that Cargo does not accept.
 
-ghost use Rattle.std.specs.Prelude.{◌≡◌, false, IfOk, length, slice_index};
+ghost use Rattle.std.specs.Prelude.{◌≡◌, false, IfOk, length};
 ghost use Rattle.std.specs.Bool.{Decides};
-ghost use Rattle.std.specs.Char.{is_ascii_digit};
+ghost use Rattle.std.specs.Char.{is_ascii};
 ghost use Rattle.std.specs.List.{list_all};
-ghost use Rattle.cargo_lock_flaws.specs.Names.{IsBadlyNamed, is_cargo_name, is_name_byte};
+ghost use Rattle.std.specs.Str.{chars};
+ghost use Rattle.cargo_lock_flaws.specs.Names.{IsBadlyNamed, is_cargo_name, is_of_crates_io};
+ghost use Rattle.cargo_lock_flaws.specs.Names.{begins_name, is_well_named, may_be_in_name};
+ghost use Rattle.cargo_lock_flaws.specs.Names.{may_begin};
 ghost use Rattle.lists.specs.Places.{IsPlaces};
 
-use cargo_lock_parts::package::Package;
+use cargo_lock_parts::package::{Package, SourceId};
 use std::alloc::{AllocError, Global};
+use unicode_ident::{is_xid_continue, is_xid_start};
 
-/// The places of packages whose name Cargo does not accept: it is empty, begins with a digit, or
-/// has a character other than an ASCII letter, a digit, `-` and `_`. Fails when out of memory.
+/// The places of packages whose name Cargo does not accept: it is empty, or has a character in
+/// which no identifier of Rust may have it, but for `-`, which may follow the first one. A package
+/// from crates.io has a name in ASCII alone. Fails when out of memory.
 ///
 /// ```
 /// for place in badly_named_packages(rt.alloc(), &lockfile.packages)?.as_slice() {
@@ -31,39 +36,75 @@ pub fn badly_named_packages(alloc: Global, packages: &[Package]) -> Result<Vec<u
     Ok(places)
 }
 
-// Whether Cargo does not accept the package's name.
+// Whether the package's name is not accepted.
 fn is_badly_named(package: &Package) -> bool
-    ensures { Decides result (is_cargo_name «package».now.name ≡ false) }
+    ensures { Decides result (is_well_named «package».now ≡ false) }
 {
-    !is_cargo_name(package.name.as_str())
+    !is_well_named(package)
 }
 
-// Whether Cargo accepts the name.
-fn is_cargo_name(name: &str) -> bool
-    ensures { result ≡ is_cargo_name name.now }
+// Whether Cargo accepts the package's name, and crates.io too, if the package is from there.
+fn is_well_named(package: &Package) -> bool
+    ensures { result ≡ is_well_named «package».now }
 {
-    let bytes = name.as_bytes();
-    !bytes.is_empty() && !begins_with_digit(bytes) && has_name_bytes(bytes)
+    let name = package.name.as_str();
+    is_cargo_name(name) && (!is_of_crates_io(&package.source) || is_in_ascii(name))
 }
 
-fn begins_with_digit(bytes: &[u8]) -> bool
-    ensures { result ≡ is_ascii_digit (slice_index bytes.now 0) }
+fn is_of_crates_io(source: &Option<SourceId>) -> bool
+    ensures { result ≡ is_of_crates_io source.now }
 {
-    match bytes.first() {
-        Some(byte) => byte.is_ascii_digit(),
+    match source {
+        Some(source) => source.is_default_registry(),
         None => false,
     }
 }
 
-// Whether each byte may be in a name.
-fn has_name_bytes(bytes: &[u8]) -> bool
-    ensures { result ≡ list_all is_name_byte bytes.now }
+/// Whether Cargo accepts the name of a package: it begins with `_` or a character with which an
+/// identifier of Rust may begin, and `-` and those that may follow in one may follow. The rule was
+/// asked of Cargo 1.95.0.
+///
+/// ```
+/// let is_good = is_cargo_name("serde-json");
+/// ```
+pub fn is_cargo_name(name: &str) -> bool
+    ensures { result ≡ is_cargo_name (chars name.now) }
 {
-    bytes.iter().all(|byte| is_name_byte(*byte))
+    begins_name(name) && has_name_characters(name)
 }
 
-fn is_name_byte(byte: u8) -> bool
-    ensures { result ≡ is_name_byte byte }
+// Whether each character may be in a name.
+fn has_name_characters(name: &str) -> bool
+    ensures { result ≡ list_all may_be_in_name (chars name.now) }
 {
-    byte.is_ascii_alphanumeric() || byte == b'-' || byte == b'_'
+    name.chars().all(may_be_in_name)
+}
+
+// Whether the first character may begin a name.
+fn begins_name(name: &str) -> bool
+    ensures { result ≡ begins_name (chars name.now) }
+{
+    match name.chars().next() {
+        Some(first) => may_begin(first),
+        None => false,
+    }
+}
+
+fn may_begin(c: char) -> bool
+    ensures { result ≡ may_begin c }
+{
+    c == '_' || is_xid_start(c)
+}
+
+fn may_be_in_name(c: char) -> bool
+    ensures { result ≡ may_be_in_name c }
+{
+    c == '-' || is_xid_continue(c)
+}
+
+// Whether each byte is one of ASCII.
+fn is_in_ascii(name: &str) -> bool
+    ensures { result ≡ list_all is_ascii name.now }
+{
+    name.as_bytes().iter().all(|byte| byte.is_ascii())
 }

@@ -6,8 +6,9 @@ ghost use Rattle.std.specs.Str.Iter.{HasSubslice};
 ghost use Rattle.percent_encoding.specs.Percent.{percent_decode};
 ghost use Rattle.url.specs.Parts.{has_credentials};
 ghost use Rattle.lists.specs.Places.{IsPlaces};
-ghost use Rattle.cargo_lock_flaws.specs.Sources.{HasUserInfo, IsFrom, IsFromAt, IsLookAlike, NamesIndex};
+ghost use Rattle.cargo_lock_flaws.specs.Sources.{HasUserInfo, IsFrom, IsFromAt, IsLookAlike, IsRespelt, NamesIndex};
 
+use cargo_lock_order::is_canonically_crates_io;
 use cargo_lock_parts::package::{Package, SourceId};
 use percent_encoding::percent_decode_str;
 use std::alloc::{AllocError, Global};
@@ -15,7 +16,8 @@ use url::Url;
 
 /// The places of packages from a source that looks like crates.io but is another one: its URL has
 /// `crates.io-index` or `index.crates.io` in it, in any case and with or without escapes such as
-/// `%2D`, and `SourceId::is_default_registry` is false for the source. Fails when out of memory.
+/// `%2D`, and Cargo does not take it for crates.io (see `is_canonically_crates_io`). Fails when out
+/// of memory.
 ///
 /// ```
 /// let is_misled = !look_alike_sources(rt.alloc(), &lockfile.packages)?.is_empty();
@@ -50,7 +52,7 @@ fn is_from_look_alike(alloc: Global, package: &Package) -> Result<bool, AllocErr
 fn is_look_alike(alloc: Global, source: &SourceId) -> Result<bool, AllocError>
     ensures { IfOk result (λ found. Decides found (IsLookAlike source.now)) }
 {
-    if source.is_default_registry() {
+    if is_canonically_crates_io(alloc, source)? {
         return Ok(false);
     }
     let url = source.url().as_str();
@@ -87,6 +89,46 @@ fn has_part(text: &[u8], part: &[u8]) -> bool
         }
     }
     false
+}
+
+/// The places of packages from a source that Cargo takes for crates.io, though it writes crates.io
+/// otherwise (see `is_canonically_crates_io`). Fails when out of memory.
+///
+/// ```
+/// let is_respelt = !respelt_sources(rt.alloc(), &lockfile.packages)?.is_empty();
+/// ```
+pub fn respelt_sources(alloc: Global, packages: &[Package]) -> Result<Vec<usize>, AllocError>
+    ensures { IfOk result (λ places.
+        IsPlaces (IsFromAt IsRespelt packages.now) (length packages.now) places.items) }
+{
+    let mut places = Vec::new(alloc);
+    for (place, package) in packages.iter().enumerate() {
+        if is_from_respelt(alloc, package)? {
+            places.push(place)?;
+        }
+    }
+    Ok(places)
+}
+
+// Whether the package is from a source that is crates.io for Cargo, and is spelt otherwise.
+fn is_from_respelt(alloc: Global, package: &Package) -> Result<bool, AllocError>
+    ensures { IfOk result (λ found. Decides found (IsFrom IsRespelt «package».now)) }
+{
+    match &package.source {
+        Some(source) => {
+            let found = is_respelt(alloc, source)?;
+            Ok(found)
+        }
+        None => Ok(false),
+    }
+}
+
+// Whether the source is crates.io for Cargo, and is spelt otherwise.
+fn is_respelt(alloc: Global, source: &SourceId) -> Result<bool, AllocError>
+    ensures { IfOk result (λ found. Decides found (IsRespelt source.now)) }
+{
+    let is_taken = is_canonically_crates_io(alloc, source)?;
+    Ok(is_taken && !source.is_default_registry())
 }
 
 /// The places of packages from a source whose URL has a user name or a password. Fails when out of

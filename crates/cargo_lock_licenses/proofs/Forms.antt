@@ -1,5 +1,5 @@
 -- An expression is true exactly if one of its alternatives has all its terms allowed.
-use Rattle.std.proofs.Common.{◌≡◌, ◌⊎◌, ◌&&◌, ◌||◌, ◌++◌, ◌∷◌, [], ℕ, Bool, true, false, true≢false, List, bytes_eq, inl, inr, map, refl, subst, sym}
+use Rattle.std.proofs.Common.{◌≡◌, ◌||◌, ◌++◌, ◌∷◌, [], ℕ, Bool, true, false, true≢false, List, bytes_eq, inl, inr, map, refl, subst, sym}
 use Rattle.std.specs.List.{All, Contains}
 use Rattle.std.proofs.lemmas.Slice.Eq.{bytes_eq-Decides}
 use Rattle.std.proofs.lemmas.List.Folds.{Any-from_list_any, list_any-from_Any}

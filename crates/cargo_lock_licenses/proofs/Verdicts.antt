@@ -1,6 +1,6 @@
 -- What is said of packages.
-use Rattle.std.proofs.Common.{◌≡◌, ◌≢◌, ◌↔◌, ◌∙◌, ◌||◌, ◌++◌, ◌∷◌, [], ℕ, Bool, true, false, true≢false, IsTrue, List, None, Option, Some, ap, append-nil, arith, bytes_eq, filter, if◌then◌else◌, get_or, inl, inr, length, map, nat_eq, IfOk, Result, Ok, Err, refl, string_bytes, subst, sym, take, ◌+◌, ◌<◌, String}
-use Rattle.std.specs.List.{All, AllZip, Contains, list_all, list_any}
+use Rattle.std.proofs.Common.{◌≡◌, ◌≢◌, ◌↔◌, ◌∙◌, ◌&&◌, ◌++◌, ◌∷◌, [], ℕ, Bool, true, false, true≢false, IsTrue, List, None, Option, Some, ap, append-nil, arith, bytes_eq, filter, if◌then◌else◌, get_or, inl, inr, length, map, nat_eq, IfOk, Result, Ok, Err, refl, string_bytes, subst, sym, take, ◌+◌, ◌<◌, String}
+use Rattle.std.specs.List.{All, AllZip, Contains, list_all}
 use Rattle.std.specs.Option.{option_eq}
 use Rattle.std.proofs.lemmas.Slice.Eq.{bytes_eq-Decides}
 use Rattle.std.proofs.lemmas.Bool.{eqb-true}
@@ -15,10 +15,12 @@ use Rattle.cargo_lock_licenses.specs.declared.subject.Subject.{Subject}
 use Rattle.cargo_lock_licenses.specs.declared.verdict.Verdict.{Verdict}
 use Rattle.cargo_lock_licenses.specs.Allowed.{IsAllowed}
 use Rattle.cargo_lock_licenses.specs.Grammar.{IsExpression, ReadsAs, Tree}
-use Rattle.cargo_lock_licenses.specs.Report.{AddsVerdict, AreVerdicts}
+use Rattle.cargo_lock_licenses.specs.Judged.{IsJudged, JudgedData, agreed}
+use Rattle.cargo_lock_licenses.specs.Policy.{PolicyData}
+use Rattle.cargo_lock_licenses.specs.Report.{AddsJudged, AreJudged}
 use Rattle.cargo_lock_licenses.specs.Subjects.{LicenseSubjectData, ManifestData, is_same, license_subject_of, manifest_of, subject_has_source}
 use Rattle.cargo_lock_licenses.specs.Tokens.{TokenData, tokens}
-use Rattle.cargo_lock_licenses.specs.Verdicts.{Allowed, Differ, IsVerdict, IsVerdictIn, IsVerdictOf, IsVerdictOn, MoreAddNoFinding, NoExpression, NoLicense, NoManifest, NotAllowed, OnlyFile, Permits, VerdictData, is_finding, verdict_of}
+use Rattle.cargo_lock_licenses.specs.Verdicts.{Allowed, Differ, IsVerdictIn, IsVerdictOf, IsVerdictOn, MoreAddNoFinding, NoExpression, NoLicense, NoManifest, NotAllowed, OnlyFile, Permits, VerdictData, is_finding, verdict_of}
 use Rattle.cargo_lock_licenses.proofs.Complete.{evaluated-value, value}
 use Rattle.cargo_lock_licenses.proofs.Forms.{allowed-if, more-allow-more, only-if}
 
@@ -61,6 +63,16 @@ same-all m (o ∷ others) h =
 pub not-same : (m : ManifestData) (others : List Manifest) → list_all (λ o. is_same m (manifest_of o)) others ≡ false → ¬ All (λ o. o ≡ m) (map manifest_of others)
 not-same m others e h = true≢false (sym (same-all m others h) ∙ e)
 
+-- ---- the text on which manifests agree
+
+all-over : (m : ManifestData) (others : List Manifest) → list_all (is_same m) (map manifest_of others) ≡ list_all (λ o. is_same m (manifest_of o)) others
+all-over m [] = refl
+all-over m (o ∷ others) = ap (λ b. is_same m (manifest_of o) && b) (all-over m others)
+
+pub agreed-in : (m : Manifest) (others : List Manifest) (b : Bool) → list_all (λ o. is_same (manifest_of m) (manifest_of o)) others ≡ b
+    → (if b then (manifest_of m).license else None) ≡ agreed (map manifest_of (m ∷ others))
+agreed-in m others b same = ap (λ c. if c then (manifest_of m).license else None) (sym (all-over (manifest_of m) others ∙ same))
+
 -- ---- lists of verdicts
 
 filter-push : {A : Type 0} (p : A → Bool) (xs : List A) (x : A) → filter p (xs ++ x ∷ []) ≡ filter p xs ++ (if p x then x ∷ [] else [])
@@ -72,22 +84,18 @@ filter-push p (a ∷ xs) x = by (p a) (filter-push p xs x)
     by true e = ap (λ ys. a ∷ ys) e
     by false e = e
 
-pub one-more : (allowed : List (List ℕ)) (before : List LicenseSubjectData) (s : LicenseSubjectData) (old new : List VerdictData) → AreVerdicts allowed before old → AddsVerdict allowed s (subject_has_source s) old new
-    → AreVerdicts allowed (before ++ s ∷ []) new
-one-more allowed before s old new are adds =
-    subst (λ xs. AllZip (IsVerdict allowed) xs new) (sym (filter-push subject_has_source before s)) (by (subject_has_source s) adds)
+pub one-more : (policy : PolicyData) (before : List LicenseSubjectData) (s : LicenseSubjectData) (old new : List JudgedData) → AreJudged policy before old → AddsJudged policy s (subject_has_source s) old new
+    → AreJudged policy (before ++ s ∷ []) new
+one-more policy before s old new are adds =
+    subst (λ xs. AllZip (IsJudged policy) xs new) (sym (filter-push subject_has_source before s)) (by (subject_has_source s) adds)
   where
-    by : (b : Bool) → AddsVerdict allowed s b old new → AllZip (IsVerdict allowed) (filter subject_has_source before ++ (if b then s ∷ [] else [])) new
+    by : (b : Bool) → AddsJudged policy s b old new → AllZip (IsJudged policy) (filter subject_has_source before ++ (if b then s ∷ [] else [])) new
     by true a =
-        subst (AllZip (IsVerdict allowed) (filter subject_has_source before ++ s ∷ [])) (sym a.2)
-        (zip-push (IsVerdict allowed) (filter subject_has_source before) old s a.0 are a.1)
+        subst (AllZip (IsJudged policy) (filter subject_has_source before ++ s ∷ [])) (sym a.2)
+        (zip-push (IsJudged policy) (filter subject_has_source before) old s a.0 are a.1)
     by false a =
-        subst (λ xs. AllZip (IsVerdict allowed) xs new) (sym (append-nil (filter subject_has_source before)))
-        (subst (AllZip (IsVerdict allowed) (filter subject_has_source before)) (sym a) are)
-
-pub any-of-verdicts : (vs : List Verdict) → list_any (λ v. is_finding (verdict_of v)) vs ≡ list_any is_finding (map verdict_of vs)
-any-of-verdicts [] = refl
-any-of-verdicts (v ∷ vs) = ap (λ b. is_finding (verdict_of v) || b) (any-of-verdicts vs)
+        subst (λ xs. AllZip (IsJudged policy) xs new) (sym (append-nil (filter subject_has_source before)))
+        (subst (AllZip (IsJudged policy) (filter subject_has_source before)) (sym a) are)
 
 -- ---- more terms add no finding
 
@@ -96,14 +104,14 @@ alike : (allowed : List (List ℕ)) (ts : List TokenData) (a b : Tree) → Reads
 alike allowed ts a b ra rb h =
     allowed-if allowed b (sym (same_Some (value allowed a) (value allowed b) (sym (evaluated-value allowed ts a ra) ∙ evaluated-value allowed ts b rb)) ∙ only-if allowed a h)
 
-no-more-on : (some more : List (List ℕ)) (p : PackageData) (text : List ℕ) (v w : VerdictData) → some ≢ [] → All (Contains more) some → IsVerdictOn some p text v → IsVerdictOn more p text w
+pub no-more-on : (some more : List (List ℕ)) (p : PackageData) (text : List ℕ) (v w : VerdictData) → (some ≡ [] → more ≡ []) → All (Contains more) some → IsVerdictOn some p text v → IsVerdictOn more p text w
     → is_finding w ≡ true → is_finding v ≡ true
 no-more-on some more p text (Allowed q t) (Allowed r u) given within V W is = absurd (true≢false (sym is))
 no-more-on some more p text (Allowed q t) (NotAllowed r u) given within V W is =
     let (a, ra, permits) = V.2 in
     let (b, rb, forbids) = W.2 in
     elim permits [
-      | inl none ↦ absurd (given none)
+      | inl none ↦ absurd (forbids (inl (given none)))
       | inr allows ↦ absurd (forbids (inr (alike more (tokens text) a b ra rb (more-allow-more some more a within allows))))
     ]
 no-more-on some more p text (Allowed q t) (NoExpression r u) given within V W is = let (a, ra, permits) = V.2 in absurd (W.2 a ra)
@@ -118,13 +126,13 @@ no-more-on some more p text (NoLicense q) w given within V W is = refl
 no-more-on some more p text (NoManifest q) w given within V W is = refl
 no-more-on some more p text (Differ q) w given within V W is = refl
 
-no-more-of : (some more : List (List ℕ)) (p : PackageData) (license file : Option (List ℕ)) (v w : VerdictData) → some ≢ [] → All (Contains more) some → IsVerdictOf some p license file v → IsVerdictOf more p license file w
+no-more-of : (some more : List (List ℕ)) (p : PackageData) (license file : Option (List ℕ)) (v w : VerdictData) → (some ≡ [] → more ≡ []) → All (Contains more) some → IsVerdictOf some p license file v → IsVerdictOf more p license file w
     → is_finding w ≡ true → is_finding v ≡ true
 no-more-of some more p None None v w given within V W is = ap is_finding V
 no-more-of some more p None (Some path) v w given within V W is = ap is_finding V
 no-more-of some more p (Some text) file v w given within V W is = no-more-on some more p text v w given within V W is
 
-no-more-in : (some more : List (List ℕ)) (p : PackageData) (ms : List ManifestData) (v w : VerdictData) → some ≢ [] → All (Contains more) some → IsVerdictIn some p ms v → IsVerdictIn more p ms w
+pub no-more-in : (some more : List (List ℕ)) (p : PackageData) (ms : List ManifestData) (v w : VerdictData) → (some ≡ [] → more ≡ []) → All (Contains more) some → IsVerdictIn some p ms v → IsVerdictIn more p ms w
     → is_finding w ≡ true → is_finding v ≡ true
 no-more-in some more p [] v w given within V W is = ap is_finding V
 no-more-in some more p (m ∷ others) v w given within V W is = elim V [
@@ -136,7 +144,7 @@ no-more-in some more p (m ∷ others) v w given within V W is = elim V [
 ]
 
 pub more-add-no-finding : MoreAddNoFinding
-more-add-no-finding some more s v w given within V W is = no-more-in some more s.content s.manifests v w given within V W is
+more-add-no-finding some more s v w given within V W is = no-more-in some more s.content s.manifests v w (λ none. absurd (given none)) within V W is
 
 -- ---- which verdict
 
@@ -153,10 +161,10 @@ map-push f [] x = refl
 map-push f (y ∷ ys) x = ap (λ zs. f y ∷ zs) (map-push f ys x)
 
 -- a step of the loop over the subjects
-pub next-subject : (allowed : List (List ℕ)) (subjects : List Subject) (i : ℕ) (s : Subject) (old new : List VerdictData) → i < length subjects → s ≡ get_or subjects i s
-    → AreVerdicts allowed (map license_subject_of (take i subjects)) old → AddsVerdict allowed (license_subject_of s) (subject_has_source (license_subject_of s)) old new → AreVerdicts allowed (map license_subject_of (take (i + 1) subjects)) new
-next-subject allowed subjects i s old new within is are adds =
-    subst (λ xs. AreVerdicts allowed xs new) (sym (ap (map license_subject_of) so_far ∙ map-push license_subject_of (take i subjects) s)) (one-more allowed (map license_subject_of (take i subjects)) (license_subject_of s) old new are adds)
+pub next-subject : (policy : PolicyData) (subjects : List Subject) (i : ℕ) (s : Subject) (old new : List JudgedData) → i < length subjects → s ≡ get_or subjects i s
+    → AreJudged policy (map license_subject_of (take i subjects)) old → AddsJudged policy (license_subject_of s) (subject_has_source (license_subject_of s)) old new → AreJudged policy (map license_subject_of (take (i + 1) subjects)) new
+next-subject policy subjects i s old new within is are adds =
+    subst (λ xs. AreJudged policy xs new) (sym (ap (map license_subject_of) so_far ∙ map-push license_subject_of (take i subjects) s)) (one-more policy (map license_subject_of (take i subjects)) (license_subject_of s) old new are adds)
   where
     so_far : take (i + 1) subjects ≡ take i subjects ++ s ∷ []
     so_far = take_more subjects i s within ∙ ap (λ x. take i subjects ++ x ∷ []) (sym is)

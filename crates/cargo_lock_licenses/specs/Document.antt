@@ -1,11 +1,12 @@
 -- What is said of the licences of packages, in JSON: the document that `licenses --json` prints.
-use Rattle.std.specs.Prelude.{ℕ, List, Option, None, Some, codes, decimal, map}
-use Rattle.json.specs.Json.{Json, array, number, string, object, member, no_members}
-use Rattle.cargo_lock_licenses.specs.Lines.{verdict_line}
+use Rattle.std.specs.Prelude.{ℕ, Bool, List, Option, None, Some, codes, false, map, true}
+use Rattle.json.specs.Json.{Json, array, boolean, string, object, member, no_members}
+use Rattle.cargo_lock_licenses.specs.Judged.{JudgedData, WordData, Given, Manifests, judged_line}
+use Rattle.cargo_lock_licenses.specs.Report.{UnmetData, Term, Words}
 use Rattle.cargo_lock_licenses.specs.Verdicts.{VerdictData, Allowed, Differ, NoExpression}
 use Rattle.cargo_lock_licenses.specs.Verdicts.{NoLicense, NoManifest, NotAllowed, OnlyFile}
 use Rattle.cargo_lock_parts.specs.Identity.{PackageData}
-use Rattle.cargo_lock_display.specs.File.{FileData, list_document}
+use Rattle.cargo_lock_display.specs.File.{FileData, document_json}
 use Rattle.cargo_lock_display.specs.PackageJson.{package_json}
 use Rattle.printing.specs.Value.{text_or_null}
 use Rattle.printing.specs.Json.{items_of}
@@ -30,7 +31,7 @@ verdict_package (NoLicense p) = p
 verdict_package (NoManifest p) = p
 verdict_package (Differ p) = p
 
--- the text that is to be an expression, as the manifests have it
+-- the text that is to be an expression, as it was given or as the manifests have it
 abbrev pub expression_of : VerdictData → Option (List ℕ)
 expression_of (Allowed p text) = Some text
 expression_of (NotAllowed p text) = Some text
@@ -40,15 +41,34 @@ expression_of (NoLicense p) = None
 expression_of (NoManifest p) = None
 expression_of (Differ p) = None
 
--- the JSON of a verdict
-unfoldable pub verdict_json : VerdictData → Json
-verdict_json v = object
-    (member (codes "kind") (string (verdict_kind v))
-    (member (codes "message") (string (verdict_line v))
-    (member (codes "package") (package_json (verdict_package v))
-    (member (codes "expression") (text_or_null (expression_of v)) no_members))))
+-- the expression was given
+abbrev pub is_given : WordData → Bool
+is_given Manifests = false
+is_given (Given other) = true
 
--- the verdicts on packages, each once and in order
-unfoldable pub verdicts_json : FileData → List VerdictData → Json
-verdicts_json file verdicts = list_document (codes "cargo-lock-licenses/1") file
-    (codes "packages") (map verdict_json verdicts)
+-- the other text that the manifests have
+abbrev pub other_text : WordData → Option (List ℕ)
+other_text Manifests = None
+other_text (Given other) = other
+
+-- the JSON of what is said of a package
+unfoldable pub judged_json : JudgedData → Json
+judged_json j = object
+    (member (codes "kind") (string (verdict_kind j.verdict))
+    (member (codes "message") (string (judged_line j))
+    (member (codes "package") (package_json (verdict_package j.verdict))
+    (member (codes "expression") (text_or_null (expression_of j.verdict))
+    (member (codes "given") (boolean (is_given j.word))
+    (member (codes "manifest") (text_or_null (other_text j.word))
+    (member (codes "exempted") (boolean j.exempted) no_members)))))))
+
+-- the text of what was said in vain
+abbrev pub unmet_words : UnmetData → List ℕ
+unmet_words (Term text) = text
+unmet_words (Words words) = words
+
+-- what is said of packages, each once and in order, and what the policy says in vain
+unfoldable pub licenses_json : FileData → List JudgedData → List UnmetData → Json
+licenses_json file judged unmet = document_json (codes "cargo-lock-licenses/1") file
+    (member (codes "packages") (array (items_of (map judged_json judged)))
+    (member (codes "unmet") (array (items_of (map (λ u. string (unmet_words u)) unmet))) no_members))

@@ -6,6 +6,9 @@ pub mod Reading
 pub mod Printed
 pub mod Subjects
 pub mod Verdicts
+pub mod Terms
+pub mod Policy
+pub mod Judged
 pub mod Report
 pub mod Lines
 pub mod Document

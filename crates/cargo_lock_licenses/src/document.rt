@@ -1,50 +1,119 @@
 //! What is said of the licences of packages, as a document of JSON.
 
 ghost use Rattle.std.specs.Prelude.{◌≡◌, IfOk, map, option_map, string_bytes};
+ghost use Rattle.cargo_lock_licenses.specs.Judged.{judged_of, word_of};
+ghost use Rattle.cargo_lock_licenses.specs.Report.{unmet_of};
 ghost use Rattle.cargo_lock_licenses.specs.Verdicts.{verdict_of};
-ghost use Rattle.cargo_lock_licenses.specs.Document.{expression_of, verdict_json, verdict_kind};
+ghost use Rattle.cargo_lock_licenses.specs.Document.{expression_of, other_text, verdict_kind};
 ghost use Rattle.cargo_lock_licenses.specs.Document.{verdict_package};
 ghost use Rattle.cargo_lock_licenses.specs.Document as spec;
 ghost use Rattle.printing.specs.Json.{IsJsonText};
 
+use crate::judged::{Judged, Word};
+use crate::report::{Report, Unmet};
 use crate::verdict::Verdict;
-use cargo_lock_display::{File, list_document, put_package};
+use cargo_lock_display::{File, begin_document, put_package};
 use cargo_lock_parts::package::Package;
-use printing::{JsonWriter, ToJson, write_text_or_null};
+use printing::{JsonWriter, ToJson, json_line, write_array, write_text_or_null};
 use std::alloc::{AllocError, Global};
 
 /// The document of what is said of the licences of packages, in one line:
-/// `{"schema":"cargo-lock-licenses/1","path":"Cargo.lock","format":4,"packages":[..]}`. Fails when
-/// out of memory.
+/// `{"schema":"cargo-lock-licenses/1","path":"Cargo.lock","format":4,"packages":[..],"unmet":[..]}`.
+/// Fails when out of memory.
 ///
 /// ```
-/// let text = verdicts_json(rt.alloc(), &file, &report.verdicts)?;
+/// let text = licenses_json(rt.alloc(), &file, &report)?;
 /// ```
-pub fn verdicts_json(
+pub fn licenses_json(
     alloc: Global,
     file: &File<'_>,
-    verdicts: &[Verdict<'_, '_>],
+    report: &Report<'_, '_>,
 ) -> Result<String, AllocError>
     ensures { IfOk result (λ text. IsJsonText
-        (spec.verdicts_json file.now (map verdict_of verdicts.now)) (string_bytes text)) }
+        (spec.licenses_json file.now (map judged_of report.now.judged.items)
+        (map unmet_of report.now.unmet.items)) (string_bytes text)) }
 {
-    list_document(alloc, "cargo-lock-licenses/1", file, "packages", verdicts)
+    json_line(alloc, &Document { file, report })
 }
 
-impl ToJson for Verdict<'_, '_> {
-    ghost use Rattle.cargo_lock_licenses.specs.Verdicts.{verdict_of};
-    ghost use Rattle.cargo_lock_licenses.specs.Document.{verdict_json};
+// What the document has.
+#[derive(Clone, Copy)]
+struct Document<'d, 'r> {
+    file: &'d File<'d>,
+    report: &'d Report<'r, 'r>,
+}
 
-    ghost json = { λ verdict. verdict_json (verdict_of verdict) };
+impl ToJson for Document<'_, '_> {
+    ghost use Rattle.std.specs.Prelude.{map};
+    ghost use Rattle.cargo_lock_licenses.specs.Judged.{judged_of};
+    ghost use Rattle.cargo_lock_licenses.specs.Report.{unmet_of};
+    ghost use Rattle.cargo_lock_licenses.specs.Document.{licenses_json};
+
+    ghost json = { λ d. licenses_json d.file.now (map judged_of d.report.now.judged.items)
+        (map unmet_of d.report.now.unmet.items) };
 
     fn write_json(&self, out: &mut JsonWriter) -> Result<(), AllocError> {
+        begin_document(out, "cargo-lock-licenses/1", self.file)?;
+        out.key("packages")?;
+        write_array(out, &self.report.judged)?;
+        out.key("unmet")?;
+        write_array(out, &self.report.unmet)?;
+        out.end_object()
+    }
+}
+
+impl ToJson for Judged<'_, '_> {
+    ghost use Rattle.cargo_lock_licenses.specs.Judged.{judged_of};
+    ghost use Rattle.cargo_lock_licenses.specs.Document.{judged_json};
+
+    ghost json = { λ judged. judged_json (judged_of judged) };
+
+    fn write_json(&self, out: &mut JsonWriter) -> Result<(), AllocError> {
+        let verdict = &self.verdict;
         out.begin_object()?;
-        out.string_member("kind", kind(self))?;
+        out.string_member("kind", kind(verdict))?;
         out.displayed_member("message", self)?;
         out.key("package")?;
-        put_package(out, package(self))?;
-        write_text_or_null(out, "expression", expression(self))?;
+        put_package(out, package(verdict))?;
+        write_text_or_null(out, "expression", expression(verdict))?;
+        out.boolean_member("given", is_given(self.word))?;
+        write_text_or_null(out, "manifest", other_text(self.word))?;
+        out.boolean_member("exempted", self.is_exempted)?;
         out.end_object()
+    }
+}
+
+impl ToJson for Unmet<'_> {
+    ghost use Rattle.json.specs.Json.{string};
+    ghost use Rattle.cargo_lock_licenses.specs.Report.{unmet_of};
+    ghost use Rattle.cargo_lock_licenses.specs.Document.{unmet_words};
+
+    ghost json = { λ unmet. string (unmet_words (unmet_of unmet)) };
+
+    fn write_json(&self, out: &mut JsonWriter) -> Result<(), AllocError> {
+        match *self {
+            Unmet::Term(text) | Unmet::Words(text) => out.string(text.as_str()),
+        }
+    }
+}
+
+// Whether the expression was given.
+fn is_given(word: Word<'_>) -> bool
+    ensures { result ≡ spec.is_given (word_of word.entry) }
+{
+    match word {
+        Word::Manifests => false,
+        Word::Given(_) => true,
+    }
+}
+
+// The other text that the manifests have.
+fn other_text<'a>(word: Word<'a>) -> Option<&'a str>
+    ensures { option_map (λ t. t.now) result ≡ other_text (word_of word.entry) }
+{
+    match word {
+        Word::Given(Some(text)) => Some(text.as_str()),
+        Word::Manifests | Word::Given(None) => None,
     }
 }
 
@@ -78,7 +147,7 @@ fn package<'p>(verdict: &Verdict<'p, '_>) -> &'p Package
     }
 }
 
-// The text that is to be an expression, as the manifests have it.
+// The text that is to be an expression, as it was given or as the manifests have it.
 fn expression<'a>(verdict: &Verdict<'_, 'a>) -> Option<&'a str>
     ensures { option_map (λ t. t.now) result ≡ expression_of (verdict_of verdict.now) }
 {

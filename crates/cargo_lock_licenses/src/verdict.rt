@@ -79,7 +79,7 @@ impl<'p, 'a> Verdict<'p, 'a> {
 }
 
 // Whether the others say the same as the first.
-fn are_same(first: &Manifest, others: &[Manifest]) -> bool
+pub(crate) fn are_same(first: &Manifest, others: &[Manifest]) -> bool
     ensures { result ≡ list_all (λ other. is_same (manifest_of first.now) (manifest_of other))
         others.now }
 {
@@ -104,7 +104,7 @@ fn verdict_of_manifest<'p, 'a>(
 }
 
 // What is said of the text that is to be an expression.
-fn verdict_on<'p, 'a>(
+pub(crate) fn verdict_on<'p, 'a>(
     alloc: Global,
     package: &'p Package,
     text: &'a String,

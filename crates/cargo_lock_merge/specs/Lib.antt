@@ -8,6 +8,7 @@ pub mod Formats
 pub mod Patches
 pub mod OwnMetadata
 pub mod Referring
+pub mod Spelling
 pub mod MergedLockfiles
 pub mod ByPlaces
 pub mod Once

@@ -14,7 +14,9 @@ pub mod outcome;
 mod patches;
 mod referring;
 pub mod refused;
+pub mod spelling;
 mod words;
 
 pub use crate::lockfiles::merge_lockfiles;
 pub use crate::outcome::merge;
+pub use crate::spelling::with_cargo_spelling;

@@ -97,7 +97,7 @@ struct Rest {
 /// of a package.
 ///
 /// The checksums of packages in V1 are those in the packages, so call `with_cargo_checksums` for
-/// each lockfile first.
+/// each lockfile first. Sources are compared by their texts, so call `with_cargo_spelling` too.
 ///
 /// `MergeError::Root` and `MergeError::Refused` say which of the lockfiles cannot be merged, and
 /// why. Where several cannot be, a root is reported first, and then the base before ours, and ours

@@ -157,8 +157,13 @@ fn roots(alloc: Global, graph: &Graph) -> Result<Vec<NodeIndex>, AllocError>
     list_externals(alloc, graph, EdgeDirection::Incoming)
 }
 
-// The nodes of the packages without a source, in order.
-fn members(alloc: Global, graph: &Graph) -> Result<Vec<NodeIndex>, AllocError>
+/// The nodes of the packages without a source, which are those of the workspace, in order. Fails when
+/// out of memory.
+///
+/// ```
+/// let members = members(rt.alloc(), tree.graph())?;
+/// ```
+pub fn members(alloc: Global, graph: &Graph) -> Result<Vec<NodeIndex>, AllocError>
     ensures { IfOk result
         (λ members. IsPlaces (IsMember graph.now) (length graph.now.packages) members.items) }
 {

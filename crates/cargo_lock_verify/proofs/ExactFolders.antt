@@ -1,5 +1,5 @@
 -- What is found of folders is exactly what the relations say.
-use Rattle.std.proofs.Common.{◌≡◌, ◌≢◌, ℕ, Bool, true, false, true≢false, List, [], ◌∷◌, Option, None, Some, IsSome, is_none, is_some, map, refl, ap, sym, ◌∙◌, inl, inr, subst, if◌then◌else◌, bytes_eq, option_map, string_bytes}
+use Rattle.std.proofs.Common.{◌≡◌, ◌≢◌, ◌++◌, ℕ, Bool, true, false, true≢false, List, [], ◌∷◌, Option, None, Some, IsSome, is_none, is_some, map, refl, ap, sym, ◌∙◌, inl, inr, subst, if◌then◌else◌, bytes_eq, option_map, string_bytes}
 use Rattle.std.specs.BTreeMap.{get_by_text}
 use Rattle.std.specs.List.{All, Contains, flat_map}
 use Rattle.std.specs.Option.{option_eq}
@@ -10,8 +10,8 @@ use Rattle.cargo_lock_parts.specs.Checksum.{digest_of}
 use Rattle.cargo_lock_parts.specs.Identity.{PackageData}
 use Rattle.cargo_lock_parts.specs.Source.{Source}
 use Rattle.cargo_lock_verify.specs.declared.folder.Folder.{Folder}
-use Rattle.cargo_lock_verify.specs.Vendored.{Absent, FolderFindingData, FolderFindingsAreExact, IsAsListed, IsFolderFindingOf, IsFoundIn, IsVendored, Link, ListedData, NoFolder, NoneIfVendored, OtherArchive, OtherFile, Unlisted, VendoredData}
-use Rattle.cargo_lock_verify.specs.Vendored.{archive_found, digest_at, files_found, files_of, folder_findings, folder_found, folders_found, found_by_source, is_same_archive, links_found, listed_by, listed_found, of_file, of_listed, vendored_found}
+use Rattle.cargo_lock_verify.specs.Vendored.{Absent, FolderFindingData, FolderFindingsAreExact, IsAsListed, IsFolderFindingOf, IsFoundIn, IsVendored, IsOfRegistryWithout, Link, ListedData, NoChecksum, NoFolder, NoneIfVendored, OfEntry, OtherArchive, OtherFile, Unlisted, VendoredData}
+use Rattle.cargo_lock_verify.specs.Vendored.{archive_found, checksum_found, digest_at, files_found, files_of, folder_findings, folder_found, folders_found, found_by_source, is_same_archive, is_unchecked, links_found, listed_by, listed_found, of_file, of_listed, vendored_found}
 use Rattle.lists.proofs.Members.{contains-cases as cases, first-in as first, in-joined as in-flat, in-map, later-in as later, none-in as no-element}
 use Rattle.lists.proofs.Members.{none-left as no-elements}
 
@@ -103,6 +103,8 @@ of-folder v f there (Absent q g path) h = (f, there, h)
 of-folder v f there (OtherFile q g path d l) h = (f, there, h)
 of-folder v f there (Unlisted q g path) h = (f, there, h)
 of-folder v f there (Link q g path) h = (f, there, h)
+of-folder v f there (NoChecksum q) h = absurd h
+of-folder v f there (OfEntry path flaw) h = absurd h
 
 folders-so : (v : VendoredData) → All (IsFolderFindingOf v) (folders_found v.content v.folders)
 folders-so v = by v.folders refl
@@ -112,6 +114,13 @@ folders-so v = by v.folders refl
     by (f ∷ rest) is = flat-so (IsFolderFindingOf v) (folder_found v.content) (f ∷ rest)
         (λ g there. All-weaker (IsFoundIn v.content g) (IsFolderFindingOf v) (of-folder v g (subst (λ fs. Contains fs g) (sym is) there))
         (folder_found v.content g) (folder-so v.content g))
+
+checksum-so : (v : VendoredData) → All (IsFolderFindingOf v) (checksum_found v.content)
+checksum-so v = by (is_unchecked v.content) refl
+  where
+    by : (b : Bool) → is_unchecked v.content ≡ b → All (IsFolderFindingOf v) (if b then NoChecksum v.content ∷ [] else [])
+    by true e = All-cons (IsFolderFindingOf v) (NoChecksum v.content) [] (refl, e) (All-nil (IsFolderFindingOf v))
+    by false e = All-nil (IsFolderFindingOf v)
 
 -- this is found of a package with a source
 abbrev IsFoundWith : VendoredData → FolderFindingData → Type 0
@@ -123,7 +132,8 @@ vendored-so v = by v.content.source refl
     by : (o : Option Source) → v.content.source ≡ o → All (IsFoundWith v) (found_by_source v o)
     by None is = All-nil (IsFoundWith v)
     by (Some s) is = All-weaker (IsFolderFindingOf v) (IsFoundWith v) (λ x h. (λ none. true≢false (ap is_some (sym is ∙ none)), h))
-        (folders_found v.content v.folders) (folders-so v)
+        (checksum_found v.content ++ folders_found v.content v.folders)
+        (All-append (IsFolderFindingOf v) (checksum_found v.content) (folders_found v.content v.folders) (checksum-so v) (folders-so v))
 
 -- this is found of one of the packages
 abbrev IsFoundAmong : List VendoredData → FolderFindingData → Type 0
@@ -206,23 +216,38 @@ folder-in p f (Unlisted q g path) h = let (l, there, same, is) = h.2 in
     named p f q g (λ r e. Unlisted r e path) h.0 h.1 (subst (λ z. Contains (folder_found p f) (Unlisted p f z)) same
     (in-files p f l (Unlisted p f l.path) there (unlisted-in p f l (ap (digest_at f.listed) same ∙ is))))
 folder-in p f (Link q g path) h = named p f q g (λ r e. Link r e path) h.0 h.1 (in-links p f (Link p f path) (link-in p f path h.2))
+folder-in p f (NoChecksum q) h = absurd h
+folder-in p f (OfEntry path flaw) h = absurd h
 
 some-folder : (p : PackageData) (fs : List Folder) (f : Folder) (x : FolderFindingData) → Contains fs f → Contains (folder_found p f) x
     → Contains (folders_found p fs) x
 some-folder p [] f x there here = absurd (no-element f there)
 some-folder p (g ∷ rest) f x there here = in-flat (folder_found p) (g ∷ rest) f x there here
 
-of-in : (v : VendoredData) (x : FolderFindingData) → IsFolderFindingOf v x → Contains (folders_found v.content v.folders) x
-of-in v (NoFolder q) h = subst (λ fs. Contains (folders_found v.content fs) (NoFolder q)) (sym h.1)
-    (subst (λ p. Contains (NoFolder v.content ∷ []) (NoFolder p)) (sym h.0) (first (NoFolder v.content) []))
-of-in v (OtherArchive q g) h = let (f, there, so) = h in some-folder v.content v.folders f _ there (folder-in v.content f (OtherArchive q g) so)
-of-in v (Absent q g path) h = let (f, there, so) = h in some-folder v.content v.folders f _ there (folder-in v.content f (Absent q g path) so)
-of-in v (OtherFile q g path d l) h = let (f, there, so) = h in
-    some-folder v.content v.folders f _ there (folder-in v.content f (OtherFile q g path d l) so)
-of-in v (Unlisted q g path) h = let (f, there, so) = h in some-folder v.content v.folders f _ there (folder-in v.content f (Unlisted q g path) so)
-of-in v (Link q g path) h = let (f, there, so) = h in some-folder v.content v.folders f _ there (folder-in v.content f (Link q g path) so)
+checksum-in : (p : PackageData) → IsOfRegistryWithout p → Contains (checksum_found p) (NoChecksum p)
+checksum-in p e = subst (λ (b : Bool). Contains (if b then NoChecksum p ∷ [] else []) (NoChecksum p)) (sym e) (first (NoChecksum p) [])
 
-vendored-in : (v : VendoredData) (x : FolderFindingData) → v.content.source ≢ None → Contains (folders_found v.content v.folders) x
+-- all that is found of a package with a source
+abbrev all_found : VendoredData → List FolderFindingData
+all_found v = checksum_found v.content ++ folders_found v.content v.folders
+
+of-folders : (v : VendoredData) (x : FolderFindingData) → Contains (folders_found v.content v.folders) x → Contains (all_found v) x
+of-folders v x = Contains-append_right (checksum_found v.content) (folders_found v.content v.folders) x
+
+of-in : (v : VendoredData) (x : FolderFindingData) → IsFolderFindingOf v x → Contains (all_found v) x
+of-in v (NoChecksum q) h = subst (λ p. Contains (all_found v) (NoChecksum p)) (sym h.0)
+    (Contains-append_left (checksum_found v.content) (folders_found v.content v.folders) _ (checksum-in v.content h.1))
+of-in v (OfEntry path flaw) h = let (f, there, so) = h in absurd so
+of-in v (NoFolder q) h = of-folders v _ (subst (λ fs. Contains (folders_found v.content fs) (NoFolder q)) (sym h.1)
+    (subst (λ p. Contains (NoFolder v.content ∷ []) (NoFolder p)) (sym h.0) (first (NoFolder v.content) [])))
+of-in v (OtherArchive q g) h = let (f, there, so) = h in of-folders v _ (some-folder v.content v.folders f _ there (folder-in v.content f (OtherArchive q g) so))
+of-in v (Absent q g path) h = let (f, there, so) = h in of-folders v _ (some-folder v.content v.folders f _ there (folder-in v.content f (Absent q g path) so))
+of-in v (OtherFile q g path d l) h = let (f, there, so) = h in
+    of-folders v _ (some-folder v.content v.folders f _ there (folder-in v.content f (OtherFile q g path d l) so))
+of-in v (Unlisted q g path) h = let (f, there, so) = h in of-folders v _ (some-folder v.content v.folders f _ there (folder-in v.content f (Unlisted q g path) so))
+of-in v (Link q g path) h = let (f, there, so) = h in of-folders v _ (some-folder v.content v.folders f _ there (folder-in v.content f (Link q g path) so))
+
+vendored-in : (v : VendoredData) (x : FolderFindingData) → v.content.source ≢ None → Contains (all_found v) x
     → Contains (vendored_found v) x
 vendored-in v x has h = by v.content.source refl
   where
@@ -281,8 +306,9 @@ as-listed p f quiet = record {
   links = links-are p f quiet;
 }
 
-vendored-if-none : (all : List VendoredData) → folder_findings all ≡ [] → (v : VendoredData) → Contains all v → v.content.source ≢ None → IsVendored v
-vendored-if-none all none v there has = record { some = some; each = each }
+vendored-if-none : (all : List VendoredData) → folder_findings all ≡ [] → (v : VendoredData) → Contains all v → v.content.source ≢ None
+    → IsVendored v × (¬ IsOfRegistryWithout v.content)
+vendored-if-none all none v there has = (record { some = some; each = each }, λ h. nothing (NoChecksum v.content) (refl, h))
   where
     nothing : (x : FolderFindingData) → ¬ IsFolderFindingOf v x
     nothing x h = no-element x (subst (λ xs. Contains xs x) none ((folder-findings-are-exact all x).1 (v, there, has, h)))
@@ -306,17 +332,43 @@ quiet-of p f is (OtherFile q g path d listed) h =
 quiet-of p f is (Unlisted q g path) h = let (l, there, same, none) = h.2 in
     some-is-not-none (digest_at f.listed l.path) (is.files l there) (ap (digest_at f.listed) same ∙ none)
 quiet-of p f is (Link q g path) h = no-element path (subst (λ ls. Contains (map string_bytes ls) path) is.links h.2)
+quiet-of p f is (NoChecksum q) h = h
+quiet-of p f is (OfEntry path flaw) h = h
 
-none-of : (v : VendoredData) (x : FolderFindingData) → IsVendored v → ¬ IsFolderFindingOf v x
-none-of v (NoFolder q) is h = is.some h.1
-none-of v (OtherArchive q g) is h = let (f, there, so) = h in quiet-of v.content f (is.each f there) (OtherArchive q g) so
-none-of v (Absent q g path) is h = let (f, there, so) = h in quiet-of v.content f (is.each f there) (Absent q g path) so
-none-of v (OtherFile q g path d l) is h = let (f, there, so) = h in quiet-of v.content f (is.each f there) (OtherFile q g path d l) so
-none-of v (Unlisted q g path) is h = let (f, there, so) = h in quiet-of v.content f (is.each f there) (Unlisted q g path) so
-none-of v (Link q g path) is h = let (f, there, so) = h in quiet-of v.content f (is.each f there) (Link q g path) so
+none-of : (v : VendoredData) (x : FolderFindingData) → IsVendored v → (¬ IsOfRegistryWithout v.content) → ¬ IsFolderFindingOf v x
+none-of v (NoFolder q) is checked h = is.some h.1
+none-of v (OtherArchive q g) is checked h = let (f, there, so) = h in quiet-of v.content f (is.each f there) (OtherArchive q g) so
+none-of v (Absent q g path) is checked h = let (f, there, so) = h in quiet-of v.content f (is.each f there) (Absent q g path) so
+none-of v (OtherFile q g path d l) is checked h = let (f, there, so) = h in quiet-of v.content f (is.each f there) (OtherFile q g path d l) so
+none-of v (Unlisted q g path) is checked h = let (f, there, so) = h in quiet-of v.content f (is.each f there) (Unlisted q g path) so
+none-of v (Link q g path) is checked h = let (f, there, so) = h in quiet-of v.content f (is.each f there) (Link q g path) so
+none-of v (NoChecksum q) is checked h = checked h.1
+none-of v (OfEntry path flaw) is checked h = let (f, there, so) = h in so
 
 pub none-if-vendored : NoneIfVendored
 none-if-vendored all = (
   vendored-if-none all,
-  λ is. no-elements (folder_findings all) (λ x h. let (v, there, has, so) = (folder-findings-are-exact all x).0 h in none-of v x (is v there has) so),
+  λ is. no-elements (folder_findings all) (λ x h. let (v, there, has, so) = (folder-findings-are-exact all x).0 h in
+      none-of v x (is v there has).0 (is v there has).1 so),
 )
+
+-- ---- classes
+
+-- nothing is found of the folders of a package only if there are some, which are as their lists say
+pub vendored-if-empty : (v : VendoredData) → folders_found v.content v.folders ≡ [] → IsVendored v
+vendored-if-empty v none = record { some = some; each = each }
+  where
+    nothing : (x : FolderFindingData) → ¬ Contains (folders_found v.content v.folders) x
+    nothing x h = no-element x (subst (λ xs. Contains xs x) none h)
+
+    some : v.folders ≢ []
+    some empty = nothing (NoFolder v.content) (subst (λ fs. Contains (folders_found v.content fs) (NoFolder v.content)) (sym empty)
+        (first (NoFolder v.content) []))
+
+    each : (f : Folder) → Contains v.folders f → IsAsListed v.content f
+    each f in-it = as-listed v.content f (λ x h. nothing x (some-folder v.content v.folders f x in-it (folder-in v.content f x h)))
+
+-- and then nothing is
+pub empty-if-vendored : (v : VendoredData) → IsVendored v → (¬ IsOfRegistryWithout v.content) → folders_found v.content v.folders ≡ []
+empty-if-vendored v is checked = no-elements (folders_found v.content v.folders)
+    (λ x h. none-of v x is checked (All-contains (IsFolderFindingOf v) (folders_found v.content v.folders) x (folders-so v) h))

@@ -1,4 +1,6 @@
+mod Classes
 mod Exact
+mod ExactEntries
 mod ExactFolders
 mod Listing
 mod OneLine

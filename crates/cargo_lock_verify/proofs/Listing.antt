@@ -1,17 +1,11 @@
--- Archives of the program and their data.
-use Rattle.std.proofs.Common.{◌≡◌, ◌||◌, cond, filter, ℕ, Bool, true, false, true≢false, List, [], ◌∷◌, ap, map, length, nat_eq, refl}
-use Rattle.std.specs.List.{list_any}
+-- What the program has, and its data.
+use Rattle.std.proofs.Common.{◌≡◌, cond, filter, Bool, true, false, true≢false, List, [], ◌∷◌, ap, map, length, nat_eq, refl}
 use Rattle.cargo_lock_parts.specs.Identity.{PackageData}
 use Rattle.cargo_lock_verify.specs.declared.finding.Archive.{Archive}
 use Rattle.cargo_lock_verify.specs.declared.finding.Finding.{Finding}
-use Rattle.cargo_lock_verify.specs.Archives.{Changed, archive_finding_of, archive_of, changed_of, found_of_unverified, is_digest}
+use Rattle.cargo_lock_verify.specs.Archives.{Changed, archive_finding_of, archive_of, changed_of, found_of_unverified}
 use Rattle.cargo_lock_verify.specs.Archives.{ArchiveFindingData}
-use Rattle.cargo_lock_verify.specs.Report.{is_changed}
-
-pub any-of-data : (digest : List ℕ) (archives : List Archive)
-    → list_any (is_digest digest) (map archive_of archives) ≡ list_any (λ a. is_digest digest (archive_of a)) archives
-any-of-data digest [] = refl
-any-of-data digest (a ∷ rest) = ap (λ b. is_digest digest (archive_of a) || b) (any-of-data digest rest)
+use Rattle.cargo_lock_verify.specs.Report.{is_of_archive}
 
 changed-of-data : (p : PackageData) (archives : List Archive) → map (Changed p) (map archive_of archives) ≡ map (changed_of p) archives
 changed-of-data p [] = refl
@@ -22,12 +16,12 @@ pub found-of-some : (p : PackageData) (archives : List Archive) → nat_eq (leng
 found-of-some p [] e = absurd (true≢false e)
 found-of-some p (a ∷ rest) e = ap (λ xs. changed_of p a ∷ xs) (changed-of-data p rest)
 
-pub changed-of-found : (found : List Finding) → map archive_finding_of (filter (λ f. is_changed (archive_finding_of f)) found) ≡ filter is_changed (map archive_finding_of found)
-changed-of-found [] = refl
-changed-of-found (f ∷ rest) = by (is_changed (archive_finding_of f)) (changed-of-found rest)
+pub kept-of-found : (found : List Finding) → map archive_finding_of (filter (λ f. is_of_archive (archive_finding_of f)) found) ≡ filter is_of_archive (map archive_finding_of found)
+kept-of-found [] = refl
+kept-of-found (f ∷ rest) = by (is_of_archive (archive_finding_of f)) (kept-of-found rest)
   where
-    by : (b : Bool) → map archive_finding_of (filter (λ g. is_changed (archive_finding_of g)) rest) ≡ filter is_changed (map archive_finding_of rest)
-        → map archive_finding_of (cond b (f ∷ filter (λ g. is_changed (archive_finding_of g)) rest) (filter (λ g. is_changed (archive_finding_of g)) rest))
-        ≡ cond b (archive_finding_of f ∷ filter is_changed (map archive_finding_of rest)) (filter is_changed (map archive_finding_of rest))
+    by : (b : Bool) → map archive_finding_of (filter (λ g. is_of_archive (archive_finding_of g)) rest) ≡ filter is_of_archive (map archive_finding_of rest)
+        → map archive_finding_of (cond b (f ∷ filter (λ g. is_of_archive (archive_finding_of g)) rest) (filter (λ g. is_of_archive (archive_finding_of g)) rest))
+        ≡ cond b (archive_finding_of f ∷ filter is_of_archive (map archive_finding_of rest)) (filter is_of_archive (map archive_finding_of rest))
     by true same = ap (λ (xs : List ArchiveFindingData). archive_finding_of f ∷ xs) same
     by false same = same

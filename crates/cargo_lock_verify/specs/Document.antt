@@ -4,17 +4,20 @@ use Rattle.json.specs.Json.{Json, array, number, string, object, member, no_memb
 use Rattle.cargo_lock_parts.specs.Checksum.{digest_text}
 use Rattle.cargo_lock_parts.specs.Identity.{PackageData}
 use Rattle.cargo_lock_display.specs.File.{FileData, document_json}
-use Rattle.cargo_lock_display.specs.PackageJson.{package_json}
+use Rattle.cargo_lock_display.specs.PackageJson.{package_or_null}
+use Rattle.cargo_lock_verify.specs.declared.class.Counts.{Counts}
+use Rattle.cargo_lock_verify.specs.declared.document.Compared.{Compared}
+use Rattle.cargo_lock_verify.specs.declared.document.Compared.TheVariants.{Archives, Folders}
 use Rattle.printing.specs.Value.{text_or_null}
 use Rattle.printing.specs.Json.{items_of}
 
 -- what the document says of a finding: its kind, its line, its package, the path of what it is
 -- about, the digest that was found, and the one that was expected; there may be none of the last
--- three
+-- four
 pub record FoundData : Type 0 where
   pub kind : List ℕ
   pub message : List ℕ
-  pub content : PackageData
+  pub content : Option PackageData
   pub path : Option (List ℕ)
   pub digest : Option (List ℕ)
   pub expected : Option (List ℕ)
@@ -24,13 +27,27 @@ unfoldable pub found_json : FoundData → Json
 found_json f = object
     (member (codes "kind") (string f.kind)
     (member (codes "message") (string f.message)
-    (member (codes "package") (package_json f.content)
+    (member (codes "package") (package_or_null f.content)
     (member (codes "path") (text_or_null f.path)
     (member (codes "digest") (text_or_null (option_map digest_text f.digest))
     (member (codes "expected") (text_or_null (option_map digest_text f.expected)) no_members))))))
 
--- how many packages are verified, and the JSON of each finding, in order
-unfoldable pub verified_json : FileData → ℕ → List Json → Json
-verified_json file verified findings = document_json (codes "cargo-lock-verify/1") file
-    (member (codes "verified") (number (decimal verified))
-    (member (codes "findings") (array (items_of findings)) no_members))
+-- the key of the number of the packages that have no archive, or no folder
+abbrev pub missing_key : Compared → List ℕ
+missing_key Archives = codes "without_archive"
+missing_key Folders = codes "without_folder"
+
+-- the key of the number of the packages of which there is nothing to compare
+abbrev pub not_compared_key : Compared → List ℕ
+not_compared_key Archives = codes "without_registry"
+not_compared_key Folders = codes "without_source"
+
+-- how many packages are in each class, and the JSON of each finding, in order
+unfoldable pub compared_json : Compared → FileData → Counts → List Json → Json
+compared_json compared file counts findings = document_json (codes "cargo-lock-verify/2") file
+    (member (codes "matches") (number (decimal counts.matches))
+    (member (codes "changed") (number (decimal counts.changed))
+    (member (missing_key compared) (number (decimal counts.missing))
+    (member (codes "without_checksum") (number (decimal counts.without_checksum))
+    (member (not_compared_key compared) (number (decimal counts.not_compared))
+    (member (codes "findings") (array (items_of findings)) no_members))))))

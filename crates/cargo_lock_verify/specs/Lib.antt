@@ -1,3 +1,6 @@
+pub mod Class
+pub mod Summary
+pub mod Entries
 pub mod Archives
 pub mod Lines
 pub mod Reading

@@ -1,17 +1,18 @@
 -- What is reported of folders.
-use Rattle.std.specs.Prelude.{◌++◌, ◌==◌, ◌&&◌, ℕ, Bool, List, codes, decimal, is_some, length}
-use Rattle.cargo_lock_verify.specs.Vendored.{FolderFindingData, VendoredData, vendored_found}
+use Rattle.std.specs.Prelude.{◌++◌, [], ◌∷◌, ℕ, List}
+use Rattle.cargo_lock_parts.specs.Ascii.{newline}
+use Rattle.cargo_lock_verify.specs.declared.class.Counts.{Counts}
+use Rattle.cargo_lock_verify.specs.declared.entry.Others.{Others}
+use Rattle.cargo_lock_verify.specs.Entries.{EntryData, entry_findings}
+use Rattle.cargo_lock_verify.specs.Summary.{folder_summary}
+use Rattle.cargo_lock_verify.specs.Vendored.{FolderFindingData, VendoredData, folder_findings}
 use Rattle.cargo_lock_verify.specs.VendoredLines.{folder_findings_text}
 
--- nothing is found of the folders of a package
-abbrev pub is_as_listed : VendoredData → Bool
-is_as_listed v = length (vendored_found v) == 0
+-- what is reported: what is found of packages, and behind it what is found of entries
+abbrev pub vendor_findings : Others → List VendoredData → List EntryData → List FolderFindingData
+vendor_findings who all entries = folder_findings all ++ entry_findings who all entries
 
--- the package has a source, and nothing is found of its folders
-abbrev pub is_verified_by_folders : VendoredData → Bool
-is_verified_by_folders v = is_some v.content.source && is_as_listed v
-
--- the line of each finding, and how many packages are verified
-abbrev pub folder_report_text : List FolderFindingData → ℕ → List ℕ
-folder_report_text found verified =
-    folder_findings_text found ++ (decimal verified ++ codes " verified\n")
+-- the line of each finding, and how many packages are in each class
+abbrev pub folder_report_text : List FolderFindingData → Counts → List ℕ
+folder_report_text found counts =
+    folder_findings_text found ++ (folder_summary counts ++ newline ∷ [])

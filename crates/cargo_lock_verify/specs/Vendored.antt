@@ -1,7 +1,7 @@
 -- What is wrong with the folders of packages, as `cargo vendor` leaves them. Each has a list of its
 -- files, with the SHA-256 of each and of the archive of the package.
 use Rattle.std.specs.Prelude.{◌≡◌, ◌≢◌, ◌↔◌, ◌++◌, [], ◌∷◌, ℕ, Bool, IsSome, List, Option, None, Some, map}
-use Rattle.std.specs.Prelude.{String, bytes_eq, if◌then◌else◌, is_none, option_map, string_bytes}
+use Rattle.std.specs.Prelude.{◌==◌, ◌&&◌, String, bytes_eq, if◌then◌else◌, is_none, length, option_map, string_bytes, true}
 use Rattle.std.specs.BTreeMap.{BTreeMap, get_by_text}
 use Rattle.std.specs.List.{Contains, flat_map}
 use Rattle.std.specs.Option.{option_eq}
@@ -9,6 +9,11 @@ use Rattle.cargo_lock_parts.specs.Checksum.{digest_of}
 use Rattle.cargo_lock_parts.specs.Identity.{PackageData}
 use Rattle.cargo_lock_parts.specs.Source.{Source}
 use Rattle.cargo_lock_parts.specs.declared.package.checksum.Checksum.{Checksum}
+use Rattle.cargo_lock_verify.specs.Class.{counts_of, is_of_registry}
+use Rattle.cargo_lock_verify.specs.declared.class.Class.{Class}
+use Rattle.cargo_lock_verify.specs.declared.class.Class.TheVariants as class
+use Rattle.cargo_lock_verify.specs.declared.class.Counts.{Counts}
+use Rattle.cargo_lock_verify.specs.declared.entry.Flaw.{Flaw}
 use Rattle.cargo_lock_verify.specs.declared.folder.FileDigests.{FileDigests}
 use Rattle.cargo_lock_verify.specs.declared.folder.Folder.{Folder}
 use Rattle.cargo_lock_verify.specs.declared.folder.FolderFinding.{FolderFinding}
@@ -43,7 +48,8 @@ digest_at files path = option_map digest_of (get_by_text files path)
 
 -- What is found: a package with a source has no folder; the list of a folder has another digest of
 -- the archive than the lockfile; a file of a list is missing, or has another digest, which comes
--- first, than the list says; a file is not in the list; or there is a link.
+-- first, than the list says; a file is not in the list; there is a link; a package of a registry has
+-- no checksum in the lockfile; or something is wrong with the entry at a path.
 pub data FolderFindingData : Type 0 where
   NoFolder : PackageData → FolderFindingData
   OtherArchive : PackageData → Folder → FolderFindingData
@@ -51,6 +57,8 @@ pub data FolderFindingData : Type 0 where
   OtherFile : PackageData → Folder → List ℕ → List ℕ → List ℕ → FolderFindingData
   Unlisted : PackageData → Folder → List ℕ → FolderFindingData
   Link : PackageData → Folder → List ℕ → FolderFindingData
+  NoChecksum : PackageData → FolderFindingData
+  OfEntry : List ℕ → Flaw → FolderFindingData
 
 -- the data of a finding of the program
 abbrev pub folder_finding_of : FolderFinding → FolderFindingData
@@ -61,6 +69,8 @@ folder_finding_of (finding.OtherFile p f file) = OtherFile p.now f.now (string_b
     (digest_of file.digest.now) (digest_of file.listed.now)
 folder_finding_of (finding.Unlisted p f path) = Unlisted p.now f.now (string_bytes path.now)
 folder_finding_of (finding.Link p f path) = Link p.now f.now (string_bytes path.now)
+folder_finding_of (finding.NoChecksum p) = NoChecksum p.now
+folder_finding_of (finding.OfEntry e f) = OfEntry (string_bytes e.now.path) f
 
 -- the list of the folder has the digest of the archive that the lockfile has, if both have one
 abbrev pub is_same_archive : PackageData → Folder → Bool
@@ -109,10 +119,18 @@ abbrev pub folders_found : PackageData → List Folder → List FolderFindingDat
 folders_found p [] = NoFolder p ∷ []
 folders_found p (f ∷ rest) = each_found p (f ∷ rest)
 
+-- the package is of a registry, and the lockfile has no checksum of it
+abbrev pub is_unchecked : PackageData → Bool
+is_unchecked p = is_of_registry p.source && is_none p.checksum
+
+-- what is found of the checksum of a package
+abbrev pub checksum_found : PackageData → List FolderFindingData
+checksum_found p = if is_unchecked p then NoChecksum p ∷ [] else []
+
 -- what is found of the folders of a package, which has this source
 abbrev pub found_by_source : VendoredData → Option Source → List FolderFindingData
 found_by_source v None = []
-found_by_source v (Some s) = folders_found v.content v.folders
+found_by_source v (Some s) = checksum_found v.content ++ folders_found v.content v.folders
 
 -- what is found of the folders of a package
 abbrev pub vendored_found : VendoredData → List FolderFindingData
@@ -121,6 +139,31 @@ vendored_found v = found_by_source v v.content.source
 -- what is found of packages, in their order
 abbrev pub folder_findings : List VendoredData → List FolderFindingData
 folder_findings = flat_map vendored_found
+
+-- ---- classes
+
+-- nothing is found of the folders of a package
+abbrev pub is_as_listed : VendoredData → Bool
+is_as_listed v = length (folders_found v.content v.folders) == 0
+
+-- the class of a package with a source
+abbrev pub class_of_sourced : VendoredData → Class
+class_of_sourced v = if is_unchecked v.content then class.NoChecksum
+    else (if length v.folders == 0 then class.Missing
+    else (if is_as_listed v then class.Matches else class.Changed))
+
+-- the class of a package that has this source
+abbrev pub class_by_source : VendoredData → Option Source → Class
+class_by_source v None = class.NotCompared
+class_by_source v (Some s) = class_of_sourced v
+
+-- the class of a package
+abbrev pub folder_class : VendoredData → Class
+folder_class v = class_by_source v v.content.source
+
+-- how many packages are in each class
+abbrev pub folder_counts : List VendoredData → Counts
+folder_counts all = counts_of (map folder_class all)
 
 -- ---- as the program has them
 
@@ -146,11 +189,16 @@ pub record IsVendored (v : VendoredData) : Type 0 where
   pub some : v.folders ≢ []
   pub each : (f : Folder) → Contains v.folders f → IsAsListed v.content f
 
--- nothing is found exactly if each package with a source has a folder, and each of its folders is
--- as its list says
+-- the package is of a registry, and the lockfile has no checksum of it
+abbrev pub IsOfRegistryWithout : PackageData → Type 0
+IsOfRegistryWithout p = is_unchecked p ≡ true
+
+-- nothing is found exactly if each package with a source has a folder, each of its folders is as its
+-- list says, and, if it is of a registry, the lockfile has its checksum
 abbrev pub NoneIfVendored : Type 0
 NoneIfVendored = (all : List VendoredData) → (folder_findings all ≡ [])
-    ↔ ((v : VendoredData) → Contains all v → v.content.source ≢ None → IsVendored v)
+    ↔ ((v : VendoredData) → Contains all v → v.content.source ≢ None
+    → IsVendored v × (¬ IsOfRegistryWithout v.content))
 
 -- this is found of the folder of a package
 abbrev pub IsFoundIn : PackageData → Folder → FolderFindingData → Type 0
@@ -164,10 +212,14 @@ IsFoundIn p f (OtherFile q g path digest listed) = (q ≡ p) × (g ≡ f)
 IsFoundIn p f (Unlisted q g path) = (q ≡ p) × (g ≡ f) × ((l : ListedData)
     × Contains (files_of f.files) l × (l.path ≡ path) × (digest_at f.listed path ≡ None))
 IsFoundIn p f (Link q g path) = (q ≡ p) × (g ≡ f) × Contains (map string_bytes f.links.items) path
+IsFoundIn p f (NoChecksum q) = ⊥
+IsFoundIn p f (OfEntry path flaw) = ⊥
 
--- this is found of the folders of a package with a source: it has none, or it is found of one
+-- this is found of a package with a source: it has no folder; it has no checksum, though it is of a
+-- registry; or it is found of one of its folders
 abbrev pub IsFolderFindingOf : VendoredData → FolderFindingData → Type 0
 IsFolderFindingOf v (NoFolder q) = (q ≡ v.content) × (v.folders ≡ [])
+IsFolderFindingOf v (NoChecksum q) = (q ≡ v.content) × IsOfRegistryWithout v.content
 IsFolderFindingOf v other = (f : Folder) × Contains v.folders f × IsFoundIn v.content f other
 
 -- what is found is exactly that, of each package with a source
@@ -175,3 +227,20 @@ abbrev pub FolderFindingsAreExact : Type 0
 FolderFindingsAreExact = (all : List VendoredData) (x : FolderFindingData)
     → Contains (folder_findings all) x
     ↔ ((v : VendoredData) × Contains all v × (v.content.source ≢ None) × IsFolderFindingOf v x)
+
+-- the package has a source, and the lockfile has its checksum if it is of a registry
+abbrev pub IsCompared : PackageData → Type 0
+IsCompared p = (p.source ≢ None) × (¬ IsOfRegistryWithout p)
+
+-- what each class of a package means
+abbrev pub IsOfFolderClass : VendoredData → Class → Type 0
+IsOfFolderClass v class.Matches = IsCompared v.content × IsVendored v
+IsOfFolderClass v class.Changed = IsCompared v.content × (v.folders ≢ []) × (¬ IsVendored v)
+IsOfFolderClass v class.Missing = IsCompared v.content × (v.folders ≡ [])
+IsOfFolderClass v class.NoChecksum = IsOfRegistryWithout v.content
+IsOfFolderClass v class.NotCompared = v.content.source ≡ None
+
+-- each package is in exactly the class whose meaning it has
+abbrev pub FolderClassesAreExact : Type 0
+FolderClassesAreExact = (v : VendoredData) (c : Class)
+    → (folder_class v ≡ c) ↔ IsOfFolderClass v c

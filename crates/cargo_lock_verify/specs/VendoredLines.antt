@@ -8,9 +8,12 @@ use Rattle.cargo_lock_parts.specs.Ascii.{newline}
 use Rattle.cargo_lock_parts.specs.Checksum.{digest_of, digest_text}
 use Rattle.cargo_lock_parts.specs.Identity.{PackageData}
 use Rattle.cargo_lock_display.specs.Line.{checksum_text, package_text}
+use Rattle.cargo_lock_verify.specs.declared.entry.Flaw.{Flaw}
+use Rattle.cargo_lock_verify.specs.declared.entry.Flaw.TheVariants as flaw
 use Rattle.cargo_lock_verify.specs.declared.folder.Folder.{Folder}
-use Rattle.cargo_lock_verify.specs.Vendored.{FolderFindingData, Absent, Link, NoFolder}
-use Rattle.cargo_lock_verify.specs.Vendored.{OtherArchive, OtherFile, Unlisted}
+use Rattle.cargo_lock_verify.specs.Lines.{unchecked_line}
+use Rattle.cargo_lock_verify.specs.Vendored.{FolderFindingData, Absent, Link, NoChecksum, NoFolder}
+use Rattle.cargo_lock_verify.specs.Vendored.{OfEntry, OtherArchive, OtherFile, Unlisted}
 
 -- a package, and the path of a file in its folder
 abbrev pub file_text : PackageData → Folder → List ℕ → List ℕ
@@ -29,6 +32,15 @@ abbrev pub other_file_line : PackageData → Folder → List ℕ → List ℕ �
 other_file_line p f path digest listed = codes "! " ++ (file_text p f path ++ (codes " is "
     ++ (shown Plain (digest_text digest) ++ (codes ", not " ++ shown Plain (digest_text listed)))))
 
+-- the line of an entry
+abbrev pub entry_line : List ℕ → Flaw → List ℕ
+entry_line path flaw.Link = codes "! `" ++ (shown Quoted path ++ codes "`: a link")
+entry_line path flaw.LinkedManifest =
+    codes "! `" ++ (shown Quoted path ++ codes "`: its manifest is a link")
+entry_line path flaw.Nameless =
+    codes "! `" ++ (shown Quoted path ++ codes "`: no name and version")
+entry_line path flaw.OfNoPackage = codes "+ `" ++ (shown Quoted path ++ codes "`: of no package")
+
 -- the line of a finding
 abbrev pub folder_finding_line : FolderFindingData → List ℕ
 folder_finding_line (NoFolder p) = codes "- " ++ (package_text p ++ codes ": no folder")
@@ -38,6 +50,8 @@ folder_finding_line (OtherFile p f path digest listed) = other_file_line p f pat
 folder_finding_line (Unlisted p f path) =
     codes "+ " ++ (file_text p f path ++ codes " is not in the list")
 folder_finding_line (Link p f path) = codes "! " ++ (file_text p f path ++ codes " is a link")
+folder_finding_line (NoChecksum p) = unchecked_line p
+folder_finding_line (OfEntry path f) = entry_line path f
 
 -- the line of each finding, with its newline
 abbrev pub folder_findings_text : List FolderFindingData → List ℕ

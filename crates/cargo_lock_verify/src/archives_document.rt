@@ -15,16 +15,16 @@ ghost use Rattle.cargo_lock_verify.specs.ArchivesDocument.{archive_finding_path}
 ghost use Rattle.cargo_lock_verify.specs.ArchivesDocument as spec;
 ghost use Rattle.printing.specs.Json.{Adds, IsJsonText, items_of};
 
-use crate::document::verified_document;
+use crate::document::{Compared, compared_document};
 use crate::finding::Finding;
 use crate::report::Report;
-use cargo_lock_display::{File, put_digest_or_null, put_package};
+use cargo_lock_display::{File, put_digest_or_null, put_package_or_null};
 use cargo_lock_parts::package::{Checksum, Package};
 use printing::{JsonWriter, ToJson, write_text_or_null};
 use std::alloc::{AllocError, Global};
 
 /// The document of what is found of archives, in one line:
-/// `{"schema":"cargo-lock-verify/1","path":"Cargo.lock","format":4,"verified":2,"findings":[..]}`.
+/// `{"schema":"cargo-lock-verify/2","path":"Cargo.lock","format":4,"matches":2,"changed":0,..}`.
 /// Fails when out of memory.
 ///
 /// ```
@@ -36,10 +36,16 @@ pub fn archives_json(
     report: &Report<'_, '_>,
 ) -> Result<String, AllocError>
     ensures { IfOk result (λ text. IsJsonText
-        (spec.archives_json file.now report.now.verified
+        (spec.archives_json file.now report.now.counts
         (map archive_finding_of report.now.findings.items)) (string_bytes text)) }
 {
-    verified_document(alloc, file, report.verified, &report.findings)
+    compared_document(
+        alloc,
+        file,
+        Compared::Archives,
+        report.counts,
+        &report.findings,
+    )
 }
 
 impl ToJson for Finding<'_, '_> {
@@ -52,8 +58,7 @@ impl ToJson for Finding<'_, '_> {
         out.begin_object()?;
         out.string_member("kind", kind(self))?;
         out.displayed_member("message", self)?;
-        out.key("package")?;
-        put_package(out, package(self))?;
+        put_package_or_null(out, "package", Some(package(self)))?;
         write_text_or_null(out, "path", path(self))?;
         put_digest_or_null(out, "digest", &digest(self))?;
         put_digest_or_null(out, "expected", &expected(self))?;
@@ -68,15 +73,17 @@ fn kind(finding: &Finding<'_, '_>) -> &'static str
     match finding {
         Finding::Changed(_, _) => "changed",
         Finding::Missing(_) => "missing",
+        Finding::NoChecksum(_) => "no-checksum",
     }
 }
 
-// The package that is not verified.
+// The package of the finding.
 fn package<'p>(finding: &Finding<'p, '_>) -> &'p Package
     ensures { result.now ≡ archive_finding_package (archive_finding_of finding.now) }
 {
     match *finding {
-        Finding::Changed(package, _) | Finding::Missing(package) => package,
+        Finding::Changed(package, _) | Finding::Missing(package) | Finding::NoChecksum(package) =>
+            package,
     }
 }
 
@@ -87,7 +94,7 @@ fn path<'a>(finding: &Finding<'_, 'a>) -> Option<&'a str>
 {
     match *finding {
         Finding::Changed(_, archive) => Some(archive.path.as_str()),
-        Finding::Missing(_) => None,
+        Finding::Missing(_) | Finding::NoChecksum(_) => None,
     }
 }
 
@@ -98,7 +105,7 @@ fn digest(finding: &Finding<'_, '_>) -> Option<Checksum>
 {
     match *finding {
         Finding::Changed(_, archive) => Some(archive.digest),
-        Finding::Missing(_) => None,
+        Finding::Missing(_) | Finding::NoChecksum(_) => None,
     }
 }
 
@@ -109,5 +116,6 @@ fn expected(finding: &Finding<'_, '_>) -> Option<Checksum>
 {
     match *finding {
         Finding::Changed(package, _) | Finding::Missing(package) => package.checksum,
+        Finding::NoChecksum(_) => None,
     }
 }

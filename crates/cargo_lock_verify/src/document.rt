@@ -1,29 +1,65 @@
 //! What the documents of `verify` have in common.
 
-ghost use Rattle.std.specs.Prelude.{◌≤◌, IfOk, map, string_bytes};
+ghost use Rattle.std.specs.Prelude.{◌≡◌, ◌≤◌, IfOk, map, string_bytes};
 ghost use Rattle.json.specs.Tree.{depth};
 ghost use Rattle.printing.specs.Json.{IsJsonText};
-ghost use Rattle.cargo_lock_verify.specs.Document.{verified_json};
+ghost use Rattle.cargo_lock_verify.specs.Document.{compared_json};
+ghost use Rattle.cargo_lock_verify.specs.Document.{missing_key, not_compared_key};
 
+use crate::class::Counts;
 use cargo_lock_display::{File, begin_document};
 use printing::{JsonWriter, ToJson, json_line, write_array};
 use std::alloc::{AllocError, Global};
 
-// The document of what is found of the packages of a lockfile, of which some are verified, in one
+// What packages are compared with.
+#[derive(Debug, Clone, Copy, PartialEq, Eq)]
+pub(crate) enum Compared {
+    // Archives.
+    Archives,
+
+    // Folders.
+    Folders,
+}
+
+impl Compared {
+    // The key of the number of the packages that have no archive, or no folder.
+    fn missing_key(self) -> &'static str
+        ensures { result.now ≡ missing_key self }
+    {
+        match self {
+            Compared::Archives => "without_archive",
+            Compared::Folders => "without_folder",
+        }
+    }
+
+    // The key of the number of the packages of which there is nothing to compare.
+    fn not_compared_key(self) -> &'static str
+        ensures { result.now ≡ not_compared_key self }
+    {
+        match self {
+            Compared::Archives => "without_registry",
+            Compared::Folders => "without_source",
+        }
+    }
+}
+
+// The document of what is found of the packages of a lockfile, with how many are in each class, in one
 // line. A reader of JSON follows 127 levels, of which the document has two. Fails when out of memory.
-pub(crate) fn verified_document<T: ToJson>(
+pub(crate) fn compared_document<T: ToJson>(
     alloc: Global,
     file: &File<'_>,
-    verified: usize,
+    compared: Compared,
+    counts: Counts,
     findings: &[T],
 ) -> Result<String, AllocError>
     requires { (finding : T) → depth (T.json finding) ≤ 125 }
     ensures { IfOk result (λ text. IsJsonText
-        (verified_json file.now verified (map T.json findings.now)) (string_bytes text)) }
+        (compared_json compared file.now counts (map T.json findings.now)) (string_bytes text)) }
 {
-    let document = Verified {
+    let document = Comparison {
         file,
-        verified,
+        compared,
+        counts,
         findings,
     };
     json_line(alloc, &document)
@@ -31,21 +67,27 @@ pub(crate) fn verified_document<T: ToJson>(
 
 // What the document has.
 #[derive(Clone, Copy)]
-struct Verified<'d, T> {
+struct Comparison<'d, T> {
     file: &'d File<'d>,
-    verified: usize,
+    compared: Compared,
+    counts: Counts,
     findings: &'d [T],
 }
 
-impl<T: ToJson> ToJson for Verified<'_, T> {
+impl<T: ToJson> ToJson for Comparison<'_, T> {
     ghost use Rattle.std.specs.Prelude.{map};
-    ghost use Rattle.cargo_lock_verify.specs.Document.{verified_json};
+    ghost use Rattle.cargo_lock_verify.specs.Document.{compared_json};
 
-    ghost json = { λ d. verified_json d.file.now d.verified (map T.json d.findings.now) };
+    ghost json = { λ d. compared_json d.compared d.file.now d.counts (map T.json d.findings.now) };
 
     fn write_json(&self, out: &mut JsonWriter) -> Result<(), AllocError> {
-        begin_document(out, "cargo-lock-verify/1", self.file)?;
-        out.number_member("verified", self.verified as u64)?;
+        begin_document(out, "cargo-lock-verify/2", self.file)?;
+        out.number_member("matches", self.counts.matches as u64)?;
+        out.number_member("changed", self.counts.changed as u64)?;
+        out.number_member(self.compared.missing_key(), self.counts.missing as u64)?;
+        out.number_member("without_checksum", self.counts.without_checksum as u64)?;
+        let not_compared = self.compared.not_compared_key();
+        out.number_member(not_compared, self.counts.not_compared as u64)?;
         out.key("findings")?;
         write_array(out, self.findings)?;
         out.end_object()

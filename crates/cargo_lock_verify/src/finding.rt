@@ -26,6 +26,10 @@ pub enum Finding<'p, 'a> {
 
     /// The package has no archive: `- NAME VERSION SRC: no archive`.
     Missing(&'p Package),
+
+    /// The package is of a registry, and the lockfile has no checksum of it:
+    /// `! NAME VERSION SRC: no checksum in the lockfile`.
+    NoChecksum(&'p Package),
 }
 
 impl fmt::Display for Finding<'_, '_> {
@@ -47,6 +51,10 @@ impl fmt::Display for Finding<'_, '_> {
             Finding::Missing(package) => {
                 let package = PackageText(package);
                 write!(f, "- {package}: no archive")
+            }
+            Finding::NoChecksum(package) => {
+                let package = PackageText(package);
+                write!(f, "! {package}: no checksum in the lockfile")
             }
         }
     }

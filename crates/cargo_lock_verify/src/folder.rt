@@ -3,8 +3,10 @@
 ghost use Rattle.std.specs.Prelude.{Some, string_bytes};
 ghost use Rattle.std.specs.Fmt.{DisplaysOnOk};
 ghost use Rattle.cargo_lock_parts.specs.Checksum.{digest_of};
-ghost use Rattle.cargo_lock_verify.specs.VendoredLines.{other_archive_line, other_file_line};
+ghost use Rattle.cargo_lock_verify.specs.VendoredLines.{entry_line, other_archive_line};
+ghost use Rattle.cargo_lock_verify.specs.VendoredLines.{other_file_line};
 
+use crate::entry::{Entry, Flaw};
 use cargo_lock_display::{ChecksumText, PackageText};
 use cargo_lock_parts::package::{Checksum, Package};
 use printing::{Quoted, Shown};
@@ -40,7 +42,7 @@ pub struct Vendored<'a> {
     pub folders: Vec<Folder>,
 }
 
-/// What is wrong with a folder of a package.
+/// What is wrong with a package and its folders, or with an entry of the folder that they are in.
 #[derive(Drop)]
 pub enum FolderFinding<'p, 'a> {
     /// The package has a source and no folder: `- NAME VERSION SRC: no folder`.
@@ -62,6 +64,15 @@ pub enum FolderFinding<'p, 'a> {
 
     /// A link is there: ``! NAME VERSION SRC: `FOLDER/FILE` is a link``.
     Link(&'p Package, &'a Folder, &'a String),
+
+    /// The package is of a registry, and the lockfile has no checksum of it:
+    /// `! NAME VERSION SRC: no checksum in the lockfile`.
+    NoChecksum(&'p Package),
+
+    /// Something is wrong with an entry of the folder of all folders: ``! `ENTRY`: a link``,
+    /// ``! `ENTRY`: its manifest is a link``, ``! `ENTRY`: no name and version``, or
+    /// ``+ `ENTRY`: of no package``.
+    OfEntry(&'a Entry, Flaw),
 }
 
 /// A file of a list, with its SHA-256, and that of the list.
@@ -106,7 +117,25 @@ impl fmt::Display for FolderFinding<'_, '_> {
                 let file = FileText(package, folder, path);
                 write!(f, "! {file} is a link")
             }
+            FolderFinding::NoChecksum(package) => {
+                let package = PackageText(package);
+                write!(f, "! {package}: no checksum in the lockfile")
+            }
+            FolderFinding::OfEntry(entry, flaw) => write_entry(entry, flaw, f),
         }
+    }
+}
+
+fn write_entry<W: fmt::Write>(entry: &Entry, flaw: Flaw, f: &mut fmt::Formatter<W>) -> fmt::Result
+    ensures { DisplaysOnOk W.write_str_gives f.old result
+        (Some (entry_line (string_bytes entry.now.path) flaw)) f.new }
+{
+    let path = Quoted(&entry.path);
+    match flaw {
+        Flaw::Link => write!(f, "! `{path}`: a link"),
+        Flaw::LinkedManifest => write!(f, "! `{path}`: its manifest is a link"),
+        Flaw::Nameless => write!(f, "! `{path}`: no name and version"),
+        Flaw::OfNoPackage => write!(f, "+ `{path}`: of no package"),
     }
 }
 

@@ -16,10 +16,11 @@ ghost use Rattle.cargo_lock_verify.specs.FoldersDocument as spec;
 ghost use Rattle.printing.specs.Value.{text_or_null};
 ghost use Rattle.printing.specs.Json.{Adds, IsJsonText, items_of};
 
-use crate::document::verified_document;
+use crate::document::{Compared, compared_document};
+use crate::entry::Flaw;
 use crate::folder::{Folder, FolderFinding};
 use crate::vendor_report::VendorReport;
-use cargo_lock_display::{File, put_digest_or_null, put_package};
+use cargo_lock_display::{File, put_digest_or_null, put_package_or_null};
 use cargo_lock_parts::package::{Checksum, Package};
 use printing::{JsonWriter, ToJson};
 use std::alloc::{AllocError, Global};
@@ -37,10 +38,16 @@ pub fn folders_json(
     report: &VendorReport<'_, '_>,
 ) -> Result<String, AllocError>
     ensures { IfOk result (λ text. IsJsonText
-        (spec.folders_json file.now report.now.verified
+        (spec.folders_json file.now report.now.counts
         (map folder_finding_of report.now.findings.items)) (string_bytes text)) }
 {
-    verified_document(alloc, file, report.verified, &report.findings)
+    compared_document(
+        alloc,
+        file,
+        Compared::Folders,
+        report.counts,
+        &report.findings,
+    )
 }
 
 impl ToJson for FolderFinding<'_, '_> {
@@ -53,8 +60,7 @@ impl ToJson for FolderFinding<'_, '_> {
         out.begin_object()?;
         out.string_member("kind", kind(self))?;
         out.displayed_member("message", self)?;
-        out.key("package")?;
-        put_package(out, package(self))?;
+        put_package_or_null(out, "package", package(self))?;
         put_path(out, self)?;
         put_digest_or_null(out, "digest", &digest(self))?;
         put_digest_or_null(out, "expected", &expected(self))?;
@@ -73,12 +79,27 @@ fn kind(finding: &FolderFinding<'_, '_>) -> &'static str
         FolderFinding::OtherFile(_, _, _) => "changed-file",
         FolderFinding::Unlisted(_, _, _) => "unlisted-file",
         FolderFinding::Link(_, _, _) => "link",
+        FolderFinding::NoChecksum(_) => "no-checksum",
+        FolderFinding::OfEntry(_, flaw) => flaw_kind(*flaw),
     }
 }
 
-// The package that is not verified.
-fn package<'p>(finding: &FolderFinding<'p, '_>) -> &'p Package
-    ensures { result.now ≡ folder_finding_package (folder_finding_of finding.now) }
+// The kind of the finding of an entry.
+fn flaw_kind(flaw: Flaw) -> &'static str
+    ensures { result.now ≡ spec.flaw_kind flaw }
+{
+    match flaw {
+        Flaw::Link => "linked-entry",
+        Flaw::LinkedManifest => "linked-manifest",
+        Flaw::Nameless => "nameless-entry",
+        Flaw::OfNoPackage => "other-package",
+    }
+}
+
+// The package of the finding, which an entry has not.
+fn package<'p>(finding: &FolderFinding<'p, '_>) -> Option<&'p Package>
+    ensures { option_map (λ p. p.now) result
+        ≡ folder_finding_package (folder_finding_of finding.now) }
 {
     match *finding {
         FolderFinding::NoFolder(package)
@@ -86,17 +107,20 @@ fn package<'p>(finding: &FolderFinding<'p, '_>) -> &'p Package
         | FolderFinding::Absent(package, _, _)
         | FolderFinding::OtherFile(package, _, _)
         | FolderFinding::Unlisted(package, _, _)
-        | FolderFinding::Link(package, _, _) => package,
+        | FolderFinding::Link(package, _, _)
+        | FolderFinding::NoChecksum(package) => Some(package),
+        FolderFinding::OfEntry(_, _) => None,
     }
 }
 
-// Writes the member with the path of the folder, or of the file or the link in it.
+// Writes the member with the path of the folder, of the file or the link in it, or of the entry.
 fn put_path(out: &mut JsonWriter, finding: &FolderFinding<'_, '_>) -> Result<(), AllocError>
     ensures { Adds result out.old out.new (key (codes "path")
         ∷ json_tokens (text_or_null (folder_finding_path (folder_finding_of finding.now)))) }
 {
     match *finding {
-        FolderFinding::NoFolder(_) => out.null_member("path"),
+        FolderFinding::NoFolder(_) | FolderFinding::NoChecksum(_) => out.null_member("path"),
+        FolderFinding::OfEntry(entry, _) => out.string_member("path", entry.path.as_str()),
         FolderFinding::OtherArchive(_, folder) => out.string_member("path", folder.path.as_str()),
         FolderFinding::OtherFile(_, folder, file) => put_file_path(out, folder, file.path),
         FolderFinding::Absent(_, folder, path)

@@ -2,7 +2,9 @@
 #![tactic(auto)]
 
 pub mod archives_document;
+pub mod class;
 mod document;
+pub mod entry;
 pub mod finding;
 pub mod folder;
 pub mod folders_document;
@@ -10,10 +12,13 @@ pub mod hashing;
 pub mod laws;
 pub mod report;
 pub mod subject;
+mod summary;
 pub mod vendor_report;
 pub mod vendored;
 
 pub use crate::archives_document::archives_json;
+pub use crate::class::{Class, Counts};
+pub use crate::entry::{Content, Entry, Flaw, Others, entry_findings};
 pub use crate::finding::{Archive, Finding};
 pub use crate::folder::{FileDigests, Folder, FolderFinding, Vendored};
 pub use crate::folders_document::folders_json;

@@ -1,91 +1,96 @@
 //! What a comparison of archives with a lockfile reports.
 
-ghost use Rattle.std.specs.Prelude.{◌≡◌, IfOk, count_by, filter, map};
+ghost use Rattle.std.specs.Prelude.{◌≡◌, IfOk, filter, map};
+ghost use Rattle.cargo_lock_verify.specs.Archives.{archive_class, archive_counts};
 ghost use Rattle.cargo_lock_verify.specs.Archives.{archive_finding_of, archive_findings};
 ghost use Rattle.cargo_lock_verify.specs.Archives.{archive_subject_of};
-ghost use Rattle.cargo_lock_verify.specs.Report.{is_changed, is_verified_by_archive, reported};
+ghost use Rattle.cargo_lock_verify.specs.Report.{is_of_archive, reported};
 
+use crate::class::{Class, Counts};
 use crate::finding::Finding;
-use crate::subject::{Subject, findings, has_checksum};
+use crate::subject::{Subject, class_of, findings};
+use crate::summary::ArchiveSummary;
 use std::alloc::{AllocError, Global};
 use std::fmt;
 
 /// What a comparison of archives with a lockfile reports. `Display` writes a line for each finding,
-/// and at last `N verified`, each with its newline.
+/// and at last how many packages are in each class, as `39 archives match; 2 do not; 1 package has no
+/// archive; 2 packages of a registry have no checksum; 3 packages have no registry`, where numbers of
+/// zero but the first are left out. Each line has its newline.
 #[derive(Drop)]
 pub struct Report<'p, 'a> {
     /// The findings.
     pub findings: Vec<Finding<'p, 'a>>,
 
-    /// How many packages have an archive with their checksum.
-    pub verified: usize,
+    /// How many packages are in each class.
+    pub counts: Counts,
 }
 
 impl<'p, 'a> Report<'p, 'a> {
-    /// What is reported of these subjects: all findings, or those of changed archives alone. Fails
-    /// when out of memory.
+    /// What is reported of these subjects: all findings, or only those of archives, without packages
+    /// of a registry that have no checksum. Fails when out of memory.
     pub fn of(
         alloc: Global,
         subjects: &'a [Subject<'p>],
-        with_missing: bool,
+        all: bool,
     ) -> Result<Report<'p, 'a>, AllocError>
         ensures findings { IfOk result (λ report. map archive_finding_of report.findings.items
-            ≡ reported with_missing (archive_findings (map archive_subject_of subjects.now))) }
-        ensures verified { IfOk result (λ report. report.verified
-            ≡ count_by is_verified_by_archive (map archive_subject_of subjects.now)) }
+            ≡ reported all (archive_findings (map archive_subject_of subjects.now))) }
+        ensures counts { IfOk result (λ report. report.counts
+            ≡ archive_counts (map archive_subject_of subjects.now)) }
     {
-        let verified = count_verified(subjects);
-        let findings = if with_missing {
+        let counts = counts_of(alloc, subjects)?;
+        let findings = if all {
             findings(alloc, subjects)?
         } else {
-            changed_alone(alloc, subjects)?
+            archives_alone(alloc, subjects)?
         };
-        Ok(Report { findings, verified })
+        Ok(Report { findings, counts })
     }
 }
 
-// The findings of changed archives.
-fn changed_alone<'p, 'a>(
+// The findings of archives.
+fn archives_alone<'p, 'a>(
     alloc: Global,
     subjects: &'a [Subject<'p>],
 ) -> Result<Vec<Finding<'p, 'a>>, AllocError>
     ensures { IfOk result (λ found. map archive_finding_of found.items
-        ≡ filter is_changed (archive_findings (map archive_subject_of subjects.now))) }
+        ≡ filter is_of_archive (archive_findings (map archive_subject_of subjects.now))) }
 {
     let mut found = findings(alloc, subjects)?;
-    found.retain(is_of_changed);
+    found.retain(is_of_an_archive);
     Ok(found)
 }
 
-// Whether an archive is changed.
-fn is_of_changed(finding: &Finding<'_, '_>) -> bool
-    ensures { result ≡ is_changed (archive_finding_of finding.now) }
+// Whether the finding is of an archive: one is changed, or there is none.
+fn is_of_an_archive(finding: &Finding<'_, '_>) -> bool
+    ensures { result ≡ is_of_archive (archive_finding_of finding.now) }
 {
-    matches!(finding, Finding::Changed(_, _))
+    match finding {
+        Finding::Changed(_, _) | Finding::Missing(_) => true,
+        Finding::NoChecksum(_) => false,
+    }
 }
 
-// How many packages have an archive with their checksum.
-fn count_verified(subjects: &[Subject<'_>]) -> usize
-    ensures { result ≡ count_by is_verified_by_archive (map archive_subject_of subjects.now) }
+// How many subjects are in each class.
+fn counts_of(alloc: Global, subjects: &[Subject<'_>]) -> Result<Counts, AllocError>
+    ensures { IfOk result
+        (λ counts. counts ≡ archive_counts (map archive_subject_of subjects.now)) }
 {
-    let mut number = 0;
+    let classes = classes_of(alloc, subjects)?;
+    Ok(Counts::of(&classes))
+}
+
+// The class of each subject.
+fn classes_of(alloc: Global, subjects: &[Subject<'_>]) -> Result<Vec<Class>, AllocError>
+    ensures { IfOk result (λ classes. classes.items
+        ≡ map archive_class (map archive_subject_of subjects.now)) }
+{
+    let mut classes = Vec::with_capacity(alloc, subjects.len())?;
     for subject in subjects {
-        if is_of_verified(subject) {
-            number += 1;
-        }
+        classes.push(class_of(subject))?;
     }
-    number
-}
-
-// Whether an archive of the package has its checksum.
-fn is_of_verified(subject: &Subject<'_>) -> bool
-    ensures { result ≡ is_verified_by_archive (archive_subject_of subject.now) }
-{
-    let package = subject.package;
-    match &package.checksum {
-        Some(checksum) => has_checksum(&subject.archives, checksum),
-        None => false,
-    }
+    Ok(classes)
 }
 
 impl fmt::Display for Report<'_, '_> {
@@ -94,13 +99,13 @@ impl fmt::Display for Report<'_, '_> {
     ghost use Rattle.cargo_lock_verify.specs.Report.{archive_report_text};
 
     ghost output = { λ report.
-        Some (archive_report_text (map archive_finding_of report.findings.items) report.verified) };
+        Some (archive_report_text (map archive_finding_of report.findings.items) report.counts) };
 
     fn fmt<W: fmt::Write>(&self, f: &mut fmt::Formatter<W>) -> fmt::Result {
         for finding in &self.findings {
             write!(f, "{finding}\n")?;
         }
-        let verified = self.verified;
-        write!(f, "{verified} verified\n")
+        let summary = ArchiveSummary(self.counts);
+        write!(f, "{summary}\n")
     }
 }

@@ -3,20 +3,23 @@
 ghost use Rattle.std.specs.Prelude.{◌≡◌, ◌++◌, IfOk, OnOk, map, option_map};
 ghost use Rattle.std.specs.Bool.{Decides};
 ghost use Rattle.cargo_lock_parts.specs.Checksum.{digest_of};
-ghost use Rattle.cargo_lock_verify.specs.Vendored.{archive_found, each_found, file_found};
+ghost use Rattle.cargo_lock_verify.specs.Vendored.{archive_found, checksum_found, each_found};
+ghost use Rattle.cargo_lock_verify.specs.Vendored.{file_found, is_unchecked};
 ghost use Rattle.cargo_lock_verify.specs.Vendored.{files_found, folder_finding_of, folder_findings};
 ghost use Rattle.cargo_lock_verify.specs.Vendored.{folder_found, folders_found, is_same_archive};
 ghost use Rattle.cargo_lock_verify.specs.Vendored.{links_found, listed_found, listed_of, of_file};
 ghost use Rattle.cargo_lock_verify.specs.Vendored.{of_listed, vendored_found, vendored_of};
 
+use crate::class::is_of_registry;
 use crate::folder::{FileDigests, Folder, FolderFinding, Vendored};
 use cargo_lock_parts::package::{Checksum, Package};
 use std::alloc::{AllocError, Global};
 
 /// What is wrong with the folders of packages, in the order of the packages and of their folders: a
-/// package with a source that has no folder; a folder whose list has another SHA-256 of the archive
-/// than the lockfile; a file of a list that is missing or has another SHA-256; a file that is in no
-/// list; and a link. Packages without a source have no folder. Fails when out of memory.
+/// package of a registry without a checksum; a package with a source that has no folder; a folder
+/// whose list has another SHA-256 of the archive than the lockfile; a file of a list that is missing
+/// or has another SHA-256; a file that is in no list; and a link. Packages without a source have no
+/// folder. Fails when out of memory.
 ///
 /// That a folder is as its list says does not show that its files are those of the archive.
 ///
@@ -37,8 +40,8 @@ pub fn vendored_findings<'p, 'a>(
     Ok(found)
 }
 
-/// Adds what is wrong with the folders of a package.
-pub(crate) fn put_vendored<'p, 'a>(
+// Adds what is wrong with a package and its folders.
+fn put_vendored<'p, 'a>(
     found: &mut Vec<FolderFinding<'p, 'a>>,
     vendored: &'a Vendored<'p>,
 ) -> Result<(), AllocError>
@@ -47,13 +50,37 @@ pub(crate) fn put_vendored<'p, 'a>(
 {
     let package = vendored.package;
     match &package.source {
-        Some(_) => put_all_folders(found, package, &vendored.folders),
+        Some(_) => {
+            put_checksum(found, package)?;
+            put_all_folders(found, package, &vendored.folders)
+        }
         None => Ok(()),
     }
 }
 
-// Adds what is wrong with the folders of a package with a source.
-fn put_all_folders<'p, 'a>(
+// Adds that a package of a registry has no checksum in the lockfile.
+fn put_checksum<'p, 'a>(
+    found: &mut Vec<FolderFinding<'p, 'a>>,
+    package: &'p Package,
+) -> Result<(), AllocError>
+    ensures { OnOk result (map folder_finding_of found.new.items
+        ≡ map folder_finding_of found.old.items ++ checksum_found «package».now) }
+{
+    if is_without_checksum(package) {
+        found.push(FolderFinding::NoChecksum(package))?;
+    }
+    Ok(())
+}
+
+/// Whether the package is of a registry, and the lockfile has no checksum of it.
+pub(crate) fn is_without_checksum(package: &Package) -> bool
+    ensures { result ≡ is_unchecked «package».now }
+{
+    is_of_registry(&package.source) && package.checksum.is_none()
+}
+
+/// Adds what is wrong with the folders of a package with a source.
+pub(crate) fn put_all_folders<'p, 'a>(
     found: &mut Vec<FolderFinding<'p, 'a>>,
     package: &'p Package,
     folders: &'a [Folder],

@@ -23,9 +23,10 @@ Each finding is a line, in this order:
   reference: PACKAGE depends on DEPENDENCY, which is missing from the lockfile
   twice: PACKAGE is listed more than once
   twice: PACKAGE lists DEPENDENCY more than once
-  name: NAME is not a name that Cargo accepts
+  name: NAME is not a name that Cargo accepts    or crates.io, of a package from there
   alike: PACKAGE and PACKAGE have one name on crates.io
   source: SOURCE is not crates.io                though its URL looks so
+  source: SOURCE is crates.io for Cargo, but not as Cargo writes it
   source: SOURCE has user info
   orphan: PACKAGE: no package of the workspace leads to it
   root: no package is of the workspace           in place of orphans
@@ -34,7 +35,8 @@ Each finding is a line, in this order:
   stale: `KEY` is in the metadata, and is of no package
   order: PACKAGE is listed before PACKAGE
   order: PACKAGE lists DEPENDENCY before DEPENDENCY
-  format: V3 loses the tag, branch or revision of `SOURCE`; V4 keeps it
+  format: V3 loses the tag, branch or revision of `SOURCE`, and Cargo takes whatever it names \
+now; V4 keeps it
   format: V4 does not keep this lockfile
   text: line NUMBER is not as Cargo writes it: `LINE` for `CARGO'S LINE`
 A package of the workspace is one without a source. The status is 1 where anything is found, and 2 where the lockfile cannot be read.";

@@ -4,12 +4,14 @@ ghost use Rattle.clap.specs.Matches.{found_of};
 ghost use Rattle.cargo_lock_merge.specs.MergedLockfiles.{MergesTo};
 ghost use Rattle.cli_input.specs.Load.{IsMeantWithCargoChecksums};
 ghost use Rattle.cli.specs.Ending.{status_in};
-ghost use Rattle.cli.specs.Merge.{AreCompared, PrintsMerge, PrintsMergeOf, triple_of_files};
+ghost use Rattle.cli.specs.Merge.{AreCompared, IsMeantForMerge, PrintsMerge, PrintsMergeOf};
+ghost use Rattle.cli.specs.Merge.{triple_of_files};
 
 use crate::ending::Ended;
 use cargo_lock::{Error, Lockfile};
 use cargo_lock_merge::lockfiles::{LockfileMerge, MergeError, merge_lockfiles};
 use cargo_lock_merge::moved::moved_lines;
+use cargo_lock_merge::with_cargo_spelling;
 use clap::{Arg, ArgAction, ArgMatches, Command};
 use cli_input::load::{compared_lockfile, lockfile_without_packages};
 use cli_support::Fault;
@@ -57,7 +59,7 @@ fn path<'a>(alloc: Global, name: &'a str, shown: &'a str) -> Arg<'a> {
         .action(ArgAction::Set)
 }
 
-/// The lockfiles of a merge, with the checksums that Cargo reads.
+/// The lockfiles of a merge, with the checksums that Cargo reads, and crates.io as Cargo writes it.
 #[derive(Drop)]
 struct Three {
     base: Lockfile,
@@ -95,10 +97,32 @@ fn three_lockfiles<R: Files + Input + AllocGlobal>(
         return Err(Fault::OneInput);
     }
     Ok(Three {
-        base: base_lockfile(rt, options)?,
-        ours: compared_lockfile(rt, options, "ours")?,
-        theirs: compared_lockfile(rt, options, "theirs")?,
+        base: base(rt, options)?,
+        ours: side(rt, options, "ours")?,
+        theirs: side(rt, options, "theirs")?,
     })
+}
+
+/// The base of the merge.
+fn base<R: Files + Input + AllocGlobal>(rt: &R, options: &ArgMatches<'_>) -> Result<Lockfile, Fault>
+    ensures { IfOk result IsMeantForMerge }
+{
+    let lockfile = base_lockfile(rt, options)?;
+    let spelt = with_cargo_spelling(rt.alloc(), lockfile)?;
+    Ok(spelt)
+}
+
+/// The side of the merge whose path the argument `name` has.
+fn side<R: Files + Input + AllocGlobal>(
+    rt: &R,
+    options: &ArgMatches<'_>,
+    name: &str,
+) -> Result<Lockfile, Fault>
+    ensures { IfOk result IsMeantForMerge }
+{
+    let lockfile = compared_lockfile(rt, options, name)?;
+    let spelt = with_cargo_spelling(rt.alloc(), lockfile)?;
+    Ok(spelt)
 }
 
 /// Whether two of the arguments are standard input.

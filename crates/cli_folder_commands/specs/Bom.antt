@@ -28,7 +28,7 @@ pub record IsSaid (found : Found) (time : Option ℕ) (packages : List PackageDa
   pub authors : o.authors ≡ given_texts found (codes "author")
   pub timestamp : o.timestamp ≡ time
   pub serial : IsFlag found (codes "serial") o.has_serial
-  pub licenses : AreLicensesBy (first_value found (codes "licenses")) packages o.licenses
+  pub licenses : AreLicensesBy (first_value found (codes "manifests")) packages o.licenses
 
 -- the line is the bill of some packages, compact exactly if the arguments ask for that
 abbrev pub IsAskedLine : Found → List PackageData → OptionsData → List ℕ → Type 0

@@ -4,5 +4,6 @@ pub mod Bom
 pub mod Folders
 pub mod Json
 pub mod Texts
+pub mod Policy
 pub mod Licenses
 pub mod Verify

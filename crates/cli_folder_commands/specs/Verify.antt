@@ -1,6 +1,6 @@
 -- What `verify` prints, and its status.
-use Rattle.std.specs.Prelude.{◌≡◌, ◌≢◌, ℕ, Bool, List, [], Option, None, Some, codes, count_by}
-use Rattle.std.specs.Prelude.{map}
+use Rattle.std.specs.Prelude.{◌≡◌, ◌≢◌, ℕ, Bool, List, [], Option, None, Some, codes, false}
+use Rattle.std.specs.Prelude.{if◌then◌else◌, map, true}
 use Rattle.clap.specs.Matches.{first_value}
 use Rattle.clap.specs.declared.parser.matches.Found.{Found}
 use Rattle.cargo_lock_encoding.specs.Lockfiles.{LockfileData}
@@ -9,10 +9,15 @@ use Rattle.cargo_lock_display.specs.File.{FileData}
 use Rattle.cargo_lock_verify.specs.FoldersDocument.{folders_json}
 use Rattle.cargo_lock_parts.specs.Identity.{PackageData}
 use Rattle.cargo_lock_verify.specs.Archives.{ArchiveFindingData, ArchiveSubjectData}
-use Rattle.cargo_lock_verify.specs.Archives.{archive_findings}
-use Rattle.cargo_lock_verify.specs.Report.{archive_report_text, is_verified_by_archive, reported}
-use Rattle.cargo_lock_verify.specs.Vendored.{VendoredData, folder_findings}
-use Rattle.cargo_lock_verify.specs.VendorReport.{folder_report_text, is_verified_by_folders}
+use Rattle.cargo_lock_verify.specs.Archives.{archive_counts, archive_findings}
+use Rattle.cargo_lock_verify.specs.Class.{is_clean}
+use Rattle.cargo_lock_verify.specs.declared.class.Counts.{Counts}
+use Rattle.cargo_lock_verify.specs.declared.entry.Others.{Others}
+use Rattle.cargo_lock_verify.specs.declared.entry.Others.TheVariants as others
+use Rattle.cargo_lock_verify.specs.Entries.{EntryData}
+use Rattle.cargo_lock_verify.specs.Report.{archive_report_text, reported}
+use Rattle.cargo_lock_verify.specs.Vendored.{FolderFindingData, VendoredData, folder_counts}
+use Rattle.cargo_lock_verify.specs.VendorReport.{folder_report_text, vendor_findings}
 use Rattle.cli_input.specs.Load.{IsMeantWithCargoChecksums}
 use Rattle.cli_input.specs.Json.{IsFlag, PrintsAnswer, named_file_of}
 
@@ -20,23 +25,24 @@ use Rattle.cli_input.specs.Json.{IsFlag, PrintsAnswer, named_file_of}
 abbrev pub AreSubjectsOf : List PackageData → List ArchiveSubjectData → Type 0
 AreSubjectsOf packages subjects = map (λ s. s.content) subjects ≡ packages
 
--- findings of archives, and how many packages are verified, are printed, with the status of these
--- findings
-pub record PrintsFound (found : Found) (file : FileData) (told : List ArchiveFindingData)
-    (verified : ℕ) (old new : Option (List ℕ)) (failure success : Type 0) : Type 0 where
-  pub printed : PrintsAnswer found (archives_json file verified told)
-      (archive_report_text told verified) old new
-  pub some : told ≢ [] → failure
-  pub none : told ≡ [] → success
+-- findings of archives, and how many packages are in each class, are printed, with the status of
+-- these numbers
+pub record PrintsFound (found : Found) (file : FileData) (all : Bool)
+    (told : List ArchiveFindingData) (counts : Counts) (old new : Option (List ℕ))
+    (failure success : Type 0) : Type 0 where
+  pub printed : PrintsAnswer found (archives_json file counts told)
+      (archive_report_text told counts) old new
+  pub some : is_clean all counts ≡ false → failure
+  pub none : is_clean all counts ≡ true → success
 
--- what is found of these subjects is reported, packages without an archive if the arguments ask for
--- that
+-- what is found of these subjects is reported, packages of a registry without a checksum if the
+-- arguments ask for all
 abbrev pub PrintsReport : Found → FileData → List ArchiveSubjectData → Option (List ℕ)
     → Option (List ℕ) → Type 0 → Type 0 → Type 0
 PrintsReport found file subjects old new failure success = (all : Bool)
     × IsFlag found (codes "all") all
-    × PrintsFound found file (reported all (archive_findings subjects))
-    (count_by is_verified_by_archive subjects) old new failure success
+    × PrintsFound found file all (reported all (archive_findings subjects))
+    (archive_counts subjects) old new failure success
 
 -- the same of these packages, each with some archives
 abbrev pub PrintsArchivesOf : Found → FileData → List PackageData → Option (List ℕ)
@@ -48,23 +54,34 @@ PrintsArchivesOf found file packages old new failure success = (subjects : List 
 abbrev pub AreVendoredOf : List PackageData → List VendoredData → Type 0
 AreVendoredOf packages vendored = map (λ v. v.content) vendored ≡ packages
 
--- what is found of folders, and how many packages are verified, is printed, with the status of what
--- is found
-pub record PrintsVendorReport (found : Found) (file : FileData) (vendored : List VendoredData)
-    (old new : Option (List ℕ)) (failure success : Type 0) : Type 0 where
-  pub printed : PrintsAnswer found
-      (folders_json file (count_by is_verified_by_folders vendored) (folder_findings vendored))
-      (folder_report_text (folder_findings vendored) (count_by is_verified_by_folders vendored))
-      old new
-  pub some : folder_findings vendored ≢ [] → failure
-  pub none : folder_findings vendored ≡ [] → success
+-- findings of folders, and how many packages are in each class, are printed, with the status of
+-- these findings
+pub record PrintsFoundOfFolders (found : Found) (file : FileData) (told : List FolderFindingData)
+    (counts : Counts) (old new : Option (List ℕ)) (failure success : Type 0) : Type 0 where
+  pub printed : PrintsAnswer found (folders_json file counts told)
+      (folder_report_text told counts) old new
+  pub some : told ≢ [] → failure
+  pub none : told ≡ [] → success
 
--- the same of these packages, each with some folders
+-- what is said of folders of other packages, by whether the arguments ask to pass over them
+abbrev pub others_of : Bool → Others
+others_of asked = if asked then others.PassedOver else others.Reported
+
+-- what is found of these packages and of these entries is reported, other packages unless the
+-- arguments ask to pass over them
+abbrev pub PrintsVendorReport : Found → FileData → List VendoredData → List EntryData
+    → Option (List ℕ) → Option (List ℕ) → Type 0 → Type 0 → Type 0
+PrintsVendorReport found file vendored entries old new failure success = (asked : Bool)
+    × IsFlag found (codes "others") asked
+    × PrintsFoundOfFolders found file (vendor_findings (others_of asked) vendored entries)
+    (folder_counts vendored) old new failure success
+
+-- the same of these packages, each with some folders, and of some entries
 abbrev pub PrintsFoldersOf : Found → FileData → List PackageData → Option (List ℕ)
     → Option (List ℕ) → Type 0 → Type 0 → Type 0
 PrintsFoldersOf found file packages old new failure success = (vendored : List VendoredData)
-    × AreVendoredOf packages vendored
-    × PrintsVendorReport found file vendored old new failure success
+    × ((entries : List EntryData) × AreVendoredOf packages vendored
+    × PrintsVendorReport found file vendored entries old new failure success)
 
 -- what is found of these packages is printed: of their folders, if the arguments have a vendor
 -- folder, and otherwise of their archives

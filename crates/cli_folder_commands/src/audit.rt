@@ -1,21 +1,22 @@
 //! The command `audit`: which packages of a lockfile have a known vulnerability, by a folder of
 //! advisories.
-ghost use Rattle.std.specs.Prelude.{◌≡◌, IfOk, map};
+ghost use Rattle.std.specs.Prelude.{◌≡◌, IfOk};
 ghost use Rattle.std.specs.List.{list_any};
 ghost use Rattle.clap.specs.Matches.{found_of};
 ghost use Rattle.cargo_lock_audit.specs.Database.{AreInOrderOfIds};
-ghost use Rattle.cargo_lock_audit.specs.Findings.{advisory_finding_of};
-ghost use Rattle.cli_folder_commands.specs.Audit.{PrintsAudit, PrintsAuditOf, PrintsAuditReport};
+ghost use Rattle.cargo_lock_audit.specs.Report.{report_data_of};
+ghost use Rattle.cli_folder_commands.specs.Audit.{IsSomeDatabase, PrintsAudit, PrintsAuditOf};
+ghost use Rattle.cli_folder_commands.specs.Audit.{PrintsAuditReport};
 
 use crate::folders::folder;
 use crate::texts;
 use crate::verify::status_of;
 use cargo_lock::Lockfile;
 use cargo_lock::package::Package;
-use cargo_lock_audit::{Advisory, AdvisoryFile, Report, database_of};
+use cargo_lock_audit::{Advisory, AdvisoryFile, Database, Report, database_of};
 use cargo_lock_display::File;
 use clap::{Arg, ArgMatches, Command};
-use cli_folders::{advisory_files, database_fault};
+use cli_folders::{AdvisoryFiles, advisory_files, database_fault};
 use cli_input::answer::print_answer;
 use cli_input::load::{file, named_lockfile};
 use cli_support::words::{any_size, json};
@@ -29,16 +30,20 @@ use std::rt::Files;
 const AUDIT_HELP: &str = "\
 Each advisory that concerns a package of crates.io has a line, for each such package:
   ! NAME VERSION SRC: ID: TITLE; patched REQUIREMENT or REQUIREMENT
-  ? NAME VERSION SRC: ID: KIND: TITLE               it is informational, as `unmaintained`
+  ? NAME VERSION SRC: ID: KIND: TITLE; patched ..   it is informational, as `unmaintained`
   - ID: nothing to ignore                           no package has this advisory
+The last line says how many packages were compared with how many advisories of FOLDER, and how many \
+were not, since they are not of crates.io:
+  39 packages of crates.io compared with 812 advisories; not compared: 2 from git
 
 An advisory concerns a package with its name whose version lies in none of the requirements of \
 `patched` and `unaffected`, by the precedence of SemVer: `1.6.1-rc.1` is before `1.6.1`. One that \
 was withdrawn concerns none.
 
 FOLDER is like a checkout of the database of RustSec: an advisory is a file \
-FOLDER/crates/NAME/RUSTSEC-*.md. Only folders of names in the lockfile are read. If one of their \
-advisories does not read, nothing else is printed.
+FOLDER/crates/NAME/RUSTSEC-*.md. Those of names in the lockfile are read, and the others counted. \
+If one does not read, if another file or folder lies beside it whose name begins with no dot, or if \
+FOLDER has no advisory, nothing else is printed.
 
 The status is 1 where a line begins with `!`, and 2 where the lockfile, a folder or an advisory \
 cannot be read.";
@@ -46,9 +51,14 @@ cannot be read.";
 /// The options, as help shows them.
 const DATABASE_HELP: &str = "The folder of the advisories";
 
-const IGNORE_HELP: &str = "Leaves out this advisory, and others that are given so";
+const IGNORE_HELP: &str =
+    "Leaves out the advisory of this id or alias, and others that are given so";
 
-const DENY_HELP: &str = "Counts informational advisories of this kind as vulnerabilities";
+const DENY_HELP: &str =
+    "Counts informational advisories of this kind as vulnerabilities; warnings are all kinds";
+
+/// The kinds of informational advisories that RustSec has, and the word for all of them.
+const KINDS: [&str; 4] = ["unmaintained", "unsound", "notice", "warnings"];
 
 /// The parser of this command: its options.
 pub fn command<'a>(alloc: Global) -> Result<Command<'a>, AllocError> {
@@ -59,7 +69,7 @@ pub fn command<'a>(alloc: Global) -> Result<Command<'a>, AllocError> {
         .arg(any_size(alloc)?)?
         .arg(database_option(alloc))?
         .arg(texts::option(alloc, "ignore", "ID").help(IGNORE_HELP))?
-        .arg(texts::option(alloc, "deny", "KIND").help(DENY_HELP))?
+        .arg(kinds_option(alloc))?
         .arg(json(alloc)?)
 }
 
@@ -68,8 +78,15 @@ fn database_option<'a>(alloc: Global) -> Arg<'a> {
     folder(alloc, "db").help(DATABASE_HELP).required(true)
 }
 
-/// Prints which advisories concern packages of the lockfile, a line for each, or, if the arguments
-/// ask for it, all as one line of JSON. The status is 1 if one of them is a vulnerability or of a
+/// The option for the kinds of informational advisories that are denied.
+fn kinds_option<'a>(alloc: Global) -> Arg<'a> {
+    texts::option(alloc, "deny", "KIND")
+        .value_parser(KINDS.as_slice())
+        .help(DENY_HELP)
+}
+
+/// Prints which advisories concern packages of the lockfile, a line for each, and what was compared,
+/// or, if the arguments ask for it, all as one line of JSON. The status is 1 if one of them is a vulnerability or of a
 /// kind that is denied, and otherwise 0. Fails if the lockfile, a folder or an advisory is not read,
 /// or if `out` fails; a prefix of the text was then written in the last case, and nothing in the
 /// others.
@@ -100,21 +117,24 @@ fn print_audit<R: Files + AllocGlobal, W: Write>(
         (status ≡ ExitCode.FAILURE) (status ≡ ExitCode.SUCCESS)) }
 {
     let packages = lockfile.packages.as_slice();
-    let advisories = advisories_about(rt, options.get_str("db").unwrap_or(""), packages)?;
-    print_report(rt.alloc(), options, file, packages, &advisories, out)
+    let database = database_in(rt, options.get_str("db").unwrap_or(""), packages)?;
+    print_report(rt.alloc(), options, file, packages, &database, out)
 }
 
-/// The advisories in a folder about packages with the name of one of these, in the order of their
-/// ids.
-fn advisories_about<R: Files + AllocGlobal>(
+/// The database in a folder, with the advisories about packages with the name of one of these.
+fn database_in<R: Files + AllocGlobal>(
     rt: &R,
     folder: &str,
     packages: &[Package],
-) -> Result<Vec<Advisory>, Fault>
-    ensures { IfOk result (λ advisories. AreInOrderOfIds advisories.items) }
+) -> Result<Database, Fault>
+    ensures { IfOk result (λ database. IsSomeDatabase database.advisories.items database.size) }
 {
-    let files = advisory_files(rt, folder, packages)?;
-    advisories_of(rt.alloc(), files)
+    let AdvisoryFiles { wanted, count } = advisory_files(rt, folder, packages)?;
+    let advisories = advisories_of(rt.alloc(), wanted)?;
+    Ok(Database {
+        advisories,
+        size: count,
+    })
 }
 
 /// The advisories of files, in the order of their ids.
@@ -127,30 +147,29 @@ fn advisories_of(alloc: Global, files: Vec<AdvisoryFile>) -> Result<Vec<Advisory
     }
 }
 
-/// Prints which of these advisories concern packages. Returns the status.
+/// Prints which advisories of this database concern packages. Returns the status.
 fn print_report<W: Write>(
     alloc: Global,
     options: &ArgMatches<'_>,
     file: &File<'_>,
     packages: &[Package],
-    advisories: &[Advisory],
+    database: &Database,
     out: &mut W,
 ) -> Result<ExitCode, Fault>
     ensures { IfOk result (λ status. PrintsAuditReport (found_of options.now) file.now packages.now
-        advisories.now (W.contents out.old) (W.contents out.new)
+        database.now.advisories.items database.now.size (W.contents out.old) (W.contents out.new)
         (status ≡ ExitCode.FAILURE) (status ≡ ExitCode.SUCCESS)) }
 {
     let ignored = texts::given(alloc, options, "ignore")?;
     let denied = texts::given(alloc, options, "deny")?;
-    let report = Report::of(alloc, packages, advisories, &ignored, &denied)?;
+    let report = Report::of(alloc, packages, database, &ignored, &denied)?;
     print_answer(alloc, options, file, &report, out)?;
     Ok(status_of(!is_denied(&report)))
 }
 
 /// Whether a finding is denied.
 fn is_denied(report: &Report<'_, '_, '_>) -> bool
-    ensures { result ≡ list_any (λ f. f.is_denied)
-        (map advisory_finding_of report.now.findings.items) }
+    ensures { result ≡ list_any (λ f. f.is_denied) (report_data_of report.now).findings }
 {
     report.is_denied()
 }

@@ -11,24 +11,23 @@ ghost use Rattle.cli_folder_commands.specs.BillLicenses.{AreLicensesBy, AreLicen
 ghost use Rattle.cli_folder_commands.specs.BillLicenses.{IsLicenseIf};
 ghost use Rattle.cli_folder_commands.specs.BillLicenses.{IsReadable};
 ghost use Rattle.cli_folder_commands.specs.BillLicenses as spec;
-ghost use Rattle.cli_folder_commands.specs.Licenses.{AreLicensed};
 
-use crate::folders::folder;
-use crate::licenses::licensed;
+use crate::folders::manifests;
+use crate::licenses::subjects_in;
 use cargo_lock::package::Package;
 use cargo_lock_licenses::{Expression, Subject, Verdict};
 use clap::{Arg, ArgMatches};
-use cli_folders::{Entries, Manifests, Vendor};
 use cli_support::Fault;
 use std::alloc::{AllocError, Global};
 use std::rt::Files;
 
 /// The option, as help shows it.
-const LICENSES_HELP: &str = "Adds licences, by a folder of `cargo vendor` or of unpacked archives";
+const MANIFESTS_HELP: &str =
+    "Adds licences, by the folder of `cargo vendor`, or registry/src of Cargo";
 
 /// The option for the folder of manifests.
 pub(crate) fn option<'a>(alloc: Global) -> Arg<'a> {
-    folder(alloc, "licenses").help(LICENSES_HELP)
+    manifests(alloc, MANIFESTS_HELP)
 }
 
 /// The licence expressions of these packages, in their order, if the arguments name a folder of
@@ -39,10 +38,10 @@ pub(crate) fn asked<R: Files + AllocGlobal>(
     packages: &[Package],
 ) -> Result<Vec<Option<String>>, Fault>
     ensures { IfOk result (λ licenses. AreLicensesBy
-        (first_value (found_of options.now) (codes "licenses")) packages.now
+        (first_value (found_of options.now) (codes "manifests")) packages.now
         (map (option_map string_bytes) licenses.items)) }
 {
-    match options.get_str("licenses") {
+    match options.get_str("manifests") {
         Some(folder) => licenses_in(rt, folder, packages),
         None => Ok(Vec::new(rt.alloc())),
     }
@@ -60,32 +59,6 @@ fn licenses_in<R: Files + AllocGlobal>(
     let subjects = subjects_in(rt, folder, packages)?;
     let licenses = licenses_of(rt.alloc(), &subjects)?;
     Ok(licenses)
-}
-
-/// The packages, each with what its manifests say in a folder that `cargo vendor` made or in one of
-/// unpacked archives.
-fn subjects_in<'a, R: Files + AllocGlobal>(
-    rt: &R,
-    folder: &str,
-    packages: &'a [Package],
-) -> Result<Vec<Subject<'a>>, Fault>
-    ensures { IfOk result
-        (λ subjects. AreLicensed packages.now (map license_subject_of subjects.items)) }
-{
-    let manifests = manifests_in(rt, folder)?;
-    licensed(rt, &manifests, packages)
-}
-
-/// The manifests in a folder. Where folders in the folder have manifests, as `cargo vendor` leaves
-/// them, they are found by name and version, and otherwise by the name of the unpacked archive.
-fn manifests_in<R: Files + AllocGlobal>(rt: &R, folder: &str) -> Result<Manifests, Fault> {
-    let vendor = Vendor::of(rt, folder)?;
-    let entries = Entries::of(rt, folder)?;
-    if vendor.is_empty() {
-        Ok(Manifests::Unpacked(entries))
-    } else {
-        Ok(Manifests::Vendored(vendor))
-    }
 }
 
 /// The licence expressions of these subjects, in their order.

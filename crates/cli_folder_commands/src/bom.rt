@@ -29,7 +29,7 @@ const BOM_HELP: &str =
 tests or of builds, of some target or of some feature, so the bill says nothing of them. A package \
 without a source has no purl: pkg:cargo/NAME@VERSION would be the package of crates.io
 
-With --licenses, a package with a source has the expression that its manifests in FOLDER have in \
+With --manifests, a package with a source has the expression that its manifests in FOLDER have in \
 `license`, if they say the same one: what their author wrote, with OR for `/`, and no judgement";
 
 /// The package that a bill is about, as help shows it.

@@ -21,6 +21,11 @@ pub(crate) fn cache<'a>(alloc: Global, help: &'a str) -> Arg<'a> {
     folder(alloc, "cache").help(help)
 }
 
+/// The option for a folder of manifests.
+pub(crate) fn manifests<'a>(alloc: Global, help: &'a str) -> Arg<'a> {
+    folder(alloc, "manifests").help(help)
+}
+
 /// Refuses arguments that name neither of the two folders.
 pub(crate) fn check_folder(options: &ArgMatches<'_>) -> Result<(), Fault>
     ensures ok { OnOk result (IsFolderNamed (found_of options.now)) }

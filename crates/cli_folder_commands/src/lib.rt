@@ -8,5 +8,6 @@ pub mod bom;
 mod folders;
 pub mod json;
 pub mod licenses;
+mod policy;
 mod texts;
 pub mod verify;

@@ -2,19 +2,21 @@
 //! are not allowed.
 ghost use Rattle.std.specs.Prelude.{◌≡◌, IfOk, map};
 ghost use Rattle.clap.specs.Matches.{found_of};
+ghost use Rattle.cargo_lock_licenses.specs.Policy as spec;
 ghost use Rattle.cargo_lock_licenses.specs.Subjects.{license_subject_of};
 ghost use Rattle.cli_folder_commands.specs.Licenses.{AreLicensed, PrintsLicenseReport, PrintsLicenses};
 ghost use Rattle.cli_folder_commands.specs.Licenses.{PrintsLicensesOf};
 
-use crate::folders::{cache, check_folder, vendor};
+use crate::folders::manifests;
+use crate::policy::policy_of;
 use crate::texts;
 use crate::verify::status_of;
 use cargo_lock::Lockfile;
 use cargo_lock::package::Package;
 use cargo_lock_display::File;
-use cargo_lock_licenses::{Report, Subject};
+use cargo_lock_licenses::{Policy, Report, Subject};
 use clap::{ArgMatches, Command};
-use cli_folders::{Entries, Manifests, Vendor};
+use cli_folders::Manifests;
 use cli_input::answer::print_answer;
 use cli_input::load::{file, named_lockfile};
 use cli_support::words::{any_size, json};
@@ -34,22 +36,31 @@ Each package with a source has a line, by the field `license` of its manifest:
   ! NAME VERSION SRC: only a file: `PATH`           it has `license-file` in place of it
   ! NAME VERSION SRC: no manifest
   ! NAME VERSION SRC: manifests differ              there are several, which say different things
+  - TERM: nothing to allow                          no expression has this term of --allow
+  - NAME@VERSION=EXPRESSION: no such package        so for --exempt; there is none with a source
+Behind a line is ` (given)` where the expression is that of --license, or \
+` (given; its manifest says TEXT)`.
 
 An expression joins terms by AND and by OR, or by `/` as in old manifests; AND binds more tightly. A \
 term is a name, or `NAME WITH NAME`. It is allowed if it is one of the TERMs to the letter, an AND \
-if both sides are, and an OR if one is. Without --allow each expression is allowed. No list of \
-licences is built in.
+if both sides are, and an OR if one is. Without --allow each expression is allowed; --exempt adds to \
+the TERMs for one package. No list of licences is built in.
 
-With --vendor, the manifest of a package is the one in FOLDER that has its name and version, and \
-with --cache the one of the folder NAME-VERSION in FOLDER or in a folder in it.
+FOLDER is the one that `cargo vendor` made, registry/src of Cargo, or an index folder in it. The \
+manifest of a package has its name and version; in a folder of Cargo it is the one of the folder \
+NAME-VERSION. Links are not followed.
 
 The status is 1 where a line begins with `!`, and 2 where the lockfile, a folder or a manifest \
-cannot be read.";
+cannot be read, where no manifest is of a package, and where there may be one that was not read.";
 
 /// The options, as help shows them.
-const CACHE_HELP: &str = "The folder of unpacked archives, as registry/src of Cargo";
+const MANIFESTS_HELP: &str = "The folder of `cargo vendor`, or registry/src of Cargo";
 
 const ALLOW_HELP: &str = "Allows this term, and others that are given so";
+
+const LICENSE_HELP: &str = "Takes this expression in place of what the manifest says";
+
+const EXEMPT_HELP: &str = "Allows this term for this package alone";
 
 /// The parser of this command: its options.
 pub fn command<'a>(alloc: Global) -> Result<Command<'a>, AllocError> {
@@ -58,17 +69,17 @@ pub fn command<'a>(alloc: Global) -> Result<Command<'a>, AllocError> {
         .after_help(LICENSES_HELP)
         .arg(words::file(alloc))?
         .arg(any_size(alloc)?)?
-        .arg(cache(alloc, CACHE_HELP))?
-        .arg(vendor(alloc)?)?
+        .arg(manifests(alloc, MANIFESTS_HELP).required(true))?
         .arg(texts::option(alloc, "allow", "TERM").help(ALLOW_HELP))?
+        .arg(texts::option(alloc, "license", "NAME@VERSION=EXPRESSION").help(LICENSE_HELP))?
+        .arg(texts::option(alloc, "exempt", "NAME[@VERSION]=TERM").help(EXEMPT_HELP))?
         .arg(json(alloc)?)
 }
 
 /// Prints what is found of the licences of the packages of the lockfile, a line for each, or, if
 /// the arguments ask for it, all as one line of JSON. The status is 1 if one is not allowed or not
-/// known, and otherwise 0. Fails if the arguments name no folder, if the lockfile, a folder or a
-/// manifest is not read, or if `out` fails; a prefix of the text was then written in the last case,
-/// and nothing in the others.
+/// known, and otherwise 0. Fails if words of the arguments, the lockfile, a folder or a manifest are
+/// not read, or if `out` fails; a prefix of the text was then written in the last case, and nothing in the others.
 pub fn run<R: Files + Input + AllocGlobal, W: Write>(
     rt: &R,
     options: &ArgMatches<'_>,
@@ -78,26 +89,27 @@ pub fn run<R: Files + Input + AllocGlobal, W: Write>(
         (W.contents out.old) (W.contents out.new)
         (status ≡ ExitCode.FAILURE) (status ≡ ExitCode.SUCCESS)) }
 {
-    check_folder(options)?;
+    let policy = policy_of(rt.alloc(), options)?;
     let lockfile = named_lockfile(rt, options, "file")?;
     let file = file(options, "file", &lockfile);
-    print_licenses(rt, options, &file, &lockfile, out)
+    print_licenses(rt, options, &policy, &file, &lockfile, out)
 }
 
-/// Prints what is found of the licences of these packages. Returns the status.
+/// Prints what is found of the licences of these packages by a policy. Returns the status.
 fn print_licenses<R: Files + AllocGlobal, W: Write>(
     rt: &R,
     options: &ArgMatches<'_>,
+    policy: &Policy,
     file: &File<'_>,
     lockfile: &Lockfile,
     out: &mut W,
 ) -> Result<ExitCode, Fault>
-    ensures { IfOk result (λ status. PrintsLicensesOf (found_of options.now) file.now
-        lockfile.now.packages (W.contents out.old) (W.contents out.new)
+    ensures { IfOk result (λ status. PrintsLicensesOf (found_of options.now)
+        (spec.policy_of policy.now) file.now lockfile.now.packages (W.contents out.old) (W.contents out.new)
         (status ≡ ExitCode.FAILURE) (status ≡ ExitCode.SUCCESS)) }
 {
     let subjects = subjects_of(rt, options, &lockfile.packages)?;
-    print_report(rt.alloc(), options, file, &subjects, out)
+    print_report(rt.alloc(), options, policy, file, &subjects, out)
 }
 
 /// The packages, each with what its manifests say in the folder that the arguments name.
@@ -109,44 +121,56 @@ fn subjects_of<'a, R: Files + AllocGlobal>(
     ensures { IfOk result
         (λ subjects. AreLicensed packages.now (map license_subject_of subjects.items)) }
 {
-    let manifests = match options.get_str("vendor") {
-        Some(folder) => Manifests::Vendored(Vendor::of(rt, folder)?),
-        None => Manifests::Unpacked(Entries::of(rt, options.get_str("cache").unwrap_or(""))?),
-    };
-    licensed(rt, &manifests, packages)
+    let folder = options.get_str("manifests").unwrap_or("");
+    subjects_in(rt, folder, packages)
 }
 
-/// The packages, each with what its manifests say.
-pub(crate) fn licensed<'a, R: Files + AllocGlobal>(
+/// The packages, each with what its manifests say in a folder.
+pub(crate) fn subjects_in<'a, R: Files + AllocGlobal>(
     rt: &R,
-    folder: &Manifests,
+    folder: &str,
     packages: &'a [Package],
 ) -> Result<Vec<Subject<'a>>, Fault>
     ensures { IfOk result
         (λ subjects. AreLicensed packages.now (map license_subject_of subjects.items)) }
 {
-    let mut subjects = Vec::with_capacity(rt.alloc(), packages.len())?;
+    let manifests = Manifests::of(rt, folder, packages)?;
+    let subjects = licensed(rt.alloc(), &manifests, packages)?;
+    Ok(subjects)
+}
+
+/// The packages, each with what its manifests say.
+fn licensed<'a>(
+    alloc: Global,
+    folder: &Manifests,
+    packages: &'a [Package],
+) -> Result<Vec<Subject<'a>>, AllocError>
+    ensures { IfOk result
+        (λ subjects. AreLicensed packages.now (map license_subject_of subjects.items)) }
+{
+    let mut subjects = Vec::with_capacity(alloc, packages.len())?;
     for package in packages {
-        let manifests = folder.of_package(rt, package)?;
+        let manifests = folder.of_package(alloc, package)?;
         subjects.push(Subject { package, manifests })?;
     }
     Ok(subjects)
 }
 
-/// Prints what is found of these subjects. Returns the status.
+/// Prints what is found of these subjects by a policy. Returns the status.
 fn print_report<W: Write>(
     alloc: Global,
     options: &ArgMatches<'_>,
+    policy: &Policy,
     file: &File<'_>,
     subjects: &[Subject<'_>],
     out: &mut W,
 ) -> Result<ExitCode, Fault>
-    ensures { IfOk result (λ status. PrintsLicenseReport (found_of options.now) file.now
-        (map license_subject_of subjects.now) (W.contents out.old) (W.contents out.new)
+    ensures { IfOk result (λ status. PrintsLicenseReport (found_of options.now)
+        (spec.policy_of policy.now) file.now (map license_subject_of subjects.now)
+        (W.contents out.old) (W.contents out.new)
         (status ≡ ExitCode.FAILURE) (status ≡ ExitCode.SUCCESS)) }
 {
-    let allowed = texts::given(alloc, options, "allow")?;
-    let report = Report::of(alloc, subjects, &allowed)?;
+    let report = Report::of(alloc, subjects, policy)?;
     print_answer(alloc, options, file, &report, out)?;
     Ok(status_of(!report.has_finding()))
 }

@@ -3,7 +3,9 @@
 ghost use Rattle.std.specs.Prelude.{◌≡◌, IfOk, false, map, true};
 ghost use Rattle.clap.specs.Matches.{found_of};
 ghost use Rattle.cargo_lock_verify.specs.Archives.{archive_subject_of};
+ghost use Rattle.cargo_lock_verify.specs.Entries.{vendored_entry};
 ghost use Rattle.cargo_lock_verify.specs.Vendored.{vendored_of};
+ghost use Rattle.cli_folder_commands.specs.Verify as spec;
 ghost use Rattle.cli_folder_commands.specs.Verify.{AreSubjectsOf, AreVendoredOf, PrintsReport};
 ghost use Rattle.cli_folder_commands.specs.Verify.{PrintsVendorReport, PrintsVerified, PrintsVerifiedOf};
 
@@ -11,7 +13,7 @@ use crate::folders::{cache, check_folder, vendor};
 use cargo_lock::Lockfile;
 use cargo_lock::package::Package;
 use cargo_lock_display::File;
-use cargo_lock_verify::{Report, Subject, VendorReport, Vendored};
+use cargo_lock_verify::{Entry, Others, Report, Subject, VendorReport, Vendored};
 use clap::{Arg, ArgMatches, Command};
 use cli_folders::{Entries, Vendor};
 use cli_input::answer::print_answer;
@@ -28,26 +30,38 @@ const VERIFY_HELP: &str = "\
 With --cache, the archive of a package is NAME-VERSION.crate, in FOLDER or in a folder in it. Each \
 package with a checksum has an archive with that SHA-256, or a line:
   ! NAME VERSION SRC: `PATH` is DIGEST, not CHECKSUM    none has it, and this is one of them
-  - NAME VERSION SRC: no archive                        with --all
-Cargo compares an archive with its checksum once, when it downloads it.
+  - NAME VERSION SRC: no archive                        counts with --all
+  ! NAME VERSION SRC: no checksum in the lockfile       of a registry, and only with --all
+Cargo compares an archive with its checksum once, when it downloads it. The unpacked sources that \
+Cargo compiles, in registry/src, are not looked at.
 
 With --vendor, the folder of a package with a source is the one in FOLDER whose manifest has its \
 name and version. It is as its .cargo-checksum.json says, or there are lines:
+  ! NAME VERSION SRC: no checksum in the lockfile       of a registry
   - NAME VERSION SRC: no folder
   ! NAME VERSION SRC: `FOLDER` has the archive DIGEST, not CHECKSUM
   - NAME VERSION SRC: `FILE` is missing
   ! NAME VERSION SRC: `FILE` is DIGEST, not DIGEST      the second is that of the list
   + NAME VERSION SRC: `FILE` is not in the list
   ! NAME VERSION SRC: `FILE` is a link
-That a folder is as its list says does not show that its files are those of the archive.
+That a folder is as its list says does not show that its files are those of the archive. Cargo \
+passes over an entry of FOLDER whose name begins with a dot, a file, and a folder without a \
+Cargo.toml. Any other that is no folder of a package has a line:
+  ! `ENTRY`: a link
+  ! `ENTRY`: its manifest is a link
+  ! `ENTRY`: no name and version                        as texts in package of its manifest
+  + `ENTRY`: of no package                              not with --others
 
-The last line is how many packages are right. The status is 1 where a line is printed for a \
-package, and 2 where the lockfile, an archive or a folder cannot be read.";
+The last line is how many archives or folders match, and how many packages do not, by why. The \
+status is 1 where there is a line that counts, or no archive matches of packages of a registry, and \
+2 where the lockfile, an archive or a folder cannot be read.";
 
 /// The options, as help shows them.
 const CACHE_HELP: &str = "The folder of the archives, as registry/cache of Cargo";
 
-const ALL_HELP: &str = "Reports packages without an archive too";
+const ALL_HELP: &str = "Counts packages without an archive or a checksum too";
+
+const OTHERS_HELP: &str = "Passes over folders of packages that the lockfile does not have";
 
 /// The parser of this command: its options.
 pub fn command<'a>(alloc: Global) -> Result<Command<'a>, AllocError> {
@@ -59,10 +73,18 @@ pub fn command<'a>(alloc: Global) -> Result<Command<'a>, AllocError> {
         .arg(cache(alloc, CACHE_HELP))?
         .arg(vendor(alloc)?)?
         .arg(all(alloc)?)?
+        .arg(others(alloc)?)?
         .arg(json(alloc)?)
 }
 
-/// The option to report packages without an archive.
+/// The option to pass over folders of other packages.
+fn others<'a>(alloc: Global) -> Result<Arg<'a>, AllocError> {
+    long_flag(alloc, "others")?
+        .help(OTHERS_HELP)
+        .conflicts_with("cache")
+}
+
+/// The option to count packages without an archive or a checksum.
 fn all<'a>(alloc: Global) -> Result<Arg<'a>, AllocError> {
     long_flag(alloc, "all")?
         .help(ALL_HELP)
@@ -70,10 +92,11 @@ fn all<'a>(alloc: Global) -> Result<Arg<'a>, AllocError> {
 }
 
 /// Prints which packages of the lockfile have no archive with their checksum, or no folder that is
-/// as its list says, and how many have one, or, if the arguments ask for it, all as one line of
-/// JSON. The status is 1 if something is found of a package, and otherwise 0. Fails if the arguments
-/// name no folder, if the lockfile, a folder or a file is not read, or if `out` fails; a prefix of
-/// the text was then written in the last case, and nothing in the others.
+/// as its list says, which other entries of the folder Cargo may read, and how many packages are in
+/// each class, or, if the arguments ask for it, all as one line of JSON. The status is 1 if something
+/// that counts is found, and otherwise 0. Fails if the arguments name no folder, if the lockfile, a
+/// folder or a file is not read, or if `out` fails; a prefix of the text was then written in the last
+/// case, and nothing in the others.
 pub fn run<R: Files + Input + AllocGlobal, W: Write>(
     rt: &R,
     options: &ArgMatches<'_>,
@@ -103,27 +126,15 @@ fn print_verified<R: Files + AllocGlobal, W: Write>(
 {
     match options.get_str("vendor") {
         Some(folder) => {
-            let vendored = vendored_of(rt, folder, &lockfile.packages)?;
-            print_vendor_report(rt.alloc(), options, file, &vendored, out)
+            let vendor = Vendor::of(rt, folder)?;
+            let vendored = vendored_with(rt, &vendor, &lockfile.packages)?;
+            print_vendor_report(rt.alloc(), options, file, &vendored, vendor.entries(), out)
         }
         None => {
             let subjects = subjects_of(rt, options, &lockfile.packages)?;
             print_archive_report(rt.alloc(), options, file, &subjects, out)
         }
     }
-}
-
-/// The packages, each with its folders in a folder that `cargo vendor` made.
-fn vendored_of<'a, R: Files + AllocGlobal>(
-    rt: &R,
-    folder: &str,
-    packages: &'a [Package],
-) -> Result<Vec<Vendored<'a>>, Fault>
-    ensures { IfOk result
-        (λ vendored. AreVendoredOf packages.now (map vendored_of vendored.items)) }
-{
-    let vendor = Vendor::of(rt, folder)?;
-    vendored_with(rt, &vendor, packages)
 }
 
 /// The packages, each with its folders.
@@ -143,21 +154,36 @@ fn vendored_with<'a, R: Files + AllocGlobal>(
     Ok(vendored)
 }
 
-/// Prints what is found of these folders. Returns the status.
+/// Prints what is found of these folders, and of the entries of the folder that they are in. Returns
+/// the status.
 fn print_vendor_report<W: Write>(
     alloc: Global,
     options: &ArgMatches<'_>,
     file: &File<'_>,
     vendored: &[Vendored<'_>],
+    entries: &[Entry],
     out: &mut W,
 ) -> Result<ExitCode, Fault>
     ensures { IfOk result (λ status. PrintsVendorReport (found_of options.now) file.now
-        (map vendored_of vendored.now) (W.contents out.old) (W.contents out.new)
+        (map vendored_of vendored.now) (map vendored_entry entries.now)
+        (W.contents out.old) (W.contents out.new)
         (status ≡ ExitCode.FAILURE) (status ≡ ExitCode.SUCCESS)) }
 {
-    let report = VendorReport::of(alloc, vendored)?;
+    let others = others_of(options.get_flag("others"));
+    let report = VendorReport::of(alloc, vendored, entries, others)?;
     print_answer(alloc, options, file, &report, out)?;
     Ok(status_of(report.findings.is_empty()))
+}
+
+/// What is said of folders of other packages, by whether the arguments ask to pass over them.
+fn others_of(are_passed_over: bool) -> Others
+    ensures { result ≡ spec.others_of are_passed_over }
+{
+    if are_passed_over {
+        Others::PassedOver
+    } else {
+        Others::Reported
+    }
 }
 
 /// The packages, each with its archives in the folder that the arguments name.
@@ -202,9 +228,10 @@ fn print_archive_report<W: Write>(
         (map archive_subject_of subjects.now) (W.contents out.old) (W.contents out.new)
         (status ≡ ExitCode.FAILURE) (status ≡ ExitCode.SUCCESS)) }
 {
-    let report = Report::of(alloc, subjects, options.get_flag("all"))?;
+    let all = options.get_flag("all");
+    let report = Report::of(alloc, subjects, all)?;
     print_answer(alloc, options, file, &report, out)?;
-    Ok(status_of(report.findings.is_empty()))
+    Ok(status_of(report.counts.is_clean(all)))
 }
 
 /// The status where nothing is found, or something.

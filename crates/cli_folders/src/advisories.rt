@@ -1,6 +1,8 @@
 //! The files of a database of advisories.
 
-use crate::files::{is_file, names_in, path_of, text_at};
+ghost use Rattle.std.specs.Prelude.{◌<◌, IfOk};
+
+use crate::files::{Entry, all_names_in, fault_of, path_of, target_at, text_at};
 use cargo_lock_audit::{Advisory, AdvisoryFile, DatabaseFault};
 use cargo_lock_parts::Error;
 use cargo_lock_parts::package::Package;
@@ -11,23 +13,53 @@ use std::rt::Files;
 /// The folder of a database that has a folder for each package.
 const CRATES: &str = "crates";
 
+/// What was read of a database of advisories.
+#[derive(Drop)]
+pub struct AdvisoryFiles {
+    /// The advisories about packages of the names that are wanted.
+    pub wanted: Vec<AdvisoryFile>,
+
+    /// How many advisories the database has, about packages of all names.
+    pub count: usize,
+}
+
 /// Reads the advisories about packages with the name of one of these, in a folder like a checkout of
-/// the database of RustSec. No path is made of a name of a lockfile. Fails if the folder has no
-/// folder `crates`, or if a folder or a file is not read, or is no advisory.
+/// the database of RustSec, and counts all of its advisories. No path is made of a name of a
+/// lockfile. An entry that begins with a dot is passed over. Fails if the folder has no folder
+/// `crates`, if that has no advisory or has an entry that is no folder, or if a folder is not read.
+/// In the folder of a wanted name each entry is an advisory, or it fails.
 pub fn advisory_files<R: Files + AllocGlobal>(
     rt: &R,
     folder: &str,
     packages: &[Package],
-) -> Result<Vec<AdvisoryFile>, Fault> {
+) -> Result<AdvisoryFiles, Fault>
+    ensures { IfOk result (λ found. 0 < found.count) }
+{
     let crates = path_of(rt.alloc(), folder, CRATES)?;
+    let found = files_in(rt, &crates, packages)?;
+    if found.count == 0 {
+        return Err(fault_of(rt.alloc(), &crates, "it has no advisory"));
+    }
+    Ok(found)
+}
+
+// Reads the folders of packages in a folder, and counts their advisories.
+fn files_in<R: Files + AllocGlobal>(
+    rt: &R,
+    crates: &str,
+    packages: &[Package],
+) -> Result<AdvisoryFiles, Fault> {
     let wanted = wanted_names(rt.alloc(), packages)?;
-    let mut files = Vec::new(rt.alloc());
-    for name in &names_in(rt, &crates)? {
-        if wanted.binary_search(&name.as_str()).is_ok() {
-            put_folder(rt, &mut files, &crates, name)?;
+    let mut found = AdvisoryFiles {
+        wanted: Vec::new(rt.alloc()),
+        count: 0,
+    };
+    for name in &all_names_in(rt, crates)? {
+        if !is_hidden(name) {
+            put_folder(rt, &mut found, &wanted, crates, name)?;
         }
     }
-    Ok(files)
+    Ok(found)
 }
 
 /// Why a database is refused, as an error of the program.
@@ -53,35 +85,64 @@ fn wanted_names<'a>(alloc: Global, packages: &'a [Package]) -> Result<Vec<&'a st
     Ok(names)
 }
 
-// Adds the advisories in the folder of a package.
+// Whether an entry of this name is passed over.
+fn is_hidden(name: &str) -> bool {
+    name.starts_with('.')
+}
+
+// Whether an entry of this name is to be an advisory.
+fn is_advisory(name: &str) -> bool {
+    name.starts_with("RUSTSEC-") && name.ends_with(".md")
+}
+
+// Counts the advisories in the folder of a package, and reads them if its name is wanted.
 fn put_folder<R: Files + AllocGlobal>(
     rt: &R,
-    files: &mut Vec<AdvisoryFile>,
+    found: &mut AdvisoryFiles,
+    wanted: &[&str],
     crates: &str,
     name: &str,
 ) -> Result<(), Fault> {
     let folder = path_of(rt.alloc(), crates, name)?;
-    for file in &names_in(rt, &folder)? {
-        if file.starts_with("RUSTSEC-") && file.ends_with(".md") {
-            put_file(rt, files, name, path_of(rt.alloc(), &folder, file)?)?;
+    let names = all_names_in(rt, &folder)?;
+    let count = names.iter().filter(|name| is_advisory(name)).count();
+    found.count = found.count.saturating_add(count);
+    if wanted.binary_search(&name).is_ok() {
+        put_files(rt, &mut found.wanted, &folder, name, &names)?;
+    }
+    Ok(())
+}
+
+// Adds the advisories with these names in the folder of a package.
+fn put_files<R: Files + AllocGlobal>(
+    rt: &R,
+    files: &mut Vec<AdvisoryFile>,
+    folder: &str,
+    package: &str,
+    names: &[String],
+) -> Result<(), Fault> {
+    for name in names {
+        if !is_hidden(name) {
+            put_file(rt, files, package, name, path_of(rt.alloc(), folder, name)?)?;
         }
     }
     Ok(())
 }
 
-// Adds the advisory at a path, if a file is there.
+// Adds the advisory at a path. Fails if what is there is none.
 fn put_file<R: Files + AllocGlobal>(
     rt: &R,
     files: &mut Vec<AdvisoryFile>,
-    folder: &str,
+    package: &str,
+    name: &str,
     path: String,
 ) -> Result<(), Fault> {
-    if !is_file(rt, &path) {
-        return Ok(());
+    if !is_advisory(name) || target_at(rt, &path)? != Some(Entry::File) {
+        return Err(fault_of(rt.alloc(), &path, "it is no file RUSTSEC-*.md"));
     }
     let text = text_at(rt, &path)?;
     match Advisory::parse(rt.alloc(), &text) {
-        Ok(advisory) => put_advisory(rt.alloc(), files, folder, path, advisory),
+        Ok(advisory) => put_advisory(rt.alloc(), files, package, path, advisory),
         Err(error) => Err(database_fault(rt.alloc(), &DatabaseFault::Unread(path, error))),
     }
 }
@@ -90,11 +151,11 @@ fn put_file<R: Files + AllocGlobal>(
 fn put_advisory(
     alloc: Global,
     files: &mut Vec<AdvisoryFile>,
-    folder: &str,
+    package: &str,
     path: String,
     advisory: Advisory,
 ) -> Result<(), Fault> {
-    let folder = String::from_str(alloc, folder)?;
+    let folder = String::from_str(alloc, package)?;
     files.push(AdvisoryFile {
         path,
         folder,

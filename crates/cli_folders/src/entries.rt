@@ -2,7 +2,7 @@
 
 ghost use Rattle.std.specs.Prelude.{◌≡◌, [], IfOk, None};
 
-use crate::files::{digest_at, fault_at, is_file, is_folder, names_in, path_of};
+use crate::files::{Entry, digest_at, fault_at, fault_of, names_in, path_of, target_at};
 use cargo_lock_parts::package::Package;
 use cargo_lock_verify::Archive;
 use cli_support::Fault;
@@ -37,7 +37,7 @@ impl Entries {
         path: String,
         name: &str,
     ) -> Result<(), Fault> {
-        if is_folder(rt, &path) {
+        if target_at(rt, &path)? == Some(Entry::Folder) {
             self.put_all(rt, &path)?;
         }
         self.put(rt.alloc(), name, path)?;
@@ -64,7 +64,7 @@ impl Entries {
     }
 
     /// The archives of a package with a checksum, each with the digest of its bytes. Fails if one
-    /// is not read.
+    /// is not read, and if what has its name is no file and no link to one.
     pub fn archives_of<R: Files + AllocGlobal>(
         &self,
         rt: &R,
@@ -123,14 +123,14 @@ fn folder_name(alloc: Global, package: &Package) -> Result<String, AllocError> {
     format!(in alloc; "{name}-{version}")
 }
 
-// Adds the archive at a path, if a file is there.
+// Adds the archive at a path. Fails if what is there, or at the end of the link there, is no file.
 fn put_archive<R: Files + AllocGlobal>(
     rt: &R,
     path: &str,
     archives: &mut Vec<Archive>,
 ) -> Result<(), Fault> {
-    if !is_file(rt, path) {
-        return Ok(());
+    if target_at(rt, path)? != Some(Entry::File) {
+        return Err(fault_of(rt.alloc(), path, "it is no file"));
     }
     match digest_at(rt, path) {
         Ok(digest) => {

@@ -6,7 +6,7 @@ use cargo_lock_verify::digest;
 use cli_support::Fault;
 use cli_support::fault::path_shown;
 use std::alloc::{AllocError, Global};
-use std::fs::{self, OpenOptions};
+use std::fs::{self, Metadata, OpenOptions};
 use std::io::{self, ErrorKind, Read};
 use std::path::Path;
 use std::rt::Files;
@@ -90,19 +90,58 @@ pub(crate) fn path_of(alloc: Global, folder: &str, name: &str) -> Result<String,
     }
 }
 
-/// Whether a folder is at the path, or a link to one.
-pub(crate) fn is_folder<R: Files>(rt: &R, path: &str) -> bool {
-    fs::metadata(rt, Path::new(path)).is_ok_and(|found| found.is_dir())
+/// What is at a path.
+#[derive(Clone, Copy, PartialEq, Eq)]
+pub(crate) enum Entry {
+    /// A file.
+    File,
+
+    /// A folder.
+    Folder,
+
+    /// A link.
+    Link,
+
+    /// Nothing of these.
+    Other,
 }
 
-/// Whether a file is at the path, or a link to one.
-pub(crate) fn is_file<R: Files>(rt: &R, path: &str) -> bool {
-    fs::metadata(rt, Path::new(path)).is_ok_and(|found| found.is_file())
+/// What is at a path, if something is there. A link is not followed. Only where the system finds
+/// nothing there, nothing is there: any other error of it is one of this function.
+pub(crate) fn entry_at<R: Files + AllocGlobal>(rt: &R, path: &str) -> Result<Option<Entry>, Fault> {
+    match fs::symlink_metadata(rt, Path::new(path)) {
+        Ok(found) => Ok(Some(entry_of(&found))),
+        Err(error) if error.kind() == ErrorKind::NotFound => Ok(None),
+        Err(error) => Err(fault_at(rt.alloc(), path, error)),
+    }
 }
 
-/// Whether a file is at the path, and no link to one.
-pub(crate) fn is_file_and_no_link<R: Files>(rt: &R, path: &str) -> bool {
-    fs::symlink_metadata(rt, Path::new(path)).is_ok_and(|found| found.is_file())
+/// What is at a path, if something is there, or at the end of a link that is there. Fails if such a
+/// link leads to nothing.
+pub(crate) fn target_at<R: Files + AllocGlobal>(
+    rt: &R,
+    path: &str,
+) -> Result<Option<Entry>, Fault> {
+    if entry_at(rt, path)?.is_none() {
+        return Ok(None);
+    }
+    match fs::metadata(rt, Path::new(path)) {
+        Ok(found) => Ok(Some(entry_of(&found))),
+        Err(error) => Err(fault_at(rt.alloc(), path, error)),
+    }
+}
+
+/// What a path has by its metadata.
+fn entry_of(found: &Metadata) -> Entry {
+    if found.is_file() {
+        Entry::File
+    } else if found.is_dir() {
+        Entry::Folder
+    } else if found.is_symlink() {
+        Entry::Link
+    } else {
+        Entry::Other
+    }
 }
 
 /// The error of a file or folder, with its path.

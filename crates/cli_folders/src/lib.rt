@@ -8,11 +8,12 @@
 mod advisories;
 mod entries;
 mod files;
+mod found;
 mod manifest;
 mod manifests;
 mod vendor;
 
-pub use crate::advisories::{advisory_files, database_fault};
+pub use crate::advisories::{AdvisoryFiles, advisory_files, database_fault};
 pub use crate::entries::Entries;
 pub use crate::manifests::Manifests;
 pub use crate::vendor::Vendor;

@@ -1,15 +1,17 @@
 //! The manifests of packages.
 
-use crate::files::{fault_of, is_file_and_no_link, path_of, text_at};
+use crate::files::{fault_of, path_of, text_at};
+use crate::found::Found;
 use cargo_lock_licenses::Manifest;
 use cargo_lock_parts::Error;
+use cargo_lock_references::package_version::version_of;
 use cli_support::Fault;
 use std::alloc::{AllocError, Global};
 use std::rt::Files;
 use toml::{Table, Value};
 
 /// The name of a manifest.
-const MANIFEST: &str = "Cargo.toml";
+pub(crate) const MANIFEST: &str = "Cargo.toml";
 
 /// The path of the manifest in a folder.
 pub(crate) fn manifest_path(alloc: Global, folder: &str) -> Result<String, AllocError> {
@@ -34,29 +36,33 @@ pub(crate) fn text_in<'a>(manifest: &'a Table, key: &str) -> Option<&'a str> {
         .and_then(Value::as_str)
 }
 
-/// Adds what the manifest in a folder says of the licence, if there is one. A link is none.
-pub(crate) fn put_manifest<R: Files + AllocGlobal>(
+/// What the manifest at a path says, if it has a name and a version as Cargo writes them.
+pub(crate) fn manifest_at<R: Files + AllocGlobal>(
     rt: &R,
-    manifests: &mut Vec<Manifest>,
-    folder: &str,
-) -> Result<(), Fault> {
-    let path = manifest_path(rt.alloc(), folder)?;
-    if is_file_and_no_link(rt, &path) {
-        let manifest = manifest_at(rt, &path)?;
-        manifests.push(manifest)?;
-    }
-    Ok(())
+    path: &str,
+) -> Result<Option<Found>, Fault> {
+    let table = table_at(rt, path)?;
+    found_in(rt.alloc(), &table)
 }
 
-// What the manifest at a path says of the licence.
-fn manifest_at<R: Files + AllocGlobal>(rt: &R, path: &str) -> Result<Manifest, Fault> {
-    let table = table_at(rt, path)?;
-    let manifest = manifest_in(rt.alloc(), &table)?;
-    Ok(manifest)
+// What a manifest says.
+fn found_in(alloc: Global, table: &Table) -> Result<Option<Found>, Fault> {
+    let (Some(name), Some(version)) = (text_in(table, "name"), text_in(table, "version")) else {
+        return Ok(None);
+    };
+    match version_of(alloc, version) {
+        Ok(version) => Ok(Some(Found {
+            name: String::from_str(alloc, name)?,
+            version,
+            manifest: Some(licenses_in(alloc, table)?),
+        })),
+        Err(Error::Memory) => Err(Fault::Library(Error::Memory)),
+        Err(_) => Ok(None),
+    }
 }
 
 // What a manifest says of the licence.
-fn manifest_in(alloc: Global, table: &Table) -> Result<Manifest, AllocError> {
+fn licenses_in(alloc: Global, table: &Table) -> Result<Manifest, AllocError> {
     let license = owned(alloc, text_in(table, "license"))?;
     let license_file = owned(alloc, text_in(table, "license-file"))?;
     Ok(Manifest {

@@ -2,58 +2,60 @@
 
 ghost use Rattle.std.specs.Prelude.{◌≡◌, [], IfOk, None};
 
-use crate::files::{
-    all_names_in, digest_at, fault_at, fault_of, is_file_and_no_link, names_in, path_of, text_at,
-};
+use crate::files::{self, all_names_in, digest_at, entry_at, fault_at, fault_of, path_of, text_at};
 use crate::manifest::{manifest_path, table_at, text_in};
 use cargo_lock_parts::Error;
-use cargo_lock_parts::package::{Checksum, Package};
-use cargo_lock_verify::Folder;
+use cargo_lock_parts::package::{Checksum, Name, Package};
+use cargo_lock_references::package_version::version_of;
+use cargo_lock_verify::{Content, Entry, Folder};
 use cli_support::Fault;
 use serde_json::{Category, Value};
 use std::alloc::{AllocError, Global};
 use std::collections::BTreeMap;
-use std::fs;
-use std::path::Path;
 use std::rt::Files;
 use toml::Table;
 
 /// The list of the files of a folder.
 const LIST: &str = ".cargo-checksum.json";
 
-/// The paths of the folders with a manifest, by the name and the version that it has. No path is
-/// made of a name of a lockfile.
+/// The entries of a folder that `cargo vendor` made, and the paths of those that are folders of a
+/// name and a version. No path is made of a name of a lockfile.
 #[derive(Drop)]
 pub struct Vendor {
+    entries: Vec<Entry>,
     folders: BTreeMap<String, Vec<String>>,
 }
 
 impl Vendor {
-    /// Reads the manifests of the folders in a folder. A folder whose name begins with a dot, one
-    /// without a manifest, one whose manifest is a link, and one whose manifest has no name and no
-    /// version are left out, and so is a link. Fails if a folder or a manifest is not read.
+    /// Reads what is in a folder, and the manifests of the folders in it. Fails if one of them is not
+    /// read, if a name is not UTF-8, and if an entry that Cargo may read is neither a file nor a folder
+    /// nor a link.
     pub fn of<R: Files + AllocGlobal>(rt: &R, folder: &str) -> Result<Vendor, Fault> {
         let mut vendor = Vendor {
+            entries: Vec::new(rt.alloc()),
             folders: BTreeMap::new(rt.alloc()),
         };
-        for name in &names_in(rt, folder)? {
-            if !name.starts_with('.') {
-                vendor.put(rt, path_of(rt.alloc(), folder, name)?)?;
-            }
+        for name in &all_names_in(rt, folder)? {
+            let path = path_of(rt.alloc(), folder, name)?;
+            let content = content_at(rt, &path, name)?;
+            vendor.put(rt.alloc(), Entry { path, content })?;
         }
         Ok(vendor)
     }
 
-    /// Adds what is at a path, if it is a folder with a manifest.
-    fn put<R: Files + AllocGlobal>(&mut self, rt: &R, path: String) -> Result<(), Fault> {
-        let manifest = manifest_path(rt.alloc(), &path)?;
-        if kind_at(rt, &path)? != Kind::Folder || !is_file_and_no_link(rt, &manifest) {
-            return Ok(());
+    /// Adds an entry.
+    fn put(&mut self, alloc: Global, entry: Entry) -> Result<(), Fault> {
+        if let Content::Folder(name, version) = &entry.content {
+            let identity = format!(in alloc; "{name} {version}")?;
+            self.put_path(alloc, identity, entry.path.clone()?)?;
         }
-        match identity_at(rt, &manifest)? {
-            Some(identity) => self.put_path(rt.alloc(), identity, path),
-            None => Ok(()),
-        }
+        self.entries.push(entry)?;
+        Ok(())
+    }
+
+    /// The entries, in the order of their names.
+    pub fn entries(&self) -> &[Entry] {
+        self.entries.as_slice()
     }
 
     /// Adds the path of a folder of this name and version.
@@ -112,49 +114,57 @@ fn identity_of(alloc: Global, package: &Package) -> Result<String, AllocError> {
     format!(in alloc; "{name} {version}")
 }
 
-/// The name and the version that the manifest at a path has.
-fn identity_at<R: Files + AllocGlobal>(rt: &R, path: &str) -> Result<Option<String>, Fault> {
-    let table = table_at(rt, path)?;
-    let identity = identity_in(rt.alloc(), &table)?;
-    Ok(identity)
+// ---- an entry
+
+/// What the entry of this name at a path is.
+fn content_at<R: Files + AllocGlobal>(rt: &R, path: &str, name: &str) -> Result<Content, Fault> {
+    if name.starts_with('.') {
+        return Ok(Content::PassedOver);
+    }
+    match entry_at(rt, path)? {
+        Some(files::Entry::File) => Ok(Content::PassedOver),
+        Some(files::Entry::Folder) => content_of_folder(rt, path),
+        Some(files::Entry::Link) => Ok(Content::Link),
+        _ => Err(fault_of(rt.alloc(), path, "it is neither a file nor a folder")),
+    }
 }
 
-/// The name and the version in the table of a manifest.
-fn identity_in(alloc: Global, manifest: &Table) -> Result<Option<String>, AllocError> {
+/// What the folder at a path is.
+fn content_of_folder<R: Files + AllocGlobal>(rt: &R, path: &str) -> Result<Content, Fault> {
+    let manifest = manifest_path(rt.alloc(), path)?;
+    match entry_at(rt, &manifest)? {
+        Some(files::Entry::File) => content_by_manifest(rt, &manifest),
+        Some(files::Entry::Link) => Ok(Content::LinkedManifest),
+        None => Ok(Content::PassedOver),
+        _ => Err(fault_of(rt.alloc(), &manifest, "it is no file")),
+    }
+}
+
+/// What a folder is by its manifest at a path.
+fn content_by_manifest<R: Files + AllocGlobal>(rt: &R, path: &str) -> Result<Content, Fault> {
+    let table = table_at(rt, path)?;
+    content_in(rt.alloc(), &table)
+}
+
+/// What a folder is by the table of its manifest.
+fn content_in(alloc: Global, manifest: &Table) -> Result<Content, Fault> {
     match (text_in(manifest, "name"), text_in(manifest, "version")) {
-        (Some(name), Some(version)) => Ok(Some(format!(in alloc; "{name} {version}")?)),
-        _ => Ok(None),
+        (Some(name), Some(version)) => content_with(alloc, name, version),
+        _ => Ok(Content::Nameless),
+    }
+}
+
+/// What a folder is whose manifest has these texts as its name and its version. Cargo trims a version;
+/// here one with a space is none.
+fn content_with(alloc: Global, name: &str, version: &str) -> Result<Content, Fault> {
+    match version_of(alloc, version) {
+        Ok(version) => Ok(Content::Folder(Name::from_str(alloc, name)?, version)),
+        Err(Error::Memory) => Err(Fault::Library(Error::Memory)),
+        Err(_) => Ok(Content::Nameless),
     }
 }
 
 // ---- a folder
-
-/// What is at a path.
-#[derive(Clone, Copy, PartialEq, Eq)]
-enum Kind {
-    /// A file.
-    File,
-
-    /// A folder.
-    Folder,
-
-    /// A link.
-    Link,
-
-    /// Nothing of these.
-    Other,
-}
-
-/// What is at a path. A link is not followed.
-fn kind_at<R: Files + AllocGlobal>(rt: &R, path: &str) -> Result<Kind, Fault> {
-    match fs::symlink_metadata(rt, Path::new(path)) {
-        Ok(found) if found.is_file() => Ok(Kind::File),
-        Ok(found) if found.is_dir() => Ok(Kind::Folder),
-        Ok(found) if found.is_symlink() => Ok(Kind::Link),
-        Ok(_) => Ok(Kind::Other),
-        Err(error) => Err(fault_at(rt.alloc(), path, error)),
-    }
-}
 
 /// The list of the folder at a path, and the files and links in it.
 fn folder_at<R: Files + AllocGlobal>(rt: &R, path: &str) -> Result<Folder, Fault> {
@@ -217,12 +227,12 @@ fn put_at<R: Files + AllocGlobal>(
     path: String,
 ) -> Result<(), Fault> {
     let at = path_of(rt.alloc(), &folder.path, &path)?;
-    match kind_at(rt, &at)? {
-        Kind::Folder => waiting.push(path)?,
-        Kind::Link => folder.links.push(path)?,
-        Kind::File if path.as_str() == LIST => {}
-        Kind::File => put_file(rt, folder, path, &at)?,
-        Kind::Other => return Err(fault_of(rt.alloc(), &at, "it is no file")),
+    match entry_at(rt, &at)? {
+        Some(files::Entry::Folder) => waiting.push(path)?,
+        Some(files::Entry::Link) => folder.links.push(path)?,
+        Some(files::Entry::File) if path.as_str() == LIST => {}
+        Some(files::Entry::File) => put_file(rt, folder, path, &at)?,
+        _ => return Err(fault_of(rt.alloc(), &at, "it is no file")),
     }
     Ok(())
 }
@@ -248,8 +258,9 @@ fn put_file<R: Files + AllocGlobal>(
 /// Adds what the list of the folder says.
 fn put_list<R: Files + AllocGlobal>(rt: &R, folder: &mut Folder) -> Result<(), Fault> {
     let path = path_of(rt.alloc(), &folder.path, LIST)?;
-    if kind_at(rt, &path)? != Kind::File {
-        return Err(fault_of(rt.alloc(), &path, "it is no file"));
+    match entry_at(rt, &path)? {
+        Some(files::Entry::File) | None => {}
+        Some(_) => return Err(fault_of(rt.alloc(), &path, "it is no file")),
     }
     let text = text_at(rt, &path)?;
     match Value::from_str(rt.alloc(), text.as_str()) {

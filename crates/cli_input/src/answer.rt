@@ -5,7 +5,7 @@ ghost use Rattle.cli_input.specs.Json.{PrintsAnswer};
 
 use cargo_lock_audit::advisories_json;
 use cargo_lock_display::File;
-use cargo_lock_licenses::verdicts_json;
+use cargo_lock_licenses::licenses_json;
 use cargo_lock_query::{Answers, Listing, answers_json, groups_json};
 use cargo_lock_verify::{VendorReport, archives_json, folders_json};
 use clap::ArgMatches;
@@ -81,7 +81,7 @@ impl Answer for cargo_lock_verify::Report<'_, '_> {
     ghost use Rattle.cargo_lock_verify.specs.Archives.{archive_finding_of};
 
     ghost json = { λ file report.
-        archives_json file report.verified (map archive_finding_of report.findings.items) };
+        archives_json file report.counts (map archive_finding_of report.findings.items) };
 
     fn document(&self, alloc: Global, file: &File<'_>) -> Result<String, AllocError> {
         archives_json(alloc, file, self)
@@ -93,7 +93,7 @@ impl Answer for VendorReport<'_, '_> {
     ghost use Rattle.cargo_lock_verify.specs.Vendored.{folder_finding_of};
 
     ghost json = { λ file report.
-        folders_json file report.verified (map folder_finding_of report.findings.items) };
+        folders_json file report.counts (map folder_finding_of report.findings.items) };
 
     fn document(&self, alloc: Global, file: &File<'_>) -> Result<String, AllocError> {
         folders_json(alloc, file, self)
@@ -101,22 +101,23 @@ impl Answer for VendorReport<'_, '_> {
 }
 
 impl Answer for cargo_lock_licenses::Report<'_, '_> {
-    ghost use Rattle.cargo_lock_licenses.specs.Document.{verdicts_json};
-    ghost use Rattle.cargo_lock_licenses.specs.Verdicts.{verdict_of};
+    ghost use Rattle.cargo_lock_licenses.specs.Document.{licenses_json};
+    ghost use Rattle.cargo_lock_licenses.specs.Judged.{judged_of};
+    ghost use Rattle.cargo_lock_licenses.specs.Report.{unmet_of};
 
-    ghost json = { λ file report. verdicts_json file (map verdict_of report.verdicts.items) };
+    ghost json = { λ file report. licenses_json file (map judged_of report.judged.items)
+        (map unmet_of report.unmet.items) };
 
     fn document(&self, alloc: Global, file: &File<'_>) -> Result<String, AllocError> {
-        verdicts_json(alloc, file, &self.verdicts)
+        licenses_json(alloc, file, self)
     }
 }
 
 impl Answer for cargo_lock_audit::Report<'_, '_, '_> {
-    ghost use Rattle.cargo_lock_audit.specs.Findings.{advisory_finding_of, id_of};
     ghost use Rattle.cargo_lock_audit.specs.Document.{advisories_json};
+    ghost use Rattle.cargo_lock_audit.specs.Report.{report_data_of};
 
-    ghost json = { λ file report. advisories_json file
-        (map advisory_finding_of report.findings.items) (map id_of report.unmet.items) };
+    ghost json = { λ file report. advisories_json file (report_data_of report) };
 
     fn document(&self, alloc: Global, file: &File<'_>) -> Result<String, AllocError> {
         advisories_json(alloc, file, self)

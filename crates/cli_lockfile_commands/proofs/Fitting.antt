@@ -3,10 +3,9 @@ use Rattle.std.proofs.Common.{◌≡◌, ◌≢◌, ◌<◌, ◌++◌, ◌∷◌
 use Rattle.std.specs.List.{Contains}
 use Rattle.std.proofs.lemmas.List.Elements.{Contains-append_left, Contains-append_right, Contains-append_cases, Contains-get_or, Contains-push, Contains-push_cases}
 use Rattle.lists.specs.Places.{IsPlaces}
-use Rattle.cargo_lock_graph.specs.Edges.{GraphData, externals}
-use Rattle.cargo_lock_graph.specs.declared.graph.EdgeDirection.TheVariants.{Incoming}
+use Rattle.cargo_lock_graph.specs.Edges.{GraphData}
 use Rattle.cargo_lock_parts.specs.Identity.{PackageData}
-use Rattle.cli_lockfile_commands.specs.Graph.{AreBegun, AreFitting}
+use Rattle.cli_lockfile_commands.specs.Graph.{AreBegun, AreDrawnStarts, AreFitting}
 use Rattle.cargo_lock_query.specs.Spec.{SpecFits}
 
 pub none-fitting : (packages : List PackageData) → AreFitting [] packages []
@@ -48,15 +47,15 @@ fitting-within specs packages starts are k d low = ((are.listed (get_or starts k
 
 -- ---- where a picture begins
 
-pub begun-at-roots : (specs : List (List ℕ)) (graph : GraphData) (starts : List ℕ) → specs ≡ [] → starts ≡ externals Incoming graph → AreBegun specs graph starts
-begun-at-roots specs graph starts none is = record {
-  roots = λ _. is;
+pub begun-at-roots : (specs : List (List ℕ)) (graph : GraphData) (starts : List ℕ) → specs ≡ [] → AreDrawnStarts graph starts → AreBegun specs graph starts
+begun-at-roots specs graph starts none are = record {
+  drawn = λ _. are;
   specified = λ some. absurd (some none);
 }
 
 pub begun-at-fitting : (specs : List (List ℕ)) (graph : GraphData) (packages : List PackageData) (starts : List ℕ) → 0 < length specs → packages ≡ graph.packages
     → AreFitting specs packages starts → AreBegun specs graph starts
 begun-at-fitting specs graph packages starts some alike are = record {
-  roots = λ none. (let e : length specs ≡ 0 = ap length none in absurd (omega (arith, e, some)));
+  drawn = λ none. (let e : length specs ≡ 0 = ap length none in absurd (omega (arith, e, some)));
   specified = λ _. subst (λ (ps : List PackageData). AreFitting specs ps starts) alike are;
 }

@@ -1,5 +1,5 @@
 -- What `graph` prints.
-use Rattle.std.specs.Prelude.{◌≡◌, ◌≢◌, ◌↔◌, ◌<◌, ℕ, Bool, if◌then◌else◌, List, [], Option, codes}
+use Rattle.std.specs.Prelude.{◌≡◌, ◌≢◌, ◌↔◌, ◌<◌, ◌++◌, ℕ, Bool, if◌then◌else◌, List, [], Option, codes}
 use Rattle.std.specs.Prelude.{bytes_eq, length, unwrap_or}
 use Rattle.std.specs.Io.KnownBytes.{Appends}
 use Rattle.std.specs.List.{Contains}
@@ -20,6 +20,7 @@ use Rattle.cargo_lock_graph.specs.declared.graph.EdgeDirection.TheVariants.{Inco
 use Rattle.cargo_lock.specs.Loads.{IsMeant}
 use Rattle.cli_input.specs.Json.{IsFlag}
 use Rattle.cargo_lock_query.specs.Spec.{SpecFits}
+use Rattle.cargo_lock_query.specs.Starts.{IsMember}
 use Rattle.cli_lockfile_commands.specs.Tree.{direction_of, given_specs}
 use Rattle.cli_input.specs.Load.{IsGraphOf}
 
@@ -37,10 +38,17 @@ pub record AreFitting (specs : List (List ℕ)) (packages : List PackageData)
   pub some : (spec : List ℕ) → Contains specs spec → (k : ℕ) × Contains places k
       × SpecFits spec packages k
 
--- the nodes from which a picture begins: without specifications the roots, and otherwise the
--- packages that they fit
+-- the nodes from which a picture begins without specifications: the roots, and then the packages
+-- without a source
+abbrev pub AreDrawnStarts : GraphData → List ℕ → Type 0
+AreDrawnStarts graph starts = (members : List ℕ)
+    × IsPlaces (IsMember graph) (length graph.packages) members
+    × (starts ≡ externals Incoming graph ++ members)
+
+-- the nodes from which a picture begins: without specifications those, and otherwise the packages
+-- that they fit
 pub record AreBegun (specs : List (List ℕ)) (graph : GraphData) (starts : List ℕ) : Type 0 where
-  pub roots : specs ≡ [] → starts ≡ externals Incoming graph
+  pub drawn : specs ≡ [] → AreDrawnStarts graph starts
   pub specified : specs ≢ [] → AreFitting specs graph.packages starts
 
 -- a picture of a graph: the packages to which edges lead in a direction from the starts, and the

@@ -3,7 +3,8 @@ ghost use Rattle.std.specs.Prelude.{◌≡◌, ◌<◌, All, IfOk, OnOk, length,
 ghost use Rattle.std.specs.Io.KnownBytes.{Appends};
 ghost use Rattle.clap.specs.Matches.{found_of};
 ghost use Rattle.cargo_lock_diagram.specs.Diagram.{diagram_text};
-ghost use Rattle.cli_lockfile_commands.specs.Graph.{AreBegun, AreFitting, DrawsGraph, DrawsPicture, target_in};
+ghost use Rattle.cli_lockfile_commands.specs.Graph.{AreBegun, AreDrawnStarts, AreFitting, DrawsGraph};
+ghost use Rattle.cli_lockfile_commands.specs.Graph.{DrawsPicture, target_in};
 ghost use Rattle.cli_lockfile_commands.specs.Tree.{given_specs};
 
 use crate::tree::direction;
@@ -11,6 +12,7 @@ use cargo_lock::Package;
 use cargo_lock::dependency::graph::{Graph, NodeIndex};
 use cargo_lock::dependency::tree::roots_of;
 use cargo_lock_diagram::{Diagram, Picture, Target, picture_from};
+use cargo_lock_query::reason::members;
 use clap::{Arg, ArgAction, ArgMatches, Command};
 use cli_input::load::named_graph;
 use cli_input::spec::{some_fitting, specs};
@@ -57,8 +59,8 @@ fn format<'a>(alloc: Global) -> Arg<'a> {
         .help("The text is for Graphviz, or for Mermaid")
 }
 
-/// Prints the picture of the packages that the specifications name, or of the roots if there are
-/// none, and of what they lead to. Fails if the lockfile is not read or has no tree, if a
+/// Prints the picture of the packages that the specifications name, or of the roots and the packages
+/// of the workspace if there are none, and of what they lead to. Fails if the lockfile is not read or has no tree, if a
 /// specification matches no package, or if `out` fails; a prefix of the text was then written in
 /// the last case, and nothing in the others.
 pub fn run<R: Files + Input + AllocGlobal, W: Write>(
@@ -98,7 +100,7 @@ fn starts(alloc: Global, graph: &Graph, options: &ArgMatches<'_>) -> Result<Vec<
 {
     match options.get_strs("spec") {
         Some(specs) => starts_of(alloc, graph, specs),
-        None => Ok(roots_of(alloc, graph)?),
+        None => drawn_starts(alloc, graph),
     }
 }
 
@@ -110,9 +112,22 @@ fn starts_of(alloc: Global, graph: &Graph, specs: &[&str]) -> Result<Vec<NodeInd
         AreBegun (map (λ spec. spec.now) specs.now) graph.now starts.items) }
 {
     if specs.is_empty() {
-        return Ok(roots_of(alloc, graph)?);
+        return drawn_starts(alloc, graph);
     }
     all_fitting(alloc, graph.packages(), specs)
+}
+
+/// The nodes from which the picture begins without specifications: the roots, and the packages of
+/// the workspace, to which no root leads where they depend on each other in a circle.
+fn drawn_starts(alloc: Global, graph: &Graph) -> Result<Vec<NodeIndex>, Fault>
+    ensures within { IfOk result (λ starts.
+        All (λ start. start < length graph.now.packages) starts.items) }
+    ensures drawn { IfOk result (λ starts. AreDrawnStarts graph.now starts.items) }
+{
+    let mut starts = roots_of(alloc, graph)?;
+    let members = members(alloc, graph)?;
+    starts.extend_from_slice(&members)?;
+    Ok(starts)
 }
 
 /// The nodes of the packages that match the specifications. Fails if none matches one of them.

@@ -1,13 +1,8 @@
-use Rattle.std.proofs.Common.{arith, map}
-use Rattle.cargo_lock_audit.specs.Findings.{advisory_finding_of, id_of}
+use Rattle.std.proofs.Common.{arith}
+use Rattle.cargo_lock_audit.specs.Report.{report_data_of}
 use Rattle.cargo_lock_audit.proofs.DocumentDepth.{advisories-depth}
 use Rattle.cargo_lock_audit.proofs.document.advisories_json.Goals as goal
 
 pub json_line-requires : goal.json_line-requires
 json_line-requires c =
-    omega (
-      arith,
-      advisories-depth c.args.file.now
-          (map advisory_finding_of c.args.report.now.findings.items)
-          (map id_of c.args.report.now.unmet.items),
-    )
+    omega (arith, advisories-depth c.args.file.now (report_data_of c.args.report.now))

@@ -5,9 +5,9 @@ use Rattle.cargo_lock_verify.specs.ArchivesDocument.{archive_finding_json, said_
 use Rattle.cargo_lock_verify.proofs.DocumentDepth.{found-depth}
 use Rattle.cargo_lock_verify.proofs.archives_document.archives_json.Goals as goal
 
-pub verified_document-requires : goal.verified_document-requires
-verified_document-requires c = λ finding. omega (arith, found-depth (said_of_archive_finding (archive_finding_of finding)))
+pub compared_document-requires : goal.compared_document-requires
+compared_document-requires c = λ finding. omega (arith, found-depth (said_of_archive_finding (archive_finding_of finding)))
 
 pub returns : goal.returns
 returns c = rw (map-map archive_finding_json archive_finding_of c.args.report.now.findings.items, sym c.deref.ensures.value)
-    c.verified_document.ensures
+    c.compared_document.ensures

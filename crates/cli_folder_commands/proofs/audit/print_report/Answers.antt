@@ -7,8 +7,7 @@ returns g c = rw (
   sym c.in_ok-denied.ensures,
   sym c.deref.ensures.value,
   sym c.deref-2.ensures.value,
-  sym c.in_ok-report.ensures.findings,
-  sym c.in_ok-report.ensures.unmet,
+  sym c.in_ok-report.ensures,
 ) (record {
   printed = c.in_ok-print_answer.ensures;
   some = λ h. c.status_of.ensures.found (ap not (c.is_denied.ensures ∙ h));

@@ -15,4 +15,5 @@ returns c = rw (sym c.deref.ensures.value, sym c.deref-2.ensures.value)
     (then c.in_ok-key.ensures
     (then (by_another advisory_finding_json advisory_finding_of _ c.in_ok-write_array.ensures)
     (then c.in_ok-key-2.ensures
-    (then (by_another string id_of _ c.in_ok-write_array-2.ensures) c.end_object.ensures)))))
+    (then (by_another string id_of _ c.in_ok-write_array-2.ensures)
+    (then c.in_ok-put_coverage.ensures c.end_object.ensures))))))

@@ -1,0 +1,5 @@
+use Rattle.std.proofs.Common.{sym}
+use Rattle.cargo_lock_audit.proofs.document.put_unaffected.Goals as goal
+
+pub returns : goal.returns
+returns c = rw (sym c.advisory.view_is, sym c.deref.ensures.value) c.put_requirements.ensures

@@ -1,0 +1,103 @@
+//! What was found under a name and a version in a folder of manifests.
+
+ghost use Rattle.std.specs.Prelude.{◌≡◌, ◌++◌, IfOk, OnOk, map, option_map, option_to_list};
+ghost use Rattle.std.specs.Prelude.{string_bytes};
+ghost use Rattle.cargo_lock_licenses.specs.Subjects.{manifest_of};
+ghost use Rattle.cli_folders.specs.Manifests.{found_of, is_named_as, is_without, manifests_if};
+
+use cargo_lock_licenses::Manifest;
+use cargo_lock_parts::package::{Package, Version};
+use cargo_lock_references::package_version::same_version;
+use std::alloc::{AllocError, Global};
+
+/// What was found under a name and a version: what a manifest says, or, in `None`, a folder that is
+/// named so, and whose manifest does not count.
+#[derive(Drop)]
+pub struct Found {
+    /// The name.
+    pub(crate) name: String,
+
+    /// The version.
+    pub(crate) version: Version,
+
+    /// What the manifest says.
+    pub(crate) manifest: Option<Manifest>,
+}
+
+impl Found {
+    /// What was found of a package without a manifest that counts.
+    pub(crate) fn without_manifest(alloc: Global, package: &Package) -> Result<Found, AllocError> {
+        Ok(Found {
+            name: String::from_str(alloc, package.name.as_str())?,
+            version: package.version.clone()?,
+            manifest: None,
+        })
+    }
+
+    /// Whether it has the name and the version of a package.
+    pub(crate) fn is_named_as(&self, package: &Package) -> bool
+        ensures { result ≡ is_named_as «package».now (found_of self.now) }
+    {
+        package.name.as_str() == self.name.as_str() && same_version(&package.version, &self.version)
+    }
+
+    /// Whether it has them, and no manifest that counts.
+    pub(crate) fn is_without(&self, package: &Package) -> bool
+        ensures { result ≡ is_without «package».now (found_of self.now) }
+    {
+        self.is_named_as(package) && self.manifest.is_none()
+    }
+
+    /// Adds its manifest, if it is of a package.
+    pub(crate) fn put_if(
+        &self,
+        alloc: Global,
+        manifests: &mut Vec<Manifest>,
+        package: &Package,
+    ) -> Result<(), AllocError>
+        ensures { OnOk result (map manifest_of manifests.new.items
+            ≡ map manifest_of manifests.old.items ++ manifests_if «package».now (found_of self.now)) }
+    {
+        if !self.is_named_as(package) {
+            return Ok(());
+        }
+        self.put(alloc, manifests)
+    }
+
+    // Adds its manifest.
+    fn put(&self, alloc: Global, manifests: &mut Vec<Manifest>) -> Result<(), AllocError>
+        ensures { OnOk result (map manifest_of manifests.new.items
+            ≡ map manifest_of manifests.old.items ++ option_to_list (found_of self.now).manifest) }
+    {
+        if let Some(manifest) = &self.manifest {
+            manifests.push(copy_of(alloc, manifest)?)?;
+        }
+        Ok(())
+    }
+}
+
+// The same once more.
+fn copy_of(alloc: Global, manifest: &Manifest) -> Result<Manifest, AllocError>
+    ensures { IfOk result (λ copy. manifest_of copy ≡ manifest_of manifest.now) }
+{
+    let license = copied(alloc, &manifest.license)?;
+    let license_file = copied(alloc, &manifest.license_file)?;
+    Ok(Manifest {
+        license,
+        license_file,
+    })
+}
+
+// The text once more, if there is one.
+fn copied(alloc: Global, text: &Option<String>) -> Result<Option<String>, AllocError>
+    ensures { IfOk result
+        (λ copy. option_map string_bytes copy ≡ option_map string_bytes text.now) }
+{
+    match text {
+        Some(text) => {
+            let text = String::from_str(alloc, text)?;
+            Ok(Some(text))
+        }
+        None => Ok(None),
+    }
+}
