@@ -3,13 +3,15 @@ ghost use Rattle.std.specs.Prelude.{◌≡◌, IfOk, map};
 ghost use Rattle.clap.specs.Matches.{found_of};
 ghost use Rattle.cargo_lock_check.specs.Finding.{lockfile_finding_of};
 ghost use Rattle.cli.specs.Check.{IsFindingsStatus, PrintsCheck, PrintsFindings, PrintsFindingsOf};
+ghost use Rattle.cli.specs.Check.{PrintsRefused};
 
-use cargo_lock::Lockfile;
+use crate::refused::report_table;
+use cargo_lock::{Error, Lockfile};
 use cargo_lock_check::{Finding, Findings, findings_json};
 use cargo_lock_display::File;
 use clap::{ArgMatches, Command};
 use cli_input::answer::{Answer, print_answer};
-use cli_input::load::{file, named_lockfile_of, named_text};
+use cli_input::load::{file, named_text, refusal};
 use cli_support::{Fault, words};
 use std::alloc::{AllocError, Global};
 use std::fmt;
@@ -39,7 +41,19 @@ Each finding is a line, in this order:
 now; V4 keeps it
   format: V4 does not keep this lockfile
   text: line NUMBER is not as Cargo writes it: `LINE` for `CARGO'S LINE`
-A package of the workspace is one without a source. The status is 1 where anything is found, and 2 where the lockfile cannot be read.";
+A package of the workspace is one without a source.
+
+A table of TOML that does not read as a lockfile has other lines. One for each value of a package that \
+does not read:
+  KEY: NAME VERSION: `TEXT` is not a version     or source, or reference
+  KEY: NAME VERSION: missing                     or not a text, or not a list
+  checksum: NAME VERSION: expected 64 hex digits, got NUMBER
+and where all of them read, one for each reference that is of nothing:
+  reference: PACKAGE depends on NAME, which no package is
+  reference: PACKAGE depends on NAME, which is named without a version
+  reference: PACKAGE is replaced by NAME, which is named without a version
+
+The status is 1 where anything is found, and 2 where the lockfile cannot be read for another reason.";
 
 /// The parser of this command: its options.
 pub(crate) fn command<'a>(alloc: Global) -> Result<Command<'a>, AllocError> {
@@ -52,9 +66,10 @@ pub(crate) fn command<'a>(alloc: Global) -> Result<Command<'a>, AllocError> {
 }
 
 /// Prints what is wrong with the lockfile, a line for each finding, or, if the arguments ask for
-/// it, all as one line of JSON. The status is 1 if there is a finding, and otherwise 0. Fails if
-/// the lockfile is not read or `out` fails; a prefix of the text was then written in the last case,
-/// and nothing in the others.
+/// it, all as one line of JSON. The status is 1 if there is a finding, and otherwise 0. Of a text
+/// that is no lockfile it prints what keeps its table from being one. Fails if the text is no table,
+/// or nothing of that is found in it, or `out` fails; a prefix of the text was then written in the
+/// last case, and nothing in the others.
 pub(crate) fn run<R: Files + Input + AllocGlobal, W: Write>(
     rt: &R,
     options: &ArgMatches<'_>,
@@ -66,8 +81,32 @@ pub(crate) fn run<R: Files + Input + AllocGlobal, W: Write>(
 {
     let file = named_text(rt, options, "file")?;
     let text = file.as_str();
-    let lockfile = named_lockfile_of(rt.alloc(), options, "file", text)?;
-    report(rt.alloc(), options, text, &lockfile, out)
+    match Lockfile::from_str(rt.alloc(), text) {
+        Ok(lockfile) => report(rt.alloc(), options, text, &lockfile, out),
+        Err(error) => report_refused(rt.alloc(), options, text, error, out),
+    }
+}
+
+/// Prints what keeps a text from being read, where its table says it. Returns the status. Fails with
+/// the error of reading it, which is this one, where the text is no table or nothing is found in it.
+fn report_refused<W: Write>(
+    alloc: Global,
+    options: &ArgMatches<'_>,
+    text: &str,
+    error: Error,
+    out: &mut W,
+) -> Result<ExitCode, Fault>
+    ensures { IfOk result (λ status. PrintsRefused (found_of options.now) text.now
+        (W.contents out.old) (W.contents out.new) (status ≡ ExitCode.FAILURE)) }
+{
+    let Error::Parse(_) = &error else {
+        return Err(refusal(alloc, options, "file", text, error));
+    };
+    match report_table(alloc, options, text, out) {
+        Ok(Some(status)) => Ok(status),
+        Ok(None) => Err(refusal(alloc, options, "file", text, error)),
+        Err(fault) => Err(fault),
+    }
 }
 
 /// Prints what is wrong with a lockfile that was read from a text. Returns the status.

@@ -20,6 +20,7 @@ ghost use Rattle.cli.specs.Ending.{status_in};
 mod check;
 mod ending;
 mod merge;
+mod refused;
 
 use crate::ending::Ended;
 use cargo_lock_bom::options::VERSION;
