@@ -28,7 +28,7 @@ use std::alloc::{AllocError, Global};
 /// of memory.
 ///
 /// ```
-/// let text = table_findings_json(rt.alloc(), &file, &report)?;
+/// let text = table_findings_json(rt.alloc(), &file, report)?;
 /// ```
 pub fn table_findings_json(
     alloc: Global,
