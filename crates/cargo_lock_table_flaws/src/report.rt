@@ -1,7 +1,7 @@
 //! What is reported of a table that is no lockfile.
 
 ghost use Rattle.std.specs.Prelude.{◌≡◌, ◌≢◌, [], IfOk, IsOkUnless, MatchOption, Some, map};
-ghost use Rattle.toml.specs.View.{table_view};
+ghost use Rattle.toml.specs.View.{table_view, view};
 ghost use Rattle.cargo_lock_encoding.specs.Lockfiles.{format_of};
 ghost use Rattle.cargo_lock_encoding.specs.TableReading.{encoded_at};
 ghost use Rattle.cargo_lock_parts.specs.declared.error.Error.TheVariants.{Memory};
@@ -9,9 +9,11 @@ ghost use Rattle.cargo_lock_table_flaws.specs.Finding.{table_finding_of};
 ghost use Rattle.cargo_lock_table_flaws.specs.Format.{said_format};
 ghost use Rattle.cargo_lock_table_flaws.specs.Report.{IsUnreadReport, IsUnresolvedReport};
 ghost use Rattle.cargo_lock_table_flaws.specs.Report.{IsWithoutUnread, IsWithoutUnresolved};
+ghost use Rattle.cargo_lock_table_flaws.specs.Report.{item_count, listed_count};
 
 use crate::finding::TableFinding;
 use crate::format::said_format;
+use crate::table::value_at;
 use crate::unread::unread_values;
 use crate::unresolved::unresolved_references;
 use cargo_lock_encoding::{EncodableLockfile, encoded_at};
@@ -21,7 +23,7 @@ use cargo_lock_references::version::format_of_values;
 use std::alloc::Global;
 use std::fmt;
 use std::marker::Model;
-use toml::Table;
+use toml::{Table, Value};
 
 /// What keeps a table from being read as a lockfile. `Display` writes its findings in their order,
 /// each with its newline.
@@ -29,6 +31,9 @@ use toml::Table;
 pub struct TableReport<'a> {
     /// The format of the table.
     pub format: ResolveVersion,
+
+    /// How many packages the table lists.
+    pub packages: usize,
 
     /// The findings, of which there is at least one.
     pub findings: Vec<TableFinding<'a>>,
@@ -43,6 +48,7 @@ impl<'a> Model for TableReport<'a> {
 
     ghost view = { λ r. record {
       format = r.format;
+      packages = r.packages;
       findings = map table_finding_of r.findings.items;
     } };
 }
@@ -95,7 +101,7 @@ fn unread_in<'a>(
     ensures err { IsOkUnless result Memory }
 {
     let findings = unread_values(alloc, table)?;
-    Ok(report_of(format, findings))
+    Ok(report_of(format, listed_count(table), findings))
 }
 
 /// The values of a table, unless one of them does not read. The one error is `Memory`, which is also
@@ -170,20 +176,45 @@ fn unresolved_in<'a>(
     ensures err { IsOkUnless result Memory }
 {
     let findings = unresolved_references(alloc, format, values)?;
-    Ok(report_of(format, findings))
+    Ok(report_of(format, values.package.len(), findings))
 }
 
 // The report of findings, if there are any.
 fn report_of<'a>(
     format: ResolveVersion,
+    packages: usize,
     findings: Vec<TableFinding<'a>>,
 ) -> Option<TableReport<'a>>
     ensures { MatchOption result (map table_finding_of findings.entry.items ≡ [])
-        (λ r. (r.format ≡ format) × (r.findings ≡ map table_finding_of findings.entry.items)
-        × (r.findings ≢ [])) }
+        (λ r. (r.format ≡ format) × (r.packages ≡ packages)
+        × (r.findings ≡ map table_finding_of findings.entry.items) × (r.findings ≢ [])) }
 {
     if findings.is_empty() {
         return None;
     }
-    Some(TableReport { format, findings })
+    Some(TableReport {
+        format,
+        packages,
+        findings,
+    })
+}
+
+// How many packages a table lists.
+fn listed_count(table: &Table) -> usize
+    ensures { result ≡ listed_count (table_view table.now) }
+{
+    match value_at(table, "package") {
+        Some(list) => item_count(list),
+        None => 0,
+    }
+}
+
+// How many items a value has, if it is a list.
+fn item_count(list: &Value) -> usize
+    ensures { result ≡ item_count (view list.now) }
+{
+    match list.as_array() {
+        Some(list) => list.len(),
+        None => 0,
+    }
 }

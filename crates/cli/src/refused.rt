@@ -1,11 +1,11 @@
 //! What the command `check` prints of a table that is no lockfile.
-ghost use Rattle.std.specs.Prelude.{◌≡◌, IfOk, IfSome, Some, option_map};
+ghost use Rattle.std.specs.Prelude.{◌≡◌, IfOk, IfSome, option_map, string_bytes};
 ghost use Rattle.clap.specs.Matches.{found_of};
 ghost use Rattle.toml.specs.Parse.{parse_document};
 ghost use Rattle.toml.specs.View.{table_view};
-ghost use Rattle.cargo_lock_table_flaws.specs.Report.{IsTableReport};
-ghost use Rattle.cli.specs.Check.{PrintsRefused, PrintsTable, PrintsTableReport};
+ghost use Rattle.cli.specs.Check.{PrintsTable, PrintsTableOf, PrintsTableReport};
 
+use crate::counts::counts_line;
 use cargo_lock_table_flaws::{TableReport, table_values, unread_report, unresolved_report};
 use clap::ArgMatches;
 use cli_input::answer::print_answer;
@@ -13,20 +13,19 @@ use cli_input::load::file_in;
 use cli_support::Fault;
 use std::alloc::{AllocError, Global};
 use std::io::Write;
-use std::process::ExitCode;
 use toml::Table;
 
 /// Prints what keeps the table of a text from being read as a lockfile, if there is such a thing, and
-/// returns the status. Otherwise nothing is written. Fails if `out` fails, and, before anything is
-/// written, when out of memory.
+/// returns the line of counts. Otherwise nothing is written. Fails if `out` fails, and, before anything
+/// is written, when out of memory.
 pub(crate) fn report_table<W: Write>(
     alloc: Global,
     options: &ArgMatches<'_>,
     text: &str,
     out: &mut W,
-) -> Result<Option<ExitCode>, Fault>
-    ensures { IfOk result (λ found. IfSome found (λ status. PrintsRefused (found_of options.now)
-        text.now (W.contents out.old) (W.contents out.new) (status ≡ ExitCode.FAILURE))) }
+) -> Result<Option<String>, Fault>
+    ensures { IfOk result (λ found. IfSome found (λ counts. PrintsTableOf (found_of options.now)
+        text.now (string_bytes counts) (W.contents out.old) (W.contents out.new))) }
 {
     match table_of(alloc, text)? {
         Some(table) => report_members(alloc, options, &table, out),
@@ -52,10 +51,10 @@ fn report_members<W: Write>(
     options: &ArgMatches<'_>,
     table: &Table,
     out: &mut W,
-) -> Result<Option<ExitCode>, Fault>
-    ensures { IfOk result (λ found. IfSome found (λ status. PrintsTable (found_of options.now)
-        (table_view table.now) (W.contents out.old) (W.contents out.new)
-        (status ≡ ExitCode.FAILURE))) }
+) -> Result<Option<String>, Fault>
+    ensures { IfOk result (λ found. IfSome found (λ counts. PrintsTable (found_of options.now)
+        (table_view table.now) (string_bytes counts)
+        (W.contents out.old) (W.contents out.new))) }
 {
     match unread_report(alloc, table)? {
         Some(report) => print_report(alloc, options, &report, out),
@@ -69,10 +68,10 @@ fn report_references<W: Write>(
     options: &ArgMatches<'_>,
     table: &Table,
     out: &mut W,
-) -> Result<Option<ExitCode>, Fault>
-    ensures { IfOk result (λ found. IfSome found (λ status. PrintsTable (found_of options.now)
-        (table_view table.now) (W.contents out.old) (W.contents out.new)
-        (status ≡ ExitCode.FAILURE))) }
+) -> Result<Option<String>, Fault>
+    ensures { IfOk result (λ found. IfSome found (λ counts. PrintsTable (found_of options.now)
+        (table_view table.now) (string_bytes counts)
+        (W.contents out.old) (W.contents out.new))) }
 {
     let Some(values) = table_values(alloc, table)? else {
         return Ok(None);
@@ -83,18 +82,19 @@ fn report_references<W: Write>(
     }
 }
 
-/// Prints a report. Returns the status.
+/// Prints a report. Returns the line of counts.
 fn print_report<W: Write>(
     alloc: Global,
     options: &ArgMatches<'_>,
     report: &TableReport<'_>,
     out: &mut W,
-) -> Result<Option<ExitCode>, Fault>
-    ensures { IfOk result (λ found. IfSome found (λ status. PrintsTableReport
-        (found_of options.now) report.now (W.contents out.old) (W.contents out.new)
-        × (status ≡ ExitCode.FAILURE))) }
+) -> Result<Option<String>, Fault>
+    ensures { IfOk result (λ found. IfSome found (λ counts. PrintsTableReport
+        (found_of options.now) report.now (string_bytes counts)
+        (W.contents out.old) (W.contents out.new))) }
 {
     let file = file_in(options, "file", report.format);
+    let counts = counts_line(alloc, report.packages, report.findings.len())?;
     print_answer(alloc, options, &file, report, out)?;
-    Ok(Some(ExitCode::FAILURE))
+    Ok(Some(counts))
 }
