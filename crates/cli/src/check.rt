@@ -56,7 +56,8 @@ and where all of them read, one for each reference that is of nothing:
   reference: PACKAGE depends on NAME, which is named without a version
   reference: PACKAGE is replaced by NAME, which is named without a version
 
-The status is 1 where anything is found, and 2 where the lockfile cannot be read for another reason.";
+On standard error is a line of counts, where anything is found or it is a terminal. The status is 1 \
+where anything is found, and 2 where the lockfile cannot be read for another reason.";
 
 /// The parser of this command: its options.
 pub(crate) fn command<'a>(alloc: Global) -> Result<Command<'a>, AllocError> {
