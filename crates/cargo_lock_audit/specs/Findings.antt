@@ -6,9 +6,10 @@ use Rattle.std.specs.List.{Contains, flat_map, list_any}
 use Rattle.cargo_lock_parts.specs.Identity.{PackageData}
 use Rattle.cargo_lock_audit.specs.declared.finding.Finding.{Finding}
 use Rattle.cargo_lock_audit.specs.declared.report.Unmet.{Unmet}
-use Rattle.cargo_lock_audit.specs.Advisory.{AdvisoryData, Concerns, IsNameOf, comes_from_crates_io}
+use Rattle.cargo_lock_audit.specs.Advisory.{AdvisoryData, Concerns, IsNameOf, counts_as_crates_io}
 use Rattle.cargo_lock_audit.specs.Advisory.{is_name_of}
 use Rattle.cargo_lock_audit.specs.Pairs.{PairData, pairs}
+use Rattle.cargo_lock_audit.specs.Settings.{SettingsData}
 use Rattle.cargo_lock_audit.specs.Texts.{is_listed}
 
 -- a package that an advisory concerns, and whether it is denied
@@ -40,28 +41,28 @@ abbrev pub is_ignored : List (List ℕ) → AdvisoryData → Bool
 is_ignored ignored a = list_any (is_name_of a) ignored
 
 -- the finding of a pair
-abbrev pub judged : List (List ℕ) → PairData → AdvisoryFindingData
-judged denied q = record {
+abbrev pub judged : SettingsData → PairData → AdvisoryFindingData
+judged settings q = record {
   content = q.content;
   advisory = q.advisory;
-  is_denied = is_denied_kind denied q.advisory.informational;
+  is_denied = is_denied_kind settings.denied q.advisory.informational;
 }
 
 -- the finding of a pair, unless its advisory is ignored
-abbrev pub finding_if : List (List ℕ) → List (List ℕ) → PairData → List AdvisoryFindingData
-finding_if ignored denied q =
-    if is_ignored ignored q.advisory then [] else judged denied q ∷ []
+abbrev pub finding_if : SettingsData → PairData → List AdvisoryFindingData
+finding_if settings q =
+    if is_ignored settings.ignored q.advisory then [] else judged settings q ∷ []
 
 -- what is found of pairs, in their order
-abbrev pub findings_of : List (List ℕ) → List (List ℕ) → List PairData → List AdvisoryFindingData
-findings_of ignored denied = flat_map (finding_if ignored denied)
+abbrev pub findings_of : SettingsData → List PairData → List AdvisoryFindingData
+findings_of settings = flat_map (finding_if settings)
 
--- what is found of packages: of each, in their order, the advisories that concern it and are not
--- ignored, in the order of the advisories
-abbrev pub advisory_findings : List PackageData → List AdvisoryData → List (List ℕ) → List (List ℕ)
+-- what is found of packages by settings: of each, in their order, the advisories that concern it
+-- and are not ignored, in the order of the advisories
+abbrev pub advisory_findings : SettingsData → List PackageData → List AdvisoryData
     → List AdvisoryFindingData
-advisory_findings packages advisories ignored denied =
-    findings_of ignored denied (pairs packages advisories)
+advisory_findings settings packages advisories =
+    findings_of settings (pairs settings.registries packages advisories)
 
 -- the bytes of a text of the program that was ignored in vain
 abbrev pub id_of : Unmet → List ℕ
@@ -90,26 +91,28 @@ IsIgnored ignored a = (text : List ℕ) × Contains ignored text × IsNameOf a t
 -- what is found is exactly each package with each advisory that concerns it and is not ignored; it
 -- is denied by the kind of the advisory
 abbrev pub AdvisoryFindingsAreExact : Type 0
-AdvisoryFindingsAreExact = (packages : List PackageData) (advisories : List AdvisoryData)
-    (ignored denied : List (List ℕ)) (f : AdvisoryFindingData)
-    → Contains (advisory_findings packages advisories ignored denied) f
-    ↔ (Contains packages f.content × Contains advisories f.advisory × Concerns f.advisory f.content
-    × (¬ IsIgnored ignored f.advisory)
-    × (f.is_denied ≡ is_denied_kind denied f.advisory.informational))
+AdvisoryFindingsAreExact = (settings : SettingsData) (packages : List PackageData)
+    (advisories : List AdvisoryData) (f : AdvisoryFindingData)
+    → Contains (advisory_findings settings packages advisories) f
+    ↔ (Contains packages f.content × Contains advisories f.advisory
+    × Concerns settings.registries f.advisory f.content
+    × (¬ IsIgnored settings.ignored f.advisory)
+    × (f.is_denied ≡ is_denied_kind settings.denied f.advisory.informational))
 
 -- nothing is found exactly if each advisory that concerns a package is ignored
 abbrev pub NoneIfUnconcerned : Type 0
-NoneIfUnconcerned = (packages : List PackageData) (advisories : List AdvisoryData)
-    (ignored denied : List (List ℕ)) → (advisory_findings packages advisories ignored denied ≡ [])
+NoneIfUnconcerned = (settings : SettingsData) (packages : List PackageData)
+    (advisories : List AdvisoryData) → (advisory_findings settings packages advisories ≡ [])
     ↔ ((p : PackageData) (a : AdvisoryData) → Contains packages p → Contains advisories a
-    → Concerns a p → IsIgnored ignored a)
+    → Concerns settings.registries a p → IsIgnored settings.ignored a)
 
--- nothing is found in a lockfile without packages of crates.io
+-- nothing is found in a lockfile without packages that count as those of crates.io
 abbrev pub NoneWithoutCratesIo : Type 0
-NoneWithoutCratesIo = (packages : List PackageData) (advisories : List AdvisoryData)
-    (ignored denied : List (List ℕ))
-    → ((p : PackageData) → Contains packages p → comes_from_crates_io p.source ≡ false)
-    → advisory_findings packages advisories ignored denied ≡ []
+NoneWithoutCratesIo = (settings : SettingsData) (packages : List PackageData)
+    (advisories : List AdvisoryData)
+    → ((p : PackageData) → Contains packages p
+    → counts_as_crates_io settings.registries p.source ≡ false)
+    → advisory_findings settings packages advisories ≡ []
 
 -- the finding is of an advisory that the texts do not ignore
 abbrev pub is_not_ignored : List (List ℕ) → AdvisoryFindingData → Bool
@@ -117,13 +120,13 @@ is_not_ignored ignored f = not (is_ignored ignored f.advisory)
 
 -- to ignore more advisories leaves out their findings, and changes nothing else
 abbrev pub IgnoringLeavesOut : Type 0
-IgnoringLeavesOut = (packages : List PackageData) (advisories : List AdvisoryData)
-    (ignored more denied : List (List ℕ))
-    → advisory_findings packages advisories (ignored ++ more) denied
-    ≡ filter (is_not_ignored more) (advisory_findings packages advisories ignored denied)
+IgnoringLeavesOut = (settings : SettingsData) (more : List (List ℕ)) (packages : List PackageData)
+    (advisories : List AdvisoryData)
+    → advisory_findings (record settings { ignored = settings.ignored ++ more }) packages advisories
+    ≡ filter (is_not_ignored more) (advisory_findings settings packages advisories)
 
 -- where `warnings` is denied, each finding is denied
 abbrev pub WarningsDenyAll : Type 0
-WarningsDenyAll = (packages : List PackageData) (advisories : List AdvisoryData)
-    (ignored denied : List (List ℕ)) (f : AdvisoryFindingData) → Contains denied warnings
-    → Contains (advisory_findings packages advisories ignored denied) f → f.is_denied ≡ true
+WarningsDenyAll = (settings : SettingsData) (packages : List PackageData)
+    (advisories : List AdvisoryData) (f : AdvisoryFindingData) → Contains settings.denied warnings
+    → Contains (advisory_findings settings packages advisories) f → f.is_denied ≡ true

@@ -9,5 +9,6 @@ pub mod Pairs
 pub mod Report
 pub mod Requirement
 pub mod RequirementReading
+pub mod Settings
 pub mod Texts
 pub mod Document

@@ -7,6 +7,7 @@ use Rattle.cargo_lock_audit.specs.Coverage.{CoverageData, coverage_data_of, cove
 use Rattle.cargo_lock_audit.specs.Findings.{AdvisoryFindingData, advisory_finding_of}
 use Rattle.cargo_lock_audit.specs.Findings.{advisory_findings, id_of, unmet}
 use Rattle.cargo_lock_audit.specs.Pairs.{pairs}
+use Rattle.cargo_lock_audit.specs.Settings.{SettingsData}
 
 -- what is found, the texts that were ignored in vain, and which packages were compared
 pub record ReportData : Type 0 where
@@ -22,11 +23,11 @@ report_data_of r = record {
   coverage = coverage_data_of r.coverage;
 }
 
--- what is reported of packages by the advisories about them, of a database that has so many
-abbrev pub report_of : List PackageData → List AdvisoryData → ℕ → List (List ℕ) → List (List ℕ)
-    → ReportData
-report_of packages advisories size ignored denied = record {
-  findings = advisory_findings packages advisories ignored denied;
-  unmet = unmet (pairs packages advisories) ignored;
-  coverage = coverage_of packages size;
+-- what is reported of packages by settings and by the advisories about them, of a database that has
+-- so many
+abbrev pub report_of : SettingsData → List PackageData → List AdvisoryData → ℕ → ReportData
+report_of settings packages advisories size = record {
+  findings = advisory_findings settings packages advisories;
+  unmet = unmet (pairs settings.registries packages advisories) settings.ignored;
+  coverage = coverage_of settings.registries packages size;
 }

@@ -9,7 +9,8 @@ ghost use Rattle.cargo_lock_audit.specs.Lines.{EachAuditedIsOneLine, FaultsArePr
 ghost use Rattle.cargo_lock_audit.specs.Lines.{LinesArePrintable};
 
 /// An advisory concerns a package exactly if both are about a crate of crates.io with one name, the
-/// advisory was not withdrawn, and the version lies in none of its requirements.
+/// advisory was not withdrawn, and the version lies in none of its requirements. The packages of
+/// registries that are named count as those of crates.io.
 pub fn concern_is_exact()
     ensures { ConcernIsExact }
 {}
@@ -24,7 +25,7 @@ pub fn none_if_unconcerned()
     ensures { NoneIfUnconcerned }
 {}
 
-/// Nothing is found in a lockfile without packages of crates.io.
+/// Nothing is found in a lockfile without packages that count as those of crates.io.
 pub fn none_without_crates_io()
     ensures { NoneWithoutCratesIo }
 {}
@@ -40,7 +41,7 @@ pub fn warnings_deny_all()
 {}
 
 /// The packages that are compared with advisories and those that are not are together the packages,
-/// each once, and exactly those of crates.io are compared.
+/// each once, and exactly those that count as those of crates.io are compared.
 pub fn coverage_is_exact()
     ensures { CoverageIsExact }
 {}

@@ -13,6 +13,7 @@ pub mod pair;
 pub mod report;
 pub mod requirement;
 mod requirement_reading;
+pub mod settings;
 mod texts;
 
 pub use crate::advisory::Advisory;
@@ -23,3 +24,4 @@ pub use crate::finding::Finding;
 pub use crate::pair::{Pair, pairs};
 pub use crate::report::{Report, Unmet};
 pub use crate::requirement::{Bound, Relation, Requirement};
+pub use crate::settings::{Settings, registry_of};

@@ -10,6 +10,7 @@ ghost use Rattle.cargo_lock_audit.specs.Findings.{unmet, unmet_if};
 ghost use Rattle.cargo_lock_audit.specs.Lines.{advisory_findings_text, unmet_text};
 ghost use Rattle.cargo_lock_audit.specs.Pairs.{advisory_pair_of};
 ghost use Rattle.cargo_lock_audit.specs.Report.{report_data_of, report_of};
+ghost use Rattle.cargo_lock_audit.specs.Settings.{settings_of};
 ghost use Rattle.cargo_lock_audit.specs.Texts.{bytes_of_texts};
 
 use crate::advisory::Advisory;
@@ -17,6 +18,7 @@ use crate::coverage::Coverage;
 use crate::database::Database;
 use crate::finding::Finding;
 use crate::pair::{Pair, pairs};
+use crate::settings::Settings;
 use crate::texts::is_listed;
 use cargo_lock_parts::package::Package;
 use printing::Shown;
@@ -63,27 +65,25 @@ impl fmt::Display for Unmet<'_> {
 
 impl<'p, 'a, 'i> Report<'p, 'a, 'i> {
     /// What is reported of these packages: each advisory that concerns one, but for those whose id or
-    /// alias is ignored. `denied` are the kinds of informational advisories that count as much as a
-    /// vulnerability; `warnings` names all kinds. Fails when out of memory.
+    /// alias is ignored. Fails when out of memory.
     ///
     /// ```
-    /// let report = Report::of(alloc, &lockfile.packages, &database, &ignored, &denied)?;
+    /// let report = Report::of(alloc, &lockfile.packages, &database, &settings)?;
     /// ```
     pub fn of(
         alloc: Global,
         packages: &'p [Package],
         database: &'a Database,
-        ignored: &'i [String],
-        denied: &[String],
+        settings: &'i Settings,
     ) -> Result<Report<'p, 'a, 'i>, AllocError>
-        ensures { IfOk result (λ report. report_data_of report ≡ report_of packages.now
-            database.now.advisories.items database.now.size (bytes_of_texts ignored.now)
-            (bytes_of_texts denied.now)) }
+        ensures { IfOk result (λ report. report_data_of report ≡ report_of
+            (settings_of settings.now) packages.now database.now.advisories.items
+            database.now.size) }
     {
-        let pairs = pairs(alloc, packages, &database.advisories)?;
-        let unmet = unmet_of(alloc, &pairs, ignored)?;
-        let findings = findings_of(alloc, &pairs, ignored, denied)?;
-        let coverage = Coverage::of(alloc, packages, database.size)?;
+        let pairs = pairs(alloc, packages, &database.advisories, &settings.registries)?;
+        let unmet = unmet_of(alloc, &pairs, &settings.ignored)?;
+        let findings = findings_of(alloc, &pairs, settings)?;
+        let coverage = Coverage::of(alloc, packages, &settings.registries, database.size)?;
         Ok(Report {
             findings,
             unmet,
@@ -103,16 +103,14 @@ impl<'p, 'a, 'i> Report<'p, 'a, 'i> {
 fn findings_of<'p, 'a>(
     alloc: Global,
     pairs: &[Pair<'p, 'a>],
-    ignored: &[String],
-    denied: &[String],
+    settings: &Settings,
 ) -> Result<Vec<Finding<'p, 'a>>, AllocError>
     ensures { IfOk result (λ v. map advisory_finding_of v.items
-        ≡ findings_of (bytes_of_texts ignored.now) (bytes_of_texts denied.now)
-        (map advisory_pair_of pairs.now)) }
+        ≡ findings_of (settings_of settings.now) (map advisory_pair_of pairs.now)) }
 {
     let mut found = Vec::new(alloc);
     for pair in pairs {
-        put_finding(&mut found, *pair, ignored, denied)?;
+        put_finding(&mut found, *pair, settings)?;
     }
     Ok(found)
 }
@@ -121,16 +119,15 @@ fn findings_of<'p, 'a>(
 fn put_finding<'p, 'a>(
     found: &mut Vec<Finding<'p, 'a>>,
     pair: Pair<'p, 'a>,
-    ignored: &[String],
-    denied: &[String],
+    settings: &Settings,
 ) -> Result<(), AllocError>
     ensures { OnOk result (map advisory_finding_of found.new.items
-        ≡ map advisory_finding_of found.old.items ++ finding_if (bytes_of_texts ignored.now)
-        (bytes_of_texts denied.now) (advisory_pair_of pair.entry)) }
+        ≡ map advisory_finding_of found.old.items
+        ++ finding_if (settings_of settings.now) (advisory_pair_of pair.entry)) }
 {
     let Pair { package, advisory } = pair;
-    if !is_ignored(ignored, advisory) {
-        let is_denied = is_denied_kind(denied, &advisory.informational);
+    if !is_ignored(&settings.ignored, advisory) {
+        let is_denied = is_denied_kind(&settings.denied, &advisory.informational);
         found.push(Finding {
             package,
             advisory,

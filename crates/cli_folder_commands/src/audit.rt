@@ -5,15 +5,17 @@ ghost use Rattle.std.specs.List.{list_any};
 ghost use Rattle.clap.specs.Matches.{found_of};
 ghost use Rattle.cargo_lock_audit.specs.Database.{AreInOrderOfIds};
 ghost use Rattle.cargo_lock_audit.specs.Report.{report_data_of};
+ghost use Rattle.cargo_lock_audit.specs.Settings.{settings_of};
 ghost use Rattle.cli_folder_commands.specs.Audit.{IsSomeDatabase, PrintsAudit, PrintsAuditOf};
 ghost use Rattle.cli_folder_commands.specs.Audit.{PrintsAuditReport};
 
 use crate::folders::folder;
+use crate::settings::settings_of;
 use crate::texts;
 use crate::verify::status_of;
 use cargo_lock::Lockfile;
 use cargo_lock::package::Package;
-use cargo_lock_audit::{Advisory, AdvisoryFile, Database, Report, database_of};
+use cargo_lock_audit::{Advisory, AdvisoryFile, Database, Report, Settings, database_of};
 use cargo_lock_display::File;
 use clap::{Arg, ArgMatches, Command};
 use cli_folders::{AdvisoryFiles, advisory_files, database_fault};
@@ -33,7 +35,7 @@ Each advisory that concerns a package of crates.io has a line, for each such pac
   ? NAME VERSION SRC: ID: KIND: TITLE; patched ..   it is informational, as `unmaintained`
   - ID: nothing to ignore                           no package has this advisory
 The last line says how many packages were compared with how many advisories of FOLDER, and how many \
-were not, since they are not of crates.io:
+were not, since they are neither of crates.io nor of a registry of `--registry`:
   39 packages of crates.io compared with 812 advisories; not compared: 2 from git
 
 An advisory concerns a package with its name whose version lies in none of the requirements of \
@@ -46,7 +48,7 @@ If one does not read, if another file or folder lies beside it whose name begins
 FOLDER has no advisory, nothing else is printed.
 
 The status is 1 where a line begins with `!`, and 2 where the lockfile, a folder or an advisory \
-cannot be read.";
+cannot be read, or a URL of `--registry` is none of a registry.";
 
 /// The options, as help shows them.
 const DATABASE_HELP: &str = "The folder of the advisories";
@@ -56,6 +58,9 @@ const IGNORE_HELP: &str =
 
 const DENY_HELP: &str =
     "Counts informational advisories of this kind as vulnerabilities; warnings are all kinds";
+
+const REGISTRY_HELP: &str =
+    "Takes packages of this registry for those of crates.io; URL is as in a lockfile";
 
 /// The kinds of informational advisories that RustSec has, and the word for all of them.
 const KINDS: [&str; 4] = ["unmaintained", "unsound", "notice", "warnings"];
@@ -70,6 +75,7 @@ pub fn command<'a>(alloc: Global) -> Result<Command<'a>, AllocError> {
         .arg(database_option(alloc))?
         .arg(texts::option(alloc, "ignore", "ID").help(IGNORE_HELP))?
         .arg(kinds_option(alloc))?
+        .arg(texts::option(alloc, "registry", "URL").help(REGISTRY_HELP))?
         .arg(json(alloc)?)
 }
 
@@ -87,9 +93,9 @@ fn kinds_option<'a>(alloc: Global) -> Arg<'a> {
 
 /// Prints which advisories concern packages of the lockfile, a line for each, and what was compared,
 /// or, if the arguments ask for it, all as one line of JSON. The status is 1 if one of them is a vulnerability or of a
-/// kind that is denied, and otherwise 0. Fails if the lockfile, a folder or an advisory is not read,
-/// or if `out` fails; a prefix of the text was then written in the last case, and nothing in the
-/// others.
+/// kind that is denied, and otherwise 0. Fails if a URL is none of a registry, if the lockfile, a
+/// folder or an advisory is not read, or if `out` fails; a prefix of the text was then written in the
+/// last case, and nothing in the others.
 pub fn run<R: Files + Input + AllocGlobal, W: Write>(
     rt: &R,
     options: &ArgMatches<'_>,
@@ -99,26 +105,29 @@ pub fn run<R: Files + Input + AllocGlobal, W: Write>(
         (W.contents out.old) (W.contents out.new)
         (status ≡ ExitCode.FAILURE) (status ≡ ExitCode.SUCCESS)) }
 {
+    let settings = settings_of(rt.alloc(), options)?;
     let lockfile = named_lockfile(rt, options, "file")?;
     let file = file(options, "file", &lockfile);
-    print_audit(rt, options, &file, &lockfile, out)
+    print_audit(rt, options, &settings, &file, &lockfile, out)
 }
 
-/// Prints which advisories concern packages of this lockfile. Returns the status.
+/// Prints which advisories concern packages of this lockfile, by settings. Returns the status.
 fn print_audit<R: Files + AllocGlobal, W: Write>(
     rt: &R,
     options: &ArgMatches<'_>,
+    settings: &Settings,
     file: &File<'_>,
     lockfile: &Lockfile,
     out: &mut W,
 ) -> Result<ExitCode, Fault>
-    ensures { IfOk result (λ status. PrintsAuditOf (found_of options.now) file.now
-        lockfile.now.packages (W.contents out.old) (W.contents out.new)
+    ensures { IfOk result (λ status. PrintsAuditOf (found_of options.now)
+        (settings_of settings.now) file.now lockfile.now.packages
+        (W.contents out.old) (W.contents out.new)
         (status ≡ ExitCode.FAILURE) (status ≡ ExitCode.SUCCESS)) }
 {
     let packages = lockfile.packages.as_slice();
     let database = database_in(rt, options.get_str("db").unwrap_or(""), packages)?;
-    print_report(rt.alloc(), options, file, packages, &database, out)
+    print_report(rt.alloc(), options, settings, file, packages, &database, out)
 }
 
 /// The database in a folder, with the advisories about packages with the name of one of these.
@@ -147,22 +156,22 @@ fn advisories_of(alloc: Global, files: Vec<AdvisoryFile>) -> Result<Vec<Advisory
     }
 }
 
-/// Prints which advisories of this database concern packages. Returns the status.
+/// Prints which advisories of this database concern packages, by settings. Returns the status.
 fn print_report<W: Write>(
     alloc: Global,
     options: &ArgMatches<'_>,
+    settings: &Settings,
     file: &File<'_>,
     packages: &[Package],
     database: &Database,
     out: &mut W,
 ) -> Result<ExitCode, Fault>
-    ensures { IfOk result (λ status. PrintsAuditReport (found_of options.now) file.now packages.now
-        database.now.advisories.items database.now.size (W.contents out.old) (W.contents out.new)
+    ensures { IfOk result (λ status. PrintsAuditReport (found_of options.now)
+        (settings_of settings.now) file.now packages.now database.now.advisories.items
+        database.now.size (W.contents out.old) (W.contents out.new)
         (status ≡ ExitCode.FAILURE) (status ≡ ExitCode.SUCCESS)) }
 {
-    let ignored = texts::given(alloc, options, "ignore")?;
-    let denied = texts::given(alloc, options, "deny")?;
-    let report = Report::of(alloc, packages, database, &ignored, &denied)?;
+    let report = Report::of(alloc, packages, database, settings)?;
     print_answer(alloc, options, file, &report, out)?;
     Ok(status_of(!is_denied(&report)))
 }
