@@ -8,12 +8,13 @@ use Rattle.cargo_lock_parts.specs.Identity.{PackageData}
 use Rattle.cargo_lock_parts.specs.Source.{Source}
 use Rattle.cargo_lock_order.specs.Canonical.{is_canonically_crates_io}
 use Rattle.cargo_lock_order.specs.Order.{is_canonically_same}
+use Rattle.cargo_lock_audit.specs.Details.{DetailsData}
 use Rattle.cargo_lock_audit.specs.Texts.{is_listed}
 use Rattle.cargo_lock_audit.specs.Requirement.{BoundData, RequirementData, lies_in, meets}
 
 -- an advisory: its id, its ids in other databases, the name of its package, its title; its kind if it
 -- is no vulnerability; the source and the collection of its package, if they are said; whether it was
--- withdrawn; and which versions are patched, or were never affected
+-- withdrawn; which versions are patched, or were never affected; and what its file says besides
 pub record AdvisoryData : Type 0 where
   pub id : List ℕ
   pub aliases : List (List ℕ)
@@ -25,6 +26,7 @@ pub record AdvisoryData : Type 0 where
   pub is_withdrawn : Bool
   pub patched : List RequirementData
   pub unaffected : List RequirementData
+  pub details : DetailsData
 
 -- the text is the id of the advisory or one of its aliases
 abbrev pub is_name_of : AdvisoryData → List ℕ → Bool

@@ -2,6 +2,8 @@ pub mod Advisory
 pub mod AdvisoryReading
 pub mod Coverage
 pub mod Database
+pub mod Details
+pub mod DetailsReading
 pub mod Findings
 pub mod FrontMatter
 pub mod Lines
@@ -11,4 +13,5 @@ pub mod Requirement
 pub mod RequirementReading
 pub mod Settings
 pub mod Texts
+pub mod Values
 pub mod Document

@@ -8,6 +8,7 @@ ghost use Rattle.cargo_lock_audit.specs.Advisory.{counts_as_crates_io, is_about_
 ghost use Rattle.cargo_lock_audit.specs.Advisory.{is_of_collection, is_one_of};
 ghost use Rattle.cargo_lock_audit.specs.Requirement.{lies_in};
 
+use crate::details::Details;
 use crate::requirement::Requirement;
 use crate::texts::is_listed;
 use cargo_lock_order::{is_canonically_crates_io, is_canonically_same};
@@ -16,8 +17,8 @@ use semver::Version;
 use std::alloc::{AllocError, Global};
 use std::marker::Model;
 
-/// What an advisory says, as far as it decides which packages the advisory concerns, and what is
-/// printed of it.
+/// What an advisory says: what decides which packages it concerns, what is printed of it, and what
+/// its file says besides.
 #[derive(Drop)]
 pub struct Advisory {
     /// Its id, as `RUSTSEC-2021-0003`.
@@ -49,6 +50,9 @@ pub struct Advisory {
 
     /// Which versions were never affected.
     pub unaffected: Vec<Requirement>,
+
+    /// What its file says besides.
+    pub details: Details,
 }
 
 impl Model for Advisory {
@@ -69,6 +73,7 @@ impl Model for Advisory {
       is_withdrawn = a.is_withdrawn;
       patched = a.patched.items;
       unaffected = a.unaffected.items;
+      details = a.details;
     } };
 }
 
