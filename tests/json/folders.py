@@ -13,7 +13,8 @@ LICENSES = ["license = \"MIT OR Apache-2.0\"", "license = \"GPL-3.0\"", "license
 KINDS = ["", "informational = \"unmaintained\"\n", "informational = \"unsound\"\n"]
 # What an advisory may say besides, of itself and of what is affected.
 DETAILS = ["", "url = \"https://example.org/a\"\n", "cvss = \"CVSS:3.1/AV:N\"\nkeywords = []\n",
-           "references = [\"https://example.org/b\", \"c\\\"\"]\ncategories = [\"crypto-failure\"]\n"]
+           "references = [\"https://example.org/b\", \"c\\\"\"]\n",
+           "categories = [\"crypto-failure\"]\nkeywords = [\"ssl\"]\n"]
 AFFECTED = ["", "[affected]\n", "[affected]\nos = [\"windows\"]\narch = [\"x86\", \"arm\"]\n",
             "[affected.functions]\n\"a::b\" = [\"< 1.0\"]\n\"a::B::c\" = []\n"]
 

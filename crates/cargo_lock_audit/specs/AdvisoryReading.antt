@@ -16,8 +16,9 @@ use Rattle.cargo_lock_audit.specs.DetailsReading.{details_at}
 use Rattle.cargo_lock_audit.specs.FrontMatter.{body_of, front_length, joined, title_in}
 use Rattle.cargo_lock_audit.specs.Requirement.{RequirementData}
 use Rattle.cargo_lock_audit.specs.RequirementReading.{requirement_of}
-use Rattle.cargo_lock_audit.specs.Values.{items_in, members_in, optional_by, optional_text, read_all}
-use Rattle.cargo_lock_audit.specs.Values.{required_members, required_text, text_in, texts_at_key}
+use Rattle.cargo_lock_audit.specs.Values.{items_in, members_in, optional_by, optional_text}
+use Rattle.cargo_lock_audit.specs.Values.{read_all, required_members, required_text, text_in}
+use Rattle.cargo_lock_audit.specs.Values.{texts_at_key}
 
 -- the source that a value reads as
 abbrev pub source_in : Data → Option Source

@@ -12,8 +12,8 @@ pub record AffectedData : Type 0 where
   pub os : List (List ℕ)
   pub arch : List (List ℕ)
 
--- when it was disclosed, where it is told, its CVSS, further references, its categories and keywords,
--- and what is affected, if that is said
+-- when it was disclosed, where it is told, its CVSS, further references, its categories and
+-- keywords, and what is affected, if that is said
 pub record DetailsData : Type 0 where
   pub date : List ℕ
   pub url : Option (List ℕ)

@@ -1,6 +1,6 @@
 -- What is found of packages by advisories, in JSON: the document that `audit --json` prints.
-use Rattle.std.specs.Prelude.{ℕ, [], ◌∷◌, ◌++◌, List, Option, None, Some, codes, decimal, length, map}
-use Rattle.std.specs.Prelude.{unwrap_or}
+use Rattle.std.specs.Prelude.{ℕ, [], ◌∷◌, ◌++◌, List, Option, None, Some, codes, decimal, length}
+use Rattle.std.specs.Prelude.{map, unwrap_or}
 use Rattle.json.specs.Json.{Json, Members, array, boolean, null, number, string, object, member}
 use Rattle.json.specs.Json.{no_members}
 use Rattle.json.specs.Token as token

@@ -32,10 +32,11 @@ impl Advisory {
     /// "```toml"; the front matter follows, a table of TOML, up to the next line that begins with
     /// "```"; and the first line after that which is not empty is `# TITLE`. In the table,
     /// `advisory` is a table with the texts `id`, `package` and `date`, and perhaps
-    /// `informational`, `source`, `collection`, `withdrawn`, `url` and `cvss`, and lists of texts
-    /// `aliases`, `references`, `categories` and `keywords`; `versions` may be a table with the lists
-    /// `patched` and `unaffected`, of requirements; and `affected` one with the lists of texts `os`
-    /// and `arch`, and a table `functions` with lists of texts. Other keys count for nothing.
+    /// `informational`, `source`, `collection`, `withdrawn`, `url` and `cvss`, and the lists of
+    /// texts `aliases`, `references`, `categories` and `keywords`; `versions` may be a table with
+    /// the lists `patched` and `unaffected`, of requirements; and `affected` one with the lists of
+    /// texts `os` and `arch`, and with a table `functions` of lists of texts. Other keys count for
+    /// nothing.
     ///
     /// `Parse` says what is wrong: a line that is missing, text that is no TOML, a key that is
     /// missing or of another type, a source or a requirement that does not read. It also comes for

@@ -30,8 +30,8 @@ pub struct Coverage<'p> {
 
 impl<'p> Coverage<'p> {
     /// Which of these packages are compared with a database of this many advisories: those of
-    /// crates.io and of these registries, however Cargo lets their sources be spelt. Fails when out of
-    /// memory.
+    /// crates.io and of these registries, however Cargo lets their sources be spelt. Fails when out
+    /// of memory.
     ///
     /// ```
     /// let coverage = Coverage::of(alloc, &lockfile.packages, registries, database.size)?;

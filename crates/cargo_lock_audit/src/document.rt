@@ -1,6 +1,7 @@
 //! What is found of packages by advisories, as a document of JSON.
 
-ghost use Rattle.std.specs.Prelude.{◌≡◌, ◌∷◌, IfOk, codes, decimal, length, option_map, string_bytes};
+ghost use Rattle.std.specs.Prelude.{◌≡◌, ◌∷◌, IfOk, codes, decimal, length, option_map};
+ghost use Rattle.std.specs.Prelude.{string_bytes};
 ghost use Rattle.json.specs.Json.{object};
 ghost use Rattle.json.specs.Token.{key, number, string};
 ghost use Rattle.json.specs.Tree.{json_tokens};

@@ -19,7 +19,8 @@ pub struct Pair<'p, 'a> {
 }
 
 /// Each package with each advisory that concerns it, in the order of the packages and then of the
-/// advisories. The packages of these registries count as those of crates.io. Fails when out of memory.
+/// advisories. The packages of these registries count as those of crates.io. Fails when out of
+/// memory.
 ///
 /// ```
 /// let pairs = pairs(alloc, &lockfile.packages, &advisories, registries)?;

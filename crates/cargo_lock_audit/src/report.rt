@@ -64,8 +64,8 @@ impl fmt::Display for Unmet<'_> {
 }
 
 impl<'p, 'a, 'i> Report<'p, 'a, 'i> {
-    /// What is reported of these packages: each advisory that concerns one, but for those whose id or
-    /// alias is ignored. Fails when out of memory.
+    /// What is reported of these packages: each advisory that concerns one, but for those whose id
+    /// or alias is ignored. Fails when out of memory.
     ///
     /// ```
     /// let report = Report::of(alloc, &lockfile.packages, &database, &settings)?;

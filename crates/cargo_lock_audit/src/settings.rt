@@ -17,14 +17,14 @@ pub struct Settings {
     /// The ids and aliases of the advisories that are ignored.
     pub ignored: Vec<String>,
 
-    /// The kinds of informational advisories that count as much as a vulnerability; `warnings` names
-    /// all kinds.
+    /// The kinds of informational advisories that count as much as a vulnerability; `warnings`
+    /// names all kinds.
     pub denied: Vec<String>,
 }
 
 /// The registry that a text names as a lockfile has its sources: `registry` or `sparse`, then `+`
-/// and a URL. Any other text is `Parse`, and so is one with a URL of 4 GB or more. The other error is
-/// `Memory`.
+/// and a URL. Any other text is `Parse`, and so is one with a URL of 4 GB or more. The other error
+/// is `Memory`.
 ///
 /// ```
 /// let mirror = registry_of(alloc, "sparse+https://mirror.example/index/")?;

@@ -88,7 +88,11 @@ pub(crate) fn required_members<'a>(alloc: Global, table: &'a Table, key: &str) -
 }
 
 /// The text at a key, if the key is present.
-pub(crate) fn optional_text<'a>(alloc: Global, table: &'a Table, key: &str) -> Result<Option<&'a str>>
+pub(crate) fn optional_text<'a>(
+    alloc: Global,
+    table: &'a Table,
+    key: &str,
+) -> Result<Option<&'a str>>
     ensures { Reads (λ o. option_copied o) result
         (optional_text (get_member key.now (table_view table.now))) }
 {

@@ -91,11 +91,11 @@ fn kinds_option<'a>(alloc: Global) -> Arg<'a> {
         .help(DENY_HELP)
 }
 
-/// Prints which advisories concern packages of the lockfile, a line for each, and what was compared,
-/// or, if the arguments ask for it, all as one line of JSON. The status is 1 if one of them is a vulnerability or of a
-/// kind that is denied, and otherwise 0. Fails if a URL is none of a registry, if the lockfile, a
-/// folder or an advisory is not read, or if `out` fails; a prefix of the text was then written in the
-/// last case, and nothing in the others.
+/// Prints which advisories concern packages of the lockfile, a line for each, and what was
+/// compared, or, if the arguments ask for it, all as one line of JSON. The status is 1 if one of
+/// them is a vulnerability or of a kind that is denied, and otherwise 0. Fails if a URL is none of a
+/// registry, if the lockfile, a folder or an advisory is not read, or if `out` fails; a prefix of
+/// the text was then written in the last case, and nothing in the others.
 pub fn run<R: Files + Input + AllocGlobal, W: Write>(
     rt: &R,
     options: &ArgMatches<'_>,
