@@ -134,7 +134,8 @@ _cargo_lock() {
         --ignore) ;;
         --deny) _cargo_lock_offer 'unmaintained unsound notice warnings' ;;
         --registry) ;;
-        *) _cargo_lock_offer '-f --file --any-size --db --ignore --deny --registry --json -h --help' ;;
+        --since) _cargo_lock_files ;;
+        *) _cargo_lock_offer '-f --file --any-size --db --ignore --deny --registry --since --json -h --help' ;;
         esac
         ;;
     help) _cargo_lock_offer 'list translate tree bom json diff check why duplicates graph merge verify licenses audit help' ;;

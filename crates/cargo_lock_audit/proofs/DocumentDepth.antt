@@ -1,5 +1,5 @@
 -- The depth of the document of advisories.
-use Rattle.std.proofs.Common.{◌≤◌, ℕ, List, [], ◌∷◌, Option, None, Some, arith, map}
+use Rattle.std.proofs.Common.{◌≤◌, ℕ, List, [], ◌∷◌, Bool, Option, None, Some, arith, map}
 use Rattle.json.specs.Json.{string}
 use Rattle.json.specs.Tree.{depth, members_depth}
 use Rattle.cargo_lock_audit.specs.Details.{AffectedData, FunctionData}
@@ -8,7 +8,7 @@ use Rattle.cargo_lock_audit.specs.Requirement.{RequirementData}
 use Rattle.cargo_lock_audit.specs.Report.{ReportData}
 use Rattle.cargo_lock_display.specs.PackageJson.{package_json}
 use Rattle.cargo_lock_parts.specs.Identity.{PackageData, identity_of}
-use Rattle.cargo_lock_audit.specs.Document.{advisories_json, advisory_finding_json, affected_json, affected_or_null, functions_members, texts_json}
+use Rattle.cargo_lock_audit.specs.Document.{advisories_json, advisory_finding_json, affected_json, affected_or_null, functions_members, texts_json, truth_or_null}
 use Rattle.cargo_lock_display.specs.File.{FileData, document_json}
 use Rattle.cargo_lock_display.proofs.Depth.{identity-depth}
 use Rattle.printing.proofs.Depth.{array-depth, text-depth}
@@ -25,6 +25,10 @@ unfolding affected_json
 affected-depth None = omega arith
 affected-depth (Some a) = omega (arith, functions-depth a.functions, texts-depth a.os, texts-depth a.arch)
 
+truth-depth : (truth : Option Bool) → depth (truth_or_null truth) ≤ 0
+truth-depth None = omega arith
+truth-depth (Some b) = omega arith
+
 finding-depth : (f : AdvisoryFindingData) → depth (advisory_finding_json f) ≤ 4
 unfolding advisory_finding_json
 finding-depth f = omega (
@@ -39,6 +43,7 @@ finding-depth f = omega (
   texts-depth f.advisory.details.categories,
   texts-depth f.advisory.details.keywords,
   affected-depth f.advisory.details.affected,
+  truth-depth f.brought,
 )
 
 pub advisories-depth : (file : FileData) (r : ReportData) → depth (advisories_json file r) ≤ 6

@@ -1,5 +1,5 @@
 -- What is found of packages by advisories, in JSON: the document that `audit --json` prints.
-use Rattle.std.specs.Prelude.{ℕ, [], ◌∷◌, ◌++◌, List, Option, None, Some, codes, decimal, length}
+use Rattle.std.specs.Prelude.{ℕ, [], ◌∷◌, ◌++◌, Bool, List, Option, None, Some, codes, decimal, length}
 use Rattle.std.specs.Prelude.{map, unwrap_or}
 use Rattle.json.specs.Json.{Json, Members, array, boolean, null, number, string, object, member}
 use Rattle.json.specs.Json.{no_members}
@@ -57,6 +57,11 @@ details_members d further =
     (member (codes "keywords") (texts_json d.keywords)
     (member (codes "affected") (affected_or_null d.affected) further))))))
 
+-- true, false, or null if it is not asked
+abbrev pub truth_or_null : Option Bool → Json
+truth_or_null None = null
+truth_or_null (Some b) = boolean b
+
 -- the JSON of a finding
 unfoldable pub advisory_finding_json : AdvisoryFindingData → Json
 advisory_finding_json f = object
@@ -69,7 +74,8 @@ advisory_finding_json f = object
     (member (codes "patched") (requirements_json f.advisory.patched)
     (member (codes "aliases") (texts_json f.advisory.aliases)
     (member (codes "unaffected") (requirements_json f.advisory.unaffected)
-    (details_members f.advisory.details no_members))))))))))
+    (details_members f.advisory.details
+    (member (codes "brought") (truth_or_null f.brought) no_members)))))))))))
 
 -- the findings, each once and in order, the texts that are ignored and of which no package has the
 -- advisory, how many packages were compared with how many advisories, and the packages that were not

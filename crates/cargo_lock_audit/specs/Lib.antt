@@ -1,5 +1,6 @@
 pub mod Advisory
 pub mod AdvisoryReading
+pub mod Audited
 pub mod Coverage
 pub mod Database
 pub mod Details

@@ -8,7 +8,7 @@ ghost use Rattle.json.specs.Tree.{json_tokens};
 ghost use Rattle.cargo_lock_audit.specs.Coverage.{coverage_data_of};
 ghost use Rattle.cargo_lock_audit.specs.Document.{advisory_kind, affected_json, affected_or_null};
 ghost use Rattle.cargo_lock_audit.specs.Document.{details_tokens, functions_members};
-ghost use Rattle.cargo_lock_audit.specs.Document.{requirements_json, texts_json};
+ghost use Rattle.cargo_lock_audit.specs.Document.{requirements_json, texts_json, truth_or_null};
 ghost use Rattle.cargo_lock_audit.specs.Document as spec;
 ghost use Rattle.cargo_lock_audit.specs.Report.{report_data_of};
 ghost use Rattle.cargo_lock_audit.specs.Texts.{bytes_of_texts};
@@ -100,6 +100,7 @@ impl ToJson for Finding<'_, '_> {
         put_aliases(out, advisory)?;
         put_unaffected(out, advisory)?;
         put_details(out, advisory)?;
+        put_truth_or_null(out, "brought", self.brought)?;
         out.end_object()
     }
 }
@@ -236,6 +237,20 @@ fn put_text_or_null(
 {
     match text {
         Some(text) => out.string_member(name, text.as_str()),
+        None => out.null_member(name),
+    }
+}
+
+// Writes a member whose value is true, false or null.
+fn put_truth_or_null(
+    out: &mut JsonWriter,
+    name: &str,
+    truth: Option<bool>,
+) -> Result<(), AllocError>
+    ensures { Adds result out.old out.new (key name.now ∷ json_tokens (truth_or_null truth)) }
+{
+    match truth {
+        Some(is_so) => out.boolean_member(name, is_so),
         None => out.null_member(name),
     }
 }

@@ -3,6 +3,7 @@
 
 pub mod advisory;
 mod advisory_reading;
+pub mod audited;
 pub mod coverage;
 pub mod database;
 pub mod details;
@@ -20,6 +21,7 @@ mod texts;
 mod values;
 
 pub use crate::advisory::Advisory;
+pub use crate::audited::Audited;
 pub use crate::coverage::Coverage;
 pub use crate::database::{AdvisoryFile, Database, DatabaseFault, database_of};
 pub use crate::details::{Affected, Details, Function};
