@@ -133,7 +133,9 @@ _cargo_lock() {
         --db) _cargo_lock_files ;;
         --ignore) ;;
         --deny) _cargo_lock_offer 'unmaintained unsound notice warnings' ;;
-        *) _cargo_lock_offer '-f --file --any-size --db --ignore --deny --json -h --help' ;;
+        --registry) ;;
+        --since) _cargo_lock_files ;;
+        *) _cargo_lock_offer '-f --file --any-size --db --ignore --deny --registry --since --json -h --help' ;;
         esac
         ;;
     help) _cargo_lock_offer 'list translate tree bom json diff check why duplicates graph merge verify licenses audit help' ;;

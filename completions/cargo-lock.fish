@@ -130,6 +130,8 @@ complete -c cargo-lock -n '__cargo_lock_runs audit' -l any-size -d 'Reads a lock
 complete -c cargo-lock -n '__cargo_lock_runs audit' -l db -r -F -d 'The folder of the advisories'
 complete -c cargo-lock -n '__cargo_lock_runs audit' -l ignore -r -d 'Leaves out the advisory of this id or alias, and others that are given so'
 complete -c cargo-lock -n '__cargo_lock_runs audit' -l deny -r -a 'unmaintained unsound notice warnings' -d 'Counts informational advisories of this kind as vulnerabilities'
+complete -c cargo-lock -n '__cargo_lock_runs audit' -l registry -r -d 'Takes packages of this registry for those of crates.io'
+complete -c cargo-lock -n '__cargo_lock_runs audit' -l since -r -F -d 'Counts only what this older lockfile does not have'
 complete -c cargo-lock -n '__cargo_lock_runs audit' -l json -d 'Prints one line of JSON'
 complete -c cargo-lock -n '__cargo_lock_runs audit' -s h -l help -d 'Print help'
 

@@ -159,6 +159,8 @@ _cargo-lock() {
             '--db[The folder of the advisories]:FOLDER:_files -/' \
             '*--ignore[Leaves out the advisory of this id or alias, and others that are given so]:ID:' \
             '*--deny[Counts informational advisories of this kind as vulnerabilities]:KIND:(unmaintained unsound notice warnings)' \
+            '*--registry[Takes packages of this registry for those of crates.io]:URL:' \
+            '--since[Counts only what this older lockfile does not have]:OLD:_files' \
             '--json[Prints one line of JSON]' \
             '(- *)'{-h,--help}'[Print help]'
         ;;
