@@ -7,10 +7,11 @@ use Rattle.cargo_lock_parts.specs.Identity.{Identity, PackageData}
 use Rattle.cargo_lock_display.proofs.Printed.{alone-prints, behind-prints, checksum-prints, dependency-prints, named-prints, package-prints, replacement-prints, version-prints}
 use Rattle.cargo_lock_diff.specs.Same.{have_one_place}
 use Rattle.cargo_lock_diff.specs.Change.{Added, Alarm, ChangeData, Checksum, EachChangeIsOneLine}
-use Rattle.cargo_lock_diff.specs.Change.{Moved, OtherDependencies, Removed, Replaced, Updated}
-use Rattle.cargo_lock_diff.specs.Change.{checksum_mark, checksums_text, downgrade_mark}
-use Rattle.cargo_lock_diff.specs.Change.{is_downgrade, is_of_registry, change_line, signed_text}
-use Rattle.cargo_lock_diff.specs.Change.{signed_texts, sources_text, updated_sources}
+use Rattle.cargo_lock_diff.specs.Change.{Moved, NewSource, NewSourceUpdate, OtherDependencies}
+use Rattle.cargo_lock_diff.specs.Change.{Removed, Replaced, Updated, checksum_mark}
+use Rattle.cargo_lock_diff.specs.Change.{checksums_text, downgrade_mark, is_downgrade}
+use Rattle.cargo_lock_diff.specs.Change.{is_of_registry, change_line, moved_text, signed_text}
+use Rattle.cargo_lock_diff.specs.Change.{signed_texts, sources_text, updated_sources, updated_text}
 
 sources-print : (old new : PackageData) → Prints (sources_text old new)
 sources-print old new = words (codes ": ") refl (join (alone-prints old.source) (words (codes " -> ") refl (alone-prints new.source)))
@@ -35,14 +36,22 @@ signed-prints is_old d =
 all-signed-print : (is_old : Bool) (ds : List Identity) → Prints (signed_texts is_old ds)
 all-signed-print is_old = join_each (signed_text is_old) (signed-prints is_old)
 
+moved-prints : (old new : PackageData) → Prints (moved_text old new)
+moved-prints old new = join (named-prints new) (sources-print old new)
+
+update-prints : (old new : PackageData) → Prints (updated_text old new)
+update-prints old new = join (named-prints old) (words (codes " -> ") refl
+    (join (version-prints new.version) (join (updated-prints old new) (downgrade-prints old new))))
+
 pub line-prints : (c : ChangeData) → Prints (change_line c)
 line-prints (Alarm old new) = words (codes "! ") refl (join (package-prints new) (checksums-print old new))
-line-prints (Moved old new) = words (codes "> ") refl (join (named-prints new) (sources-print old new))
+line-prints (NewSource old new) = words (codes "! ") refl (moved-prints old new)
+line-prints (NewSourceUpdate old new) = words (codes "! ") refl (update-prints old new)
+line-prints (Moved old new) = words (codes "> ") refl (moved-prints old new)
 line-prints (Checksum old new) = words (codes "? ") refl (join (package-prints new) (checksums-print old new))
 line-prints (Replaced old new) = words (codes "@ ") refl (join (package-prints new) (words (codes ": replacement ") refl
     (join (replacement-prints old.replace) (words (codes " -> ") refl (replacement-prints new.replace)))))
-line-prints (Updated old new) = words (codes "~ ") refl (join (named-prints old) (words (codes " -> ") refl
-    (join (version-prints new.version) (join (updated-prints old new) (downgrade-prints old new)))))
+line-prints (Updated old new) = words (codes "~ ") refl (update-prints old new)
 line-prints (Removed old) = words (codes "- ") refl (package-prints old)
 line-prints (Added new) = words (codes "+ ") refl (join (package-prints new) (mark-prints new))
 line-prints (OtherDependencies old new gone came) = words (codes "= ") refl (join (package-prints new)

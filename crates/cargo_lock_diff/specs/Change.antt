@@ -13,7 +13,8 @@ use Rattle.cargo_lock_diff.specs.declared.change.Aspect.TheVariants as aspect
 use Rattle.cargo_lock_diff.specs.declared.change.Change.{Change}
 use Rattle.cargo_lock_diff.specs.declared.change.Change.TheVariants as variant
 use Rattle.cargo_lock_diff.specs.Dependencies.{have_other_dependencies, only_in}
-use Rattle.cargo_lock_diff.specs.Difference.{DifferenceData, IsDifference, dependencies_at}
+use Rattle.cargo_lock_diff.specs.declared.accepted.Accepted.{Accepted}
+use Rattle.cargo_lock_diff.specs.Difference.{DifferenceData, IsDifferenceBut, dependencies_at}
 use Rattle.cargo_lock_diff.specs.Keys.{whole_key}
 use Rattle.cargo_lock_diff.specs.Same.{have_one_place, have_one_replacement, have_one_version}
 use Rattle.cargo_lock_order.specs.Precedence.{precedence_cmp}
@@ -21,13 +22,17 @@ use Rattle.cargo_lock_display.specs.Line.{checksum_text, dependency_shown, named
 use Rattle.cargo_lock_display.specs.Line.{replacement_shown, source_after_version, source_alone}
 use Rattle.cargo_lock_display.specs.Line.{version_shown}
 
--- One thing that differs. An alarm is of a new package and of an old one of its name and version
--- that has a checksum. A pair of the same version has another place, a checksum that it did not
+-- One thing that differs. An alarm of a checksum is of a new package and of an old one of its name
+-- and version that has a checksum. An alarm of a new source is of a new package that comes from one
+-- and of an old one of its name: of an added package, or of a pair of the same version; or it is of
+-- a pair of two versions. A pair of the same version has another place, a checksum that it did not
 -- have, or another replacement; a pair may have another version. A package was removed or added. A
 -- pair may have other dependencies: those that only the old one has, and those that only the new
 -- one has.
 pub data ChangeData : Type 0 where
   Alarm : PackageData → PackageData → ChangeData
+  NewSource : PackageData → PackageData → ChangeData
+  NewSourceUpdate : PackageData → PackageData → ChangeData
   Moved : PackageData → PackageData → ChangeData
   Checksum : PackageData → PackageData → ChangeData
   Replaced : PackageData → PackageData → ChangeData
@@ -39,6 +44,8 @@ pub data ChangeData : Type 0 where
 -- the change of the packages to which the references refer
 abbrev pub change_of : Change → ChangeData
 change_of (variant.Alarm old new) = Alarm old.now new.now
+change_of (variant.NewSource old new) = NewSource old.now new.now
+change_of (variant.NewSourceUpdate old new) = NewSourceUpdate old.now new.now
 change_of (variant.Moved old new) = Moved old.now new.now
 change_of (variant.Checksum old new) = Checksum old.now new.now
 change_of (variant.Replaced old new) = Replaced old.now new.now
@@ -68,13 +75,24 @@ change_in aspect.Version p = Updated p.0 p.1
 abbrev pub changes_in : Aspect → List (PackageData × PackageData) → List ChangeData
 changes_in one pairs = map (change_in one) (filter (differs_in one) pairs)
 
+-- the alarm of a pair whose new package comes from a new source
+abbrev pub strange_change : PackageData × PackageData → ChangeData
+strange_change p = if have_one_version p.0 p.1 then NewSource p.0 p.1 else NewSourceUpdate p.0 p.1
+
+-- the alarms of a difference: of checksums, of pairs from a new source, and of added packages from a
+-- new source
+abbrev pub alarms_of : DifferenceData → List ChangeData
+alarms_of d = map (λ a. Alarm a.0 a.1) d.alarms
+    ++ (map strange_change d.strange ++ map (λ a. NewSource a.0 a.1) d.came)
+
 -- the changes of a difference, in the order in which they are reported: alarms first, then other
 -- sources, new checksums, other replacements, other versions, packages that were removed and
--- packages that were added
+-- packages that were added. The alarm of a pair from a new source is in the place of its other
+-- source or other version; one of an added package is beside it.
 abbrev pub changes_of : DifferenceData → List ChangeData
-changes_of d = map (λ a. Alarm a.0 a.1) d.alarms ++ (changes_in aspect.Source d.pairs
+changes_of d = alarms_of d ++ (changes_in aspect.Source d.usual
     ++ (changes_in aspect.Checksum d.pairs ++ (changes_in aspect.Replacement d.pairs
-    ++ (changes_in aspect.Version d.pairs ++ (map Removed d.removed ++ map Added d.added)))))
+    ++ (changes_in aspect.Version d.usual ++ (map Removed d.removed ++ map Added d.added)))))
 
 -- the dependencies that only one of the packages of a pair has, by the pairs of a difference
 abbrev pub dependency_change_of : List (PackageData × PackageData) → PackageData × PackageData
@@ -145,15 +163,25 @@ signed_text is_old d = codes " " ++ ((if is_old then codes "-" else codes "+")
 abbrev pub signed_texts : Bool → List Identity → List ℕ
 signed_texts is_old = flat_map (signed_text is_old)
 
+-- a package of one version that moves: the version, and both sources
+abbrev pub moved_text : PackageData → PackageData → List ℕ
+moved_text old new = named_text new ++ sources_text old new
+
+-- a pair of two versions: both, the source or both sources, and the mark
+abbrev pub updated_text : PackageData → PackageData → List ℕ
+updated_text old new = named_text old ++ (codes " -> "
+    ++ (version_shown new.version ++ (updated_sources old new ++ downgrade_mark old new)))
+
 -- the line of a change
 abbrev pub change_line : ChangeData → List ℕ
 change_line (Alarm old new) = codes "! " ++ (package_text new ++ checksums_text old new)
-change_line (Moved old new) = codes "> " ++ (named_text new ++ sources_text old new)
+change_line (NewSource old new) = codes "! " ++ moved_text old new
+change_line (NewSourceUpdate old new) = codes "! " ++ updated_text old new
+change_line (Moved old new) = codes "> " ++ moved_text old new
 change_line (Checksum old new) = codes "? " ++ (package_text new ++ checksums_text old new)
 change_line (Replaced old new) = codes "@ " ++ (package_text new ++ (codes ": replacement "
     ++ (replacement_shown old.replace ++ (codes " -> " ++ replacement_shown new.replace))))
-change_line (Updated old new) = codes "~ " ++ (named_text old ++ (codes " -> "
-    ++ (version_shown new.version ++ (updated_sources old new ++ downgrade_mark old new))))
+change_line (Updated old new) = codes "~ " ++ updated_text old new
 change_line (Removed old) = codes "- " ++ package_text old
 change_line (Added new) = codes "+ " ++ (package_text new ++ checksum_mark new)
 change_line (OtherDependencies old new gone came) = codes "= " ++ (package_text new ++ (codes ":"
@@ -172,5 +200,5 @@ EachChangeIsOneLine = (changes : List ChangeData)
 
 -- no change is reported exactly if the lists have the same whole keys, each as often
 abbrev pub NoneIfPermuted : Type 0
-NoneIfPermuted = (olds news : List PackageData) (d : DifferenceData) → IsDifference olds news d
-    → (changes_of d ≡ []) ↔ IsPermutation (map whole_key olds) (map whole_key news)
+NoneIfPermuted = (accepted : List Accepted) (olds news : List PackageData) (d : DifferenceData)
+    → IsDifferenceBut accepted olds news d → (changes_of d ≡ []) ↔ IsPermutation (map whole_key olds) (map whole_key news)

@@ -7,7 +7,8 @@ use Rattle.std.specs.Prelude.{count_by, if◌then◌else◌}
 use Rattle.cargo_lock_diff.specs.declared.summary.Kind.{Kind}
 use Rattle.cargo_lock_diff.specs.declared.summary.Kind.TheVariants as kind
 use Rattle.cargo_lock_diff.specs.declared.summary.Summary.{Summary}
-use Rattle.cargo_lock_diff.specs.Change.{ChangeData, Alarm, Moved, Checksum, Replaced, Updated}
+use Rattle.cargo_lock_diff.specs.Change.{ChangeData, Alarm, NewSource, NewSourceUpdate, Moved}
+use Rattle.cargo_lock_diff.specs.Change.{Checksum, Replaced, Updated}
 use Rattle.cargo_lock_diff.specs.Change.{Removed, Added, OtherDependencies, is_downgrade, change_line, changes_text}
 
 -- the change is another version: one that is less than the old one, or one that is not
@@ -19,6 +20,8 @@ is_update downgrade other = false
 -- the change is of the kind
 abbrev pub is_of_kind : Kind → ChangeData → Bool
 is_of_kind kind.Alarm (Alarm old new) = true
+is_of_kind kind.Alarm (NewSource old new) = true
+is_of_kind kind.Alarm (NewSourceUpdate old new) = true
 is_of_kind kind.Alarm other = false
 is_of_kind kind.Source (Moved old new) = true
 is_of_kind kind.Source other = false

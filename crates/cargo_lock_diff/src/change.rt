@@ -1,18 +1,17 @@
 //! The changes that a difference reports, each as a line.
 
 ghost use Rattle.std.specs.Prelude.{◌≡◌, [], ◌∷◌, ◌++◌, IfOk, OnOk, map};
-ghost use Rattle.cargo_lock_diff.specs.Change.{Added, Alarm, Removed, change_in, change_of};
-ghost use Rattle.cargo_lock_diff.specs.Change.{changes_in, differs_in};
+ghost use Rattle.cargo_lock_diff.specs.Change.{Added, Alarm, NewSource, Removed, change_in};
+ghost use Rattle.cargo_lock_diff.specs.Change.{change_of, changes_in, differs_in, strange_change};
 ghost use Rattle.cargo_lock_diff.specs.Change as spec;
 ghost use Rattle.cargo_lock_diff.specs.Difference.{referred_packages, referred_pairs};
 
 use crate::dependencies::Targets;
-use crate::parts::{ChecksumMark, Checksums, DowngradeMark, Signed, Sources, UpdatedSources};
+use crate::parts::{ChecksumMark, Checksums, Moved, Signed, Updated};
 use crate::same::{have_one_place, have_one_replacement, have_one_version};
-use cargo_lock_display::{NameVersion, PackageText, ReplacementText};
+use cargo_lock_display::{PackageText, ReplacementText};
 use cargo_lock_parts::dependency::Dependency;
 use cargo_lock_parts::package::Package;
-use printing::Shown;
 use std::alloc::{AllocError, Global};
 use std::fmt;
 
@@ -27,6 +26,15 @@ pub enum Change<'a> {
     /// An alarm: `! NAME VERSION SRC: checksum OLD -> NEW`, or `-> none`. The old package has the
     /// name and the version of the new one and a checksum, which the new one does not have.
     Alarm(&'a Package, &'a Package),
+
+    /// An alarm: `! NAME VERSION: OLD -> NEW`, with the sources as in `Moved`. The new package comes
+    /// from a new source. It was added, or it is in a pair of the same version. The old one has its
+    /// name.
+    NewSource(&'a Package, &'a Package),
+
+    /// An alarm: `! NAME OLD -> NEW: OLD -> NEW`, as in `Updated`. The new package of a pair of two
+    /// versions comes from a new source.
+    NewSourceUpdate(&'a Package, &'a Package),
 
     /// A pair of the same version from another place: `> NAME VERSION: OLD -> NEW`. Here a source
     /// has no brackets, and crates.io is named.
@@ -72,10 +80,17 @@ impl fmt::Display for Change<'_> {
                 let checksums = Checksums(old, new);
                 write!(f, "! {package}{checksums}")
             }
+            Change::NewSource(old, new) => {
+                let moved = Moved(old, new);
+                write!(f, "! {moved}")
+            }
+            Change::NewSourceUpdate(old, new) => {
+                let updated = Updated(old, new);
+                write!(f, "! {updated}")
+            }
             Change::Moved(old, new) => {
-                let package = NameVersion(new);
-                let sources = Sources(old, new);
-                write!(f, "> {package}{sources}")
+                let moved = Moved(old, new);
+                write!(f, "> {moved}")
             }
             Change::Checksum(old, new) => {
                 let package = PackageText(new);
@@ -89,11 +104,8 @@ impl fmt::Display for Change<'_> {
                 write!(f, "@ {package}: replacement {from} -> {to}")
             }
             Change::Updated(old, new) => {
-                let package = NameVersion(old);
-                let version = Shown(&new.version);
-                let sources = UpdatedSources(old, new);
-                let mark = DowngradeMark(old, new);
-                write!(f, "~ {package} -> {version}{sources}{mark}")
+                let updated = Updated(old, new);
+                write!(f, "~ {updated}")
             }
             Change::Removed(old) => {
                 let package = PackageText(old);
@@ -160,6 +172,46 @@ pub(crate) fn add_alarms<'a>(
 {
     for alarm in alarms {
         all.push(Change::Alarm(alarm.0, alarm.1))?;
+    }
+    Ok(())
+}
+
+// Adds the alarms of pairs whose new package comes from a new source.
+pub(crate) fn add_strange<'a>(
+    all: &mut Vec<Change<'a>>,
+    pairs: &Vec<(&'a Package, &'a Package)>,
+) -> Result<(), AllocError>
+    ensures { OnOk result (map change_of all.new.items
+        ≡ map change_of all.old.items ++ map strange_change (referred_pairs pairs.now.items)) }
+{
+    for pair in pairs {
+        all.push(strange(pair.0, pair.1))?;
+    }
+    Ok(())
+}
+
+// The alarm of a pair whose new package comes from a new source.
+fn strange<'a>(old: &'a Package, new: &'a Package) -> Change<'a>
+    ensures { change_of result ≡ strange_change (old.now, new.now) }
+{
+    if have_one_version(old, new) {
+        Change::NewSource(old, new)
+    } else {
+        Change::NewSourceUpdate(old, new)
+    }
+}
+
+// Adds the alarms of added packages that come from a new source, each with an old one of its name.
+pub(crate) fn add_came<'a>(
+    all: &mut Vec<Change<'a>>,
+    came: &Vec<(&'a Package, &'a Package)>,
+) -> Result<(), AllocError>
+    ensures { OnOk result (map change_of all.new.items
+        ≡ map change_of all.old.items
+        ++ map (λ a. NewSource a.0 a.1) (referred_pairs came.now.items)) }
+{
+    for pair in came {
+        all.push(Change::NewSource(pair.0, pair.1))?;
     }
     Ok(())
 }

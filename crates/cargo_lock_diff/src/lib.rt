@@ -4,12 +4,14 @@
 //! are reported separately. The rest of a lockfile is not compared.
 #![tactic(auto)]
 
+pub mod accepted;
 mod alarm;
 pub mod change;
 mod change_json;
 mod dependencies;
 pub mod difference;
 pub mod document;
+mod home;
 pub mod laws;
 pub mod likeness;
 mod matching;
@@ -17,8 +19,10 @@ mod pairing;
 mod parts;
 pub mod place;
 mod same;
+mod stranger;
 pub mod summary;
 
+pub use crate::accepted::Accepted;
 pub use crate::change::Change;
 pub use crate::difference::Difference;
 pub use crate::document::difference_json;

@@ -4,15 +4,54 @@ ghost use Rattle.std.specs.Prelude.{◌≡◌};
 ghost use Rattle.cargo_lock_diff.specs.Change as spec;
 
 use crate::same::have_one_place;
-use cargo_lock_display::{ChecksumText, DependencyText, SourceBehind, SourceText};
+use cargo_lock_display::{ChecksumText, DependencyText, NameVersion, SourceBehind, SourceText};
 use cargo_lock_parts::dependency::Dependency;
 use cargo_lock_parts::package::{Package, SourceId};
+use printing::Shown;
 use std::cmp::Ordering;
 use std::fmt;
 
+// A package that moves: its version, and both sources.
+#[derive(Clone, Copy)]
+pub(crate) struct Moved<'a>(pub(crate) &'a Package, pub(crate) &'a Package);
+
+impl fmt::Display for Moved<'_> {
+    ghost use Rattle.std.specs.Prelude.{Some};
+    ghost use Rattle.cargo_lock_diff.specs.Change.{moved_text};
+
+    ghost output = { λ shown. Some (moved_text shown.0.now shown.1.now) };
+
+    fn fmt<W: fmt::Write>(&self, f: &mut fmt::Formatter<W>) -> fmt::Result {
+        let Moved(old, new) = *self;
+        let package = NameVersion(new);
+        let sources = Sources(old, new);
+        write!(f, "{package}{sources}")
+    }
+}
+
+// A pair of two versions: both, the source or both sources, and the mark.
+#[derive(Clone, Copy)]
+pub(crate) struct Updated<'a>(pub(crate) &'a Package, pub(crate) &'a Package);
+
+impl fmt::Display for Updated<'_> {
+    ghost use Rattle.std.specs.Prelude.{Some};
+    ghost use Rattle.cargo_lock_diff.specs.Change.{updated_text};
+
+    ghost output = { λ shown. Some (updated_text shown.0.now shown.1.now) };
+
+    fn fmt<W: fmt::Write>(&self, f: &mut fmt::Formatter<W>) -> fmt::Result {
+        let Updated(old, new) = *self;
+        let package = NameVersion(old);
+        let version = Shown(&new.version);
+        let sources = UpdatedSources(old, new);
+        let mark = DowngradeMark(old, new);
+        write!(f, "{package} -> {version}{sources}{mark}")
+    }
+}
+
 // Both sources of a pair.
 #[derive(Clone, Copy)]
-pub(crate) struct Sources<'a>(pub(crate) &'a Package, pub(crate) &'a Package);
+struct Sources<'a>(&'a Package, &'a Package);
 
 impl fmt::Display for Sources<'_> {
     ghost use Rattle.std.specs.Prelude.{Some};
@@ -30,7 +69,7 @@ impl fmt::Display for Sources<'_> {
 
 // For a pair with other versions: both sources if the places differ, or else the source.
 #[derive(Clone, Copy)]
-pub(crate) struct UpdatedSources<'a>(pub(crate) &'a Package, pub(crate) &'a Package);
+struct UpdatedSources<'a>(&'a Package, &'a Package);
 
 impl fmt::Display for UpdatedSources<'_> {
     ghost use Rattle.std.specs.Prelude.{Some};
@@ -51,7 +90,7 @@ impl fmt::Display for UpdatedSources<'_> {
 
 // The mark of a pair whose new version is less than the old one.
 #[derive(Clone, Copy)]
-pub(crate) struct DowngradeMark<'a>(pub(crate) &'a Package, pub(crate) &'a Package);
+struct DowngradeMark<'a>(&'a Package, &'a Package);
 
 impl fmt::Display for DowngradeMark<'_> {
     ghost use Rattle.std.specs.Prelude.{Some};

@@ -11,7 +11,7 @@ use std::fmt;
 /// The kind of a change.
 #[derive(Debug, Clone, Copy, PartialEq, Eq)]
 pub enum Kind {
-    /// `!`: an alarm.
+    /// `!`: an alarm, of a checksum or of a new source.
     Alarm,
 
     /// `>`: another source.
@@ -45,7 +45,7 @@ impl Kind {
         ensures { result ≡ spec.is_of_kind self (change_of change.now) }
     {
         match self {
-            Kind::Alarm => matches!(change, Change::Alarm(_, _)),
+            Kind::Alarm => is_alarm(change),
             Kind::Source => matches!(change, Change::Moved(_, _)),
             Kind::Checksum => matches!(change, Change::Checksum(_, _)),
             Kind::Replacement => matches!(change, Change::Replaced(_, _)),
@@ -56,6 +56,16 @@ impl Kind {
             Kind::Dependencies => matches!(change, Change::OtherDependencies(_, _, _, _)),
         }
     }
+}
+
+// Whether a change is an alarm.
+fn is_alarm(change: &Change<'_>) -> bool
+    ensures { result ≡ spec.is_of_kind Kind.Alarm (change_of change.now) }
+{
+    matches!(
+        change,
+        Change::Alarm(_, _) | Change::NewSource(_, _) | Change::NewSourceUpdate(_, _)
+    )
 }
 
 // Whether a change is another version: one that is less than the old one, or one that is not.
