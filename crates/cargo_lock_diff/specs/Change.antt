@@ -12,6 +12,9 @@ use Rattle.cargo_lock_diff.specs.declared.change.Aspect.{Aspect}
 use Rattle.cargo_lock_diff.specs.declared.change.Aspect.TheVariants as aspect
 use Rattle.cargo_lock_diff.specs.declared.change.Change.{Change}
 use Rattle.cargo_lock_diff.specs.declared.change.Change.TheVariants as variant
+use Rattle.cargo_lock_diff.specs.declared.commits.Commits.{Commits}
+use Rattle.cargo_lock_diff.specs.declared.commits.Commits.TheVariants.{Short}
+use Rattle.cargo_lock_diff.specs.Commits.{commit_of, commits_text, have_one_repository}
 use Rattle.cargo_lock_diff.specs.Dependencies.{have_other_dependencies, only_in}
 use Rattle.cargo_lock_diff.specs.declared.accepted.Accepted.{Accepted}
 use Rattle.cargo_lock_diff.specs.Difference.{DifferenceData, IsDifferenceBut, dependencies_at}
@@ -131,10 +134,16 @@ abbrev pub checksums_text : PackageData → PackageData → List ℕ
 checksums_text old new = codes ": checksum " ++ (checksum_text old.checksum
     ++ (codes " -> " ++ checksum_text new.checksum))
 
+-- both sources, or both commits where all else of the sources stays
+abbrev pub moved_sources : Commits → PackageData → PackageData → List ℕ
+moved_sources commits old new = if have_one_repository old new
+    then commits_text commits (commit_of old.source) (commit_of new.source)
+    else sources_text old new
+
 -- for a pair with other versions: both sources if the places differ, or else the source
-abbrev pub updated_sources : PackageData → PackageData → List ℕ
-updated_sources old new =
-    if have_one_place old new then source_after_version new.source else sources_text old new
+abbrev pub updated_sources : Commits → PackageData → PackageData → List ℕ
+updated_sources commits old new = if have_one_place old new then source_after_version new.source
+    else moved_sources commits old new
 
 -- the new version is less than the old one
 abbrev pub is_downgrade : PackageData → PackageData → Bool
@@ -163,40 +172,47 @@ signed_text is_old d = codes " " ++ ((if is_old then codes "-" else codes "+")
 abbrev pub signed_texts : Bool → List Identity → List ℕ
 signed_texts is_old = flat_map (signed_text is_old)
 
--- a package of one version that moves: the version, and both sources
-abbrev pub moved_text : PackageData → PackageData → List ℕ
-moved_text old new = named_text new ++ sources_text old new
+-- a package of one version that moves: the version, and both sources or commits
+abbrev pub moved_text : Commits → PackageData → PackageData → List ℕ
+moved_text commits old new = named_text new ++ moved_sources commits old new
 
 -- a pair of two versions: both, the source or both sources, and the mark
-abbrev pub updated_text : PackageData → PackageData → List ℕ
-updated_text old new = named_text old ++ (codes " -> "
-    ++ (version_shown new.version ++ (updated_sources old new ++ downgrade_mark old new)))
+abbrev pub updated_text : Commits → PackageData → PackageData → List ℕ
+updated_text commits old new = named_text old ++ (codes " -> "
+    ++ (version_shown new.version ++ (updated_sources commits old new ++ downgrade_mark old new)))
 
 -- the line of a change
-abbrev pub change_line : ChangeData → List ℕ
-change_line (Alarm old new) = codes "! " ++ (package_text new ++ checksums_text old new)
-change_line (NewSource old new) = codes "! " ++ moved_text old new
-change_line (NewSourceUpdate old new) = codes "! " ++ updated_text old new
-change_line (Moved old new) = codes "> " ++ moved_text old new
-change_line (Checksum old new) = codes "? " ++ (package_text new ++ checksums_text old new)
-change_line (Replaced old new) = codes "@ " ++ (package_text new ++ (codes ": replacement "
+abbrev pub line_by : Commits → ChangeData → List ℕ
+line_by commits (Alarm old new) = codes "! " ++ (package_text new ++ checksums_text old new)
+line_by commits (NewSource old new) = codes "! " ++ moved_text commits old new
+line_by commits (NewSourceUpdate old new) = codes "! " ++ updated_text commits old new
+line_by commits (Moved old new) = codes "> " ++ moved_text commits old new
+line_by commits (Checksum old new) = codes "? " ++ (package_text new ++ checksums_text old new)
+line_by commits (Replaced old new) = codes "@ " ++ (package_text new ++ (codes ": replacement "
     ++ (replacement_shown old.replace ++ (codes " -> " ++ replacement_shown new.replace))))
-change_line (Updated old new) = codes "~ " ++ updated_text old new
-change_line (Removed old) = codes "- " ++ package_text old
-change_line (Added new) = codes "+ " ++ (package_text new ++ checksum_mark new)
-change_line (OtherDependencies old new gone came) = codes "= " ++ (package_text new ++ (codes ":"
-    ++ (signed_texts true gone ++ signed_texts false came)))
+line_by commits (Updated old new) = codes "~ " ++ updated_text commits old new
+line_by commits (Removed old) = codes "- " ++ package_text old
+line_by commits (Added new) = codes "+ " ++ (package_text new ++ checksum_mark new)
+line_by commits (OtherDependencies old new gone came) = codes "= " ++ (package_text new
+    ++ (codes ":" ++ (signed_texts true gone ++ signed_texts false came)))
 
 -- the line of each change, with its newline
+abbrev pub changes_by : Commits → List ChangeData → List ℕ
+changes_by commits = flat_map (λ change. line_by commits change ++ newline ∷ [])
+
+-- the same with short commits
+abbrev pub change_line : ChangeData → List ℕ
+change_line = line_by Short
+
 abbrev pub changes_text : List ChangeData → List ℕ
-changes_text = flat_map (λ change. change_line change ++ newline ∷ [])
+changes_text = changes_by Short
 
 -- ---- laws
 
 -- each change is exactly one line, whatever its names, versions, sources and checksums hold
 abbrev pub EachChangeIsOneLine : Type 0
-EachChangeIsOneLine = (changes : List ChangeData)
-    → lines (changes_text changes) ≡ map change_line changes
+EachChangeIsOneLine = (commits : Commits) (changes : List ChangeData)
+    → lines (changes_by commits changes) ≡ map (line_by commits) changes
 
 -- no change is reported exactly if the lists have the same whole keys, each as often
 abbrev pub NoneIfPermuted : Type 0

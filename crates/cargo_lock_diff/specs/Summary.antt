@@ -9,7 +9,9 @@ use Rattle.cargo_lock_diff.specs.declared.summary.Kind.TheVariants as kind
 use Rattle.cargo_lock_diff.specs.declared.summary.Summary.{Summary}
 use Rattle.cargo_lock_diff.specs.Change.{ChangeData, Alarm, NewSource, NewSourceUpdate, Moved}
 use Rattle.cargo_lock_diff.specs.Change.{Checksum, Replaced, Updated}
-use Rattle.cargo_lock_diff.specs.Change.{Removed, Added, OtherDependencies, is_downgrade, change_line, changes_text}
+use Rattle.cargo_lock_diff.specs.Change.{Removed, Added, OtherDependencies, is_downgrade, line_by}
+use Rattle.cargo_lock_diff.specs.Change.{changes_by}
+use Rattle.cargo_lock_diff.specs.declared.commits.Commits.{Commits}
 
 -- the change is another version: one that is less than the old one, or one that is not
 abbrev pub is_update : Bool → ChangeData → Bool
@@ -88,6 +90,6 @@ summary_text s =
 
 -- the lines of changes and the summary are exactly as many lines as changes, and one more
 abbrev pub SummaryIsOneLine : Type 0
-SummaryIsOneLine = (changes : List ChangeData) (s : Summary)
-    → lines (changes_text changes ++ (summary_text s ++ newline ∷ []))
-    ≡ map change_line changes ++ summary_text s ∷ []
+SummaryIsOneLine = (commits : Commits) (changes : List ChangeData) (s : Summary)
+    → lines (changes_by commits changes ++ (summary_text s ++ newline ∷ []))
+    ≡ map (line_by commits) changes ++ summary_text s ∷ []

@@ -6,17 +6,17 @@ ghost use Rattle.cargo_lock_diff.specs.Change.{change_of, changes_in, differs_in
 ghost use Rattle.cargo_lock_diff.specs.Change as spec;
 ghost use Rattle.cargo_lock_diff.specs.Difference.{referred_packages, referred_pairs};
 
+use crate::commits::Commits;
 use crate::dependencies::Targets;
-use crate::parts::{ChecksumMark, Checksums, Moved, Signed, Updated};
+use crate::line::Line;
 use crate::same::{have_one_place, have_one_replacement, have_one_version};
-use cargo_lock_display::{PackageText, ReplacementText};
 use cargo_lock_parts::dependency::Dependency;
 use cargo_lock_parts::package::Package;
 use std::alloc::{AllocError, Global};
 use std::fmt;
 
 /// One thing that differs. `Display` writes it as a line without a newline, whose first sign says
-/// what it is.
+/// what it is, and commits short. `Line` writes them in full too.
 ///
 /// `SRC` is the source as a V4 lockfile has it, in round brackets; a package without a source has
 /// `(path)`, and one of crates.io nothing. Texts that come from a lockfile are shown as `Shown`
@@ -37,7 +37,8 @@ pub enum Change<'a> {
     NewSourceUpdate(&'a Package, &'a Package),
 
     /// A pair of the same version from another place: `> NAME VERSION: OLD -> NEW`. Here a source
-    /// has no brackets, and crates.io is named.
+    /// has no brackets, and crates.io is named. Where only the commit of a repository differs, it is
+    /// `> NAME VERSION: rev OLD -> NEW`.
     Moved(&'a Package, &'a Package),
 
     /// A pair of the same version, of which only the new package has a checksum:
@@ -74,55 +75,8 @@ impl fmt::Display for Change<'_> {
     ghost output = { λ change. Some (change_line (change_of change)) };
 
     fn fmt<W: fmt::Write>(&self, f: &mut fmt::Formatter<W>) -> fmt::Result {
-        match self {
-            Change::Alarm(old, new) => {
-                let package = PackageText(new);
-                let checksums = Checksums(old, new);
-                write!(f, "! {package}{checksums}")
-            }
-            Change::NewSource(old, new) => {
-                let moved = Moved(old, new);
-                write!(f, "! {moved}")
-            }
-            Change::NewSourceUpdate(old, new) => {
-                let updated = Updated(old, new);
-                write!(f, "! {updated}")
-            }
-            Change::Moved(old, new) => {
-                let moved = Moved(old, new);
-                write!(f, "> {moved}")
-            }
-            Change::Checksum(old, new) => {
-                let package = PackageText(new);
-                let checksums = Checksums(old, new);
-                write!(f, "? {package}{checksums}")
-            }
-            Change::Replaced(old, new) => {
-                let package = PackageText(new);
-                let from = ReplacementText(old);
-                let to = ReplacementText(new);
-                write!(f, "@ {package}: replacement {from} -> {to}")
-            }
-            Change::Updated(old, new) => {
-                let updated = Updated(old, new);
-                write!(f, "~ {updated}")
-            }
-            Change::Removed(old) => {
-                let package = PackageText(old);
-                write!(f, "- {package}")
-            }
-            Change::Added(new) => {
-                let package = PackageText(new);
-                let mark = ChecksumMark(new);
-                write!(f, "+ {package}{mark}")
-            }
-            Change::OtherDependencies(_, new, gone, came) => {
-                let package = PackageText(new);
-                let gone = Signed(true, gone);
-                let came = Signed(false, came);
-                write!(f, "= {package}:{gone}{came}")
-            }
-        }
+        let line = Line(self, Commits::Short);
+        write!(f, "{line}")
     }
 }
 

@@ -8,7 +8,9 @@ use Rattle.cargo_lock_parts.specs.Error.{IsShort}
 use Rattle.cargo_lock_parts.specs.Ascii.{newline}
 use Rattle.cargo_lock_diff.specs.declared.accepted.Accepted.{Accepted}
 use Rattle.cargo_lock_diff.specs.Accepted.{accepted_by}
-use Rattle.cargo_lock_diff.specs.Change.{ChangeData, changes_text, all_changes_of}
+use Rattle.cargo_lock_diff.specs.declared.commits.Commits.{Commits}
+use Rattle.cargo_lock_diff.specs.declared.commits.Commits.TheVariants.{Short, Full}
+use Rattle.cargo_lock_diff.specs.Change.{ChangeData, changes_by, all_changes_of}
 use Rattle.cargo_lock_diff.specs.Difference.{DifferenceData, HasNoAlarms, IsDifferenceBut}
 use Rattle.cargo_lock_diff.specs.Summary.{summary_of, summary_text}
 use Rattle.cargo_lock_encoding.specs.Lockfiles.{LockfileData}
@@ -31,6 +33,11 @@ pub record IsTold (found : Found) (d : DifferenceData) (told : List ChangeData) 
   pub asked : IsAsked found (codes "dependencies") → told ≡ all_changes_of true d
   pub unasked : IsUnasked found (codes "dependencies") → told ≡ all_changes_of false d
 
+-- commits are printed in full if the arguments ask for that
+pub record AreCommitsAsked (found : Found) (commits : Commits) : Type 0 where
+  pub asked : IsAsked found (codes "full") → commits ≡ Full
+  pub unasked : IsUnasked found (codes "full") → commits ≡ Short
+
 -- The status is a failure if there is an alarm, and, if the arguments ask for that, if any change
 -- is printed. Otherwise it is a success.
 pub record IsStatus (found : Found) (d : DifferenceData) (told : List ChangeData)
@@ -47,15 +54,15 @@ last_line (change ∷ changes) =
     summary_text (summary_of (change ∷ changes)) ++ newline ∷ []
 
 -- the line of each change, and the last line
-abbrev pub told_text : List ChangeData → List ℕ
-told_text told = changes_text told ++ last_line told
+abbrev pub told_text : Commits → List ChangeData → List ℕ
+told_text commits told = changes_by commits told ++ last_line told
 
 -- the text is that of the changes of a difference, and the status is that of both
 abbrev pub PrintsChanges : Found → FileData → FileData → DifferenceData → Option (List ℕ)
     → Option (List ℕ) → Type 0 → Type 0 → Type 0
 PrintsChanges found before after d old new failure success = (told : List ChangeData)
-    × IsTold found d told
-    × PrintsAnswer found (difference_json before after told) (told_text told) old new
+    × (commits : Commits) × IsTold found d told × AreCommitsAsked found commits
+    × PrintsAnswer found (difference_json before after told) (told_text commits told) old new
     × IsStatus found d told failure success
 
 -- the same for the difference of the packages of two lockfiles, where these sources are accepted

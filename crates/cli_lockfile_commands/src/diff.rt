@@ -3,13 +3,14 @@ ghost use Rattle.std.specs.Prelude.{◌≡◌, IfOk, Some, codes, map};
 ghost use Rattle.std.specs.Fmt.{DisplaysOnOk};
 ghost use Rattle.std.specs.List.{AllZip};
 ghost use Rattle.clap.specs.Matches.{found_of};
-ghost use Rattle.cargo_lock_diff.specs.Change.{change_of, changes_text};
-ghost use Rattle.cli_lockfile_commands.specs.Diff.{IsAcceptedBy, IsStatus, IsTold, PrintsChanges};
+ghost use Rattle.cargo_lock_diff.specs.Change.{change_of, changes_by};
+ghost use Rattle.cli_lockfile_commands.specs.Diff.{AreCommitsAsked, IsAcceptedBy, IsStatus};
+ghost use Rattle.cli_lockfile_commands.specs.Diff.{IsTold, PrintsChanges};
 ghost use Rattle.cli_lockfile_commands.specs.Diff.{PrintsDifference, PrintsDifferenceOf};
 ghost use Rattle.cli_lockfile_commands.specs.Diff.{given_words, last_line};
 
 use cargo_lock::{Error, Lockfile};
-use cargo_lock_diff::{Accepted, Change, Difference, Summary, difference_json};
+use cargo_lock_diff::{Accepted, Change, Commits, Difference, Line, Summary, difference_json};
 use cargo_lock_display::File;
 use clap::{Arg, ArgAction, ArgMatches, Command};
 use cli_input::answer::{Answer, print_answer};
@@ -69,6 +70,7 @@ pub fn command<'a>(alloc: Global) -> Result<Command<'a>, AllocError> {
         .arg(long_flag(alloc, "exit-code")?.help(
             "Ends with status 1 where anything differs, dependencies only with -d",
         ))?
+        .arg(long_flag(alloc, "full")?.help("Prints all digits of commits that move"))?
         .arg(moved_ok(alloc).help(MOVED_OK_HELP))?
         .arg(json(alloc)?)
 }
@@ -195,6 +197,7 @@ fn report_changes<W: Write>(
     let told = Told {
         before,
         changes: &changes,
+        commits: commits(options),
     };
     print_answer(alloc, options, after, &told, out)?;
     Ok(status(options, difference, &changes))
@@ -213,12 +216,24 @@ fn changes<'d>(
     Ok(changes)
 }
 
-/// The changes that are printed, and the lockfile before them. `Display` writes the changes in their
-/// order, and then how many of each kind there are.
+/// How the arguments ask for commits.
+fn commits(options: &ArgMatches<'_>) -> Commits
+    ensures { AreCommitsAsked (found_of options.now) result }
+{
+    if options.get_flag("full") {
+        Commits::Full
+    } else {
+        Commits::Short
+    }
+}
+
+/// The changes that are printed, the lockfile before them, and how commits are printed. `Display`
+/// writes the changes in their order, and then how many of each kind there are.
 #[derive(Clone, Copy)]
 struct Told<'a, 'b, 'd> {
     before: &'a File<'b>,
     changes: &'a [Change<'d>],
+    commits: Commits,
 }
 
 impl fmt::Display for Told<'_, '_, '_> {
@@ -226,10 +241,10 @@ impl fmt::Display for Told<'_, '_, '_> {
     ghost use Rattle.cargo_lock_diff.specs.Change.{change_of};
     ghost use Rattle.cli_lockfile_commands.specs.Diff.{told_text};
 
-    ghost output = { λ told. Some (told_text (map change_of told.changes.now)) };
+    ghost output = { λ told. Some (told_text told.commits (map change_of told.changes.now)) };
 
     fn fmt<W: fmt::Write>(&self, f: &mut fmt::Formatter<W>) -> fmt::Result {
-        write_changes(self.changes, f)?;
+        write_changes(self.changes, self.commits, f)?;
         write_last_line(self.changes, f)
     }
 }
@@ -248,12 +263,17 @@ impl Answer for Told<'_, '_, '_> {
 }
 
 /// Writes the changes in their order.
-fn write_changes<W: fmt::Write>(changes: &[Change<'_>], f: &mut fmt::Formatter<W>) -> fmt::Result
+fn write_changes<W: fmt::Write>(
+    changes: &[Change<'_>],
+    commits: Commits,
+    f: &mut fmt::Formatter<W>,
+) -> fmt::Result
     ensures { DisplaysOnOk W.write_str_gives f.old result
-        (Some (changes_text (map change_of changes.now))) f.new }
+        (Some (changes_by commits (map change_of changes.now))) f.new }
 {
     for change in changes {
-        write!(f, "{change}\n")?;
+        let line = Line(change, commits);
+        write!(f, "{line}\n")?;
     }
     Ok(())
 }
