@@ -6,11 +6,12 @@ use Rattle.printing.proofs.Printable.{Prints, either_text, empty, join, join_eac
 use Rattle.printing.specs.declared.form.Form.TheVariants.{Plain}
 use Rattle.cargo_lock_parts.specs.Identity.{Identity, PackageData}
 use Rattle.cargo_lock_display.proofs.Printed.{alone-prints, behind-prints, checksum-prints, dependency-prints, named-prints, package-prints, replacement-prints, version-prints}
-use Rattle.cargo_lock_diff.specs.Same.{have_one_place}
+use Rattle.cargo_lock_diff.specs.Same.{have_one_line, have_one_place}
 use Rattle.cargo_lock_diff.specs.Change.{Added, Alarm, ChangeData, Checksum, EachChangeIsOneLine}
 use Rattle.cargo_lock_diff.specs.Change.{Moved, NewSource, NewSourceUpdate, OtherDependencies}
 use Rattle.cargo_lock_diff.specs.Change.{Removed, Replaced, Updated, checksum_mark}
-use Rattle.cargo_lock_diff.specs.Change.{checksums_text, downgrade_mark, is_downgrade}
+use Rattle.cargo_lock_diff.specs.Change.{checksums_text, downgrade_mark, incompatible_mark}
+use Rattle.cargo_lock_diff.specs.Change.{is_downgrade}
 use Rattle.cargo_lock_diff.specs.Change.{is_of_registry, line_by, moved_sources, moved_text}
 use Rattle.cargo_lock_diff.specs.Change.{signed_text, signed_texts, sources_text}
 use Rattle.cargo_lock_diff.specs.Change.{updated_sources, updated_text}
@@ -43,6 +44,9 @@ updated-prints commits old new = either_text (have_one_place old new) (behind-pr
 downgrade-prints : (old new : PackageData) → Prints (downgrade_mark old new)
 downgrade-prints old new = either_text (is_downgrade old new) (literal (codes " (downgrade)") refl) empty
 
+incompatible-prints : (old new : PackageData) → Prints (incompatible_mark old new)
+incompatible-prints old new = either_text (have_one_line old new) empty (literal (codes " (incompatible)") refl)
+
 mark-prints : (p : PackageData) → Prints (checksum_mark p)
 mark-prints p = either_text (is_of_registry p.source && not (is_some p.checksum)) (literal (codes ", no checksum") refl) empty
 
@@ -58,7 +62,7 @@ moved-prints commits old new = join (named-prints new) (moved-sources-print comm
 
 update-prints : (commits : Commits) (old new : PackageData) → Prints (updated_text commits old new)
 update-prints commits old new = join (named-prints old) (words (codes " -> ") refl
-    (join (version-prints new.version) (join (updated-prints commits old new) (downgrade-prints old new))))
+    (join (version-prints new.version) (join (updated-prints commits old new) (join (incompatible-prints old new) (downgrade-prints old new)))))
 
 pub line-prints : (commits : Commits) (c : ChangeData) → Prints (line_by commits c)
 line-prints commits (Alarm old new) = words (codes "! ") refl (join (package-prints new) (checksums-print old new))

@@ -19,7 +19,8 @@ use Rattle.cargo_lock_diff.specs.Dependencies.{have_other_dependencies, only_in}
 use Rattle.cargo_lock_diff.specs.declared.accepted.Accepted.{Accepted}
 use Rattle.cargo_lock_diff.specs.Difference.{DifferenceData, IsDifferenceBut, dependencies_at}
 use Rattle.cargo_lock_diff.specs.Keys.{whole_key}
-use Rattle.cargo_lock_diff.specs.Same.{have_one_place, have_one_replacement, have_one_version}
+use Rattle.cargo_lock_diff.specs.Same.{have_one_line, have_one_place, have_one_replacement}
+use Rattle.cargo_lock_diff.specs.Same.{have_one_version}
 use Rattle.cargo_lock_order.specs.Precedence.{precedence_cmp}
 use Rattle.cargo_lock_display.specs.Line.{checksum_text, dependency_shown, named_text, package_text}
 use Rattle.cargo_lock_display.specs.Line.{replacement_shown, source_after_version, source_alone}
@@ -149,6 +150,10 @@ updated_sources commits old new = if have_one_place old new then source_after_ve
 abbrev pub is_downgrade : PackageData → PackageData → Bool
 is_downgrade old new = is_gt (precedence_cmp old.version new.version)
 
+-- the mark of a pair whose versions are of two release lines
+abbrev pub incompatible_mark : PackageData → PackageData → List ℕ
+incompatible_mark old new = if have_one_line old new then [] else codes " (incompatible)"
+
 -- the mark of a pair whose new version is less than the old one
 abbrev pub downgrade_mark : PackageData → PackageData → List ℕ
 downgrade_mark old new = if is_downgrade old new then codes " (downgrade)" else []
@@ -176,10 +181,11 @@ signed_texts is_old = flat_map (signed_text is_old)
 abbrev pub moved_text : Commits → PackageData → PackageData → List ℕ
 moved_text commits old new = named_text new ++ moved_sources commits old new
 
--- a pair of two versions: both, the source or both sources, and the mark
+-- a pair of two versions: both, the source or both sources, and the marks
 abbrev pub updated_text : Commits → PackageData → PackageData → List ℕ
-updated_text commits old new = named_text old ++ (codes " -> "
-    ++ (version_shown new.version ++ (updated_sources commits old new ++ downgrade_mark old new)))
+updated_text commits old new = named_text old ++ (codes " -> " ++ (version_shown new.version
+    ++ (updated_sources commits old new
+    ++ (incompatible_mark old new ++ downgrade_mark old new))))
 
 -- the line of a change
 abbrev pub line_by : Commits → ChangeData → List ℕ

@@ -49,8 +49,9 @@ pub enum Change<'a> {
     /// `@ NAME VERSION SRC: replacement OLD -> NEW`, each as `NAME VERSION SRC` or `none`.
     Replaced(&'a Package, &'a Package),
 
-    /// A pair of two versions: `~ NAME OLD -> NEW`, then `: OLD -> NEW` if the places differ, and
-    /// otherwise `SRC`, and at last `(downgrade)` if the new version is less than the old one.
+    /// A pair of two versions: `~ NAME OLD -> NEW`, then `: OLD -> NEW` or `: rev OLD -> NEW` if the
+    /// places differ, and otherwise `SRC`, then `(incompatible)` if the release lines differ, and at
+    /// last `(downgrade)` if the new version is less than the old one.
     Updated(&'a Package, &'a Package),
 
     /// A package that was removed: `- NAME VERSION SRC`.

@@ -4,7 +4,7 @@ ghost use Rattle.std.specs.Prelude.{◌≡◌};
 ghost use Rattle.cargo_lock_diff.specs.Change as spec;
 
 use crate::commits::{Commits, Revisions, have_one_repository};
-use crate::same::have_one_place;
+use crate::same::{have_one_line, have_one_place};
 use cargo_lock_display::{ChecksumText, DependencyText, NameVersion, SourceBehind, SourceText};
 use cargo_lock_parts::dependency::Dependency;
 use cargo_lock_parts::package::{Package, SourceId};
@@ -34,7 +34,7 @@ impl fmt::Display for Moved<'_> {
     }
 }
 
-// A pair of two versions: both, the source or both sources, and the mark.
+// A pair of two versions: both, the source or both sources, and the marks.
 #[derive(Clone, Copy)]
 pub(crate) struct Updated<'a>(
     pub(crate) Commits,
@@ -53,8 +53,9 @@ impl fmt::Display for Updated<'_> {
         let package = NameVersion(old);
         let version = Shown(&new.version);
         let sources = UpdatedSources(commits, old, new);
-        let mark = DowngradeMark(old, new);
-        write!(f, "{package} -> {version}{sources}{mark}")
+        let incompatible = IncompatibleMark(old, new);
+        let downgrade = DowngradeMark(old, new);
+        write!(f, "{package} -> {version}{sources}{incompatible}{downgrade}")
     }
 }
 
@@ -115,6 +116,26 @@ impl fmt::Display for MovedSources<'_> {
         }
         let sources = Sources(old, new);
         write!(f, "{sources}")
+    }
+}
+
+// The mark of a pair whose versions are of two release lines.
+#[derive(Clone, Copy)]
+struct IncompatibleMark<'a>(&'a Package, &'a Package);
+
+impl fmt::Display for IncompatibleMark<'_> {
+    ghost use Rattle.std.specs.Prelude.{Some};
+    ghost use Rattle.cargo_lock_diff.specs.Change.{incompatible_mark};
+
+    ghost output = { λ shown. Some (incompatible_mark shown.0.now shown.1.now) };
+
+    fn fmt<W: fmt::Write>(&self, f: &mut fmt::Formatter<W>) -> fmt::Result {
+        let IncompatibleMark(old, new) = *self;
+        if have_one_line(old, new) {
+            Ok(())
+        } else {
+            f.write_str(" (incompatible)")
+        }
     }
 }
 

@@ -3,7 +3,7 @@
 ghost use Rattle.std.specs.Prelude.{◌≡◌};
 ghost use Rattle.cargo_lock_diff.specs.Same as spec;
 
-use crate::likeness::cmp_checksums;
+use crate::likeness::{cmp_checksums, cmp_lines};
 use crate::place::{cmp_origins, cmp_places, cmp_replacements};
 use cargo_lock_parts::package::Package;
 use std::cmp::Ordering;
@@ -13,6 +13,13 @@ pub(crate) fn have_one_version(old: &Package, new: &Package) -> bool
     ensures { result ≡ spec.have_one_version old.now new.now }
 {
     old.version.cmp(&new.version) == Ordering::Equal
+}
+
+// Whether the release lines are the same.
+pub(crate) fn have_one_line(old: &Package, new: &Package) -> bool
+    ensures { result ≡ spec.have_one_line old.now new.now }
+{
+    cmp_lines(old, new) == Ordering::Equal
 }
 
 // Whether the sources are the same place, or both are absent.

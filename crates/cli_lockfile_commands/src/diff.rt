@@ -33,7 +33,8 @@ Each change is a line, in this order:
   > NAME VERSION: SRC -> SRC                  another source
   ? NAME VERSION SRC: checksum none -> NEW    a checksum that was not there
   @ NAME VERSION SRC: replacement OLD -> NEW  another replacement
-  ~ NAME OLD -> NEW                           another version, (downgrade) if an earlier one
+  ~ NAME OLD -> NEW                           another version, (incompatible) if of another release
+                                              line, (downgrade) if an earlier one
   - NAME VERSION SRC                          a package only in OLD
   + NAME VERSION SRC                          a package only in NEW
   = NAME VERSION SRC: - DEP + DEP             other dependencies, with -d
