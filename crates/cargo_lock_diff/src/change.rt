@@ -65,7 +65,8 @@ pub enum Change<'a> {
     /// have: `= NAME VERSION SRC:`, of the new one, then ` - NAME VERSION SRC` for each dependency
     /// that only the old one has, and ` + NAME VERSION SRC` for each that only the new one has.
     /// After the packages come these dependencies, each list in the order of its package. An old
-    /// and a new dependency are the same if their packages are a pair of the difference.
+    /// and a new dependency are the same if they have one name, version and origin, or if their
+    /// packages are a pair of the difference.
     OtherDependencies(&'a Package, &'a Package, Vec<&'a Dependency>, Vec<&'a Dependency>),
 }
 

@@ -185,7 +185,8 @@ impl<'a> Difference<'a> {
 
     /// The pairs of which one package has a dependency that the other does not have, each as
     /// `Change::OtherDependencies`: first of the pairs that are kept, then of the others. An old
-    /// and a new dependency are the same if their packages are a pair. Fails when out of memory.
+    /// and a new dependency are the same if they have one name, version and origin, or if their
+    /// packages are a pair. Fails when out of memory.
     pub fn dependency_changes(&self, alloc: Global) -> Result<Vec<Change<'a>>, AllocError>
         ensures { IfOk result (λ all. map change_of all.items ≡ dependency_changes_of self.now) }
     {
