@@ -1,5 +1,5 @@
 -- The summary is one line behind those of the changes.
-use Rattle.std.proofs.Common.{◌≡◌, ℕ, Bool, false, List, [], ◌∷◌, ◌++◌, codes, map, refl, ap, sym, ◌∙◌}
+use Rattle.std.proofs.Common.{◌≡◌, ℕ, ◌-◌, Bool, false, List, [], ◌∷◌, ◌++◌, codes, map, refl, ap, sym, ◌∙◌}
 use Rattle.std.specs.Prelude.{◌==◌}
 use Rattle.std.specs.List.{flat_map}
 use Rattle.std.specs.Str.Lines.{lines}
@@ -24,18 +24,20 @@ summary-prints s =
     let b3 = is_behind b2 s.removed in
     let b4 = is_behind b3 s.added in
     let b5 = is_behind b4 s.sources in
-    let b6 = is_behind b5 s.checksums in
-    let b7 = is_behind b6 s.replacements in
-    let b8 = is_behind b7 s.dependencies in
+    let b6 = is_behind b5 (s.checksums - s.lost_checksums) in
+    let b7 = is_behind b6 s.lost_checksums in
+    let b8 = is_behind b7 s.replacements in
+    let b9 = is_behind b8 s.dependencies in
     join (counted-prints false s.updated (literal (codes "updated") refl) (literal (codes "updated") refl))
     (join (counted-prints b1 s.downgraded (literal (codes "downgraded") refl) (literal (codes "downgraded") refl))
     (join (counted-prints b2 s.removed (literal (codes "removed") refl) (literal (codes "removed") refl))
     (join (counted-prints b3 s.added (literal (codes "added") refl) (literal (codes "added") refl))
     (join (counted-prints b4 s.sources (literal (codes "moved") refl) (literal (codes "moved") refl))
-    (join (counted-prints b5 s.checksums (literal (codes "new checksum") refl) (literal (codes "new checksums") refl))
-    (join (counted-prints b6 s.replacements (literal (codes "replacement") refl) (literal (codes "replacements") refl))
-    (join (counted-prints b7 s.dependencies (literal (codes "with other dependencies") refl) (literal (codes "with other dependencies") refl))
-    (counted-prints b8 s.alarms (literal (codes "alarm") refl) (literal (codes "alarms") refl)))))))))
+    (join (counted-prints b5 (s.checksums - s.lost_checksums) (literal (codes "new checksum") refl) (literal (codes "new checksums") refl))
+    (join (counted-prints b6 s.lost_checksums (literal (codes "lost checksum") refl) (literal (codes "lost checksums") refl))
+    (join (counted-prints b7 s.replacements (literal (codes "replacement") refl) (literal (codes "replacements") refl))
+    (join (counted-prints b8 s.dependencies (literal (codes "with other dependencies") refl) (literal (codes "with other dependencies") refl))
+    (counted-prints b9 s.alarms (literal (codes "alarm") refl) (literal (codes "alarms") refl))))))))))
 
 -- a line of a change, or the last one
 data Line : Type 0 where

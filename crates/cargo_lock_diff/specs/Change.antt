@@ -1,5 +1,5 @@
 -- The changes that a difference reports, and the line of each.
-use Rattle.std.specs.Prelude.{◌≡◌, ◌↔◌, ℕ, ◌&&◌, Bool, not, List, [], ◌∷◌, ◌++◌, codes, filter, map}
+use Rattle.std.specs.Prelude.{◌≡◌, ◌↔◌, ℕ, ◌&&◌, ◌||◌, Bool, not, List, [], ◌∷◌, ◌++◌, codes, filter, map}
 use Rattle.std.specs.Prelude.{Option, Some, None, is_some, true, false, if◌then◌else◌}
 use Rattle.std.specs.Prelude.{IsPermutation}
 use Rattle.std.specs.List.{flat_map}
@@ -29,8 +29,8 @@ use Rattle.cargo_lock_display.specs.Line.{version_shown}
 -- One thing that differs. An alarm of a checksum is of a new package and of an old one of its name
 -- and version that has a checksum. An alarm of a new source is of a new package that comes from one
 -- and of an old one of its name: of an added package, or of a pair of the same version; or it is of
--- a pair of two versions. A pair of the same version has another place, a checksum that it did not
--- have, or another replacement; a pair may have another version. A package was removed or added. A
+-- a pair of two versions. A pair of the same version has another place, a checksum that only one of
+-- its packages has, or another replacement; a pair may have another version. A package was removed or added. A
 -- pair may have other dependencies: those that only the old one has, and those that only the new
 -- one has.
 pub data ChangeData : Type 0 where
@@ -59,12 +59,22 @@ change_of (variant.Added new) = Added new.now
 change_of (variant.OtherDependencies old new gone came) =
     OtherDependencies old.now new.now (dependencies_at gone.items) (dependencies_at came.items)
 
+-- only the new package has a checksum
+abbrev pub has_new_checksum : PackageData → PackageData → Bool
+has_new_checksum old new = not (is_some old.checksum) && is_some new.checksum
+
+-- only the old package has a checksum, and the new one comes from another place; at one place this
+-- is an alarm
+abbrev pub has_lost_checksum : PackageData → PackageData → Bool
+has_lost_checksum old new =
+    is_some old.checksum && (not (is_some new.checksum) && not (have_one_place old new))
+
 -- the packages of a pair differ in an aspect; all but the version are compared only if the version
 -- is the same
 abbrev pub differs_in : Aspect → PackageData × PackageData → Bool
 differs_in aspect.Source p = have_one_version p.0 p.1 && not (have_one_place p.0 p.1)
-differs_in aspect.Checksum p =
-    have_one_version p.0 p.1 && (not (is_some p.0.checksum) && is_some p.1.checksum)
+differs_in aspect.Checksum p = have_one_version p.0 p.1
+    && (has_new_checksum p.0 p.1 || has_lost_checksum p.0 p.1)
 differs_in aspect.Replacement p = have_one_version p.0 p.1 && not (have_one_replacement p.0 p.1)
 differs_in aspect.Version p = not (have_one_version p.0 p.1)
 
@@ -90,7 +100,7 @@ alarms_of d = map (λ a. Alarm a.0 a.1) d.alarms
     ++ (map strange_change d.strange ++ map (λ a. NewSource a.0 a.1) d.came)
 
 -- the changes of a difference, in the order in which they are reported: alarms first, then other
--- sources, new checksums, other replacements, other versions, packages that were removed and
+-- sources, checksums that only one has, other replacements, other versions, packages that were removed and
 -- packages that were added. The alarm of a pair from a new source is in the place of its other
 -- source or other version; one of an added package is beside it.
 abbrev pub changes_of : DifferenceData → List ChangeData

@@ -1,8 +1,9 @@
 //! The changes that a difference reports, each as a line.
 
-ghost use Rattle.std.specs.Prelude.{◌≡◌, [], ◌∷◌, ◌++◌, IfOk, OnOk, map};
+ghost use Rattle.std.specs.Prelude.{◌≡◌, ◌||◌, [], ◌∷◌, ◌++◌, IfOk, OnOk, map};
 ghost use Rattle.cargo_lock_diff.specs.Change.{Added, Alarm, NewSource, Removed, change_in};
-ghost use Rattle.cargo_lock_diff.specs.Change.{change_of, changes_in, differs_in, strange_change};
+ghost use Rattle.cargo_lock_diff.specs.Change.{change_of, changes_in, differs_in, has_lost_checksum};
+ghost use Rattle.cargo_lock_diff.specs.Change.{has_new_checksum, strange_change};
 ghost use Rattle.cargo_lock_diff.specs.Change as spec;
 ghost use Rattle.cargo_lock_diff.specs.Difference.{referred_packages, referred_pairs};
 
@@ -41,8 +42,9 @@ pub enum Change<'a> {
     /// `> NAME VERSION: rev OLD -> NEW`.
     Moved(&'a Package, &'a Package),
 
-    /// A pair of the same version, of which only the new package has a checksum:
-    /// `? NAME VERSION SRC: checksum none -> NEW`.
+    /// A pair of the same version, of which only one package has a checksum:
+    /// `? NAME VERSION SRC: checksum none -> NEW`, or `OLD -> none` where the place differs too. At
+    /// one place that is an alarm.
     Checksum(&'a Package, &'a Package),
 
     /// A pair of the same version with another replacement:
@@ -100,7 +102,7 @@ impl Aspect {
         let one_version = have_one_version(old, new);
         match self {
             Aspect::Source => one_version && !have_one_place(old, new),
-            Aspect::Checksum => { one_version && old.checksum.is_none() && new.checksum.is_some() }
+            Aspect::Checksum => one_version && has_other_checksum(old, new),
             Aspect::Replacement => one_version && !have_one_replacement(old, new),
             Aspect::Version => !one_version,
         }
@@ -116,6 +118,18 @@ impl Aspect {
             Aspect::Replacement => Change::Replaced(old, new),
             Aspect::Version => Change::Updated(old, new),
         }
+    }
+}
+
+// Whether only one package of a pair has a checksum: the new one, or the old one where the new one
+// comes from another place.
+fn has_other_checksum(old: &Package, new: &Package) -> bool
+    ensures { result ≡ (has_new_checksum old.now new.now || has_lost_checksum old.now new.now) }
+{
+    if old.checksum.is_none() {
+        new.checksum.is_some()
+    } else {
+        new.checksum.is_none() && !have_one_place(old, new)
     }
 }
 

@@ -31,7 +31,8 @@ Each change is a line, in this order:
   ! NAME VERSION: SRC -> SRC                  an alarm: a source that OLD does not have
   ! NAME OLD -> NEW: SRC -> SRC               the same, and another version
   > NAME VERSION: SRC -> SRC                  another source
-  ? NAME VERSION SRC: checksum none -> NEW    a checksum that was not there
+  ? NAME VERSION SRC: checksum none -> NEW    a checksum that was not there, or, OLD -> none, one
+                                              that is gone with another source
   @ NAME VERSION SRC: replacement OLD -> NEW  another replacement
   ~ NAME OLD -> NEW                           another version, (incompatible) if of another release
                                               line, (downgrade) if an earlier one
