@@ -16,7 +16,7 @@ use Rattle.cargo_lock_diff.specs.declared.change.Aspect.TheVariants as aspect
 use Rattle.cargo_lock_diff.specs.declared.likeness.Likeness.TheVariants.{Name, Origin, Version, Line, Place, Whole}
 use Rattle.cargo_lock_diff.specs.declared.accepted.Accepted.{Accepted}
 use Rattle.cargo_lock_diff.specs.Alarm.{is_alarm, is_altered, is_suspect}
-use Rattle.cargo_lock_diff.specs.Change.{Added, Alarm, ChangeData, NewSource, NoneIfPermuted, Removed, change_in, changes_in, changes_of, differs_in, strange_change}
+use Rattle.cargo_lock_diff.specs.Change.{Added, Alarm, ChangeData, NewSource, NoneIfPermuted, Removed, change_in, changes_in, changes_of, differs_in, has_lost_checksum, has_new_checksum, strange_change}
 use Rattle.cargo_lock_diff.specs.Difference.{DifferenceData, IsDifferenceBut, HasNoChanges, IsPairing, NoneIsLeftAlone, PairingMirrored, turns}
 use Rattle.cargo_lock_diff.specs.Likeness.{is_alike}
 use Rattle.cargo_lock_diff.specs.Matching.{AreMatched, PassesWithNone, firsts, seconds}
@@ -131,7 +131,7 @@ changed olds p name apart calm same =
     let version : have_one_version p.0 p.1 ≡ true = not-false (have_one_version p.0 p.1) (same aspect.Version) in
     let place : have_one_place p.0 p.1 ≡ true = not-false (have_one_place p.0 p.1) (and-second (have_one_version p.0 p.1) _ version (same aspect.Source)) in
     let replace : have_one_replacement p.0 p.1 ≡ true = not-false (have_one_replacement p.0 p.1) (and-second (have_one_version p.0 p.1) _ version (same aspect.Replacement)) in
-    let appeared = and-second (have_one_version p.0 p.1) _ version (same aspect.Checksum) in
+    let appeared = or-first (has_new_checksum p.0 p.1) (has_lost_checksum p.0 p.1) (and-second (have_one_version p.0 p.1) _ version (same aspect.Checksum)) in
     let altered = and-second (have_one_version p.0 p.1) _ version (or-first (is_altered p.0 p.1) (is_suspect olds p.1) calm) in
     let checksum : have_one_checksum p.0 p.1 ≡ true = one-checksum p.0.checksum p.1.checksum (have_one_place p.0 p.1) place appeared altered in
     let a = p.0 in
