@@ -217,11 +217,11 @@ lines-of accepted olds news d h =
     ∙ length-append (seconds (filter (is_alarm olds) d.pairs)) (filter (is_suspect olds) d.added)
     ∙ (λ i. (length-map (filter (is_alarm olds) d.pairs) (λ (p : PackageData × PackageData). p.1) ∙ length-filter (is_alarm olds) d.pairs) i
     + length-filter (is_suspect olds) d.added i) in
-    let e_strange : length d.strange ≡ count_by strange d.pairs = ap length h.estranged.strange ∙ length-filter strange d.pairs in
+    let e_strange : length d.strange ≡ count_by strange d.pairs = ap length h.estranged.are_strange ∙ length-filter strange d.pairs in
     let e_source : length (changes_in aspect.Source d.usual) ≡ count_by (λ p. usual p && differs_in aspect.Source p) d.pairs
-    = changes-count aspect.Source d.usual ∙ ap (count_by (differs_in aspect.Source)) h.estranged.usual ∙ count-filter usual (differs_in aspect.Source) d.pairs in
+    = changes-count aspect.Source d.usual ∙ ap (count_by (differs_in aspect.Source)) h.estranged.are_usual ∙ count-filter usual (differs_in aspect.Source) d.pairs in
     let e_version : length (changes_in aspect.Version d.usual) ≡ count_by (λ p. usual p && differs_in aspect.Version p) d.pairs
-    = changes-count aspect.Version d.usual ∙ ap (count_by (differs_in aspect.Version)) h.estranged.usual ∙ count-filter usual (differs_in aspect.Version) d.pairs in
+    = changes-count aspect.Version d.usual ∙ ap (count_by (differs_in aspect.Version)) h.estranged.are_usual ∙ count-filter usual (differs_in aspect.Version) d.pairs in
     let e_checksum = changes-count aspect.Checksum d.pairs in
     let e_replacement = changes-count aspect.Replacement d.pairs in
     let moved = count-three strange (λ p. usual p && differs_in aspect.Source p) (λ p. usual p && differs_in aspect.Version p) moves

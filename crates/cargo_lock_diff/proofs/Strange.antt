@@ -117,9 +117,9 @@ strangers-among accepted olds known perm pairs added strange usual came s =
     let pair_same : (p : PackageData × PackageData) → is_strange_pair accepted known p ≡ is_strange_pair accepted olds p
     = λ p. ap (λ b. not (have_one_place p.0 p.1) && b) (same p.1) in
     record {
-      strange = s.strange ∙ filter-same (is_strange_pair accepted known) (is_strange_pair accepted olds) pair_same pairs;
-      usual = s.usual ∙ filter-same (λ p. not (is_strange_pair accepted known p)) (λ p. not (is_strange_pair accepted olds p)) (λ p. ap not (pair_same p)) pairs;
-      came = s.came ∙ filter-same (is_stranger accepted known) (is_stranger accepted olds) same added;
+      are_strange = s.are_strange ∙ filter-same (is_strange_pair accepted known) (is_strange_pair accepted olds) pair_same pairs;
+      are_usual = s.are_usual ∙ filter-same (λ p. not (is_strange_pair accepted known p)) (λ p. not (is_strange_pair accepted olds p)) (λ p. ap not (pair_same p)) pairs;
+      have_come = s.have_come ∙ filter-same (is_stranger accepted known) (is_stranger accepted olds) same added;
       named = All-weaker (IsNamesake known) (IsNamesake olds)
           (λ p h. (Contains-permutation known olds p.0 (IsPermutation-sym olds known perm) h.0, h.1)) came s.named;
     }

@@ -189,8 +189,8 @@ no_change-empty accepted olds news d h e =
     let untold : seconds (filter (is_alarm olds) d.pairs) ++ filter (is_suspect olds) d.added ≡ [] = sym h.alarmed.told ∙ ap seconds none in
     let calm : filter (is_alarm olds) d.pairs ≡ [] = map-none (λ (a : PackageData × PackageData). a.1) (filter (is_alarm olds) d.pairs)
     (append-none (seconds (filter (is_alarm olds) d.pairs)) (filter (is_suspect olds) d.added) untold).0 in
-    let familiar : filter (is_strange_pair accepted olds) d.pairs ≡ [] = sym h.estranged.strange ∙ map-none strange_change d.strange a2.0 in
-    let usual : d.usual ≡ d.pairs = h.estranged.usual ∙ all-others (is_strange_pair accepted olds) d.pairs familiar in
+    let familiar : filter (is_strange_pair accepted olds) d.pairs ≡ [] = sym h.estranged.are_strange ∙ map-none strange_change d.strange a2.0 in
+    let usual : d.usual ≡ d.pairs = h.estranged.are_usual ∙ all-others (is_strange_pair accepted olds) d.pairs familiar in
     record {
       pairs = no-pairs olds d.pairs d.removed d.added (names-tie h.paired) (told-apart h.paired) calm
           (by_aspect (sym (ap (changes_in aspect.Source) usual) ∙ e2.0) e3.0 e4.0 (sym (ap (changes_in aspect.Version) usual) ∙ e5.0));
@@ -209,9 +209,9 @@ empty-no_change : (accepted : List Accepted) (olds news : List PackageData) (d :
 empty-no_change accepted olds news d h e =
     let told : seconds d.alarms ≡ [] = h.alarmed.told ∙ (λ i. seconds (filter (is_alarm olds) (e.pairs i)) ++ filter (is_suspect olds) (e.added i)) in
     let none : d.alarms ≡ [] = map-none (λ (a : PackageData × PackageData). a.1) d.alarms told in
-    let strange : d.strange ≡ [] = h.estranged.strange ∙ (λ i. filter (is_strange_pair accepted olds) (e.pairs i)) in
-    let usual : d.usual ≡ [] = h.estranged.usual ∙ (λ i. filter (λ p. not (is_strange_pair accepted olds p)) (e.pairs i)) in
-    let came : d.came ≡ [] = map-none (λ (a : PackageData × PackageData). a.1) d.came (h.estranged.came ∙ (λ i. filter (is_stranger accepted olds) (e.added i))) in
+    let strange : d.strange ≡ [] = h.estranged.are_strange ∙ (λ i. filter (is_strange_pair accepted olds) (e.pairs i)) in
+    let usual : d.usual ≡ [] = h.estranged.are_usual ∙ (λ i. filter (λ p. not (is_strange_pair accepted olds p)) (e.pairs i)) in
+    let came : d.came ≡ [] = map-none (λ (a : PackageData × PackageData). a.1) d.came (h.estranged.have_come ∙ (λ i. filter (is_stranger accepted olds) (e.added i))) in
     λ i. (map (λ a. Alarm a.0 a.1) (none i) ++ (map strange_change (strange i) ++ map (λ a. NewSource a.0 a.1) (came i)))
     ++ (changes_in aspect.Source (usual i) ++ (changes_in aspect.Checksum (e.pairs i)
     ++ (changes_in aspect.Replacement (e.pairs i) ++ (changes_in aspect.Version (usual i) ++ (map Removed (e.removed i) ++ map Added (e.added i))))))

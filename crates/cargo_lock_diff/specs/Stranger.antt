@@ -35,7 +35,7 @@ IsNamesake olds p = Contains olds p.0 × (is_alike Name p.1 p.0 ≡ true)
 pub record AreStrangers (accepted : List Accepted) (olds : List PackageData)
     (pairs : List (PackageData × PackageData)) (added : List PackageData)
     (strange usual came : List (PackageData × PackageData)) : Type 0 where
-  pub strange : strange ≡ filter (is_strange_pair accepted olds) pairs
-  pub usual : usual ≡ filter (λ p. not (is_strange_pair accepted olds p)) pairs
-  pub came : seconds came ≡ filter (is_stranger accepted olds) added
+  pub are_strange : strange ≡ filter (is_strange_pair accepted olds) pairs
+  pub are_usual : usual ≡ filter (λ p. not (is_strange_pair accepted olds p)) pairs
+  pub have_come : seconds came ≡ filter (is_stranger accepted olds) added
   pub named : All (IsNamesake olds) came

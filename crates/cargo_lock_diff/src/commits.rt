@@ -35,7 +35,7 @@ impl Commits {
 
     // The same, or in full if the short texts of both commits are the same.
     fn between(self, old: Option<&str>, new: Option<&str>) -> Commits
-        ensures { result ≡ commits_for self (option_copied old) (option_copied new) }
+        ensures { result ≡ commits_for self (option_copied old.entry) (option_copied new.entry) }
     {
         match (old, new) {
             (Some(old), Some(new)) => self.apart(old, new),

@@ -105,8 +105,8 @@ fn exemption(alloc: Global, words: &str) -> Result<Exemption, Fault>
     }
 }
 
-// The fault of words that an option does not take.
-fn refused(alloc: Global, takes: &str, words: &str) -> Fault {
+/// The fault of words that an option does not take.
+pub(crate) fn refused(alloc: Global, takes: &str, words: &str) -> Fault {
     match refusal(alloc, takes, words) {
         Ok(text) => Fault::Refused(text),
         Err(_) => Fault::Library(Error::Memory),
