@@ -19,7 +19,7 @@ use Rattle.cargo_lock_bom.specs.Component.{AreComponents, base_members, componen
 use Rattle.cargo_lock_bom.specs.Dependencies.{AreBillEntries, AreOwnEntries, IsNodeEntry, entry_with, node_reference}
 use Rattle.cargo_lock_bom.specs.Document.{IsAbout, IsBill, bill_document}
 use Rattle.cargo_lock_bom.specs.Iri.{iri_text}
-use Rattle.cargo_lock_bom.specs.Metadata.{IsBillMetadata, author_of, authors_if, bill_metadata, own_members}
+use Rattle.cargo_lock_bom.specs.Metadata.{IsBillMetadata, author_of, authors_if, bill_metadata, own_members, properties_if, property_object}
 use Rattle.cargo_lock_bom.specs.Options.{OptionsData}
 use Rattle.cargo_lock_bom.specs.Purl.{purl_of}
 use Rattle.cargo_lock_bom.specs.References.{workspace_reference}
@@ -123,9 +123,9 @@ if_low application license (Some p) = component_low application license p
 component_at_low : (graph : GraphData) (licenses : List (Option (List ℕ))) (node : ℕ) → depth (component_at graph licenses node) ≤ 3
 component_at_low graph licenses node = if_low (is_application graph node) (license_at licenses node) (slice_get graph.packages node)
 
-components_low : (graph : GraphData) (licenses : List (Option (List ℕ))) (root : Root) (components : List Data) → AreComponents graph licenses root components → items_depth (items_of components) ≤ 3
-components_low graph licenses root components are =
-    rw are.are (items_depth-map (component_at graph licenses) 3 (component_at_low graph licenses) are.nodes)
+components_low : (graph : GraphData) (options : OptionsData) (root : Root) (components : List Data) → AreComponents graph options root components → items_depth (items_of components) ≤ 3
+components_low graph options root components are =
+    rw are.are (items_depth-map (component_at graph options.licenses) 3 (component_at_low graph options.licenses) are.nodes)
 
 with_low : (packages : List PackageData) (own : List ℕ) (targets : List ℕ) → depth (entry_with packages own targets) ≤ 2
 unfolding entry_with
@@ -148,10 +148,11 @@ items_depth-append : (n : ℕ) (xs ys : List Data) → items_depth (items_of xs)
 items_depth-append n [] ys a b = b
 items_depth-append n (x ∷ xs) ys a b = max-le (first_low (depth x) (items_depth (items_of xs)) n a) (items_depth-append n xs ys (later_low (depth x) (items_depth (items_of xs)) n a) b)
 
-entries_low : (graph : GraphData) (root : Root) (entries : List Data) → AreBillEntries graph root entries → items_depth (items_of entries) ≤ 2
-entries_low graph root entries are =
+entries_low : (graph : GraphData) (options : OptionsData) (root : Root) (entries : List Data) → AreBillEntries graph options root entries → items_depth (items_of entries) ≤ 2
+entries_low graph options root entries bill =
+    let are = bill.are_entries in
     rw are.are (items_depth-append 2 are.of_nodes are.own
-    (items_depth-zip (IsNodeEntry graph) 2 (entry_low graph) (range_with_len 0 (length graph.packages)) are.of_nodes are.are_of_nodes)
+    (items_depth-zip (IsNodeEntry graph) 2 (entry_low graph) bill.nodes are.of_nodes are.are_of_nodes)
     (own_low graph.packages root are.own are.are_own))
 
 -- ---- the metadata
@@ -165,21 +166,26 @@ authors_low : (names : List (List ℕ)) → IfLow (authors_if names) 3
 authors_low [] = tt
 authors_low (name ∷ names) = suc_low _ 2 (items_depth-map author_of 2 (λ n. lit≤ tt) (name ∷ names))
 
+properties_low : (properties : List (List ℕ × List ℕ)) → IfLow (properties_if properties) 3
+properties_low [] = tt
+properties_low (p ∷ ps) = suc_low _ 2 (items_depth-map property_object 2 (λ q. lit≤ tt) (p ∷ ps))
+
 metadata_low : (graph : GraphData) (root : Root) (options : OptionsData) (d : Data) → IsBillMetadata graph root options d → depth d ≤ 4
 unfolding bill_metadata
 metadata_low graph root options d is =
     rw is.is (suc_low _ 3
     (put_some_low (codes "timestamp") (option_map string is.time) _ 3 (map_low string is.time 3 (λ t. lit≤ tt))
+    (put_some_low (codes "properties") (properties_if options.properties) _ 3 (properties_low options.properties)
     (put_some_low (codes "component") (root_component graph options.licenses root) _ 3 (root_low graph options.licenses root)
     (put_some_low (codes "authors") (authors_if options.authors) _ 3 (authors_low options.authors)
-    (let own : members_depth (own_members options.tool_version) ≤ 3 = lit≤ tt in own)))))
+    (let own : members_depth (own_members options.tool_version) ≤ 3 = lit≤ tt in own))))))
 
 -- a bill nests less deep than a reader of JSON follows
 about_low : (graph : GraphData) (root : Root) (options : OptionsData) (d : Data) → IsAbout graph root options d → depth d ≤ 126
 unfolding bill_document
 about_low graph root options d about =
-    let components = components_low graph options.licenses root about.components about.are_components in
-    let entries = entries_low graph root about.entries about.are_entries in
+    let components = components_low graph options root about.components about.are_components in
+    let entries = entries_low graph options root about.entries about.are_entries in
     let metadata = metadata_low graph root options about.metadata about.is_metadata in
     let components_list : suc (items_depth (items_of about.components)) ≤ 125 = omega (arith, components) in
     let entries_list : suc (items_depth (items_of about.entries)) ≤ 125 = omega (arith, entries) in

@@ -16,7 +16,8 @@ use Rattle.cargo_lock_bom.specs.Iri.{iri_text}
 use Rattle.lists.specs.Places.{IsPlaces}
 use Rattle.cargo_lock_bom.specs.Purl.{purl_of}
 use Rattle.cargo_lock_bom.specs.References.{package_reference, workspace_reference}
-use Rattle.cargo_lock_bom.specs.Root.{is_application}
+use Rattle.cargo_lock_bom.specs.Options.{OptionsData}
+use Rattle.cargo_lock_bom.specs.Root.{IsListed, is_application}
 use Rattle.cargo_lock_bom.specs.UserInfo.{without_user_info}
 
 -- the type of a component: an application, or else a library
@@ -92,13 +93,18 @@ abbrev pub component_at : GraphData → List (Option (List ℕ)) → ℕ → Dat
 component_at graph licenses node = component_if (is_application graph node)
     (license_at licenses node) (slice_get graph.packages node)
 
--- the components of the packages that are not the root, in order, each listed once, with these
--- licence expressions of the packages
-pub record AreComponents (graph : GraphData) (licenses : List (Option (List ℕ))) (root : Root)
+-- the bill lists the package of the node, which is not the root
+abbrev pub IsComponent : GraphData → OptionsData → Root → ℕ → Type 0
+IsComponent graph options root k =
+    IsListed graph options.listed options.root k × ¬ (root ≡ Package k)
+
+-- the components of the packages that are listed and not the root, in order, each listed once, with
+-- the licence expressions of the packages
+pub record AreComponents (graph : GraphData) (options : OptionsData) (root : Root)
     (components : List Data) : Type 0 where
   pub nodes : List ℕ
-  pub are_others : IsPlaces (λ k. ¬ (root ≡ Package k)) (length graph.packages) nodes
-  pub are : components ≡ map (component_at graph licenses) nodes
+  pub are_others : IsPlaces (IsComponent graph options root) (length graph.packages) nodes
+  pub are : components ≡ map (component_at graph options.licenses) nodes
 
 -- the component of the workspace
 abbrev pub workspace_component : Data

@@ -1,15 +1,24 @@
 -- The options of a bill.
 use Rattle.std.specs.Prelude.{ℕ, Bool, List, length, nat_lt, Option, Some, None, if◌then◌else◌}
 use Rattle.cargo_lock_graph.specs.Edges.{GraphData}
+use Rattle.cargo_lock_bom.specs.declared.options.Listed.{Listed}
+use Rattle.cargo_lock_bom.specs.declared.options.Property.{Property}
 
--- the node of the root, if it is given, the version of the program that writes the bill, the time
--- in seconds since 1970, if the bill has one, its authors, whether it has a serial number, and the
--- licence expressions of the packages that have one, by the place of the package
+-- the name and the value of a property
+abbrev pub property_of : Property → List ℕ × List ℕ
+property_of p = (p.name.now, p.value.now)
+
+-- the node of the root, if it is given, which packages are listed, the version of the program that
+-- writes the bill, the time in seconds since 1970, if the bill has one, its authors, the names and
+-- values of its properties, whether it has a serial number, and the licence expressions of the
+-- packages that have one, by the place of the package
 pub record OptionsData : Type 0 where
   pub root : Option ℕ
+  pub listed : Listed
   pub tool_version : List ℕ
   pub timestamp : Option ℕ
   pub authors : List (List ℕ)
+  pub properties : List (List ℕ × List ℕ)
   pub has_serial : Bool
   pub licenses : List (Option (List ℕ))
 

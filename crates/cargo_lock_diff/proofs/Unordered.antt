@@ -24,7 +24,7 @@ use Rattle.cargo_lock_diff.proofs.Orders.{likeness_total}
 
 -- ---- counts
 
-count-map : {X Y : Type 0} (q : Y → Bool) (f : X → Y) (xs : List X) → count_by q (map f xs) ≡ count_by (λ x. q (f x)) xs
+pub count-map : {X Y : Type 0} (q : Y → Bool) (f : X → Y) (xs : List X) → count_by q (map f xs) ≡ count_by (λ x. q (f x)) xs
 count-map q f [] = refl
 count-map q f (x ∷ xs) = count-cons q (f x) (map f xs) ∙ ap (λ n. cond (q (f x)) 1 0 + n) (count-map q f xs) ∙ sym (count-cons (λ z. q (f z)) x xs)
 
@@ -43,14 +43,14 @@ count-weaker p q h (x ∷ xs) =
     omega (arith, a, b, c, d)
 
 -- each stands as often in both lists
-abbrev SameCounts : {X : Type 0} → (X → X → Bool) → List X → List X → Type 0
+abbrev pub SameCounts : {X : Type 0} → (X → X → Bool) → List X → List X → Type 0
 SameCounts {X} same xs ys = (x : X) → count_by (same x) xs ≡ count_by (same x) ys
 
 same-at : {X : Type 0} (W : X → X → Bool) → IsEquivalence W → (p x y : X) → W x y ≡ true → W p x ≡ W p y
 same-at W w p x y h = w.symm p x ∙ w.congr x y p h ∙ sym (w.symm p y)
 
 -- what is there has one like it in the other list
-other-one : {X : Type 0} (W : X → X → Bool) → IsEquivalence W → (xs ys : List X) → SameCounts W xs ys → (x : X) → Contains xs x
+pub other-one : {X : Type 0} (W : X → X → Bool) → IsEquivalence W → (xs ys : List X) → SameCounts W xs ys → (x : X) → Contains xs x
     → (y : X) × Contains ys y × (W x y ≡ true)
 other-one {X} W w xs ys same x there = go (count_by (W x) ys) refl
   where

@@ -6,6 +6,7 @@ returns-clause-writes g c =
       c.then-alarms.ensures,
       c.then-dependencies.ensures,
       c.then-replacements.ensures,
+      c.then-lost.ensures,
       c.then-checksums.ensures,
       c.then-sources.ensures,
       c.then-added.ensures,
