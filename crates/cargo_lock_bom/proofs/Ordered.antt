@@ -18,7 +18,7 @@ use Rattle.cargo_lock_bom.specs.Dependencies.{AreBillEntries, AreOwnEntries, IsN
 use Rattle.cargo_lock_bom.specs.Document.{IsBill, bill_document}
 use Rattle.cargo_lock_bom.specs.Iri.{iri_text}
 use Rattle.cargo_lock_bom.specs.Metadata.{IsBillMetadata, author_of, authors_if, bill_metadata, own_members}
-use Rattle.cargo_lock_bom.specs.Options.{OptionsData}
+use Rattle.cargo_lock_bom.specs.Options.{Expression, LicenseData, Named, OptionsData}
 use Rattle.cargo_lock_bom.specs.Purl.{purl_of}
 use Rattle.cargo_lock_bom.specs.References.{workspace_reference}
 use Rattle.cargo_lock_bom.specs.Root.{is_application}
@@ -106,21 +106,25 @@ component_order-members reference name type version r h l u a b c d =
           ))),
     )
 
-component_order : (application : Bool) (license : Option (List ℕ)) (p : PackageData) → InOrder (component_of application license p)
+license_order : (license : LicenseData) → InOrder (licenses_of license)
+license_order (Expression text) = (((refl, tt), tt, (tt, tt, tt)), tt)
+license_order (Named text) = ((tt, ((refl, tt), tt, (tt, tt, tt)), tt), tt)
+
+component_order : (application : Bool) (license : Option LicenseData) (p : PackageData) → InOrder (component_of application license p)
 unfolding component_of
 component_order application license p =
     component_order-members _ _ _ _ (repositories_if p.source) (option_map hashes_of p.checksum) (option_map licenses_of license) (option_map string (purl_of (identity_of p)))
     (repositories_order p.source) (map-order hashes_of p.checksum (λ d. (((refl, tt), tt, (tt, tt, tt)), tt)))
-    (map-order licenses_of license (λ t. ((tt, tt, tt), tt))) (map-order string (purl_of (identity_of p)) (λ t. tt))
+    (map-order licenses_of license license_order) (map-order string (purl_of (identity_of p)) (λ t. tt))
 
-if_order : (application : Bool) (license : Option (List ℕ)) (o : Option PackageData) → InOrder (component_if application license o)
+if_order : (application : Bool) (license : Option LicenseData) (o : Option PackageData) → InOrder (component_if application license o)
 if_order application license None = tt
 if_order application license (Some p) = component_order application license p
 
-component_at_order : (graph : GraphData) (licenses : List (Option (List ℕ))) (node : ℕ) → InOrder (component_at graph licenses node)
+component_at_order : (graph : GraphData) (licenses : List (Option LicenseData)) (node : ℕ) → InOrder (component_at graph licenses node)
 component_at_order graph licenses node = if_order (is_application graph node) (license_at licenses node) (slice_get graph.packages node)
 
-components_order : (graph : GraphData) (licenses : List (Option (List ℕ))) (root : Root) (components : List Data)
+components_order : (graph : GraphData) (licenses : List (Option LicenseData)) (root : Root) (components : List Data)
     → AreComponents graph licenses root components → ItemsInOrder (items_of components)
 components_order graph licenses root components are =
     subst (λ (ds : List Data). ItemsInOrder (items_of ds)) (sym are.are) (items-map (component_at graph licenses) (component_at_order graph licenses) are.nodes)
@@ -149,7 +153,7 @@ entries_order graph root entries are =
 
 -- ---- the metadata
 
-root_order : (graph : GraphData) (licenses : List (Option (List ℕ))) (root : Root) → IfOrder (root_component graph licenses root)
+root_order : (graph : GraphData) (licenses : List (Option LicenseData)) (root : Root) → IfOrder (root_component graph licenses root)
 root_order graph licenses (Package node) = component_at_order graph licenses node
 root_order graph licenses Workspace = ((refl, (refl, tt)), tt, ((refl, tt), tt, (tt, tt, tt)))
 root_order graph licenses Nothing = tt

@@ -1,6 +1,7 @@
 //! The command `bom`: the bill of materials of a lockfile.
 ghost use Rattle.std.specs.Prelude.{◌≡◌, None, IfOk, OnOk, codes, map, option_map, string_bytes};
 ghost use Rattle.clap.specs.Matches.{first_value, found_of};
+ghost use Rattle.cargo_lock_bom.specs.Options.{license_of};
 ghost use Rattle.cli_folder_commands.specs.Bom.{IsAskedBill, IsAskedBillOf, IsAskedLine};
 ghost use Rattle.cli_folder_commands.specs.Bom.{IsBillWith, IsTimeAsked, PrintsBill};
 ghost use Rattle.cli_folder_commands.specs.Texts.{given_texts};
@@ -9,7 +10,7 @@ ghost use Rattle.cli_input.specs.Json.{IsFlag};
 use crate::{bill_licenses, texts};
 use cargo_lock::dependency::graph::NodeIndex;
 use cargo_lock::{Lockfile, Package};
-use cargo_lock_bom::options::{Options, VERSION};
+use cargo_lock_bom::options::{License, Options, VERSION};
 use cargo_lock_bom::printed::{printed_bill, with_root};
 use cargo_lock_query::fitting;
 use clap::{Arg, ArgAction, ArgMatches, Command};
@@ -179,13 +180,13 @@ fn said_of_bill<'a>(
     options: &'a ArgMatches<'_>,
     given: Option<NodeIndex>,
     time: Option<u64>,
-    licenses: &'a [Option<String>],
+    licenses: &'a [Option<License>],
 ) -> Options<'a>
     ensures root { «result».root ≡ given }
     ensures timestamp { «result».timestamp ≡ time }
     ensures authors { «result».authors ≡ given_texts (found_of options.now) (codes "author") }
     ensures serial { IsFlag (found_of options.now) (codes "serial") «result».has_serial }
-    ensures licenses { «result».licenses ≡ map (option_map string_bytes) licenses.now }
+    ensures licenses { «result».licenses ≡ map (option_map license_of) licenses.now }
 {
     Options {
         root: given,
