@@ -114,7 +114,8 @@ _cargo_lock() {
         case $previous in
         -f | --file) _cargo_lock_files ;;
         --cache | --vendor) _cargo_lock_files ;;
-        *) _cargo_lock_offer '-f --file --any-size --cache --vendor --all --others --json -h --help' ;;
+        --mirror) ;;
+        *) _cargo_lock_offer '-f --file --any-size --cache --vendor --all --mirror --others --json -h --help' ;;
         esac
         ;;
     licenses)

@@ -112,6 +112,7 @@ complete -c cargo-lock -n '__cargo_lock_runs verify' -l any-size -d 'Reads a loc
 complete -c cargo-lock -n '__cargo_lock_runs verify' -l cache -r -F -d 'The folder of the archives, as registry/cache of Cargo'
 complete -c cargo-lock -n '__cargo_lock_runs verify' -l vendor -r -F -d 'The folder that `cargo vendor` made'
 complete -c cargo-lock -n '__cargo_lock_runs verify' -l all -d 'Counts packages without an archive or a checksum too'
+complete -c cargo-lock -n '__cargo_lock_runs verify' -l mirror -r -d 'Takes archives of this host for those of each registry'
 complete -c cargo-lock -n '__cargo_lock_runs verify' -l others -d 'Passes over folders of packages that the lockfile does not have'
 complete -c cargo-lock -n '__cargo_lock_runs verify' -l json -d 'Prints one line of JSON'
 complete -c cargo-lock -n '__cargo_lock_runs verify' -s h -l help -d 'Print help'

@@ -137,6 +137,7 @@ _cargo-lock() {
             '--cache[The folder of the archives, as registry/cache of Cargo]:FOLDER:_files -/' \
             '--vendor[The folder that `cargo vendor` made]:FOLDER:_files -/' \
             '--all[Counts packages without an archive or a checksum too]' \
+            '*--mirror[Takes archives of this host for those of each registry]:HOST:' \
             '--others[Passes over folders of packages that the lockfile does not have]' \
             '--json[Prints one line of JSON]' \
             '(- *)'{-h,--help}'[Print help]'

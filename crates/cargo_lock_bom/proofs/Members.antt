@@ -9,6 +9,7 @@ use Rattle.serde_json.specs.Data.{Data, Members, array, member, no_members, obje
 use Rattle.serde_json.specs.View.{items_of}
 use Rattle.serde_json.specs.Written.{members_outline}
 use Rattle.cargo_lock_parts.specs.Identity.{PackageData, identity_of}
+use Rattle.cargo_lock_bom.specs.Options.{LicenseData}
 use Rattle.cargo_lock_bom.specs.Component.{component_of, hashes_of, licenses_of, put_some, repositories_if, repositories_of, type_text}
 use Rattle.cargo_lock_bom.specs.Contents.{with_serial_if}
 use Rattle.cargo_lock_bom.specs.Document.{bill_document}
@@ -91,7 +92,7 @@ pub repository-tokens : (url : List ℕ) (precise : Option (List ℕ))
 repository-tokens url None = refl
 repository-tokens url (Some text) = refl
 
-pub component-tokens : (application : Bool) (license : Option (List ℕ)) (p : PackageData)
+pub component-tokens : (application : Bool) (license : Option LicenseData) (p : PackageData)
     → data_tokens (component_of application license p)
     ≡ token.begin_object ∷ token.key (codes "bom-ref") ∷ token.string (package_reference p)
     ∷ (member_tokens (codes "externalReferences") (repositories_if p.source)

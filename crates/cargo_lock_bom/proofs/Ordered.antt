@@ -18,7 +18,7 @@ use Rattle.cargo_lock_bom.specs.Dependencies.{AreBillEntries, AreOwnEntries, IsN
 use Rattle.cargo_lock_bom.specs.Document.{IsBill, bill_document}
 use Rattle.cargo_lock_bom.specs.Iri.{iri_text}
 use Rattle.cargo_lock_bom.specs.Metadata.{IsBillMetadata, author_of, authors_if, bill_metadata, own_members, properties_if, property_object}
-use Rattle.cargo_lock_bom.specs.Options.{OptionsData}
+use Rattle.cargo_lock_bom.specs.Options.{Expression, LicenseData, Named, OptionsData}
 use Rattle.cargo_lock_bom.specs.Purl.{purl_of}
 use Rattle.cargo_lock_bom.specs.References.{workspace_reference}
 use Rattle.cargo_lock_bom.specs.Root.{is_application}
@@ -106,18 +106,22 @@ component_order-members reference name type version r h l u a b c d =
           ))),
     )
 
-component_order : (application : Bool) (license : Option (List ℕ)) (p : PackageData) → InOrder (component_of application license p)
+license_order : (license : LicenseData) → InOrder (licenses_of license)
+license_order (Expression text) = (((refl, tt), tt, (tt, tt, tt)), tt)
+license_order (Named text) = ((tt, ((refl, tt), tt, (tt, tt, tt)), tt), tt)
+
+component_order : (application : Bool) (license : Option LicenseData) (p : PackageData) → InOrder (component_of application license p)
 unfolding component_of
 component_order application license p =
     component_order-members _ _ _ _ (repositories_if p.source) (option_map hashes_of p.checksum) (option_map licenses_of license) (option_map string (purl_of (identity_of p)))
     (repositories_order p.source) (map-order hashes_of p.checksum (λ d. (((refl, tt), tt, (tt, tt, tt)), tt)))
-    (map-order licenses_of license (λ t. ((tt, tt, tt), tt))) (map-order string (purl_of (identity_of p)) (λ t. tt))
+    (map-order licenses_of license license_order) (map-order string (purl_of (identity_of p)) (λ t. tt))
 
-if_order : (application : Bool) (license : Option (List ℕ)) (o : Option PackageData) → InOrder (component_if application license o)
+if_order : (application : Bool) (license : Option LicenseData) (o : Option PackageData) → InOrder (component_if application license o)
 if_order application license None = tt
 if_order application license (Some p) = component_order application license p
 
-component_at_order : (graph : GraphData) (licenses : List (Option (List ℕ))) (node : ℕ) → InOrder (component_at graph licenses node)
+component_at_order : (graph : GraphData) (licenses : List (Option LicenseData)) (node : ℕ) → InOrder (component_at graph licenses node)
 component_at_order graph licenses node = if_order (is_application graph node) (license_at licenses node) (slice_get graph.packages node)
 
 components_order : (graph : GraphData) (options : OptionsData) (root : Root) (components : List Data)
@@ -150,7 +154,7 @@ entries_order graph options root entries bill =
 
 -- ---- the metadata
 
-root_order : (graph : GraphData) (licenses : List (Option (List ℕ))) (root : Root) → IfOrder (root_component graph licenses root)
+root_order : (graph : GraphData) (licenses : List (Option LicenseData)) (root : Root) → IfOrder (root_component graph licenses root)
 root_order graph licenses (Package node) = component_at_order graph licenses node
 root_order graph licenses Workspace = ((refl, (refl, tt)), tt, ((refl, tt), tt, (tt, tt, tt)))
 root_order graph licenses Nothing = tt

@@ -38,8 +38,9 @@ use std::alloc::{AllocError, Global};
 /// "SHA-256", "content": "7253ab.."}], "name": "serde", "purl": "pkg:cargo/serde@1.0.203", "type":
 /// "library", "version": "1.0.203"}`, without `hashes` if there is no checksum, and without `purl`
 /// if there is no source. A package of a repository also has `"externalReferences": [{"comment":
-/// COMMIT, "type": "vcs", "url": URL}]`, and one for which the options have a licence expression
-/// `"licenses": [{"expression": "MIT OR Apache-2.0"}]`. The `type` is `application` if the package
+/// COMMIT, "type": "vcs", "url": URL}]`, and one for which the options have a licence
+/// `"licenses": [{"acknowledgement": "declared", "expression": "MIT OR Apache-2.0"}]`, or, for a text
+/// that is no expression, `"licenses": [{"license": {"acknowledgement": "declared", "name": TEXT}}]`. The `type` is `application` if the package
 /// has no source and no other package needs it. The member `dependencies` has, for each component,
 /// `{"dependsOn": [..], "ref": ".."}`, by their `bom-ref`.
 ///

@@ -31,6 +31,16 @@ pub struct Property<'a> {
     pub value: &'a str,
 }
 
+/// What the manifest of a package says of its licence.
+#[derive(Debug, Drop)]
+pub enum License {
+    /// An expression, such as `MIT OR Apache-2.0`.
+    Expression(String),
+
+    /// A text that is no expression, such as `MIT or later`.
+    Named(String),
+}
+
 /// The options of a bill of materials. Equal lockfiles have equal bills if their options are equal.
 #[derive(Debug, Drop)]
 pub struct Options<'a> {
@@ -58,15 +68,15 @@ pub struct Options<'a> {
     /// Whether the bill has a serial number.
     pub has_serial: bool,
 
-    /// The licence expressions of packages, such as `MIT OR Apache-2.0`, each at the place of its
-    /// package, with `None` for a package without one. An empty list means that no package has one,
-    /// and what is beyond the packages is ignored. The bill has the texts as they are given.
-    pub licenses: &'a [Option<String>],
+    /// The licences of packages, each at the place of its package, with `None` for a package without
+    /// one. An empty list means that no package has one, and what is beyond the packages is ignored.
+    /// The bill has the texts as they are given.
+    pub licenses: &'a [Option<License>],
 }
 
 impl<'a> Model for Options<'a> {
-    ghost use Rattle.std.specs.Prelude.{map, option_map, string_bytes};
-    ghost use Rattle.cargo_lock_bom.specs.Options.{OptionsData, property_of};
+    ghost use Rattle.std.specs.Prelude.{map, option_map};
+    ghost use Rattle.cargo_lock_bom.specs.Options.{OptionsData, license_of, property_of};
 
     ghost Value = { OptionsData };
 
@@ -78,7 +88,7 @@ impl<'a> Model for Options<'a> {
       authors = map (λ author. author.now) o.authors.now;
       properties = map property_of o.properties.now;
       has_serial = o.has_serial;
-      licenses = map (option_map string_bytes) o.licenses.now;
+      licenses = map (option_map license_of) o.licenses.now;
     } };
 }
 

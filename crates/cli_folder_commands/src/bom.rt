@@ -3,7 +3,7 @@ ghost use Rattle.std.specs.Prelude.{◌≡◌, ◌∷◌, [], IfOk, OnOk, codes,
 ghost use Rattle.std.specs.Prelude.{string_bytes};
 ghost use Rattle.std.specs.List.{AllZip};
 ghost use Rattle.clap.specs.Matches.{first_value, found_of};
-ghost use Rattle.cargo_lock_bom.specs.Options.{property_of};
+ghost use Rattle.cargo_lock_bom.specs.Options.{license_of, property_of};
 ghost use Rattle.cargo_lock_query.specs.Spec.{SpecFits};
 ghost use Rattle.cli_folder_commands.specs.Bom.{IsAskedBill, IsAskedBillOf, IsAskedLine};
 ghost use Rattle.cli_folder_commands.specs.Bom.{IsBillWith, IsPropertyBy, IsRootAsked};
@@ -12,11 +12,11 @@ ghost use Rattle.lists.specs.Places.{IsPlaces};
 ghost use Rattle.cli_folder_commands.specs.Texts.{given_texts};
 ghost use Rattle.cli_input.specs.Json.{IsFlag};
 
-use crate::policy::refused;
+use crate::texts::refused;
 use crate::{bill_licenses, texts};
 use cargo_lock::dependency::graph::NodeIndex;
 use cargo_lock::{Lockfile, Package};
-use cargo_lock_bom::options::{Listed, Options, Property, VERSION};
+use cargo_lock_bom::options::{License, Listed, Options, Property, VERSION};
 use cargo_lock_bom::printed::{printed_bill, with_root};
 use cargo_lock_query::fitting;
 use clap::{Arg, ArgAction, ArgMatches, Command};
@@ -236,7 +236,7 @@ fn said_of_bill<'a>(
     given: &GivenRoot,
     time: Option<u64>,
     properties: &'a [Property<'a>],
-    licenses: &'a [Option<String>],
+    licenses: &'a [Option<License>],
 ) -> Options<'a>
     ensures root { «result».root ≡ given.now.node }
     ensures listed { «result».listed ≡ given.now.listed }
@@ -244,7 +244,7 @@ fn said_of_bill<'a>(
     ensures authors { «result».authors ≡ given_texts (found_of options.now) (codes "author") }
     ensures properties { «result».properties ≡ map property_of properties.now }
     ensures serial { IsFlag (found_of options.now) (codes "serial") «result».has_serial }
-    ensures licenses { «result».licenses ≡ map (option_map string_bytes) licenses.now }
+    ensures licenses { «result».licenses ≡ map (option_map license_of) licenses.now }
 {
     Options {
         root: given.node,

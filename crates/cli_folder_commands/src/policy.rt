@@ -103,19 +103,3 @@ fn exemption(alloc: Global, words: &str) -> Result<Exemption, Fault>
         None => Err(refused(alloc, EXEMPT, words)),
     }
 }
-<<<<<<< HEAD
-=======
-
-/// The fault of words that an option does not take.
-pub(crate) fn refused(alloc: Global, takes: &str, words: &str) -> Fault {
-    match refusal(alloc, takes, words) {
-        Ok(text) => Fault::Refused(text),
-        Err(_) => Fault::Library(Error::Memory),
-    }
-}
-
-fn refusal(alloc: Global, takes: &str, words: &str) -> Result<String, AllocError> {
-    let words = in_line(alloc, words)?;
-    format!(in alloc; "{takes}, not `{words}`")
-}
->>>>>>> d58a3fbf05681b46e95d929767ebabd3995b500a

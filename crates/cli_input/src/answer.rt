@@ -81,8 +81,8 @@ impl Answer for cargo_lock_verify::Report<'_, '_> {
     ghost use Rattle.cargo_lock_verify.specs.ArchivesDocument.{archives_json};
     ghost use Rattle.cargo_lock_verify.specs.Archives.{archive_finding_of};
 
-    ghost json = { λ file report.
-        archives_json file report.counts (map archive_finding_of report.findings.items) };
+    ghost json = { λ file report. archives_json file report.counts report.others
+        (map archive_finding_of report.findings.items) };
 
     fn document(&self, alloc: Global, file: &File<'_>) -> Result<String, AllocError> {
         archives_json(alloc, file, self)

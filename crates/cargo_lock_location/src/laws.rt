@@ -1,0 +1,11 @@
+//! Laws of the lines of packages, each the contract of a function without a body.
+
+ghost use Rattle.cargo_lock_location.specs.Location.{LinesAreThoseOfPackages};
+
+/// The number of a package's line is exactly that of the line that begins it: there are as many lines
+/// that begin packages as packages, as many of them before it as packages before this one, and below it,
+/// before the next line that begins with a bracket, stands its name. A package that no line begins so
+/// has no number.
+pub fn lines_are_those_of_packages()
+    ensures { LinesAreThoseOfPackages }
+{}
