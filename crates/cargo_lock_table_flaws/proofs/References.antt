@@ -1,5 +1,5 @@
 -- Values with a format are those of a lockfile exactly if no reference of them is told.
-use Rattle.std.proofs.Common.{◌≡◌, ◌∙◌, ℕ, List, [], ◌∷◌, ◌++◌, map, Option, Some, None, IsSome, is_some, option_map, refl, sym, ap, subst}
+use Rattle.std.proofs.Common.{◌≡◌, ◌∙◌, ℕ, List, [], ◌∷◌, ◌++◌, map, Option, Some, None, IsSome, is_some, option_map, refl, sym, ap, subst, inl, inr}
 use Rattle.std.proofs.lemmas.Option.{same_Some}
 use Rattle.toml.specs.Data.{Members}
 use Rattle.cargo_lock_parts.specs.Identity.{Identity}
@@ -19,17 +19,17 @@ use Rattle.cargo_lock_table_flaws.specs.Finding.{TableFindingData}
 use Rattle.cargo_lock_table_flaws.specs.Laws.{LockfileIfResolved, NoReportOfLockfile}
 use Rattle.cargo_lock_table_flaws.specs.Report.{IsReferenceReport, IsUnreadReport, TableReportData}
 use Rattle.cargo_lock_table_flaws.specs.Unresolved.{role_in, unless_resolved, unresolved_dependencies, unresolved_in, unresolved_of, unresolved_of_each, unresolved_of_root, unresolved_references, unresolved_replacement}
-use Rattle.cargo_lock_table_flaws.proofs.Told.{Tells, each-tells, made, mapped, read, refused, some-tells, then}
+use Rattle.cargo_lock_table_flaws.proofs.Told.{Tells, accepted, each-tells, made, mapped, next, refused, some-tells}
 use Rattle.cargo_lock_table_flaws.proofs.Tables.{none_unread_if_read}
 
 resolved-tells : (p : EncodedPackage) (role : Role) (f : Reference) (r : Option Identity) → Tells r (unless_resolved p role f r)
 resolved-tells p role f None = refused _ []
-resolved-tells p role f (Some i) = read i
+resolved-tells p role f (Some i) = accepted
 
 package-tells : (list : List Identity) (role : Role) (checksum : Option (List ℕ)) (p : EncodedPackage)
     → Tells (package_of list checksum p) (unresolved_of list role p)
 package-tells list role checksum p =
-    then (map_all (λ f. resolution_of f list) p.dependencies) _ (unresolved_dependencies list role p p.dependencies) (unresolved_replacement p)
+    next (map_all (λ f. resolution_of f list) p.dependencies) _ (unresolved_dependencies list role p p.dependencies) (unresolved_replacement p)
     (each-tells (λ f. resolution_of f list) (unresolved_in list p role) (λ f. resolved-tells p role f (resolution_of f list)) p.dependencies)
     (λ dependencies. made (map_some (λ f. resolution_of f []) p.replace) _ (unresolved_replacement p)
     (some-tells (λ f. resolution_of f []) (unresolved_in [] p Replacement) (λ f. resolved-tells p Replacement f (resolution_of f [])) p.replace))
@@ -38,7 +38,7 @@ values-tell : (e : EncodedData) (format : ResolveVersion) → format_of e ≡ So
 unfolding unresolved_references
 values-tell e format is =
     let list : List Identity = reading_list format (map encoded_identity e.packages) in
-    rw is (then (all_packages format e.metadata e.packages) _ (unresolved_of_each list (role_in format) e.packages) (unresolved_of_root e.root)
+    rw is (next (all_packages format e.metadata e.packages) _ (unresolved_of_each list (role_in format) e.packages) (unresolved_of_root e.root)
     (each-tells (listed_package format list e.metadata) (unresolved_of list (role_in format)) (λ p. package-tells list (role_in format) (encoded_checksum format e.metadata p) p) e.packages)
     (λ packages. made (map_some root_package e.root) _ (unresolved_of_root e.root)
     (some-tells root_package (unresolved_of [] FullDependency) (λ p. package-tells [] FullDependency p.checksum p) e.root)))

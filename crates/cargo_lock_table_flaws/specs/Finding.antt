@@ -64,8 +64,7 @@ owner_of owner = record {
 abbrev pub table_finding_of : TableFinding → TableFindingData
 table_finding_of (declared.Unread owner key written) =
     Unread (owner_of owner) key (written_of written)
-table_finding_of (declared.Unresolved package reference role) =
-    Unresolved package.now reference.now role
+table_finding_of (declared.Unresolved p reference role) = Unresolved p.now reference.now role
 
 -- ---- lines
 

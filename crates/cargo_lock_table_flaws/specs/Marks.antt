@@ -1,5 +1,5 @@
 -- The marks of a conflict that a merge by lines leaves in a text.
-use Rattle.std.specs.Prelude.{◌+◌, ◌||◌, ℕ, Bool, List, codes, eqb, position, Option, None, Some}
+use Rattle.std.specs.Prelude.{◌+◌, ◌||◌, ℕ, Bool, List, codes, nat_eq, position, Option, None, Some}
 use Rattle.std.specs.Prelude.{option_map}
 use Rattle.std.specs.List.{starts_with}
 use Rattle.std.specs.Str.Lines.{lines}
@@ -8,8 +8,8 @@ use Rattle.toml.specs.Parse.{parse_document}
 
 -- the line begins with seven of `<`, `|`, `=` or `>`
 abbrev pub is_mark : List ℕ → Bool
-is_mark line = starts_with eqb line (codes "<<<<<<<") || (starts_with eqb line (codes "|||||||")
-    || (starts_with eqb line (codes "=======") || starts_with eqb line (codes ">>>>>>>")))
+is_mark line = starts_with nat_eq line (codes "<<<<<<<") || (starts_with nat_eq line (codes "|||||||")
+    || (starts_with nat_eq line (codes "=======") || starts_with nat_eq line (codes ">>>>>>>")))
 
 -- the place of the first mark, from 0 on
 abbrev pub first_mark : List ℕ → Option ℕ

@@ -13,9 +13,7 @@ ghost use Rattle.printing.specs.Json.{Adds, IsJsonText};
 
 use crate::finding::TableFinding;
 use crate::report::TableReport;
-use cargo_lock_display::{
-    File, begin_identity, list_document, put_digest_or_null, put_origin,
-};
+use cargo_lock_display::{File, begin_identity, list_document, put_digest_or_null, put_origin};
 use cargo_lock_parts::dependency::Dependency;
 use cargo_lock_parts::package::Checksum;
 use cargo_lock_references::EncodablePackage;

@@ -2,7 +2,8 @@
 
 ghost use Rattle.std.specs.Prelude.{◌≡◌, Some, option_map};
 ghost use Rattle.std.specs.Fmt.{DisplaysOnOk};
-ghost use Rattle.cargo_lock_table_flaws.specs.Finding.{encoded_shown, key_word, noun_of, owner_of};
+ghost use Rattle.cargo_lock_table_flaws.specs.Finding.{digits_refusal, encoded_shown};
+ghost use Rattle.cargo_lock_table_flaws.specs.Finding.{key_word, noun_of, owner_of};
 ghost use Rattle.cargo_lock_table_flaws.specs.Finding.{owner_shown, place_words, role_fault};
 ghost use Rattle.cargo_lock_table_flaws.specs.Finding.{role_verb, unread_line, unresolved_line};
 ghost use Rattle.cargo_lock_table_flaws.specs.Finding.{why_text, written_of};

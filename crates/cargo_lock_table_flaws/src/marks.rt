@@ -1,7 +1,6 @@
 //! The marks of a conflict that a merge by lines leaves in a text.
 
-ghost use Rattle.std.specs.Prelude.{◌≡◌, IfOk, IfSome, option_map};
-ghost use Rattle.std.specs.Prelude.{◌+◌, ◌<◌, codes, eqb};
+ghost use Rattle.std.specs.Prelude.{◌≡◌, ◌+◌, ◌<◌, IfOk, IfSome, length, nat_eq, option_map};
 ghost use Rattle.std.specs.List.{starts_with};
 ghost use Rattle.cargo_lock_table_flaws.specs.Marks as spec;
 
@@ -40,7 +39,8 @@ fn marked_line(text: &str) -> Option<usize>
 
 // The place of the first line with a mark.
 fn first_mark(text: &str) -> Option<usize>
-    ensures { result ≡ spec.first_mark text.now }
+    ensures place { result ≡ spec.first_mark text.now }
+    ensures within { IfSome result (λ place. place < length text.now) }
 {
     text.lines().position(|line| is_mark(line))
 }
@@ -55,7 +55,7 @@ fn is_mark(line: &str) -> bool
 }
 
 fn begins(line: &str, mark: &str) -> bool
-    ensures { result ≡ starts_with eqb line.now mark.now }
+    ensures { result ≡ starts_with nat_eq line.now mark.now }
 {
     line.starts_with(mark)
 }

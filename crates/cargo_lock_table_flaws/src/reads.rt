@@ -68,7 +68,7 @@ fn is_source(alloc: Global, text: &str) -> Result<bool>
     ensures err { IsOkUnless result Memory }
 {
     match SourceId::from_url(alloc, text) {
-        Ok(_) => Ok(true),
+        Ok(_source) => Ok(true),
         Err(Error::Memory) => Err(Error::Memory),
         Err(fault) if fault.is_too_long() => Err(Error::Memory),
         Err(_) => Ok(false),
@@ -91,7 +91,7 @@ fn is_reference(alloc: Global, text: &str) -> Result<bool>
     ensures err { IsOkUnless result Memory }
 {
     match EncodableDependency::from_str(alloc, text) {
-        Ok(_) => Ok(true),
+        Ok(_reference) => Ok(true),
         Err(Error::Memory) => Err(Error::Memory),
         Err(fault) if fault.is_too_long() => Err(Error::Memory),
         Err(_) => Ok(false),

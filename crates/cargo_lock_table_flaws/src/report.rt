@@ -1,7 +1,7 @@
 //! What is reported of a table that is no lockfile.
 
 ghost use Rattle.std.specs.Prelude.{◌≡◌, ◌≢◌, [], IfOk, IsOkUnless, MatchOption, Some, map};
-ghost use Rattle.toml.specs.View.{table_view, view};
+ghost use Rattle.toml.specs.View.{items_view, table_view, view};
 ghost use Rattle.cargo_lock_encoding.specs.Lockfiles.{format_of};
 ghost use Rattle.cargo_lock_encoding.specs.TableReading.{encoded_at};
 ghost use Rattle.cargo_lock_parts.specs.declared.error.Error.TheVariants.{Memory};
@@ -9,7 +9,7 @@ ghost use Rattle.cargo_lock_table_flaws.specs.Finding.{table_finding_of};
 ghost use Rattle.cargo_lock_table_flaws.specs.Format.{said_format};
 ghost use Rattle.cargo_lock_table_flaws.specs.Report.{IsUnreadReport, IsUnresolvedReport};
 ghost use Rattle.cargo_lock_table_flaws.specs.Report.{IsWithoutUnread, IsWithoutUnresolved};
-ghost use Rattle.cargo_lock_table_flaws.specs.Report.{item_count, listed_count};
+ghost use Rattle.cargo_lock_table_flaws.specs.Report.{item_count, items_count, listed_count};
 
 use crate::finding::TableFinding;
 use crate::format::said_format;
@@ -214,7 +214,13 @@ fn item_count(list: &Value) -> usize
     ensures { result ≡ item_count (view list.now) }
 {
     match list.as_array() {
-        Some(list) => list.len(),
+        Some(list) => items_count(list.as_slice()),
         None => 0,
     }
+}
+
+fn items_count(list: &[Value]) -> usize
+    ensures { result ≡ items_count (items_view list.now) }
+{
+    list.len()
 }

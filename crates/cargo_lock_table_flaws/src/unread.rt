@@ -211,12 +211,7 @@ fn put_package<'a>(
 }
 
 // Adds what does not read of the unused patch at a place.
-fn put_patch<'a>(
-    alloc: Global,
-    found: &mut Found<'a>,
-    place: Place,
-    table: &'a Table,
-) -> Result<()>
+fn put_patch<'a>(alloc: Global, found: &mut Found<'a>, place: Place, table: &'a Table) -> Result<()>
     ensures ok { OnOk result (map table_finding_of found.new.items
         ≡ map table_finding_of found.old.items ++ unread_patch place (table_view table.now)) }
     ensures err { IsOkUnless result Memory }

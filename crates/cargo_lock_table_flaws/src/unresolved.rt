@@ -51,7 +51,13 @@ fn put_listed<'a>(
 {
     match format {
         ResolveVersion::V1 => {
-            put_each(alloc, found, &Indexed::empty(alloc), Role::FullDependency, listed)
+            put_each(
+                alloc,
+                found,
+                &Indexed::empty(alloc),
+                Role::FullDependency,
+                listed,
+            )
         }
         ResolveVersion::V2 | ResolveVersion::V3 | ResolveVersion::V4 => {
             put_among(alloc, found, listed)
@@ -83,7 +89,13 @@ fn put_root<'a>(
         ≡ map table_finding_of found.old.items ++ unresolved_of_root root.now) }
 {
     match root {
-        Some(root) => put_one(alloc, found, &Indexed::empty(alloc), Role::FullDependency, root),
+        Some(root) => put_one(
+            alloc,
+            found,
+            &Indexed::empty(alloc),
+            Role::FullDependency,
+            root,
+        ),
         None => Ok(()),
     }
 }
@@ -152,7 +164,13 @@ fn put_replacement<'a>(
 {
     match replace {
         Some(reference) => {
-            put_unless_resolved(found, &Indexed::empty(alloc), Role::Replacement, one, reference)
+            put_unless_resolved(
+                found,
+                &Indexed::empty(alloc),
+                Role::Replacement,
+                one,
+                reference,
+            )
         }
         None => Ok(()),
     }
