@@ -82,9 +82,9 @@ fn root<'a>(alloc: Global) -> Arg<'a> {
 
 /// Writes the bill of materials of the lockfile and a newline: into the output file, or to `out`.
 /// Fails if the time is not known, if the lockfile is not read or has no tree, if not exactly one
-/// package matches the root that the arguments name, if a property has no `=`, if the folder of manifests that they name or a
-/// manifest is not read, if the same text would refer to two of its packages, and if the output
-/// fails.
+/// package matches the root that the arguments name, if a property has no `=`, if the folder of
+/// manifests that they name or a manifest is not read, if the same text would refer to two of its
+/// packages, and if the output fails.
 pub fn run<R: Files + Input + Env + Clock + AllocGlobal, W: Write>(
     rt: &R,
     options: &ArgMatches<'_>,
