@@ -40,7 +40,8 @@ With --manifests, a package with a source has the expression that its manifests 
 `license`, if they say the same one: what their author wrote, with OR for `/`, and no judgement";
 
 /// The package that a bill is about, as help shows it.
-const ROOT_HELP: &str = "The package that the bill is about, as for tree, of which only one may fit; \
+const ROOT_HELP: &str =
+    "The package that the bill is about, as for tree, of which only one may fit; \
 the bill lists what is reached from it";
 
 /// The authors of a bill, as help shows them.
