@@ -211,10 +211,15 @@ def author(value, where):
     fields(value, where, {"bom-ref": some_text, "name": text, "email": text, "phone": text})
 
 
+def named_value(value, where):
+    fields(value, where, {"name": text, "value": text}, ("name",))
+
+
 def metadata(value, where):
     fields(value, where, {
         "timestamp": time, "lifecycles": each(phase, False), "tools": tools,
         "authors": each(author, False), "component": component,
+        "properties": each(named_value, False),
     })
 
 

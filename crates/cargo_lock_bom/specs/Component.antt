@@ -17,7 +17,7 @@ use Rattle.lists.specs.Places.{IsPlaces}
 use Rattle.cargo_lock_bom.specs.Purl.{purl_of}
 use Rattle.cargo_lock_bom.specs.References.{package_reference, workspace_reference}
 use Rattle.cargo_lock_bom.specs.Options.{Expression, LicenseData, Named, OptionsData}
-use Rattle.cargo_lock_bom.specs.Root.{IsListed, is_application}
+use Rattle.cargo_lock_bom.specs.Root.{IsInBill, is_application}
 use Rattle.cargo_lock_bom.specs.UserInfo.{without_user_info}
 
 -- the type of a component: an application, or else a library
@@ -105,7 +105,7 @@ component_at graph licenses node = component_if (is_application graph node)
 -- the bill lists the package of the node, which is not the root
 abbrev pub IsComponent : GraphData → OptionsData → Root → ℕ → Type 0
 IsComponent graph options root k =
-    IsListed graph options.listed options.root k × ¬ (root ≡ Package k)
+    IsInBill graph options.listed options.root k × ¬ (root ≡ Package k)
 
 -- the components of the packages that are listed and not the root, in order, each listed once, with
 -- the licences of the packages

@@ -14,7 +14,7 @@ use Rattle.cargo_lock_bom.specs.declared.root.Root.TheVariants.{Package, Workspa
 use Rattle.lists.specs.Places.{IsPlaces}
 use Rattle.cargo_lock_bom.specs.References.{package_reference, workspace_reference}
 use Rattle.cargo_lock_bom.specs.Options.{OptionsData}
-use Rattle.cargo_lock_bom.specs.Root.{IsListed, is_member}
+use Rattle.cargo_lock_bom.specs.Root.{IsInBill, is_member}
 
 -- the nodes to which edges lead from a node, ascending, each listed once
 pub record AreEdgeTargets (graph : GraphData) (node : ℕ) (targets : List ℕ) : Type 0 where
@@ -73,6 +73,6 @@ pub record AreEntries (graph : GraphData) (root : Root) (nodes : List ℕ) (entr
 pub record AreBillEntries (graph : GraphData) (options : OptionsData) (root : Root)
     (entries : List Data) : Type 0 where
   pub nodes : List ℕ
-  pub are_nodes : IsPlaces (IsListed graph options.listed options.root) (length graph.packages)
+  pub are_nodes : IsPlaces (IsInBill graph options.listed options.root) (length graph.packages)
       nodes
   pub are_entries : AreEntries graph root nodes entries

@@ -38,16 +38,16 @@ LeadsToMembers graph node = (k : ℕ) → is_member graph.packages k ≡ true �
 
 -- The bill lists the package of the node: with `Reached`, if the caller gives a root, where edges
 -- lead from this to it, and otherwise always.
-abbrev pub IsListed : GraphData → Listed → Option ℕ → ℕ → Type 0
-IsListed graph All given node = Unit {0}
-IsListed graph Reached None node = Unit {0}
-IsListed graph Reached (Some root) node = EdgesLeadTo graph root node
+abbrev pub IsInBill : GraphData → Listed → Option ℕ → ℕ → Type 0
+IsInBill graph All given node = Unit {0}
+IsInBill graph Reached None node = Unit {0}
+IsInBill graph Reached (Some root) node = EdgesLeadTo graph root node
 
 -- no edge leads from what is listed to what is not
 abbrev pub ListedIsClosed : Type 0
 ListedIsClosed = (graph : GraphData) (listed : Listed) (given : Option ℕ) (a b : ℕ)
-    → IsListed graph listed given a → Contains (far_ends Outgoing graph.edges a) b
-    → IsListed graph listed given b
+    → IsInBill graph listed given a → Contains (far_ends Outgoing graph.edges a) b
+    → IsInBill graph listed given b
 
 -- the package of the workspace that no other package needs, and that leads to each package of the
 -- workspace

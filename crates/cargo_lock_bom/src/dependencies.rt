@@ -76,11 +76,7 @@ fn workspace_entry(alloc: Global, graph: &Graph) -> Result<Entry, AllocError>
 }
 
 // The entries of some nodes of a graph, in order.
-fn node_entries(
-    alloc: Global,
-    graph: &Graph,
-    nodes: &[usize],
-) -> Result<Vec<Entry>, AllocError>
+fn node_entries(alloc: Global, graph: &Graph, nodes: &[usize]) -> Result<Vec<Entry>, AllocError>
     requires { All (λ k. k < length graph.now.packages) nodes.now }
     ensures { IfOk result (λ made. AllZip (IsNodeEntry graph.now) nodes.now
         (map (entry_for graph.now.packages) made.items)) }

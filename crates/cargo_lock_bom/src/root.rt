@@ -4,7 +4,7 @@ ghost use Rattle.std.specs.Prelude.{◌≡◌, ◌<◌, ◌↔◌, ℕ, true, If
 ghost use Rattle.std.specs.Prelude.{MatchOption, None, filter, length, not};
 ghost use Rattle.lists.specs.Places.{IsPlaces};
 ghost use Rattle.lists.specs.Marks.{IsMarked};
-ghost use Rattle.cargo_lock_bom.specs.Root.{EdgesLeadTo, IsListed, IsRootOf, IsTop, IsWithin};
+ghost use Rattle.cargo_lock_bom.specs.Root.{EdgesLeadTo, IsInBill, IsRootOf, IsTop, IsWithin};
 ghost use Rattle.cargo_lock_bom.specs.Root.{LeadsToAllButOrphans, LeadsToMembers, is_member};
 ghost use Rattle.cargo_lock_bom.specs.Root.{is_root_at};
 ghost use Rattle.cargo_lock_bom.specs.Root as spec;
@@ -213,7 +213,7 @@ pub(crate) fn listed(
     given: Option<NodeIndex>,
 ) -> Result<Vec<usize>, AllocError>
     requires { IfSome given (λ node. node < length graph.now.packages) }
-    ensures { IfOk result (λ nodes. IsPlaces (IsListed graph.now listed given)
+    ensures { IfOk result (λ nodes. IsPlaces (IsInBill graph.now listed given)
         (length graph.now.packages) nodes.items) }
 {
     match (listed, given) {
@@ -260,11 +260,7 @@ fn marked_places(alloc: Global, marks: &[bool]) -> Result<Vec<usize>, AllocError
 }
 
 /// Those of some nodes, ascending, whose package is not the root. Fails when out of memory.
-pub(crate) fn others(
-    alloc: Global,
-    listed: &[usize],
-    root: &Root,
-) -> Result<Vec<usize>, AllocError>
+pub(crate) fn others(alloc: Global, listed: &[usize], root: &Root) -> Result<Vec<usize>, AllocError>
     ensures { IfOk result
         (λ nodes. nodes.items ≡ filter (λ k. not (is_root_at root.now k)) listed.now) }
 {

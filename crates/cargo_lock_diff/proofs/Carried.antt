@@ -9,7 +9,7 @@ use Rattle.cargo_lock_diff.specs.Dependencies.{AreSame, EqualIfCarried, IsCarrie
 use Rattle.cargo_lock_diff.proofs.Leads.{or-true}
 use Rattle.cargo_lock_diff.proofs.Orders.{target_total}
 use Rattle.cargo_lock_diff.proofs.Vouched.{any-there}
-use Rattle.lists.proofs.Tests.{and-parts as and-true}
+use Rattle.lists.proofs.Tests.{and-parts as and-true, or-cases}
 
 one_laws : IsEquivalence are_one
 one_laws = eq_by_cmp_equiv target_total
@@ -56,15 +56,10 @@ carried-is pairs d e h =
 is-carried : (pairs : List (PackageData × PackageData)) (d e : Identity) → IsCarried pairs d e → is_carried pairs d e ≡ true
 is-carried pairs d e (p, there, old, new) = any-there (λ (q : PackageData × PackageData). are_targets q d e) pairs p there (λ i. old i && new i)
 
--- what passes one of two tests, or the other
-either : (a b : Bool) → (a || b) ≡ true → (a ≡ true) ⊎ (b ≡ true)
-either true b h = inl refl
-either false b h = inr h
-
 -- an old dependency that meets a new one is the same as some
 met-old : (pairs : List (PackageData × PackageData)) (es : List Identity) (d : Identity) → is_met true pairs es d ≡ true
     → (e : Identity) × Contains es e × AreSame pairs d e
-met-old pairs es d h = by (either (list_any (are_one d) es) (list_any (is_carried_either true pairs d) es) h)
+met-old pairs es d h = by (or-cases (list_any (are_one d) es) (list_any (is_carried_either true pairs d) es) h)
   where
     by : (list_any (are_one d) es ≡ true) ⊎ (list_any (is_carried_either true pairs d) es ≡ true)
         → (e : Identity) × Contains es e × AreSame pairs d e
@@ -73,7 +68,7 @@ met-old pairs es d h = by (either (list_any (are_one d) es) (list_any (is_carrie
 
 met-new : (pairs : List (PackageData × PackageData)) (ds : List Identity) (e : Identity) → is_met false pairs ds e ≡ true
     → (d : Identity) × Contains ds d × AreSame pairs d e
-met-new pairs ds e h = by (either (list_any (are_one e) ds) (list_any (is_carried_either false pairs e) ds) h)
+met-new pairs ds e h = by (or-cases (list_any (are_one e) ds) (list_any (is_carried_either false pairs e) ds) h)
   where
     by : (list_any (are_one e) ds ≡ true) ⊎ (list_any (is_carried_either false pairs e) ds ≡ true)
         → (d : Identity) × Contains ds d × AreSame pairs d e

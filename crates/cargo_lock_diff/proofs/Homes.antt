@@ -1,12 +1,12 @@
 -- Homes are compared by the packages that stand for them.
-use Rattle.std.proofs.Common.{◌≡◌, ℕ, ◌+◌, ◌<◌, ◌≤◌, Bool, true, false, cond, List, [], ◌∷◌, ◌++◌, ◌⊎◌, inl, inr, Option, Some, None, take, length, get_or, refl, ap, sym, ◌∙◌, subst, arith, IsPermutation, IsSorted}
+use Rattle.std.proofs.Common.{◌≡◌, ℕ, ◌+◌, ◌<◌, ◌≤◌, true, false, cond, List, [], ◌∷◌, ◌++◌, ◌⊎◌, inl, inr, Option, Some, None, take, length, get_or, refl, ap, sym, ◌∙◌, subst, arith, IsSorted}
 use Rattle.std.specs.Prelude.{◌||◌, MatchOption}
 use Rattle.std.specs.Borrow.{Bor}
-use Rattle.std.specs.Cmp.{Equal-is, IsTotalOrder, nat_cmp_total, on_total, then_total}
+use Rattle.std.specs.Cmp.{IsTotalOrder, nat_cmp_total, on_total, then_total}
 use Rattle.std.specs.Cmp.Lexicographic.{nat_list_cmp_total}
 use Rattle.std.specs.List.{AllZip, Contains, list_any}
 use Rattle.std.specs.Option.{option_cmp}
-use Rattle.std.specs.Ordering.{eq_by_cmp, is_eq, is_gt, is_lt, ordering_reverse, ordering_then}
+use Rattle.std.specs.Ordering.{eq_by_cmp, is_eq, is_gt, ordering_reverse, ordering_then}
 use Rattle.std.specs.declared.cmp.Ordering.{Ordering}
 use Rattle.std.specs.declared.cmp.Ordering.TheVariants.{Less, Equal, Greater}
 use Rattle.std.proofs.lemmas.Bool.{cases_order}
@@ -25,7 +25,7 @@ use Rattle.cargo_lock_diff.specs.declared.likeness.Likeness.TheVariants.{Name}
 use Rattle.cargo_lock_diff.specs.Difference.{referred_packages}
 use Rattle.cargo_lock_diff.specs.Home.{bare_cmp, have_one_home, home_cmp, is_home_of_both}
 use Rattle.cargo_lock_diff.specs.Likeness.{is_alike}
-use Rattle.cargo_lock_diff.specs.StandIn.{IsBare, StandsAt, StandsFor, version_of_names, version_of_sources}
+use Rattle.cargo_lock_diff.specs.StandIn.{IsBare, StandsForSource, StandsFor, version_of_names, version_of_sources}
 use Rattle.cargo_lock_diff.specs.Stranger.{IsNamesake}
 use Rattle.cargo_lock_diff.proofs.Alone.{up-to}
 use Rattle.cargo_lock_diff.proofs.Merging.{one-more}
@@ -61,7 +61,7 @@ bare-order s t (Some x) (Some y) a b =
     (λ i. ordering_then (kind_order (a.1 i) (b.1 i)) (text_cmp (canonical (a.2 i)) (canonical (b.2 i))))
     ∙ (λ i. option_cmp bare_cmp (cond (sym a.0 i) None (Some s)) (cond (sym b.0 i) None (Some t)))
 
-stand-ties : (p q a b : PackageData) (s t : Option Source) → StandsAt p s a → StandsAt q t b
+stand-ties : (p q a b : PackageData) (s t : Option Source) → StandsForSource p s a → StandsForSource q t b
     → is_eq (package_order a b) ≡ is_home_of_both p q s t
 stand-ties p q a b None None x y =
     (λ i. is_eq (ordering_then (ordering_then (text_cmp (x.0 i) (y.0 i)) (version_cmp (x.1 i) (y.1 i))) (option_cmp (by_kind_and_url canonical) (x.2 i) (y.2 i))))

@@ -1,5 +1,5 @@
 -- A list in which no two packages are wholly alike has no change to itself.
-use Rattle.std.proofs.Common.{◌≡◌, ℕ, ◌<◌, Bool, true, false, true≢false, not, cond, List, [], ◌∷◌, ◌++◌, ◌⊎◌, inl, inr, length, get_or, map, refl, ap, sym, ◌∙◌, subst, arith, All}
+use Rattle.std.proofs.Common.{◌≡◌, ℕ, ◌<◌, Bool, true, false, true≢false, cond, List, [], ◌∷◌, ◌++◌, ◌⊎◌, inl, inr, length, get_or, map, refl, ap, sym, ◌∙◌, subst, arith, All}
 use Rattle.std.specs.Prelude.{◌||◌, AllPairs}
 use Rattle.std.specs.Cmp.{IsEquivalence, eq_by_cmp_equiv}
 use Rattle.std.specs.List.{Contains, filter, list_any}
@@ -8,11 +8,10 @@ use Rattle.std.proofs.lemmas.List.{get_or_default}
 use Rattle.std.proofs.lemmas.List.Elements.{All-contains, All-head, All-tail, Contains-get_or, Contains-append_left}
 use Rattle.std.proofs.lemmas.List.Sorted.{Contains-permutation, IsPermutation-refl, IsPermutation-sym}
 use Rattle.cargo_lock_parts.specs.Identity.{Identity, PackageData}
-use Rattle.cargo_lock_diff.specs.declared.accepted.Accepted.{Accepted}
 use Rattle.cargo_lock_diff.specs.declared.likeness.Likeness.TheVariants.{Whole}
-use Rattle.cargo_lock_diff.specs.Change.{all_changes_of, changes_of, dependency_change_of, dependency_changes_of, other_dependencies}
+use Rattle.cargo_lock_diff.specs.Change.{changes_of, dependency_change_of, other_dependencies}
 use Rattle.cargo_lock_diff.specs.Dependencies.{are_one, have_other_dependencies, is_carried_either, is_met}
-use Rattle.cargo_lock_diff.specs.Difference.{DifferenceData, HasNoChanges, IsDifferenceBut}
+use Rattle.cargo_lock_diff.specs.Difference.{HasNoChanges}
 use Rattle.cargo_lock_diff.specs.Keys.{whole_key}
 use Rattle.cargo_lock_diff.specs.Likeness.{is_alike}
 use Rattle.cargo_lock_diff.specs.Matching.{firsts, seconds}

@@ -9,7 +9,7 @@ use Rattle.printing.proofs.Printable.{Prints, decimal-prints, either_text, empty
 use Rattle.cargo_lock_parts.specs.Ascii.{newline}
 use Rattle.cargo_lock_diff.specs.declared.summary.Summary.{Summary}
 use Rattle.cargo_lock_diff.specs.declared.commits.Commits.{Commits}
-use Rattle.cargo_lock_diff.specs.Change.{ChangeData, changes_by, line_by}
+use Rattle.cargo_lock_diff.specs.Change.{ChangeData, changes_by, change_line_by}
 use Rattle.cargo_lock_diff.specs.Summary.{SummaryIsOneLine, counted_behind, is_behind, summary_text}
 use Rattle.cargo_lock_diff.proofs.OneLine.{line-prints}
 
@@ -45,7 +45,7 @@ data Line : Type 0 where
   Last : Summary → Line
 
 abbrev text : Commits → Line → List ℕ
-text commits (Of change) = line_by commits change
+text commits (Of change) = change_line_by commits change
 text commits (Last s) = summary_text s
 
 text-prints : (commits : Commits) (l : Line) → Prints (text commits l)
@@ -55,12 +55,12 @@ text-prints commits (Last s) = summary-prints s
 all-text : (commits : Commits) (changes : List ChangeData) (s : Summary) → flat_map (λ l. text commits l ++ newline ∷ []) (map Of changes ++ Last s ∷ [])
     ≡ changes_by commits changes ++ (summary_text s ++ newline ∷ [])
 all-text commits [] s = append-nil (summary_text s ++ newline ∷ [])
-all-text commits (c ∷ cs) s = ap (λ zs. (line_by commits c ++ newline ∷ []) ++ zs) (all-text commits cs s)
-    ∙ sym (append_assoc (line_by commits c ++ newline ∷ []) (changes_by commits cs) (summary_text s ++ newline ∷ []))
+all-text commits (c ∷ cs) s = ap (λ zs. (change_line_by commits c ++ newline ∷ []) ++ zs) (all-text commits cs s)
+    ∙ sym (append_assoc (change_line_by commits c ++ newline ∷ []) (changes_by commits cs) (summary_text s ++ newline ∷ []))
 
-all-lines : (commits : Commits) (changes : List ChangeData) (s : Summary) → map (text commits) (map Of changes ++ Last s ∷ []) ≡ map (line_by commits) changes ++ summary_text s ∷ []
+all-lines : (commits : Commits) (changes : List ChangeData) (s : Summary) → map (text commits) (map Of changes ++ Last s ∷ []) ≡ map (change_line_by commits) changes ++ summary_text s ∷ []
 all-lines commits [] s = refl
-all-lines commits (c ∷ cs) s = ap (λ zs. line_by commits c ∷ zs) (all-lines commits cs s)
+all-lines commits (c ∷ cs) s = ap (λ zs. change_line_by commits c ∷ zs) (all-lines commits cs s)
 
 pub summary-is-one-line : SummaryIsOneLine
 summary-is-one-line commits changes s =

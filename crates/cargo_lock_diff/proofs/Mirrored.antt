@@ -1,16 +1,16 @@
 -- As many lines report changes there and back.
-use Rattle.std.proofs.Common.{◌≡◌, ℕ, ◌+◌, zero, suc, Bool, true, false, not, cond, List, [], ◌∷◌, ◌++◌, Option, Some, None, map, count_by, length, refl, ap, sym, ◌∙◌, arith, IsPermutation}
+use Rattle.std.proofs.Common.{◌≡◌, ℕ, ◌+◌, Bool, true, false, not, cond, List, [], ◌∷◌, Option, Some, None, map, count_by, length, refl, ap, sym, ◌∙◌, arith}
 use Rattle.std.specs.Prelude.{◌&&◌, ◌||◌, is_some}
 use Rattle.std.specs.Cmp.{Equal-is, IsEquivalence, eq_by_cmp_equiv, on_total}
 use Rattle.std.specs.Cmp.Lexicographic.{nat_list_cmp_total, options_total}
-use Rattle.std.specs.List.{Contains, filter, remove}
+use Rattle.std.specs.List.{filter}
 use Rattle.std.specs.Option.{option_cmp}
-use Rattle.std.specs.Ordering.{eq_by_cmp, is_eq}
+use Rattle.std.specs.Ordering.{is_eq}
 use Rattle.std.specs.Str.Lines.{lines}
 use Rattle.std.proofs.lemmas.List.{length-append, length-map}
-use Rattle.std.proofs.lemmas.List.Sorted.{IsPermutation-map, IsPermutation-refl, IsPermutation-remove}
+use Rattle.std.proofs.lemmas.List.Sorted.{IsPermutation-refl}
 use Rattle.std.proofs.lemmas.List.Sums.{length-filter}
-use Rattle.cargo_lock_parts.specs.Identity.{Identity, PackageData}
+use Rattle.cargo_lock_parts.specs.Identity.{PackageData}
 use Rattle.cargo_lock_parts.specs.IdentityLaws.{tied-first, tied-second, version_total}
 use Rattle.cargo_lock_parts.specs.SourceKey.{text_cmp}
 use Rattle.cargo_lock_diff.specs.declared.accepted.Accepted.{Accepted}
@@ -19,7 +19,7 @@ use Rattle.cargo_lock_diff.specs.declared.change.Aspect.TheVariants as aspect
 use Rattle.cargo_lock_diff.specs.declared.commits.Commits.{Commits}
 use Rattle.cargo_lock_diff.specs.declared.likeness.Likeness.TheVariants.{Whole}
 use Rattle.cargo_lock_diff.specs.Alarm.{is_alarm, is_altered, is_suspect}
-use Rattle.cargo_lock_diff.specs.Change.{Added, Alarm, NewSource, Removed, change_in, changes_by, changes_in, changes_of, differs_in, has_lost_checksum, has_new_checksum, line_by, strange_change}
+use Rattle.cargo_lock_diff.specs.Change.{Added, Alarm, NewSource, Removed, change_in, changes_in, changes_of, differs_in, change_line_by, strange_change}
 use Rattle.cargo_lock_diff.specs.Difference.{DifferenceData, IsDifferenceBut, count_of_package}
 use Rattle.cargo_lock_diff.specs.Keys.{whole_key}
 use Rattle.cargo_lock_diff.specs.Likeness.{is_alike, likeness_cmp}
@@ -28,43 +28,15 @@ use Rattle.cargo_lock_diff.specs.Mirror.{AsManyLinesThereAndBack, alarms_beside,
 use Rattle.cargo_lock_diff.specs.Pairing.{exchanged_pair}
 use Rattle.cargo_lock_diff.specs.Same.{have_one_checksum, have_one_place, have_one_replacement, have_one_version}
 use Rattle.cargo_lock_diff.specs.Stranger.{is_strange_pair, is_stranger}
-use Rattle.cargo_lock_diff.proofs.Counts.{count-cons, count-permutation}
+use Rattle.cargo_lock_diff.proofs.Counts.{count-cons}
 use Rattle.cargo_lock_diff.proofs.Keys.{whole_laws}
 use Rattle.cargo_lock_diff.proofs.OneLine.{each-change-is-one-line}
-use Rattle.cargo_lock_diff.proofs.Once.{count-there}
 use Rattle.cargo_lock_diff.proofs.Orders.{place_total, placed_identity_total}
 use Rattle.cargo_lock_diff.proofs.Told.{pairing_mirrored}
-use Rattle.cargo_lock_diff.proofs.Unordered.{SameCounts, count-map, order_does_not_count, other-one}
+use Rattle.cargo_lock_diff.proofs.Unordered.{SameCounts, count-map, count-same, order_does_not_count}
 use Rattle.lists.proofs.Tests.{and-left, and-right}
 
 -- ---- counts by what is alike
-
--- lists with the same counts by a test have the same count of what does not distinguish the alike
-count-same : {X : Type 0} (W : X → X → Bool) → IsEquivalence W → (q : X → Bool) → ((x y : X) → W x y ≡ true → q x ≡ q y)
-    → (xs ys : List X) → SameCounts W xs ys → count_by q xs ≡ count_by q ys
-count-same W w q respects [] [] same = refl
-count-same W w q respects [] (y ∷ ys) same =
-    let e = same y in
-    let f = count-there (W y) (y ∷ ys) y (0, omega arith, refl) (w.refl y) in
-    absurd (omega (arith, e, f))
-count-same {X} W w q respects (x ∷ xs) ys same =
-    let o = other-one W w (x ∷ xs) ys same x (0, omega arith, refl) in
-    let y = o.0 in
-    let zs : List X = remove ys o.1.0 in
-    let perm : IsPermutation ys (y ∷ zs) = IsPermutation-remove ys o.1.0 y o.1.1 (sym o.1.2) in
-    let rest : SameCounts W xs zs = λ p.
-    let b = same p in
-    let c = count-cons (W p) x xs in
-    let d = count-permutation (W p) ys (y ∷ zs) perm in
-    let e = count-cons (W p) y zs in
-    let f = ap {B = ℕ} (λ (t : Bool). cond t 1 0) (w.symm p x ∙ w.congr x y p o.2 ∙ sym (w.symm p y)) in
-    omega (arith, b, c, d, e, f) in
-    let b = count-same W w q respects xs zs rest in
-    let c = count-cons q x xs in
-    let d = count-permutation q ys (y ∷ zs) perm in
-    let e = count-cons q y zs in
-    let f = ap {B = ℕ} (λ (t : Bool). cond t 1 0) (respects x y o.2) in
-    omega (arith, b, c, d, e, f)
 
 count-all : {X : Type 0} (xs : List X) → count_by (λ (x : X). true) xs ≡ length xs
 count-all [] = refl
@@ -278,7 +250,7 @@ told-mirrored accepted accepted' olds news d back h k =
     omega (arith, m, r, s, a, b)
 
 line-count : (commits : Commits) (d : DifferenceData) → line_count commits d ≡ length (changes_of d)
-line-count commits d = ap length (each-change-is-one-line commits (changes_of d)) ∙ length-map (changes_of d) (line_by commits)
+line-count commits d = ap length (each-change-is-one-line commits (changes_of d)) ∙ length-map (changes_of d) (change_line_by commits)
 
 pub as-many-lines : AsManyLinesThereAndBack
 as-many-lines commits accepted accepted' olds news d back h k =

@@ -12,11 +12,11 @@ use Rattle.cargo_lock_diff.specs.Change.{Moved, NewSource, NewSourceUpdate, Othe
 use Rattle.cargo_lock_diff.specs.Change.{Removed, Replaced, Updated, checksum_mark}
 use Rattle.cargo_lock_diff.specs.Change.{checksums_text, downgrade_mark, incompatible_mark}
 use Rattle.cargo_lock_diff.specs.Change.{is_downgrade}
-use Rattle.cargo_lock_diff.specs.Change.{is_of_registry, line_by, moved_sources, moved_text}
+use Rattle.cargo_lock_diff.specs.Change.{is_of_registry, change_line_by, moved_sources, moved_package}
 use Rattle.cargo_lock_diff.specs.Change.{signed_text, signed_texts, sources_text}
 use Rattle.cargo_lock_diff.specs.Change.{updated_sources, updated_text}
 use Rattle.cargo_lock_diff.specs.declared.commits.Commits.{Commits}
-use Rattle.cargo_lock_diff.specs.Commits.{commit_by, commit_of, commit_text, commits_for}
+use Rattle.cargo_lock_diff.specs.Commits.{commit_by, own_commit, commit_or_none, commits_for}
 use Rattle.cargo_lock_diff.specs.Commits.{commits_text, have_one_repository}
 
 sources-print : (old new : PackageData) → Prints (sources_text old new)
@@ -26,7 +26,7 @@ checksums-print : (old new : PackageData) → Prints (checksums_text old new)
 checksums-print old new = words (codes ": checksum ") refl (join (checksum-prints old.checksum)
     (words (codes " -> ") refl (checksum-prints new.checksum)))
 
-commit-prints : (commits : Commits) (commit : Option (List ℕ)) → Prints (commit_text commits commit)
+commit-prints : (commits : Commits) (commit : Option (List ℕ)) → Prints (commit_or_none commits commit)
 commit-prints commits None = literal (codes "none") refl
 commit-prints commits (Some text) = shown-prints Plain (commit_by commits text)
 
@@ -36,7 +36,7 @@ commits-print commits old new = words (codes ": rev ") refl (join (commit-prints
 
 moved-sources-print : (commits : Commits) (old new : PackageData) → Prints (moved_sources commits old new)
 moved-sources-print commits old new = either_text (have_one_repository old new)
-    (commits-print commits (commit_of old.source) (commit_of new.source)) (sources-print old new)
+    (commits-print commits (own_commit old.source) (own_commit new.source)) (sources-print old new)
 
 updated-prints : (commits : Commits) (old new : PackageData) → Prints (updated_sources commits old new)
 updated-prints commits old new = either_text (have_one_place old new) (behind-prints new.source) (moved-sources-print commits old new)
@@ -57,14 +57,14 @@ signed-prints is_old d =
 all-signed-print : (is_old : Bool) (ds : List Identity) → Prints (signed_texts is_old ds)
 all-signed-print is_old = join_each (signed_text is_old) (signed-prints is_old)
 
-moved-prints : (commits : Commits) (old new : PackageData) → Prints (moved_text commits old new)
+moved-prints : (commits : Commits) (old new : PackageData) → Prints (moved_package commits old new)
 moved-prints commits old new = join (named-prints new) (moved-sources-print commits old new)
 
 update-prints : (commits : Commits) (old new : PackageData) → Prints (updated_text commits old new)
 update-prints commits old new = join (named-prints old) (words (codes " -> ") refl
     (join (version-prints new.version) (join (updated-prints commits old new) (join (incompatible-prints old new) (downgrade-prints old new)))))
 
-pub line-prints : (commits : Commits) (c : ChangeData) → Prints (line_by commits c)
+pub line-prints : (commits : Commits) (c : ChangeData) → Prints (change_line_by commits c)
 line-prints commits (Alarm old new) = words (codes "! ") refl (join (package-prints new) (checksums-print old new))
 line-prints commits (NewSource old new) = words (codes "! ") refl (moved-prints commits old new)
 line-prints commits (NewSourceUpdate old new) = words (codes "! ") refl (update-prints commits old new)
@@ -79,4 +79,4 @@ line-prints commits (OtherDependencies old new gone came) = words (codes "= ") r
     (words (codes ":") refl (join (all-signed-print true gone) (all-signed-print false came))))
 
 pub each-change-is-one-line : EachChangeIsOneLine
-each-change-is-one-line commits = each-is-line (line_by commits) (line-prints commits)
+each-change-is-one-line commits = each-is-line (change_line_by commits) (line-prints commits)

@@ -1,8 +1,8 @@
 -- Which packages come from a new source among more pairs and packages, and for the same old packages.
-use Rattle.std.proofs.Common.{◌≡◌, ℕ, ◌+◌, ◌<◌, Bool, true, false, not, List, [], ◌∷◌, ◌++◌, Option, Some, None, take, length, get_or, refl, ap, sym, ◌∙◌, subst, IsPermutation, All}
+use Rattle.std.proofs.Common.{◌≡◌, ℕ, ◌+◌, ◌<◌, Bool, true, false, not, List, [], ◌∷◌, ◌++◌, Option, Some, None, take, length, get_or, ap, sym, ◌∙◌, subst, IsPermutation, All}
 use Rattle.std.specs.Prelude.{◌&&◌, ◌||◌, MatchOption, is_some}
 use Rattle.std.specs.Borrow.{Bor}
-use Rattle.std.specs.List.{Contains, filter, list_any}
+use Rattle.std.specs.List.{filter, list_any}
 use Rattle.std.proofs.lemmas.List.{map-append}
 use Rattle.std.proofs.lemmas.List.Elements.{All-push, All-weaker}
 use Rattle.std.proofs.lemmas.List.Sorted.{Contains-permutation, IsPermutation-sym, list_any-IsPermutation}
@@ -89,8 +89,8 @@ came-hit q olds items all all' i x o lt at so is hit named =
     let pushed = one-pushed all all' (o, x) is in (
       subst (λ zs. All (IsNamesake olds) zs) (sym pushed) (All-push (IsNamesake olds) (referred_pairs all) (o.now, x.now) so.0 named),
       ap seconds pushed ∙ map-append (λ (p : PackageData × PackageData). p.1) (referred_pairs all) ((o.now, x.now) ∷ [])
-      ∙ ap (λ zs. zs ++ x.now ∷ []) so.1
-      ∙ sym (ap (filter q) (one-more-packages items i x lt at) ∙ filter-hit q (referred_packages (take i items)) x.now hit),
+          ∙ ap (λ zs. zs ++ x.now ∷ []) so.1
+          ∙ sym (ap (filter q) (one-more-packages items i x lt at) ∙ filter-hit q (referred_packages (take i items)) x.now hit),
     )
 
 pub came-miss : (q : PackageData → Bool) (olds : List PackageData) (items : List (Bor PackageData)) (all : List (Bor PackageData × Bor PackageData)) (i : ℕ) (x : Bor PackageData)

@@ -14,7 +14,7 @@ use Rattle.cargo_lock_diff.specs.declared.change.Change.{Change}
 use Rattle.cargo_lock_diff.specs.declared.change.Change.TheVariants as variant
 use Rattle.cargo_lock_diff.specs.declared.commits.Commits.{Commits}
 use Rattle.cargo_lock_diff.specs.declared.commits.Commits.TheVariants.{Short}
-use Rattle.cargo_lock_diff.specs.Commits.{commit_of, commits_text, have_one_repository}
+use Rattle.cargo_lock_diff.specs.Commits.{own_commit, commits_text, have_one_repository}
 use Rattle.cargo_lock_diff.specs.Dependencies.{have_other_dependencies, only_in}
 use Rattle.cargo_lock_diff.specs.declared.accepted.Accepted.{Accepted}
 use Rattle.cargo_lock_diff.specs.Difference.{DifferenceData, IsDifferenceBut, dependencies_at}
@@ -148,7 +148,7 @@ checksums_text old new = codes ": checksum " ++ (checksum_text old.checksum
 -- both sources, or both commits where all else of the sources stays
 abbrev pub moved_sources : Commits → PackageData → PackageData → List ℕ
 moved_sources commits old new = if have_one_repository old new
-    then commits_text commits (commit_of old.source) (commit_of new.source)
+    then commits_text commits (own_commit old.source) (own_commit new.source)
     else sources_text old new
 
 -- for a pair with other versions: both sources if the places differ, or else the source
@@ -188,8 +188,8 @@ abbrev pub signed_texts : Bool → List Identity → List ℕ
 signed_texts is_old = flat_map (signed_text is_old)
 
 -- a package of one version that moves: the version, and both sources or commits
-abbrev pub moved_text : Commits → PackageData → PackageData → List ℕ
-moved_text commits old new = named_text new ++ moved_sources commits old new
+abbrev pub moved_package : Commits → PackageData → PackageData → List ℕ
+moved_package commits old new = named_text new ++ moved_sources commits old new
 
 -- a pair of two versions: both, the source or both sources, and the marks
 abbrev pub updated_text : Commits → PackageData → PackageData → List ℕ
@@ -198,27 +198,27 @@ updated_text commits old new = named_text old ++ (codes " -> " ++ (version_shown
     ++ (incompatible_mark old new ++ downgrade_mark old new))))
 
 -- the line of a change
-abbrev pub line_by : Commits → ChangeData → List ℕ
-line_by commits (Alarm old new) = codes "! " ++ (package_text new ++ checksums_text old new)
-line_by commits (NewSource old new) = codes "! " ++ moved_text commits old new
-line_by commits (NewSourceUpdate old new) = codes "! " ++ updated_text commits old new
-line_by commits (Moved old new) = codes "> " ++ moved_text commits old new
-line_by commits (Checksum old new) = codes "? " ++ (package_text new ++ checksums_text old new)
-line_by commits (Replaced old new) = codes "@ " ++ (package_text new ++ (codes ": replacement "
+abbrev pub change_line_by : Commits → ChangeData → List ℕ
+change_line_by commits (Alarm old new) = codes "! " ++ (package_text new ++ checksums_text old new)
+change_line_by commits (NewSource old new) = codes "! " ++ moved_package commits old new
+change_line_by commits (NewSourceUpdate old new) = codes "! " ++ updated_text commits old new
+change_line_by commits (Moved old new) = codes "> " ++ moved_package commits old new
+change_line_by commits (Checksum old new) = codes "? " ++ (package_text new ++ checksums_text old new)
+change_line_by commits (Replaced old new) = codes "@ " ++ (package_text new ++ (codes ": replacement "
     ++ (replacement_shown old.replace ++ (codes " -> " ++ replacement_shown new.replace))))
-line_by commits (Updated old new) = codes "~ " ++ updated_text commits old new
-line_by commits (Removed old) = codes "- " ++ package_text old
-line_by commits (Added new) = codes "+ " ++ (package_text new ++ checksum_mark new)
-line_by commits (OtherDependencies old new gone came) = codes "= " ++ (package_text new
+change_line_by commits (Updated old new) = codes "~ " ++ updated_text commits old new
+change_line_by commits (Removed old) = codes "- " ++ package_text old
+change_line_by commits (Added new) = codes "+ " ++ (package_text new ++ checksum_mark new)
+change_line_by commits (OtherDependencies old new gone came) = codes "= " ++ (package_text new
     ++ (codes ":" ++ (signed_texts true gone ++ signed_texts false came)))
 
 -- the line of each change, with its newline
 abbrev pub changes_by : Commits → List ChangeData → List ℕ
-changes_by commits = flat_map (λ change. line_by commits change ++ newline ∷ [])
+changes_by commits = flat_map (λ change. change_line_by commits change ++ newline ∷ [])
 
 -- the same with short commits
 abbrev pub change_line : ChangeData → List ℕ
-change_line = line_by Short
+change_line = change_line_by Short
 
 abbrev pub changes_text : List ChangeData → List ℕ
 changes_text = changes_by Short
@@ -228,7 +228,7 @@ changes_text = changes_by Short
 -- each change is exactly one line, whatever its names, versions, sources and checksums hold
 abbrev pub EachChangeIsOneLine : Type 0
 EachChangeIsOneLine = (commits : Commits) (changes : List ChangeData)
-    → lines (changes_by commits changes) ≡ map (line_by commits) changes
+    → lines (changes_by commits changes) ≡ map (change_line_by commits) changes
 
 -- no change is reported exactly if the lists have the same whole keys, each as often
 abbrev pub NoneIfPermuted : Type 0

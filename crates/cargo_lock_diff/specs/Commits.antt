@@ -21,9 +21,9 @@ abbrev pub short_text : List ℕ → List ℕ
 short_text text = if is_commit text then take 8 text else text
 
 -- the commit of a source, if it is a repository and names one
-abbrev pub commit_of : Option Source → Option (List ℕ)
-commit_of None = None
-commit_of (Some s) = precise_if_git s.kind s.precise
+abbrev pub own_commit : Option Source → Option (List ℕ)
+own_commit None = None
+own_commit (Some s) = precise_if_git s.kind s.precise
 
 -- commits whose short texts are the same are printed in full
 abbrev pub commits_for : Commits → Option (List ℕ) → Option (List ℕ) → Commits
@@ -38,14 +38,14 @@ commit_by Short text = short_text text
 commit_by Full text = text
 
 -- a commit, or `none`
-abbrev pub commit_text : Commits → Option (List ℕ) → List ℕ
-commit_text commits None = codes "none"
-commit_text commits (Some text) = shown Plain (commit_by commits text)
+abbrev pub commit_or_none : Commits → Option (List ℕ) → List ℕ
+commit_or_none commits None = codes "none"
+commit_or_none commits (Some text) = shown Plain (commit_by commits text)
 
 -- both commits
 abbrev pub commits_text : Commits → Option (List ℕ) → Option (List ℕ) → List ℕ
-commits_text commits old new = codes ": rev " ++ (commit_text (commits_for commits old new) old
-    ++ (codes " -> " ++ commit_text (commits_for commits old new) new))
+commits_text commits old new = codes ": rev " ++ (commit_or_none (commits_for commits old new) old
+    ++ (codes " -> " ++ commit_or_none (commits_for commits old new) new))
 
 -- the source is a repository
 abbrev pub is_of_repository : Option Source → Bool

@@ -30,15 +30,15 @@ IsBare s (Some b) = (is_canonically_crates_io s ≡ false) × (b.kind ≡ bare_k
     × (b.url ≡ s.url)
 
 -- the package stands for the home of p, where p has this source
-abbrev pub StandsAt : PackageData → Option Source → PackageData → Type 0
-StandsAt p None stand_in = (stand_in.name ≡ p.name) × (stand_in.version ≡ version_of_names)
+abbrev pub StandsForSource : PackageData → Option Source → PackageData → Type 0
+StandsForSource p None stand_in = (stand_in.name ≡ p.name) × (stand_in.version ≡ version_of_names)
     × (stand_in.source ≡ None)
-StandsAt p (Some s) stand_in = (stand_in.name ≡ []) × (stand_in.version ≡ version_of_sources)
+StandsForSource p (Some s) stand_in = (stand_in.name ≡ []) × (stand_in.version ≡ version_of_sources)
     × IsBare s stand_in.source
 
 -- the package stands for the home of p
 abbrev pub StandsFor : PackageData → PackageData → Type 0
-StandsFor p stand_in = StandsAt p p.source stand_in
+StandsFor p stand_in = StandsForSource p p.source stand_in
 
 -- packages in the order of their names, and what stands for their homes, in order
 pub record AreResidents (by_name : List (Bor PackageData)) (homes : List PackageData) : Type 0

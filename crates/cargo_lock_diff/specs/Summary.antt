@@ -9,7 +9,7 @@ use Rattle.cargo_lock_diff.specs.declared.summary.Kind.TheVariants as kind
 use Rattle.cargo_lock_diff.specs.declared.summary.Summary.{Summary}
 use Rattle.cargo_lock_diff.specs.Change.{ChangeData, Alarm, NewSource, NewSourceUpdate, Moved}
 use Rattle.cargo_lock_diff.specs.Change.{Checksum, Replaced, Updated}
-use Rattle.cargo_lock_diff.specs.Change.{Removed, Added, OtherDependencies, is_downgrade, line_by}
+use Rattle.cargo_lock_diff.specs.Change.{Removed, Added, OtherDependencies, is_downgrade, change_line_by}
 use Rattle.cargo_lock_diff.specs.Change.{changes_by}
 use Rattle.cargo_lock_diff.specs.declared.commits.Commits.{Commits}
 
@@ -102,4 +102,4 @@ summary_text s =
 abbrev pub SummaryIsOneLine : Type 0
 SummaryIsOneLine = (commits : Commits) (changes : List ChangeData) (s : Summary)
     → lines (changes_by commits changes ++ (summary_text s ++ newline ∷ []))
-    ≡ map (line_by commits) changes ++ summary_text s ∷ []
+    ≡ map (change_line_by commits) changes ++ summary_text s ∷ []

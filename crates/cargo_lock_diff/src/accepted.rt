@@ -52,11 +52,7 @@ impl Accepted {
     /// # Errors
     ///
     /// Fails when out of memory.
-    pub fn accepts(
-        &self,
-        alloc: Global,
-        source: &Option<SourceId>,
-    ) -> Result<bool, AllocError>
+    pub fn accepts(&self, alloc: Global, source: &Option<SourceId>) -> Result<bool, AllocError>
         ensures { IfOk result (λ is. is ≡ spec.accepts self.now source.now) }
     {
         match (self, source) {

@@ -4,7 +4,7 @@ ghost use Rattle.std.specs.Prelude.{◌≡◌, Some, option_copied};
 ghost use Rattle.std.specs.Char.{is_ascii_hexdigit};
 ghost use Rattle.std.specs.List.{list_all};
 ghost use Rattle.cargo_lock_parts.specs.SourceKey.{precise_if_git};
-ghost use Rattle.cargo_lock_diff.specs.Commits.{commit_by, commit_of, commits_for, short_text};
+ghost use Rattle.cargo_lock_diff.specs.Commits.{commit_by, own_commit, commits_for, short_text};
 ghost use Rattle.cargo_lock_diff.specs.Commits as spec;
 
 use crate::same::have_one_origin;
@@ -58,11 +58,7 @@ impl Commits {
 fn short(text: &str) -> &str
     ensures { result.now ≡ short_text text.now }
 {
-    if is_commit(text) {
-        &text[..8]
-    } else {
-        text
-    }
+    if is_commit(text) { &text[..8] } else { text }
 }
 
 // Whether a text is a commit as Git names it: forty hexadecimal digits.
@@ -80,7 +76,7 @@ fn are_digits(text: &str) -> bool
 
 // The commit of a source, if it is a repository and names one.
 fn commit(source: &Option<SourceId>) -> Option<&str>
-    ensures { option_copied result ≡ commit_of source.now }
+    ensures { option_copied result ≡ own_commit source.now }
 {
     match source {
         Some(source) => repository_commit(source),
@@ -124,10 +120,10 @@ pub(crate) struct Revisions<'a>(
 
 impl fmt::Display for Revisions<'_> {
     ghost use Rattle.std.specs.Prelude.{Some};
-    ghost use Rattle.cargo_lock_diff.specs.Commits.{commit_of, commits_text};
+    ghost use Rattle.cargo_lock_diff.specs.Commits.{own_commit, commits_text};
 
-    ghost output = { λ shown. Some (commits_text shown.0 (commit_of shown.1.now.source)
-        (commit_of shown.2.now.source)) };
+    ghost output = { λ shown. Some (commits_text shown.0 (own_commit shown.1.now.source)
+        (own_commit shown.2.now.source)) };
 
     fn fmt<W: fmt::Write>(&self, f: &mut fmt::Formatter<W>) -> fmt::Result {
         let Revisions(commits, old, new) = *self;
@@ -146,9 +142,9 @@ struct CommitText<'a>(Commits, Option<&'a str>);
 
 impl fmt::Display for CommitText<'_> {
     ghost use Rattle.std.specs.Prelude.{Some, option_copied};
-    ghost use Rattle.cargo_lock_diff.specs.Commits.{commit_text};
+    ghost use Rattle.cargo_lock_diff.specs.Commits.{commit_or_none};
 
-    ghost output = { λ shown. Some (commit_text shown.0 (option_copied shown.1)) };
+    ghost output = { λ shown. Some (commit_or_none shown.0 (option_copied shown.1)) };
 
     fn fmt<W: fmt::Write>(&self, f: &mut fmt::Formatter<W>) -> fmt::Result {
         let CommitText(commits, commit) = *self;

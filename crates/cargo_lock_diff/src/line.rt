@@ -17,9 +17,9 @@ pub struct Line<'c, 'a>(pub &'c Change<'a>, pub Commits);
 
 impl fmt::Display for Line<'_, '_> {
     ghost use Rattle.std.specs.Prelude.{Some};
-    ghost use Rattle.cargo_lock_diff.specs.Change.{change_of, line_by};
+    ghost use Rattle.cargo_lock_diff.specs.Change.{change_of, change_line_by};
 
-    ghost output = { λ line. Some (line_by line.1 (change_of line.0.now)) };
+    ghost output = { λ line. Some (change_line_by line.1 (change_of line.0.now)) };
 
     fn fmt<W: fmt::Write>(&self, f: &mut fmt::Formatter<W>) -> fmt::Result {
         let Line(change, commits) = *self;

@@ -22,9 +22,9 @@ pub(crate) struct Moved<'a>(
 
 impl fmt::Display for Moved<'_> {
     ghost use Rattle.std.specs.Prelude.{Some};
-    ghost use Rattle.cargo_lock_diff.specs.Change.{moved_text};
+    ghost use Rattle.cargo_lock_diff.specs.Change.{moved_package};
 
-    ghost output = { λ shown. Some (moved_text shown.0 shown.1.now shown.2.now) };
+    ghost output = { λ shown. Some (moved_package shown.0 shown.1.now shown.2.now) };
 
     fn fmt<W: fmt::Write>(&self, f: &mut fmt::Formatter<W>) -> fmt::Result {
         let Moved(commits, old, new) = *self;
@@ -55,7 +55,10 @@ impl fmt::Display for Updated<'_> {
         let sources = UpdatedSources(commits, old, new);
         let incompatible = IncompatibleMark(old, new);
         let downgrade = DowngradeMark(old, new);
-        write!(f, "{package} -> {version}{sources}{incompatible}{downgrade}")
+        write!(
+            f,
+            "{package} -> {version}{sources}{incompatible}{downgrade}"
+        )
     }
 }
 

@@ -40,7 +40,8 @@ With --manifests, a package with a source has the expression that its manifests 
 `license`, if they say the same one: what their author wrote, with OR for `/`, and no judgement";
 
 /// The package that a bill is about, as help shows it.
-const ROOT_HELP: &str = "The package that the bill is about, as for tree, of which only one may fit; \
+const ROOT_HELP: &str =
+    "The package that the bill is about, as for tree, of which only one may fit; \
 the bill lists what is reached from it";
 
 /// The authors of a bill, as help shows them.
@@ -82,9 +83,9 @@ fn root<'a>(alloc: Global) -> Arg<'a> {
 
 /// Writes the bill of materials of the lockfile and a newline: into the output file, or to `out`.
 /// Fails if the time is not known, if the lockfile is not read or has no tree, if not exactly one
-/// package matches the root that the arguments name, if a property has no `=`, if the folder of manifests that they name or a
-/// manifest is not read, if the same text would refer to two of its packages, and if the output
-/// fails.
+/// package matches the root that the arguments name, if a property has no `=`, if the folder of
+/// manifests that they name or a manifest is not read, if the same text would refer to two of its
+/// packages, and if the output fails.
 pub fn run<R: Files + Input + Env + Clock + AllocGlobal, W: Write>(
     rt: &R,
     options: &ArgMatches<'_>,

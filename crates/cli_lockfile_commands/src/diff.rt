@@ -43,7 +43,9 @@ SRC is in round brackets: (path) for a package without a source, and nothing for
 line counts the changes. The order of the packages and the format do not matter. No lockfile says \
 whether a version was yanked.
 
-A package from a source that OLD does not have is an alarm if OLD has its name, and so is one that is in a folder now and in OLD was not. Branch, tag, revision, commit and spelling of a source do not count. --moved-ok names what is meant.
+A package of a name that OLD has is an alarm where no package of OLD comes from its source, and, if \
+it is in a folder, where none of its name was in one. Branch, tag, revision, commit and spelling of a \
+source do not count. --moved-ok names what is meant.
 
 The status is 1 where there is an alarm, and with --exit-code where anything is printed. It is 2 \
 where a lockfile cannot be read.";
