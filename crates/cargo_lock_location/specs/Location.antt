@@ -1,11 +1,10 @@
 -- In which line of its text each package of a lockfile begins. The lines of a text show it where it is
 -- laid out as Cargo lays it out: each package begins with a line of its own, and no text goes over
 -- several lines.
-use Rattle.std.specs.Prelude.{◌≡◌, ◌≢◌, ◌+◌, ◌<◌, ◌++◌, ◌&&◌, ◌||◌, [], ◌∷◌, ℕ, All, Bool, List, Option}
-use Rattle.std.specs.Prelude.{None, Some, bytes_eq, codes, drop, eqb, false, length, map, nat_eq, not}
-use Rattle.std.specs.Prelude.{if◌then◌else◌, slice_get, true}
+use Rattle.std.specs.Prelude.{◌≡◌, ◌+◌, ◌<◌, ◌++◌, ◌&&◌, ◌||◌, [], ◌∷◌, ℕ, Bool, List, Option, None}
+use Rattle.std.specs.Prelude.{Some, bytes_eq, codes, drop, eqb, false, if◌then◌else◌, length, nat_eq}
+use Rattle.std.specs.Prelude.{not, slice_get, true}
 use Rattle.std.specs.List.{list_all, starts_with}
-use Rattle.lists.specs.Places.{IsPlaces}
 
 -- the line that begins a package
 abbrev pub header : List ℕ
@@ -51,16 +50,16 @@ is_plain line = not (has_quotes line || begins_other line)
 abbrev pub name_line : List ℕ → List ℕ
 name_line name = codes "name = \"" ++ (name ++ codes "\"")
 
--- the line of the name is among these before the next one that begins with a bracket
-pub is_named : List ℕ → List (List ℕ) → Bool
-is_named name [] = false
-is_named name (line ∷ rest) = not (starts_with eqb line (codes "["))
-    && (bytes_eq line (name_line name) || is_named name rest)
+-- this line is among these before the next one that begins with a bracket
+pub is_among : List ℕ → List (List ℕ) → Bool
+is_among wanted [] = false
+is_among wanted (line ∷ rest) =
+    not (starts_with eqb line (codes "[")) && (bytes_eq line wanted || is_among wanted rest)
 
 -- the number of the line at a place, if the name stands below it
 abbrev pub line_below : List (List ℕ) → List ℕ → ℕ → Option ℕ
 line_below lines name place =
-    if is_named name (drop (place + 1) lines) then Some (place + 1) else None
+    if is_among (name_line name) (drop (place + 1) lines) then Some (place + 1) else None
 
 -- the same, if there is such a place
 abbrev pub line_if : List (List ℕ) → List ℕ → Option ℕ → Option ℕ
@@ -99,15 +98,13 @@ pub record IsNamedBelow (lines : List (List ℕ)) (name : List ℕ) : Type 0 whe
       → starts_with eqb line (codes "[") ≡ false
 
 -- the package at a place among those with these names begins in the line with this number, from 1 on:
--- it is the line of a package, and there are as many before it as packages; there are as many in all as
--- packages, no line hides one, and the name of the package stands below it
+-- it is the line that has this place among those that begin packages, of which there are as many as
+-- packages; no line hides one, and the name of the package stands below it
 pub record IsLineOf (lines names : List (List ℕ)) (k : ℕ) (name : List ℕ) (n : ℕ) : Type 0 where
-  pub headers : List ℕ
-  pub are_headers : IsPlaces (λ j. slice_get lines j ≡ Some header) (length lines) headers
-  pub as_many : length headers ≡ length names
-  pub plain : All (λ line. is_plain line ≡ true) lines
+  pub as_many : length (headers_from 0 lines) ≡ length names
+  pub plain : (j : ℕ) (line : List ℕ) → slice_get lines j ≡ Some line → is_plain line ≡ true
   pub place : ℕ
-  pub is_kth : slice_get headers k ≡ Some place
+  pub is_kth : slice_get (headers_from 0 lines) k ≡ Some place
   pub next : n ≡ place + 1
   pub named : IsNamedBelow (drop n lines) name
 

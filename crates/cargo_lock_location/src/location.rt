@@ -1,6 +1,7 @@
 //! In which line of its text each package of a lockfile begins.
 
-ghost use Rattle.std.specs.Prelude.{◌≡◌, IfOk, Option, drop, map, option_copied, true};
+ghost use Rattle.std.specs.Prelude.{◌≡◌, ◌++◌, [], ◌∷◌, IfOk, None, OnOk, if◌then◌else◌, map};
+ghost use Rattle.std.specs.Prelude.{slice_get};
 ghost use Rattle.std.specs.List.{list_all};
 ghost use Rattle.std.specs.Str.Lines.{lines};
 ghost use Rattle.cargo_lock_location.specs.Location as spec;
@@ -35,7 +36,7 @@ pub fn package_lines(
     let mut found = Vec::with_capacity(alloc, packages.len())?;
     for (place, package) in packages.iter().enumerate() {
         let header = header_at(&headers, place, shown);
-        found.push(line_if(&lines, package.name.as_str(), header))?;
+        found.push(line_if(alloc, &lines, package.name.as_str(), header)?)?;
     }
     Ok(found)
 }
@@ -58,11 +59,20 @@ fn headers_in(alloc: Global, lines: &[&str]) -> Result<Vec<usize>, AllocError>
 {
     let mut headers = Vec::new(alloc);
     for (place, line) in lines.iter().enumerate() {
-        if *line == "[[package]]" {
-            headers.push(place)?;
-        }
+        put_if_header(&mut headers, place, line)?;
     }
     Ok(headers)
+}
+
+// Adds the place of a line, if it begins a package.
+fn put_if_header(headers: &mut Vec<usize>, place: usize, line: &str) -> Result<(), AllocError>
+    ensures { OnOk result (headers.new.items
+        ≡ headers.old.items ++ (if spec.is_header line.now then place ∷ [] else [])) }
+{
+    if line == "[[package]]" {
+        headers.push(place)?;
+    }
+    Ok(())
 }
 
 // Whether no line hides where packages begin.
@@ -140,39 +150,50 @@ fn header_at(headers: &[usize], place: usize, shown: bool) -> Option<usize>
 }
 
 // The number of the line at a place, if there is one, and the name stands below it.
-fn line_if(lines: &[&str], name: &str, header: Option<usize>) -> Option<usize>
-    ensures { result ≡ spec.line_if (map (λ line. line.now) lines.now) name.now header }
+fn line_if(
+    alloc: Global,
+    lines: &[&str],
+    name: &str,
+    header: Option<usize>,
+) -> Result<Option<usize>, AllocError>
+    ensures { IfOk result
+        (λ line. line ≡ spec.line_if (map (λ l. l.now) lines.now) name.now header) }
 {
-    let place = header?;
-    let number = place.checked_add(1)?;
-    if is_named(lines.get(number..)?, name) {
-        Some(number)
-    } else {
-        None
+    match header {
+        Some(place) => line_below(alloc, lines, name, place),
+        None => Ok(None),
     }
 }
 
-// Whether the line of the name is among these before the next one that begins with a bracket.
-fn is_named(lines: &[&str], name: &str) -> bool
-    ensures { result ≡ spec.is_named name.now (map (λ line. line.now) lines.now) }
+// The number of the line at a place, if the name stands below it.
+fn line_below(
+    alloc: Global,
+    lines: &[&str],
+    name: &str,
+    place: usize,
+) -> Result<Option<usize>, AllocError>
+    ensures { IfOk result
+        (λ line. line ≡ spec.line_below (map (λ l. l.now) lines.now) name.now place) }
+{
+    let wanted = format!(in alloc; "name = \"{name}\"")?;
+    if place < lines.len() && is_named(&lines[place + 1..], &wanted) {
+        Ok(Some(place + 1))
+    } else {
+        Ok(None)
+    }
+}
+
+// Whether this line is among these before the next one that begins with a bracket.
+fn is_named(lines: &[&str], wanted: &str) -> bool
+    ensures { result ≡ spec.is_among wanted.now (map (λ line. line.now) lines.now) }
 {
     for line in lines {
-        if line.starts_with('[') {
+        if line.as_bytes().starts_with(b"[") {
             return false;
         }
-        if is_name_line(line, name) {
+        if *line == wanted {
             return true;
         }
     }
     false
-}
-
-// Whether the line has this name of a package.
-fn is_name_line(line: &str, name: &str) -> bool
-    ensures { result ≡ bytes_eq line.now (spec.name_line name.now) }
-{
-    match line.strip_prefix("name = \"") {
-        Some(rest) => rest.strip_suffix('"') == Some(name),
-        None => false,
-    }
 }

@@ -14,9 +14,10 @@ use crate::subject::{Cache, Subject};
 use cargo_lock_parts::package::{Checksum, Package};
 use cargo_lock_references::package_version::same_version;
 use std::alloc::{AllocError, Global};
+use std::marker::Model;
 
 /// A package, and what its archives are judged by.
-#[derive(Clone, Copy)]
+#[derive(Drop)]
 pub(crate) struct Judge<'p, 'a> {
     cache: Cache<'p, 'a>,
     package: &'p Package,
@@ -25,7 +26,7 @@ pub(crate) struct Judge<'p, 'a> {
     hosts: Hosts<'p>,
 }
 
-impl Model for Judge<'_, '_> {
+impl<'p, 'a> Model for Judge<'p, 'a> {
     ghost use Rattle.std.specs.Prelude.{◌≡◌};
     ghost use Rattle.cargo_lock_verify.specs.Archives.{JudgeData, cache_of};
     ghost use Rattle.cargo_lock_verify.specs.Hosts.{hosts_data, hosts_of};
@@ -110,8 +111,9 @@ impl<'p, 'a> Judge<'p, 'a> {
         ensures { result
             ≡ spec.is_known self.now.cache self.now.content (archive_of archive.now) }
     {
-        is_checksum(&self.package.checksum, archive)
-            || is_of_namesake(self.cache.subjects, self.package, archive)
+        let package = self.package;
+        is_checksum(&package.checksum, archive)
+            || is_of_namesake(self.cache.subjects, package, archive)
     }
 }
 
