@@ -12,7 +12,7 @@ ghost use Rattle.cargo_lock_bom.specs.Component.{declared, license_at, license_d
 ghost use Rattle.cargo_lock_bom.specs.Component.{repositories_if};
 ghost use Rattle.cargo_lock_bom.specs.Component.{repositories_of, root_component, type_text};
 ghost use Rattle.cargo_lock_bom.specs.Component.{workspace_component};
-ghost use Rattle.cargo_lock_bom.specs.Options.{Named, license_of};
+ghost use Rattle.cargo_lock_bom.specs.Options.{Expression, Named, license_of};
 ghost use Rattle.cargo_lock_bom.specs.Tokens.{data_tokens, member_tokens};
 ghost use Rattle.printing.specs.Json.{Adds};
 ghost use Rattle.cargo_lock_bom.specs.Purl.{purl_of};
@@ -222,9 +222,16 @@ fn put_license_data(out: &mut JsonWriter, license: &License) -> Result<(), Alloc
     ensures { Adds result out.old out.new (data_tokens (license_data (license_of license.now))) }
 {
     match license {
-        License::Expression(text) => put_declared(out, "expression", text.as_str()),
+        License::Expression(text) => put_expression(out, text.as_str()),
         License::Named(text) => put_named(out, text.as_str()),
     }
+}
+
+// Writes a licence that is an expression.
+fn put_expression(out: &mut JsonWriter, text: &str) -> Result<(), AllocError>
+    ensures { Adds result out.old out.new (data_tokens (license_data (Expression text.now))) }
+{
+    put_declared(out, "expression", text)
 }
 
 // Writes a licence of this name.
