@@ -17,8 +17,10 @@ use crate::details::Details;
 use crate::details_reading::details_at;
 use crate::front_matter::{body_of, front_length, front_of, lines_from_first, title_after};
 use crate::requirement::Requirement;
-use crate::values::{copied, list_in, members_in, optional_text, required_members, required_text};
-use crate::values::{text_in, texts_at_key, value_at};
+use crate::values::{
+    copied, list_in, members_in, optional_text, required_members, required_text, text_in,
+    texts_at_key, value_at,
+};
 use cargo_lock_parts::error::{Error, Result};
 use cargo_lock_parts::package::SourceId;
 use printing::Quoted;
@@ -94,14 +96,7 @@ fn advisory_at(alloc: Global, table: &Table, title: &str) -> Result<Advisory>
     let names = names_of(alloc, title, &fields, aliases)?;
     let kinds = kinds_of(alloc, &fields)?;
     let is_withdrawn = fields.is_withdrawn;
-    Ok(assembled(
-        names,
-        kinds,
-        source,
-        ranges,
-        details,
-        is_withdrawn,
-    ))
+    Ok(assembled(names, kinds, source, ranges, details, is_withdrawn))
 }
 
 // What the table `advisory` says.

@@ -10,8 +10,9 @@ ghost use Rattle.cargo_lock_audit.specs.DetailsReading.{joined_details, lists_at
 ghost use Rattle.cargo_lock_audit.specs.Values.{optional_by};
 
 use crate::details::{Affected, Details, Function};
-use crate::values::{copied, members_in, optional_text, required_text, texts_at_key, texts_in};
-use crate::values::{value_at};
+use crate::values::{
+    copied, members_in, optional_text, required_text, texts_at_key, texts_in, value_at,
+};
 use cargo_lock_parts::error::Result;
 use std::alloc::{AllocError, Global};
 use std::marker::Model;

@@ -146,7 +146,11 @@ fn is_blank(byte: u8) -> bool
 fn header_at(headers: &[usize], place: usize, shown: bool) -> Option<usize>
     ensures { result ≡ (if shown then slice_get headers.now place else None) }
 {
-    if shown { headers.get(place).copied() } else { None }
+    if shown {
+        headers.get(place).copied()
+    } else {
+        None
+    }
 }
 
 // The number of the line at a place, if there is one, and the name stands below it.

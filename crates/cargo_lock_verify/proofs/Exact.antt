@@ -107,11 +107,14 @@ missing-so cache s f c is unchanged h = by (list_any (is_digest c) s.archives) r
   where
     by : (b : Bool) → list_any (is_digest c) s.archives ≡ b → Contains (found_unless s.content b) f → IsArchiveFindingOf cache s f
     by true e there = absurd (no-element f there)
-    by false e there = subst (IsArchiveFindingOf cache s) (sym (is-one-of (Missing s.content) f there)) (refl, record {
-      has_checksum = has-one s c is;
-      unseen = λ v. true≢false (sym (verified-is s c is v) ∙ e);
-      unchanged = none-changed cache s unchanged;
-    })
+    by false e there = subst (IsArchiveFindingOf cache s) (sym (is-one-of (Missing s.content) f there)) (
+      refl,
+      record {
+        has_checksum = has-one s c is;
+        unseen = λ v. true≢false (sym (verified-is s c is v) ∙ e);
+        unchanged = none-changed cache s unchanged;
+      },
+    )
 
 unchecked-so : (cache : CacheData) (s : ArchiveSubjectData) (f : ArchiveFindingData) → s.content.checksum ≡ None
     → Contains (found_of_unchecked s.content) f → IsArchiveFindingOf cache s f

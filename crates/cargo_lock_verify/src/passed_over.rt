@@ -18,10 +18,7 @@ pub(crate) fn count_of_others(alloc: Global, cache: &Cache<'_, '_>) -> Result<us
 }
 
 // The archives that are passed over.
-fn others_in<'p, 'a>(
-    alloc: Global,
-    cache: &Cache<'p, 'a>,
-) -> Result<Vec<&'a Archive>, AllocError>
+fn others_in<'p, 'a>(alloc: Global, cache: &Cache<'p, 'a>) -> Result<Vec<&'a Archive>, AllocError>
     ensures { IfOk result (λ found. map (λ a. archive_of a.now) found.items
         ≡ spec.archives_of_others (cache_of cache.now)) }
 {

@@ -34,11 +34,7 @@ pub struct Report<'p, 'a> {
 impl<'p, 'a> Report<'p, 'a> {
     /// What is reported of these packages: all findings, or only those of archives, without packages
     /// of a registry that have no checksum. Fails when out of memory.
-    pub fn of(
-        alloc: Global,
-        cache: &Cache<'p, 'a>,
-        all: bool,
-    ) -> Result<Report<'p, 'a>, AllocError>
+    pub fn of(alloc: Global, cache: &Cache<'p, 'a>, all: bool) -> Result<Report<'p, 'a>, AllocError>
         ensures findings { IfOk result (λ report. map archive_finding_of report.findings.items
             ≡ reported all (archive_findings (cache_of cache.now))) }
         ensures counts { IfOk result (λ report. report.counts

@@ -67,8 +67,7 @@ const DENY_HELP: &str =
 const REGISTRY_HELP: &str =
     "Takes packages of this registry for those of crates.io; URL is as in a lockfile";
 
-const SINCE_HELP: &str =
-    "Counts only what this older lockfile does not have; - for standard input";
+const SINCE_HELP: &str = "Counts only what this older lockfile does not have; - for standard input";
 
 /// The kinds of informational advisories that RustSec has, and the word for all of them.
 const KINDS: [&str; 4] = ["unmaintained", "unsound", "notice", "warnings"];

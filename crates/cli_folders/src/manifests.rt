@@ -168,7 +168,6 @@ impl Manifests {
         }
         Ok(())
     }
-
 }
 
 // What is at the path that has the name of the folder of a package.
