@@ -5,8 +5,8 @@ use Rattle.std.proofs.lemmas.Slice.Eq.{bytes_eq-Decides}
 use Rattle.std.proofs.lemmas.Option.{same_Some}
 use Rattle.cargo_lock_parts.specs.Identity.{PackageData, identity_of}
 use Rattle.cargo_lock_references.specs.WrittenReference.{has_name_and_version}
-use Rattle.cargo_lock_verify.specs.Archives.{ArchiveData, ArchiveFindingData, ArchiveFindingsAreExact, ArchiveSubjectData, CacheData, Changed, IsArchiveFinding, IsArchiveFindingOf, IsChanged, IsChangedBy, IsKnown, IsMissing, IsOfNamesake, IsOfRegistryUnchecked, IsVerified, Missing, NoChecksum, NoneIfVerified}
-use Rattle.cargo_lock_verify.specs.Archives.{archive_findings, found_by_checksum, found_if, found_in, found_of_unchecked, found_unless, is_archive_of, is_changed, is_checksum, is_digest, is_known, is_near}
+use Rattle.cargo_lock_verify.specs.Archives.{ArchiveData, ArchiveFindingData, ArchiveFindingsAreExact, ArchiveSubjectData, CacheData, Changed, IsArchiveFinding, IsArchiveFindingOf, IsChanged, IsChangedBy, IsExpected, IsMissing, IsOfNamesake, IsOfRegistryUnchecked, IsVerified, Missing, NoChecksum, NoneIfVerified}
+use Rattle.cargo_lock_verify.specs.Archives.{archive_findings, found_by_checksum, found_if, found_in, found_of_unchecked, found_unless, is_archive_of, is_changed, is_of_checksum, is_digest, is_expected, is_in_its_place}
 use Rattle.cargo_lock_verify.specs.Class.{is_of_registry}
 use Rattle.lists.proofs.Members.{first-in as first, in-joined as in-flat, in-kept, in-map, joined-in, kept-in, map-in, none-in as no-element}
 use Rattle.lists.proofs.Members.{none-left as no-elements}
@@ -35,29 +35,29 @@ has-one s c is none = true≢false (ap is_some (sym is ∙ none))
 
 -- ---- which archives are known, and which are changed
 
-is-checksum : (o : Option (List ℕ)) (a : ArchiveData) → is_checksum o a ≡ true → o ≡ Some a.digest
+is-checksum : (o : Option (List ℕ)) (a : ArchiveData) → is_of_checksum o a ≡ true → o ≡ Some a.digest
 is-checksum None a e = absurd (true≢false (sym e))
 is-checksum (Some c) a e = ap Some (sym ((bytes_eq-Decides a.digest c).0 e))
 
-checksum-is : (o : Option (List ℕ)) (a : ArchiveData) → o ≡ Some a.digest → is_checksum o a ≡ true
-checksum-is o a is = subst (λ x. is_checksum x a ≡ true) (sym is) ((bytes_eq-Decides a.digest a.digest).1 refl)
+checksum-is : (o : Option (List ℕ)) (a : ArchiveData) → o ≡ Some a.digest → is_of_checksum o a ≡ true
+checksum-is o a is = subst (λ x. is_of_checksum x a ≡ true) (sym is) ((bytes_eq-Decides a.digest a.digest).1 refl)
 
-pub is-known : (cache : CacheData) (p : PackageData) (a : ArchiveData) → is_known cache p a ≡ true → IsKnown cache p a
-is-known cache p a e = by (or-cases (is_checksum p.checksum a) (list_any (λ s. is_archive_of p a s.content) cache.subjects) e)
+pub is-known : (cache : CacheData) (p : PackageData) (a : ArchiveData) → is_expected cache p a ≡ true → IsExpected cache p a
+is-known cache p a e = by (or-cases (is_of_checksum p.checksum a) (list_any (λ s. is_archive_of p a s.content) cache.subjects) e)
   where
-    by : (is_checksum p.checksum a ≡ true) ⊎ (list_any (λ s. is_archive_of p a s.content) cache.subjects ≡ true) → IsKnown cache p a
+    by : (is_of_checksum p.checksum a ≡ true) ⊎ (list_any (λ s. is_archive_of p a s.content) cache.subjects ≡ true) → IsExpected cache p a
     by (inl own) = inl (is-checksum p.checksum a own)
     by (inr other) = let (s, there, passes) = any-one (λ (t : ArchiveSubjectData). is_archive_of p a t.content) cache.subjects other in
-        let parts = and-parts (has_name_and_version p.name p.version (identity_of s.content)) (is_checksum s.content.checksum a) passes in
+        let parts = and-parts (has_name_and_version p.name p.version (identity_of s.content)) (is_of_checksum s.content.checksum a) passes in
         inr (s, there, parts.0, is-checksum s.content.checksum a parts.1)
 
-pub known-is : (cache : CacheData) (p : PackageData) (a : ArchiveData) → IsKnown cache p a → is_known cache p a ≡ true
+pub known-is : (cache : CacheData) (p : PackageData) (a : ArchiveData) → IsExpected cache p a → is_expected cache p a ≡ true
 known-is cache p a (inl own) = ap (λ (b : Bool). b || list_any (λ s. is_archive_of p a s.content) cache.subjects) (checksum-is p.checksum a own)
-known-is cache p a (inr other) = by (is_checksum p.checksum a)
+known-is cache p a (inr other) = by (is_of_checksum p.checksum a)
   where
     found : list_any (λ s. is_archive_of p a s.content) cache.subjects ≡ true
     found = let (s, there, named, is) = other in any-is (λ (t : ArchiveSubjectData). is_archive_of p a t.content) cache.subjects s there
-        (and-both (has_name_and_version p.name p.version (identity_of s.content)) (is_checksum s.content.checksum a) named (checksum-is s.content.checksum a is))
+        (and-both (has_name_and_version p.name p.version (identity_of s.content)) (is_of_checksum s.content.checksum a) named (checksum-is s.content.checksum a is))
 
     by : (b : Bool) → (b || list_any (λ s. is_archive_of p a s.content) cache.subjects) ≡ true
     by true = refl
@@ -65,16 +65,16 @@ known-is cache p a (inr other) = by (is_checksum p.checksum a)
 
 pub changed-by : (cache : CacheData) (s : ArchiveSubjectData) (a : ArchiveData) → s.content.checksum ≢ None → Contains s.archives a
     → is_changed cache s.content a ≡ true → IsChangedBy cache s a
-changed-by cache s a has there e = let parts = and-parts (is_near cache s.content a) (not (is_known cache s.content a)) e in record {
+changed-by cache s a has there e = let parts = and-parts (is_in_its_place cache s.content a) (not (is_expected cache s.content a)) e in record {
   has_checksum = has;
   is_one = there;
   near = parts.0;
-  unknown = λ known. true≢false (sym (known-is cache s.content a known) ∙ not-true (is_known cache s.content a) parts.1);
+  unknown = λ known. true≢false (sym (known-is cache s.content a known) ∙ not-true (is_expected cache s.content a) parts.1);
 }
 
 pub by-changed : (cache : CacheData) (s : ArchiveSubjectData) (a : ArchiveData) → IsChangedBy cache s a → is_changed cache s.content a ≡ true
-by-changed cache s a h = and-both (is_near cache s.content a) (not (is_known cache s.content a)) h.near
-    (ap not (is-false (is_known cache s.content a) (λ e. h.unknown (is-known cache s.content a e))))
+by-changed cache s a h = and-both (is_in_its_place cache s.content a) (not (is_expected cache s.content a)) h.near
+    (ap not (is-false (is_expected cache s.content a) (λ e. h.unknown (is-known cache s.content a e))))
 
 -- one of the archives is changed
 pub some-changed : (cache : CacheData) (s : ArchiveSubjectData) → s.content.checksum ≢ None

@@ -81,34 +81,34 @@ abbrev pub is_digest : List ℕ → ArchiveData → Bool
 is_digest digest a = bytes_eq a.digest digest
 
 -- the archive has the digest, if there is one
-abbrev pub is_checksum : Option (List ℕ) → ArchiveData → Bool
-is_checksum None a = false
-is_checksum (Some checksum) a = is_digest checksum a
+abbrev pub is_of_checksum : Option (List ℕ) → ArchiveData → Bool
+is_of_checksum None a = false
+is_of_checksum (Some checksum) a = is_digest checksum a
 
 -- the second package has the name and the version of the first, and the archive its checksum
 abbrev pub is_archive_of : PackageData → ArchiveData → PackageData → Bool
 is_archive_of p a q =
-    has_name_and_version p.name p.version (identity_of q) && is_checksum q.checksum a
+    has_name_and_version p.name p.version (identity_of q) && is_of_checksum q.checksum a
 
 -- the archive has the checksum of the package, or of another one with its name and its version
-abbrev pub is_known : CacheData → PackageData → ArchiveData → Bool
-is_known cache p a =
-    is_checksum p.checksum a || list_any (λ s. is_archive_of p a s.content) cache.subjects
+abbrev pub is_expected : CacheData → PackageData → ArchiveData → Bool
+is_expected cache p a =
+    is_of_checksum p.checksum a || list_any (λ s. is_archive_of p a s.content) cache.subjects
 
 -- the archive lies where Cargo has those of the package: in the folder of archives itself, or in an
 -- index folder of the host of the package's registry or of a mirror
-abbrev pub is_near : CacheData → PackageData → ArchiveData → Bool
-is_near cache p a = is_in_reach cache.mirrors (hosts_of p.source) a.host
+abbrev pub is_in_its_place : CacheData → PackageData → ArchiveData → Bool
+is_in_its_place cache p a = is_in_reach cache.mirrors (hosts_of p.source) a.host
 
 -- the archive is changed: it lies where those of the package do, and no package of that name and
 -- version has its digest
 abbrev pub is_changed : CacheData → PackageData → ArchiveData → Bool
-is_changed cache p a = is_near cache p a && not (is_known cache p a)
+is_changed cache p a = is_in_its_place cache p a && not (is_expected cache p a)
 
 -- the archive is passed over: it lies where those of other registries do, and no package of that
 -- name and version has its digest
 abbrev pub is_of_another : CacheData → PackageData → ArchiveData → Bool
-is_of_another cache p a = not (is_near cache p a) && not (is_known cache p a)
+is_of_another cache p a = not (is_in_its_place cache p a) && not (is_expected cache p a)
 
 -- the archives that are passed over, in the order of the packages of whose name and version they are
 abbrev pub archives_of_others : CacheData → List ArchiveData
@@ -187,16 +187,16 @@ IsOfNamesake cache p a = (s : ArchiveSubjectData) × Contains cache.subjects s
     × (s.content.checksum ≡ Some a.digest)
 
 -- the archive has the checksum of the package, or of another one with its name and its version
-abbrev pub IsKnown : CacheData → PackageData → ArchiveData → Type 0
-IsKnown cache p a = (p.checksum ≡ Some a.digest) ⊎ IsOfNamesake cache p a
+abbrev pub IsExpected : CacheData → PackageData → ArchiveData → Type 0
+IsExpected cache p a = (p.checksum ≡ Some a.digest) ⊎ IsOfNamesake cache p a
 
 -- the archive is one of the subject, whose package has a checksum; it lies where those of the package
 -- do, and no package of that name and version has its digest
 pub record IsChangedBy (cache : CacheData) (s : ArchiveSubjectData) (a : ArchiveData) : Type 0 where
   pub has_checksum : s.content.checksum ≢ None
   pub is_one : Contains s.archives a
-  pub near : is_near cache s.content a ≡ true
-  pub unknown : ¬ IsKnown cache s.content a
+  pub near : is_in_its_place cache s.content a ≡ true
+  pub unknown : ¬ IsExpected cache s.content a
 
 -- an archive of the subject is changed
 abbrev pub IsChanged : CacheData → ArchiveSubjectData → Type 0

@@ -78,7 +78,7 @@ impl Counts {
     /// with, or, if `all` is not asked for, one that matches is enough.
     ///
     /// ```
-    /// let report = Report::of(rt.alloc(), subjects, all)?;
+    /// let report = Report::of(rt.alloc(), cache, all)?;
     /// let is_clean = report.counts.is_clean(all);
     /// ```
     pub fn is_clean(&self, all: bool) -> bool

@@ -86,7 +86,7 @@ impl<'p, 'a> Judge<'p, 'a> {
         ensures { result
             ≡ spec.is_changed self.now.cache self.now.content (archive_of archive.now) }
     {
-        self.is_near(archive) && !self.is_known(archive)
+        self.is_in_its_place(archive) && !self.is_expected(archive)
     }
 
     /// Whether the archive lies where those of other registries do, and no package of that name and
@@ -95,31 +95,31 @@ impl<'p, 'a> Judge<'p, 'a> {
         ensures { result
             ≡ spec.is_of_another self.now.cache self.now.content (archive_of archive.now) }
     {
-        !self.is_near(archive) && !self.is_known(archive)
+        !self.is_in_its_place(archive) && !self.is_expected(archive)
     }
 
     // Whether the archive lies where those of the package do.
-    fn is_near(&self, archive: &Archive) -> bool
+    fn is_in_its_place(&self, archive: &Archive) -> bool
         ensures { result
-            ≡ spec.is_near self.now.cache self.now.content (archive_of archive.now) }
+            ≡ spec.is_in_its_place self.now.cache self.now.content (archive_of archive.now) }
     {
         self.hosts.reach(self.cache.mirrors, &archive.host)
     }
 
     // Whether a package of that name and version has the digest of the archive.
-    fn is_known(&self, archive: &Archive) -> bool
+    fn is_expected(&self, archive: &Archive) -> bool
         ensures { result
-            ≡ spec.is_known self.now.cache self.now.content (archive_of archive.now) }
+            ≡ spec.is_expected self.now.cache self.now.content (archive_of archive.now) }
     {
         let package = self.package;
-        is_checksum(&package.checksum, archive)
+        is_of_checksum(&package.checksum, archive)
             || is_of_namesake(self.cache.subjects, package, archive)
     }
 }
 
 // Whether the archive has this checksum.
-fn is_checksum(checksum: &Option<Checksum>, archive: &Archive) -> bool
-    ensures { result ≡ spec.is_checksum (option_map digest_of checksum.now) (archive_of archive.now) }
+fn is_of_checksum(checksum: &Option<Checksum>, archive: &Archive) -> bool
+    ensures { result ≡ spec.is_of_checksum (option_map digest_of checksum.now) (archive_of archive.now) }
 {
     match checksum {
         Some(checksum) => archive.digest == *checksum,
@@ -152,5 +152,5 @@ fn is_archive_of(package: &Package, archive: &Archive, other: &Package) -> bool
 {
     other.name.as_str() == package.name.as_str()
         && same_version(&other.version, &package.version)
-        && is_checksum(&other.checksum, archive)
+        && is_of_checksum(&other.checksum, archive)
 }

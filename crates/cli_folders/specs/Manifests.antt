@@ -55,12 +55,12 @@ is_within Near hosts host = is_in_reach [] hosts host
 is_within All hosts host = true
 
 -- the same of what is sought
-abbrev pub is_near : SoughtData → Option (List ℕ) → Bool
-is_near s host = is_within s.reach s.hosts host
+abbrev pub is_in_place : SoughtData → Option (List ℕ) → Bool
+is_in_place s host = is_within s.reach s.hosts host
 
 -- it counts: it has the name and the version of the package, and is within reach
 abbrev pub counts : SoughtData → FoundManifestData → Bool
-counts s f = is_named_as s.content f && is_near s f.host
+counts s f = is_named_as s.content f && is_in_place s f.host
 
 -- it counts, and has no manifest that does
 abbrev pub is_without : SoughtData → FoundManifestData → Bool

@@ -3,6 +3,7 @@
 ghost use Rattle.std.specs.Prelude.{◌≡◌, [], IfOk, None};
 
 use crate::files::{Entry, digest_at, fault_at, fault_of, host_in, names_in, path_of, target_at};
+use crate::found::copied;
 use cargo_lock_parts::package::Package;
 use cargo_lock_verify::Archive;
 use cli_support::Fault;
@@ -138,13 +139,5 @@ fn put_archive<R: Files + AllocGlobal>(
             Ok(())
         }
         Err(error) => Err(fault_at(rt.alloc(), path, error)),
-    }
-}
-
-// The text once more, if there is one.
-fn copied(alloc: Global, text: &Option<String>) -> Result<Option<String>, AllocError> {
-    match text {
-        Some(text) => Ok(Some(String::from_str(alloc, text)?)),
-        None => Ok(None),
     }
 }

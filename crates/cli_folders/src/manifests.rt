@@ -9,7 +9,7 @@ ghost use Rattle.cli_folders.specs.Manifests.{sought_for, sought_of};
 ghost use Rattle.cli_folders.specs.declared.sought.Reach.TheVariants.{All, Near};
 
 use crate::files::{Entry, all_names_in, entry_at, fault_of, host_in, path_of};
-use crate::found::Found;
+use crate::found::{Found, copied};
 use crate::manifest::{MANIFEST, manifest_at, manifest_path};
 use crate::sought::{Reach, Sought};
 use cargo_lock_licenses::Manifest;
@@ -70,7 +70,7 @@ impl Manifests {
         };
         match kind_of(rt, &folders)? {
             Kind::Vendored => manifests.put_vendored(rt, &folders)?,
-            Kind::Unpacked => manifests.put_unpacked(rt, folder, None, packages)?,
+            Kind::Unpacked => manifests.put_unpacked(rt, folder, &None, packages)?,
             Kind::Indices => manifests.put_indices(rt, &folders, packages)?,
             Kind::Other => {}
         }
@@ -144,7 +144,8 @@ impl Manifests {
         packages: &[Package],
     ) -> Result<(), Fault> {
         for folder in folders {
-            self.put_unpacked(rt, folder, host_of(folder), packages)?;
+            let host = host_of(rt.alloc(), folder)?;
+            self.put_unpacked(rt, folder, &host, packages)?;
         }
         Ok(())
     }
@@ -155,7 +156,7 @@ impl Manifests {
         &mut self,
         rt: &R,
         folder: &str,
-        host: Option<&str>,
+        host: &Option<String>,
         packages: &[Package],
     ) -> Result<(), Fault> {
         let wanted = by_folder(rt.alloc(), packages)?;
@@ -183,19 +184,12 @@ fn unpacked_one<R: Files + AllocGlobal>(
 }
 
 // The host in the name of an index folder.
-fn host_of(folder: &str) -> Option<&str> {
-    match folder.rsplit_once('/') {
-        Some((_, name)) => Some(host_in(name)),
-        None => Some(host_in(folder)),
-    }
-}
-
-// The text once more, if there is one.
-fn copied(alloc: Global, text: Option<&str>) -> Result<Option<String>, AllocError> {
-    match text {
-        Some(text) => Ok(Some(String::from_str(alloc, text)?)),
-        None => Ok(None),
-    }
+fn host_of(alloc: Global, folder: &str) -> Result<Option<String>, AllocError> {
+    let name = match folder.rsplit_once('/') {
+        Some((_, name)) => name,
+        None => folder,
+    };
+    Ok(Some(String::from_str(alloc, host_in(name))?))
 }
 
 // ---- the manifests of a package

@@ -1,7 +1,7 @@
 //! A package whose manifests are sought in a folder.
 
 ghost use Rattle.std.specs.Prelude.{◌≡◌, option_map, string_bytes};
-ghost use Rattle.cli_folders.specs.Manifests.{is_near, sought_of};
+ghost use Rattle.cli_folders.specs.Manifests.{is_in_place, sought_of};
 
 use cargo_lock_parts::package::Package;
 use cargo_lock_verify::Hosts;
@@ -32,7 +32,7 @@ pub(crate) enum Reach {
 impl<'p> Sought<'p> {
     /// Whether what is in an index folder of this host counts.
     pub(crate) fn reaches(&self, host: &Option<String>) -> bool
-        ensures { result ≡ is_near (sought_of self.now) (option_map string_bytes host.now) }
+        ensures { result ≡ is_in_place (sought_of self.now) (option_map string_bytes host.now) }
     {
         match self.reach {
             Reach::Near => self.hosts.reach(&[], host),
