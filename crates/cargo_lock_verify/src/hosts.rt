@@ -59,7 +59,7 @@ impl<'p> Hosts<'p> {
     /// mirror. What lies in no index folder always may.
     ///
     /// ```
-    /// let is_in_its_place = hosts.reach(&[], &archive.host);
+    /// let is_near = hosts.reach(&[], &archive.host);
     /// ```
     pub fn reach(&self, mirrors: &[&str], host: &Option<String>) -> bool
         ensures { result ≡ spec.is_in_reach (map (λ t. t.now) mirrors.now) (hosts_data self.now)
