@@ -1,4 +1,4 @@
-//! Whether what stands under a key of a package reads.
+//! Whether what is under a key of a package reads.
 
 ghost use Rattle.std.specs.Prelude.{◌≡◌, IfOk, IsOkUnless, is_some};
 ghost use Rattle.cargo_lock_parts.specs.Checksum.{digest_in};

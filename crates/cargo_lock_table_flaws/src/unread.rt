@@ -1,4 +1,4 @@
-//! What stands in the tables of packages and does not read.
+//! What is in the tables of packages and does not read.
 
 ghost use Rattle.std.specs.Prelude.{◌≡◌, ◌++◌, ◌+◌, IfOk, IsOkUnless, OnOk, codes, map, option_map};
 ghost use Rattle.toml.specs.Data.{get_member};
