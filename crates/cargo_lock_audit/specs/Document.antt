@@ -47,7 +47,7 @@ affected_or_null None = null
 affected_or_null (Some a) = affected_json a
 
 -- the members of what an advisory says besides, before further ones
-abbrev pub details_members : DetailsData → Members → Members
+unfoldable pub details_members : DetailsData → Members → Members
 details_members d further =
     member (codes "date") (string d.date)
     (member (codes "url") (text_or_null d.url)
