@@ -4,4 +4,3 @@ pub mod Told
 pub mod Packages
 pub mod Tables
 pub mod References
-pub mod Conflicts

@@ -13,7 +13,7 @@ use Rattle.cargo_lock_table_flaws.specs.declared.finding.Place.TheVariants.{List
 use Rattle.cargo_lock_table_flaws.specs.declared.finding.Role.{Role}
 use Rattle.cargo_lock_table_flaws.specs.declared.finding.Role.TheVariants.{Dependency, FullDependency, Replacement}
 use Rattle.cargo_lock_table_flaws.specs.Finding.{EachTableFindingIsOneLine, NoList, NoText, Nothing, OwnerData, TableFindingData, Text, Unread, Unresolved, WrittenData}
-use Rattle.cargo_lock_table_flaws.specs.Finding.{encoded_by, encoded_shown, key_word, named_by, noun_of, owner_by, owner_shown, place_words, role_fault, role_verb, table_finding_line, why, why_text}
+use Rattle.cargo_lock_table_flaws.specs.Finding.{encoded_by, encoded_shown, key_word, named_by, owner_by, owner_shown, place_words, role_fault, role_verb, table_finding_line, why, why_text}
 
 word-prints : (k : Key) → Prints (key_word k)
 word-prints key.Name = literal (codes "name") refl

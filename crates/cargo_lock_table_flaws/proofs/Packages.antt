@@ -1,5 +1,5 @@
 -- The table of a package reads exactly if nothing in it is told.
-use Rattle.std.proofs.Common.{◌≡◌, ℕ, Bool, true, List, [], ◌∷◌, ◌++◌, codes, Option, Some, None, is_some, option_map, refl}
+use Rattle.std.proofs.Common.{◌≡◌, ℕ, true, List, [], ◌∷◌, codes, Option, Some, None, is_some, refl}
 use Rattle.toml.specs.Data.{Data, string, integer, float, boolean, datetime, array, table, Items, no_items, item, Members, get_member}
 use Rattle.cargo_lock_parts.specs.Checksum.{digest_in}
 use Rattle.cargo_lock_parts.specs.SourceReading.{source_of}
@@ -9,9 +9,9 @@ use Rattle.cargo_lock_encoding.specs.TableReading.{checksum_from, identity_at, o
 use Rattle.cargo_lock_table_flaws.specs.declared.finding.Key.{Key}
 use Rattle.cargo_lock_table_flaws.specs.declared.finding.Key.TheVariants as key
 use Rattle.cargo_lock_table_flaws.specs.declared.finding.Place.{Place}
-use Rattle.cargo_lock_table_flaws.specs.Finding.{OwnerData, Unread, NoText, NoList, Nothing}
+use Rattle.cargo_lock_table_flaws.specs.Finding.{OwnerData}
 use Rattle.cargo_lock_table_flaws.specs.Laws.{ReadIfNoneUnread}
-use Rattle.cargo_lock_table_flaws.specs.Unread.{in_some, is_optional, is_read_text, owner_at, unless_read, unread_at, unread_identity, unread_items, unread_list, unread_package, unread_parts, unread_patch, unread_references, written_as, written_at}
+use Rattle.cargo_lock_table_flaws.specs.Unread.{in_some, is_optional, is_read_text, owner_at, unless_read, unread_at, unread_identity, unread_items, unread_list, unread_package, unread_parts, unread_references, written_as, written_at}
 use Rattle.cargo_lock_table_flaws.proofs.Told.{Tells, accepted, made, mapped, next, next-two, refused, tested}
 
 -- ---- one value

@@ -1,21 +1,19 @@
 -- Values with a format are those of a lockfile exactly if no reference of them is told.
-use Rattle.std.proofs.Common.{◌≡◌, ◌∙◌, ℕ, List, [], ◌∷◌, ◌++◌, map, Option, Some, None, IsSome, is_some, option_map, refl, sym, ap, subst, inl, inr}
+use Rattle.std.proofs.Common.{◌≡◌, ◌∙◌, ℕ, List, [], map, Option, Some, None, is_some, sym, ap, subst, inl, inr}
 use Rattle.std.proofs.lemmas.Option.{same_Some}
 use Rattle.toml.specs.Data.{Members}
 use Rattle.cargo_lock_parts.specs.Identity.{Identity}
 use Rattle.cargo_lock_encoding.specs.Lockfiles.{EncodedData, LockfileData, format_of}
 use Rattle.cargo_lock_encoding.specs.Meaning.{all_packages, completed_lockfile, listed_package, lockfile_of, package_of, resolved_values, root_package}
 use Rattle.cargo_lock_encoding.specs.Means.{Means, encoded_checksum, reading_list}
-use Rattle.cargo_lock_encoding.specs.TableReading.{encoded_at}
 use Rattle.cargo_lock_encoding.proofs.MeansLemmas.{lockfile_of-from}
 use Rattle.cargo_lock_references.specs.declared.version.ResolveVersion.{ResolveVersion}
-use Rattle.cargo_lock_references.specs.Optional.{◌>>=◌, map_all, map_some}
+use Rattle.cargo_lock_references.specs.Optional.{map_all, map_some}
 use Rattle.cargo_lock_references.specs.Records.{EncodedPackage, encoded_identity}
 use Rattle.cargo_lock_references.specs.Reference.{Reference}
 use Rattle.cargo_lock_references.specs.ResolutionSearch.{resolution_of}
 use Rattle.cargo_lock_table_flaws.specs.declared.finding.Role.{Role}
 use Rattle.cargo_lock_table_flaws.specs.declared.finding.Role.TheVariants.{FullDependency, Replacement}
-use Rattle.cargo_lock_table_flaws.specs.Finding.{TableFindingData}
 use Rattle.cargo_lock_table_flaws.specs.Laws.{LockfileIfResolved, NoReportOfLockfile}
 use Rattle.cargo_lock_table_flaws.specs.Report.{IsReferenceReport, IsUnreadReport, TableReportData}
 use Rattle.cargo_lock_table_flaws.specs.Unresolved.{role_in, unless_resolved, unresolved_dependencies, unresolved_in, unresolved_of, unresolved_of_each, unresolved_of_root, unresolved_references, unresolved_replacement}

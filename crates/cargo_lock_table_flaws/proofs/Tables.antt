@@ -1,9 +1,7 @@
 -- Nothing is told as unread of a table that has values.
-use Rattle.std.proofs.Common.{◌≡◌, ◌+◌, ◌∙◌, ℕ, List, [], ◌∷◌, ◌++◌, codes, Option, Some, None, is_some, option_map, unwrap_or, refl, sym, ap}
-use Rattle.std.proofs.lemmas.Option.{none-some}
-use Rattle.toml.specs.Data.{Data, string, integer, float, boolean, datetime, array, table, Items, no_items, item, Members, as_array, as_table, get_member}
+use Rattle.std.proofs.Common.{◌≡◌, ◌+◌, ℕ, List, [], codes, Option, Some, None, is_some, refl, ap}
+use Rattle.toml.specs.Data.{Data, string, integer, float, boolean, datetime, array, table, Items, no_items, item, Members, as_table, get_member}
 use Rattle.cargo_lock_parts.specs.Identity.{Identity}
-use Rattle.cargo_lock_encoding.specs.Lockfiles.{EncodedData}
 use Rattle.cargo_lock_encoding.specs.TableReading.{EncodedPackages, all_encoded_packages_at, encoded_at, encoded_package_in, encoded_packages_at, identity_at, items_in, members_in, metadata_in, number_in, optional_by, optional_list, package_at_key, patch_at, patch_in, read_all, required_list, unused_patch_in}
 use Rattle.cargo_lock_encoding.proofs.MeansLemmas.{bind-parts, map-parts, more-parts}
 use Rattle.cargo_lock_references.specs.Optional.{◌>>=◌}
@@ -12,7 +10,7 @@ use Rattle.cargo_lock_table_flaws.specs.declared.finding.Place.{Place}
 use Rattle.cargo_lock_table_flaws.specs.declared.finding.Place.TheVariants.{Listed, Root, Unused}
 use Rattle.cargo_lock_table_flaws.specs.Finding.{TableFindingData}
 use Rattle.cargo_lock_table_flaws.specs.Laws.{NoneUnreadIfRead}
-use Rattle.cargo_lock_table_flaws.specs.Unread.{in_some, owner_at, unread_each, unread_listed, unread_numbered, unread_package, unread_packages, unread_patch, unread_patch_table, unread_patches, unread_patches_in, unread_root, unread_root_table, unread_unused, unread_values}
+use Rattle.cargo_lock_table_flaws.specs.Unread.{in_some, owner_at, unread_each, unread_listed, unread_numbered, unread_package, unread_packages, unread_patch, unread_patch_table, unread_patches_in, unread_root, unread_root_table, unread_unused, unread_values}
 use Rattle.cargo_lock_table_flaws.proofs.Packages.{identity-tells, package-tells}
 
 -- what is told of a value that is a table, by what is told of the table

@@ -1,4 +1,5 @@
--- What keeps a table from being read as a lockfile, in JSON: the document that `check --json` prints.
+-- What keeps a table from being read as a lockfile, in JSON: the document that `check --json`
+-- prints.
 use Rattle.std.specs.Prelude.{ℕ, List, codes, map}
 use Rattle.json.specs.Json.{Json, null, string, object, member, no_members}
 use Rattle.cargo_lock_display.specs.File.{FileData, list_document}

@@ -1,6 +1,6 @@
 -- What is found in a table that is no lockfile, and the line of each.
-use Rattle.std.specs.Prelude.{◌≡◌, ◌==◌, ◌++◌, ◌∷◌, [], ℕ, List, codes, decimal, false, if◌then◌else◌}
-use Rattle.std.specs.Prelude.{length, map, Option, None, Some, option_map}
+use Rattle.std.specs.Prelude.{◌≡◌, ◌==◌, ◌++◌, ◌∷◌, [], ℕ, List, codes, decimal, false}
+use Rattle.std.specs.Prelude.{if◌then◌else◌, length, map, Option, None, Some, option_map}
 use Rattle.std.specs.List.{flat_map}
 use Rattle.std.specs.Str.Lines.{lines}
 use Rattle.semver.specs.Identifiers.{parts_text}
@@ -20,14 +20,15 @@ use Rattle.cargo_lock_table_flaws.specs.declared.finding.Place.{Place}
 use Rattle.cargo_lock_table_flaws.specs.declared.finding.Place.TheVariants.{Listed, Root, Unused}
 use Rattle.cargo_lock_table_flaws.specs.declared.finding.Role.{Role}
 use Rattle.cargo_lock_table_flaws.specs.declared.finding.Role.TheVariants.{Dependency}
-use Rattle.cargo_lock_table_flaws.specs.declared.finding.Role.TheVariants.{FullDependency, Replacement}
+use Rattle.cargo_lock_table_flaws.specs.declared.finding.Role.TheVariants.{FullDependency}
+use Rattle.cargo_lock_table_flaws.specs.declared.finding.Role.TheVariants.{Replacement}
 use Rattle.cargo_lock_table_flaws.specs.declared.finding.TableFinding.{TableFinding}
 use Rattle.cargo_lock_table_flaws.specs.declared.finding.TableFinding.TheVariants as declared
 use Rattle.cargo_lock_table_flaws.specs.declared.finding.Written.{Written}
 use Rattle.cargo_lock_table_flaws.specs.declared.finding.Written.TheVariants as written
 
--- what stands under a key, or in the list under it: nothing, a text, a value that is no text, or one
--- that is no list
+-- what stands under a key, or in the list under it: nothing, a text, a value that is no text, or
+-- one that is no list
 pub data WrittenData : Type 0 where
   Nothing : WrittenData
   Text : List ℕ → WrittenData
@@ -40,8 +41,8 @@ pub record OwnerData : Type 0 where
   pub name : Option (List ℕ)
   pub version : Option (List ℕ)
 
--- one thing that keeps a table from being read: what stands under a key of a package, or a reference
--- of a package
+-- one thing that keeps a table from being read: what stands under a key of a package, or a
+-- reference of a package
 pub data TableFindingData : Type 0 where
   Unread : OwnerData → Key → WrittenData → TableFindingData
   Unresolved : EncodedPackage → Reference → Role → TableFindingData

@@ -40,8 +40,8 @@ pub record IsUnreadReport (t : Members) (r : TableReportData) : Type 0 where
 abbrev pub IsWithoutUnread : Members → Type 0
 IsWithoutUnread t = (said_format t ≡ None) ⊎ (unread_values t ≡ [])
 
--- the report has the references among the values that resolve to nothing, of which there is one, and
--- the format of the values
+-- the report has the references among the values that resolve to nothing, of which there is one,
+-- and the format of the values
 pub record IsUnresolvedReport (e : EncodedData) (r : TableReportData) : Type 0 where
   pub format : format_of e ≡ Some r.format
   pub packages : r.packages ≡ length e.packages

@@ -12,7 +12,8 @@ use Rattle.cargo_lock_references.specs.Reference.{Reference}
 use Rattle.cargo_lock_references.specs.ResolutionSearch.{resolution_of}
 use Rattle.cargo_lock_table_flaws.specs.declared.finding.Role.{Role}
 use Rattle.cargo_lock_table_flaws.specs.declared.finding.Role.TheVariants.{Dependency}
-use Rattle.cargo_lock_table_flaws.specs.declared.finding.Role.TheVariants.{FullDependency, Replacement}
+use Rattle.cargo_lock_table_flaws.specs.declared.finding.Role.TheVariants.{FullDependency}
+use Rattle.cargo_lock_table_flaws.specs.declared.finding.Role.TheVariants.{Replacement}
 use Rattle.cargo_lock_table_flaws.specs.Finding.{TableFindingData, Unresolved}
 use Rattle.cargo_lock_table_flaws.specs.Unread.{in_some}
 

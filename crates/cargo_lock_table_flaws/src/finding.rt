@@ -90,8 +90,8 @@ pub enum Role {
     Replacement,
 }
 
-/// One thing that keeps a table from being read as a lockfile. `Display` writes it as a line without
-/// a newline.
+/// One thing that keeps a table from being read as a lockfile. `Display` writes it as a line
+/// without a newline.
 #[derive(Clone, Copy)]
 pub enum TableFinding<'a> {
     /// What stands under a key does not read: `KEY: PACKAGE: WHY`, as
@@ -247,8 +247,8 @@ fn write_digits<W: fmt::Write>(text: &str, f: &mut fmt::Formatter<W>) -> fmt::Re
     write!(f, "expected 64 hex digits, got {length}")
 }
 
-// Displays the name and the version of the table of a package, as far as they are texts, or where it
-// is.
+// Displays the name and the version of the table of a package, as far as they are texts, or where
+// it is.
 #[derive(Clone, Copy)]
 struct OwnerText<'a>(Owner<'a>);
 

@@ -25,5 +25,5 @@ mod unresolved;
 
 pub use crate::document::table_findings_json;
 pub use crate::finding::{Key, Owner, Place, Role, TableFinding, Written};
-pub use crate::marks::conflict_line;
+pub use crate::marks::conflict_mark_line;
 pub use crate::report::{TableReport, table_values, unread_report, unresolved_report};

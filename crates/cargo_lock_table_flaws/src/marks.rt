@@ -6,16 +6,16 @@ ghost use Rattle.cargo_lock_table_flaws.specs.Marks as spec;
 
 use std::alloc::{AllocError, Global};
 
-/// The number of the first line with a mark of a conflict, from 1 on, if the text is no TOML: a line
-/// that begins with seven of `<`, `|`, `=` or `>`. Fails when out of memory.
+/// The number of the first line with a mark of a conflict, from 1 on, if the text is no TOML: a
+/// line that begins with seven of `<`, `|`, `=` or `>`. Fails when out of memory.
 ///
 /// ```
-/// if let Some(number) = conflict_line(rt.alloc(), text)? {
+/// if let Some(number) = conflict_mark_line(rt.alloc(), text)? {
 ///     println!(rt; "conflict marks in line {number}")?;
 /// }
 /// ```
-pub fn conflict_line(alloc: Global, text: &str) -> Result<Option<usize>, AllocError>
-    ensures { IfOk result (λ number. number ≡ spec.conflict_line text.now) }
+pub fn conflict_mark_line(alloc: Global, text: &str) -> Result<Option<usize>, AllocError>
+    ensures { IfOk result (λ number. number ≡ spec.conflict_mark_line text.now) }
 {
     let Some(number) = marked_line(text) else {
         return Ok(None);
@@ -42,11 +42,11 @@ fn first_mark(text: &str) -> Option<usize>
     ensures place { result ≡ spec.first_mark text.now }
     ensures within { IfSome result (λ place. place < length text.now) }
 {
-    text.lines().position(|line| is_mark(line))
+    text.lines().position(|line| is_conflict_mark(line))
 }
 
-fn is_mark(line: &str) -> bool
-    ensures { result ≡ spec.is_mark line.now }
+fn is_conflict_mark(line: &str) -> bool
+    ensures { result ≡ spec.is_conflict_mark line.now }
 {
     begins(line, "<<<<<<<")
         || begins(line, "|||||||")

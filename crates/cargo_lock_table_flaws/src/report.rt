@@ -69,9 +69,9 @@ impl fmt::Display for TableReport<'_> {
 }
 
 /// What does not read in a table, if there is such a thing: each value under `name`, `version`,
-/// `source`, `checksum`, `dependencies` or `replace` of a package, of the root or of an unused patch.
-/// A table that says no format, by a number that is none, has no report. The one error is `Memory`,
-/// which is also the error for a URL of 4 GB or more.
+/// `source`, `checksum`, `dependencies` or `replace` of a package, of the root or of an unused
+/// patch. A table that says no format, by a number that is none, has no report. The one error is
+/// `Memory`, which is also the error for a URL of 4 GB or more.
 ///
 /// ```
 /// if let Some(report) = unread_report(rt.alloc(), table)? {
@@ -104,8 +104,8 @@ fn unread_in<'a>(
     Ok(report_of(format, listed_count(table), findings))
 }
 
-/// The values of a table, unless one of them does not read. The one error is `Memory`, which is also
-/// the error for a URL of 4 GB or more.
+/// The values of a table, unless one of them does not read. The one error is `Memory`, which is
+/// also the error for a URL of 4 GB or more.
 ///
 /// ```
 /// let Some(values) = table_values(rt.alloc(), table)? else {
@@ -124,8 +124,8 @@ pub fn table_values(alloc: Global, table: &Table) -> Result<Option<EncodableLock
     }
 }
 
-/// The references of values that resolve to nothing, if there are such. Values without a format have
-/// no report. The one error is `Memory`.
+/// The references of values that resolve to nothing, if there are such. Values without a format
+/// have no report. The one error is `Memory`.
 ///
 /// ```
 /// if let Some(report) = unresolved_report(rt.alloc(), &values)? {

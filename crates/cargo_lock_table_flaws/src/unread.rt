@@ -27,8 +27,8 @@ use toml::{Table, Value};
 // The findings so far.
 type Found<'a> = Vec<TableFinding<'a>>;
 
-/// What does not read in a table, in order. The one error is `Memory`, which is also the error for a
-/// URL of 4 GB or more.
+/// What does not read in a table, in order. The one error is `Memory`, which is also the error for
+/// a URL of 4 GB or more.
 #[tactic(auto, unfolding(crate::specs::Unread::unread_values))]
 pub(crate) fn unread_values<'a>(alloc: Global, table: &'a Table) -> Result<Found<'a>>
     ensures ok { IfOk result (λ found.

@@ -22,7 +22,8 @@ use std::alloc::{AllocError, Global};
 // The findings so far.
 type Found<'a> = Vec<TableFinding<'a>>;
 
-/// The references of values that resolve to nothing in a format, in order. Fails when out of memory.
+/// The references of values that resolve to nothing in a format, in order. Fails when out of
+/// memory.
 #[tactic(auto, unfolding(crate::specs::Unresolved::unresolved_references))]
 pub(crate) fn unresolved_references<'a>(
     alloc: Global,

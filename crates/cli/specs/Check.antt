@@ -82,8 +82,9 @@ PrintsRefused found text counts old new failure = PrintsTableOf found text count
 
 -- ---- any text
 
--- what is printed of some text, since no contract says what a file holds: of one that means a lockfile
--- its findings, and of a table that means none what keeps it from that; and the line of counts
+-- what is printed of some text, since no contract says what a file holds: of one that means a
+-- lockfile its findings, and of a table that means none what keeps it from that; and the line of
+-- counts
 abbrev pub PrintsCheck : Found → List ℕ → Option (List ℕ) → Option (List ℕ) → Type 0 → Type 0
     → Type 0
 PrintsCheck found counts old new failure success = (text : List ℕ)

@@ -46,8 +46,8 @@ now; V4 keeps it
   text: line NUMBER is not as Cargo writes it: `LINE` for `CARGO'S LINE`
 A package of the workspace is one without a source.
 
-A table of TOML that does not read as a lockfile has other lines. One for each value of a package that \
-does not read:
+A table of TOML that does not read as a lockfile has other lines. One for each value of a package \
+that does not read:
   KEY: NAME VERSION: `TEXT` is not a version     or source, or reference
   KEY: NAME VERSION: missing                     or not a text, or not a list
   checksum: NAME VERSION: expected 64 hex digits, got NUMBER
@@ -56,8 +56,8 @@ and where all of them read, one for each reference that is of nothing:
   reference: PACKAGE depends on NAME, which is named without a version
   reference: PACKAGE is replaced by NAME, which is named without a version
 
-On standard error is a line of counts, where anything is found or it is a terminal. The status is 1 \
-where anything is found, and 2 where the lockfile cannot be read for another reason.";
+On standard error is a line of counts, where anything is found or it is a terminal. The status is \
+1 where anything is found, and 2 where the lockfile cannot be read for another reason.";
 
 /// The parser of this command: its options.
 pub(crate) fn command<'a>(alloc: Global) -> Result<Command<'a>, AllocError> {
@@ -72,8 +72,8 @@ pub(crate) fn command<'a>(alloc: Global) -> Result<Command<'a>, AllocError> {
 /// Prints what is wrong with the lockfile, a line for each finding, or, if the arguments ask for
 /// it, all as one line of JSON. The status is 1 if there is a finding, and otherwise 0. Of a text
 /// that is no lockfile it prints what keeps its table from being one. Returns how it ended, with a
-/// line of counts. Fails if the text is no table, or nothing of that is found in it, or `out` fails; a
-/// prefix of the text was then written in the last case, and nothing in the others.
+/// line of counts. Fails if the text is no table, or nothing of that is found in it, or `out`
+/// fails; a prefix of the text was then written in the last case, and nothing in the others.
 pub(crate) fn run<R: Files + Input + AllocGlobal, W: Write>(
     rt: &R,
     options: &ArgMatches<'_>,
@@ -91,8 +91,8 @@ pub(crate) fn run<R: Files + Input + AllocGlobal, W: Write>(
     }
 }
 
-/// Prints what keeps a text from being read, where its table says it. Fails with the error of reading
-/// it, which is this one, where the text is no table or nothing is found in it.
+/// Prints what keeps a text from being read, where its table says it. Fails with the error of
+/// reading it, which is this one, where the text is no table or nothing is found in it.
 fn report_refused<W: Write>(
     alloc: Global,
     options: &ArgMatches<'_>,

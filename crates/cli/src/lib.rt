@@ -42,9 +42,10 @@ use std::rt::Files;
 use std::time::Clock;
 
 /// Runs the command that `words`, the arguments without the program's own name, ask for. Its output
-/// goes to `out`, which is then flushed, and an error goes to `err`, as one message, as do the lines
-/// of `merge` and the line of counts of `check`, if there are findings. For each other command, if it
-/// returns success, nothing was written to `err`; if something was, the status is that of an error.
+/// goes to `out`, which is then flushed, and an error goes to `err`, as one message, as do the
+/// lines of `merge` and, if there are findings, the line of counts of `check`. For each command but
+/// `merge`, if it returns success, nothing was written to `err`. For each other one, if something
+/// was, the status is that of an error.
 pub fn run<R: Files + Input + Env + Clock + AllocGlobal, S: AsStr, W: Write, E: Write>(
     rt: &R,
     words: &[S],
@@ -60,8 +61,8 @@ pub fn run<R: Files + Input + Env + Clock + AllocGlobal, S: AsStr, W: Write, E: 
     run_for(rt, words, out, err, Reader::Program)
 }
 
-/// The same for this reader of `err`: a person is told by `check` how much was looked at, also where
-/// nothing is found.
+/// The same for this reader of `err`: a person is told by `check` how much was looked at, also
+/// where nothing is found.
 pub fn run_for<R: Files + Input + Env + Clock + AllocGlobal, S: AsStr, W: Write, E: Write>(
     rt: &R,
     words: &[S],
@@ -79,8 +80,8 @@ pub fn run_for<R: Files + Input + Env + Clock + AllocGlobal, S: AsStr, W: Write,
 }
 
 /// Returns the status of a finished command, and prints the lines of `merge` and the counts of
-/// `check`. If the command failed, prints the message of the error, and returns the status of an error
-/// of the command.
+/// `check`. If the command failed, prints the message of the error, and returns the status of an
+/// error of the command.
 fn status_of<S: AsStr, E: Write>(
     err: &mut E,
     words: &[S],

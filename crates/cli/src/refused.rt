@@ -15,9 +15,9 @@ use std::alloc::{AllocError, Global};
 use std::io::Write;
 use toml::Table;
 
-/// Prints what keeps the table of a text from being read as a lockfile, if there is such a thing, and
-/// returns the line of counts. Otherwise nothing is written. Fails if `out` fails, and, before anything
-/// is written, when out of memory.
+/// Prints what keeps the table of a text from being read as a lockfile, if there is such a thing,
+/// and returns the line of counts. Otherwise nothing is written. Fails if `out` fails, and, before
+/// anything is written, when out of memory.
 pub(crate) fn report_table<W: Write>(
     alloc: Global,
     options: &ArgMatches<'_>,
@@ -44,8 +44,8 @@ fn table_of(alloc: Global, text: &str) -> Result<Option<Table>, AllocError>
     }
 }
 
-/// Prints what keeps a table from being read, as `report_table` does: the values that do not read, and
-/// if there are none, the references that resolve to nothing.
+/// Prints what keeps a table from being read, as `report_table` does: the values that do not read,
+/// and if there are none, the references that resolve to nothing.
 fn report_members<W: Write>(
     alloc: Global,
     options: &ArgMatches<'_>,

@@ -7,13 +7,13 @@ ghost use Rattle.cargo_lock_table_flaws.specs.Marks as marks;
 ghost use Rattle.cargo_lock_encoding.specs.Means.{TextMeans};
 ghost use Rattle.cli_input.specs.Json.{document_path, named_file_of};
 ghost use Rattle.cli_input.specs.Load.{IsGraphOf, IsGraphRead, IsMeantWithCargoChecksums};
-ghost use Rattle.cli_input.specs.Load.{IsOfLockfile, IsOfLockfileUnnamed, IsRefusal};
+ghost use Rattle.cli_input.specs.Load.{IsOfLockfile, IsOfLockfileUnnamed, IsReadingFault};
 ghost use Rattle.cli_support.specs.Input.{given_path_in};
 
 use cargo_lock::dependency::graph::Graph;
 use cargo_lock::{Error, Lockfile, ResolveVersion};
 use cargo_lock_display::File;
-use cargo_lock_table_flaws::conflict_line;
+use cargo_lock_table_flaws::conflict_mark_line;
 use clap::ArgMatches;
 use cli_support::{Fault, words};
 use std::alloc::Global;
@@ -147,7 +147,7 @@ pub fn named_lockfile_of(
 ) -> Result<Lockfile, Fault>
     ensures ok { IfOk result (TextMeans text.now) }
     ensures err { IfErr result (λ fault. (error : declared.Error)
-        × IsRefusal (given_path_in (found_of options.now) name.now) text.now error fault) }
+        × IsReadingFault (given_path_in (found_of options.now) name.now) text.now error fault) }
 {
     let read = Lockfile::from_str(alloc, text);
     match read {
@@ -157,8 +157,8 @@ pub fn named_lockfile_of(
 }
 
 /// The error for a text that was read for the option `name` and is not a lockfile, where `error` is
-/// that of the library: that it has marks of a conflict, if it is no TOML and has some, and otherwise
-/// `error` with the path first. Out of memory has no path.
+/// that of the library: that it has marks of a conflict, if it is no TOML and has some, and
+/// otherwise `error` with the path first. Out of memory has no path.
 pub fn refusal(
     alloc: Global,
     options: &ArgMatches<'_>,
@@ -166,9 +166,9 @@ pub fn refusal(
     text: &str,
     error: Error,
 ) -> Fault
-    ensures { IsRefusal (given_path_in (found_of options.now) name.now) text.now error result }
+    ensures { IsReadingFault (given_path_in (found_of options.now) name.now) text.now error result }
 {
-    match conflict_line(alloc, text) {
+    match conflict_mark_line(alloc, text) {
         Ok(Some(line)) => marked(alloc, options, name, line),
         Ok(None) => unmarked(alloc, options, name, error),
         Err(refused) => Fault::from(refused),
@@ -177,8 +177,8 @@ pub fn refusal(
 
 /// The error for a text whose first mark of a conflict is in this line, or out of memory.
 fn marked(alloc: Global, options: &ArgMatches<'_>, name: &str, line: usize) -> Fault
-    ensures { (text : List ℕ) (error : declared.Error) → marks.conflict_line text ≡ Some line
-        → IsRefusal (given_path_in (found_of options.now) name.now) text error result }
+    ensures { (text : List ℕ) (error : declared.Error) → marks.conflict_mark_line text ≡ Some line
+        → IsReadingFault (given_path_in (found_of options.now) name.now) text error result }
 {
     match words::input_shown(alloc, options, name) {
         Ok(path) => Fault::ConflictMarks(path, line),
@@ -188,8 +188,8 @@ fn marked(alloc: Global, options: &ArgMatches<'_>, name: &str, line: usize) -> F
 
 /// The error for a text without marks of a conflict, or out of memory.
 fn unmarked(alloc: Global, options: &ArgMatches<'_>, name: &str, error: Error) -> Fault
-    ensures { (text : List ℕ) → marks.conflict_line text ≡ None
-        → IsRefusal (given_path_in (found_of options.now) name.now) text error result }
+    ensures { (text : List ℕ) → marks.conflict_mark_line text ≡ None
+        → IsReadingFault (given_path_in (found_of options.now) name.now) text error result }
 {
     match words::input_shown(alloc, options, name) {
         Ok(path) => Fault::Library(error).in_file(path).with_file_first(),

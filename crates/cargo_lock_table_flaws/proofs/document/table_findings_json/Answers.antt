@@ -1,6 +1,6 @@
-use Rattle.std.proofs.Common.{◌≡◌, ◌∙◌, List, ap, arith, map, sym}
+use Rattle.std.proofs.Common.{◌≡◌, ◌∙◌, ap, arith, map, sym}
 use Rattle.std.proofs.lemmas.Simd.{map-map}
-use Rattle.cargo_lock_table_flaws.specs.Finding.{TableFindingData, table_finding_of}
+use Rattle.cargo_lock_table_flaws.specs.Finding.{table_finding_of}
 use Rattle.cargo_lock_table_flaws.specs.Document.{table_finding_json, table_findings_json}
 use Rattle.cargo_lock_table_flaws.specs.Report.{TableReportData}
 use Rattle.cargo_lock_table_flaws.proofs.DocumentDepth.{table-finding-depth}
