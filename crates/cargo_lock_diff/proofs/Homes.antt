@@ -1,15 +1,16 @@
 -- Homes are compared by the packages that stand for them.
-use Rattle.std.proofs.Common.{◌≡◌, ℕ, ◌+◌, ◌<◌, ◌≤◌, true, false, cond, List, [], ◌∷◌, ◌++◌, ◌⊎◌, inl, inr, Option, Some, None, take, length, get_or, refl, ap, sym, ◌∙◌, subst, arith, IsSorted}
+use Rattle.std.proofs.Common.{◌≡◌, ℕ, ◌+◌, ◌-◌, ◌<◌, ◌≤◌, Bool, true, false, cond, List, [], ◌∷◌, ◌++◌, ◌⊎◌, inl, inr, Option, Some, None, take, length, get_or, refl, ap, sym, ◌∙◌, subst, arith, IsSorted}
 use Rattle.std.specs.Prelude.{◌||◌, MatchOption}
 use Rattle.std.specs.Borrow.{Bor}
 use Rattle.std.specs.Cmp.{IsTotalOrder, nat_cmp_total, on_total, then_total}
 use Rattle.std.specs.Cmp.Lexicographic.{nat_list_cmp_total}
 use Rattle.std.specs.List.{AllZip, Contains, list_any}
+use Rattle.std.specs.List.Sorted.{IsSortedWithin}
 use Rattle.std.specs.Option.{option_cmp}
 use Rattle.std.specs.Ordering.{eq_by_cmp, is_eq, is_gt, ordering_reverse, ordering_then}
 use Rattle.std.specs.declared.cmp.Ordering.{Ordering}
 use Rattle.std.specs.declared.cmp.Ordering.TheVariants.{Less, Equal, Greater}
-use Rattle.std.proofs.lemmas.Bool.{cases_order}
+use Rattle.std.proofs.lemmas.Bool.{cases_eq, cases_order}
 use Rattle.std.proofs.lemmas.Cmp.{tied_back, tied_itself}
 use Rattle.std.proofs.lemmas.List.{get_or_default, map-append}
 use Rattle.std.proofs.lemmas.List.Elements.{AllZip-push}
@@ -17,8 +18,10 @@ use Rattle.std.proofs.lemmas.List.Folds.{list_any_none}
 use Rattle.cargo_lock_parts.specs.Identity.{PackageData}
 use Rattle.cargo_lock_parts.specs.IdentityLaws.{by_name_version_source-total, version_total}
 use Rattle.cargo_lock_parts.specs.IdentityOrder.{version_cmp}
-use Rattle.cargo_lock_parts.specs.Source.{Source}
+use Rattle.url.specs.Parts.{Parts}
+use Rattle.cargo_lock_parts.specs.Source.{DefaultBranch, Git, Source}
 use Rattle.cargo_lock_parts.specs.SourceKey.{git_reference_text, text_cmp}
+use Rattle.cargo_lock_parts.specs.SourceReading.{plain_source}
 use Rattle.cargo_lock_order.specs.Canonical.{canonical}
 use Rattle.cargo_lock_order.specs.Order.{by_kind_and_url, kind_order, kind_place, package_order}
 use Rattle.cargo_lock_diff.specs.declared.likeness.Likeness.TheVariants.{Name}
@@ -78,6 +81,14 @@ stand-ties p q a b (Some s) (Some t) x y =
     ∙ (λ i. is_eq (ordering_then (ordering_then Equal (tied_itself version_total version_of_sources i)) (option_cmp (by_kind_and_url canonical) a.source b.source)))
     ∙ ap is_eq (bare-order s t a.source b.source x.2 y.2)
 
+-- packages from repositories that differ in nothing but their URLs are in the order of these
+pub url-order : (a b : PackageData) (u w : Parts) → a.name ≡ [] → b.name ≡ [] → a.version ≡ version_of_sources → b.version ≡ version_of_sources
+    → a.source ≡ Some (plain_source (Git DefaultBranch) None u) → b.source ≡ Some (plain_source (Git DefaultBranch) None w)
+    → package_order a b ≡ text_cmp (canonical u) (canonical w)
+url-order a b u w name name' version version' source source' =
+    (λ i. ordering_then (ordering_then (text_cmp (name i) (name' i)) (version_cmp (version i) (version' i))) (option_cmp (by_kind_and_url canonical) (source i) (source' i)))
+    ∙ (λ i. ordering_then (ordering_then Equal (tied_itself version_total version_of_sources i)) (text_cmp (canonical u) (canonical w)))
+
 -- some of what stands for packages ties with what stands for p where one of them has p's home
 pub known-by : (p home : PackageData) → StandsFor p home → (olds homes : List PackageData) → AllZip StandsFor olds homes
     → list_any (eq_by_cmp package_order home) homes ≡ list_any (have_one_home p) olds
@@ -96,6 +107,20 @@ one-more-stands items i x all all' home lt at zip stands is =
     (sym (ap referred_packages (one-more items i x lt at) ∙ map-append (λ (b : Bor PackageData). b.now) (take i items) (x ∷ [])))
     (subst (λ zs. AllZip StandsFor (referred_packages (take i items) ++ x.now ∷ []) zs) (sym is)
     (AllZip-push StandsFor (referred_packages (take i items)) all x.now home zip stands))
+
+-- ---- a list that is in order
+
+-- one more element that is not before the one before it
+pub sorted-more : {X : Type 0} (lt : X → X → Bool) (xs : List X) (i : ℕ) (x y : X) → 0 < i → i < length xs → x ≡ get_or xs i x → y ≡ get_or xs (i - 1) y
+    → lt x y ≡ false → IsSortedWithin lt xs 0 i → IsSortedWithin lt xs 0 (i + 1)
+sorted-more lt xs i x y some within at before step up k d low high = elim (cases_eq (k + 1) i) [
+  | inl same ↦
+      let here : get_or xs (k + 1) d ≡ x = ap (λ j. get_or xs j d) same ∙ get_or_default xs i d x within ∙ sym at in
+      let back : k ≡ i - 1 = omega (arith, same) in
+      let prior : get_or xs k d ≡ y = ap (λ j. get_or xs j d) back ∙ get_or_default xs (i - 1) d y (omega (arith, some, within)) ∙ sym before in
+      (λ j. lt (here j) (prior j)) ∙ step
+  | inr other ↦ up k d low (omega (arith, high, other))
+]
 
 -- ---- a search in a sorted list
 
@@ -157,4 +182,4 @@ pub named : (p : PackageData) (olds : List PackageData) (r : Option (Bor Package
     → MatchOption r (list_any (is_alike Name p) olds ≡ false)
     (λ o. (list_any (is_alike Name p) olds ≡ true) × IsNamesake olds (o.now, p))
 named p olds None none = none
-named p olds (Some o) found = (any-there (is_alike Name p) olds o.now found.0 found.1, found.0, found.1)
+named p olds (Some o) found = (any-there (is_alike Name p) olds o.now found.0 found.1, found)

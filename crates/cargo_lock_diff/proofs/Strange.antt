@@ -26,53 +26,11 @@ abbrev pub Elsewhere : List Accepted → List PackageData → PackageData → Op
 Elsewhere accepted olds p r = MatchOption r (is_stranger accepted olds p ≡ false)
     (λ o. (is_stranger accepted olds p ≡ true) × IsNamesake olds (o.now, p))
 
--- without a package of its name
-pub no-namesake : (accepted : List Accepted) (olds : List PackageData) (p : PackageData) → list_any (is_alike Name p) olds ≡ false
-    → is_stranger accepted olds p ≡ false
-no-namesake accepted olds p none = ap (λ b. b && not (is_known accepted olds p)) none
-
--- with one, which is returned unless p's home is known
-pub with-namesake : (accepted : List Accepted) (olds : List PackageData) (p : PackageData) (o : Bor PackageData) (r : Option (Bor PackageData))
-    → list_any (is_alike Name p) olds ≡ true → IsNamesake olds (o.now, p)
-    → MatchOption r (is_known accepted olds p ≡ true) (λ one. (is_known accepted olds p ≡ false) × (one.now ≡ o.now))
-    → Elsewhere accepted olds p r
-with-namesake accepted olds p o None some named known = λ i. some i && not (known i)
-with-namesake accepted olds p o (Some one) some named r = (
-  (λ i. some i && not (r.0 i)),
-  subst (λ (q : PackageData). IsNamesake olds (q, p)) (sym r.1) named,
-)
-
--- a pair at two places is strange where its new package was found to come from elsewhere
-pub strange-if : (accepted : List Accepted) (olds : List PackageData) (old new : PackageData) (r : Option (Bor PackageData)) (is : Bool)
-    → have_one_place old new ≡ false → Elsewhere accepted olds new r → is ≡ is_some r
-    → is ≡ is_strange_pair accepted olds (old, new)
-strange-if accepted olds old new None is apart found e = e ∙ sym (λ i. not (apart i) && found i)
-strange-if accepted olds old new (Some o) is apart found e = e ∙ sym (λ i. not (apart i) && found.0 i)
-
 -- ---- one more
-
-one-more-pairs : (items : List (Bor PackageData × Bor PackageData)) (i : ℕ) (x : Bor PackageData × Bor PackageData) → i < length items → x ≡ get_or items i x
-    → referred_pairs (take (i + 1) items) ≡ referred_pairs (take i items) ++ (x.0.now, x.1.now) ∷ []
-one-more-pairs items i x lt at = ap referred_pairs (one-more items i x lt at) ∙ map-append (λ (q : Bor PackageData × Bor PackageData). (q.0.now, q.1.now)) (take i items) (x ∷ [])
 
 one-pushed : (all all' : List (Bor PackageData × Bor PackageData)) (x : Bor PackageData × Bor PackageData) → all' ≡ all ++ x ∷ []
     → referred_pairs all' ≡ referred_pairs all ++ (x.0.now, x.1.now) ∷ []
 one-pushed all all' x is = ap referred_pairs is ∙ map-append (λ (q : Bor PackageData × Bor PackageData). (q.0.now, q.1.now)) all (x ∷ [])
-
--- one more pair passes, and is pushed
-pub part-hit : (q : PackageData × PackageData → Bool) (items all all' : List (Bor PackageData × Bor PackageData)) (i : ℕ) (x : Bor PackageData × Bor PackageData)
-    → i < length items → x ≡ get_or items i x → referred_pairs all ≡ filter q (referred_pairs (take i items)) → all' ≡ all ++ x ∷ []
-    → q (x.0.now, x.1.now) ≡ true → referred_pairs all' ≡ filter q (referred_pairs (take (i + 1) items))
-part-hit q items all all' i x lt at so is hit =
-    one-pushed all all' x is ∙ ap (λ zs. zs ++ (x.0.now, x.1.now) ∷ []) so
-    ∙ sym (ap (filter q) (one-more-pairs items i x lt at) ∙ filter-hit q (referred_pairs (take i items)) (x.0.now, x.1.now) hit)
-
--- one more pair does not
-pub part-miss : (q : PackageData × PackageData → Bool) (items all : List (Bor PackageData × Bor PackageData)) (i : ℕ) (x : Bor PackageData × Bor PackageData)
-    → i < length items → x ≡ get_or items i x → referred_pairs all ≡ filter q (referred_pairs (take i items))
-    → q (x.0.now, x.1.now) ≡ false → referred_pairs all ≡ filter q (referred_pairs (take (i + 1) items))
-part-miss q items all i x lt at so miss =
-    so ∙ sym (ap (filter q) (one-more-pairs items i x lt at) ∙ filter-miss q (referred_pairs (take i items)) (x.0.now, x.1.now) miss)
 
 abbrev pub AreCame : (PackageData → Bool) → List PackageData → List (Bor PackageData) → ℕ → List (Bor PackageData × Bor PackageData) → Type 0
 AreCame q olds items i all = All (IsNamesake olds) (referred_pairs all)
@@ -82,23 +40,28 @@ one-more-packages : (items : List (Bor PackageData)) (i : ℕ) (x : Bor PackageD
     → referred_packages (take (i + 1) items) ≡ referred_packages (take i items) ++ x.now ∷ []
 one-more-packages items i x lt at = ap referred_packages (one-more items i x lt at) ∙ map-append (λ (b : Bor PackageData). b.now) (take i items) (x ∷ [])
 
-pub came-hit : (q : PackageData → Bool) (olds : List PackageData) (items : List (Bor PackageData)) (all all' : List (Bor PackageData × Bor PackageData)) (i : ℕ) (x o : Bor PackageData)
-    → i < length items → x ≡ get_or items i x → AreCame q olds items i all → all' ≡ all ++ (o, x) ∷ []
-    → q x.now ≡ true → IsNamesake olds (o.now, x.now) → AreCame q olds items (i + 1) all'
-came-hit q olds items all all' i x o lt at so is hit named =
-    let pushed = one-pushed all all' (o, x) is in (
-      subst (λ zs. All (IsNamesake olds) zs) (sym pushed) (All-push (IsNamesake olds) (referred_pairs all) (o.now, x.now) so.0 named),
+-- one more package comes from elsewhere, and is pushed
+pub came-hit : (accepted : List Accepted) (olds : List PackageData) (items : List (Bor PackageData)) (all all' : List (Bor PackageData × Bor PackageData)) (i : ℕ) (x o : Bor PackageData) (r : Option (Bor PackageData))
+    → i < length items → x ≡ get_or items i x → AreCame (is_stranger accepted olds) olds items i all → all' ≡ all ++ (o, x) ∷ []
+    → r ≡ Some o → Elsewhere accepted olds x.now r → AreCame (is_stranger accepted olds) olds items (i + 1) all'
+came-hit accepted olds items all all' i x o r lt at so is some h =
+    let pushed = one-pushed all all' (o, x) is in
+    let found : Elsewhere accepted olds x.now (Some o) = subst (Elsewhere accepted olds x.now) some h in (
+      subst (λ zs. All (IsNamesake olds) zs) (sym pushed) (All-push (IsNamesake olds) (referred_pairs all) (o.now, x.now) so.0 found.1),
       ap seconds pushed ∙ map-append (λ (p : PackageData × PackageData). p.1) (referred_pairs all) ((o.now, x.now) ∷ [])
           ∙ ap (λ zs. zs ++ x.now ∷ []) so.1
-          ∙ sym (ap (filter q) (one-more-packages items i x lt at) ∙ filter-hit q (referred_packages (take i items)) x.now hit),
+          ∙ sym (ap (filter (is_stranger accepted olds)) (one-more-packages items i x lt at) ∙ filter-hit (is_stranger accepted olds) (referred_packages (take i items)) x.now found.0),
     )
 
-pub came-miss : (q : PackageData → Bool) (olds : List PackageData) (items : List (Bor PackageData)) (all : List (Bor PackageData × Bor PackageData)) (i : ℕ) (x : Bor PackageData)
-    → i < length items → x ≡ get_or items i x → AreCame q olds items i all → q x.now ≡ false → AreCame q olds items (i + 1) all
-came-miss q olds items all i x lt at so miss = (
-  so.0,
-  so.1 ∙ sym (ap (filter q) (one-more-packages items i x lt at) ∙ filter-miss q (referred_packages (take i items)) x.now miss),
-)
+-- one more package does not
+pub came-miss : (accepted : List Accepted) (olds : List PackageData) (items : List (Bor PackageData)) (all : List (Bor PackageData × Bor PackageData)) (i : ℕ) (x : Bor PackageData) (r : Option (Bor PackageData))
+    → i < length items → x ≡ get_or items i x → AreCame (is_stranger accepted olds) olds items i all → r ≡ None → Elsewhere accepted olds x.now r
+    → AreCame (is_stranger accepted olds) olds items (i + 1) all
+came-miss accepted olds items all i x r lt at so none h =
+    let miss : is_stranger accepted olds x.now ≡ false = subst (Elsewhere accepted olds x.now) none h in (
+      so.0,
+      so.1 ∙ sym (ap (filter (is_stranger accepted olds)) (one-more-packages items i x lt at) ∙ filter-miss (is_stranger accepted olds) (referred_packages (take i items)) x.now miss),
+    )
 
 -- ---- for the same old packages
 

@@ -1,3 +1,4 @@
+use Rattle.std.proofs.Common.{sym}
 use Rattle.cargo_lock_diff.specs.Difference.{referred_packages}
 use Rattle.cargo_lock_diff.proofs.Homes.{named}
 use Rattle.cargo_lock_diff.proofs.home.Residents.namesake.Goals as goal
