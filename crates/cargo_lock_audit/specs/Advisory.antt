@@ -38,15 +38,15 @@ comes_from_crates_io None = false
 comes_from_crates_io (Some s) = is_canonically_crates_io s
 
 -- Cargo takes the source for one of these
-abbrev pub is_one_of : List Source → Source → Bool
-is_one_of sources s = list_any (is_canonically_same s) sources
+abbrev pub is_of_registry_among : List Source → Source → Bool
+is_of_registry_among sources s = list_any (is_canonically_same s) sources
 
 -- packages of the source count as those of crates.io: Cargo takes it for crates.io or for one of
 -- these registries, however it is spelt
 abbrev pub counts_as_crates_io : List Source → Option Source → Bool
 counts_as_crates_io registries None = false
 counts_as_crates_io registries (Some s) =
-    is_canonically_crates_io s || is_one_of registries s
+    is_canonically_crates_io s || is_of_registry_among registries s
 
 -- the source is crates.io for Cargo, or none is named
 abbrev pub is_of_source : Option Source → Bool

@@ -6,14 +6,14 @@ use Rattle.cargo_lock_references.specs.Optional.{◌>>=◌}
 use Rattle.cargo_lock_audit.specs.declared.details_reading.Told.{Told}
 use Rattle.cargo_lock_audit.specs.Details.{AffectedData, DetailsData, FunctionData}
 use Rattle.cargo_lock_audit.specs.Values.{members_in, optional_by, optional_text, required_text}
-use Rattle.cargo_lock_audit.specs.Values.{texts_at_key, texts_in}
+use Rattle.cargo_lock_audit.specs.Values.{texts_at_key, text_list_in}
 
 -- ---- what is affected
 
 -- the function at a path, with its versions
 abbrev pub function_in : List ℕ → Data → Option FunctionData
 function_in path d =
-    option_map (λ versions. record { path = path; versions = versions }) (texts_in d)
+    option_map (λ versions. record { path = path; versions = versions }) (text_list_in d)
 
 -- the functions of a table, in the order of their paths
 abbrev pub functions_at : Members → Option (List FunctionData)
@@ -47,8 +47,8 @@ pub record ToldData : Type 0 where
   pub cvss : Option (List ℕ)
 
 -- the data of what was read
-abbrev pub told_of : Told → ToldData
-told_of t = record {
+abbrev pub details_told : Told → ToldData
+details_told t = record {
   date = t.date.now;
   url = option_copied t.url;
   cvss = option_copied t.cvss;

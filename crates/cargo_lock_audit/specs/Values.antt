@@ -42,10 +42,10 @@ read_all read no_items = Some []
 read_all read (item d ds) = read d >>= λ x. option_map (λ xs. x ∷ xs) (read_all read ds)
 
 -- the texts of a list
-abbrev pub texts_in : Data → Option (List (List ℕ))
-texts_in d = items_in d >>= read_all text_in
+abbrev pub text_list_in : Data → Option (List (List ℕ))
+text_list_in d = items_in d >>= read_all text_in
 
 -- texts, none if they are absent
 abbrev pub texts_at_key : Option Data → Option (List (List ℕ))
 texts_at_key None = Some []
-texts_at_key (Some d) = texts_in d
+texts_at_key (Some d) = text_list_in d

@@ -5,7 +5,7 @@ ghost use Rattle.std.specs.List.{list_any};
 ghost use Rattle.semver.specs.Identifiers.{parts_of};
 ghost use Rattle.cargo_lock_audit.specs.Advisory.{affects, affects_package, concerns};
 ghost use Rattle.cargo_lock_audit.specs.Advisory.{counts_as_crates_io, is_about_crates, is_name_of};
-ghost use Rattle.cargo_lock_audit.specs.Advisory.{is_of_collection, is_one_of};
+ghost use Rattle.cargo_lock_audit.specs.Advisory.{is_of_collection, is_of_registry_among};
 ghost use Rattle.cargo_lock_audit.specs.Requirement.{lies_in};
 
 use crate::details::Details;
@@ -163,12 +163,16 @@ pub(crate) fn counts_as_crates_io(
     if is_canonically_crates_io(alloc, source)? {
         return Ok(true);
     }
-    is_one_of(alloc, registries, source)
+    is_of_registry_among(alloc, registries, source)
 }
 
 // Whether Cargo takes the source for one of these.
-fn is_one_of(alloc: Global, sources: &[SourceId], source: &SourceId) -> Result<bool, AllocError>
-    ensures { IfOk result (λ is_so. is_so ≡ is_one_of sources.now source.now) }
+fn is_of_registry_among(
+    alloc: Global,
+    sources: &[SourceId],
+    source: &SourceId,
+) -> Result<bool, AllocError>
+    ensures { IfOk result (λ is_so. is_so ≡ is_of_registry_among sources.now source.now) }
 {
     for other in sources {
         if is_canonically_same(alloc, source, other)? {

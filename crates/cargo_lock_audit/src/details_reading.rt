@@ -6,12 +6,12 @@ ghost use Rattle.toml.specs.View.{table_view, view};
 ghost use Rattle.cargo_lock_parts.specs.Error.{Reads};
 ghost use Rattle.cargo_lock_audit.specs.DetailsReading.{affected_at, affected_in, details_at};
 ghost use Rattle.cargo_lock_audit.specs.DetailsReading.{function_in, functions_at, functions_in};
-ghost use Rattle.cargo_lock_audit.specs.DetailsReading.{joined_details, lists_at, told_at, told_of};
+ghost use Rattle.cargo_lock_audit.specs.DetailsReading.{joined_details, lists_at, told_at, details_told};
 ghost use Rattle.cargo_lock_audit.specs.Values.{optional_by};
 
 use crate::details::{Affected, Details, Function};
 use crate::values::{
-    copied, members_in, optional_text, required_text, texts_at_key, texts_in, value_at,
+    copied, members_in, optional_text, required_text, text_list_in, texts_at_key, value_at,
 };
 use cargo_lock_parts::error::Result;
 use std::alloc::{AllocError, Global};
@@ -40,7 +40,7 @@ struct Told<'a> {
 
 #[tactic(auto, unfolding(crate::specs::DetailsReading::told_at))]
 fn told_at<'a>(alloc: Global, table: &'a Table) -> Result<Told<'a>>
-    ensures { Reads told_of result (told_at (table_view table.now)) }
+    ensures { Reads details_told result (told_at (table_view table.now)) }
 {
     let date = required_text(alloc, table, "date")?;
     let url = optional_text(alloc, table, "url")?;
@@ -90,7 +90,7 @@ fn details_of(
     lists: Lists,
     affected: Option<Affected>,
 ) -> std::result::Result<Details, AllocError>
-    ensures { IfOk result (λ d. d ≡ joined_details (told_of told.now) lists affected) }
+    ensures { IfOk result (λ d. d ≡ joined_details (details_told told.now) lists affected) }
 {
     let Lists {
         references,
@@ -172,7 +172,7 @@ fn functions_at(alloc: Global, table: &Table) -> Result<Vec<Function>>
 fn function_in(alloc: Global, path: &str, versions: &Value) -> Result<Function>
     ensures { Reads (λ f. f) result (function_in path.now (view versions.now)) }
 {
-    let versions = texts_in(alloc, versions, "functions")?;
+    let versions = text_list_in(alloc, versions, "functions")?;
     let path = String::from_str(alloc, path)?;
     Ok(Function { path, versions })
 }

@@ -8,7 +8,7 @@ ghost use Rattle.cargo_lock_parts.specs.Error.{IsParseOrMemory, Reads};
 ghost use Rattle.cargo_lock_audit.specs.Texts.{bytes_of_texts};
 ghost use Rattle.cargo_lock_audit.specs.Values.{items_in, members_in, optional_text, read_all};
 ghost use Rattle.cargo_lock_audit.specs.Values.{required_members, required_text, text_in};
-ghost use Rattle.cargo_lock_audit.specs.Values.{texts_at_key, texts_in};
+ghost use Rattle.cargo_lock_audit.specs.Values.{texts_at_key, text_list_in};
 
 use cargo_lock_parts::error::{Error, Result};
 use std::alloc::{AllocError, Global};
@@ -108,14 +108,14 @@ pub(crate) fn texts_at_key(alloc: Global, table: &Table, key: &str) -> Result<Ve
         (texts_at_key (get_member key.now (table_view table.now))) }
 {
     match value_at(table, key) {
-        Some(value) => texts_in(alloc, value, key),
+        Some(value) => text_list_in(alloc, value, key),
         None => Ok(Vec::new(alloc)),
     }
 }
 
 /// The texts of a list.
-pub(crate) fn texts_in(alloc: Global, value: &Value, key: &str) -> Result<Vec<String>>
-    ensures { Reads (λ v. bytes_of_texts v.items) result (texts_in (view value.now)) }
+pub(crate) fn text_list_in(alloc: Global, value: &Value, key: &str) -> Result<Vec<String>>
+    ensures { Reads (λ v. bytes_of_texts v.items) result (text_list_in (view value.now)) }
 {
     let list = list_in(alloc, value, key)?;
     texts_of(alloc, list, key)

@@ -6,7 +6,7 @@ use Rattle.std.proofs.lemmas.Option.{same_Some}
 use Rattle.cargo_lock_parts.specs.Identity.{PackageData, identity_of}
 use Rattle.cargo_lock_references.specs.WrittenReference.{has_name_and_version}
 use Rattle.cargo_lock_verify.specs.Archives.{ArchiveData, ArchiveFindingData, ArchiveFindingsAreExact, ArchiveSubjectData, CacheData, Changed, IsArchiveFinding, IsArchiveFindingOf, IsChanged, IsChangedBy, IsExpected, IsMissing, IsOfNamesake, IsOfRegistryUnchecked, IsVerified, Missing, NoChecksum, NoneIfVerified}
-use Rattle.cargo_lock_verify.specs.Archives.{archive_findings, found_by_checksum, found_if, found_in, found_of_unchecked, found_unless, is_archive_of, is_changed, is_of_checksum, is_digest, is_expected, is_in_its_place}
+use Rattle.cargo_lock_verify.specs.Archives.{archive_findings, found_by_checksum, found_if, found_in, found_of_unchecked, found_unless, is_archive_of, is_changed, has_digest_if, is_digest, is_expected, is_in_its_place}
 use Rattle.cargo_lock_verify.specs.Class.{is_of_registry}
 use Rattle.lists.proofs.Members.{first-in as first, in-joined as in-flat, in-kept, in-map, joined-in, kept-in, map-in, none-in as no-element}
 use Rattle.lists.proofs.Members.{none-left as no-elements}
@@ -35,29 +35,29 @@ has-one s c is none = true≢false (ap is_some (sym is ∙ none))
 
 -- ---- which archives are known, and which are changed
 
-is-checksum : (o : Option (List ℕ)) (a : ArchiveData) → is_of_checksum o a ≡ true → o ≡ Some a.digest
+is-checksum : (o : Option (List ℕ)) (a : ArchiveData) → has_digest_if o a ≡ true → o ≡ Some a.digest
 is-checksum None a e = absurd (true≢false (sym e))
 is-checksum (Some c) a e = ap Some (sym ((bytes_eq-Decides a.digest c).0 e))
 
-checksum-is : (o : Option (List ℕ)) (a : ArchiveData) → o ≡ Some a.digest → is_of_checksum o a ≡ true
-checksum-is o a is = subst (λ x. is_of_checksum x a ≡ true) (sym is) ((bytes_eq-Decides a.digest a.digest).1 refl)
+checksum-is : (o : Option (List ℕ)) (a : ArchiveData) → o ≡ Some a.digest → has_digest_if o a ≡ true
+checksum-is o a is = subst (λ x. has_digest_if x a ≡ true) (sym is) ((bytes_eq-Decides a.digest a.digest).1 refl)
 
 pub is-known : (cache : CacheData) (p : PackageData) (a : ArchiveData) → is_expected cache p a ≡ true → IsExpected cache p a
-is-known cache p a e = by (or-cases (is_of_checksum p.checksum a) (list_any (λ s. is_archive_of p a s.content) cache.subjects) e)
+is-known cache p a e = by (or-cases (has_digest_if p.checksum a) (list_any (λ s. is_archive_of p a s.content) cache.subjects) e)
   where
-    by : (is_of_checksum p.checksum a ≡ true) ⊎ (list_any (λ s. is_archive_of p a s.content) cache.subjects ≡ true) → IsExpected cache p a
+    by : (has_digest_if p.checksum a ≡ true) ⊎ (list_any (λ s. is_archive_of p a s.content) cache.subjects ≡ true) → IsExpected cache p a
     by (inl own) = inl (is-checksum p.checksum a own)
     by (inr other) = let (s, there, passes) = any-one (λ (t : ArchiveSubjectData). is_archive_of p a t.content) cache.subjects other in
-        let parts = and-parts (has_name_and_version p.name p.version (identity_of s.content)) (is_of_checksum s.content.checksum a) passes in
+        let parts = and-parts (has_name_and_version p.name p.version (identity_of s.content)) (has_digest_if s.content.checksum a) passes in
         inr (s, there, parts.0, is-checksum s.content.checksum a parts.1)
 
 pub known-is : (cache : CacheData) (p : PackageData) (a : ArchiveData) → IsExpected cache p a → is_expected cache p a ≡ true
 known-is cache p a (inl own) = ap (λ (b : Bool). b || list_any (λ s. is_archive_of p a s.content) cache.subjects) (checksum-is p.checksum a own)
-known-is cache p a (inr other) = by (is_of_checksum p.checksum a)
+known-is cache p a (inr other) = by (has_digest_if p.checksum a)
   where
     found : list_any (λ s. is_archive_of p a s.content) cache.subjects ≡ true
     found = let (s, there, named, is) = other in any-is (λ (t : ArchiveSubjectData). is_archive_of p a t.content) cache.subjects s there
-        (and-both (has_name_and_version p.name p.version (identity_of s.content)) (is_of_checksum s.content.checksum a) named (checksum-is s.content.checksum a is))
+        (and-both (has_name_and_version p.name p.version (identity_of s.content)) (has_digest_if s.content.checksum a) named (checksum-is s.content.checksum a is))
 
     by : (b : Bool) → (b || list_any (λ s. is_archive_of p a s.content) cache.subjects) ≡ true
     by true = refl

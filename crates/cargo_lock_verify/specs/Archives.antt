@@ -81,19 +81,19 @@ abbrev pub is_digest : List ℕ → ArchiveData → Bool
 is_digest digest a = bytes_eq a.digest digest
 
 -- the archive has the digest, if there is one
-abbrev pub is_of_checksum : Option (List ℕ) → ArchiveData → Bool
-is_of_checksum None a = false
-is_of_checksum (Some checksum) a = is_digest checksum a
+abbrev pub has_digest_if : Option (List ℕ) → ArchiveData → Bool
+has_digest_if None a = false
+has_digest_if (Some checksum) a = is_digest checksum a
 
 -- the second package has the name and the version of the first, and the archive its checksum
 abbrev pub is_archive_of : PackageData → ArchiveData → PackageData → Bool
 is_archive_of p a q =
-    has_name_and_version p.name p.version (identity_of q) && is_of_checksum q.checksum a
+    has_name_and_version p.name p.version (identity_of q) && has_digest_if q.checksum a
 
 -- the archive has the checksum of the package, or of another one with its name and its version
 abbrev pub is_expected : CacheData → PackageData → ArchiveData → Bool
 is_expected cache p a =
-    is_of_checksum p.checksum a || list_any (λ s. is_archive_of p a s.content) cache.subjects
+    has_digest_if p.checksum a || list_any (λ s. is_archive_of p a s.content) cache.subjects
 
 -- the archive lies where Cargo has those of the package: in the folder of archives itself, or in an
 -- index folder of the host of the package's registry or of a mirror

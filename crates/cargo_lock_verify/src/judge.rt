@@ -112,14 +112,14 @@ impl<'p, 'a> Judge<'p, 'a> {
             ≡ spec.is_expected self.now.cache self.now.content (archive_of archive.now) }
     {
         let package = self.package;
-        is_of_checksum(&package.checksum, archive)
+        has_digest_if(&package.checksum, archive)
             || is_of_namesake(self.cache.subjects, package, archive)
     }
 }
 
 // Whether the archive has this checksum.
-fn is_of_checksum(checksum: &Option<Checksum>, archive: &Archive) -> bool
-    ensures { result ≡ spec.is_of_checksum (option_map digest_of checksum.now) (archive_of archive.now) }
+fn has_digest_if(checksum: &Option<Checksum>, archive: &Archive) -> bool
+    ensures { result ≡ spec.has_digest_if (option_map digest_of checksum.now) (archive_of archive.now) }
 {
     match checksum {
         Some(checksum) => archive.digest == *checksum,
@@ -152,5 +152,5 @@ fn is_archive_of(package: &Package, archive: &Archive, other: &Package) -> bool
 {
     other.name.as_str() == package.name.as_str()
         && same_version(&other.version, &package.version)
-        && is_of_checksum(&other.checksum, archive)
+        && has_digest_if(&other.checksum, archive)
 }

@@ -49,15 +49,15 @@ IsOlder (Some path) (Some l) = IsMeant l
 IsOlder path older = ⊥
 
 -- the packages of a lockfile, if there is one
-abbrev pub packages_of : Option LockfileData → Option (List PackageData)
-packages_of = option_map (λ l. l.packages)
+abbrev pub packages_before : Option LockfileData → Option (List PackageData)
+packages_before = option_map (λ l. l.packages)
 
 -- the same of packages, since an older lockfile if the arguments name one
 abbrev pub PrintsAuditSince : Found → SettingsData → FileData → List PackageData
     → Option (List ℕ) → Option (List ℕ) → Type 0 → Type 0 → Type 0
 PrintsAuditSince found settings file packages old new failure success =
     (older : Option LockfileData) × IsOlder (first_value found (codes "since")) older
-    × PrintsAuditOf found settings file (record { packages = packages; older = packages_of older })
+    × PrintsAuditOf found settings file (record { packages = packages; older = packages_before older })
     old new failure success
 
 -- the same of the packages of a lockfile that some text means, by the settings of the arguments

@@ -9,7 +9,7 @@ ghost use Rattle.cargo_lock_audit.specs.Report.{report_data_of};
 ghost use Rattle.cargo_lock_audit.specs.Settings.{settings_of};
 ghost use Rattle.cli_folder_commands.specs.Audit.{IsOlder, IsSomeDatabase, PrintsAudit};
 ghost use Rattle.cli_folder_commands.specs.Audit.{PrintsAuditOf, PrintsAuditReport};
-ghost use Rattle.cli_folder_commands.specs.Audit.{PrintsAuditSince, packages_of};
+ghost use Rattle.cli_folder_commands.specs.Audit.{PrintsAuditSince, packages_before};
 
 use crate::folders::folder;
 use crate::settings::settings_of;
@@ -156,7 +156,7 @@ fn print_audit<R: Files + Input + AllocGlobal, W: Write>(
     let older = older_lockfile(rt, options)?;
     let audited = Audited {
         packages: lockfile.packages.as_slice(),
-        older: packages_of(&older),
+        older: packages_before(&older),
     };
     print_audited(rt, options, settings, file, &audited, out)
 }
@@ -176,8 +176,8 @@ fn older_lockfile<R: Files + Input + AllocGlobal>(
 }
 
 /// The packages of a lockfile, if there is one.
-fn packages_of(lockfile: &Option<Lockfile>) -> Option<&[Package]>
-    ensures { option_copied result ≡ packages_of lockfile.now }
+fn packages_before(lockfile: &Option<Lockfile>) -> Option<&[Package]>
+    ensures { option_copied result ≡ packages_before lockfile.now }
 {
     match lockfile {
         Some(lockfile) => Some(lockfile.packages.as_slice()),
