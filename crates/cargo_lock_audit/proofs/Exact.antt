@@ -11,11 +11,11 @@ use Rattle.semver.specs.Parse.{Parts}
 use Rattle.cargo_lock_parts.specs.Identity.{PackageData}
 use Rattle.cargo_lock_parts.specs.Source.{Source}
 use Rattle.cargo_lock_audit.specs.Advisory.{AdvisoryData, ConcernIsExact, Concerns, IsNameOf, LiesIn, affects, affects_package, comes_from_crates_io, concerns, counts_as_crates_io, is_about_crates, is_name_of, is_of_collection, is_of_source}
-use Rattle.cargo_lock_audit.specs.Audited.{AuditedData, alone, since}
+use Rattle.cargo_lock_audit.specs.Audited.{AuditedData, since}
 use Rattle.cargo_lock_audit.specs.Texts.{is_listed}
 use Rattle.cargo_lock_audit.specs.Findings.{AdvisoryFindingData, AdvisoryFindingsAreExact, IgnoringLeavesOut, IsIgnored, NoneIfUnconcerned, NoneWithoutCratesIo, WarningsDenyAll}
 use Rattle.cargo_lock_audit.specs.Findings.{AllBroughtSinceNone, BroughtIsExact, IsBrought, NoneBroughtSinceItself, SameFoundSince}
-use Rattle.cargo_lock_audit.specs.Findings.{advisory_findings, brought_of, counts_still, finding_if, findings_of, is_brought, is_denied_kind, is_ignored, is_not_ignored, judged, pair_found, warnings}
+use Rattle.cargo_lock_audit.specs.Findings.{advisory_findings, brought_of, counts_still, finding_if, findings_of, is_denied_kind, is_ignored, is_not_ignored, judged, pair_found, warnings}
 use Rattle.cargo_lock_audit.specs.Pairs.{PairData, advisory_pairs_of, pair_if, pairs}
 use Rattle.cargo_lock_audit.specs.Requirement.{RequirementData, lies_in, meets}
 use Rattle.cargo_lock_audit.specs.Settings.{SettingsData}
