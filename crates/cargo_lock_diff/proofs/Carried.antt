@@ -32,7 +32,7 @@ or-false true b h = cc h
 or-false false b h = (refl, h)
 
 -- none fails where each passes, and the other way round
-none-fails : {X : Type 0} (q : X → Bool) (xs : List X) → ((x : X) → Contains xs x → q x ≡ true) → list_any (λ x. not (q x)) xs ≡ false
+pub none-fails : {X : Type 0} (q : X → Bool) (xs : List X) → ((x : X) → Contains xs x → q x ≡ true) → list_any (λ x. not (q x)) xs ≡ false
 none-fails q [] all = refl
 none-fails q (x ∷ xs) all =
     let rest = none-fails q xs (λ y c. all y (suc c.0, omega (arith, c.1), c.2)) in

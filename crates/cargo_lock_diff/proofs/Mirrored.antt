@@ -40,7 +40,10 @@ use Rattle.lists.proofs.Tests.{and-left, and-right}
 
 count-all : {X : Type 0} (xs : List X) → count_by (λ (x : X). true) xs ≡ length xs
 count-all [] = refl
-count-all (x ∷ xs) = count-cons (λ y. true) x xs ∙ ap (λ n. 1 + n) (count-all xs)
+count-all (x ∷ xs) =
+    let one = count-cons (λ y. true) x xs in
+    let rest = count-all xs in
+    omega (arith, one, rest)
 
 -- as many are left
 length-same : (xs ys : List PackageData) → ((p : PackageData) → count_of_package p xs ≡ count_of_package p ys) → length xs ≡ length ys
@@ -137,15 +140,21 @@ count-two a b t same (x ∷ xs) =
 -- what passes a second test among what passes a first
 count-filter : {X : Type 0} (p q : X → Bool) (xs : List X) → count_by q (filter p xs) ≡ count_by (λ x. p x && q x) xs
 count-filter p q [] = refl
-count-filter {X} p q (x ∷ xs) = go (p x) refl
+count-filter {X} p q (x ∷ xs) = go (count-filter p q xs) (p x) refl
   where
-    go : (b : Bool) → p x ≡ b → count_by q (cond (p x) (x ∷ filter p xs) (filter p xs)) ≡ count_by (λ y. p y && q y) (x ∷ xs)
-    go true hit =
-        ap (λ b. count_by q (cond b (x ∷ filter p xs) (filter p xs))) hit ∙ count-cons q x (filter p xs)
-        ∙ (λ i. cond (sym hit i && q x) 1 0 + count-filter p q xs i) ∙ sym (count-cons (λ y. p y && q y) x xs)
-    go false miss =
-        ap (λ b. count_by q (cond b (x ∷ filter p xs) (filter p xs))) miss ∙ count-filter p q xs
-        ∙ (λ i. cond (sym miss i && q x) 1 0 + count_by (λ y. p y && q y) xs) ∙ sym (count-cons (λ y. p y && q y) x xs)
+    go : count_by q (filter p xs) ≡ count_by (λ y. p y && q y) xs → (b : Bool) → p x ≡ b
+        → count_by q (cond (p x) (x ∷ filter p xs) (filter p xs)) ≡ count_by (λ y. p y && q y) (x ∷ xs)
+    go rest true hit =
+        let start = ap {B = ℕ} (λ b. count_by q (cond b (x ∷ filter p xs) (filter p xs))) hit in
+        let head = count-cons q x (filter p xs) in
+        let both = count-cons (λ y. p y && q y) x xs in
+        let same = ap {B = ℕ} (λ b. cond (b && q x) 1 0) hit in
+        omega (arith, start, head, rest, both, same)
+    go rest false miss =
+        let start = ap {B = ℕ} (λ b. count_by q (cond b (x ∷ filter p xs) (filter p xs))) miss in
+        let both = count-cons (λ y. p y && q y) x xs in
+        let none = ap {B = ℕ} (λ b. cond (b && q x) 1 0) miss in
+        omega (arith, start, rest, both, none)
 
 changes-count : (one : Aspect) (pairs : List (PackageData × PackageData)) → length (changes_in one pairs) ≡ count_by (differs_in one) pairs
 changes-count one pairs = length-map (filter (differs_in one) pairs) (change_in one) ∙ length-filter (differs_in one) pairs
@@ -170,7 +179,7 @@ rehash-once true pl None None = refl
 rehash-once true pl None (Some y) = refl
 rehash-once true true (Some x) None = refl
 rehash-once true false (Some x) None = refl
-rehash-once true pl (Some x) (Some y) = refl
+rehash-once true pl (Some x) (Some y) = omega arith
 
 -- an alarm is of an altered pair or stands beside
 alarm-once : (a s : Bool) → cond a 1 0 + cond (s && not a) 1 0 ≡ cond (a || s) 1 0

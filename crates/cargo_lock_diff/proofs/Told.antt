@@ -156,16 +156,17 @@ no-pairs olds (p ∷ ps) removed added names apart calm same =
 -- where none passes, all do not
 all-others : {X : Type 0} (q : X → Bool) (xs : List X) → filter q xs ≡ [] → filter (λ x. not (q x)) xs ≡ xs
 all-others q [] e = refl
-all-others {X} q (x ∷ xs) e = go (q x) refl
+all-others {X} q (x ∷ xs) e = go (λ rest. all-others q xs rest) (q x) refl
   where
-    go : (b : Bool) → q x ≡ b → cond (not (q x)) (x ∷ filter (λ y. not (q y)) xs) (filter (λ y. not (q y)) xs) ≡ x ∷ xs
-    go true hit =
+    go : (filter q xs ≡ [] → filter (λ y. not (q y)) xs ≡ xs) → (b : Bool) → q x ≡ b
+        → cond (not (q x)) (x ∷ filter (λ y. not (q y)) xs) (filter (λ y. not (q y)) xs) ≡ x ∷ xs
+    go others true hit =
         let bad : x ∷ filter q xs ≡ [] = sym (ap (λ b. cond b (x ∷ filter q xs) (filter q xs)) hit) ∙ e in
         cc bad
-    go false miss =
+    go others false miss =
         let rest : filter q xs ≡ [] = sym (ap (λ b. cond b (x ∷ filter q xs) (filter q xs)) miss) ∙ e in
         (λ i. cond (not (miss i)) (x ∷ filter (λ y. not (q y)) xs) (filter (λ y. not (q y)) xs))
-        ∙ ap (λ zs. x ∷ zs) (all-others q xs rest)
+        ∙ ap (λ zs. x ∷ zs) (others rest)
 
 no_change-empty : (accepted : List Accepted) (olds news : List PackageData) (d : DifferenceData) → IsDifferenceBut accepted olds news d → changes_of d ≡ [] → HasNoChanges d
 no_change-empty accepted olds news d h e =

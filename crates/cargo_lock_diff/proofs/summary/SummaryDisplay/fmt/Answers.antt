@@ -13,4 +13,5 @@ returns-clause-writes g c =
       c.then-removed.ensures,
       c.then-downgraded.ensures,
       c.first-updated.ensures,
+      c.saturating_sub-new_checksums.ensures,
     ) at c.write.ensures.writes
