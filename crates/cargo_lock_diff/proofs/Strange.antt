@@ -1,6 +1,6 @@
 -- Which packages come from a new source among more pairs and packages, and for the same old packages.
 use Rattle.std.proofs.Common.{◌≡◌, ℕ, ◌+◌, ◌<◌, Bool, true, false, not, List, [], ◌∷◌, ◌++◌, Option, Some, None, take, length, get_or, ap, sym, ◌∙◌, subst, IsPermutation, All}
-use Rattle.std.specs.Prelude.{◌&&◌, ◌||◌, MatchOption, is_some}
+use Rattle.std.specs.Prelude.{◌&&◌, ◌||◌, MatchOption}
 use Rattle.std.specs.Borrow.{Bor}
 use Rattle.std.specs.List.{filter, list_any}
 use Rattle.std.proofs.lemmas.List.{map-append}
@@ -15,7 +15,7 @@ use Rattle.cargo_lock_diff.specs.Home.{have_one_home}
 use Rattle.cargo_lock_diff.specs.Likeness.{is_alike}
 use Rattle.cargo_lock_diff.specs.Matching.{seconds}
 use Rattle.cargo_lock_diff.specs.Same.{have_one_place}
-use Rattle.cargo_lock_diff.specs.Stranger.{AreStrangers, IsNamesake, is_known, is_strange_pair, is_stranger}
+use Rattle.cargo_lock_diff.specs.Stranger.{AreStrangers, IsNamesake, is_strange_pair, is_stranger}
 use Rattle.cargo_lock_diff.proofs.Leads.{filter-same}
 use Rattle.cargo_lock_diff.proofs.Merging.{one-more}
 use Rattle.cargo_lock_diff.proofs.Vouched.{filter-hit, filter-miss}

@@ -1,6 +1,6 @@
 -- Packages that stand for the homes of others, so that homes compare as Cargo compares packages. No
 -- public contract cites these definitions.
-use Rattle.std.specs.Prelude.{◌≡◌, true, false, ℕ, List, [], Option, Some, None}
+use Rattle.std.specs.Prelude.{◌≡◌, true, false, List, [], Option, Some, None}
 use Rattle.std.specs.Prelude.{IsSorted}
 use Rattle.std.specs.Borrow.{Bor}
 use Rattle.std.specs.List.{list_any}

@@ -1,4 +1,4 @@
-use Rattle.std.proofs.Common.{arith, ap, sym, ◌∙◌}
+use Rattle.std.proofs.Common.{arith, sym, ◌∙◌}
 use Rattle.cargo_lock_diff.proofs.Homes.{before-more, behind-more, hit, missed, order_total}
 use Rattle.cargo_lock_diff.proofs.home.is_among.Goals as goal
 
