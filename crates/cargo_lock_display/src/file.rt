@@ -1,6 +1,7 @@
 //! The lockfiles that a document describes.
 
-ghost use Rattle.std.specs.Prelude.{◌∷◌, ◌≤◌, [], IfOk, codes, decimal, map, string_bytes};
+ghost use Rattle.std.specs.Prelude.{◌≡◌, ◌∷◌, ◌≤◌, [], IfOk, codes, decimal, map, string_bytes};
+ghost use Rattle.json.specs.Print.{print};
 ghost use Rattle.json.specs.Token.{key, number};
 ghost use Rattle.json.specs.Tree.{depth, json_tokens};
 ghost use Rattle.printing.specs.Json.{Adds, IsJsonText};
@@ -74,8 +75,9 @@ fn put_format(out: &mut JsonWriter, file: &File<'_>) -> Result<(), AllocError>
 }
 
 /// The document about one lockfile whose last member is a list, in one line:
-/// `{"schema":SCHEMA,"path":"Cargo.lock","format":4,NAME:[..]}`. A reader of JSON follows 127 levels,
-/// of which the document has two. Fails when out of memory.
+/// `{"schema":SCHEMA,"path":"Cargo.lock","format":4,NAME:[..]}`. It reads as the document, unless an item
+/// nests more than 125 levels deep: a reader of JSON follows 127, of which the document has two. Fails
+/// when out of memory.
 ///
 /// ```
 /// let text = list_document(rt.alloc(), "cargo-lock-check/1", &file, "findings", findings)?;
@@ -87,9 +89,11 @@ pub fn list_document<T: ToJson>(
     name: &str,
     items: &[T],
 ) -> Result<String, AllocError>
-    requires { (item : T) → depth (T.json item) ≤ 125 }
-    ensures { IfOk result (λ text. IsJsonText (spec.list_document schema.now «file».now name.now
-        (map T.json items.now)) (string_bytes text)) }
+    ensures text { IfOk result (λ text. string_bytes text ≡ print (json_tokens
+        (spec.list_document schema.now «file».now name.now (map T.json items.now)))) }
+    ensures reads { IfOk result (λ text. ((item : T) → depth (T.json item) ≤ 125)
+        → IsJsonText (spec.list_document schema.now «file».now name.now (map T.json items.now))
+        (string_bytes text)) }
 {
     let document = ListDocument {
         schema,

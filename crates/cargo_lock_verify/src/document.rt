@@ -44,7 +44,8 @@ impl Compared {
 }
 
 // The document of what is found of the packages of a lockfile, with how many are in each class, in one
-// line. A reader of JSON follows 127 levels, of which the document has two. Fails when out of memory.
+// line. It reads as the document, unless a finding nests more than 125 levels deep: a reader of JSON
+// follows 127, of which the document has two. Fails when out of memory.
 pub(crate) fn compared_document<T: ToJson>(
     alloc: Global,
     file: &File<'_>,
@@ -52,8 +53,7 @@ pub(crate) fn compared_document<T: ToJson>(
     counts: Counts,
     findings: &[T],
 ) -> Result<String, AllocError>
-    requires { (finding : T) → depth (T.json finding) ≤ 125 }
-    ensures { IfOk result (λ text. IsJsonText
+    ensures { IfOk result (λ text. ((finding : T) → depth (T.json finding) ≤ 125) → IsJsonText
         (compared_json compared file.now counts (map T.json findings.now)) (string_bytes text)) }
 {
     let document = Comparison {

@@ -141,16 +141,24 @@ json_text j ts text shallow are is reads decimals =
       one_line = rw printed (printed_in_one_line (json_tokens j) (low j numbers));
     }
 
--- the text of a document in one line that has the tokens of a value
+-- a document in one line that has the tokens of a value
+line_of : {E : Type 0} {u : Unit {0}} (j : Json) (a d : Draft) → a ≡ empty Line → Adds {E = E} (Ok u) a d (json_tokens j)
+    → d ≡ extended (empty Line) (json_tokens j)
+line_of j a d first added = added.is ∙ ap (λ w. extended w (json_tokens j)) first
+
+-- its text
+pub printed_in_line : {E : Type 0} {u : Unit {0}} (j : Json) (a d : Draft) (text : List ℕ) → a ≡ empty Line
+    → Adds {E = E} (Ok u) a d (json_tokens j) → text ≡ laid_out d.layout d.tokens → text ≡ print (json_tokens j)
+printed_in_line j a d text first added laid = laid ∙ ap (λ (w : Draft). laid_out w.layout w.tokens) (line_of j a d first added)
+
+-- the same, read
 pub written_in_line : {E : Type 0} {u : Unit {0}} (j : Json) (a d : Draft) (text : List ℕ)
     → depth j ≤ 127 → a ≡ empty Line → Adds {E = E} (Ok u) a d (json_tokens j)
     → text ≡ laid_out d.layout d.tokens → tokens text ≡ d.tokens → All HasDecimal d.tokens
     → IsJsonText j text
 written_in_line j a d text shallow first added laid reads decimals =
-    let is : d ≡ extended (empty Line) (json_tokens j) =
-    added.is ∙ ap (λ w. extended w (json_tokens j)) first in
-    let printed : text ≡ print (json_tokens j) =
-    laid ∙ ap (λ (w : Draft). laid_out w.layout w.tokens) is in
+    let is : d ≡ extended (empty Line) (json_tokens j) = line_of j a d first added in
+    let printed : text ≡ print (json_tokens j) = printed_in_line j a d text first added laid in
     json_text j (json_tokens j) text shallow refl printed
     (ap tokens (sym printed) ∙ reads ∙ ap (λ (w : Draft). w.tokens) is)
     (subst (λ (w : Draft). All HasDecimal w.tokens) is decimals)

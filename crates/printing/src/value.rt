@@ -1,7 +1,8 @@
 //! Values that are written as JSON.
 
-ghost use Rattle.std.specs.Prelude.{◌∷◌, ◌≤◌, IfOk, map, option_map, string_bytes};
+ghost use Rattle.std.specs.Prelude.{◌≡◌, ◌∷◌, ◌≤◌, IfOk, map, option_map, string_bytes};
 ghost use Rattle.json.specs.Json.{array};
+ghost use Rattle.json.specs.Print.{print};
 ghost use Rattle.json.specs.Token.{key};
 ghost use Rattle.json.specs.Tree.{depth, json_tokens};
 ghost use Rattle.printing.specs.Json.{Adds, IsJsonText, items_of};
@@ -23,10 +24,13 @@ pub trait ToJson {
         ensures { Adds result out.old out.new (json_tokens (json self.now)) };
 }
 
-/// The text of a value in one line. A reader of JSON follows 127 levels. Fails when out of memory.
+/// The text of a value in one line. It reads as the value, unless that nests more than 127 levels deep:
+/// a reader of JSON follows no more. Fails when out of memory.
 pub fn json_line<T: ToJson>(alloc: Global, value: &T) -> Result<String, AllocError>
-    requires { depth (T.json value.now) ≤ 127 }
-    ensures { IfOk result (λ text. IsJsonText (T.json value.now) (string_bytes text)) }
+    ensures text { IfOk result
+        (λ text. string_bytes text ≡ print (json_tokens (T.json value.now))) }
+    ensures reads { IfOk result (λ text. depth (T.json value.now) ≤ 127
+        → IsJsonText (T.json value.now) (string_bytes text)) }
 {
     let mut out = JsonWriter::new(alloc, Layout::Line);
     value.write_json(&mut out)?;

@@ -1,13 +1,12 @@
 use Rattle.std.proofs.Common.{arith, sym}
+use Rattle.std.proofs.lemmas.Result.{IfOk-weaker}
 use Rattle.std.proofs.lemmas.Simd.{map-map}
 use Rattle.cargo_lock_verify.specs.Archives.{archive_finding_of}
 use Rattle.cargo_lock_verify.specs.ArchivesDocument.{archive_finding_json, said_of_archive_finding}
 use Rattle.cargo_lock_verify.proofs.DocumentDepth.{found-depth}
 use Rattle.cargo_lock_verify.proofs.archives_document.archives_json.Goals as goal
 
-pub compared_document-requires : goal.compared_document-requires
-compared_document-requires c = λ finding. omega (arith, found-depth (said_of_archive_finding (archive_finding_of finding)))
-
 pub returns : goal.returns
 returns c = rw (map-map archive_finding_json archive_finding_of c.args.report.now.findings.items, sym c.deref.ensures.value)
-    c.compared_document.ensures
+    (IfOk-weaker c.compared_document.result _ _ (λ text reads. reads
+    (λ finding. omega (arith, found-depth (said_of_archive_finding (archive_finding_of finding))))) c.compared_document.ensures)
