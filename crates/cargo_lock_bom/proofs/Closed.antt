@@ -1,5 +1,5 @@
 -- No edge leads from what a bill lists to what it does not list.
-use Rattle.std.proofs.Common.{Option, Some, None, [], ◌∷◌, refl}
+use Rattle.std.proofs.Common.{Some, None, [], ◌∷◌, refl}
 use Rattle.cargo_lock_graph.specs.declared.graph.EdgeDirection.TheVariants.{Outgoing}
 use Rattle.cargo_lock_graph.specs.Edges.{far_ends}
 use Rattle.cargo_lock_bom.specs.declared.options.Listed.TheVariants.{All, Reached}

@@ -1,6 +1,6 @@
 -- How deep a bill nests: a document, a list of components, a component, its hashes, a hash.
-use Rattle.std.proofs.Common.{◌≡◌, ℕ, ◌≤◌, suc, max, Bool, true, false, IfSome, List, [], ◌∷◌, ◌++◌, map, length, slice_get, codes, Option, Some, None, option_map, arith, lit≤}
-use Rattle.std.specs.List.{AllZip, range_with_len}
+use Rattle.std.proofs.Common.{◌≡◌, ℕ, ◌≤◌, suc, max, Bool, true, false, IfSome, List, [], ◌∷◌, ◌++◌, map, slice_get, codes, Option, Some, None, option_map, arith, lit≤}
+use Rattle.std.specs.List.{AllZip}
 use Rattle.std.proofs.Math.Nat.{max-le}
 use Rattle.std.specs.Cmp.Lexicographic.{slice_cmp}
 use Rattle.std.specs.declared.cmp.Ordering.{Ordering}

@@ -1,9 +1,9 @@
 -- A bill has its members in the order of their keys.
-use Rattle.std.proofs.Common.{◌≡◌, ◌∙◌, ℕ, arith, Bool, true, false, IfSome, List, [], ◌∷◌, ◌++◌, map, length, slice_get, codes, Option, Some, None, option_map, ap, refl, sym, subst}
+use Rattle.std.proofs.Common.{◌≡◌, ◌∙◌, ℕ, arith, Bool, true, false, IfSome, List, [], ◌∷◌, ◌++◌, map, slice_get, codes, Option, Some, None, option_map, ap, refl, sym, subst}
 use Rattle.std.specs.Cmp.Lexicographic.{slice_cmp}
 use Rattle.std.specs.Ordering.{nat_cmp}
 use Rattle.std.specs.declared.cmp.Ordering.TheVariants.{Greater}
-use Rattle.std.specs.List.{AllZip, range_with_len}
+use Rattle.std.specs.List.{AllZip}
 use Rattle.serde_json.specs.Data.{Data, Members, member, no_members, string}
 use Rattle.serde_json.specs.View.{items_of}
 use Rattle.serde_json.specs.Written.{compact_text}

@@ -4,6 +4,7 @@ ghost use Rattle.std.specs.Prelude.{◌≡◌, ◌<◌, ◌↔◌, ℕ, true, If
 ghost use Rattle.std.specs.Prelude.{MatchOption, None, filter, length, not};
 ghost use Rattle.lists.specs.Places.{IsPlaces};
 ghost use Rattle.lists.specs.Marks.{IsMarked};
+ghost use Rattle.cargo_lock_bom.specs.declared.options.Listed.TheVariants.{Reached};
 ghost use Rattle.cargo_lock_bom.specs.Root.{EdgesLeadTo, IsInBill, IsRootOf, IsTop, IsWithin};
 ghost use Rattle.cargo_lock_bom.specs.Root.{LeadsToAllButOrphans, LeadsToMembers, is_member};
 ghost use Rattle.cargo_lock_bom.specs.Root.{is_root_at};
@@ -216,9 +217,25 @@ pub(crate) fn listed(
     ensures { IfOk result (λ nodes. IsPlaces (IsInBill graph.now listed given)
         (length graph.now.packages) nodes.items) }
 {
-    match (listed, given) {
-        (Listed::Reached, Some(root)) => reached_nodes(alloc, graph, root),
-        _ => all_nodes(alloc, graph),
+    match listed {
+        Listed::All => all_nodes(alloc, graph),
+        Listed::Reached => reached_or_all(alloc, graph, given),
+    }
+}
+
+// The nodes to which edges lead from a root, ascending, or each node if there is no root.
+fn reached_or_all(
+    alloc: Global,
+    graph: &Graph,
+    given: Option<NodeIndex>,
+) -> Result<Vec<usize>, AllocError>
+    requires { IfSome given (λ node. node < length graph.now.packages) }
+    ensures { IfOk result (λ nodes. IsPlaces (IsInBill graph.now Reached given)
+        (length graph.now.packages) nodes.items) }
+{
+    match given {
+        Some(root) => reached_nodes(alloc, graph, root),
+        None => all_nodes(alloc, graph),
     }
 }
 

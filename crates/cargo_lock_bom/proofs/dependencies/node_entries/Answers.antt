@@ -1,4 +1,3 @@
-use Rattle.std.proofs.Common.{ℕ, get_or, subst}
 use Rattle.cargo_lock_bom.specs.Contents.{entry_for}
 use Rattle.cargo_lock_bom.specs.Dependencies.{IsNodeEntry}
 use Rattle.cargo_lock_bom.proofs.Entries.{next-entry}

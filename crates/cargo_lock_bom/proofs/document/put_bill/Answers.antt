@@ -1,4 +1,4 @@
-use Rattle.std.proofs.Common.{◌≡◌, ◌∙◌, ◌<◌, All, List, ℕ, ap, arith, length, map, option_map, string_bytes, subst, sym}
+use Rattle.std.proofs.Common.{◌∙◌, ◌<◌, All, List, ℕ, ap, length, map, option_map, string_bytes, subst, sym}
 use Rattle.serde_json.specs.Data.{Data, array}
 use Rattle.serde_json.specs.View.{items_of}
 use Rattle.cargo_lock_bom.specs.declared.dependencies.Entry.{Entry}

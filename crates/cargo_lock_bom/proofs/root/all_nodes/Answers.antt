@@ -1,4 +1,4 @@
-use Rattle.std.proofs.Common.{ℕ, length, refl, arith}
+use Rattle.std.proofs.Common.{◌+◌, ℕ, length, refl, arith}
 use Rattle.lists.proofs.Places.{places-end, places-put}
 use Rattle.cargo_lock_bom.proofs.root.all_nodes.Goals as goal
 

@@ -1,4 +1,4 @@
-use Rattle.std.proofs.Common.{◌≡◌, ◌∙◌, true, false, length, refl, sym, arith}
+use Rattle.std.proofs.Common.{◌≡◌, ◌∙◌, ◌+◌, true, false, length, refl, sym, arith}
 use Rattle.lists.specs.Marks.{IsMarked}
 use Rattle.lists.proofs.Places.{places-end, places-pass, places-put}
 use Rattle.cargo_lock_bom.proofs.root.marked_places.Goals as goal
@@ -21,5 +21,4 @@ pub returns : goal.returns
 returns c =
     let low = c.loop-place-test.false in
     let high = c.loop-place.auto.place-end in
-    let end = c.len-place-end.ensures in
-    places-end (IsMarked c.args.marks.now) c.loop-place.place (length c.args.marks.now) c.loop-place.places.items c.loop-place.invariant (omega (arith, low, high, end))
+    places-end (IsMarked c.args.marks.now) c.loop-place.place (length c.args.marks.now) c.loop-place.places.items c.loop-place.invariant (omega (arith, low, high))

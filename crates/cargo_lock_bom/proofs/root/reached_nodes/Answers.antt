@@ -1,4 +1,4 @@
-use Rattle.std.proofs.Common.{List, Bool, ℕ, length, subst}
+use Rattle.std.proofs.Common.{List, Bool, length, subst}
 use Rattle.lists.specs.Marks.{IsMarked}
 use Rattle.lists.specs.Places.{IsPlaces}
 use Rattle.lists.proofs.Places.{places-alike, places-end}
