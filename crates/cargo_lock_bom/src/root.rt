@@ -58,10 +58,10 @@ pub fn root_of(alloc: Global, graph: &Graph, given: Option<NodeIndex>) -> Result
     ensures root { IfOk result (IsRootOf graph.now given) }
     ensures reaches { given ≡ None → IfOk result (LeadsToAllButOrphans graph.now) }
 {
-    match given {
-        Some(node) => Ok(Root::Package(node)),
-        None => own_root(alloc, graph),
+    if let Some(node) = given {
+        return Ok(Root::Package(node));
     }
+    own_root(alloc, graph)
 }
 
 // The root if no node is given.
