@@ -64,7 +64,7 @@ _cargo-lock() {
             '(-f --file)'{-f,--file}'[The lockfile, - for standard input]:PATH:_files' \
             '--any-size[Reads a lockfile of 256 MiB or more too]' \
             '(-o --output)'{-o,--output}'[The file that is written, - for standard output]:PATH:_files' \
-            '--root[The package that the bill is about; the bill lists what is reached from it]:SPEC:_cargo-lock-packages' \
+            '--root[The package that the bill is about, as for tree, of which only one may fit]:SPEC:_cargo-lock-packages' \
             '*--author[Names this author of the bill, and others that are given so]:NAME:' \
             '*--property[Adds a property to the metadata, and others that are given so]:NAME=VALUE:' \
             '--timestamp[Adds the time: of SOURCE_DATE_EPOCH, or else of the clock]' \
@@ -85,7 +85,7 @@ _cargo-lock() {
             '(-d --dependencies)'{-d,--dependencies}'[Shows other dependencies of packages too]' \
             '--exit-code[Ends with status 1 where anything differs, dependencies only with -d]' \
             '--full[Prints all digits of commits that move]' \
-            '*--moved-ok[Packages may come from this new source, or from a folder]:URL|path:(path)' \
+            '*--moved-ok[Packages may come from this new source, or from a folder: no alarm then]:URL|path:(path)' \
             '--json[Prints one line of JSON]' \
             '(- *)'{-h,--help}'[Print help]' \
             '1:OLD:_files' \
