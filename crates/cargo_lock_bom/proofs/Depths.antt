@@ -172,7 +172,7 @@ authors_low (name ∷ names) = suc_low _ 3 (items_depth-map author_of 3 (λ n. l
 
 properties_low : (properties : List (List ℕ × List ℕ)) → IfLow (properties_if properties) 4
 properties_low [] = tt
-properties_low (p ∷ ps) = suc_low _ 4 (items_depth-map property_object 3 (λ q. lit≤ tt) (p ∷ ps))
+properties_low (p ∷ ps) = suc_low _ 3 (items_depth-map property_object 3 (λ q. lit≤ tt) (p ∷ ps))
 
 metadata_low : (graph : GraphData) (root : Root) (options : OptionsData) (d : Data) → IsBillMetadata graph root options d → depth d ≤ 5
 unfolding bill_metadata

@@ -60,7 +60,8 @@ pub record AreContents (graph : GraphData) (options : OptionsData) (contents : C
 -- the metadata of a bill with these contents
 abbrev pub metadata_with : GraphData → OptionsData → Contents → Data
 metadata_with graph options contents = bill_metadata options.tool_version options.authors
-    options.properties (root_component graph options.licenses contents.root) (option_map string_bytes contents.time)
+    options.properties (root_component graph options.licenses contents.root)
+    (option_map string_bytes contents.time)
 
 -- the bill with these contents, without a serial number
 abbrev pub bill_with : GraphData → OptionsData → Contents → Data

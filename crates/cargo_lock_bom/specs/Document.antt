@@ -40,9 +40,9 @@ pub record IsAbout (graph : GraphData) (root : Root) (options : OptionsData) (d 
 
 -- The bill of a graph: the root is the component of the metadata, each other package that the
 -- options list is one of the components, in order, each listed once, each package that is listed
--- has an entry, and so does the workspace if it is the root, and each text refers to one component. A component has the licence expression
--- that the options have of its package, if they have one. If they ask for it, the bill has a serial
--- number.
+-- has an entry, and so does the workspace if it is the root, and each text refers to one component.
+-- A component has the licence that the options have of its package, if they have one. If they ask
+-- for it, the bill has a serial number.
 pub record IsBill (graph : GraphData) (options : OptionsData) (d : Data) : Type 0 where
   pub root : Root
   pub is_root : IsRootOf graph options.root root
