@@ -21,7 +21,7 @@ pub(crate) struct Contents {
     /// The texts that refer to the packages of the graph, in order.
     pub texts: Vec<String>,
 
-    /// The nodes of its components, which are those of the packages that are listed and not the root.
+    /// The nodes of its components: those of the packages that are listed and not the root.
     pub nodes: Vec<usize>,
 
     /// Its entries.

@@ -31,8 +31,8 @@ pub(crate) struct Entry {
     pub on: Vec<usize>,
 }
 
-/// The entries of some nodes of a graph, in order, and then the entry of the workspace, if it is the
-/// root. Fails when out of memory.
+/// The entries of some nodes of a graph, in order, and then the entry of the workspace, if it is
+/// the root. Fails when out of memory.
 pub(crate) fn entries(
     alloc: Global,
     graph: &Graph,

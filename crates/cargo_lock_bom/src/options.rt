@@ -16,8 +16,8 @@ pub enum Listed {
     /// Each package.
     All,
 
-    /// The package of the root that the caller gives, and those to which edges lead from it. Without
-    /// such a root it is each package.
+    /// The package of the root that the caller gives, and those to which edges lead from it.
+    /// Without such a root it is each package.
     Reached,
 }
 
@@ -68,9 +68,9 @@ pub struct Options<'a> {
     /// Whether the bill has a serial number.
     pub has_serial: bool,
 
-    /// The licences of packages, each at the place of its package, with `None` for a package without
-    /// one. An empty list means that no package has one, and what is beyond the packages is ignored.
-    /// The bill has the texts as they are given.
+    /// The licences of packages, each at the place of its package, with `None` for a package
+    /// without one. An empty list means that no package has one, and what is beyond the packages is
+    /// ignored. The bill has the texts as they are given.
     pub licenses: &'a [Option<License>],
 }
 
