@@ -143,7 +143,8 @@ fn count_versions(alloc: Global, rows: &[Row<'_>]) -> Result<usize, AllocError>
 {
     let mut versions = Vec::with_capacity(alloc, rows.len())?;
     for row in rows {
-        versions.push(&row.package.version)?;
+        let package = row.package;
+        versions.push(&package.version)?;
     }
     let different: BTreeSet<&Version> = BTreeSet::from_iter(alloc, versions)?;
     Ok(different.len())
