@@ -1,6 +1,6 @@
 //! The manifests of packages in a folder.
 
-ghost use Rattle.std.specs.Prelude.{◌≡◌, IfOk, map};
+ghost use Rattle.std.specs.Prelude.{◌≡◌, IfOk, if◌then◌else◌, map};
 ghost use Rattle.std.specs.List.{flat_map, list_any};
 ghost use Rattle.cargo_lock_licenses.specs.Subjects.{manifest_of};
 ghost use Rattle.cli_folders.specs.Manifests.{counts, found_of, is_sought, is_without};
@@ -261,7 +261,8 @@ fn manifests_by(
 fn is_sought(found: &[Found], sought: &Sought<'_>) -> bool
     ensures { result ≡ is_sought (sought_of sought.now) (map found_of found.now) }
 {
-    sought.package.source.is_some() && !is_one_without(found, sought)
+    let package = sought.package;
+    package.source.is_some() && !is_one_without(found, sought)
 }
 
 // Whether something that counts has no manifest that does.
