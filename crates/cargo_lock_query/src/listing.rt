@@ -2,6 +2,10 @@
 
 ghost use Rattle.std.specs.Prelude.{◌≡◌, ◌++◌, ◌∷◌, [], IfOk, OnOk, map, option_map, string_bytes};
 ghost use Rattle.std.specs.List.{filter_map};
+ghost use Rattle.std.specs.Ordering.{eq_by_cmp};
+ghost use Rattle.std.specs.Set.{distinct_count};
+ghost use Rattle.semver.specs.Identifiers.{parts_of};
+ghost use Rattle.cargo_lock_parts.specs.IdentityOrder.{version_cmp};
 ghost use Rattle.cargo_lock_query.specs.Listing.{IsWidest, count_versions, row_for, row_of};
 ghost use Rattle.cargo_lock_query.specs.Listing.{version_text};
 ghost use Rattle.cargo_lock_query.specs.Listing as spec;
@@ -136,8 +140,7 @@ fn widest(rows: &[Row<'_>]) -> usize
     width
 }
 
-// How many different versions there are. They are in a tree, so that a stranger who chooses them
-// cannot make this slow.
+// How many different versions there are.
 fn count_versions(alloc: Global, rows: &[Row<'_>]) -> Result<usize, AllocError>
     ensures { IfOk result (λ count. count ≡ count_versions (map row_of rows.now)) }
 {
@@ -146,7 +149,19 @@ fn count_versions(alloc: Global, rows: &[Row<'_>]) -> Result<usize, AllocError>
         let package = row.package;
         versions.push(&package.version)?;
     }
-    let different: BTreeSet<&Version> = BTreeSet::from_iter(alloc, versions)?;
+    count_different(alloc, &versions)
+}
+
+// How many of some versions are different. They are in a tree, so that a stranger who chooses them
+// cannot make this slow.
+fn count_different<'a>(alloc: Global, versions: &[&'a Version]) -> Result<usize, AllocError>
+    ensures { IfOk result (λ count. count ≡ distinct_count (eq_by_cmp version_cmp)
+        (map (λ version. parts_of version.now) versions.now)) }
+{
+    let mut different = BTreeSet::new(alloc);
+    for version in versions {
+        different.insert(*version)?;
+    }
     Ok(different.len())
 }
 
