@@ -154,9 +154,10 @@ fn print_audit<R: Files + Input + AllocGlobal, W: Write>(
         (status ≡ ExitCode.FAILURE) (status ≡ ExitCode.SUCCESS)) }
 {
     let older = older_lockfile(rt, options)?;
+    let before = packages_before(&older);
     let audited = Audited {
         packages: lockfile.packages.as_slice(),
-        older: packages_before(&older),
+        older: before,
     };
     print_audited(rt, options, settings, file, &audited, out)
 }
