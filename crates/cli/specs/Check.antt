@@ -5,14 +5,15 @@ use Rattle.toml.specs.Data.{Members}
 use Rattle.toml.specs.Parse.{parse_document}
 use Rattle.cargo_lock_check.specs.Finding.{LockfileFindingData, lockfile_findings_text}
 use Rattle.cargo_lock_check.specs.Findings.{AreFindings, FindingsData, told_of}
-use Rattle.cargo_lock_encoding.specs.Lockfiles.{LockfileData}
+use Rattle.cargo_lock_encoding.specs.Lockfiles.{EncodedData, LockfileData}
 use Rattle.cargo_lock_encoding.specs.Means.{TextMeans}
 use Rattle.cargo_lock_display.specs.File.{FileData}
 use Rattle.cargo_lock_check.specs.Document.{findings_json}
 use Rattle.cargo_lock_references.specs.declared.version.ResolveVersion.{ResolveVersion}
 use Rattle.cargo_lock_table_flaws.specs.Document.{table_findings_json}
 use Rattle.cargo_lock_table_flaws.specs.Finding.{table_findings_text}
-use Rattle.cargo_lock_table_flaws.specs.Report.{IsTableReport, TableReportData}
+use Rattle.cargo_lock_table_flaws.specs.Report.{IsTableReport, IsUnresolvedReport}
+use Rattle.cargo_lock_table_flaws.specs.Report.{TableReportData}
 use Rattle.cli.specs.Counts.{counts_line}
 use Rattle.cli_input.specs.Json.{PrintsAnswer, document_path, named_file_of}
 use Rattle.cli_support.specs.Input.{given_path_in}
@@ -64,6 +65,12 @@ PrintsTableReport found r counts old new = PrintsAnswer found
     (table_findings_json (file_of_format found r.format) r.findings)
     (table_findings_text r.findings) old new
     × (counts ≡ counts_line r.packages (length r.findings))
+
+-- the references of these values that resolve to nothing are printed, of which there is one
+abbrev pub PrintsUnresolved : Found → EncodedData → List ℕ → Option (List ℕ) → Option (List ℕ)
+    → Type 0
+PrintsUnresolved found e counts old new = (r : TableReportData) × IsUnresolvedReport e r
+    × PrintsTableReport found r counts old new
 
 -- what keeps the table from being read as a lockfile is printed, of which there is something
 abbrev pub PrintsTable : Found → Members → List ℕ → Option (List ℕ) → Option (List ℕ) → Type 0

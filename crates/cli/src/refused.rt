@@ -4,8 +4,10 @@ ghost use Rattle.clap.specs.Matches.{found_of};
 ghost use Rattle.toml.specs.Parse.{parse_document};
 ghost use Rattle.toml.specs.View.{table_view};
 ghost use Rattle.cli.specs.Check.{PrintsTable, PrintsTableOf, PrintsTableReport};
+ghost use Rattle.cli.specs.Check.{PrintsUnresolved};
 
 use crate::counts::counts_line;
+use cargo_lock_encoding::EncodableLockfile;
 use cargo_lock_table_flaws::{TableReport, table_values, unread_report, unresolved_report};
 use clap::ArgMatches;
 use cli_input::answer::print_answer;
@@ -73,10 +75,24 @@ fn report_references<W: Write>(
         (table_view table.now) (string_bytes counts)
         (W.contents out.old) (W.contents out.new))) }
 {
-    let Some(values) = table_values(alloc, table)? else {
-        return Ok(None);
-    };
-    match unresolved_report(alloc, &values)? {
+    match table_values(alloc, table)? {
+        Some(values) => report_unresolved(alloc, options, &values, out),
+        None => Ok(None),
+    }
+}
+
+/// Prints the references of these values that resolve to nothing, as `report_table` does.
+fn report_unresolved<W: Write>(
+    alloc: Global,
+    options: &ArgMatches<'_>,
+    values: &EncodableLockfile,
+    out: &mut W,
+) -> Result<Option<String>, Fault>
+    ensures { IfOk result (λ found. IfSome found (λ counts. PrintsUnresolved
+        (found_of options.now) values.now (string_bytes counts)
+        (W.contents out.old) (W.contents out.new))) }
+{
+    match unresolved_report(alloc, values)? {
         Some(report) => print_report(alloc, options, &report, out),
         None => Ok(None),
     }
