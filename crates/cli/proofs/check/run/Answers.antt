@@ -6,6 +6,6 @@ pub returns-in-Ok : goal.returns-in-Ok
 returns-in-Ok g c = if_ok_weaken c.report.result _ _
     (λ status told. (c.as_str-text.result.now, inl (c.in-Ok.lockfile, c.in-Ok.ensures.read, told))) c.report.ensures
 
-pub returns-in-Err : goal.returns-in-Err
-returns-in-Err g c = if_ok_weaken c.report_refused.result _ _
+pub returns : goal.returns
+returns g c = if_ok_weaken c.report_refused.result _ _
     (λ status told. (c.as_str-text.result.now, inr told)) c.report_refused.ensures
