@@ -4,8 +4,8 @@ use Rattle.std.specs.List.{sum_by}
 use Rattle.semver.specs.Parse.{Parts}
 use Rattle.cargo_lock_parts.specs.Identity.{Identity, PackageData}
 
--- the bytes of a version: those of its pre-release and of its build metadata. Its three numbers take
--- the same room in each version
+-- the bytes of a version: those of its pre-release and of its build metadata. Its three numbers
+-- take the same room in each version
 abbrev pub version_length : Parts → ℕ
 version_length v = length v.3 + length v.4
 

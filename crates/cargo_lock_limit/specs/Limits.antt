@@ -4,7 +4,7 @@ use Rattle.cargo_lock_encoding.specs.Lockfiles.{LockfileData}
 use Rattle.cargo_lock_limit.specs.Lengths.{IsBeyond}
 
 -- P holds of the lockfile, which is not beyond the limit
-pub record IsWithin (limit : ℕ) (P : LockfileData → Type 0) (l : LockfileData) : Type 0 where
+pub record HoldsWithin (limit : ℕ) (P : LockfileData → Type 0) (l : LockfileData) : Type 0 where
   pub holds : P l
   pub within : ¬ IsBeyond limit l.packages
 

@@ -1,5 +1,5 @@
-//! Reads a lockfile, unless the versions of what its packages depend on have more bytes together than a
-//! limit.
+//! Reads a lockfile, unless the versions of what its packages depend on have more bytes together
+//! than a limit.
 //!
 //! A reference by a name alone gets the version of the package that it resolves to, and each
 //! dependency holds a copy of its own. So one package with a long version and many references to it

@@ -1,14 +1,14 @@
 //! A look at a text, before it is read.
 //!
-//! Each reference stands between quotation marks, and so does each version, which has none itself. So
-//! the versions that references match have no more bytes together than half of the marks, times the
-//! longest part of the text without one. It is a look alone, on which no promise rests: `reading` asks
-//! what was read.
+//! Each reference stands between quotation marks, and so does each version, which has none itself.
+//! So the versions that references match have no more bytes together than half of the marks, times
+//! the longest part of the text without one. It is a look alone, on which no promise rests:
+//! `reading` asks what was read.
 
 ghost use Rattle.std.specs.Prelude.{◌<◌, IfSome, length};
 
-/// Whether the versions that the references of a text match may have more bytes together than a limit.
-/// Of a lockfile that Cargo wrote they may not, unless it is a very large one.
+/// Whether the versions that the references of a text match may have more bytes together than a
+/// limit. Of a lockfile that Cargo wrote they may not, unless it is a very large one.
 pub(crate) fn may_be_beyond(text: &str, limit: u32) -> bool {
     let bytes = text.as_bytes();
     match (limit as usize).checked_div(strings(bytes)) {

@@ -9,8 +9,8 @@ use cargo_lock_references::index::Indexed;
 use cargo_lock_references::{EncodableDependency, EncodablePackage};
 use std::alloc::{AllocError, Global};
 
-/// Whether the versions of the packages that the references of packages match have more bytes together
-/// than a limit. Fails when out of memory.
+/// Whether the versions of the packages that the references of packages match have more bytes
+/// together than a limit. Fails when out of memory.
 pub(crate) fn match_beyond(
     alloc: Global,
     packages: &[EncodablePackage],

@@ -5,7 +5,7 @@ ghost use Rattle.toml.specs.View.{table_view};
 ghost use Rattle.cargo_lock_parts.specs.Error.{IsLong, Refuses, RefusesUrls};
 ghost use Rattle.cargo_lock_encoding.specs.Lockfiles.{LockfileData};
 ghost use Rattle.cargo_lock_encoding.specs.Means.{IsLocked, Means, TextMeans};
-ghost use Rattle.cargo_lock_limit.specs.Limits.{AreBeyond, IsWithin};
+ghost use Rattle.cargo_lock_limit.specs.Limits.{AreBeyond, HoldsWithin};
 
 use crate::look::may_be_beyond;
 use crate::matched::match_beyond;
@@ -16,10 +16,10 @@ use cargo_lock_parts::error::{Error, Result};
 use std::alloc::Global;
 use toml::Table;
 
-/// Reads the text of a lockfile in any format, as `Lockfile::from_str` does, with the same errors. It
-/// is `None` where the versions of what the packages depend on have more bytes together than the limit;
-/// then no dependency was made. A text that means no lockfile may be `None` too, where what its
-/// references match is as much.
+/// Reads the text of a lockfile in any format, as `Lockfile::from_str` does, with the same errors.
+/// It is `None` where the versions of what the packages depend on have more bytes together than the
+/// limit; then no dependency was made. A text that means no lockfile may be `None` too, where what
+/// its references match is as much.
 ///
 /// ```
 /// let found = lockfile_within(rt.alloc(), text, 1 << 28)?;
@@ -29,7 +29,7 @@ use toml::Table;
 /// ```
 pub fn lockfile_within(alloc: Global, text: &str, limit: u32) -> Result<Option<Lockfile>>
     ensures ok { IfOk result (λ found. MatchOption found
-        (AreBeyond limit (TextMeans text.now)) (IsWithin limit (TextMeans text.now))) }
+        (AreBeyond limit (TextMeans text.now)) (HoldsWithin limit (TextMeans text.now))) }
     ensures err { IfErr result (λ error.
         RefusesUrls (IsLong text.now) error ((l : LockfileData) → ¬ TextMeans text.now l)) }
 {
@@ -42,7 +42,7 @@ pub fn lockfile_within(alloc: Global, text: &str, limit: u32) -> Result<Option<L
 // A lockfile, unless it is beyond the limit.
 fn within(lockfile: Lockfile, limit: u32) -> Option<Lockfile>
     ensures { MatchOption result
-        (AreBeyond limit (λ l. l ≡ lockfile)) (IsWithin limit (λ l. l ≡ lockfile)) }
+        (AreBeyond limit (λ l. l ≡ lockfile)) (HoldsWithin limit (λ l. l ≡ lockfile)) }
 {
     if is_beyond(lockfile.packages.as_slice(), limit) {
         return None;

@@ -9,7 +9,7 @@ use Rattle.cli_support.specs.Input.{IsInputShown}
 use Rattle.cli_support.specs.declared.fault.Fault.{Fault}
 use Rattle.cli_support.specs.declared.fault.Fault.TheVariants.{Library, TooLarge, TooLongVersions}
 use Rattle.clap.specs.declared.parser.matches.Found.{Found}
-use Rattle.cli_input.specs.Limit.{IsAtLimit, IsBeyondFault, IsRefused}
+use Rattle.cli_input.specs.Limit.{IsAtLimit, IsBeyondFault, IsBeyondLimit}
 use Rattle.cli_input.specs.Load.{IsOfLockfile, IsOfLockfileUnnamed, IsReadingFault, IsTextFault}
 
 -- the error of a lockfile is one of that lockfile with the name of its file
@@ -55,7 +55,7 @@ beyond-text argument text (Library (Resolution message)) h = absurd h
 beyond-text argument text other h = absurd h
 
 -- it comes for a text that is refused
-pub beyond-limit : (found : Found) (argument text : List ℕ) (fault : Fault) → IsRefused found text → IsBeyondFault argument fault → IsAtLimit found text fault
+pub beyond-limit : (found : Found) (argument text : List ℕ) (fault : Fault) → IsBeyondLimit found text → IsBeyondFault argument fault → IsAtLimit found text fault
 beyond-limit found argument text (TooLongVersions name) refused h = refused
 beyond-limit found argument text other refused h = tt
 

@@ -1,5 +1,5 @@
--- The limit within which a lockfile is read: the versions of what its packages depend on have at most
--- 256 MiB together.
+-- The limit within which a lockfile is read: the versions of what its packages depend on have at
+-- most 256 MiB together.
 use Rattle.std.specs.Prelude.{ℕ, ◌^◌, List, codes, string_bytes}
 use Rattle.clap.specs.declared.parser.matches.Found.{Found}
 use Rattle.cargo_lock_encoding.specs.Lockfiles.{LockfileData}
@@ -17,16 +17,16 @@ abbrev pub limit : ℕ
 limit = 2 ^ 28
 
 -- the lockfile is within the limit, unless the arguments lift it
-abbrev pub IsAllowed : Found → LockfileData → Type 0
-IsAllowed found l = IsUnasked found (codes "any-size") → ¬ IsBeyond limit l.packages
+abbrev pub IsInLimit : Found → LockfileData → Type 0
+IsInLimit found l = IsUnasked found (codes "any-size") → ¬ IsBeyond limit l.packages
 
 -- the text means the lockfile, which is allowed
-pub record IsAllowedOf (found : Found) (text : List ℕ) (l : LockfileData) : Type 0 where
+pub record IsReadInLimit (found : Found) (text : List ℕ) (l : LockfileData) : Type 0 where
   pub means : TextMeans text l
-  pub allowed : IsAllowed found l
+  pub allowed : IsInLimit found l
 
 -- the arguments do not lift the limit, and each lockfile that the text means is beyond it
-pub record IsRefused (found : Found) (text : List ℕ) : Type 0 where
+pub record IsBeyondLimit (found : Found) (text : List ℕ) : Type 0 where
   pub unlifted : ¬ IsAsked found (codes "any-size")
   pub beyond : AreBeyond limit (TextMeans text)
 
@@ -38,5 +38,5 @@ IsBeyondFault argument other = ⊥
 
 -- the error that a text is beyond the limit comes only if it is refused
 abbrev pub IsAtLimit : Found → List ℕ → Fault → Type 0
-IsAtLimit found text (TooLongVersions name) = IsRefused found text
+IsAtLimit found text (TooLongVersions name) = IsBeyondLimit found text
 IsAtLimit found text other = Unit {0}

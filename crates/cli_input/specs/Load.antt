@@ -14,8 +14,8 @@ use Rattle.cli_support.specs.declared.fault.Fault.TheVariants.{ConflictMarks, Fi
 use Rattle.cli_support.specs.declared.fault.Fault.TheVariants.{Library, TooLarge, TooLongVersions}
 use Rattle.cli_support.specs.Input.{IsInputShown}
 
--- the error for a lockfile of this argument: the file is too long, the system does not read it, it is
--- not a lockfile or beyond the limit, or memory ran out
+-- the error for a lockfile of this argument: the file is too long, the system does not read it, it
+-- is not a lockfile or beyond the limit, or memory ran out
 abbrev pub IsOfLockfileUnnamed : List ℕ → Fault → Type 0
 IsOfLockfileUnnamed argument (TooLarge name) = IsInputShown argument (string_bytes name)
 IsOfLockfileUnnamed argument (TooLongVersions name) = IsInputShown argument (string_bytes name)

@@ -8,8 +8,8 @@ ghost use Rattle.cargo_lock_encoding.specs.Lockfiles.{LockfileData};
 ghost use Rattle.cargo_lock_encoding.specs.Means.{TextMeans};
 ghost use Rattle.cargo_lock_parts.specs.Error.{IsLong, RefusesUrls};
 ghost use Rattle.cli_input.specs.Json.{document_path, named_file_of};
-ghost use Rattle.cli_input.specs.Limit.{IsAllowed, IsAllowedOf, IsAtLimit, IsBeyondFault};
-ghost use Rattle.cli_input.specs.Limit.{IsRefused};
+ghost use Rattle.cli_input.specs.Limit.{IsInLimit, IsReadInLimit, IsAtLimit, IsBeyondFault};
+ghost use Rattle.cli_input.specs.Limit.{IsBeyondLimit};
 ghost use Rattle.cli_input.specs.Load.{IsGraphOf, IsGraphRead, IsMeantWithCargoChecksums};
 ghost use Rattle.cli_input.specs.Load.{IsOfLockfile, IsOfLockfileUnnamed, IsReadingFault};
 ghost use Rattle.cli_input.specs.Load.{IsTextFault};
@@ -37,7 +37,7 @@ pub fn lockfile<R: Files + Input + AllocGlobal>(
     name: &str,
 ) -> Result<Lockfile, Fault>
     ensures ok { IfOk result IsMeant }
-    ensures allowed { IfOk result (IsAllowed (found_of options.now)) }
+    ensures allowed { IfOk result (IsInLimit (found_of options.now)) }
     ensures err { IfErr result (IsOfLockfile (given_path_in (found_of options.now) name.now)) }
 {
     match unnamed_lockfile(rt, options, name) {
@@ -53,7 +53,7 @@ fn unnamed_lockfile<R: Files + Input + AllocGlobal>(
     name: &str,
 ) -> Result<Lockfile, Fault>
     ensures ok { IfOk result IsMeant }
-    ensures allowed { IfOk result (IsAllowed (found_of options.now)) }
+    ensures allowed { IfOk result (IsInLimit (found_of options.now)) }
     ensures err { IfErr result
         (IsOfLockfileUnnamed (given_path_in (found_of options.now) name.now)) }
 {
@@ -64,15 +64,15 @@ fn unnamed_lockfile<R: Files + Input + AllocGlobal>(
     }
 }
 
-/// The lockfile of the text that was read for the option `name`. Fails without the path in the error,
-/// unless the text is beyond the limit.
+/// The lockfile of the text that was read for the option `name`. Fails without the path in the
+/// error, unless the text is beyond the limit.
 fn unnamed_lockfile_of(
     alloc: Global,
     options: &ArgMatches<'_>,
     name: &str,
     text: &str,
 ) -> Result<Lockfile, Fault>
-    ensures ok { IfOk result (IsAllowedOf (found_of options.now) text.now) }
+    ensures ok { IfOk result (IsReadInLimit (found_of options.now) text.now) }
     ensures err { IfErr result
         (IsOfLockfileUnnamed (given_path_in (found_of options.now) name.now)) }
     ensures limit { IfErr result (IsAtLimit (found_of options.now) text.now) }
@@ -84,16 +84,16 @@ fn unnamed_lockfile_of(
     }
 }
 
-/// Reads the text of a lockfile as `Lockfile::from_str` does, with the same errors. It is `None` where
-/// the versions of what its packages depend on have more than 256 MiB together, unless the arguments
-/// lift that limit.
+/// Reads the text of a lockfile as `Lockfile::from_str` does, with the same errors. It is `None`
+/// where the versions of what its packages depend on have more than 256 MiB together, unless the
+/// arguments lift that limit.
 pub fn allowed_lockfile(
     alloc: Global,
     options: &ArgMatches<'_>,
     text: &str,
 ) -> Result<Option<Lockfile>, Error>
     ensures ok { IfOk result (λ found. MatchOption found
-        (IsRefused (found_of options.now) text.now) (IsAllowedOf (found_of options.now) text.now)) }
+        (IsBeyondLimit (found_of options.now) text.now) (IsReadInLimit (found_of options.now) text.now)) }
     ensures err { IfErr result (λ error.
         RefusesUrls (IsLong text.now) error ((l : LockfileData) → ¬ TextMeans text.now l)) }
 {
@@ -122,7 +122,7 @@ pub fn named_lockfile<R: Files + Input + AllocGlobal>(
     name: &str,
 ) -> Result<Lockfile, Fault>
     ensures meant { IfOk result IsMeant }
-    ensures allowed { IfOk result (IsAllowed (found_of options.now)) }
+    ensures allowed { IfOk result (IsInLimit (found_of options.now)) }
 {
     let text = named_text(rt, options, name)?;
     match named_lockfile_of(rt.alloc(), options, name, text.as_str()) {
@@ -131,8 +131,8 @@ pub fn named_lockfile<R: Files + Input + AllocGlobal>(
     }
 }
 
-/// The lockfile whose path the argument `name` has, with the checksums that Cargo reads. Fails if it
-/// is not read, with the path in the error.
+/// The lockfile whose path the argument `name` has, with the checksums that Cargo reads. Fails if
+/// it is not read, with the path in the error.
 pub fn compared_lockfile<R: Files + Input + AllocGlobal>(
     rt: &R,
     options: &ArgMatches<'_>,
@@ -154,8 +154,8 @@ pub fn lockfile_without_packages(alloc: Global) -> Result<Lockfile, Fault>
     Ok(compared)
 }
 
-/// The format of the lockfile at the path of the option `file`, and the graph of its packages. Fails
-/// if it is not read, with the path in the error, or if no package matches a dependency.
+/// The format of the lockfile at the path of the option `file`, and the graph of its packages.
+/// Fails if it is not read, with the path in the error, or if no package matches a dependency.
 pub fn named_graph<R: Files + Input + AllocGlobal>(
     rt: &R,
     options: &ArgMatches<'_>,
@@ -188,15 +188,15 @@ pub fn named_text<R: Files + Input + AllocGlobal>(
     }
 }
 
-/// The lockfile of the text that was read for the option `name`. Fails if the text is beyond the limit,
-/// and if it is not a lockfile, as `refusal` says.
+/// The lockfile of the text that was read for the option `name`. Fails if the text is beyond the
+/// limit, and if it is not a lockfile, as `refusal` says.
 pub fn named_lockfile_of(
     alloc: Global,
     options: &ArgMatches<'_>,
     name: &str,
     text: &str,
 ) -> Result<Lockfile, Fault>
-    ensures ok { IfOk result (IsAllowedOf (found_of options.now) text.now) }
+    ensures ok { IfOk result (IsReadInLimit (found_of options.now) text.now) }
     ensures err { IfErr result
         (IsTextFault (given_path_in (found_of options.now) name.now) text.now) }
     ensures limit { IfErr result (IsAtLimit (found_of options.now) text.now) }
