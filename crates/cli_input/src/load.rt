@@ -8,8 +8,8 @@ ghost use Rattle.cargo_lock_encoding.specs.Lockfiles.{LockfileData};
 ghost use Rattle.cargo_lock_encoding.specs.Means.{TextMeans};
 ghost use Rattle.cargo_lock_parts.specs.Error.{IsLong, RefusesUrls};
 ghost use Rattle.cli_input.specs.Json.{document_path, named_file_of};
-ghost use Rattle.cli_input.specs.Limit.{IsInLimit, IsReadInLimit, IsAtLimit, IsBeyondFault};
-ghost use Rattle.cli_input.specs.Limit.{IsBeyondLimit};
+ghost use Rattle.cli_input.specs.Limit.{IsAtLimit, IsBeyondFault, IsBeyondLimit, IsInLimit};
+ghost use Rattle.cli_input.specs.Limit.{IsReadInLimit};
 ghost use Rattle.cli_input.specs.Load.{IsGraphOf, IsGraphRead, IsMeantWithCargoChecksums};
 ghost use Rattle.cli_input.specs.Load.{IsOfLockfile, IsOfLockfileUnnamed, IsReadingFault};
 ghost use Rattle.cli_input.specs.Load.{IsTextFault};
@@ -93,7 +93,8 @@ pub fn allowed_lockfile(
     text: &str,
 ) -> Result<Option<Lockfile>, Error>
     ensures ok { IfOk result (λ found. MatchOption found
-        (IsBeyondLimit (found_of options.now) text.now) (IsReadInLimit (found_of options.now) text.now)) }
+        (IsBeyondLimit (found_of options.now) text.now)
+        (IsReadInLimit (found_of options.now) text.now)) }
     ensures err { IfErr result (λ error.
         RefusesUrls (IsLong text.now) error ((l : LockfileData) → ¬ TextMeans text.now l)) }
 {
