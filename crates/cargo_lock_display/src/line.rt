@@ -2,6 +2,7 @@
 
 use cargo_lock_parts::dependency::Dependency;
 use cargo_lock_parts::package::{Package, SourceId};
+use cargo_lock_references::index::Indexed;
 use printing::Shown;
 use std::fmt;
 
@@ -48,6 +49,33 @@ impl fmt::Display for PackageText<'_> {
         let named = NameVersion(package);
         let source = SourceBehind(&package.source);
         write!(f, "{named}{source}")
+    }
+}
+
+/// Displays a package of a list as `NAME VERSION`, and its source behind it as `SourceBehind` does
+/// where another package of the list has that name and version.
+///
+/// ```
+/// let among = PackageAmong(&list, package);
+/// println!(rt; "{among}")?;
+/// ```
+#[derive(Clone, Copy)]
+pub struct PackageAmong<'a>(pub &'a Indexed<'a, Package>, pub &'a Package);
+
+impl fmt::Display for PackageAmong<'_> {
+    ghost use Rattle.std.specs.Prelude.{Some};
+    ghost use Rattle.cargo_lock_display.specs.Line.{package_among};
+
+    ghost output = { λ shown. Some (package_among shown.0.now shown.1.now) };
+
+    fn fmt<W: fmt::Write>(&self, f: &mut fmt::Formatter<W>) -> fmt::Result {
+        let PackageAmong(list, package) = *self;
+        if list.is_version_unique(&package.name, &package.version) {
+            let alone = NameVersion(package);
+            return write!(f, "{alone}");
+        }
+        let text = PackageText(package);
+        write!(f, "{text}")
     }
 }
 
