@@ -1,6 +1,6 @@
 -- A package, a dependency, a source and a checksum in a line, as commands print them.
 use Rattle.std.specs.Prelude.{ℕ, Bool, List, [], ◌++◌, codes, map, Option, Some, None, true}
-use Rattle.std.specs.Prelude.{if◌then◌else◌}
+use Rattle.std.specs.Prelude.{◌&&◌, if◌then◌else◌, is_none}
 use Rattle.semver.specs.Identifiers.{parts_text}
 use Rattle.semver.specs.Parse.{Parts}
 use Rattle.cargo_lock_parts.specs.Checksum.{digest_text}
@@ -49,6 +49,12 @@ is_alone list p = exactly_one (has_name_and_version p.name p.version) (map ident
 -- the name and the version, and the source after them where another package of the list has these
 abbrev pub package_among : List PackageData → PackageData → List ℕ
 package_among list p = if is_alone list p then named_text p else package_text p
+
+-- the source after the version of a package of a list: `(path)` for none only where another package
+-- of the list has its name and its version
+abbrev pub source_among : List PackageData → PackageData → List ℕ
+source_among list p =
+    if is_none p.source && is_alone list p then [] else source_after_version p.source
 
 -- a dependency: its name, its version and its source after them
 abbrev pub dependency_shown : Identity → List ℕ

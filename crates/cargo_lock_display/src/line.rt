@@ -105,6 +105,33 @@ impl fmt::Display for SourceBehind<'_> {
     }
 }
 
+/// Displays the source of a package of a list as `SourceBehind` does, but ` (path)` only where
+/// another package of the list has its name and version.
+///
+/// ```
+/// let source = SourceAmong(&list, package);
+/// println!(rt; "source:{source}")?;
+/// ```
+#[derive(Clone, Copy)]
+pub struct SourceAmong<'a>(pub &'a Indexed<'a, Package>, pub &'a Package);
+
+impl fmt::Display for SourceAmong<'_> {
+    ghost use Rattle.std.specs.Prelude.{Some};
+    ghost use Rattle.cargo_lock_display.specs.Line.{source_among};
+
+    ghost output = { λ shown. Some (source_among shown.0.now shown.1.now) };
+
+    fn fmt<W: fmt::Write>(&self, f: &mut fmt::Formatter<W>) -> fmt::Result {
+        let SourceAmong(list, package) = *self;
+        let source = &package.source;
+        if source.is_none() && list.is_version_unique(&package.name, &package.version) {
+            return Ok(());
+        }
+        let behind = SourceBehind(source);
+        write!(f, "{behind}")
+    }
+}
+
 /// Displays a source, `(path)` if there is none, and `crates.io` for its registry.
 #[derive(Clone, Copy)]
 pub struct SourceText<'a>(pub &'a Option<SourceId>);
