@@ -84,7 +84,14 @@ def in_two_versions(count):
     return [lockfile(package("app", "0.1.0", needs=needs), *packages)], []
 
 
-# The command, what is asked, and the packages of the smaller lockfile.
+def of_a_long_version(count):
+    """A package whose version has so many bytes, and as many references to it."""
+    app = package("app", "0.1.0", needs=["left"] * count)
+    return [lockfile(app, package("left", f"1.0.0-{'a' * count}"))], []
+
+
+# The command, what is asked, and the packages of the smaller lockfile. That of a long version has so
+# many references, and both are beyond the limit on the versions of what packages depend on.
 SHAPES = {
     "one package many times": (["check", "-f"], repeated, 200),
     "git packages of one name, `tree`": (["tree", "-f"], of_git, 200),
@@ -96,4 +103,5 @@ SHAPES = {
     "each package needs one": (["why", "--all", "-f"], of_roots, 50000),
     "each name in two versions": (["duplicates", "-f"], in_two_versions, 50000),
     "a picture of packages that need two": (["graph", "-f"], halved, 50000),
+    "references to a long version": (["check", "-f"], of_a_long_version, 20000),
 }

@@ -14,7 +14,7 @@ use cargo_lock_check::{Finding, Findings, findings_json};
 use cargo_lock_display::File;
 use clap::{ArgMatches, Command};
 use cli_input::answer::{Answer, print_answer};
-use cli_input::load::{file, named_text, refusal};
+use cli_input::load::{allowed_lockfile, beyond_limit, file, named_text, refusal};
 use cli_support::{Fault, words};
 use std::alloc::{AllocError, Global};
 use std::fmt;
@@ -85,8 +85,9 @@ pub(crate) fn run<R: Files + Input + AllocGlobal, W: Write>(
 {
     let file = named_text(rt, options, "file")?;
     let text = file.as_str();
-    match Lockfile::from_str(rt.alloc(), text) {
-        Ok(lockfile) => report(rt.alloc(), options, text, &lockfile, out),
+    match allowed_lockfile(rt.alloc(), options, text) {
+        Ok(Some(lockfile)) => report(rt.alloc(), options, text, &lockfile, out),
+        Ok(None) => Err(beyond_limit(rt.alloc(), options, "file")),
         Err(error) => report_refused(rt.alloc(), options, text, error, out),
     }
 }

@@ -1,6 +1,7 @@
 //! How a command ends.
 
 ghost use Rattle.std.specs.Prelude.{◌≡◌, ◌↔◌, IsTrue};
+ghost use Rattle.cli.specs.Ending.{status_in};
 ghost use Rattle.cli.specs.declared.ending.Reader.TheVariants.{Person};
 
 use std::process::ExitCode;
@@ -19,6 +20,15 @@ pub(crate) enum Ended {
 
     /// Without findings, and with a line that counts what was looked at, for a person.
     FoundNothing(String),
+}
+
+impl Ended {
+    // How a command ends that returns nothing: with success, and without lines.
+    pub(crate) fn success(_: ()) -> Ended
+        ensures { status_in result ≡ ExitCode.SUCCESS }
+    {
+        Ended::Silent(ExitCode::SUCCESS)
+    }
 }
 
 /// Who reads standard error.

@@ -254,39 +254,18 @@ fn follow<R: Files + Input + Env + Clock + AllocGlobal, W: Write>(
 {
     match command {
         Chosen::Audit => Ok(Ended::Silent(audit::run(rt, options, out)?)),
-        Chosen::Bom => {
-            bom::run(rt, options, out)?;
-            Ok(Ended::Silent(ExitCode::SUCCESS))
-        }
+        Chosen::Bom => Ok(Ended::success(bom::run(rt, options, out)?)),
         Chosen::Check => check::run(rt, options, out),
         Chosen::Diff => Ok(Ended::Silent(diff::run(rt, options, out)?)),
         Chosen::Duplicates => Ok(Ended::Silent(duplicates::run(rt, options, out)?)),
-        Chosen::Graph => {
-            graph::run(rt, options, out)?;
-            Ok(Ended::Silent(ExitCode::SUCCESS))
-        }
-        Chosen::Json => {
-            json::run(rt, options, out)?;
-            Ok(Ended::Silent(ExitCode::SUCCESS))
-        }
+        Chosen::Graph => Ok(Ended::success(graph::run(rt, options, out)?)),
+        Chosen::Json => Ok(Ended::success(json::run(rt, options, out)?)),
         Chosen::Licenses => Ok(Ended::Silent(licenses::run(rt, options, out)?)),
-        Chosen::List => {
-            list::run(rt, options, out)?;
-            Ok(Ended::Silent(ExitCode::SUCCESS))
-        }
+        Chosen::List => Ok(Ended::success(list::run(rt, options, out)?)),
         Chosen::Merge => merge::run(rt, options, out),
-        Chosen::Translate => {
-            translate::run(rt, options, out)?;
-            Ok(Ended::Silent(ExitCode::SUCCESS))
-        }
-        Chosen::Tree => {
-            tree::run(rt, options, out)?;
-            Ok(Ended::Silent(ExitCode::SUCCESS))
-        }
+        Chosen::Translate => Ok(Ended::success(translate::run(rt, options, out)?)),
+        Chosen::Tree => Ok(Ended::success(tree::run(rt, options, out)?)),
         Chosen::Verify => Ok(Ended::Silent(verify::run(rt, options, out)?)),
-        Chosen::Why => {
-            why::run(rt, options, out)?;
-            Ok(Ended::Silent(ExitCode::SUCCESS))
-        }
+        Chosen::Why => Ok(Ended::success(why::run(rt, options, out)?)),
     }
 }

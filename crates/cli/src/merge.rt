@@ -12,11 +12,11 @@ use cargo_lock::{Error, Lockfile};
 use cargo_lock_merge::lockfiles::{LockfileMerge, MergeError, merge_lockfiles};
 use cargo_lock_merge::moved::moved_lines;
 use cargo_lock_merge::with_cargo_spelling;
-use clap::{Arg, ArgAction, ArgMatches, Command};
+use clap::{ArgMatches, Command};
 use cli_input::load::{compared_lockfile, lockfile_without_packages};
 use cli_support::Fault;
 use cli_support::destination::put_own_out;
-use cli_support::words::{any_size, is_standard, output};
+use cli_support::words::{any_size, is_standard, lockfile_path, output};
 use std::alloc::{AllocError, Global};
 use std::io::{ErrorKind, Input, Write};
 use std::process::ExitCode;
@@ -44,19 +44,11 @@ pub(crate) fn command<'a>(alloc: Global) -> Result<Command<'a>, AllocError> {
     Command::new(alloc, "merge")
         .about("Merges two lockfiles by packages, over their common ancestor")
         .after_help(MERGE_HELP)
-        .arg(path(alloc, "base", "BASE").help(BASE_HELP))?
-        .arg(path(alloc, "ours", "OURS").help(OURS_HELP))?
-        .arg(path(alloc, "theirs", "THEIRS").help(THEIRS_HELP))?
+        .arg(lockfile_path(alloc, "base", "BASE").help(BASE_HELP))?
+        .arg(lockfile_path(alloc, "ours", "OURS").help(OURS_HELP))?
+        .arg(lockfile_path(alloc, "theirs", "THEIRS").help(THEIRS_HELP))?
         .arg(any_size(alloc)?)?
         .arg(output(alloc))
-}
-
-/// The path of a lockfile, which help shows as `shown`.
-fn path<'a>(alloc: Global, name: &'a str, shown: &'a str) -> Arg<'a> {
-    Arg::new(alloc, name)
-        .value_name(shown)
-        .required(true)
-        .action(ArgAction::Set)
 }
 
 /// The lockfiles of a merge, with the checksums that Cargo reads, and crates.io as Cargo writes it.

@@ -2,7 +2,7 @@
 
 ghost use Rattle.std.specs.Prelude.{◌<◌, IfOk};
 
-use crate::files::{Entry, all_names_in, fault_of, path_of, target_at, text_at};
+use crate::files::{Entry, fault_of, names_in, path_of, target_at, text_at};
 use cargo_lock_audit::{Advisory, AdvisoryFile, DatabaseFault};
 use cargo_lock_parts::Error;
 use cargo_lock_parts::package::Package;
@@ -54,7 +54,7 @@ fn files_in<R: Files + AllocGlobal>(
         wanted: Vec::new(rt.alloc()),
         count: 0,
     };
-    for name in &all_names_in(rt, crates)? {
+    for name in &names_in(rt, crates)? {
         if !is_hidden(name) {
             put_folder(rt, &mut found, &wanted, crates, name)?;
         }
@@ -104,7 +104,7 @@ fn put_folder<R: Files + AllocGlobal>(
     name: &str,
 ) -> Result<(), Fault> {
     let folder = path_of(rt.alloc(), crates, name)?;
-    let names = all_names_in(rt, &folder)?;
+    let names = names_in(rt, &folder)?;
     let count = names.iter().filter(|name| is_advisory(name)).count();
     found.count = found.count.saturating_add(count);
     if wanted.binary_search(&name).is_ok() {

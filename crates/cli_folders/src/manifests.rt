@@ -8,7 +8,7 @@ ghost use Rattle.cli_folders.specs.Manifests.{manifests_by, manifests_if, manife
 ghost use Rattle.cli_folders.specs.Manifests.{sought_for, sought_of};
 ghost use Rattle.cli_folders.specs.declared.sought.Reach.TheVariants.{All, Near};
 
-use crate::files::{Entry, all_names_in, entry_at, fault_of, host_in, path_of};
+use crate::files::{Entry, entry_at, fault_of, host_in, names_in, path_of};
 use crate::found::{Found, copied};
 use crate::manifest::{MANIFEST, manifest_at, manifest_path};
 use crate::sought::{Reach, Sought};
@@ -160,7 +160,7 @@ impl Manifests {
         packages: &[Package],
     ) -> Result<(), Fault> {
         let wanted = by_folder(rt.alloc(), packages)?;
-        for name in &all_names_in(rt, folder)? {
+        for name in &names_in(rt, folder)? {
             if let Some(package) = wanted.get(name.as_str()) {
                 let path = path_of(rt.alloc(), folder, name)?;
                 let found = unpacked_one(rt, &path, package)?;
@@ -298,7 +298,7 @@ fn manifests_in(
 // The paths of the folders in a folder, but for those that begin with a dot. Fails at a link.
 fn folders_in<R: Files + AllocGlobal>(rt: &R, folder: &str) -> Result<Vec<String>, Fault> {
     let mut folders = Vec::new(rt.alloc());
-    for name in &all_names_in(rt, folder)? {
+    for name in &names_in(rt, folder)? {
         if !name.starts_with('.') {
             put_folder(rt, &mut folders, path_of(rt.alloc(), folder, name)?)?;
         }
@@ -364,7 +364,7 @@ fn is_one_index<R: Files + AllocGlobal>(rt: &R, folders: &[String]) -> Result<bo
 
 // Whether a folder in this one has a manifest.
 fn is_index<R: Files + AllocGlobal>(rt: &R, folder: &str) -> Result<bool, Fault> {
-    for name in &all_names_in(rt, folder)? {
+    for name in &names_in(rt, folder)? {
         let path = path_of(rt.alloc(), folder, name)?;
         if entry_at(rt, &path)? == Some(Entry::Folder) && has(rt, &path, MANIFEST)? {
             return Ok(true);

@@ -11,19 +11,21 @@ use Rattle.cargo_lock_graph.specs.Edges.{GraphData}
 use Rattle.cargo_lock_graph.specs.Targets.{AreEdgesOf}
 use Rattle.cli_support.specs.declared.fault.Fault.{Fault}
 use Rattle.cli_support.specs.declared.fault.Fault.TheVariants.{ConflictMarks, File, FileAfter}
-use Rattle.cli_support.specs.declared.fault.Fault.TheVariants.{Library, TooLarge}
+use Rattle.cli_support.specs.declared.fault.Fault.TheVariants.{Library, TooLarge, TooLongVersions}
 use Rattle.cli_support.specs.Input.{IsInputShown}
 
--- the error for a lockfile of this argument: the file is too long, the system does not read it, it is
--- not a lockfile, or memory ran out
+-- the error for a lockfile of this argument: the file is too long, the system does not read it, it
+-- is not a lockfile or beyond the limit, or memory ran out
 abbrev pub IsOfLockfileUnnamed : List ℕ → Fault → Type 0
 IsOfLockfileUnnamed argument (TooLarge name) = IsInputShown argument (string_bytes name)
+IsOfLockfileUnnamed argument (TooLongVersions name) = IsInputShown argument (string_bytes name)
 IsOfLockfileUnnamed argument (Library error) = IsOfFile error
 IsOfLockfileUnnamed argument other = ⊥
 
 -- the same with the name of the file, unless memory ran out
 abbrev pub IsOfLockfile : List ℕ → Fault → Type 0
 IsOfLockfile argument (TooLarge name) = IsInputShown argument (string_bytes name)
+IsOfLockfile argument (TooLongVersions name) = IsInputShown argument (string_bytes name)
 IsOfLockfile argument (FileAfter name error) = IsInputShown argument (string_bytes name)
     × IsOfFile error
 IsOfLockfile argument (Library Memory) = Unit {0}
@@ -39,6 +41,11 @@ IsReadingFault argument text error (File name said) = IsInputShown argument (str
     × (conflict_mark_line text ≡ None) × (said ≡ error)
 IsReadingFault argument text error (Library Memory) = Unit {0}
 IsReadingFault argument text error other = ⊥
+
+-- the error for a text of the file of this argument: it is beyond the limit, or no lockfile
+abbrev pub IsTextFault : List ℕ → List ℕ → Fault → Type 0
+IsTextFault argument text (TooLongVersions name) = IsInputShown argument (string_bytes name)
+IsTextFault argument text fault = (error : Error) × IsReadingFault argument text error fault
 
 -- the lockfile is one that some text means, with the checksums that Cargo reads
 abbrev pub IsMeantWithCargoChecksums : LockfileData → Type 0

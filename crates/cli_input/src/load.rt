@@ -1,24 +1,33 @@
 //! The lockfiles that the arguments name.
-ghost use Rattle.std.specs.Prelude.{◌≡◌, IfErr, IfOk, List, None, Some, ℕ, option_map};
+ghost use Rattle.std.specs.Prelude.{◌≡◌, IfErr, IfOk, List, MatchOption, None, Some, ℕ, option_map};
 ghost use Rattle.clap.specs.Matches.{found_of};
 ghost use Rattle.cargo_lock.specs.Loads.{IsMeant};
 ghost use Rattle.cargo_lock_parts.specs.declared.error.Error as declared;
 ghost use Rattle.cargo_lock_table_flaws.specs.Marks as marks;
+ghost use Rattle.cargo_lock_encoding.specs.Lockfiles.{LockfileData};
 ghost use Rattle.cargo_lock_encoding.specs.Means.{TextMeans};
+ghost use Rattle.cargo_lock_parts.specs.Error.{IsLong, RefusesUrls};
 ghost use Rattle.cli_input.specs.Json.{document_path, named_file_of};
+ghost use Rattle.cli_input.specs.Limit.{IsAtLimit, IsBeyondFault, IsBeyondLimit, IsInLimit};
+ghost use Rattle.cli_input.specs.Limit.{IsReadInLimit};
 ghost use Rattle.cli_input.specs.Load.{IsGraphOf, IsGraphRead, IsMeantWithCargoChecksums};
 ghost use Rattle.cli_input.specs.Load.{IsOfLockfile, IsOfLockfileUnnamed, IsReadingFault};
+ghost use Rattle.cli_input.specs.Load.{IsTextFault};
 ghost use Rattle.cli_support.specs.Input.{given_path_in};
 
 use cargo_lock::dependency::graph::Graph;
 use cargo_lock::{Error, Lockfile, ResolveVersion};
 use cargo_lock_display::File;
+use cargo_lock_limit::lockfile_within;
 use cargo_lock_table_flaws::conflict_mark_line;
 use clap::ArgMatches;
 use cli_support::{Fault, words};
 use std::alloc::Global;
 use std::io::Input;
 use std::rt::Files;
+
+/// How many bytes the versions of what packages depend on may have together.
+const LIMIT: u32 = 1 << 28;
 
 /// The lockfile at the path of the option `name`. Fails if it is not read, with the path in the
 /// error, below the words of the library.
@@ -28,6 +37,7 @@ pub fn lockfile<R: Files + Input + AllocGlobal>(
     name: &str,
 ) -> Result<Lockfile, Fault>
     ensures ok { IfOk result IsMeant }
+    ensures allowed { IfOk result (IsInLimit (found_of options.now)) }
     ensures err { IfErr result (IsOfLockfile (given_path_in (found_of options.now) name.now)) }
 {
     match unnamed_lockfile(rt, options, name) {
@@ -43,24 +53,65 @@ fn unnamed_lockfile<R: Files + Input + AllocGlobal>(
     name: &str,
 ) -> Result<Lockfile, Fault>
     ensures ok { IfOk result IsMeant }
+    ensures allowed { IfOk result (IsInLimit (found_of options.now)) }
     ensures err { IfErr result
         (IsOfLockfileUnnamed (given_path_in (found_of options.now) name.now)) }
 {
     let text = words::text(rt, options, name)?;
-    match lockfile_of(rt.alloc(), text.as_str()) {
+    match unnamed_lockfile_of(rt.alloc(), options, name, text.as_str()) {
         Ok(lockfile) => Ok(lockfile),
         Err(fault) => Err(fault),
     }
 }
 
-fn lockfile_of(alloc: Global, text: &str) -> Result<Lockfile, Fault>
-    ensures ok { IfOk result (TextMeans text.now) }
-    ensures err { IfErr result (λ fault. (argument : List ℕ)
-        → IsOfLockfileUnnamed argument fault) }
+/// The lockfile of the text that was read for the option `name`. Fails without the path in the
+/// error, unless the text is beyond the limit.
+fn unnamed_lockfile_of(
+    alloc: Global,
+    options: &ArgMatches<'_>,
+    name: &str,
+    text: &str,
+) -> Result<Lockfile, Fault>
+    ensures ok { IfOk result (IsReadInLimit (found_of options.now) text.now) }
+    ensures err { IfErr result
+        (IsOfLockfileUnnamed (given_path_in (found_of options.now) name.now)) }
+    ensures limit { IfErr result (IsAtLimit (found_of options.now) text.now) }
 {
-    match Lockfile::from_str(alloc, text) {
-        Ok(lockfile) => Ok(lockfile),
+    match allowed_lockfile(alloc, options, text) {
+        Ok(Some(lockfile)) => Ok(lockfile),
+        Ok(None) => Err(beyond_limit(alloc, options, name)),
         Err(error) => Err(Fault::Library(error)),
+    }
+}
+
+/// Reads the text of a lockfile as `Lockfile::from_str` does, with the same errors. It is `None`
+/// where the versions of what its packages depend on have more than 256 MiB together, unless the
+/// arguments lift that limit.
+pub fn allowed_lockfile(
+    alloc: Global,
+    options: &ArgMatches<'_>,
+    text: &str,
+) -> Result<Option<Lockfile>, Error>
+    ensures ok { IfOk result (λ found. MatchOption found
+        (IsBeyondLimit (found_of options.now) text.now)
+        (IsReadInLimit (found_of options.now) text.now)) }
+    ensures err { IfErr result (λ error.
+        RefusesUrls (IsLong text.now) error ((l : LockfileData) → ¬ TextMeans text.now l)) }
+{
+    if options.get_flag("any-size") {
+        let lockfile = Lockfile::from_str(alloc, text)?;
+        return Ok(Some(lockfile));
+    }
+    lockfile_within(alloc, text, LIMIT)
+}
+
+/// The error for a text beyond the limit, which was read for the option `name`, or out of memory.
+pub fn beyond_limit(alloc: Global, options: &ArgMatches<'_>, name: &str) -> Fault
+    ensures { IsBeyondFault (given_path_in (found_of options.now) name.now) result }
+{
+    match words::input_shown(alloc, options, name) {
+        Ok(path) => Fault::TooLongVersions(path),
+        Err(refused) => Fault::from(refused),
     }
 }
 
@@ -71,7 +122,8 @@ pub fn named_lockfile<R: Files + Input + AllocGlobal>(
     options: &ArgMatches<'_>,
     name: &str,
 ) -> Result<Lockfile, Fault>
-    ensures { IfOk result IsMeant }
+    ensures meant { IfOk result IsMeant }
+    ensures allowed { IfOk result (IsInLimit (found_of options.now)) }
 {
     let text = named_text(rt, options, name)?;
     match named_lockfile_of(rt.alloc(), options, name, text.as_str()) {
@@ -80,8 +132,8 @@ pub fn named_lockfile<R: Files + Input + AllocGlobal>(
     }
 }
 
-/// The lockfile whose path the argument `name` has, with the checksums that Cargo reads. Fails if it
-/// is not read, with the path in the error.
+/// The lockfile whose path the argument `name` has, with the checksums that Cargo reads. Fails if
+/// it is not read, with the path in the error.
 pub fn compared_lockfile<R: Files + Input + AllocGlobal>(
     rt: &R,
     options: &ArgMatches<'_>,
@@ -98,13 +150,13 @@ pub fn compared_lockfile<R: Files + Input + AllocGlobal>(
 pub fn lockfile_without_packages(alloc: Global) -> Result<Lockfile, Fault>
     ensures { IfOk result IsMeantWithCargoChecksums }
 {
-    let lockfile = lockfile_of(alloc, "")?;
+    let lockfile = Lockfile::from_str(alloc, "")?;
     let compared = lockfile.with_cargo_checksums(alloc)?;
     Ok(compared)
 }
 
-/// The format of the lockfile at the path of the option `file`, and the graph of its packages. Fails
-/// if it is not read, with the path in the error, or if no package matches a dependency.
+/// The format of the lockfile at the path of the option `file`, and the graph of its packages.
+/// Fails if it is not read, with the path in the error, or if no package matches a dependency.
 pub fn named_graph<R: Files + Input + AllocGlobal>(
     rt: &R,
     options: &ArgMatches<'_>,
@@ -137,21 +189,23 @@ pub fn named_text<R: Files + Input + AllocGlobal>(
     }
 }
 
-/// The lockfile of the text that was read for the option `name`. Fails if the text is not a
-/// lockfile, as `refusal` says.
+/// The lockfile of the text that was read for the option `name`. Fails if the text is beyond the
+/// limit, and if it is not a lockfile, as `refusal` says.
 pub fn named_lockfile_of(
     alloc: Global,
     options: &ArgMatches<'_>,
     name: &str,
     text: &str,
 ) -> Result<Lockfile, Fault>
-    ensures ok { IfOk result (TextMeans text.now) }
-    ensures err { IfErr result (λ fault. (error : declared.Error)
-        × IsReadingFault (given_path_in (found_of options.now) name.now) text.now error fault) }
+    ensures ok { IfOk result (IsReadInLimit (found_of options.now) text.now) }
+    ensures err { IfErr result
+        (IsTextFault (given_path_in (found_of options.now) name.now) text.now) }
+    ensures limit { IfErr result (IsAtLimit (found_of options.now) text.now) }
 {
-    let read = Lockfile::from_str(alloc, text);
+    let read = allowed_lockfile(alloc, options, text);
     match read {
-        Ok(lockfile) => Ok(lockfile),
+        Ok(Some(lockfile)) => Ok(lockfile),
+        Ok(None) => Err(beyond_limit(alloc, options, name)),
         Err(error) => Err(refusal(alloc, options, name, text, error)),
     }
 }

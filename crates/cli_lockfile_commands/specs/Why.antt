@@ -32,7 +32,7 @@ pub record AreAsked (found : Found) (graph : GraphData) (answers : List AnswerDa
 abbrev pub PrintsAsked : Found → FileData → GraphData → Option (List ℕ) → Option (List ℕ) → Type 0
 PrintsAsked found file graph old new = (answers : List AnswerData)
     × AreAsked found graph answers
-    × PrintsAnswer found (answers_json file answers) (answers_text answers) old new
+    × PrintsAnswer found (answers_json file answers) (answers_text graph.packages answers) old new
 
 -- the same for the graph of a lockfile that some text means
 abbrev pub PrintsWhy : Found → Option (List ℕ) → Option (List ℕ) → Type 0

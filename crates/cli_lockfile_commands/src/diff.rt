@@ -17,7 +17,7 @@ use cli_input::answer::{Answer, print_answer};
 use cli_input::load::{compared_lockfile, file};
 use cli_support::Fault;
 use cli_support::terminal::in_line;
-use cli_support::words::{any_size, flag, is_standard, json, long_flag};
+use cli_support::words::{any_size, flag, is_standard, json, lockfile_path, long_flag};
 use std::alloc::{AllocError, Global};
 use std::fmt;
 use std::io::{Input, Write};
@@ -67,8 +67,8 @@ pub fn command<'a>(alloc: Global) -> Result<Command<'a>, AllocError> {
     Command::new(alloc, "diff")
         .about("Shows what differs between the packages of two lockfiles")
         .after_help(DIFF_HELP)
-        .arg(path(alloc, "old", "OLD").help(OLD_HELP))?
-        .arg(path(alloc, "new", "NEW").help(NEW_HELP))?
+        .arg(lockfile_path(alloc, "old", "OLD").help(OLD_HELP))?
+        .arg(lockfile_path(alloc, "new", "NEW").help(NEW_HELP))?
         .arg(any_size(alloc)?)?
         .arg(flag(alloc, "dependencies", 'd')?.help("Shows other dependencies of packages too"))?
         .arg(long_flag(alloc, "exit-code")?.help(
@@ -85,14 +85,6 @@ fn moved_ok<'a>(alloc: Global) -> Arg<'a> {
         .long("moved-ok")
         .value_name("URL|path")
         .action(ArgAction::Append)
-}
-
-/// The path of a lockfile, which help shows as `shown`.
-fn path<'a>(alloc: Global, name: &'a str, shown: &'a str) -> Arg<'a> {
-    Arg::new(alloc, name)
-        .value_name(shown)
-        .required(true)
-        .action(ArgAction::Set)
 }
 
 /// Prints what differs between the packages of two lockfiles, a line for each change, and if the

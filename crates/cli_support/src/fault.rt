@@ -50,6 +50,11 @@ pub enum Fault {
     #[error("error: {0}: lockfile of 256 MiB or more; --any-size reads it\n")]
     TooLarge(String),
 
+    /// The versions of what the packages of the lockfile at this path depend on have more than 256 MiB
+    /// together.
+    #[error("error: {0}: versions of dependencies of over 256 MiB; --any-size reads it\n")]
+    TooLongVersions(String),
+
     /// The lockfile at this path is no TOML, and its line of this number has a mark of a conflict.
     #[error("error: {0} has conflict marks (line {1})\n")]
     ConflictMarks(String, usize),

@@ -231,6 +231,14 @@ pub fn output<'a>(alloc: Global) -> Arg<'a> {
     value(alloc, "output", 'o', "PATH").help("The file that is written, - for standard output")
 }
 
+/// An argument that must be there: the path of a lockfile, which help shows as `shown`.
+pub fn lockfile_path<'a>(alloc: Global, name: &'a str, shown: &'a str) -> Arg<'a> {
+    Arg::new(alloc, name)
+        .value_name(shown)
+        .required(true)
+        .action(ArgAction::Set)
+}
+
 /// An option that takes a value, which help shows as `shown`. The value may begin with a hyphen.
 pub fn value<'a>(alloc: Global, name: &'a str, short: char, shown: &'a str) -> Arg<'a> {
     Arg::new(alloc, name)

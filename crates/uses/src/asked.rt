@@ -8,8 +8,10 @@ use cargo_lock::dependency::graph::{Graph, NodeIndex};
 use cargo_lock::{Error, ResolveVersion};
 use cargo_lock_display::File;
 use cargo_lock_query::{
-    Answer, Answers, answers_json, chains_of_each, needers, shortest_chain, why, why_each,
+    Answer, AnswerText, Answers, answers_json, chains_of_each, needers, shortest_chain, why,
+    why_each,
 };
+use cargo_lock_references::index::Indexed;
 
 /// Prints why each package of a tree is there.
 pub fn print_reasons(rt: &HostRuntime, tree: &Tree) -> Result<(), Error> {
@@ -109,9 +111,11 @@ pub fn print_answers_document(rt: &HostRuntime, answers: &Answers<'_>) -> Result
 
 /// Prints the answer of a package to which nothing leads.
 pub fn print_nothing(rt: &HostRuntime, graph: &Graph) -> Result<(), Error> {
+    let list = Indexed::of(rt.alloc(), graph.packages())?;
     if let Some(package) = graph.node_weight(NodeIndex::new(0)) {
         let answer = Answer::Nothing(package);
-        println!(rt; "{answer}")?;
+        let text = AnswerText(&list, &answer);
+        println!(rt; "{text}")?;
     }
     Ok(())
 }

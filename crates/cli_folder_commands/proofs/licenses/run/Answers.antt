@@ -5,5 +5,5 @@ use Rattle.cli_folder_commands.proofs.licenses.run.Goals as goal
 
 pub returns : goal.returns
 returns g c = IfOk-weaker c.print_licenses.result _ _
-    (λ status h. (c.in_ok-lockfile.lockfile, policy_of c.in_ok-policy.policy, c.in_ok-lockfile.ensures, c.in_ok-policy.ensures, rw (sym c.file-file.ensures) h))
+    (λ status h. (c.in_ok-lockfile.lockfile, policy_of c.in_ok-policy.policy, c.in_ok-lockfile.ensures.meant, c.in_ok-policy.ensures, rw (sym c.file-file.ensures) h))
     c.print_licenses.ensures

@@ -1,7 +1,7 @@
 use Rattle.std.proofs.Common.{◌≡◌, map, take}
 use Rattle.std.specs.List.{filter_map}
 use Rattle.cargo_lock_query.specs.Listing.{row_for, row_of}
-use Rattle.cargo_lock_query.proofs.listing.Rows.of.Given as goal
+use Rattle.cargo_lock_query.proofs.listing.rows_among.Given as goal
 
 -- the rows so far
 abbrev pub invariant-loop-one : goal.invariant-loop-one

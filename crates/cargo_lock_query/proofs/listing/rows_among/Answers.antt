@@ -2,7 +2,7 @@ use Rattle.std.proofs.Common.{◌∙◌, ◌++◌, ◌∷◌, [], ap, sym}
 use Rattle.std.specs.List.{filter_map}
 use Rattle.cargo_lock_query.specs.Listing.{row_for}
 use Rattle.cargo_lock_query.proofs.Rowing.{made-next}
-use Rattle.cargo_lock_query.proofs.listing.Rows.of.Goals as goal
+use Rattle.cargo_lock_query.proofs.listing.rows_among.Goals as goal
 
 pub loop-one-preserved : goal.loop-one-preserved
 loop-one-preserved c =
