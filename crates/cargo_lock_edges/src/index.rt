@@ -28,7 +28,7 @@ pub(crate) fn version_places<'a>(
 /// The identity of a package, as a key.
 ///
 /// ```
-/// let before = index.before(package_key(package), place);
+/// let key = package_key(package);
 /// ```
 pub fn package_key<'a>(package: &'a Package) -> PartialIdentity<'a>
     ensures { result ≡ identity_as_key (identity_of «package».now) }
@@ -43,7 +43,7 @@ pub fn package_key<'a>(package: &'a Package) -> PartialIdentity<'a>
 /// The identity of a dependency, as a key.
 ///
 /// ```
-/// let before = last.insert(identity(dependency), at)?;
+/// let key = identity(dependency);
 /// ```
 pub fn identity<'a>(dependency: &'a Dependency) -> PartialIdentity<'a>
     ensures { result ≡ identity_as_key dependency.now }

@@ -14,6 +14,10 @@ impl<'a> Groups<'a> {
     /// The place of the package that is nearest to a dependency: the last of those of its own words
     /// that match it best, or where none of these matches, the last of those that match it best.
     /// `None` if no package matches.
+    ///
+    /// ```
+    /// let nearest = groups.nearest(dependency);
+    /// ```
     pub fn nearest(&self, dependency: &'a Dependency) -> Option<usize>
         ensures { MatchOption result
             (IsLost self.now.packages dependency.now)
