@@ -1,5 +1,5 @@
 -- The graph of settled packages has the edges of the packages, as they lead.
-use Rattle.std.proofs.Common.{◌≡◌, ◌≤◌, ◌<◌, ◌++◌, ◌∷◌, ◌∙◌, [], inl, inr, ℕ, zero, suc, List, None, Some, ap, arith, length, map, refl, slice_get, subst, sym}
+use Rattle.std.proofs.Common.{◌≡◌, ◌≤◌, ◌<◌, ◌++◌, ◌∷◌, ◌∙◌, [], inl, inr, ℕ, zero, suc, List, None, Some, Result, Ok, Err, IfOk, ap, arith, length, map, refl, slice_get, subst, sym}
 use Rattle.std.specs.List.{All, AllZip, flat_map}
 use Rattle.std.proofs.lemmas.List.Elements.{All-cons, All-head, All-nil, All-tail}
 use Rattle.std.proofs.lemmas.Option.{same_Some, slice_get_within}
@@ -19,14 +19,14 @@ use Rattle.cargo_lock_edges.proofs.LeadsOnce.{one-target}
 
 -- ---- related lists, place by place
 
-left-at : {A B : Type 0} (R : A → B → Type 0) (xs : List A) (ys : List B) (k : ℕ) (x : A)
+pub left-at : {A B : Type 0} (R : A → B → Type 0) (xs : List A) (ys : List B) (k : ℕ) (x : A)
     → AllZip R xs ys → slice_get xs k ≡ Some x → (y : B) × (slice_get ys k ≡ Some y) × R x y
 left-at R [] ys k x h at = cc at
 left-at R (x ∷ xs) [] k z h at = absurd h
 left-at R (x ∷ xs) (y ∷ ys) zero z h at = (y, refl, subst (λ w. R w y) (same_Some x z at) h.0)
 left-at R (x ∷ xs) (y ∷ ys) (suc k) z h at = left-at R xs ys k z h.1 at
 
-right-at : {A B : Type 0} (R : A → B → Type 0) (xs : List A) (ys : List B) (k : ℕ) (y : B)
+pub right-at : {A B : Type 0} (R : A → B → Type 0) (xs : List A) (ys : List B) (k : ℕ) (y : B)
     → AllZip R xs ys → slice_get ys k ≡ Some y → (x : A) × (slice_get xs k ≡ Some x) × R x y
 right-at R xs [] k y h at = cc at
 right-at R [] (y ∷ ys) k z h at = absurd h
@@ -216,6 +216,12 @@ nodes-alike packages [] [] h = tt
 nodes-alike packages [] (q ∷ qs) h = absurd h
 nodes-alike packages (p ∷ ps) [] h = absurd h
 nodes-alike packages (p ∷ ps) (q ∷ qs) h = (h.0.alike, nodes-alike packages ps qs h.1)
+
+-- two things that hold of a value, if there is one
+pub both-oks : {T E : Type 0} (r : Result T E) (P Q R : T → Type 0)
+    → ((x : T) → P x → Q x → R x) → IfOk r P → IfOk r Q → IfOk r R
+both-oks (Ok x) P Q R both p q = both x p q
+both-oks (Err e) P Q R both p q = tt
 
 pub settled-graph : (packages settled : List PackageData) (graph : GraphData)
     → AreSettled packages settled → graph.packages ≡ settled → AreEdgesOf settled graph.edges

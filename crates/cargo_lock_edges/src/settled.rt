@@ -48,15 +48,9 @@ fn settled_package<'a>(alloc: Global, groups: &Groups<'a>, package: &'a Package)
     ensures err { IsOkUnless result Memory }
 {
     let dependencies = settled_dependencies(alloc, groups, &package.dependencies)?;
-    let replace = copied(&package.replace)?;
-    Ok(Package {
-        name: package.name.clone()?,
-        version: package.version.clone()?,
-        source: package.source.clone()?,
-        checksum: package.checksum,
-        dependencies,
-        replace,
-    })
+    let mut settled = package.clone()?;
+    settled.dependencies = dependencies;
+    Ok(settled)
 }
 
 // These dependencies as they lead.
@@ -84,15 +78,5 @@ fn settled_dependency<'a>(groups: &Groups<'a>, dependency: &'a Dependency) -> Re
     match groups.lead(dependency) {
         Some(place) => Dependency::of(groups.package(place)),
         None => Ok(dependency.clone()?),
-    }
-}
-
-fn copied(replace: &Option<Dependency>) -> Result<Option<Dependency>>
-    ensures ok { IfOk result (λ copy. copy ≡ replace.now) }
-    ensures err { IsOkUnless result Memory }
-{
-    match replace {
-        Some(replace) => Ok(Some(replace.clone()?)),
-        None => Ok(None),
     }
 }
