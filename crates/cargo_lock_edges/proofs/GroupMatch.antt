@@ -114,7 +114,7 @@ same-texts (Some x) (Some y) h = (x, refl, ap Some (sym (same-bytes x y h)))
 pub same-url : (a b : Source) → same_url_and_name a b ≡ true → serialize a.url ≡ serialize b.url
 same-url a b h = same-bytes _ _ (and_parts _ _ h).0
 
-text-of-git : (rank : ℕ) (s : Source) → is_git s.kind ≡ true
+pub text-of-git : (rank : ℕ) (s : Source) → is_git s.kind ≡ true
     → compared_text rank s ≡ (if rank == 2 then commit_of s else Some [])
 text-of-git rank s git =
     ap (λ b. if b then (if rank == 2 then commit_of s else Some []) else None) git
@@ -186,7 +186,7 @@ meet-3 a b h =
       other = text-of-git 3 b git.1;
     }
 
-not-git : (k : Kind) (p : Option (List ℕ)) → is_git k ≡ false → precise_if_git k p ≡ None
+pub not-git : (k : Kind) (p : Option (List ℕ)) → is_git k ≡ false → precise_if_git k p ≡ None
 not-git (Git reference) p h = absurd (false≢true (sym h))
 not-git Path p h = refl
 not-git Registry p h = refl
@@ -316,7 +316,7 @@ texts-tie f g x y t same ex ey =
     subst (λ x. AreTied (option_map f x) (option_map g y)) (sym ex)
     (subst (λ y. AreTied (Some (f t)) (option_map g y)) (sym ey) (tied-equal (f t) (g t) same))
 
-sources-tie : (rank : ℕ) (is_open : Bool) (d : Identity) (p : PackageData) (a b : Source)
+pub sources-tie : (rank : ℕ) (is_open : Bool) (d : Identity) (p : PackageData) (a b : Source)
     → HasNameAndVersion d p → Meet rank a b → SourcesTie rank is_open d p (Some a) (Some b)
 sources-tie rank is_open d p a b named m =
     texts-tie (group_with rank is_open (identity_as_key (identity_of p)) b)
@@ -325,7 +325,7 @@ sources-tie rank is_open d p a b named m =
     (with-text rank is_open d p a b m.text named m.url m.kind) m.other m.one
 
 -- the groups of two identities for rank 1 tie where the identities have one key
-same-tie : (d : Identity) (p : PackageData) (o : Bool)
+pub same-tie : (d : Identity) (p : PackageData) (o : Bool)
     → identity_key (identity_of p) ≡ identity_key d
     → AreTied (group_of 1 false (identity_as_key (identity_of p)))
     (group_of 1 o (identity_as_key d))

@@ -4,6 +4,7 @@ pub mod Grouping
 pub mod PinnedGroups
 pub mod OnlyOnes
 pub mod OwnWords
+pub mod WordGroups
 pub mod NearestPlaces
 pub mod LastPlaces
 pub mod LeadPlaces

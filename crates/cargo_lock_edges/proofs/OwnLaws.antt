@@ -1,14 +1,15 @@
 -- What comes first where a dependency leads.
 use Rattle.std.proofs.Common.{◌≡◌, ◌++◌, ◌∷◌, ◌∙◌, [], inl, inr, ℕ, List, Option, None, Some, ap, nat_lt, option_map, refl, slice_get, subst, sym}
-use Rattle.std.specs.List.{AllZip}
+use Rattle.std.specs.List.{All, AllZip}
 use Rattle.std.proofs.lemmas.Bool.{cases_Bool, ltb-false, ltb-true}
+use Rattle.std.proofs.lemmas.List.Elements.{All-cons, All-nil}
 use Rattle.std.proofs.lemmas.Option.{same_Some, slice_get_within}
 use Rattle.cargo_lock_parts.specs.Identity.{Identity, IdentityKey, PackageData}
 use Rattle.cargo_lock_parts.specs.Source.{Source}
 use Rattle.cargo_lock_parts.specs.SourceKey.{key_of}
 use Rattle.cargo_lock_parts.proofs.RankLemmas.{rank_one_is_equal_keys}
 use Rattle.cargo_lock_graph.specs.Edges.{Edge}
-use Rattle.cargo_lock_graph.specs.Targets.{HasIdentity, Link, Matches, rank_between}
+use Rattle.cargo_lock_graph.specs.Targets.{HasIdentity, HasTarget, Link, Matches, rank_between}
 use Rattle.cargo_lock_edges.specs.Laws.{IdentityIsNearest, LostHaveNoOwnEdges, OthersLeadAsInTrees, OwnWordsComeFirst, ReplacedLeadOn}
 use Rattle.cargo_lock_edges.specs.Leads.{LeadsTo, StandsFor}
 use Rattle.cargo_lock_edges.specs.OwnGraph.{IsOwnEdgeOf}
@@ -16,6 +17,7 @@ use Rattle.cargo_lock_edges.proofs.Grouping.{rank-positive}
 use Rattle.cargo_lock_edges.proofs.LeadPlaces.{lead-found}
 use Rattle.cargo_lock_edges.proofs.LeadsOnce.{nearest_is_one}
 use Rattle.cargo_lock_edges.proofs.NearestPlaces.{nearest-found, own-first, plain}
+use Rattle.cargo_lock_edges.proofs.TargetsFound.{target-or-lost}
 
 pub own_words_come_first : OwnWordsComeFirst
 own_words_come_first packages d place k rank f (inl own) =
@@ -104,3 +106,18 @@ lost_have_no_own_edges packages d es lost are =
     let (place, leads) = lead-of packages lost.front lost.rest l es
     (subst (λ (ls : List Link). AllZip (IsOwnEdgeOf packages) ls es) lost.split are) in
     lead-found packages d place leads lost.none
+
+-- ---- packages with edges
+
+-- packages that have edges have a package for each dependency
+pub links-found : (packages : List PackageData) (ls : List Link) (es : List Edge)
+    → AllZip (IsOwnEdgeOf packages) ls es → All (HasTarget packages) ls
+links-found packages [] es h = All-nil (HasTarget packages)
+links-found packages (l ∷ ls) [] h = absurd h
+links-found packages (l ∷ ls) (e ∷ es) h =
+    All-cons (HasTarget packages) l ls
+    (elim (target-or-lost packages l.dependency) [
+      | inl found ↦ found
+      | inr lost ↦ absurd (lead-found packages l.dependency e.to h.0.to lost)
+    ])
+    (links-found packages ls es h.1)

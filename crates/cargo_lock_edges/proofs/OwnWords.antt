@@ -66,7 +66,7 @@ near-by-key a b e = both (bytes_eq (serialize a.url) (serialize b.url))
     ((bytes_eq-Decides (serialize a.url) (serialize b.url)).1 (ap (λ (k : Key). k.url) (sym e)))
     (one-name a.name b.name (ap (λ (k : Key). k.name) (sym e)))
 
-kind-by-key : (a b : Source) → key_without_commit b ≡ key_without_commit a → a.kind ≡ b.kind
+pub kind-by-key : (a b : Source) → key_without_commit b ≡ key_without_commit a → a.kind ≡ b.kind
 kind-by-key a b e = ap (λ (k : Key). k.kind) (sym e)
 
 -- ---- own words, by rank

@@ -130,3 +130,12 @@ asks_open rank d = nat_lt 2 rank && has_precise d.source
 -- the group of the packages that can match a dependency with the rank
 abbrev pub group_for : ℕ → Identity → Option Group
 group_for rank d = group_of rank (asks_open rank d) (identity_as_key d)
+
+-- the source is a repository
+abbrev pub is_from_git : Option Source → Bool
+is_from_git None = false
+is_from_git (Some s) = is_git s.kind
+
+-- the group that has each package of a dependency's own words, whatever their commits
+abbrev pub words_group_of : Identity → Option Group
+words_group_of d = group_of (if is_from_git d.source then 3 else 1) false (identity_as_key d)

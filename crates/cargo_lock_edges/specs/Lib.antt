@@ -3,6 +3,7 @@ pub mod Group
 pub mod Groups
 pub mod Likeness
 pub mod Nearest
+pub mod Words
 pub mod Leads
 pub mod OwnGraph
 pub mod Settled

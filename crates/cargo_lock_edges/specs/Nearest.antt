@@ -19,6 +19,10 @@ pub record IsOfOwnWords (d : Identity) (p : PackageData) : Type 0 where
   pub named : HasNameAndVersion d p
   pub source : option_map key_without_commit p.source ≡ option_map key_without_commit d.source
 
+-- the package at the place is of the dependency's own words, whether or not it matches
+abbrev pub IsOfOwnWordsAt : List PackageData → Identity → ℕ → Type 0
+IsOfOwnWordsAt packages d place = HoldsOf (IsOfOwnWords d) packages place
+
 -- the package at the place is of the dependency's own words, and matches it with this rank
 abbrev pub IsOwnMatch : List PackageData → Identity → ℕ → ℕ → Type 0
 IsOwnMatch packages d place rank =

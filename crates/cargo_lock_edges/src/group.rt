@@ -171,6 +171,28 @@ pub(crate) fn pinned_group_of<'a>(identity: PartialIdentity<'a>) -> Option<Group
     Some(group)
 }
 
+// The group that has each package of a dependency's own words, whatever their commits.
+pub(crate) fn words_group_of<'a>(dependency: &'a Dependency) -> Option<Group<'a>>
+    ensures { result ≡ spec.words_group_of dependency.now }
+{
+    let rank = if is_from_git(&dependency.source) {
+        3
+    } else {
+        1
+    };
+    group_of(rank, false, identity(dependency))
+}
+
+// Whether there is a source, and it is a repository.
+fn is_from_git(source: &Option<SourceId>) -> bool
+    ensures { result ≡ spec.is_from_git source.now }
+{
+    match source {
+        Some(source) => source.is_git(),
+        None => false,
+    }
+}
+
 // Whether two sources that are there have one kind, and a repository one reference.
 pub(crate) fn have_one_kind(one: &Option<SourceId>, other: &Option<SourceId>) -> bool
     ensures { result ≡ spec.have_one_kind one.now other.now }

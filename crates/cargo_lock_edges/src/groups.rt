@@ -5,10 +5,11 @@
 //! them.
 
 ghost use Rattle.std.specs.Prelude.{◌≡◌, ◌<◌, ◌≤◌, ℕ, IfOk, List, MatchOption, OnOk, Some, length};
-ghost use Rattle.std.specs.Prelude.{slice_get};
+ghost use Rattle.std.specs.Prelude.{IsOkUnless, slice_get};
 ghost use Rattle.std.specs.Bool.{Decides};
 ghost use Rattle.std.specs.List.{AllPairs};
 ghost use Rattle.cargo_lock_parts.specs.Identity.{PackageData, identity_of};
+ghost use Rattle.cargo_lock_parts.specs.declared.error.Error.TheVariants.{Memory};
 ghost use Rattle.cargo_lock_index.specs.Near.{IsIndexOf};
 ghost use Rattle.cargo_lock_graph.specs.Candidates.{identity_as_key, versions_of};
 ghost use Rattle.cargo_lock_graph.specs.Targets as target;
@@ -19,11 +20,17 @@ ghost use Rattle.cargo_lock_edges.specs.Groups.{HasGrouped, HasMatch, HasMatches
 ghost use Rattle.cargo_lock_edges.specs.Groups.{HasPutInGroup, IsBest, IsBestGroup, IsNamedAt};
 ghost use Rattle.cargo_lock_edges.specs.Groups.{IsOnlyPlace, IsPinned, IsPinnedMatch, fits_source};
 ghost use Rattle.cargo_lock_edges.specs.Groups.{group_places, is_only_one};
+ghost use Rattle.cargo_lock_edges.specs.Nearest.{IsOfOwnWordsAt};
+ghost use Rattle.cargo_lock_edges.specs.Words.{HasOwnWords};
 
-use crate::group::{Group, group_for, group_of, has_precise, have_one_kind, pinned_group_of};
+use crate::group::{
+    Group, group_for, group_of, has_precise, have_one_kind, pinned_group_of, words_group_of,
+};
 use crate::index::{identity, package_key, version_places};
+use crate::words::is_of_own_words;
 use cargo_lock_index::places::Places;
 use cargo_lock_parts::dependency::Dependency;
+use cargo_lock_parts::error;
 use cargo_lock_parts::package::{Package, PartialIdentity, SourceId};
 use lists::grouped::Grouped;
 use lists::marks::is_marked;
@@ -262,6 +269,19 @@ impl<'a> Groups<'a> {
         }
     }
 
+    // The group of the packages that can be of a dependency's own words. `None` if it is empty.
+    pub(crate) fn words_group(&self, dependency: &'a Dependency) -> Option<usize>
+        requires { AreShared self.now dependency.now }
+        ensures { MatchOption result
+            ((k : ℕ) → ¬ IsOfOwnWordsAt self.now.packages dependency.now k)
+            (HasOwnWords self.now dependency.now) }
+    {
+        match words_group_of(dependency) {
+            Some(group) => self.groups.number(&group),
+            None => None,
+        }
+    }
+
     /// The places of the packages of a group, which ascend. There are none if no group has the
     /// number.
     pub fn places(&self, number: usize) -> &[usize]
@@ -278,6 +298,22 @@ impl<'a> Groups<'a> {
         match self.packages.get(place) {
             Some(package) => is_pinned_match(dependency, package),
             None => false,
+        }
+    }
+
+    // Whether the package at a place is of a dependency's own words. The one error is `Memory`.
+    pub(crate) fn is_of_own_words(
+        &self,
+        dependency: &Dependency,
+        place: usize,
+    ) -> error::Result<bool>
+        ensures ok { IfOk result (λ is.
+            Decides is (IsOfOwnWordsAt self.now.packages dependency.now place)) }
+        ensures err { IsOkUnless result Memory }
+    {
+        match self.packages.get(place) {
+            Some(package) => is_of_own_words(dependency, package),
+            None => Ok(false),
         }
     }
 

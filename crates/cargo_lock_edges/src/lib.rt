@@ -14,6 +14,7 @@ mod likeness;
 mod nearest;
 pub mod settled;
 mod targets;
+pub mod words;
 
 pub use crate::graph::own_graph;
 pub use crate::groups::Groups;

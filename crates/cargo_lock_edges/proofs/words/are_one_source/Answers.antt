@@ -2,8 +2,8 @@ use Rattle.std.proofs.Common.{◌≡◌, ◌∙◌, sym}
 use Rattle.cargo_lock_parts.specs.Source.{Source}
 use Rattle.cargo_lock_parts.specs.SourceKey.{key_of}
 use Rattle.cargo_lock_parts.specs.SourceLaws.{is_same_source-Decides}
-use Rattle.cargo_lock_merge_core.specs.Commits.{key_without_commit}
-use Rattle.cargo_lock_merge_core.proofs.linked.are_one_source.Goals as goal
+use Rattle.cargo_lock_edges.specs.Nearest.{key_without_commit}
+use Rattle.cargo_lock_edges.proofs.words.are_one_source.Goals as goal
 
 pub returns-clause-ok : goal.returns-clause-ok
 returns-clause-ok c =
