@@ -12,8 +12,9 @@ use Rattle.cargo_lock_parts.specs.Identity.{Identity, IdentityKey, PackageData, 
 use Rattle.cargo_lock_parts.specs.Source.{Source, is_git}
 use Rattle.cargo_lock_parts.specs.SourceKey.{Key, key_of}
 use Rattle.cargo_lock_graph.specs.Targets.{IsLastBelow}
-use Rattle.cargo_lock_merge_core.specs.Commits.{Lockfiles, key_without_commit}
-use Rattle.cargo_lock_merge_core.specs.Linked.{AreStatedOnce, IsAlone}
+use Rattle.cargo_lock_edges.specs.Nearest.{key_without_commit}
+use Rattle.cargo_lock_merge_core.specs.Commits.{Lockfiles}
+use Rattle.cargo_lock_merge_core.specs.Linked.{AreStatedOnce}
 use Rattle.cargo_lock_merge_core.specs.Lists.{AreNumbered, AreSlots, BeginsAt, HasReplacement, IsLastAt, IsNumber, IsNumberAt, IsNumberedAt, IsReplaced, no_place, place_at, replaced_place}
 use Rattle.cargo_lock_merge_core.specs.Numbered.{place_number, place_numbers}
 use Rattle.cargo_lock_merge_core.specs.Placed.{HasOneAtEach, PlacedData}
@@ -85,9 +86,6 @@ module _ (places : List Place) where
           let at-n = (are.each n j).1 (low-j, number) in
           let at-n' = (are.each n k).1 (low-k, moved) in
           same_Some j k (same_Some (Some j) (Some k) (sym at-n ∙ at-n'))
-
-      pub alone-there : (k : ℕ) (p : PackageData) → slice_get packages k ≡ Some p → ((q : PackageData) → identity_key (identity_of q) ≡ identity_key (identity_of p) → merge_place all q ≡ merge_place all p) → IsAlone packages k p
-      alone-there k p at same j q at-j keys = one-there j k q p at-j at (same q keys)
 
 -- ---- places by keys of identities
 
@@ -207,11 +205,8 @@ module _ (places : List Place) (offset : ℕ) (packages : List PackageData) (slo
   module _ (xs : List (PlacedData ℕ)) (are : AreSlots places offset (length packages) slots) (h : AreFirst places offset packages slots (length places) xs) (all : Lockfiles) (begins : BeginsAt all places packages offset) where
     -- packages of one name, version and source but for the commit are at one place
     stated-once : AreStatedOnce packages
-    stated-once i j k a b = one-there places offset packages slots are all begins j k a.one b.one a.here b.here
-        (place-stated all a.one b.one (sym a.named.name ∙ b.named.name) (sym a.named.version ∙ b.named.version) (a.source ∙ sym b.source))
-
-    alone : (k : ℕ) (x : PlacedData ℕ) → IsNumberedAt places offset packages k x → IsAlone packages k x.content
-    alone k x one = alone-there places offset packages slots are all begins k x.content one.content (λ q keys. place-of-key all q x.content keys)
+    stated-once i j k a b = one-there places offset packages slots are all begins j k a.0 b.0 a.1 b.1
+        (place-stated all a.0 b.0 (sym a.2.named.name ∙ b.2.named.name) (sym a.2.named.version ∙ b.2.named.version) (a.2.source ∙ sym b.2.source))
 
     -- what a package refers to has a number
     place-number : (x : PlacedData ℕ) → Contains xs x → IsNumber places x.place
@@ -220,7 +215,7 @@ module _ (places : List Place) (offset : ℕ) (packages : List PackageData) (slo
     depends-number : (x : PlacedData ℕ) (n : ℕ) → Contains xs x → Contains x.dependencies n → IsNumber places n
     depends-number x n among depends =
         let (k, at, one) = h.each x among in
-        let (t, target, number) = (one.dependencies (alone k x one) stated-once n).0 depends in
+        let (t, target, number) = (one.dependencies stated-once n).0 depends in
         number-is places (offset + t) n number
 
     replaced-number : (x : PlacedData ℕ) (n : ℕ) → Contains xs x → x.replacement ≡ Some n → IsNumber places n
@@ -246,16 +241,16 @@ module _ (places : List Place) (offset : ℕ) (packages : List PackageData) (slo
       place = to-place k x.place x.content one.content one.place;
       content = refl;
       found = λ i depends.
-          let (t, target) = one.found (alone k x one) i depends in
+          let (t, target) = one.found i depends in
           let (q, at) = refers-within packages i t target in
           let (n, number) = are.all_there t (slice_get_within packages t q at) in (
             place_at places n,
             (t, q, target, at, to-place t n q at number),
-            in-map (place_at places) x.dependencies n ((one.dependencies (alone k x one) stated-once n).1 (t, (i, depends, target), number)),
+            in-map (place_at places) x.dependencies n ((one.dependencies stated-once n).1 (t, (i, depends, target), number)),
           );
       dependencies = λ d among.
           let (n, depends, is) = map-in (place_at places) x.dependencies d among in
-          let (t, (i, listed, target), number) = (one.dependencies (alone k x one) stated-once n).0 depends in
+          let (t, (i, listed, target), number) = (one.dependencies stated-once n).0 depends in
           let (q, at) = refers-within packages i t target in
           (i, listed, (t, q, target, at, sym is ∙ to-place t n q at number));
       replacement = replaced x.content.replace x.replacement one.replacement;
@@ -264,7 +259,7 @@ module _ (places : List Place) (offset : ℕ) (packages : List PackageData) (slo
         replaced : (r : Option Identity) (n : Option ℕ) → HasReplacement places offset packages r n → IsReplacementIn all packages r (option_map (place_at places) n)
         replaced None n e = ap (option_map (place_at places)) e
         replaced (Some i) None e = absurd e
-        replaced (Some i) (Some n) (t, stated, number) = (t, stated.one, stated, stated.here, to-place t n stated.one stated.here number)
+        replaced (Some i) (Some n) (t, stated, number) = (t, stated.0, stated, stated.1, to-place t n stated.0 stated.1 number)
 
     are-distinct : AllPairs (λ p q. merge_place all p ≢ merge_place all q) packages
     are-distinct i j d less low same =

@@ -9,6 +9,7 @@ use Rattle.cargo_lock_parts.specs.declared.error.Error.TheVariants.{Memory}
 use Rattle.cargo_lock_table_flaws.specs.Marks.{conflict_mark_line}
 use Rattle.cargo_lock_graph.specs.Edges.{GraphData}
 use Rattle.cargo_lock_graph.specs.Targets.{AreEdgesOf}
+use Rattle.cargo_lock_edges.specs.OwnGraph.{IsOwnGraph}
 use Rattle.cli_support.specs.declared.fault.Fault.{Fault}
 use Rattle.cli_support.specs.declared.fault.Fault.TheVariants.{ConflictMarks, File, FileAfter}
 use Rattle.cli_support.specs.declared.fault.Fault.TheVariants.{Library, TooLarge, TooLongVersions}
@@ -51,11 +52,13 @@ IsTextFault argument text fault = (error : Error) × IsReadingFault argument tex
 abbrev pub IsMeantWithCargoChecksums : LockfileData → Type 0
 IsMeantWithCargoChecksums x = (l : LockfileData) × IsMeant l × (x ≡ with_cargo_checksums_in l)
 
--- the graph is that of the packages of a lockfile
+-- the graph is that of the tree of a lockfile
 pub record IsGraphOf (l : LockfileData) (graph : GraphData) : Type 0 where
   pub packages : graph.packages ≡ l.packages
   pub edges : AreEdgesOf l.packages graph.edges
 
--- the format and the graph are those of a lockfile that some text means
-abbrev pub IsGraphRead : ResolveVersion → GraphData → Type 0
-IsGraphRead format graph = (l : LockfileData) × IsMeant l × (l.version ≡ format) × IsGraphOf l graph
+-- the format is that of a lockfile that some text means, and the graph that of its packages, as their
+-- dependencies lead
+abbrev pub IsOwnGraphRead : ResolveVersion → GraphData → Type 0
+IsOwnGraphRead format graph = (l : LockfileData) × IsMeant l × (l.version ≡ format)
+    × IsOwnGraph l.packages graph

@@ -10,7 +10,7 @@ ghost use Rattle.cargo_lock_parts.specs.Error.{IsLong, RefusesUrls};
 ghost use Rattle.cli_input.specs.Json.{document_path, named_file_of};
 ghost use Rattle.cli_input.specs.Limit.{IsAtLimit, IsBeyondFault, IsBeyondLimit, IsInLimit};
 ghost use Rattle.cli_input.specs.Limit.{IsReadInLimit};
-ghost use Rattle.cli_input.specs.Load.{IsGraphOf, IsGraphRead, IsMeantWithCargoChecksums};
+ghost use Rattle.cli_input.specs.Load.{IsGraphOf, IsMeantWithCargoChecksums, IsOwnGraphRead};
 ghost use Rattle.cli_input.specs.Load.{IsOfLockfile, IsOfLockfileUnnamed, IsReadingFault};
 ghost use Rattle.cli_input.specs.Load.{IsTextFault};
 ghost use Rattle.cli_support.specs.Input.{given_path_in};
@@ -18,6 +18,7 @@ ghost use Rattle.cli_support.specs.Input.{given_path_in};
 use cargo_lock::dependency::graph::Graph;
 use cargo_lock::{Error, Lockfile, ResolveVersion};
 use cargo_lock_display::File;
+use cargo_lock_edges::own_graph;
 use cargo_lock_limit::lockfile_within;
 use cargo_lock_table_flaws::conflict_mark_line;
 use clap::ArgMatches;
@@ -155,21 +156,23 @@ pub fn lockfile_without_packages(alloc: Global) -> Result<Lockfile, Fault>
     Ok(compared)
 }
 
-/// The format of the lockfile at the path of the option `file`, and the graph of its packages.
-/// Fails if it is not read, with the path in the error, or if no package matches a dependency.
+/// The format of the lockfile at the path of the option `file`, and the graph of its packages, as
+/// their dependencies lead in this project's own commands. Fails if it is not read, with the path in
+/// the error, or if no package matches a dependency.
 pub fn named_graph<R: Files + Input + AllocGlobal>(
     rt: &R,
     options: &ArgMatches<'_>,
 ) -> Result<(ResolveVersion, Graph), Fault>
-    ensures { IfOk result (λ read. IsGraphRead read.0 read.1) }
+    ensures { IfOk result (λ read. IsOwnGraphRead read.0 read.1) }
 {
     let lockfile = named_lockfile(rt, options, "file")?;
     let format = lockfile.version;
-    let graph = graph_of(rt.alloc(), lockfile)?;
+    let graph = own_graph(rt.alloc(), &lockfile.packages)?;
     Ok((format, graph))
 }
 
-/// The graph of the lockfile's packages. Fails if no package matches a dependency.
+/// The graph of the lockfile's packages, which is that of its tree. Fails if no package matches a
+/// dependency.
 pub fn graph_of(alloc: Global, lockfile: Lockfile) -> Result<Graph, Error>
     ensures { IfOk result (λ graph. IsGraphOf lockfile graph) }
 {

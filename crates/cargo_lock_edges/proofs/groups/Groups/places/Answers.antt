@@ -1,0 +1,10 @@
+use Rattle.std.proofs.Common.{◌≤◌, ◌∙◌, ℕ, List, ap, subst, sym, unwrap_or, slice_get, []}
+use Rattle.std.specs.List.{AllPairs}
+use Rattle.cargo_lock_edges.specs.Groups.{Grouping, group_places}
+use Rattle.cargo_lock_edges.proofs.GroupsAscend.{ascending-places}
+use Rattle.cargo_lock_edges.proofs.groups.Groups.places.Goals as goal
+
+pub returns-clause-ascend : goal.returns-clause-ascend
+returns-clause-ascend c =
+    subst (λ (ks : List ℕ). AllPairs (λ a b. a ≤ b) ks) (sym c.places.ensures)
+    (ascending-places _ _ c.args.number c.self.invariant.groups.ascend)

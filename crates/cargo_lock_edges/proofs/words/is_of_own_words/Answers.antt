@@ -1,0 +1,19 @@
+use Rattle.std.proofs.Common.{◌∙◌, sym}
+use Rattle.std.proofs.lemmas.Bool.{false≢true}
+use Rattle.std.proofs.lemmas.Result.{IfOk-weaker}
+use Rattle.cargo_lock_edges.proofs.words.is_of_own_words.Goals as goal
+
+pub returns-then-matches-clause-ok : goal.returns-then-matches-clause-ok
+returns-then-matches-clause-ok c =
+    IfOk-weaker c.have_one_source.result _ _
+    (λ is h. (
+      λ yes. record { named = c.matches.ensures.0 c.if-matches.true; source = h.0 yes },
+      λ own. h.1 own.source,
+    ))
+    c.have_one_source.ensures.ok
+
+pub returns-else-matches-clause-ok : goal.returns-else-matches-clause-ok
+returns-else-matches-clause-ok c = (
+  λ yes. absurd (false≢true yes),
+  λ own. absurd (false≢true (sym c.if-matches.false ∙ c.matches.ensures.1 own.named)),
+)
