@@ -154,10 +154,7 @@ fn print_audit<R: Files + Input + AllocGlobal, W: Write>(
         (status ≡ ExitCode.FAILURE) (status ≡ ExitCode.SUCCESS)) }
 {
     let older = older_lockfile(rt, options)?;
-    let audited = Audited {
-        packages: lockfile.packages.as_slice(),
-        older: packages_before(&older),
-    };
+    let audited = audited_since(lockfile, &older);
     print_audited(rt, options, settings, file, &audited, out)
 }
 
@@ -172,6 +169,18 @@ fn older_lockfile<R: Files + Input + AllocGlobal>(
     match options.get_str("since") {
         Some(_) => Ok(Some(named_lockfile(rt, options, "since")?)),
         None => Ok(None),
+    }
+}
+
+/// What is audited: the packages of a lockfile, since an older one if there is one.
+fn audited_since<'p>(lockfile: &'p Lockfile, older: &'p Option<Lockfile>) -> Audited<'p>
+    ensures packages { result.packages.now ≡ lockfile.now.packages }
+    ensures older { option_copied result.older ≡ packages_before older.now }
+{
+    let before = packages_before(older);
+    Audited {
+        packages: lockfile.packages.as_slice(),
+        older: before,
     }
 }
 
