@@ -5,8 +5,8 @@ use Rattle.cargo_lock_graph.specs.Targets.{HasTarget, links}
 use Rattle.cargo_lock_edges.proofs.OwnLaws.{links-found}
 use Rattle.cargo_lock_merge_core.proofs.linked.Linked.of.Goals as goal
 
-pub invariant : goal.invariant
-invariant c =
+pub invariant_of-result : goal.invariant_of-result
+invariant_of-result c =
     let packages : List PackageData = c.args.packages.now in
     subst (λ (ps : List PackageData). All (HasTarget ps) (links ps)) (sym c.in_ok-groups.ensures)
     (links-found packages (links packages) _ c.in_ok-own_graph.ensures.ok.edges)
