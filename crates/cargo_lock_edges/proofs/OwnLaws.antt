@@ -1,21 +1,20 @@
 -- What comes first where a dependency leads.
-use Rattle.std.proofs.Common.{◌≡◌, ◌++◌, ◌∷◌, ◌∙◌, [], inl, inr, ℕ, List, Option, None, Some, ap, option_map, refl, slice_get, subst, sym}
+use Rattle.std.proofs.Common.{◌≡◌, ◌++◌, ◌∷◌, ◌∙◌, [], inl, inr, ℕ, List, Option, None, Some, ap, refl, slice_get, subst, sym}
 use Rattle.std.specs.List.{All, AllZip}
 use Rattle.std.proofs.lemmas.List.Elements.{All-cons, All-nil}
 use Rattle.std.proofs.lemmas.Option.{same_Some}
 use Rattle.cargo_lock_parts.specs.Identity.{Identity, IdentityKey, PackageData}
-use Rattle.cargo_lock_parts.specs.Source.{Source}
-use Rattle.cargo_lock_parts.specs.SourceKey.{Key, key_of}
 use Rattle.cargo_lock_graph.specs.Edges.{Edge}
 use Rattle.cargo_lock_graph.specs.Targets.{HasIdentity, HasTarget, IsTarget, Link}
 use Rattle.cargo_lock_graph.proofs.BestCandidates.{exact-target}
 use Rattle.cargo_lock_edges.specs.Laws.{IdentityIsNearest, LostHaveNoOwnEdges, OthersLeadAsInTrees, OwnWordsComeFirst, ReplacedLeadOn}
 use Rattle.cargo_lock_edges.specs.Leads.{LeadsToPackage, IsInItsPlace}
-use Rattle.cargo_lock_edges.specs.Nearest.{IsOfOwnWords, key_without_commit}
+use Rattle.cargo_lock_edges.specs.Nearest.{IsOfOwnWords}
 use Rattle.cargo_lock_edges.specs.OwnGraph.{IsOwnEdgeOf}
 use Rattle.cargo_lock_edges.proofs.LeadPlaces.{lead-found}
 use Rattle.cargo_lock_edges.proofs.LeadsOnce.{nearest_is_one}
 use Rattle.cargo_lock_edges.proofs.NearestPlaces.{nearest-found, plain}
+use Rattle.cargo_lock_edges.proofs.OwnWords.{bare-alike}
 use Rattle.cargo_lock_edges.proofs.TargetsFound.{target-or-lost}
 
 pub own_words_come_first : OwnWordsComeFirst
@@ -30,22 +29,13 @@ others_lead_as_in_trees packages d place none (inr (_, target)) = target
 
 -- ---- a package with the dependency's identity
 
--- sources of one key are of the same words
-words-of-keys : (x y : Option Source) → option_map key_of x ≡ option_map key_of y
-    → option_map key_without_commit x ≡ option_map key_without_commit y
-words-of-keys None None same = refl
-words-of-keys None (Some b) same = cc same
-words-of-keys (Some a) None same = cc same
-words-of-keys (Some a) (Some b) same =
-    ap (λ (k : Key). Some record k { precise = None }) (same_Some (key_of a) (key_of b) same)
-
 words-of-identity : (d : Identity) (p : PackageData) → HasIdentity d p → IsOfOwnWords d p
 words-of-identity d p same = record {
   named = record {
     name = sym (ap (λ (k : IdentityKey). k.name) same);
     version = sym (ap (λ (k : IdentityKey). k.version) same);
   };
-  source = words-of-keys p.source d.source (ap (λ (k : IdentityKey). k.source) same);
+  source = bare-alike p.source d.source (ap (λ (k : IdentityKey). k.source) same);
 }
 
 pub identity_is_nearest : IdentityIsNearest

@@ -205,7 +205,8 @@ pub own-cases : (d : Identity) (p : PackageData) (rank : ℕ) → Matches d rank
     → IsOfOwnWords d p ⊎ ¬ IsOfOwnWords d p
 own-cases d p rank f =
     let tells : RankTells rank d.source p.source = rank-tells d.source p.source rank f.ranked in
-    let bounds = rank-bounds d p rank f in
+    let low = (rank-bounds d p rank f).0 in
+    let high = (rank-bounds d p rank f).1 in
     elim (cases_eq rank 1) [
       | inl one ↦ inl (own-by d p rank f (tells.one one))
       | inr no-one ↦ elim (cases_eq rank 3) [
@@ -216,7 +217,7 @@ own-cases d p rank f =
             | inr other ↦ inr (λ own. false≢true (sym other ∙ tells.back two own.source))
           ]
           | inr no-two ↦ inr (λ own.
-              tells.four (omega (arith, bounds, no-one, no-two, no-three)) own.source)
+              tells.four (omega (arith, low, high, no-one, no-two, no-three)) own.source)
         ]
       ]
     ]
@@ -327,7 +328,7 @@ matches-alike d p q rank same f = record {
       ∙ f.ranked;
 }
 
-bare-alike : (x y : Option Source) → option_map key_of x ≡ option_map key_of y
+pub bare-alike : (x y : Option Source) → option_map key_of x ≡ option_map key_of y
     → option_map key_without_commit x ≡ option_map key_without_commit y
 bare-alike None None e = refl
 bare-alike None (Some b) e = cc e
