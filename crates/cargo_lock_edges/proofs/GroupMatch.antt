@@ -54,7 +54,7 @@ put-tied s (Some g) (Some h) place tied put = put h tied
 
 -- ---- comparisons in a row
 
-five : (r s t u v : Ordering) → r ≡ Equal → s ≡ Equal → t ≡ Equal → u ≡ Equal → v ≡ Equal
+pub five : (r s t u v : Ordering) → r ≡ Equal → s ≡ Equal → t ≡ Equal → u ≡ Equal → v ≡ Equal
     → is_eq (ordering_then (ordering_then (ordering_then (ordering_then r s) t) u) v) ≡ true
 five r s t u v er es et eu ev =
     λ i. is_eq (ordering_then (ordering_then (ordering_then (ordering_then (er i) (es i)) (et i))
@@ -68,14 +68,14 @@ four-and-two r s t u v w er es et eu ev ew =
     λ i. is_eq (ordering_then (ordering_then (ordering_then (ordering_then (er i) (es i)) (et i))
     (eu i)) (ordering_then (ev i) (ew i)))
 
-text-tied : (x y : List ℕ) → x ≡ y → text_cmp x y ≡ Equal
+pub text-tied : (x y : List ℕ) → x ≡ y → text_cmp x y ≡ Equal
 text-tied x y e = subst (λ z. text_cmp x z ≡ Equal) e (tied_itself nat_list_cmp_total x)
 
 optional-tied : (x y : Option (List ℕ)) → x ≡ y → option_cmp text_cmp x y ≡ Equal
 optional-tied x y e = subst (λ z. option_cmp text_cmp x z ≡ Equal) e
     (tied_itself (options_total nat_list_cmp_total) x)
 
-number-tied : (x y : ℕ) → x ≡ y → nat_cmp x y ≡ Equal
+pub number-tied : (x y : ℕ) → x ≡ y → nat_cmp x y ≡ Equal
 number-tied x y e = subst (λ z. nat_cmp x z ≡ Equal) e (tied_itself nat_cmp_total x)
 
 -- ---- the first condition of a rank that holds
@@ -99,7 +99,7 @@ or-cases false y h = inr h
 pub same-bytes : (x y : List ℕ) → bytes_eq x y ≡ true → x ≡ y
 same-bytes x y h = (bytes_eq-Decides x y).0 h
 
-names-tied : (x y : Option (List ℕ)) → option_eq bytes_eq x y ≡ true → option_cmp text_cmp x y ≡ Equal
+pub names-tied : (x y : Option (List ℕ)) → option_eq bytes_eq x y ≡ true → option_cmp text_cmp x y ≡ Equal
 names-tied None None h = refl
 names-tied None (Some y) h = absurd (false≢true h)
 names-tied (Some x) None h = absurd (false≢true h)

@@ -7,9 +7,10 @@ use Rattle.cargo_lock_parts.specs.Identity.{Identity, PackageData}
 use Rattle.lists.proofs.Members.{same-place}
 use Rattle.cargo_lock_edges.specs.declared.likeness.Likeness.{Likeness}
 use Rattle.cargo_lock_edges.specs.declared.likeness.Likeness.TheVariants.{Rank}
-use Rattle.cargo_lock_edges.specs.Groups.{Grouping, IsPinnedMatch, group_places}
+use Rattle.cargo_lock_edges.specs.declared.groups.BestGroup.{BestGroup}
+use Rattle.cargo_lock_edges.specs.Groups.{Grouping, IsBestGroup, IsPinnedMatch, group_places}
 use Rattle.cargo_lock_edges.specs.Likeness.{HasAllLike, IsLastLike, IsLikeAt}
-use Rattle.cargo_lock_edges.specs.Nearest.{HasNoOwn, IsNearest, IsOwnTarget}
+use Rattle.cargo_lock_edges.specs.Nearest.{HasNoOwn, IsNearestPackage, IsNearestTarget, IsOwnTarget}
 use Rattle.cargo_lock_graph.specs.Targets.{MatchesAt}
 use Rattle.cargo_lock_edges.proofs.NearestPlaces.{none-other, none-own, other-fourth, target-third}
 
@@ -87,6 +88,34 @@ fourth-or-none packages d (Some place) none second h = other-fourth packages d p
 
 pub nearest-or-none : (packages : List PackageData) (d : Identity) (o : Option ℕ)
     → HasNoOwn packages d → MatchOption o (IsLost packages d) (IsTarget packages d)
-    → MatchOption o (IsLost packages d) (IsNearest packages d)
+    → MatchOption o (IsLost packages d) (IsNearestPackage packages d)
 nearest-or-none packages d None none h = h
 nearest-or-none packages d (Some place) none h = inr (none, h)
+
+-- the last of those that match with the best rank is that to which the dependency resolves
+pub target-of-best : (groups : Grouping) (d : Identity) (best : BestGroup) (o : Option ℕ)
+    → IsBestGroup groups d best
+    → MatchOption o ((k : ℕ) → ¬ IsLikeAt groups.packages d (Rank best.rank) k)
+    (IsLastLike groups.packages d (Rank best.rank))
+    → MatchOption o (IsLost groups.packages d) (IsTarget groups.packages d)
+target-of-best groups d best None is none = absurd (none is.some.0 is.some.1)
+target-of-best groups d best (Some place) is last = record {
+  rank = best.rank;
+  fits = last.like;
+  least = is.least;
+  last = last.last;
+}
+
+-- ---- the only package of a name and a version
+
+pub fit-target : (packages : List PackageData) (d : Identity) (o : Option ℕ)
+    → MatchOption o (IsLost packages d) (IsNearestTarget packages d)
+    → MatchOption o (IsLost packages d) (IsTarget packages d)
+fit-target packages d None lost = lost
+fit-target packages d (Some place) both = both.1
+
+pub fit-nearest : (packages : List PackageData) (d : Identity) (o : Option ℕ)
+    → MatchOption o (IsLost packages d) (IsNearestTarget packages d)
+    → MatchOption o (IsLost packages d) (IsNearestPackage packages d)
+fit-nearest packages d None lost = lost
+fit-nearest packages d (Some place) both = both.0

@@ -7,7 +7,7 @@ use Rattle.cargo_lock_parts.specs.Identity.{Identity, PackageData, identity_of}
 use Rattle.cargo_lock_graph.specs.Edges.{Edge}
 use Rattle.cargo_lock_graph.specs.Targets.{HasIdentity, HoldsOf, IsLastBelow, IsTarget, Link, MatchesAt, links}
 use Rattle.cargo_lock_edges.specs.Laws.{LeadIsOne, NearestIsOne, OwnEndsAreOne}
-use Rattle.cargo_lock_edges.specs.Leads.{StandsFor}
+use Rattle.cargo_lock_edges.specs.Leads.{IsInItsPlace}
 use Rattle.cargo_lock_edges.specs.Nearest.{IsOwnMatch, IsOwnTarget}
 use Rattle.cargo_lock_edges.specs.OwnGraph.{IsOwnEdgeOf}
 use Rattle.cargo_lock_edges.proofs.NearestPlaces.{nearest-found}
@@ -63,7 +63,7 @@ nearest_is_one packages d j k (inr (none, a)) (inr (other, b)) = one-target pack
 -- ---- what stands for a package
 
 stands-one : (packages : List PackageData) (replace : Option Identity) (near j k : ℕ)
-    → StandsFor packages replace near j → StandsFor packages replace near k → j ≡ k
+    → IsInItsPlace packages replace near j → IsInItsPlace packages replace near k → j ≡ k
 stands-one packages None near j k a b = sym a ∙ b
 stands-one packages (Some r) near j k (inl a) (inl b) = nearest_is_one packages r j k a b
 stands-one packages (Some r) near j k (inl a) (inr (lost, b)) = absurd (nearest-found packages r j a lost)
@@ -76,9 +76,9 @@ lead_is_one packages d j k a b =
     let (p, here, mine) = a.stands in
     let (q, there, yours) = b.stands in
     let one : q ≡ p = same_Some q p (sym there ∙ ap (slice_get packages) (sym same) ∙ here) in
-    let other : StandsFor packages p.replace a.near k =
-    subst (λ (r : PackageData). StandsFor packages r.replace a.near k) one
-    (subst (λ n. StandsFor packages q.replace n k) (sym same) yours) in
+    let other : IsInItsPlace packages p.replace a.near k =
+    subst (λ (r : PackageData). IsInItsPlace packages r.replace a.near k) one
+    (subst (λ n. IsInItsPlace packages q.replace n k) (sym same) yours) in
     stands-one packages p.replace a.near j k mine other
 
 -- ---- edges

@@ -7,7 +7,7 @@ use Rattle.cargo_lock_graph.specs.Targets.{HasIdentity, HoldsOf, IsLastWith, IsL
 use Rattle.cargo_lock_edges.specs.declared.likeness.Likeness.TheVariants.{Pinned, Rank}
 use Rattle.cargo_lock_edges.specs.Groups.{IsNamedAt, IsOnlyPlace, IsPinnedMatch, fits_source}
 use Rattle.cargo_lock_edges.specs.Likeness.{IsLastLike, IsLikeAt}
-use Rattle.cargo_lock_edges.specs.Nearest.{HasNoOwn, IsNearest, IsOfOwnWords, IsOwnMatch, IsOwnTarget}
+use Rattle.cargo_lock_edges.specs.Nearest.{HasNoOwn, IsNearestPackage, IsOfOwnWords, IsOwnMatch, IsOwnTarget}
 use Rattle.cargo_lock_edges.proofs.Grouping.{rank-positive, rank-small}
 use Rattle.cargo_lock_edges.proofs.OnlyOnes.{match-named, rank-there}
 use Rattle.cargo_lock_edges.proofs.OwnWords.{RankTells, matches-alike, own-alike, own-by, own-cases, rank-tells}
@@ -221,7 +221,7 @@ target-only packages d place f only fits =
 
 pub nearest-only : (packages : List PackageData) (d : Identity) (place : ℕ)
     → IsNamedAt packages d place → IsOnlyPlace packages d place
-    → fits_source d (slice_get packages place) ≡ true → IsNearest packages d place
+    → fits_source d (slice_get packages place) ≡ true → IsNearestPackage packages d place
 nearest-only packages d place f only fits =
     let m : IsOnlyMatch packages d place f.0 = only-match-of packages d place f only fits in
     elim (own-cases d f.0 m.rank m.fits) [
@@ -244,26 +244,26 @@ nearest-only packages d place f only fits =
 -- ---- what follows of the nearest one
 
 nearest-match : (packages : List PackageData) (d : Identity) (place : ℕ)
-    → IsNearest packages d place → (rank : ℕ) × MatchesAt packages d place rank
+    → IsNearestPackage packages d place → (rank : ℕ) × MatchesAt packages d place rank
 nearest-match packages d place (inl own) = (own.rank, plain packages d place own.rank own.fits)
 nearest-match packages d place (inr (none, target)) = (target.rank, target.fits)
 
 -- it is a place of the list
 pub nearest-within : (packages : List PackageData) (d : Identity) (place : ℕ)
-    → IsNearest packages d place → place < length packages
+    → IsNearestPackage packages d place → place < length packages
 nearest-within packages d place h =
     let (rank, (p, here, f)) = nearest-match packages d place h in
     slice_get_within packages place p here
 
 -- some package matches the dependency
 pub nearest-found : (packages : List PackageData) (d : Identity) (place : ℕ)
-    → IsNearest packages d place → ¬ IsLost packages d
+    → IsNearestPackage packages d place → ¬ IsLost packages d
 nearest-found packages d place h lost =
     let (rank, f) = nearest-match packages d place h in lost place rank f
 
 -- no later package has the identity of the nearest one
 pub nearest-last : (packages : List PackageData) (d : Identity) (place : ℕ) (p : PackageData)
-    → slice_get packages place ≡ Some p → IsNearest packages d place
+    → slice_get packages place ≡ Some p → IsNearestPackage packages d place
     → IsLastWith packages (identity_of p) (Some place)
 nearest-last packages d place p here h = (
   slice_get_within packages place p here,
@@ -271,7 +271,7 @@ nearest-last packages d place p here h = (
   λ k after low there. later h k after there,
 )
   where
-    later : IsNearest packages d place → (k : ℕ) → place < k
+    later : IsNearestPackage packages d place → (k : ℕ) → place < k
         → ¬ HoldsOf (HasIdentity (identity_of p)) packages k
     later (inl own) k after (q, at, same) =
         let (mine, here-too, (f, words)) = own.fits in

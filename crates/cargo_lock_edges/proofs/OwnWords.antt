@@ -16,25 +16,14 @@ use Rattle.cargo_lock_parts.specs.Identity.{Identity, IdentityKey, PackageData, 
 use Rattle.cargo_lock_parts.specs.Rank.{are_different_texts, are_equal_texts, both_git, commit_of, has_rank_1, has_rank_2, has_rank_3, has_rank_4, is_open_git, is_same_other_kind, least_rank, rank_of, revision, same_kind, same_url_and_name}
 use Rattle.cargo_lock_parts.specs.Source.{Directory, Git, Kind, LocalRegistry, Path, Registry, Source, SparseRegistry, is_git}
 use Rattle.cargo_lock_parts.specs.SourceKey.{Key, git_reference_text, key_cmp, key_of, kind_cmp, kind_number, precise_if_git}
+use Rattle.cargo_lock_parts.specs.SourceLaws.{key_same}
 use Rattle.cargo_lock_parts.proofs.RankLemmas.{rank_one_is_equal_keys}
 use Rattle.cargo_lock_graph.specs.Targets.{Matches, rank_between}
 use Rattle.cargo_lock_edges.specs.Group.{have_one_kind}
 use Rattle.cargo_lock_edges.specs.Nearest.{IsOfOwnWords, key_without_commit}
-use Rattle.cargo_lock_edges.proofs.GroupMatch.{both, first-of-other, kinds-tied, one-kind, or-cases, rank-bounds, rank-cases, same-bytes}
+use Rattle.cargo_lock_edges.proofs.GroupMatch.{both, first-of-other, five, kinds-tied, names-tied, number-tied, one-kind, or-cases, rank-bounds, rank-cases, same-bytes, text-tied}
 
 -- ---- texts, names and kinds that are the same
-
-same-names : (x y : Option (List ℕ)) → option_eq bytes_eq x y ≡ true → x ≡ y
-same-names None None h = refl
-same-names None (Some y) h = absurd (false≢true h)
-same-names (Some x) None h = absurd (false≢true h)
-same-names (Some x) (Some y) h = ap Some (same-bytes x y h)
-
-one-name : (x y : Option (List ℕ)) → x ≡ y → option_eq bytes_eq x y ≡ true
-one-name None None e = refl
-one-name None (Some y) e = cc e
-one-name (Some x) None e = cc e
-one-name (Some x) (Some y) e = (bytes_eq-Decides x y).1 (same_Some x y e)
 
 kind-of-same : (j k : Kind) → same_kind j k ≡ true → j ≡ k
 kind-of-same j k h =
@@ -48,15 +37,19 @@ same-itself j k e = both (kind_number j == kind_number k)
     ((Decides-eqb (kind_number j) (kind_number k)).1 (ap kind_number e))
     ((bytes_eq-Decides (git_reference_text j) (git_reference_text k)).1 (ap git_reference_text e))
 
--- the parts of one key without a commit
+-- sources of one URL, one name and one kind have one key without a commit
 keys-made : (a b : Source) → same_url_and_name a b ≡ true → a.kind ≡ b.kind
     → key_without_commit b ≡ key_without_commit a
 keys-made a b near kind =
     let parts = and_parts (bytes_eq (serialize a.url) (serialize b.url))
     (option_eq bytes_eq a.name b.name) near in
-    let url = same-bytes (serialize a.url) (serialize b.url) parts.0 in
-    let name = same-names a.name b.name parts.1 in
-    λ i. record { url = sym url i; name = sym name i; kind = sym kind i; precise = None }
+    sym (key_same (key_without_commit a) (key_without_commit b)
+    (five _ _ _ _ _
+    (text-tied (serialize a.url) (serialize b.url) (same-bytes _ _ parts.0))
+    (names-tied a.name b.name parts.1)
+    (number-tied (kind_number a.kind) (kind_number b.kind) (ap kind_number kind))
+    (text-tied (git_reference_text a.kind) (git_reference_text b.kind) (ap git_reference_text kind))
+    refl))
 
 -- sources of one key without a commit have one URL and one name
 near-by-key : (a b : Source) → key_without_commit b ≡ key_without_commit a
@@ -64,7 +57,13 @@ near-by-key : (a b : Source) → key_without_commit b ≡ key_without_commit a
 near-by-key a b e = both (bytes_eq (serialize a.url) (serialize b.url))
     (option_eq bytes_eq a.name b.name)
     ((bytes_eq-Decides (serialize a.url) (serialize b.url)).1 (ap (λ (k : Key). k.url) (sym e)))
-    (one-name a.name b.name (ap (λ (k : Key). k.name) (sym e)))
+    (names a.name b.name (ap (λ (k : Key). k.name) (sym e)))
+  where
+    names : (x y : Option (List ℕ)) → x ≡ y → option_eq bytes_eq x y ≡ true
+    names None None e = refl
+    names None (Some y) e = cc e
+    names (Some x) None e = cc e
+    names (Some x) (Some y) e = (bytes_eq-Decides x y).1 (same_Some x y e)
 
 pub kind-by-key : (a b : Source) → key_without_commit b ≡ key_without_commit a → a.kind ≡ b.kind
 kind-by-key a b e = ap (λ (k : Key). k.kind) (sym e)
@@ -206,7 +205,8 @@ pub own-cases : (d : Identity) (p : PackageData) (rank : ℕ) → Matches d rank
     → IsOfOwnWords d p ⊎ ¬ IsOfOwnWords d p
 own-cases d p rank f =
     let tells : RankTells rank d.source p.source = rank-tells d.source p.source rank f.ranked in
-    let bounds = rank-bounds d p rank f in
+    let low = (rank-bounds d p rank f).0 in
+    let high = (rank-bounds d p rank f).1 in
     elim (cases_eq rank 1) [
       | inl one ↦ inl (own-by d p rank f (tells.one one))
       | inr no-one ↦ elim (cases_eq rank 3) [
@@ -217,7 +217,7 @@ own-cases d p rank f =
             | inr other ↦ inr (λ own. false≢true (sym other ∙ tells.back two own.source))
           ]
           | inr no-two ↦ inr (λ own.
-              tells.four (omega (arith, bounds, no-one, no-two, no-three)) own.source)
+              tells.four (omega (arith, low, high, no-one, no-two, no-three)) own.source)
         ]
       ]
     ]
@@ -328,7 +328,7 @@ matches-alike d p q rank same f = record {
       ∙ f.ranked;
 }
 
-bare-alike : (x y : Option Source) → option_map key_of x ≡ option_map key_of y
+pub bare-alike : (x y : Option Source) → option_map key_of x ≡ option_map key_of y
     → option_map key_without_commit x ≡ option_map key_without_commit y
 bare-alike None None e = refl
 bare-alike None (Some b) e = cc e

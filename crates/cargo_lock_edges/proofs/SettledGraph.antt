@@ -10,7 +10,7 @@ use Rattle.cargo_lock_parts.specs.declared.error.Error.TheVariants.{Io, Memory, 
 use Rattle.cargo_lock_graph.specs.Edges.{Edge, GraphData}
 use Rattle.cargo_lock_graph.specs.Targets.{AreEdgesOf, HasIdentity, HasTarget, HoldsOf, IsEdgeOf, IsFirstLost, IsLastWith, IsLost, IsTarget, IsUnresolved, Link, Matches, MatchesAt, links, links_of, links_to, rank_between}
 use Rattle.cargo_lock_graph.proofs.BestCandidates.{exact-target}
-use Rattle.cargo_lock_edges.specs.Leads.{LeadsTo}
+use Rattle.cargo_lock_edges.specs.Leads.{LeadsToPackage}
 use Rattle.cargo_lock_edges.specs.OwnGraph.{AreOwnEdges, IsAlikeButForWords, IsOwnEdgeOf, IsOwnGraph}
 use Rattle.cargo_lock_edges.specs.Settled.{AreSettled, IsOfLead, IsSettledAs, IsSettledPackage}
 use Rattle.cargo_lock_edges.proofs.TargetsFound.{target-or-lost}
@@ -192,8 +192,8 @@ edge-leads packages settled l m e are link edge = record {
     there : IsTarget packages m.dependency e.to
     there = target-out packages settled m.dependency e.to are edge.to
 
-    to : IsSettledAs packages l.dependency m.dependency → LeadsTo packages l.dependency e.to
-    to (inl lead) = subst (LeadsTo packages l.dependency)
+    to : IsSettledAs packages l.dependency m.dependency → LeadsToPackage packages l.dependency e.to
+    to (inl lead) = subst (LeadsToPackage packages l.dependency)
         (one-target packages m.dependency lead.place e.to
         (lead-target packages l.dependency m.dependency lead) there) lead.leads
     to (inr (lost, same)) = absurd (lost e.to there.rank

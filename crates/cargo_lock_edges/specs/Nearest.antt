@@ -41,6 +41,10 @@ abbrev pub HasNoOwn : List PackageData → Identity → Type 0
 HasNoOwn packages d = (place rank : ℕ) → ¬ IsOwnMatch packages d place rank
 
 -- the place of the package that is nearest to the dependency
-abbrev pub IsNearest : List PackageData → Identity → ℕ → Type 0
-IsNearest packages d place = IsOwnTarget packages d place
+abbrev pub IsNearestPackage : List PackageData → Identity → ℕ → Type 0
+IsNearestPackage packages d place = IsOwnTarget packages d place
     ⊎ (HasNoOwn packages d × IsTarget packages d place)
+
+-- it is that to which the dependency resolves in a tree too
+abbrev pub IsNearestTarget : List PackageData → Identity → ℕ → Type 0
+IsNearestTarget packages d place = IsNearestPackage packages d place × IsTarget packages d place

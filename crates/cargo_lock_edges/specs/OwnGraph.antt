@@ -4,13 +4,13 @@ use Rattle.std.specs.List.{AllZip}
 use Rattle.cargo_lock_parts.specs.Identity.{PackageData, identity_of}
 use Rattle.cargo_lock_graph.specs.Edges.{Edge, GraphData}
 use Rattle.cargo_lock_graph.specs.Targets.{IsLastWith, Link, links}
-use Rattle.cargo_lock_edges.specs.Leads.{LeadsTo}
+use Rattle.cargo_lock_edges.specs.Leads.{LeadsToPackage}
 
 -- the edge of a package's dependency: from the last place with the package's identity to the place
 -- to which the dependency leads
 pub record IsOwnEdgeOf (packages : List PackageData) (link : Link) (e : Edge) : Type 0 where
   pub from : IsLastWith packages (identity_of link.from) (Some e.from)
-  pub to : LeadsTo packages link.dependency e.to
+  pub to : LeadsToPackage packages link.dependency e.to
 
 -- the edges: one for each dependency of each package, in order
 abbrev pub AreOwnEdges : List PackageData → List Edge → Type 0

@@ -3,13 +3,13 @@ use Rattle.std.specs.Prelude.{◌≡◌, ◌⊎◌, ℕ, List}
 use Rattle.std.specs.List.{AllZip}
 use Rattle.cargo_lock_parts.specs.Identity.{Identity, PackageData, identity_of}
 use Rattle.cargo_lock_graph.specs.Targets.{HoldsOf, IsLost}
-use Rattle.cargo_lock_edges.specs.Leads.{LeadsTo}
+use Rattle.cargo_lock_edges.specs.Leads.{LeadsToPackage}
 use Rattle.cargo_lock_edges.specs.OwnGraph.{IsAlikeButForWords}
 
 -- the second is the identity of a package to which the first leads
 pub record IsOfLead (packages : List PackageData) (d e : Identity) : Type 0 where
   pub place : ℕ
-  pub leads : LeadsTo packages d place
+  pub leads : LeadsToPackage packages d place
   pub is : HoldsOf (λ p. e ≡ identity_of p) packages place
 
 -- so it is, or no package fits the dependency, which stays as it is

@@ -175,22 +175,11 @@ pub(crate) fn pinned_group_of<'a>(identity: PartialIdentity<'a>) -> Option<Group
 pub(crate) fn words_group_of<'a>(dependency: &'a Dependency) -> Option<Group<'a>>
     ensures { result ≡ spec.words_group_of dependency.now }
 {
-    let rank = if is_from_git(&dependency.source) {
-        3
-    } else {
-        1
+    let rank = match &dependency.source {
+        Some(source) if source.is_git() => 3,
+        _ => 1,
     };
     group_of(rank, false, identity(dependency))
-}
-
-// Whether there is a source, and it is a repository.
-fn is_from_git(source: &Option<SourceId>) -> bool
-    ensures { result ≡ spec.is_from_git source.now }
-{
-    match source {
-        Some(source) => source.is_git(),
-        None => false,
-    }
 }
 
 // Whether two sources that are there have one kind, and a repository one reference.

@@ -211,7 +211,7 @@ impl<'a> Groups<'a> {
     }
 
     // The group of the packages that match a dependency best. `None` if no package matches.
-    fn best_group(&self, dependency: &'a Dependency) -> Option<BestGroup>
+    pub(crate) fn best_group(&self, dependency: &'a Dependency) -> Option<BestGroup>
         requires { AreShared self.now dependency.now }
         ensures { MatchOption result
             (IsLost self.now.packages dependency.now)

@@ -3,8 +3,8 @@
 
 ghost use Rattle.std.specs.Prelude.{ℕ, MatchOption};
 ghost use Rattle.cargo_lock_graph.specs.Targets.{IsLost, IsTarget, MatchesAt};
-ghost use Rattle.cargo_lock_edges.specs.Groups.{AreShared, IsNamedAt, IsOnlyPlace};
-ghost use Rattle.cargo_lock_edges.specs.Nearest.{HasNoOwn, IsNearest, IsOwnTarget};
+ghost use Rattle.cargo_lock_edges.specs.Groups.{AreShared};
+ghost use Rattle.cargo_lock_edges.specs.Nearest.{HasNoOwn, IsNearestPackage, IsOwnTarget};
 
 use crate::groups::{Groups, Named};
 use crate::likeness::Likeness;
@@ -21,27 +21,12 @@ impl<'a> Groups<'a> {
     pub fn nearest(&self, dependency: &'a Dependency) -> Option<usize>
         ensures { MatchOption result
             (IsLost self.now.packages dependency.now)
-            (IsNearest self.now.packages dependency.now) }
+            (IsNearestPackage self.now.packages dependency.now) }
     {
         match self.named(dependency) {
             Named::No => None,
-            Named::Only(place) => self.only_nearest(dependency, place),
+            Named::Only(place) => self.only_fit(dependency, place),
             Named::Several => self.nearest_of_several(dependency),
-        }
-    }
-
-    // The place, whose package is the only one of a dependency's name and version, if it matches.
-    fn only_nearest(&self, dependency: &Dependency, place: usize) -> Option<usize>
-        requires there { IsNamedAt self.now.packages dependency.now place }
-        requires only { IsOnlyPlace self.now.packages dependency.now place }
-        ensures { MatchOption result
-            (IsLost self.now.packages dependency.now)
-            (IsNearest self.now.packages dependency.now) }
-    {
-        if self.fits(dependency, place) {
-            Some(place)
-        } else {
-            None
         }
     }
 
@@ -50,7 +35,7 @@ impl<'a> Groups<'a> {
         requires { AreShared self.now dependency.now }
         ensures { MatchOption result
             (IsLost self.now.packages dependency.now)
-            (IsNearest self.now.packages dependency.now) }
+            (IsNearestPackage self.now.packages dependency.now) }
     {
         match self.last_own(dependency) {
             Some(place) => Some(place),

@@ -3,6 +3,7 @@
 ghost use Rattle.std.specs.Prelude.{MatchOption};
 ghost use Rattle.cargo_lock_graph.specs.Targets.{IsLost, IsTarget};
 ghost use Rattle.cargo_lock_edges.specs.Groups.{AreShared, IsNamedAt, IsOnlyPlace};
+ghost use Rattle.cargo_lock_edges.specs.Nearest.{IsNearestTarget};
 
 use crate::groups::{Groups, Named};
 use crate::likeness::Likeness;
@@ -22,18 +23,18 @@ impl<'a> Groups<'a> {
     {
         match self.named(dependency) {
             Named::No => None,
-            Named::Only(place) => self.only_target(dependency, place),
+            Named::Only(place) => self.only_fit(dependency, place),
             Named::Several => self.target_of_several(dependency),
         }
     }
 
     // The place, whose package is the only one of a dependency's name and version, if it matches.
-    fn only_target(&self, dependency: &Dependency, place: usize) -> Option<usize>
+    pub(crate) fn only_fit(&self, dependency: &Dependency, place: usize) -> Option<usize>
         requires there { IsNamedAt self.now.packages dependency.now place }
         requires only { IsOnlyPlace self.now.packages dependency.now place }
         ensures { MatchOption result
             (IsLost self.now.packages dependency.now)
-            (IsTarget self.now.packages dependency.now) }
+            (IsNearestTarget self.now.packages dependency.now) }
     {
         if self.fits(dependency, place) {
             Some(place)
@@ -49,11 +50,7 @@ impl<'a> Groups<'a> {
             (IsLost self.now.packages dependency.now)
             (IsTarget self.now.packages dependency.now) }
     {
-        for rank in 1..5 {
-            if let Some(place) = self.last_like(Likeness::Rank(rank), dependency) {
-                return Some(place);
-            }
-        }
-        None
+        let best = self.best_group(dependency)?;
+        self.last_like(Likeness::Rank(best.rank), dependency)
     }
 }

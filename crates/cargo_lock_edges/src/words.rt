@@ -6,7 +6,7 @@ ghost use Rattle.std.specs.Bool.{Decides};
 ghost use Rattle.std.specs.List.{Contains};
 ghost use Rattle.cargo_lock_parts.specs.SourceKey.{key_of};
 ghost use Rattle.cargo_lock_parts.specs.declared.error.Error.TheVariants.{Memory};
-ghost use Rattle.cargo_lock_edges.specs.Groups.{AreShared, IsNamedAt, IsOnlyPlace};
+ghost use Rattle.cargo_lock_edges.specs.Groups.{AreShared, IsOnlyPlace};
 ghost use Rattle.cargo_lock_edges.specs.Nearest.{IsOfOwnWords, IsOfOwnWordsAt};
 ghost use Rattle.cargo_lock_edges.specs.Nearest.{key_without_commit};
 

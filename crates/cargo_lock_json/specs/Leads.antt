@@ -3,14 +3,14 @@ use Rattle.std.specs.Prelude.{◌≡◌, List, Option, MatchOption}
 use Rattle.std.specs.List.{AllZip}
 use Rattle.cargo_lock_parts.specs.Identity.{Identity, PackageData}
 use Rattle.cargo_lock_graph.specs.Targets.{IsLost}
-use Rattle.cargo_lock_edges.specs.Leads.{LeadsTo}
+use Rattle.cargo_lock_edges.specs.Leads.{LeadsToPackage}
 use Rattle.cargo_lock_references.specs.Optional.{BothOrNone}
 use Rattle.cargo_lock_json.specs.Linked.{LeadData, LinkedData}
 
 -- the dependency leads to the place, or there is none because no package fits the dependency
 abbrev pub IsLead : List PackageData → Identity → LeadData → Type 0
 IsLead packages d lead = (lead.dependency ≡ d)
-    × MatchOption lead.place (IsLost packages d) (LeadsTo packages d)
+    × MatchOption lead.place (IsLost packages d) (LeadsToPackage packages d)
 
 -- each dependency of the package is there with the place to which it leads, in the package's order
 abbrev pub IsLinked : List PackageData → PackageData → LinkedData → Type 0

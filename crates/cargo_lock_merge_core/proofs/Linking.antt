@@ -1,12 +1,15 @@
 -- To which packages identities refer.
-use Rattle.std.proofs.Common.{◌≡◌, inl, inr, ℕ, List, MatchOption, Option, Some, None, slice_get, subst}
+use Rattle.std.proofs.Common.{◌≡◌, ◌<◌, ◌+◌, ◌∙◌, inl, inr, ℕ, false, List, MatchOption, Option, Some, None, get_or, length, slice_get, subst, sym, take}
+use Rattle.std.specs.Prelude.{is_none}
 use Rattle.std.specs.List.{All, AllZip, Contains}
-use Rattle.std.proofs.lemmas.List.Elements.{All-contains}
+use Rattle.std.proofs.lemmas.Bool.{false≢true}
+use Rattle.std.proofs.lemmas.List.{take_more}
+use Rattle.std.proofs.lemmas.List.Elements.{All-contains, All-push}
 use Rattle.cargo_lock_parts.specs.Identity.{Identity, PackageData}
 use Rattle.cargo_lock_graph.specs.Targets.{HasTarget, IsLost, IsTarget, Link, links, links_of}
 use Rattle.cargo_lock_edges.proofs.LeadsOnce.{one-target}
 use Rattle.cargo_lock_merge_core.specs.Linked.{AreReferredTo, AreStatedOnce, IsResolved, IsStatedAt, RefersTo}
-use Rattle.lists.proofs.Members.{got-in, in-joined, in-map}
+use Rattle.lists.proofs.Members.{got-in, in-joined, in-map, joined-in, map-in}
 use Rattle.lists.proofs.Pairs.{all-of}
 use Rattle.cargo_lock_merge_core.proofs.Zipping.{zip-left, zip-right}
 
@@ -32,6 +35,9 @@ pub resolved-found : (packages : List PackageData) (i : Identity) → IsResolved
     → ¬ IsLost packages i
 resolved-found packages i (place, target) lost = lost place target.rank target.fits
 
+link-of : PackageData → Identity → Link
+link-of p i = record { from = p; dependency = i }
+
 -- so does each dependency of a package of the list, if each of all packages does
 pub resolved-at : (packages : List PackageData) (at : ℕ) (p : PackageData)
     → slice_get packages at ≡ Some p → All (HasTarget packages) (links packages)
@@ -40,9 +46,6 @@ resolved-at packages at p here all = all-of (IsResolved packages) p.dependencies
     (λ i depends. All-contains (HasTarget packages) (links packages) (link-of p i) all
     (in-joined links_of packages p (link-of p i) (got-in packages at p here)
     (in-map (link-of p) p.dependencies i depends)))
-  where
-    link-of : PackageData → Identity → Link
-    link-of p i = record { from = p; dependency = i }
 
 -- the indices to which the dependencies of a package refer, in their order
 pub targets-are : (packages : List PackageData) (p : PackageData) (targets : List ℕ)
@@ -58,3 +61,31 @@ targets-are packages p targets zip = record {
         subst (λ n. Contains targets n) (refers-one packages h.0 r.0 k once r.2 h.2) r.1,
   );
 }
+
+-- ---- dependencies that are looked up one by one
+
+-- one more
+pub all-more : {X : Type 0} (P : X → Type 0) (xs : List X) (i : ℕ) (x : X) → i < length xs
+    → x ≡ get_or xs i x → All P (take i xs) → P x → All P (take (i + 1) xs)
+all-more {X} P xs i x low is all one =
+    subst (All P) (sym (take_more xs i x low))
+    (All-push P (take i xs) (get_or xs i x) all (subst P is one))
+
+-- where something is found, there is what it says
+pub found-at : {P : Type 0} {Q : ℕ → Type 0} (o : Option ℕ) → is_none o ≡ false
+    → MatchOption o P Q → (k : ℕ) × Q k
+found-at None some h = absurd (false≢true (sym some))
+found-at (Some k) some h = (k, h)
+
+-- where each dependency of each package resolves, each link has its target
+pub links-resolved : (packages ps : List PackageData)
+    → All (λ (p : PackageData). All (IsResolved packages) p.dependencies) ps
+    → All (HasTarget packages) (links ps)
+links-resolved packages ps all = all-of (HasTarget packages) (links ps)
+    (λ l among.
+    let (p, there, from) = joined-in links_of ps l among in
+    let (i, depends, same) = map-in (λ d. link-of p d) p.dependencies l from in
+    subst (HasTarget packages) same
+    (All-contains (IsResolved packages) p.dependencies i
+    (All-contains (λ (q : PackageData). All (IsResolved packages) q.dependencies) ps p all there)
+    depends))

@@ -1,10 +1,10 @@
 //! To which packages of a list dependencies and replacements refer.
 
 ghost use Rattle.std.specs.Prelude.{◌≡◌, ◌<◌, ℕ, All, IfErr, IfOk, IsOkUnless, MatchOption, Some};
-ghost use Rattle.std.specs.Prelude.{length, slice_get};
+ghost use Rattle.std.specs.Prelude.{length, slice_get, true};
 ghost use Rattle.std.specs.List.{AllZip};
 ghost use Rattle.cargo_lock_parts.specs.declared.error.Error.TheVariants.{Memory};
-ghost use Rattle.cargo_lock_graph.specs.Targets.{IsLost, IsUnresolved, links};
+ghost use Rattle.cargo_lock_graph.specs.Targets.{HasTarget, IsLost, IsUnresolved, links};
 ghost use Rattle.cargo_lock_merge_core.specs.Linked.{AreTargetsAt, IsResolved, IsStatedAt, RefersTo};
 
 use cargo_lock_edges::{Groups, own_graph};
@@ -39,8 +39,11 @@ impl<'a> Linked<'a> {
         ensures ok { IfOk result (λ linked. linked ≡ packages.now) }
         ensures err { IfErr result (IsUnresolved packages.now (links packages.now)) }
     {
-        own_graph(alloc, packages)?;
         let groups = Groups::of(alloc, packages)?;
+        if are_resolved(&groups, packages) {
+            return Ok(Linked { groups });
+        }
+        own_graph(alloc, packages)?;
         Ok(Linked { groups })
     }
 
@@ -106,4 +109,30 @@ impl<'a> Linked<'a> {
     {
         self.groups.of_own_words(identity)
     }
+}
+
+// Whether each dependency of each of these packages resolves to one. If not, their graph names the
+// first that does not.
+fn are_resolved<'a>(groups: &Groups<'a>, packages: &'a [Package]) -> bool
+    requires { groups.now.packages ≡ packages.now }
+    ensures { result ≡ true → All (HasTarget packages.now) (links packages.now) }
+{
+    for package in packages {
+        if !each_resolves(groups, &package.dependencies) {
+            return false;
+        }
+    }
+    true
+}
+
+// Whether each of these dependencies resolves to a package.
+fn each_resolves<'a>(groups: &Groups<'a>, dependencies: &'a [Dependency]) -> bool
+    ensures { result ≡ true → All (IsResolved groups.now.packages) dependencies.now }
+{
+    for dependency in dependencies {
+        if groups.target(dependency).is_none() {
+            return false;
+        }
+    }
+    true
 }
