@@ -7,7 +7,7 @@ use Rattle.std.proofs.lemmas.Option.{same_Some, slice_get-map}
 use Rattle.cargo_lock_index.specs.Near.{first_from, first_place, is_only}
 use Rattle.cargo_lock_parts.specs.Identity.{PackageData}
 use Rattle.cargo_lock_parts.specs.PartialIdentity.{PartialIdentity, is_same_partial_identity, is_same_partial_identity-Decides}
-use Rattle.cargo_lock_location.specs.Lines.{LinesAreOwn, LinesData, number_at, only_place, package_key_of, package_keys_of}
+use Rattle.cargo_lock_location.specs.Lines.{LinesAreOwn, LinesData, line_number_at, only_place, package_key_of, package_keys_of}
 
 module _ (p : PartialIdentity → Bool) where
   counted : (keys : List PartialIdentity) (k : ℕ) (x : PartialIdentity) → slice_get keys k ≡ Some x → p x ≡ true → 1 ≤ count_by p keys
@@ -50,9 +50,9 @@ own-place packages k p at false several =
 pub lines_are_own : LinesAreOwn
 lines_are_own d k p n at is = by (is_only (package_key_of p) (package_keys_of d.packages)) refl
   where
-    by : (b : Bool) → is_only (package_key_of p) (package_keys_of d.packages) ≡ b → number_at d.lines k ≡ Some n
-    by true only = sym (ap (option_and_then (number_at d.lines)) (own-place d.packages k p at true only)) ∙ is
-    by false several = bad (sym (ap (option_and_then (number_at d.lines)) (own-place d.packages k p at false several)) ∙ is)
+    by : (b : Bool) → is_only (package_key_of p) (package_keys_of d.packages) ≡ b → line_number_at d.lines k ≡ Some n
+    by true only = sym (ap (option_and_then (line_number_at d.lines)) (own-place d.packages k p at true only)) ∙ is
+    by false several = bad (sym (ap (option_and_then (line_number_at d.lines)) (own-place d.packages k p at false several)) ∙ is)
       where
-        bad : ◌≡◌ {A = Option ℕ} None (Some n) → number_at d.lines k ≡ Some n
+        bad : ◌≡◌ {A = Option ℕ} None (Some n) → line_number_at d.lines k ≡ Some n
         bad e = cc e

@@ -26,12 +26,12 @@ only_place packages p = if is_only (package_key_of p) (package_keys_of packages)
     then first_place (package_key_of p) (package_keys_of packages) else None
 
 -- the number of the line of the package at a place, where it is known
-abbrev pub number_at : List (Option ℕ) → ℕ → Option ℕ
-number_at lines k = unwrap_or (slice_get lines k) None
+abbrev pub line_number_at : List (Option ℕ) → ℕ → Option ℕ
+line_number_at lines k = unwrap_or (slice_get lines k) None
 
 -- the number of the line of a package, where it is known
 abbrev pub line_of_package : LinesData → PackageData → Option ℕ
-line_of_package d p = option_and_then (number_at d.lines) (only_place d.packages p)
+line_of_package d p = option_and_then (line_number_at d.lines) (only_place d.packages p)
 
 -- the same, if there is a package
 abbrev pub line_of_some : LinesData → Option PackageData → Option ℕ
@@ -42,4 +42,4 @@ line_of_some d = option_and_then (line_of_package d)
 -- the number that a package of the lockfile has is that of its own place
 abbrev pub LinesAreOwn : Type 0
 LinesAreOwn = (d : LinesData) (k : ℕ) (p : PackageData) (n : ℕ) → slice_get d.packages k ≡ Some p
-    → line_of_package d p ≡ Some n → number_at d.lines k ≡ Some n
+    → line_of_package d p ≡ Some n → line_number_at d.lines k ≡ Some n

@@ -64,7 +64,7 @@ impl<'a> PackageLines<'a> {
     /// let first = lines.at(0);
     /// ```
     pub fn at(&self, place: usize) -> Option<usize>
-        ensures { result ≡ spec.number_at self.now.lines place }
+        ensures { result ≡ spec.line_number_at self.now.lines place }
     {
         let lines = self.lines;
         match lines.get(place) {
