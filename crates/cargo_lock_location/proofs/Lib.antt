@@ -1,3 +1,5 @@
 mod Walks
 mod Numbers
 mod Own
+pub mod Items
+pub mod LineDepth

@@ -1,7 +1,7 @@
 use Rattle.std.proofs.Common.{sym}
 use Rattle.cargo_lock_check.specs.Document.{lockfile_finding_json}
 use Rattle.printing.proofs.Behind.{then}
-use Rattle.cargo_lock_check.proofs.document.FindingToJson.write_json.Goals as goal
+use Rattle.cargo_lock_check.proofs.document.write_finding.Goals as goal
 
 pub returns : goal.returns
 unfolding lockfile_finding_json
