@@ -1,0 +1,5 @@
+mod Uris
+mod Logs
+mod Filtered
+mod Bytes
+mod Listed
