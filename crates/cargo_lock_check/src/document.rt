@@ -64,7 +64,7 @@ pub(crate) fn write_finding(
 }
 
 // The kind of a finding, as the document has it.
-fn kind(finding: &Finding<'_>) -> &'static str
+pub(crate) fn kind(finding: &Finding<'_>) -> &'static str
     ensures { result.now ≡ lockfile_finding_kind (lockfile_finding_of finding.now) }
 {
     match finding {
@@ -90,7 +90,7 @@ fn kind(finding: &Finding<'_>) -> &'static str
 }
 
 // The package to which a finding refers; of two packages, the first.
-fn package<'a>(finding: &Finding<'a>) -> Option<&'a Package>
+pub(crate) fn package<'a>(finding: &Finding<'a>) -> Option<&'a Package>
     ensures { option_map (λ p. p.now) result
         ≡ lockfile_finding_package (lockfile_finding_of finding.now) }
 {

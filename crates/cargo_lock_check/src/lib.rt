@@ -34,6 +34,7 @@ pub mod finding;
 pub mod findings;
 pub mod laws;
 pub mod placed;
+pub mod reporting;
 pub mod text;
 mod written;
 
@@ -41,5 +42,6 @@ pub use crate::document::findings_json;
 pub use crate::finding::Finding;
 pub use crate::findings::Findings;
 pub use crate::placed::PlacedFinding;
+pub use crate::reporting::reported_findings;
 pub use crate::text::OtherLine;
 pub use cargo_lock_order::{dependency_order, package_order};

@@ -149,7 +149,7 @@ fn other_text<'a>(word: Word<'a>) -> Option<&'a str>
 }
 
 // The kind of a verdict, as the document has it.
-fn kind(verdict: &Verdict<'_, '_>) -> &'static str
+pub(crate) fn kind(verdict: &Verdict<'_, '_>) -> &'static str
     ensures { result.now ≡ verdict_kind (verdict_of verdict.now) }
 {
     match verdict {
@@ -164,7 +164,7 @@ fn kind(verdict: &Verdict<'_, '_>) -> &'static str
 }
 
 // The package of a verdict.
-fn package<'p>(verdict: &Verdict<'p, '_>) -> &'p Package
+pub(crate) fn package<'p>(verdict: &Verdict<'p, '_>) -> &'p Package
     ensures { result.now ≡ verdict_package (verdict_of verdict.now) }
 {
     match *verdict {

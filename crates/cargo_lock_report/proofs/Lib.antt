@@ -1,5 +1,5 @@
 mod Uris
 mod Logs
-mod Filtered
+pub mod Filtered
 mod Bytes
 mod Listed

@@ -77,7 +77,7 @@ impl Lined for Finding<'_, '_> {
 }
 
 // The kind of a finding, as the document has it.
-fn kind(finding: &Finding<'_, '_>) -> &'static str
+pub(crate) fn kind(finding: &Finding<'_, '_>) -> &'static str
     ensures { result.now ≡ archive_finding_kind (archive_finding_of finding.now) }
 {
     match finding {
@@ -88,7 +88,7 @@ fn kind(finding: &Finding<'_, '_>) -> &'static str
 }
 
 // The package of the finding.
-fn package<'p>(finding: &Finding<'p, '_>) -> &'p Package
+pub(crate) fn package<'p>(finding: &Finding<'p, '_>) -> &'p Package
     ensures { result.now ≡ archive_finding_package (archive_finding_of finding.now) }
 {
     match *finding {

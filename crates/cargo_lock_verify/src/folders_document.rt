@@ -76,7 +76,7 @@ impl Lined for FolderFinding<'_, '_> {
 }
 
 // The kind of a finding, as the document has it.
-fn kind(finding: &FolderFinding<'_, '_>) -> &'static str
+pub(crate) fn kind(finding: &FolderFinding<'_, '_>) -> &'static str
     ensures { result.now ≡ folder_finding_kind (folder_finding_of finding.now) }
 {
     match finding {
@@ -104,7 +104,7 @@ fn flaw_kind(flaw: Flaw) -> &'static str
 }
 
 // The package of the finding, which an entry has not.
-fn package<'p>(finding: &FolderFinding<'p, '_>) -> Option<&'p Package>
+pub(crate) fn package<'p>(finding: &FolderFinding<'p, '_>) -> Option<&'p Package>
     ensures { option_map (λ p. p.now) result
         ≡ folder_finding_package (folder_finding_of finding.now) }
 {
