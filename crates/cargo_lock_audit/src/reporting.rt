@@ -17,18 +17,18 @@ use std::alloc::{AllocError, Global};
 /// lines. Fails when out of memory.
 ///
 /// ```
-/// let reported = reported_advisories(alloc, "Cargo.lock", lines, report)?;
+/// let reported = reported_advisories(alloc, "Cargo.lock", report, lines)?;
 /// ```
 pub fn reported_advisories(
     alloc: Global,
     path: &str,
-    lines: &PackageLines<'_>,
     report: &Report<'_, '_, '_>,
+    lines: &PackageLines<'_>,
 ) -> Result<Vec<Reported>, AllocError>
     ensures { IfOk result (λ reported. reported.items ≡ spec.reported_advisories path.now lines.now
         (report_data_of report.now).findings) }
 {
-    reports(alloc, path, lines, &report.findings)
+    reports(alloc, path, &report.findings, lines)
 }
 
 impl ToReport for Finding<'_, '_> {

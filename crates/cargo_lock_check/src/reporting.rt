@@ -15,18 +15,18 @@ use std::alloc::{AllocError, Global};
 ///
 /// ```
 /// let placed = findings.placed(alloc)?;
-/// let reported = reported_findings(alloc, "Cargo.lock", lines, &placed)?;
+/// let reported = reported_findings(alloc, "Cargo.lock", &placed, lines)?;
 /// ```
 pub fn reported_findings(
     alloc: Global,
     path: &str,
-    lines: &PackageLines<'_>,
     findings: &[PlacedFinding<'_>],
+    lines: &PackageLines<'_>,
 ) -> Result<Vec<Reported>, AllocError>
     ensures { IfOk result (λ reported. reported.items ≡ spec.reported_findings path.now lines.now
         (map placed_finding_of findings.now)) }
 {
-    reports(alloc, path, lines, findings)
+    reports(alloc, path, findings, lines)
 }
 
 impl ToReport for PlacedFinding<'_> {

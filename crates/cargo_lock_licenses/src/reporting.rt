@@ -18,18 +18,18 @@ use std::alloc::{AllocError, Global};
 /// out of memory.
 ///
 /// ```
-/// let reported = reported_licenses(alloc, "Cargo.lock", lines, &report)?;
+/// let reported = reported_licenses(alloc, "Cargo.lock", &report, lines)?;
 /// ```
 pub fn reported_licenses(
     alloc: Global,
     path: &str,
-    lines: &PackageLines<'_>,
     report: &Report<'_, '_>,
+    lines: &PackageLines<'_>,
 ) -> Result<Vec<Reported>, AllocError>
     ensures { IfOk result (λ reported. reported.items ≡ spec.reported_licenses path.now lines.now
         (map judged_of report.now.judged.items)) }
 {
-    reports(alloc, path, lines, &report.judged)
+    reports(alloc, path, &report.judged, lines)
 }
 
 impl ToReport for Judged<'_, '_> {

@@ -25,13 +25,13 @@ pub trait ToReport: Lined {
 /// of memory.
 ///
 /// ```
-/// let reported = reports(alloc, "Cargo.lock", lines, findings)?;
+/// let reported = reports(alloc, "Cargo.lock", findings, lines)?;
 /// ```
 pub fn reports<T: ToReport>(
     alloc: Global,
     path: &str,
-    lines: &PackageLines<'_>,
     all: &[T],
+    lines: &PackageLines<'_>,
 ) -> Result<Vec<Reported>, AllocError>
     ensures { IfOk result (λ reported. reported.items ≡ filter_map
         (λ x. T.reported_at (record { path = path.now; line = T.line_in lines.now x }) x) all.now) }

@@ -23,13 +23,13 @@ use std::alloc::{AllocError, Global};
 /// Each is at the line of its package, by these lines. Fails when out of memory.
 ///
 /// ```
-/// let reported = reported_archives(alloc, "Cargo.lock", lines, &report)?;
+/// let reported = reported_archives(alloc, "Cargo.lock", &report, lines)?;
 /// ```
 pub fn reported_archives(
     alloc: Global,
     path: &str,
-    lines: &PackageLines<'_>,
     report: &Report<'_, '_>,
+    lines: &PackageLines<'_>,
 ) -> Result<Vec<Reported>, AllocError>
     ensures { IfOk result (λ reported. reported.items
         ≡ spec.reported_archives report.now.is_of_all path.now lines.now
@@ -77,18 +77,18 @@ fn counts_if(finding: &Finding<'_, '_>, all: bool) -> bool
 /// The same of a report on folders. Each finding counts. Fails when out of memory.
 ///
 /// ```
-/// let reported = reported_folders(alloc, "Cargo.lock", lines, &report)?;
+/// let reported = reported_folders(alloc, "Cargo.lock", &report, lines)?;
 /// ```
 pub fn reported_folders(
     alloc: Global,
     path: &str,
-    lines: &PackageLines<'_>,
     report: &VendorReport<'_, '_>,
+    lines: &PackageLines<'_>,
 ) -> Result<Vec<Reported>, AllocError>
     ensures { IfOk result (λ reported. reported.items ≡ spec.reported_folders path.now lines.now
         (map folder_finding_of report.now.findings.items)) }
 {
-    reports(alloc, path, lines, &report.findings)
+    reports(alloc, path, &report.findings, lines)
 }
 
 impl ToReport for FolderFinding<'_, '_> {

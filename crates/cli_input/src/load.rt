@@ -1,13 +1,16 @@
 //! The lockfiles that the arguments name.
 ghost use Rattle.std.specs.Prelude.{◌≡◌, IfErr, IfOk, List, None, Some, ℕ, option_map};
+ghost use Rattle.std.specs.Prelude.{string_bytes};
 ghost use Rattle.clap.specs.Matches.{found_of};
 ghost use Rattle.cargo_lock.specs.Loads.{IsMeant};
 ghost use Rattle.cargo_lock_parts.specs.declared.error.Error as declared;
 ghost use Rattle.cargo_lock_table_flaws.specs.Marks as marks;
 ghost use Rattle.cargo_lock_encoding.specs.Means.{TextMeans};
-ghost use Rattle.cli_input.specs.Json.{document_path, named_file_of};
+ghost use Rattle.cli_input.specs.Json as spec;
+ghost use Rattle.cli_input.specs.Json.{named_file_of};
 ghost use Rattle.cli_input.specs.Load.{IsGraphOf, IsGraphRead, IsMeantWithCargoChecksums};
 ghost use Rattle.cli_input.specs.Load.{IsOfLockfile, IsOfLockfileUnnamed, IsReadingFault};
+ghost use Rattle.cli_input.specs.Load.{MeansWithCargoChecksums};
 ghost use Rattle.cli_support.specs.Input.{given_path_in};
 
 use cargo_lock::dependency::graph::Graph;
@@ -32,7 +35,7 @@ pub fn lockfile<R: Files + Input + AllocGlobal>(
 {
     match unnamed_lockfile(rt, options, name) {
         Ok(lockfile) => Ok(lockfile),
-        Err(fault) => Err(named(rt.alloc(), options, name, fault)),
+        Err(fault) => Err(named(rt.alloc(), words::given_path(options, name), fault)),
     }
 }
 
@@ -131,9 +134,18 @@ pub fn named_text<R: Files + Input + AllocGlobal>(
     options: &ArgMatches<'_>,
     name: &str,
 ) -> Result<String, Fault> {
-    match words::text(rt, options, name) {
+    text_at(rt, options, words::given_path(options, name))
+}
+
+/// The same of the lockfile at this path.
+pub fn text_at<R: Files + Input + AllocGlobal>(
+    rt: &R,
+    options: &ArgMatches<'_>,
+    argument: &str,
+) -> Result<String, Fault> {
+    match words::text_at(rt, options, argument) {
         Ok(text) => Ok(text),
-        Err(fault) => Err(named(rt.alloc(), options, name, fault).with_file_first()),
+        Err(fault) => Err(named(rt.alloc(), argument, fault).with_file_first()),
     }
 }
 
@@ -152,49 +164,81 @@ pub fn named_lockfile_of(
     let read = Lockfile::from_str(alloc, text);
     match read {
         Ok(lockfile) => Ok(lockfile),
-        Err(error) => Err(refusal(alloc, options, name, text, error)),
+        Err(error) => Err(refusal(alloc, words::given_path(options, name), text, error)),
     }
 }
 
-/// The error for a text that was read for the option `name` and is not a lockfile, where `error` is
-/// that of the library: that it has marks of a conflict, if it is no TOML and has some, and
-/// otherwise `error` with the path first. Out of memory has no path.
-pub fn refusal(
-    alloc: Global,
-    options: &ArgMatches<'_>,
-    name: &str,
-    text: &str,
-    error: Error,
-) -> Fault
-    ensures { IsReadingFault (given_path_in (found_of options.now) name.now) text.now error result }
+/// The error for a text that was read from this path and is not a lockfile, where `error` is that of
+/// the library: that it has marks of a conflict, if it is no TOML and has some, and otherwise `error`
+/// with the path first. Out of memory has no path.
+pub fn refusal(alloc: Global, argument: &str, text: &str, error: Error) -> Fault
+    ensures { IsReadingFault argument.now text.now error result }
 {
     match conflict_mark_line(alloc, text) {
-        Ok(Some(line)) => marked(alloc, options, name, line),
-        Ok(None) => unmarked(alloc, options, name, error),
+        Ok(Some(line)) => marked(alloc, argument, line),
+        Ok(None) => unmarked(alloc, argument, error),
         Err(refused) => Fault::from(refused),
     }
 }
 
 /// The error for a text whose first mark of a conflict is in this line, or out of memory.
-fn marked(alloc: Global, options: &ArgMatches<'_>, name: &str, line: usize) -> Fault
+fn marked(alloc: Global, argument: &str, line: usize) -> Fault
     ensures { (text : List ℕ) (error : declared.Error) → marks.conflict_mark_line text ≡ Some line
-        → IsReadingFault (given_path_in (found_of options.now) name.now) text error result }
+        → IsReadingFault argument.now text error result }
 {
-    match words::input_shown(alloc, options, name) {
+    match words::shown_at(alloc, argument) {
         Ok(path) => Fault::ConflictMarks(path, line),
         Err(refused) => Fault::from(refused),
     }
 }
 
 /// The error for a text without marks of a conflict, or out of memory.
-fn unmarked(alloc: Global, options: &ArgMatches<'_>, name: &str, error: Error) -> Fault
+fn unmarked(alloc: Global, argument: &str, error: Error) -> Fault
     ensures { (text : List ℕ) → marks.conflict_mark_line text ≡ None
-        → IsReadingFault (given_path_in (found_of options.now) name.now) text error result }
+        → IsReadingFault argument.now text error result }
 {
-    match words::input_shown(alloc, options, name) {
+    match words::shown_at(alloc, argument) {
         Ok(path) => Fault::Library(error).in_file(path).with_file_first(),
         Err(refused) => Fault::from(refused),
     }
+}
+
+/// A lockfile, and the text that it was read from.
+#[derive(Drop)]
+pub struct WithText {
+    /// The text.
+    pub text: String,
+
+    /// The lockfile.
+    pub lockfile: Lockfile,
+}
+
+/// The lockfile at the path of the option or argument `name`, with its text. Fails as
+/// `named_lockfile` does.
+pub fn lockfile_with_text<R: Files + Input + AllocGlobal>(
+    rt: &R,
+    options: &ArgMatches<'_>,
+    name: &str,
+) -> Result<WithText, Fault>
+    ensures { IfOk result (λ read. TextMeans (string_bytes read.text) read.lockfile) }
+{
+    let text = named_text(rt, options, name)?;
+    let lockfile = named_lockfile_of(rt.alloc(), options, name, text.as_str())?;
+    Ok(WithText { text, lockfile })
+}
+
+/// The same with the checksums that Cargo reads.
+pub fn compared_with_text<R: Files + Input + AllocGlobal>(
+    rt: &R,
+    options: &ArgMatches<'_>,
+    name: &str,
+) -> Result<WithText, Fault>
+    ensures { IfOk result
+        (λ read. MeansWithCargoChecksums (string_bytes read.text) read.lockfile) }
+{
+    let WithText { text, lockfile } = lockfile_with_text(rt, options, name)?;
+    let lockfile = lockfile.with_cargo_checksums(rt.alloc())?;
+    Ok(WithText { text, lockfile })
 }
 
 /// The lockfile at the path of the option or argument `name`, as a document has it.
@@ -207,12 +251,19 @@ pub fn file<'a>(options: &ArgMatches<'a>, name: &str, lockfile: &Lockfile) -> Fi
 /// The lockfile of this format at the path of the option or argument `name`, as a document has it.
 pub fn file_in<'a>(options: &ArgMatches<'a>, name: &str, format: ResolveVersion) -> File<'a>
     ensures { result ≡ record {
-      path = document_path (given_path_in (found_of options.now) name.now);
+      path = spec.document_path (given_path_in (found_of options.now) name.now);
       format = format;
     } }
 {
+    file_at(words::given_path(options, name), format)
+}
+
+/// The lockfile of this format at this path, as a document has it.
+pub fn file_at(argument: &str, format: ResolveVersion) -> File<'_>
+    ensures { result ≡ record { path = spec.document_path argument.now; format = format } }
+{
     File {
-        path: path_in_documents(options, name),
+        path: document_path(argument),
         format,
     }
 }
@@ -220,21 +271,25 @@ pub fn file_in<'a>(options: &ArgMatches<'a>, name: &str, format: ResolveVersion)
 /// The path of the option or argument `name` as a document has it. Standard input has none.
 pub fn path_in_documents<'a>(options: &ArgMatches<'a>, name: &str) -> Option<&'a str>
     ensures { option_map (λ t. t.now) result
-        ≡ document_path (given_path_in (found_of options.now) name.now) }
+        ≡ spec.document_path (given_path_in (found_of options.now) name.now) }
 {
-    let path = words::given_path(options, name);
-    if path == "-" {
-        return None;
-    }
-    Some(path)
+    document_path(words::given_path(options, name))
 }
 
-/// The error with the path of the option or argument `name`, or out of memory.
-fn named(alloc: Global, options: &ArgMatches<'_>, name: &str, fault: Fault) -> Fault
-    ensures { IsOfLockfileUnnamed (given_path_in (found_of options.now) name.now) fault
-        → IsOfLockfile (given_path_in (found_of options.now) name.now) result }
+fn document_path(argument: &str) -> Option<&str>
+    ensures { option_map (λ t. t.now) result ≡ spec.document_path argument.now }
 {
-    match words::input_shown(alloc, options, name) {
+    if argument == "-" {
+        return None;
+    }
+    Some(argument)
+}
+
+/// The error with this path of the lockfile, or out of memory.
+fn named(alloc: Global, argument: &str, fault: Fault) -> Fault
+    ensures { IsOfLockfileUnnamed argument.now fault → IsOfLockfile argument.now result }
+{
+    match words::shown_at(alloc, argument) {
         Ok(path) => fault.in_file(path),
         Err(refused) => Fault::from(refused),
     }
