@@ -25,8 +25,8 @@ use Rattle.cli.specs.declared.checked.Named.{Named}
 use Rattle.cli.specs.declared.several.Several.{Several}
 use Rattle.cli_input.specs.declared.findings.Form.{Form}
 use Rattle.cli_input.specs.Json.{document_path}
-use Rattle.cli_input.specs.Told.{FoundData, IsReportPath, IsTold, PrintsFound, SubjectData, found_in}
-use Rattle.cli_input.specs.Told.{subject_at}
+use Rattle.cli_input.specs.Told.{LockfileFound, IsReportPath, IsToldAs, PrintsFound, SubjectData, found_in_lockfile}
+use Rattle.cli_input.specs.Told.{subject_of_lockfile}
 use Rattle.cli_support.specs.Input.{given_path_in}
 
 -- ---- a lockfile
@@ -65,14 +65,14 @@ table_text prefix = flat_map (λ f. prefixed prefix (table_finding_line f))
 
 -- what is found in a text, in how many packages, and how much it is
 pub record CheckedData : Type 0 where
-  pub found : FoundData
+  pub found : LockfileFound
   pub packages : ℕ
   pub count : ℕ
 
 -- findings of a lockfile
 abbrev pub checked_lockfile : NamedData → List ℕ → LockfileData → FindingsData → CheckedData
 checked_lockfile n text l f = record {
-  found = found_in (subject_at n.argument n.path text l) (placed_text n.prefix (placed_told f))
+  found = found_in_lockfile (subject_of_lockfile n.argument n.path text l) (placed_text n.prefix (placed_told f))
       (λ file lines. findings_json file lines (placed_told f))
       (λ path lines. reported_findings path lines (placed_told f));
   packages = length f.packages;
@@ -91,7 +91,7 @@ refused_subject n text r = record {
 -- a report on the table of such a text
 abbrev pub checked_report : NamedData → List ℕ → TableReportData → CheckedData
 checked_report n text r = record {
-  found = found_in (refused_subject n text r) (table_text n.prefix r.findings)
+  found = found_in_lockfile (refused_subject n text r) (table_text n.prefix r.findings)
       (λ file _. table_findings_json file r.findings)
       (λ path _. reported_table_findings path r.findings);
   packages = r.packages;
@@ -205,7 +205,7 @@ PrintsCheck found = PrintsCheckBy
 
 -- this is what is printed of what is found, and counted
 pub record IsCheckedAs (form : Form) (all : List CheckedData) (checked : Checked) : Type 0 where
-  pub told : IsTold form (map (λ c. c.found) all) checked.told
+  pub told : IsToldAs form (map (λ c. c.found) all) checked.told
   pub packages : checked.packages ≡ packages_in all
   pub findings : checked.findings ≡ count_in all
 

@@ -16,14 +16,14 @@ use Rattle.cargo_lock_encoding.specs.Lockfiles.{LockfileData}
 use Rattle.cargo_lock_encoding.specs.Means.{TextMeans}
 use Rattle.cargo_lock_audit.specs.Document.{advisories_json}
 use Rattle.cargo_lock_parts.specs.Identity.{PackageData}
-use Rattle.cli_input.specs.Told.{FoundData, IsReportPath, PrintsFound, SubjectData, found_in}
-use Rattle.cli_input.specs.Told.{subject_at}
+use Rattle.cli_input.specs.Told.{LockfileFound, IsReportPath, PrintsFound, SubjectData, found_in_lockfile}
+use Rattle.cli_input.specs.Told.{subject_of_lockfile}
 use Rattle.cli_support.specs.Input.{given_path_in}
 use Rattle.cli_folder_commands.specs.Settings.{AreSettings}
 
 -- what is found by a report on a lockfile
-abbrev pub found_by_audit : SubjectData → ReportData → FoundData
-found_by_audit s told = found_in s (audit_report_text told)
+abbrev pub found_by_audit : SubjectData → ReportData → LockfileFound
+found_by_audit s told = found_in_lockfile s (audit_report_text told)
     (λ file lines. advisories_json file lines told)
     (λ path lines. reported_advisories path lines told.findings)
 
@@ -76,4 +76,4 @@ PrintsAudit found old new failure success = (text path : List ℕ) × (l : Lockf
     × (settings : SettingsData) × TextMeans text l
     × IsReportPath found (given_path_in found (codes "file")) path × AreSettings found settings
     × PrintsAuditSince found settings
-    (subject_at (given_path_in found (codes "file")) path text l) old new failure success
+    (subject_of_lockfile (given_path_in found (codes "file")) path text l) old new failure success

@@ -11,8 +11,8 @@ use Rattle.cargo_lock_licenses.specs.Report.{AreJudged, UnmetData, all_unmet, re
 use Rattle.cargo_lock_licenses.specs.Reporting.{reported_licenses}
 use Rattle.cargo_lock_licenses.specs.Subjects.{LicenseSubjectData}
 use Rattle.cargo_lock_parts.specs.Identity.{PackageData}
-use Rattle.cli_input.specs.Told.{FoundData, IsReportPath, PrintsFound, SubjectData, found_in}
-use Rattle.cli_input.specs.Told.{subject_at}
+use Rattle.cli_input.specs.Told.{LockfileFound, IsReportPath, PrintsFound, SubjectData, found_in_lockfile}
+use Rattle.cli_input.specs.Told.{subject_of_lockfile}
 use Rattle.cli_support.specs.Input.{given_path_in}
 use Rattle.cli_folder_commands.specs.Policy.{IsPolicy}
 
@@ -21,8 +21,8 @@ abbrev pub AreLicensed : List PackageData → List LicenseSubjectData → Type 0
 AreLicensed packages subjects = map (λ s. s.content) subjects ≡ packages
 
 -- what is found where this is said of the packages of a lockfile, and this was said in vain
-abbrev pub found_of_licenses : SubjectData → List JudgedData → List UnmetData → FoundData
-found_of_licenses s judged unmet = found_in s (report_text judged unmet)
+abbrev pub found_of_licenses : SubjectData → List JudgedData → List UnmetData → LockfileFound
+found_of_licenses s judged unmet = found_in_lockfile s (report_text judged unmet)
     (λ file lines. licenses_json file lines judged unmet)
     (λ path lines. reported_licenses path lines judged)
 
@@ -53,4 +53,4 @@ PrintsLicenses found old new failure success = (text path : List ℕ) × (l : Lo
     × (policy : PolicyData) × TextMeans text l
     × IsReportPath found (given_path_in found (codes "file")) path × IsPolicy found policy
     × PrintsLicensesOf found policy
-    (subject_at (given_path_in found (codes "file")) path text l) old new failure success
+    (subject_of_lockfile (given_path_in found (codes "file")) path text l) old new failure success

@@ -21,8 +21,8 @@ use Rattle.cargo_lock_verify.specs.VendorReport.{folder_report_text, vendor_find
 use Rattle.cli_folder_commands.specs.Texts.{given_texts}
 use Rattle.cli_input.specs.Json.{IsFlag}
 use Rattle.cli_input.specs.Load.{MeansWithCargoChecksums}
-use Rattle.cli_input.specs.Told.{FoundData, IsReportPath, PrintsFound, SubjectData, found_in}
-use Rattle.cli_input.specs.Told.{subject_at}
+use Rattle.cli_input.specs.Told.{LockfileFound, IsReportPath, PrintsFound, SubjectData, found_in_lockfile}
+use Rattle.cli_input.specs.Told.{subject_of_lockfile}
 use Rattle.cli_support.specs.Input.{given_path_in}
 
 -- the subjects are these packages, each once and in their order, each with some archives
@@ -31,8 +31,8 @@ AreSubjectsOf packages subjects = map (λ s. s.content) subjects ≡ packages
 
 -- what is found of archives, all of which are asked for or not, and how many packages are in each
 -- class and archives are passed over
-abbrev pub found_of_archives : SubjectData → Bool → List ArchiveFindingData → Counts → ℕ → FoundData
-found_of_archives s all told counts others = found_in s (archive_report_text told counts others)
+abbrev pub found_of_archives : SubjectData → Bool → List ArchiveFindingData → Counts → ℕ → LockfileFound
+found_of_archives s all told counts others = found_in_lockfile s (archive_report_text told counts others)
     (λ file lines. archives_json file lines counts others told)
     (λ path lines. reported_archives all path lines told)
 
@@ -74,8 +74,8 @@ abbrev pub AreVendoredOf : List PackageData → List VendoredData → Type 0
 AreVendoredOf packages vendored = map (λ v. v.content) vendored ≡ packages
 
 -- what is found of folders, and how many packages are in each class
-abbrev pub found_of_folders : SubjectData → List FolderFindingData → Counts → FoundData
-found_of_folders s told counts = found_in s (folder_report_text told counts)
+abbrev pub found_of_folders : SubjectData → List FolderFindingData → Counts → LockfileFound
+found_of_folders s told counts = found_in_lockfile s (folder_report_text told counts)
     (λ file lines. folders_json file lines counts told)
     (λ path lines. reported_folders path lines told)
 
@@ -124,4 +124,4 @@ PrintsVerified found old new failure success = (text path : List ℕ) × (l : Lo
     × MeansWithCargoChecksums text l
     × IsReportPath found (given_path_in found (codes "file")) path
     × PrintsVerifiedOf found
-    (subject_at (given_path_in found (codes "file")) path text l) old new failure success
+    (subject_of_lockfile (given_path_in found (codes "file")) path text l) old new failure success

@@ -96,12 +96,7 @@ pub fn run<R: Files + Input + Env + AllocGlobal, W: Write>(
     let read = lockfile_with_text(rt, options, "file")?;
     let path = report_path(rt, options, words::given_path(options, "file"))?;
     let file = file(options, "file", &read.lockfile);
-    let subject = Subject {
-        file: &file,
-        path: path.as_str(),
-        text: read.text.as_str(),
-        packages: read.lockfile.packages.as_slice(),
-    };
+    let subject = Subject::of(&file, &path, &read);
     print_licenses(rt, options, &policy, subject, out)
 }
 

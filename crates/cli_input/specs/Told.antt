@@ -54,8 +54,8 @@ abbrev pub lines_in : SubjectData → LinesData
 lines_in s = lines_in_text s.text s.packages
 
 -- the lockfile that this text means, of this argument, with this path in reports
-abbrev pub subject_at : List ℕ → List ℕ → List ℕ → LockfileData → SubjectData
-subject_at argument path text l = record {
+abbrev pub subject_of_lockfile : List ℕ → List ℕ → List ℕ → LockfileData → SubjectData
+subject_of_lockfile argument path text l = record {
   file = record { path = document_path argument; format = l.version };
   path = path;
   text = text;
@@ -85,16 +85,16 @@ pub record IsForm (found : Found) (asked : Form) : Type 0 where
       → asked ≡ form.Lines
 
 -- what is found in a lockfile: its lines, its document, and the findings of reports
-pub record FoundData : Type 0 where
+pub record LockfileFound : Type 0 where
   pub lines : List ℕ
   pub document : Json
   pub reported : List ReportedData
 
 -- what is found in such a lockfile: these lines, and a document and findings of reports that are made
 -- by the lines of its packages
-abbrev pub found_in : SubjectData → List ℕ → (FileData → LinesData → Json)
-    → (List ℕ → LinesData → List ReportedData) → FoundData
-found_in s lines document reported = record {
+abbrev pub found_in_lockfile : SubjectData → List ℕ → (FileData → LinesData → Json)
+    → (List ℕ → LinesData → List ReportedData) → LockfileFound
+found_in_lockfile s lines document reported = record {
   lines = lines;
   document = document s.file (lines_in s);
   reported = reported s.path (lines_in s);
@@ -107,7 +107,7 @@ PrintsDocuments documents old new = (texts : List (List ℕ)) × AllZip IsJsonTe
 
 -- what is found in lockfiles is printed in a form: the lines, the documents, one log of SARIF, or
 -- annotations of GitHub
-abbrev pub PrintsAs : Form → List FoundData → Option (List ℕ) → Option (List ℕ) → Type 0
+abbrev pub PrintsAs : Form → List LockfileFound → Option (List ℕ) → Option (List ℕ) → Type 0
 PrintsAs form.Lines all old new = Appends old new (flat_map (λ f. f.lines) all)
 PrintsAs form.Json all old new = PrintsDocuments (map (λ f. f.document) all) old new
 PrintsAs form.Sarif all old new =
@@ -116,22 +116,22 @@ PrintsAs form.Github all old new =
     Appends old new (annotations_text (flat_map (λ f. f.reported) all))
 
 -- the same in the form that the arguments ask for
-abbrev pub PrintsFound : Found → List FoundData → Option (List ℕ) → Option (List ℕ) → Type 0
+abbrev pub PrintsFound : Found → List LockfileFound → Option (List ℕ) → Option (List ℕ) → Type 0
 PrintsFound found all old new = (asked : Form) × IsForm found asked × PrintsAs asked all old new
 
 -- ---- what is kept until it is printed
 
 -- a text of lines or of documents, and findings of reports
-pub record ToldData : Type 0 where
+pub record KeptTold : Type 0 where
   pub text : List ℕ
   pub reported : List ReportedData
 
 -- this is what is printed of what is found, but for the log and the annotations that are made of
 -- findings
-abbrev pub IsTold : Form → List FoundData → ToldData → Type 0
-IsTold form.Lines all told = told.text ≡ flat_map (λ f. f.lines) all
-IsTold form.Json all told = (texts : List (List ℕ))
+abbrev pub IsToldAs : Form → List LockfileFound → KeptTold → Type 0
+IsToldAs form.Lines all told = told.text ≡ flat_map (λ f. f.lines) all
+IsToldAs form.Json all told = (texts : List (List ℕ))
     × AllZip IsJsonText (map (λ f. f.document) all) texts
     × (told.text ≡ flat_map (λ text. text ++ newline ∷ []) texts)
-IsTold form.Sarif all told = told.reported ≡ flat_map (λ f. f.reported) all
-IsTold form.Github all told = told.reported ≡ flat_map (λ f. f.reported) all
+IsToldAs form.Sarif all told = told.reported ≡ flat_map (λ f. f.reported) all
+IsToldAs form.Github all told = told.reported ≡ flat_map (λ f. f.reported) all

@@ -4,8 +4,8 @@ ghost use Rattle.std.specs.Prelude.{◌≡◌, ◌++◌, ◌∷◌, [], IfOk, If
 ghost use Rattle.clap.specs.Matches.{found_of};
 ghost use Rattle.cargo_lock_parts.specs.Ascii.{newline};
 ghost use Rattle.printing.specs.Json.{IsJsonText};
-ghost use Rattle.cli_input.specs.Told.{FoundData, IsForm, IsTold, PrintsAs, PrintsFound, ToldData};
-ghost use Rattle.cli_input.specs.Told.{found_in, lines_in, subject_of};
+ghost use Rattle.cli_input.specs.Told.{LockfileFound, IsForm, IsToldAs, PrintsAs, PrintsFound, KeptTold};
+ghost use Rattle.cli_input.specs.Told.{found_in_lockfile, lines_in, subject_of};
 
 use crate::subject::Subject;
 use cargo_lock_audit::{advisories_json, reported_advisories};
@@ -102,9 +102,9 @@ pub struct Told {
 
 impl Model for Told {
     ghost use Rattle.std.specs.Prelude.{string_bytes};
-    ghost use Rattle.cli_input.specs.Told.{ToldData};
+    ghost use Rattle.cli_input.specs.Told.{KeptTold};
 
-    ghost Value = { ToldData };
+    ghost Value = { KeptTold };
 
     ghost view = { λ told.
         record { text = string_bytes told.text; reported = told.reported.items } };
@@ -113,7 +113,7 @@ impl Model for Told {
 impl Told {
     /// What is printed where nothing is looked at.
     pub fn nothing(alloc: Global) -> Told
-        ensures { (form : Form) → IsTold form [] result }
+        ensures { (form : Form) → IsToldAs form [] result }
     {
         let text = String::new(alloc);
         Told {
@@ -130,7 +130,7 @@ impl Told {
         findings: &F,
     ) -> Result<Told, AllocError>
         ensures { IfOk result (λ told. IfSome (F.output findings.now)
-            (λ lines. IsTold form (found_in (subject_of subject.entry) lines
+            (λ lines. IsToldAs form (found_in_lockfile (subject_of subject.entry) lines
             (λ file at. F.json file at findings.now) (λ path at. F.reported path at findings.now)
             ∷ []) told)) }
     {
@@ -152,9 +152,9 @@ impl Told {
 
     /// Adds what is printed of further lockfiles. Fails when out of memory.
     pub fn append(&mut self, more: Told) -> Result<(), AllocError>
-        ensures { OnOk result ((form : Form) (first second : List FoundData)
-            → IsTold form first self.old → IsTold form second more
-            → IsTold form (first ++ second) self.new) }
+        ensures { OnOk result ((form : Form) (first second : List LockfileFound)
+            → IsToldAs form first self.old → IsToldAs form second more
+            → IsToldAs form (first ++ second) self.new) }
     {
         self.text.push_str(&more.text)?;
         for finding in more.reported {
@@ -204,7 +204,7 @@ pub fn print_told<W: Write>(
     told: &Told,
     out: &mut W,
 ) -> Result<(), Fault>
-    ensures { OnOk result ((all : List FoundData) → IsTold form all told.now
+    ensures { OnOk result ((all : List LockfileFound) → IsToldAs form all told.now
         → PrintsAs form all (W.contents out.old) (W.contents out.new)) }
 {
     match form {
@@ -236,7 +236,7 @@ pub fn print_findings<F: Findings, W: Write>(
     out: &mut W,
 ) -> Result<(), Fault>
     ensures { OnOk result (IfSome (F.output findings.now)
-        (λ lines. PrintsFound (found_of options.now) (found_in (subject_of subject.entry) lines
+        (λ lines. PrintsFound (found_of options.now) (found_in_lockfile (subject_of subject.entry) lines
         (λ file at. F.json file at findings.now) (λ path at. F.reported path at findings.now)
         ∷ []) (W.contents out.old) (W.contents out.new))) }
 {

@@ -3,8 +3,9 @@
 ghost use Rattle.std.specs.Prelude.{◌≡◌, ◌≢◌, ◌⊎◌, IfOk, None, string_bytes};
 ghost use Rattle.std.specs.Path.{StripsPrefix};
 ghost use Rattle.clap.specs.Matches.{first_value, found_of};
-ghost use Rattle.cli_input.specs.Told.{IsReportPath};
+ghost use Rattle.cli_input.specs.Told.{IsReportPath, subject_of};
 
+use crate::load::WithText;
 use cargo_lock::Package;
 use cargo_lock_display::File;
 use clap::ArgMatches;
@@ -31,6 +32,26 @@ pub struct Subject<'a> {
 
     /// Its packages. A text that is no lockfile has none.
     pub packages: &'a [Package],
+}
+
+impl<'a> Subject<'a> {
+    /// A lockfile that was read, as a document has it, and at this path.
+    pub fn of(file: &'a File<'a>, path: &'a str, read: &'a WithText) -> Subject<'a>
+        ensures { subject_of result ≡ record {
+          file = file.now;
+          path = path.now;
+          text = string_bytes read.now.text;
+          packages = read.now.lockfile.packages;
+        } }
+    {
+        let lockfile = &read.lockfile;
+        Subject {
+            file,
+            path,
+            text: read.text.as_str(),
+            packages: lockfile.packages.as_slice(),
+        }
+    }
 }
 
 /// The path of the lockfile of an argument, as it is printed with findings. If the arguments ask for
