@@ -25,7 +25,8 @@ use Rattle.cli.specs.declared.checked.Named.{Named}
 use Rattle.cli.specs.declared.several.Several.{Several}
 use Rattle.cli_input.specs.declared.findings.Form.{Form}
 use Rattle.cli_input.specs.Json.{document_path}
-use Rattle.cli_input.specs.Told.{LockfileFound, IsReportPath, IsToldAs, PrintsFound, SubjectData, found_in_lockfile}
+use Rattle.cli_input.specs.Told.{IsReportPath, IsToldAs, LockfileFound, PrintsFound, SubjectData}
+use Rattle.cli_input.specs.Told.{found_in_lockfile}
 use Rattle.cli_input.specs.Told.{subject_of_lockfile}
 use Rattle.cli_support.specs.Input.{given_path_in}
 
@@ -72,7 +73,8 @@ pub record CheckedData : Type 0 where
 -- findings of a lockfile
 abbrev pub checked_lockfile : NamedData → List ℕ → LockfileData → FindingsData → CheckedData
 checked_lockfile n text l f = record {
-  found = found_in_lockfile (subject_of_lockfile n.argument n.path text l) (placed_text n.prefix (placed_told f))
+  found = found_in_lockfile (subject_of_lockfile n.argument n.path text l)
+    (placed_text n.prefix (placed_told f))
       (λ file lines. findings_json file lines (placed_told f))
       (λ path lines. reported_findings path lines (placed_told f));
   packages = length f.packages;

@@ -16,7 +16,8 @@ use Rattle.cargo_lock_encoding.specs.Lockfiles.{LockfileData}
 use Rattle.cargo_lock_encoding.specs.Means.{TextMeans}
 use Rattle.cargo_lock_audit.specs.Document.{advisories_json}
 use Rattle.cargo_lock_parts.specs.Identity.{PackageData}
-use Rattle.cli_input.specs.Told.{LockfileFound, IsReportPath, PrintsFound, SubjectData, found_in_lockfile}
+use Rattle.cli_input.specs.Told.{IsReportPath, LockfileFound, PrintsFound, SubjectData}
+use Rattle.cli_input.specs.Told.{found_in_lockfile}
 use Rattle.cli_input.specs.Told.{subject_of_lockfile}
 use Rattle.cli_support.specs.Input.{given_path_in}
 use Rattle.cli_folder_commands.specs.Settings.{AreSettings}

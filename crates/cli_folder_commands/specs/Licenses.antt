@@ -11,7 +11,8 @@ use Rattle.cargo_lock_licenses.specs.Report.{AreJudged, UnmetData, all_unmet, re
 use Rattle.cargo_lock_licenses.specs.Reporting.{reported_licenses}
 use Rattle.cargo_lock_licenses.specs.Subjects.{LicenseSubjectData}
 use Rattle.cargo_lock_parts.specs.Identity.{PackageData}
-use Rattle.cli_input.specs.Told.{LockfileFound, IsReportPath, PrintsFound, SubjectData, found_in_lockfile}
+use Rattle.cli_input.specs.Told.{IsReportPath, LockfileFound, PrintsFound, SubjectData}
+use Rattle.cli_input.specs.Told.{found_in_lockfile}
 use Rattle.cli_input.specs.Told.{subject_of_lockfile}
 use Rattle.cli_support.specs.Input.{given_path_in}
 use Rattle.cli_folder_commands.specs.Policy.{IsPolicy}

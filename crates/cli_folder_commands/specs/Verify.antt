@@ -21,7 +21,8 @@ use Rattle.cargo_lock_verify.specs.VendorReport.{folder_report_text, vendor_find
 use Rattle.cli_folder_commands.specs.Texts.{given_texts}
 use Rattle.cli_input.specs.Json.{IsFlag}
 use Rattle.cli_input.specs.Load.{MeansWithCargoChecksums}
-use Rattle.cli_input.specs.Told.{LockfileFound, IsReportPath, PrintsFound, SubjectData, found_in_lockfile}
+use Rattle.cli_input.specs.Told.{IsReportPath, LockfileFound, PrintsFound, SubjectData}
+use Rattle.cli_input.specs.Told.{found_in_lockfile}
 use Rattle.cli_input.specs.Told.{subject_of_lockfile}
 use Rattle.cli_support.specs.Input.{given_path_in}
 

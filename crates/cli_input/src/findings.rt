@@ -4,7 +4,7 @@ ghost use Rattle.std.specs.Prelude.{◌≡◌, ◌++◌, ◌∷◌, [], IfOk, If
 ghost use Rattle.clap.specs.Matches.{found_of};
 ghost use Rattle.cargo_lock_parts.specs.Ascii.{newline};
 ghost use Rattle.printing.specs.Json.{IsJsonText};
-ghost use Rattle.cli_input.specs.Told.{LockfileFound, IsForm, IsToldAs, PrintsAs, PrintsFound, KeptTold};
+ghost use Rattle.cli_input.specs.Told.{IsForm, IsToldAs, LockfileFound, PrintsAs, PrintsFound};
 ghost use Rattle.cli_input.specs.Told.{found_in_lockfile, lines_in, subject_of};
 
 use crate::subject::Subject;
