@@ -34,7 +34,7 @@ use std::alloc::{AllocError, Global};
 /// by these lines. Fails when out of memory.
 ///
 /// ```
-/// let text = advisories_json(rt.alloc(), &file, report, lines)?;
+/// let text = advisories_json(rt.alloc(), file, report, lines)?;
 /// ```
 pub fn advisories_json(
     alloc: Global,

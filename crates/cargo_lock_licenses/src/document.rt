@@ -23,7 +23,7 @@ use std::alloc::{AllocError, Global};
 /// Each is at the line of its package, by these lines. Fails when out of memory.
 ///
 /// ```
-/// let text = licenses_json(rt.alloc(), &file, &report, lines)?;
+/// let text = licenses_json(rt.alloc(), file, report, lines)?;
 /// ```
 pub fn licenses_json(
     alloc: Global,

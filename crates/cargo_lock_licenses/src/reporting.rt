@@ -18,7 +18,7 @@ use std::alloc::{AllocError, Global};
 /// out of memory.
 ///
 /// ```
-/// let reported = reported_licenses(alloc, "Cargo.lock", &report, lines)?;
+/// let reported = reported_licenses(alloc, "Cargo.lock", report, lines)?;
 /// ```
 pub fn reported_licenses(
     alloc: Global,

@@ -2,7 +2,6 @@
 //!
 //! ```
 //! let lines = package_lines(rt.alloc(), text, &lockfile.packages)?;
-//! let lines = PackageLines::new(rt.alloc(), &lockfile.packages, &lines)?;
 //! ```
 #![tactic(auto)]
 

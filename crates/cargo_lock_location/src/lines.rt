@@ -40,7 +40,7 @@ impl<'a> PackageLines<'a> {
     /// returns them. Without lines none is known. Fails when out of memory.
     ///
     /// ```
-    /// let lines = PackageLines::new(rt.alloc(), &lockfile.packages, &lines)?;
+    /// let lines = PackageLines::new(rt.alloc(), &lockfile.packages, lines)?;
     /// ```
     pub fn new(
         alloc: Global,

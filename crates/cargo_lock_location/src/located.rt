@@ -54,7 +54,7 @@ impl<T: Lined> ToJson for Located<'_, T> {
 /// What is found, each with its line, in the same order. Fails when out of memory.
 ///
 /// ```
-/// let located = locate(alloc, findings, lines)?;
+/// let located = locate(rt.alloc(), findings, lines)?;
 /// ```
 pub fn locate<'d, T: Lined>(
     alloc: Global,

@@ -23,7 +23,7 @@ impl Level {
     /// The level of a finding that counts, or does not.
     ///
     /// ```
-    /// let level = Level::of(finding.is_denied);
+    /// let level = Level::of(is_vulnerability);
     /// ```
     pub fn of(counts: bool) -> Level
         ensures { result ≡ spec.level_of counts }

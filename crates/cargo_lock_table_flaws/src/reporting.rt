@@ -16,7 +16,7 @@ use std::alloc::{AllocError, Global};
 /// and none has a line. Fails when out of memory.
 ///
 /// ```
-/// let reported = reported_table_findings(alloc, "Cargo.lock", &report)?;
+/// let reported = reported_table_findings(alloc, "Cargo.lock", report)?;
 /// ```
 pub fn reported_table_findings(
     alloc: Global,

@@ -29,7 +29,7 @@ use std::alloc::{AllocError, Global};
 /// Each finding is at the line of its package, by these lines. Fails when out of memory.
 ///
 /// ```
-/// let text = archives_json(rt.alloc(), &file, &report, lines)?;
+/// let text = archives_json(rt.alloc(), file, report, lines)?;
 /// ```
 pub fn archives_json(
     alloc: Global,

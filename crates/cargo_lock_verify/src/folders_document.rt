@@ -31,7 +31,7 @@ use std::collections::BTreeMap;
 /// archives. Fails when out of memory.
 ///
 /// ```
-/// let text = folders_json(rt.alloc(), &file, report, lines)?;
+/// let text = folders_json(rt.alloc(), file, report, lines)?;
 /// ```
 pub fn folders_json(
     alloc: Global,

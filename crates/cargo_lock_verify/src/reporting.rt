@@ -23,7 +23,7 @@ use std::alloc::{AllocError, Global};
 /// Each is at the line of its package, by these lines. Fails when out of memory.
 ///
 /// ```
-/// let reported = reported_archives(alloc, "Cargo.lock", &report, lines)?;
+/// let reported = reported_archives(alloc, "Cargo.lock", report, lines)?;
 /// ```
 pub fn reported_archives(
     alloc: Global,
@@ -77,7 +77,7 @@ fn counts_if(finding: &Finding<'_, '_>, all: bool) -> bool
 /// The same of a report on folders. Each finding counts. Fails when out of memory.
 ///
 /// ```
-/// let reported = reported_folders(alloc, "Cargo.lock", &report, lines)?;
+/// let reported = reported_folders(alloc, "Cargo.lock", report, lines)?;
 /// ```
 pub fn reported_folders(
     alloc: Global,
