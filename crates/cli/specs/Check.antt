@@ -74,7 +74,7 @@ pub record CheckedData : Type 0 where
 abbrev pub checked_lockfile : NamedData → List ℕ → LockfileData → FindingsData → CheckedData
 checked_lockfile n text l f = record {
   found = found_in_lockfile (subject_of_lockfile n.argument n.path text l)
-    (placed_text n.prefix (placed_told f))
+      (placed_text n.prefix (placed_told f))
       (λ file lines. findings_json file lines (placed_told f))
       (λ path lines. reported_findings path lines (placed_told f));
   packages = length f.packages;

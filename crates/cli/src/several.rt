@@ -11,6 +11,7 @@ use crate::check::ended;
 use crate::checked::{Checked, Named, checked};
 use crate::counts::counts_line;
 use crate::ending::Ended;
+use cargo_lock::Error;
 use clap::ArgMatches;
 use cli_input::findings::{Form, Told, asked_form, print_told};
 use cli_input::load::text_at;
@@ -92,7 +93,8 @@ fn several_at<R: Files + Input + Env + AllocGlobal>(
 }
 
 impl Several {
-    /// Adds what is found in one more lockfile, or the fault of it. Fails when out of memory.
+    /// Adds what is found in one more lockfile, or the fault of it. Fails when out of memory, which is
+    /// the fault of no lockfile.
     fn add(&mut self, outcome: Result<Checked, Fault>) -> Result<(), AllocError>
         ensures ok { IfOk outcome (λ checked. OnOk result
             ((form : Form) (before : List (Option CheckedData)) (c : CheckedData)
@@ -105,6 +107,7 @@ impl Several {
     {
         match outcome {
             Ok(checked) => self.checked.append(checked),
+            Err(Fault::Library(Error::Memory)) => Err(AllocError),
             Err(fault) => {
                 self.faults.push(fault)?;
                 Ok(())
