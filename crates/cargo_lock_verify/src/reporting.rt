@@ -19,8 +19,9 @@ use std::alloc::{AllocError, Global};
 // ---- archives
 
 /// The findings of a report on the lockfile at a path, as findings of reports, in their order. That a
-/// package has no archive counts only if the report is of all packages, and each other finding counts.
-/// Each is at the line of its package, by these lines. Fails when out of memory.
+/// package has no archive counts only if the report is of all packages, or no archive matches, and
+/// each other finding counts. Each is at the line of its package, by these lines. Fails when out of
+/// memory.
 ///
 /// ```
 /// let reported = reported_archives(alloc, "Cargo.lock", report, lines)?;
@@ -32,42 +33,43 @@ pub fn reported_archives(
     lines: &PackageLines<'_>,
 ) -> Result<Vec<Reported>, AllocError>
     ensures { IfOk result (λ reported. reported.items
-        ≡ spec.reported_archives report.now.is_of_all path.now lines.now
+        ≡ spec.reported_archives report.now.is_of_all report.now.counts path.now lines.now
         (map archive_finding_of report.now.findings.items)) }
 {
+    let missing = report.is_of_all || report.counts.matches == 0;
     let mut reported = Vec::with_capacity(alloc, report.findings.len())?;
     for finding in &report.findings {
         let line = finding.line(lines);
         let spot = Spot { path, line };
-        reported.push(reported_archive(alloc, finding, report.is_of_all, spot)?)?;
+        reported.push(reported_archive(alloc, finding, missing, spot)?)?;
     }
     Ok(reported)
 }
 
-// A finding of archives at a spot, where all packages are asked for or not.
+// A finding of archives at a spot, where a package without an archive counts or does not.
 #[tactic(auto, unfolding(crate::specs::Reporting::archive_finding_reported))]
 fn reported_archive(
     alloc: Global,
     finding: &Finding<'_, '_>,
-    all: bool,
+    missing: bool,
     spot: Spot<'_>,
 ) -> Result<Reported, AllocError>
-    ensures { IfOk result (λ reported. reported ≡ archive_finding_reported all
+    ensures { IfOk result (λ reported. reported ≡ archive_finding_reported missing
         (spot_of spot.entry) (archive_finding_of finding.now)) }
 {
     let rule = Rule::of_kind(alloc, archives_document::kind(finding))?;
-    let level = Level::of(counts_if(finding, all));
+    let level = Level::of(counts_if(finding, missing));
     let message = format!(in alloc; "{finding}")?;
     let package = archives_document::package(finding);
     Reported::new(alloc, rule, level, message, Some(package), spot)
 }
 
-// Whether a finding of archives counts.
-fn counts_if(finding: &Finding<'_, '_>, all: bool) -> bool
-    ensures { result ≡ spec.counts_if all (archive_finding_of finding.now) }
+// Whether a finding of archives counts, where a package without an archive does or does not.
+fn counts_if(finding: &Finding<'_, '_>, missing: bool) -> bool
+    ensures { result ≡ spec.counts_if missing (archive_finding_of finding.now) }
 {
     match finding {
-        Finding::Missing(_) => all,
+        Finding::Missing(_) => missing,
         Finding::Changed(_, _) | Finding::NoChecksum(_) => true,
     }
 }

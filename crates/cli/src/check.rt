@@ -67,7 +67,7 @@ const PATHS_HELP: &str = "Lockfiles in place of that of --file, - for standard i
 /// The parser of this command: its options and the paths of lockfiles.
 pub(crate) fn command<'a>(alloc: Global) -> Result<Command<'a>, AllocError> {
     Command::new(alloc, "check")
-        .about("Prints what is wrong with lockfiles")
+        .about("Prints what is wrong with a lockfile")
         .after_help(FINDINGS_HELP)
         .arg(words::file(alloc))?
         .arg(words::any_size(alloc)?)?

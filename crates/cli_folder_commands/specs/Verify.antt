@@ -35,7 +35,7 @@ AreSubjectsOf packages subjects = map (λ s. s.content) subjects ≡ packages
 abbrev pub found_of_archives : SubjectData → Bool → List ArchiveFindingData → Counts → ℕ → LockfileFound
 found_of_archives s all told counts others = found_in_lockfile s (archive_report_text told counts others)
     (λ file lines. archives_json file lines counts others told)
-    (λ path lines. reported_archives all path lines told)
+    (λ path lines. reported_archives all counts path lines told)
 
 -- these are printed, with the status of these numbers
 pub record PrintsFoundOfArchives (found : Found) (s : SubjectData) (all : Bool)

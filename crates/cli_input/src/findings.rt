@@ -256,7 +256,7 @@ impl Findings for cargo_lock_verify::Report<'_, '_> {
     ghost json = { λ file lines report. archives_json file lines report.counts report.others
         (map archive_finding_of report.findings.items) };
 
-    ghost reported = { λ path lines report. reported_archives report.is_of_all path lines
+    ghost reported = { λ path lines report. reported_archives report.is_of_all report.counts path lines
         (map archive_finding_of report.findings.items) };
 
     fn document(
