@@ -4,6 +4,7 @@ ghost use Rattle.std.specs.Prelude.{◌≡◌, ◌↔◌, IsTrue};
 ghost use Rattle.cli.specs.Ending.{status_in};
 ghost use Rattle.cli.specs.declared.ending.Reader.TheVariants.{Person};
 
+use cli_support::Fault;
 use std::process::ExitCode;
 
 /// How a command ends without a fault.
@@ -20,6 +21,10 @@ pub(crate) enum Ended {
 
     /// Without findings, and with a line that counts what was looked at, for a person.
     FoundNothing(String),
+
+    /// With the status of a fault, since lockfiles were not read, the faults of these, and a line that
+    /// counts what was found in the others.
+    NotAllRead(ExitCode, Vec<Fault>, String),
 }
 
 impl Ended {

@@ -3,7 +3,7 @@ ghost use Rattle.std.specs.Prelude.{◌≡◌, IfOk};
 ghost use Rattle.clap.specs.Matches.{found_of};
 ghost use Rattle.cargo_lock_merge.specs.MergedLockfiles.{MergesTo};
 ghost use Rattle.cli_input.specs.Load.{IsMeantWithCargoChecksums};
-ghost use Rattle.cli.specs.Ending.{status_in};
+ghost use Rattle.cli.specs.Ending.{IsEnd, status_in};
 ghost use Rattle.cli.specs.Merge.{AreCompared, IsMeantForMerge, PrintsMerge, PrintsMergeOf};
 ghost use Rattle.cli.specs.Merge.{triple_of_files};
 
@@ -68,9 +68,10 @@ pub(crate) fn run<R: Files + Input + AllocGlobal, W: Write>(
     options: &ArgMatches<'_>,
     out: &mut W,
 ) -> Result<Ended, Fault>
-    ensures { IfOk result (λ ended. PrintsMerge (found_of options.now)
+    ensures printed { IfOk result (λ ended. PrintsMerge (found_of options.now)
         (W.contents out.old) (W.contents out.new)
         (status_in ended ≡ ExitCode.FAILURE) (status_in ended ≡ ExitCode.SUCCESS)) }
+    ensures end { IfOk result IsEnd }
 {
     let three = three_lockfiles(rt, options)?;
     let merge = merge_of(rt.alloc(), &three)?;
@@ -169,9 +170,10 @@ fn put_merge<R: Files + AllocGlobal, W: Write>(
     merge: LockfileMerge<'_>,
     out: &mut W,
 ) -> Result<Ended, Fault>
-    ensures { IfOk result (λ ended. PrintsMergeOf (found_of options.now) merge.entry
+    ensures printed { IfOk result (λ ended. PrintsMergeOf (found_of options.now) merge.entry
         (W.contents out.old) (W.contents out.new)
         (status_in ended ≡ ExitCode.FAILURE) (status_in ended ≡ ExitCode.SUCCESS)) }
+    ensures end { IfOk result IsEnd }
 {
     match merge {
         LockfileMerge::Merged(_, text, moved) => {

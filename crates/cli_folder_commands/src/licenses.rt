@@ -6,22 +6,23 @@ ghost use Rattle.cargo_lock_licenses.specs.Policy as spec;
 ghost use Rattle.cargo_lock_licenses.specs.Subjects.{license_subject_of};
 ghost use Rattle.cli_folder_commands.specs.Licenses.{AreLicensed, PrintsLicenseReport, PrintsLicenses};
 ghost use Rattle.cli_folder_commands.specs.Licenses.{PrintsLicensesOf};
+ghost use Rattle.cli_input.specs.Told.{subject_of};
 
 use crate::folders::manifests;
 use crate::policy::policy_of;
 use crate::texts;
 use crate::verify::status_of;
-use cargo_lock::Lockfile;
 use cargo_lock::package::Package;
-use cargo_lock_display::File;
-use cargo_lock_licenses::{Policy, Report, Subject};
+use cargo_lock_licenses::{Policy, Report};
 use clap::{ArgMatches, Command};
 use cli_folders::Manifests;
-use cli_input::answer::print_answer;
-use cli_input::load::{file, named_lockfile};
-use cli_support::words::{any_size, json};
+use cli_input::findings::print_findings;
+use cli_input::load::{file, lockfile_with_text};
+use cli_input::subject::{Subject, report_path};
+use cli_support::words::{any_size, format, json, name};
 use cli_support::{Fault, words};
 use std::alloc::{AllocError, Global};
+use std::env::Env;
 use std::io::{Input, Write};
 use std::process::ExitCode;
 use std::rt::Files;
@@ -73,14 +74,16 @@ pub fn command<'a>(alloc: Global) -> Result<Command<'a>, AllocError> {
         .arg(texts::option(alloc, "allow", "TERM").help(ALLOW_HELP))?
         .arg(texts::option(alloc, "license", "NAME@VERSION=EXPRESSION").help(LICENSE_HELP))?
         .arg(texts::option(alloc, "exempt", "NAME[@VERSION]=TERM").help(EXEMPT_HELP))?
-        .arg(json(alloc)?)
+        .arg(json(alloc)?)?
+        .arg(format(alloc)?)?
+        .arg(name(alloc)?)
 }
 
 /// Prints what is found of the licences of the packages of the lockfile, a line for each, or, if
-/// the arguments ask for it, all as one line of JSON. The status is 1 if one is not allowed or not
+/// the arguments ask for it, all as one line of JSON, or as a report. The status is 1 if one is not allowed or not
 /// known, and otherwise 0. Fails if words of the arguments, the lockfile, a folder or a manifest are
 /// not read, or if `out` fails; a prefix of the text was then written in the last case, and nothing in the others.
-pub fn run<R: Files + Input + AllocGlobal, W: Write>(
+pub fn run<R: Files + Input + Env + AllocGlobal, W: Write>(
     rt: &R,
     options: &ArgMatches<'_>,
     out: &mut W,
@@ -90,9 +93,11 @@ pub fn run<R: Files + Input + AllocGlobal, W: Write>(
         (status ≡ ExitCode.FAILURE) (status ≡ ExitCode.SUCCESS)) }
 {
     let policy = policy_of(rt.alloc(), options)?;
-    let lockfile = named_lockfile(rt, options, "file")?;
-    let file = file(options, "file", &lockfile);
-    print_licenses(rt, options, &policy, &file, &lockfile, out)
+    let read = lockfile_with_text(rt, options, "file")?;
+    let path = report_path(rt, options, words::given_path(options, "file"))?;
+    let file = file(options, "file", &read.lockfile);
+    let subject = Subject::of(&file, &path, &read);
+    print_licenses(rt, options, &policy, subject, out)
 }
 
 /// Prints what is found of the licences of these packages by a policy. Returns the status.
@@ -100,16 +105,16 @@ fn print_licenses<R: Files + AllocGlobal, W: Write>(
     rt: &R,
     options: &ArgMatches<'_>,
     policy: &Policy,
-    file: &File<'_>,
-    lockfile: &Lockfile,
+    subject: Subject<'_>,
     out: &mut W,
 ) -> Result<ExitCode, Fault>
     ensures { IfOk result (λ status. PrintsLicensesOf (found_of options.now)
-        (spec.policy_of policy.now) file.now lockfile.now.packages (W.contents out.old) (W.contents out.new)
+        (spec.policy_of policy.now) (subject_of subject.entry)
+        (W.contents out.old) (W.contents out.new)
         (status ≡ ExitCode.FAILURE) (status ≡ ExitCode.SUCCESS)) }
 {
-    let subjects = subjects_of(rt, options, &lockfile.packages)?;
-    print_report(rt.alloc(), options, policy, file, &subjects, out)
+    let subjects = subjects_of(rt, options, subject.packages)?;
+    print_report(rt.alloc(), options, policy, subject, &subjects, out)
 }
 
 /// The packages, each with what its manifests say in the folder that the arguments name.
@@ -117,7 +122,7 @@ fn subjects_of<'a, R: Files + AllocGlobal>(
     rt: &R,
     options: &ArgMatches<'_>,
     packages: &'a [Package],
-) -> Result<Vec<Subject<'a>>, Fault>
+) -> Result<Vec<cargo_lock_licenses::Subject<'a>>, Fault>
     ensures { IfOk result
         (λ subjects. AreLicensed packages.now (map license_subject_of subjects.items)) }
 {
@@ -130,7 +135,7 @@ pub(crate) fn subjects_in<'a, R: Files + AllocGlobal>(
     rt: &R,
     folder: &str,
     packages: &'a [Package],
-) -> Result<Vec<Subject<'a>>, Fault>
+) -> Result<Vec<cargo_lock_licenses::Subject<'a>>, Fault>
     ensures { IfOk result
         (λ subjects. AreLicensed packages.now (map license_subject_of subjects.items)) }
 {
@@ -144,14 +149,14 @@ fn licensed<'a>(
     alloc: Global,
     folder: &Manifests,
     packages: &'a [Package],
-) -> Result<Vec<Subject<'a>>, AllocError>
+) -> Result<Vec<cargo_lock_licenses::Subject<'a>>, AllocError>
     ensures { IfOk result
         (λ subjects. AreLicensed packages.now (map license_subject_of subjects.items)) }
 {
     let mut subjects = Vec::with_capacity(alloc, packages.len())?;
     for package in packages {
         let manifests = folder.of_package(alloc, package)?;
-        subjects.push(Subject { package, manifests })?;
+        subjects.push(cargo_lock_licenses::Subject { package, manifests })?;
     }
     Ok(subjects)
 }
@@ -161,16 +166,16 @@ fn print_report<W: Write>(
     alloc: Global,
     options: &ArgMatches<'_>,
     policy: &Policy,
-    file: &File<'_>,
-    subjects: &[Subject<'_>],
+    subject: Subject<'_>,
+    subjects: &[cargo_lock_licenses::Subject<'_>],
     out: &mut W,
 ) -> Result<ExitCode, Fault>
     ensures { IfOk result (λ status. PrintsLicenseReport (found_of options.now)
-        (spec.policy_of policy.now) file.now (map license_subject_of subjects.now)
+        (spec.policy_of policy.now) (subject_of subject.entry) (map license_subject_of subjects.now)
         (W.contents out.old) (W.contents out.new)
         (status ≡ ExitCode.FAILURE) (status ≡ ExitCode.SUCCESS)) }
 {
     let report = Report::of(alloc, subjects, policy)?;
-    print_answer(alloc, options, file, &report, out)?;
+    print_findings(alloc, options, subject, &report, out)?;
     Ok(status_of(!report.has_finding()))
 }

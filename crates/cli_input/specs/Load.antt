@@ -3,6 +3,7 @@ use Rattle.std.specs.Prelude.{◌≡◌, ℕ, List, None, Some, string_bytes}
 use Rattle.cargo_lock.specs.CargoChecksums.{with_cargo_checksums_in}
 use Rattle.cargo_lock.specs.Loads.{IsMeant, IsOfFile}
 use Rattle.cargo_lock_encoding.specs.Lockfiles.{LockfileData}
+use Rattle.cargo_lock_encoding.specs.Means.{TextMeans}
 use Rattle.cargo_lock_references.specs.declared.version.ResolveVersion.{ResolveVersion}
 use Rattle.cargo_lock_parts.specs.declared.error.Error.{Error}
 use Rattle.cargo_lock_parts.specs.declared.error.Error.TheVariants.{Memory}
@@ -51,6 +52,11 @@ IsTextFault argument text fault = (error : Error) × IsReadingFault argument tex
 -- the lockfile is one that some text means, with the checksums that Cargo reads
 abbrev pub IsMeantWithCargoChecksums : LockfileData → Type 0
 IsMeantWithCargoChecksums x = (l : LockfileData) × IsMeant l × (x ≡ with_cargo_checksums_in l)
+
+-- the text means a lockfile, and this is that one with the checksums that Cargo reads
+abbrev pub MeansWithCargoChecksums : List ℕ → LockfileData → Type 0
+MeansWithCargoChecksums text x = (l : LockfileData) × TextMeans text l
+    × (x ≡ with_cargo_checksums_in l)
 
 -- the graph is that of the tree of a lockfile
 pub record IsGraphOf (l : LockfileData) (graph : GraphData) : Type 0 where

@@ -1,5 +1,5 @@
 //! The command `diff`: what differs between the packages of two lockfiles.
-ghost use Rattle.std.specs.Prelude.{◌≡◌, IfOk, Some, codes, map};
+ghost use Rattle.std.specs.Prelude.{◌≡◌, IfOk, Some, codes, map, string_bytes};
 ghost use Rattle.std.specs.Fmt.{DisplaysOnOk};
 ghost use Rattle.std.specs.List.{AllZip};
 ghost use Rattle.clap.specs.Matches.{found_of};
@@ -7,14 +7,15 @@ ghost use Rattle.cargo_lock_diff.specs.Change.{change_of, changes_by};
 ghost use Rattle.cli_lockfile_commands.specs.Diff.{AreCommitsAsked, IsAcceptedBy, IsStatus};
 ghost use Rattle.cli_lockfile_commands.specs.Diff.{IsTold, PrintsChanges};
 ghost use Rattle.cli_lockfile_commands.specs.Diff.{PrintsDifference, PrintsDifferenceOf};
-ghost use Rattle.cli_lockfile_commands.specs.Diff.{given_words, last_line};
+ghost use Rattle.cli_lockfile_commands.specs.Diff.{given_words, last_line, sides_of};
 
-use cargo_lock::{Error, Lockfile};
+use cargo_lock::{Error, Lockfile, Package};
 use cargo_lock_diff::{Accepted, Change, Commits, Difference, Line, Summary, difference_json};
 use cargo_lock_display::File;
+use cargo_lock_location::{PackageLines, package_lines};
 use clap::{Arg, ArgAction, ArgMatches, Command};
 use cli_input::answer::{Answer, print_answer};
-use cli_input::load::{compared_lockfile, file};
+use cli_input::load::{WithText, compared_lockfile, compared_with_text, file};
 use cli_support::Fault;
 use cli_support::terminal::in_line;
 use cli_support::words::{any_size, flag, is_standard, json, lockfile_path, long_flag};
@@ -106,7 +107,7 @@ pub fn run<R: Files + Input + AllocGlobal, W: Write>(
     }
     let accepted = accepted(rt.alloc(), options)?;
     let old = compared_lockfile(rt, options, "old")?;
-    let new = compared_lockfile(rt, options, "new")?;
+    let new = compared_with_text(rt, options, "new")?;
     report(rt.alloc(), options, &accepted, &old, &new, out)
 }
 
@@ -163,39 +164,55 @@ fn report<W: Write>(
     options: &ArgMatches<'_>,
     accepted: &[Accepted],
     old: &Lockfile,
-    new: &Lockfile,
+    new: &WithText,
     out: &mut W,
 ) -> Result<ExitCode, Fault>
     ensures { IfOk result (λ status. PrintsDifferenceOf (found_of options.now) accepted.now
-        old.now new.now (W.contents out.old) (W.contents out.new)
+        old.now (string_bytes new.now.text) new.now.lockfile
+        (W.contents out.old) (W.contents out.new)
         (status ≡ ExitCode.FAILURE) (status ≡ ExitCode.SUCCESS)) }
 {
-    let difference = Difference::accepting(alloc, accepted, &old.packages, &new.packages)?;
+    let lockfile = &new.lockfile;
+    let difference = Difference::accepting(alloc, accepted, &old.packages, &lockfile.packages)?;
     let before = file(options, "old", old);
-    let after = file(options, "new", new);
-    report_changes(alloc, options, &before, &after, &difference, out)
+    let after = file(options, "new", lockfile);
+    let sides = Sides {
+        before: &before,
+        after: &after,
+        text: &new.text,
+        packages: &lockfile.packages,
+    };
+    report_changes(alloc, options, sides, &difference, out)
+}
+
+/// The lockfiles that are compared, the text of the new one, and its packages.
+#[derive(Clone, Copy)]
+struct Sides<'a> {
+    before: &'a File<'a>,
+    after: &'a File<'a>,
+    text: &'a str,
+    packages: &'a [Package],
 }
 
 /// Prints the changes of a difference. Returns the status.
 fn report_changes<W: Write>(
     alloc: Global,
     options: &ArgMatches<'_>,
-    before: &File<'_>,
-    after: &File<'_>,
+    sides: Sides<'_>,
     difference: &Difference<'_>,
     out: &mut W,
 ) -> Result<ExitCode, Fault>
-    ensures { IfOk result (λ status. PrintsChanges (found_of options.now) before.now after.now
+    ensures { IfOk result (λ status. PrintsChanges (found_of options.now) (sides_of sides.entry)
         difference.now (W.contents out.old) (W.contents out.new)
         (status ≡ ExitCode.FAILURE) (status ≡ ExitCode.SUCCESS)) }
 {
     let changes = changes(alloc, options, difference)?;
     let told = Told {
-        before,
+        sides,
         changes: &changes,
         commits: commits(options),
     };
-    print_answer(alloc, options, after, &told, out)?;
+    print_answer(alloc, options, sides.after, &told, out)?;
     Ok(status(options, difference, &changes))
 }
 
@@ -223,16 +240,16 @@ fn commits(options: &ArgMatches<'_>) -> Commits
     }
 }
 
-/// The changes that are printed, the lockfile before them, and how commits are printed. `Display`
-/// writes the changes in their order, and then how many of each kind there are.
+/// The changes that are printed, the lockfiles between which they are, and how commits are printed.
+/// `Display` writes the changes in their order, and then how many of each kind there are.
 #[derive(Clone, Copy)]
-struct Told<'a, 'b, 'd> {
-    before: &'a File<'b>,
+struct Told<'a, 'd> {
+    sides: Sides<'a>,
     changes: &'a [Change<'d>],
     commits: Commits,
 }
 
-impl fmt::Display for Told<'_, '_, '_> {
+impl fmt::Display for Told<'_, '_> {
     ghost use Rattle.std.specs.Prelude.{Some, map};
     ghost use Rattle.cargo_lock_diff.specs.Change.{change_of};
     ghost use Rattle.cli_lockfile_commands.specs.Diff.{told_text};
@@ -245,16 +262,21 @@ impl fmt::Display for Told<'_, '_, '_> {
     }
 }
 
-impl Answer for Told<'_, '_, '_> {
+impl Answer for Told<'_, '_> {
     ghost use Rattle.std.specs.Prelude.{map};
     ghost use Rattle.cargo_lock_diff.specs.Change.{change_of};
     ghost use Rattle.cargo_lock_diff.specs.Document.{difference_json};
+    ghost use Rattle.cli_input.specs.Told.{lines_in_text};
 
-    ghost json = { λ after told.
-        difference_json told.before.now after (map change_of told.changes.now) };
+    ghost json = { λ after told. difference_json told.sides.before.now after
+        (lines_in_text told.sides.text.now told.sides.packages.now)
+        (map change_of told.changes.now) };
 
     fn document(&self, alloc: Global, after: &File<'_>) -> Result<String, AllocError> {
-        difference_json(alloc, self.before, after, self.changes)
+        let sides = self.sides;
+        let numbers = package_lines(alloc, sides.text, sides.packages)?;
+        let lines = PackageLines::new(alloc, sides.packages, &numbers)?;
+        difference_json(alloc, sides.before, after, self.changes, &lines)
     }
 }
 

@@ -71,6 +71,10 @@ pub enum Fault {
     #[error("error: standard input cannot be two lockfiles\n")]
     OneInput,
 
+    /// A path of standard input was given, and the lockfile is a file.
+    #[error("error: --name is for standard input\n")]
+    NameOfFile,
+
     /// A lockfile cannot be merged, for this reason.
     #[error("error: {0}\n")]
     Refused(String),

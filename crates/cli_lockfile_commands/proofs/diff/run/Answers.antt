@@ -1,3 +1,4 @@
+use Rattle.std.proofs.Common.{string_bytes}
 use Rattle.cli_support.proofs.Writes.{if_ok_weaken}
 use Rattle.cli_lockfile_commands.proofs.diff.run.Goals as goal
 
@@ -5,7 +6,8 @@ pub returns : goal.returns
 returns g c =
     if_ok_weaken c.report.result _ _ (λ status told. (
       c.in_ok-old.old,
-      c.in_ok-new.new,
+      c.in_ok-new.new.lockfile,
+      string_bytes c.in_ok-new.new.text,
       c.deref.result.now,
       c.in_ok-old.ensures,
       c.in_ok-new.ensures,

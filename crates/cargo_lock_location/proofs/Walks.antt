@@ -1,0 +1,119 @@
+-- What a walk over the bytes or the lines of a text finds.
+use Rattle.std.proofs.Common.{◌≡◌, ◌∙◌, ◌+◌, ◌-◌, ◌<◌, ◌≤◌, ◌++◌, ◌||◌, ◌&&◌, ℕ, Bool, true, false, List, [], ◌∷◌, Bor, None, Option, Some, ap, append-nil, arith, bytes_eq, codes, drop, drop-cons, eqb, get_or, if◌then◌else◌, length, length-drop, map, nat_eq, not, refl, sym, take}
+use Rattle.std.specs.List.{starts_with}
+use Rattle.std.proofs.lemmas.List.{drop-map, drop_all, length-map, length-take-le, map-append, take_all, take_more}
+use Rattle.cargo_lock_location.specs.Location.{headers_from, is_among, is_blank, is_package_header, is_part, line_below, name_line, without_blanks}
+
+-- what is read from a place on
+pub rest-from : {X : Type 0} (text : List X) (n : ℕ) → take (length text - n) (drop n text) ≡ drop n text
+rest-from text n = take_all (length text - n) (drop n text) (let e = length-drop n text in omega (arith, e))
+
+-- a text without bytes begins with no part but an empty one
+pub empty-part : (part : List ℕ) → nat_eq (length part) 0 ≡ starts_with eqb [] part
+empty-part [] = refl
+empty-part (c ∷ rest) = refl
+
+-- the text begins with the part
+pub part-here : (part xs : List ℕ) → starts_with eqb xs part ≡ true → is_part part xs ≡ true
+part-here part [] e = e
+part-here part (c ∷ rest) e = ap (λ (b : Bool). b || is_part part rest) e
+
+-- the part is not at a place
+pub part-later : (part text : List ℕ) (n : ℕ) → n < length text → starts_with eqb (drop n text) part ≡ false
+    → is_part part (drop n text) ≡ is_part part (drop (n + 1) text)
+part-later part text n within e =
+    let cut : drop n text ≡ get_or text n 0 ∷ drop (n + 1) text = drop-cons text n 0 within in
+    ap (is_part part) cut ∙ ap (λ (b : Bool). b || is_part part (drop (n + 1) text)) (ap (λ xs. starts_with eqb xs part) (sym cut) ∙ e)
+
+-- white space at a place
+pub blank-later : (line : List ℕ) (n : ℕ) → n < length line → is_blank (get_or line n 0) ≡ true
+    → without_blanks (drop n line) ≡ without_blanks (drop (n + 1) line)
+blank-later line n within e = ap without_blanks (drop-cons line n 0 within)
+    ∙ ap (λ (b : Bool). if b then without_blanks (drop (n + 1) line) else get_or line n 0 ∷ drop (n + 1) line) e
+
+-- no white space at a place
+pub blank-ends : (line : List ℕ) (n : ℕ) → n < length line → is_blank (get_or line n 0) ≡ false → without_blanks (drop n line) ≡ drop n line
+blank-ends line n within e = ap without_blanks (drop-cons line n 0 within)
+    ∙ ap (λ (b : Bool). if b then without_blanks (drop (n + 1) line) else get_or line n 0 ∷ drop (n + 1) line) e
+    ∙ sym (drop-cons line n 0 within)
+
+-- ---- the lines that begin packages
+
+headers-append : (n : ℕ) (xs ys : List (List ℕ)) → headers_from n (xs ++ ys) ≡ headers_from n xs ++ headers_from (n + length xs) ys
+headers-append n [] ys = ap (λ k. headers_from k ys) (omega arith)
+headers-append n (x ∷ xs) ys =
+    let later : headers_from (n + 1) (xs ++ ys) ≡ headers_from (n + 1) xs ++ headers_from (n + length (x ∷ xs)) ys =
+    headers-append (n + 1) xs ys ∙ ap (λ k. headers_from (n + 1) xs ++ headers_from k ys) (omega arith) in
+    by (is_package_header x) later
+  where
+    by : (b : Bool) → headers_from (n + 1) (xs ++ ys) ≡ headers_from (n + 1) xs ++ headers_from (n + length (x ∷ xs)) ys
+        → (if b then n ∷ headers_from (n + 1) (xs ++ ys) else headers_from (n + 1) (xs ++ ys))
+        ≡ (if b then n ∷ headers_from (n + 1) xs else headers_from (n + 1) xs) ++ headers_from (n + length (x ∷ xs)) ys
+    by true later = ap (λ ks. n ∷ ks) later
+    by false later = later
+
+-- one more line
+pub headers-more : (lines : List (Bor (List ℕ))) (i : ℕ) (line : Bor (List ℕ)) → i < length lines → line ≡ get_or lines i line
+    → headers_from 0 (map (λ l. l.now) (take (i + 1) lines))
+    ≡ headers_from 0 (map (λ l. l.now) (take i lines)) ++ (if is_package_header line.now then i ∷ [] else [])
+headers-more lines i line within is =
+    let before : List (List ℕ) = map (λ l. l.now) (take i lines) in
+    let long : length before ≡ i = length-map (take i lines) (λ (l : Bor (List ℕ)). l.now) ∙ length-take-le i lines (omega (arith, within)) in
+    ap (λ ls. headers_from 0 (map (λ l. l.now) ls)) (take_more lines i line within ∙ ap (λ l. take i lines ++ l ∷ []) (sym is))
+    ∙ ap (headers_from 0) (map-append (λ (l : Bor (List ℕ)). l.now) (take i lines) (line ∷ []))
+    ∙ headers-append 0 before (line.now ∷ [])
+    ∙ ap (λ k. headers_from 0 before ++ headers_from k (line.now ∷ [])) long
+
+-- ---- the name below
+
+-- the next line is neither this one nor one that begins with a bracket
+pub named-later : (wanted : List ℕ) (lines : List (Bor (List ℕ))) (i : ℕ) (line : Bor (List ℕ)) → i < length lines → line ≡ get_or lines i line
+    → starts_with eqb line.now (codes "[") ≡ false → bytes_eq line.now wanted ≡ false
+    → is_among wanted (map (λ l. l.now) (drop i lines)) ≡ is_among wanted (map (λ l. l.now) (drop (i + 1) lines))
+named-later wanted lines i line within is plain other =
+    ap (λ ls. is_among wanted (map (λ l. l.now) ls)) (drop-cons lines i line within ∙ ap (λ l. l ∷ drop (i + 1) lines) (sym is))
+    ∙ ap (λ (b : Bool). not b && (bytes_eq line.now wanted || is_among wanted (map (λ l. l.now) (drop (i + 1) lines)))) plain
+    ∙ ap (λ (b : Bool). b || is_among wanted (map (λ l. l.now) (drop (i + 1) lines))) other
+
+-- the next line begins with a bracket
+pub named-ends : (wanted : List ℕ) (lines : List (Bor (List ℕ))) (i : ℕ) (line : Bor (List ℕ)) → i < length lines → line ≡ get_or lines i line
+    → starts_with eqb line.now (codes "[") ≡ true → is_among wanted (map (λ l. l.now) (drop i lines)) ≡ false
+named-ends wanted lines i line within is bracket =
+    ap (λ ls. is_among wanted (map (λ l. l.now) ls)) (drop-cons lines i line within ∙ ap (λ l. l ∷ drop (i + 1) lines) (sym is))
+    ∙ ap (λ (b : Bool). not b && (bytes_eq line.now wanted || is_among wanted (map (λ l. l.now) (drop (i + 1) lines)))) bracket
+
+-- the next line is this one
+pub named-here : (wanted : List ℕ) (lines : List (Bor (List ℕ))) (i : ℕ) (line : Bor (List ℕ)) → i < length lines → line ≡ get_or lines i line
+    → starts_with eqb line.now (codes "[") ≡ false → bytes_eq line.now wanted ≡ true
+    → is_among wanted (map (λ l. l.now) (drop i lines)) ≡ true
+named-here wanted lines i line within is plain own =
+    ap (λ ls. is_among wanted (map (λ l. l.now) ls)) (drop-cons lines i line within ∙ ap (λ l. l ∷ drop (i + 1) lines) (sym is))
+    ∙ ap (λ (b : Bool). not b && (bytes_eq line.now wanted || is_among wanted (map (λ l. l.now) (drop (i + 1) lines)))) plain
+    ∙ ap (λ (b : Bool). b || is_among wanted (map (λ l. l.now) (drop (i + 1) lines))) own
+
+-- ---- the line of a header
+
+-- the name stands in the lines behind a place
+pub below-found : (lines : List (Bor (List ℕ))) (name wanted : List ℕ) (place : ℕ) → wanted ≡ name_line name
+    → is_among wanted (map (λ l. l.now) (drop (place + 1) lines)) ≡ true → Some (place + 1) ≡ line_below (map (λ l. l.now) lines) name place
+below-found lines name wanted place is found =
+    let here : is_among (name_line name) (drop (place + 1) (map (λ (l : Bor (List ℕ)). l.now) lines)) ≡ true =
+    ap (is_among (name_line name)) (drop-map (λ (l : Bor (List ℕ)). l.now) (place + 1) lines)
+    ∙ ap (λ w. is_among w (map (λ (l : Bor (List ℕ)). l.now) (drop (place + 1) lines))) (sym is) ∙ found in
+    sym (ap (λ (b : Bool). if b then Some (place + 1) else None) here)
+
+-- it does not
+pub below-none : (lines : List (Bor (List ℕ))) (name wanted : List ℕ) (place : ℕ) → wanted ≡ name_line name
+    → is_among wanted (map (λ l. l.now) (drop (place + 1) lines)) ≡ false → None ≡ line_below (map (λ l. l.now) lines) name place
+below-none lines name wanted place is missed =
+    let here : is_among (name_line name) (drop (place + 1) (map (λ (l : Bor (List ℕ)). l.now) lines)) ≡ false =
+    ap (is_among (name_line name)) (drop-map (λ (l : Bor (List ℕ)). l.now) (place + 1) lines)
+    ∙ ap (λ w. is_among w (map (λ (l : Bor (List ℕ)). l.now) (drop (place + 1) lines))) (sym is) ∙ missed in
+    sym (ap (λ (b : Bool). if b then Some (place + 1) else None) here)
+
+-- there is no such place
+pub below-past : (lines : List (Bor (List ℕ))) (name : List ℕ) (place : ℕ) → length lines ≤ place
+    → None ≡ line_below (map (λ l. l.now) lines) name place
+below-past lines name place past =
+    below-none lines name (name_line name) place refl
+    (ap (λ (ls : List (Bor (List ℕ))). is_among (name_line name) (map (λ l. l.now) ls)) (drop_all (place + 1) lines (omega (arith, past))))

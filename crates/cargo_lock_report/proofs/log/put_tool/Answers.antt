@@ -1,0 +1,12 @@
+use Rattle.cargo_lock_report.specs.Log.{rule_json, tool_json}
+use Rattle.cargo_lock_report.specs.Rules.{listed_rule}
+use Rattle.printing.proofs.Arrays.{by_another}
+use Rattle.printing.proofs.Behind.{then}
+use Rattle.cargo_lock_report.proofs.log.put_tool.Goals as goal
+
+pub returns : goal.returns
+unfolding tool_json
+returns c = then c.in_ok-begin_object.ensures (then c.in_ok-key.ensures
+    (then c.in_ok-begin_object-2.ensures (then c.in_ok-string_member.ensures
+    (then c.in_ok-key-2.ensures (then (by_another rule_json listed_rule _ c.in_ok-write_array.ensures)
+    (then c.in_ok-end_object.ensures c.end_object-2.ensures))))))
