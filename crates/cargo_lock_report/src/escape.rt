@@ -1,4 +1,4 @@
-//! A text as it stands in a report.
+//! A text as it is in a report.
 
 ghost use Rattle.std.specs.Prelude.{Some};
 ghost use Rattle.std.specs.Fmt.{DisplaysOnOk};
