@@ -1,6 +1,6 @@
 //! Reading a lockfile within a limit.
 
-ghost use Rattle.std.specs.Prelude.{IfErr, IfOk, MatchOption};
+ghost use Rattle.std.specs.Prelude.{◌≡◌, IfErr, IfOk, MatchOption};
 ghost use Rattle.toml.specs.View.{table_view};
 ghost use Rattle.cargo_lock_parts.specs.Error.{IsLong, Refuses, RefusesUrls};
 ghost use Rattle.cargo_lock_encoding.specs.Lockfiles.{LockfileData};

@@ -1,5 +1,5 @@
 -- The numbers of packages, and what they say of the lines.
-use Rattle.std.proofs.Common.{◌≡◌, ◌∙◌, ◌+◌, ◌-◌, ◌<◌, ◌≤◌, ◌++◌, ◌||◌, ◌&&◌, ℕ, zero, suc, Bool, true, false, List, [], ◌∷◌, None, Option, Some, absurd, ap, arith, bytes_eq, codes, drop, eqb, get_or, if◌then◌else◌, length, map, nat_eq, not, refl, slice_get, subst, sym, take, zero-add}
+use Rattle.std.proofs.Common.{◌≡◌, ◌∙◌, ◌+◌, ◌-◌, ◌<◌, ◌≤◌, ◌++◌, ◌||◌, ◌&&◌, ℕ, zero, suc, Bool, true, false, List, [], ◌∷◌, None, Option, Some, ap, arith, bytes_eq, codes, drop, eqb, get_or, if◌then◌else◌, length, map, nat_eq, not, refl, slice_get, subst, sym, take, zero-add}
 use Rattle.std.specs.List.{list_all, starts_with}
 use Rattle.std.proofs.lemmas.Bool.{and_parts, eq-eqb, eqb-true, false≢true}
 use Rattle.std.proofs.lemmas.List.{length-map, length-take-le, map-append, take_more}

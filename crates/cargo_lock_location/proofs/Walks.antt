@@ -2,7 +2,7 @@
 use Rattle.std.proofs.Common.{◌≡◌, ◌∙◌, ◌+◌, ◌-◌, ◌<◌, ◌≤◌, ◌++◌, ◌||◌, ◌&&◌, ℕ, Bool, true, false, List, [], ◌∷◌, Bor, None, Option, Some, ap, append-nil, arith, bytes_eq, codes, drop, drop-cons, eqb, get_or, if◌then◌else◌, length, length-drop, map, nat_eq, not, refl, sym, take}
 use Rattle.std.specs.List.{starts_with}
 use Rattle.std.proofs.lemmas.List.{drop-map, drop_all, length-map, length-take-le, map-append, take_all, take_more}
-use Rattle.cargo_lock_location.specs.Location.{headers_from, is_among, is_blank, is_package_header, is_part, line_below, name_line, without_blanks}
+use Rattle.cargo_lock_location.specs.Location.{headers_from, is_among, is_blank, is_package_header, is_part, line_above, without_blanks}
 
 -- what is read from a place on
 pub rest-from : {X : Type 0} (text : List X) (n : ℕ) → take (length text - n) (drop n text) ≡ drop n text
@@ -93,27 +93,23 @@ named-here wanted lines i line within is plain own =
 
 -- ---- the line of a header
 
--- the name stands in the lines behind a place
-pub below-found : (lines : List (Bor (List ℕ))) (name wanted : List ℕ) (place : ℕ) → wanted ≡ name_line name
-    → is_among wanted (map (λ l. l.now) (drop (place + 1) lines)) ≡ true → Some (place + 1) ≡ line_below (map (λ l. l.now) lines) name place
-below-found lines name wanted place is found =
-    let here : is_among (name_line name) (drop (place + 1) (map (λ (l : Bor (List ℕ)). l.now) lines)) ≡ true =
-    ap (is_among (name_line name)) (drop-map (λ (l : Bor (List ℕ)). l.now) (place + 1) lines)
-    ∙ ap (λ w. is_among w (map (λ (l : Bor (List ℕ)). l.now) (drop (place + 1) lines))) (sym is) ∙ found in
-    sym (ap (λ (b : Bool). if b then Some (place + 1) else None) here)
+-- the line stands in those behind a place
+pub above-found : (lines : List (Bor (List ℕ))) (wanted : List ℕ) (place : ℕ)
+    → is_among wanted (map (λ l. l.now) (drop (place + 1) lines)) ≡ true → Some (place + 1) ≡ line_above (map (λ l. l.now) lines) wanted place
+above-found lines wanted place found =
+    sym (ap (λ (b : Bool). if b then Some (place + 1) else None)
+    (ap (is_among wanted) (drop-map (λ (l : Bor (List ℕ)). l.now) (place + 1) lines) ∙ found))
 
 -- it does not
-pub below-none : (lines : List (Bor (List ℕ))) (name wanted : List ℕ) (place : ℕ) → wanted ≡ name_line name
-    → is_among wanted (map (λ l. l.now) (drop (place + 1) lines)) ≡ false → None ≡ line_below (map (λ l. l.now) lines) name place
-below-none lines name wanted place is missed =
-    let here : is_among (name_line name) (drop (place + 1) (map (λ (l : Bor (List ℕ)). l.now) lines)) ≡ false =
-    ap (is_among (name_line name)) (drop-map (λ (l : Bor (List ℕ)). l.now) (place + 1) lines)
-    ∙ ap (λ w. is_among w (map (λ (l : Bor (List ℕ)). l.now) (drop (place + 1) lines))) (sym is) ∙ missed in
-    sym (ap (λ (b : Bool). if b then Some (place + 1) else None) here)
+pub above-none : (lines : List (Bor (List ℕ))) (wanted : List ℕ) (place : ℕ)
+    → is_among wanted (map (λ l. l.now) (drop (place + 1) lines)) ≡ false → None ≡ line_above (map (λ l. l.now) lines) wanted place
+above-none lines wanted place missed =
+    sym (ap (λ (b : Bool). if b then Some (place + 1) else None)
+    (ap (is_among wanted) (drop-map (λ (l : Bor (List ℕ)). l.now) (place + 1) lines) ∙ missed))
 
 -- there is no such place
-pub below-past : (lines : List (Bor (List ℕ))) (name : List ℕ) (place : ℕ) → length lines ≤ place
-    → None ≡ line_below (map (λ l. l.now) lines) name place
-below-past lines name place past =
-    below-none lines name (name_line name) place refl
-    (ap (λ (ls : List (Bor (List ℕ))). is_among (name_line name) (map (λ l. l.now) ls)) (drop_all (place + 1) lines (omega (arith, past))))
+pub above-past : (lines : List (Bor (List ℕ))) (wanted : List ℕ) (place : ℕ) → length lines ≤ place
+    → None ≡ line_above (map (λ l. l.now) lines) wanted place
+above-past lines wanted place past =
+    above-none lines wanted place
+    (ap (λ (ls : List (Bor (List ℕ))). is_among wanted (map (λ l. l.now) ls)) (drop_all (place + 1) lines (omega (arith, past))))

@@ -56,10 +56,14 @@ is_among wanted [] = false
 is_among wanted (line ∷ rest) =
     not (starts_with eqb line (codes "[")) && (bytes_eq line wanted || is_among wanted rest)
 
--- the number of the line at a place, if the name stands below it
+-- the number of the line at a place, if this line stands below it
+abbrev pub line_above : List (List ℕ) → List ℕ → ℕ → Option ℕ
+line_above lines wanted place =
+    if is_among wanted (drop (place + 1) lines) then Some (place + 1) else None
+
+-- the same, if the name stands below it
 abbrev pub line_below : List (List ℕ) → List ℕ → ℕ → Option ℕ
-line_below lines name place =
-    if is_among (name_line name) (drop (place + 1) lines) then Some (place + 1) else None
+line_below lines name = line_above lines (name_line name)
 
 -- the same, if there is such a place
 abbrev pub line_of_header : List (List ℕ) → List ℕ → Option ℕ → Option ℕ

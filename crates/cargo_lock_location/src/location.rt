@@ -1,7 +1,7 @@
 //! In which line of its text each package of a lockfile begins.
 
 ghost use Rattle.std.specs.Prelude.{◌≡◌, ◌++◌, [], ◌∷◌, IfOk, None, OnOk, if◌then◌else◌, map};
-ghost use Rattle.std.specs.Prelude.{slice_get};
+ghost use Rattle.std.specs.Prelude.{slice_get, string_bytes};
 ghost use Rattle.std.specs.List.{list_all};
 ghost use Rattle.std.specs.Str.Lines.{lines};
 ghost use Rattle.cargo_lock_location.specs.Location as spec;
@@ -194,12 +194,28 @@ fn line_below(
     ensures { IfOk result
         (λ line. line ≡ spec.line_below (map (λ l. l.now) lines.now) name.now place) }
 {
-    let wanted = format!(in alloc; "name = \"{name}\"")?;
-    if place < lines.len() && is_named(&lines[place + 1..], &wanted) {
-        Ok(Some(place + 1))
-    } else {
-        Ok(None)
+    let wanted = name_line(alloc, name)?;
+    Ok(line_above(lines, &wanted, place))
+}
+
+// The line that has the name of a package.
+fn name_line(alloc: Global, name: &str) -> Result<String, AllocError>
+    ensures { IfOk result (λ line. string_bytes line ≡ spec.name_line name.now) }
+{
+    format!(in alloc; "name = \"{name}\"")
+}
+
+// The number of the line at a place, if this line stands below it.
+fn line_above(lines: &[&str], wanted: &str, place: usize) -> Option<usize>
+    ensures { result ≡ spec.line_above (map (λ l. l.now) lines.now) wanted.now place }
+{
+    if place >= lines.len() {
+        return None;
     }
+    if is_named(&lines[place + 1..], wanted) {
+        return Some(place + 1);
+    }
+    None
 }
 
 // Whether this line is among these before the next one that begins with a bracket.

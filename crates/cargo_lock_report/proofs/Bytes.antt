@@ -1,16 +1,17 @@
 -- Which bytes annotations have, and where their lines end.
 use Rattle.std.proofs.Common.{◌≡◌, ◌<◌, ◌≤◌, ◌∙◌, ◌==◌, ◌||◌, ◌++◌, ◌⊎◌, [], ◌∷◌, ℕ, Bool, true, false, List, Option, None, Some, IsUtf8, ap, append-nil, append_assoc, arith, chars, codes, decimal, inl, inr, length, get_or, map, refl, subst, sym}
-use Rattle.std.specs.Prelude.{eqb, if◌then◌else◌}
+use Rattle.std.specs.Prelude.{eqb, if◌then◌else◌, nat_lt}
 use Rattle.std.specs.Char.{encode_utf8}
 use Rattle.std.specs.Int.{IsInRange}
 use Rattle.std.specs.List.{All, flat_map, slice_split, starts_with}
 use Rattle.std.specs.Str.{NoCharPasses}
-use Rattle.std.proofs.lemmas.Bool.{cases_Bool}
+use Rattle.std.proofs.lemmas.Bool.{cases_Bool, ltb-true}
 use Rattle.std.proofs.lemmas.Bool.Decides.{nat_tests}
 use Rattle.std.proofs.lemmas.Grind.{get_or_default_zero}
 use Rattle.std.proofs.lemmas.List.Elements.{All-append, All-nil, All-weaker}
 use Rattle.std.proofs.lemmas.List.Splits.{slice_split_at}
 use Rattle.std.proofs.lemmas.Str.{NoCharPasses-append, NoCharPasses-byte, NoCharPasses-nil}
+use Rattle.printing.proofs.Printable.{Prints, decimal-prints, literal, words}
 use Rattle.cargo_lock_parts.specs.Ascii.{newline}
 use Rattle.cargo_lock_report.specs.declared.escape.Escape.{Escape}
 use Rattle.cargo_lock_report.specs.declared.escape.Escape.TheVariants.{Message, Property}
@@ -37,8 +38,8 @@ none-of-each p f h (c ∷ cs) = NoCharPasses-append p (f c) (flat_map f cs) (h c
 none-of-bytes : (p : ℕ → Bool) → ((b : ℕ) → 128 ≤ b → p b ≡ false) → (text : List ℕ) → NoCharPasses p text → All (λ b. p b ≡ false) text
 none-of-bytes p high text none k d low =
     let at : ℕ = get_or text k 0 in
-    let passes-not : p at ≡ false = elim (cases_Bool (at < 128)) [
-      | inl small ↦ NoCharPasses-byte p text k none low (grind (arith, nat_tests))
+    let passes-not : p at ≡ false = elim (cases_Bool (nat_lt at 128)) [
+      | inl small ↦ NoCharPasses-byte p text k none low (ltb-true at 128 small)
       | inr large ↦ high at (grind (arith, nat_tests))
     ] in
     subst (λ b. p b ≡ false) (sym (get_or_default_zero text k d low)) passes-not

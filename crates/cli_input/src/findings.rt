@@ -1,9 +1,10 @@
 //! What commands find in lockfiles: lines, a document of JSON, a log of SARIF, or annotations of
 //! GitHub.
-ghost use Rattle.std.specs.Prelude.{◌≡◌, ◌++◌, ◌∷◌, [], IfOk, IfSome, OnOk, map, string_bytes};
+ghost use Rattle.std.specs.Prelude.{◌≡◌, ◌++◌, ◌∷◌, [], IfOk, IfSome, List, OnOk, ℕ, string_bytes};
 ghost use Rattle.clap.specs.Matches.{found_of};
 ghost use Rattle.cargo_lock_parts.specs.Ascii.{newline};
 ghost use Rattle.printing.specs.Json.{IsJsonText};
+ghost use Rattle.cli_input.specs.declared.findings.Form.{Form};
 ghost use Rattle.cli_input.specs.Told.{IsForm, IsToldAs, LockfileFound, PrintsAs, PrintsFound};
 ghost use Rattle.cli_input.specs.Told.{found_in_lockfile, lines_in, subject_of};
 
@@ -156,10 +157,9 @@ impl Told {
             → IsToldAs form first self.old → IsToldAs form second more
             → IsToldAs form (first ++ second) self.new) }
     {
-        self.text.push_str(&more.text)?;
-        for finding in more.reported {
-            self.reported.push(finding)?;
-        }
+        let Told { text, mut reported } = more;
+        self.text.push_str(text.as_str())?;
+        self.reported.append(&mut reported)?;
         Ok(())
     }
 }

@@ -153,7 +153,8 @@ pub fn named_lockfile<R: Files + Input + AllocGlobal>(
     ensures meant { IfOk result IsMeant }
     ensures allowed { IfOk result (IsInLimit (found_of options.now)) }
 {
-    let WithText { lockfile, .. } = lockfile_with_text(rt, options, name)?;
+    let read = lockfile_with_text(rt, options, name)?;
+    let WithText { lockfile, .. } = read;
     Ok(lockfile)
 }
 
@@ -180,7 +181,8 @@ pub fn compared_with_text<R: Files + Input + AllocGlobal>(
     ensures { IfOk result
         (λ read. MeansWithCargoChecksums (string_bytes read.text) read.lockfile) }
 {
-    let WithText { text, lockfile } = lockfile_with_text(rt, options, name)?;
+    let read = lockfile_with_text(rt, options, name)?;
+    let WithText { text, lockfile } = read;
     let lockfile = lockfile.with_cargo_checksums(rt.alloc())?;
     Ok(WithText { text, lockfile })
 }

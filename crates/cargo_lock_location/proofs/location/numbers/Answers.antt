@@ -1,4 +1,4 @@
-use Rattle.std.proofs.Common.{◌≡◌, ◌++◌, ◌∷◌, [], ◌∙◌, ℕ, List, None, Option, ap, arith, if◌then◌else◌, map, slice_get, sym}
+use Rattle.std.proofs.Common.{◌≡◌, ◌++◌, ◌∷◌, [], ◌∙◌, ℕ, List, None, Option, ap, arith, if◌then◌else◌, map, slice_get, sym, take}
 use Rattle.std.proofs.lemmas.List.{take_all}
 use Rattle.cargo_lock_parts.specs.Identity.{PackageData}
 use Rattle.cargo_lock_location.specs.Location.{header_of, line_of_header, numbers_from}
