@@ -166,9 +166,19 @@ pub(crate) fn pinned_group_of<'a>(identity: PartialIdentity<'a>) -> Option<Group
     ensures { result ≡ spec.pinned_group_of identity.entry }
 {
     let source = identity.source?;
-    let mut group = group_of(2, false, identity)?;
-    group.kind = Some(source.kind());
-    Some(group)
+    let group = group_of(2, false, identity)?;
+    Some(with_kind(group, source))
+}
+
+// The group with the kind of a source.
+fn with_kind<'a>(group: Group<'a>, source: &'a SourceId) -> Group<'a>
+    ensures { result ≡ record group.entry { kind = Some source.now.kind } }
+{
+    let own = source.kind();
+    let kind = Some(own);
+    let mut made = group;
+    made.kind = kind;
+    made
 }
 
 // The group that has each package of a dependency's own words, whatever their commits.

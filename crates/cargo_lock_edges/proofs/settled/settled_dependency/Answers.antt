@@ -18,4 +18,4 @@ returns-in-Some-clause-ok c =
     c.of.ensures.ok
 
 pub returns-in-None-clause-ok : goal.returns-in-None-clause-ok
-returns-in-None-clause-ok c = inr (c.in-None.ensures, c.in_ok-clone.ensures)
+returns-in-None-clause-ok c = inr (c.in-None.ensures, c.in_ok-clone-in-None.ensures.cases)
