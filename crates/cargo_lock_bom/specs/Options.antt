@@ -19,7 +19,7 @@ license_of (license.Named text) = Named (string_bytes text)
 
 -- the name and the value of a property
 abbrev pub property_of : Property → List ℕ × List ℕ
-property_of p = (p.name.now, p.value.now)
+property_of p = (string_bytes p.name, string_bytes p.value)
 
 -- the node of the root, if it is given, which packages are listed, the version of the program that
 -- writes the bill, the time in seconds since 1970, if the bill has one, its authors, the names and

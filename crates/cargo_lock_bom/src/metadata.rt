@@ -75,7 +75,7 @@ fn put_author(out: &mut JsonWriter, name: &str) -> Result<(), AllocError>
 }
 
 // Writes the member with these properties, if there is one.
-fn put_properties(out: &mut JsonWriter, properties: &[Property<'_>]) -> Result<(), AllocError>
+fn put_properties(out: &mut JsonWriter, properties: &[Property]) -> Result<(), AllocError>
     ensures { Adds result out.old out.new (member_tokens (codes "properties")
         (properties_if (map property_of properties.now))) }
 {
@@ -86,7 +86,7 @@ fn put_properties(out: &mut JsonWriter, properties: &[Property<'_>]) -> Result<(
     put_property_list(out, properties)
 }
 
-fn put_property_list(out: &mut JsonWriter, properties: &[Property<'_>]) -> Result<(), AllocError>
+fn put_property_list(out: &mut JsonWriter, properties: &[Property]) -> Result<(), AllocError>
     ensures { Adds result out.old out.new (data_tokens
         (properties_of (map property_of properties.now))) }
 {
@@ -97,13 +97,13 @@ fn put_property_list(out: &mut JsonWriter, properties: &[Property<'_>]) -> Resul
     out.end_array()
 }
 
-fn put_property(out: &mut JsonWriter, property: &Property<'_>) -> Result<(), AllocError>
+fn put_property(out: &mut JsonWriter, property: &Property) -> Result<(), AllocError>
     ensures { Adds result out.old out.new (data_tokens
         (property_object (property_of property.now))) }
 {
     out.begin_object()?;
-    out.string_member("name", property.name)?;
-    out.string_member("value", property.value)?;
+    out.string_member("name", property.name.as_str())?;
+    out.string_member("value", property.value.as_str())?;
     out.end_object()
 }
 

@@ -22,13 +22,13 @@ pub enum Listed {
 }
 
 /// A property of the metadata of a bill.
-#[derive(Debug, Clone, Copy)]
-pub struct Property<'a> {
+#[derive(Debug, Drop)]
+pub struct Property {
     /// Its name. CycloneDX has a register of names that several tools share.
-    pub name: &'a str,
+    pub name: String,
 
     /// Its value.
-    pub value: &'a str,
+    pub value: String,
 }
 
 /// What the manifest of a package says of its licence.
@@ -63,7 +63,7 @@ pub struct Options<'a> {
     pub authors: &'a [&'a str],
 
     /// The properties of the metadata, in this order. Without one the bill has none.
-    pub properties: &'a [Property<'a>],
+    pub properties: &'a [Property],
 
     /// Whether the bill has a serial number.
     pub has_serial: bool,

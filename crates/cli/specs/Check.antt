@@ -13,10 +13,11 @@ use Rattle.cargo_lock_check.specs.Document.{findings_json}
 use Rattle.cargo_lock_check.specs.Finding.{lockfile_finding_line}
 use Rattle.cargo_lock_check.specs.Findings.{AreFindings, FindingsData, PlacedFindingData, placed_told}
 use Rattle.cargo_lock_check.specs.Reporting.{reported_findings}
-use Rattle.cargo_lock_encoding.specs.Lockfiles.{LockfileData}
+use Rattle.cargo_lock_encoding.specs.Lockfiles.{EncodedData, LockfileData}
 use Rattle.cargo_lock_table_flaws.specs.Document.{table_findings_json}
 use Rattle.cargo_lock_table_flaws.specs.Finding.{TableFindingData, table_finding_line}
-use Rattle.cargo_lock_table_flaws.specs.Report.{IsTableReport, TableReportData}
+use Rattle.cargo_lock_table_flaws.specs.Report.{IsTableReport, IsUnresolvedReport}
+use Rattle.cargo_lock_table_flaws.specs.Report.{TableReportData}
 use Rattle.cargo_lock_table_flaws.specs.Reporting.{reported_table_findings}
 use Rattle.cli.specs.Counts.{counts_line}
 use Rattle.cli.specs.declared.checked.Checked.{Checked}
@@ -104,6 +105,11 @@ checked_report n text r = record {
 abbrev pub IsCheckedLockfile : NamedData → List ℕ → LockfileData → CheckedData → Type 0
 IsCheckedLockfile n text l c = (f : FindingsData) × AreFindings text l f
     × (c ≡ checked_lockfile n text l f)
+
+-- the references of these values that resolve to nothing are found, of which there is one
+abbrev pub IsCheckedUnresolved : NamedData → List ℕ → EncodedData → CheckedData → Type 0
+IsCheckedUnresolved n text e c = (r : TableReportData) × IsUnresolvedReport e r
+    × (c ≡ checked_report n text r)
 
 -- this keeps the table of a text from being read as a lockfile
 abbrev pub IsCheckedMembers : NamedData → List ℕ → Members → CheckedData → Type 0

@@ -3,10 +3,11 @@ ghost use Rattle.std.specs.Prelude.{◌≡◌, ◌∷◌, [], IfOk, IfSome, opti
 ghost use Rattle.toml.specs.Parse.{parse_document};
 ghost use Rattle.toml.specs.View.{table_view};
 ghost use Rattle.cli.specs.Check.{CheckedData, IsCheckedAs, IsCheckedMembers, IsCheckedTable};
-ghost use Rattle.cli.specs.Check.{checked_report, named_of};
+ghost use Rattle.cli.specs.Check.{IsCheckedUnresolved, checked_report, named_of};
 
 use crate::checked::{Checked, Named, Prefix};
 use cargo_lock_display::File;
+use cargo_lock_encoding::EncodableLockfile;
 use cargo_lock_location::PackageLines;
 use cargo_lock_report::Reported;
 use cargo_lock_table_flaws::{
@@ -80,10 +81,25 @@ fn checked_references(
         × IsCheckedMembers (named_of named.entry) text.now (table_view table.now) c
         × IsCheckedAs form (c ∷ []) checked)) }
 {
-    let Some(values) = table_values(alloc, table)? else {
-        return Ok(None);
-    };
-    match unresolved_report(alloc, &values)? {
+    match table_values(alloc, table)? {
+        Some(values) => checked_unresolved(alloc, form, named, text, &values),
+        None => Ok(None),
+    }
+}
+
+/// The references of these values that resolve to nothing, if there are some.
+fn checked_unresolved(
+    alloc: Global,
+    form: Form,
+    named: Named<'_>,
+    text: &str,
+    values: &EncodableLockfile,
+) -> Result<Option<Checked>, Fault>
+    ensures { IfOk result (λ found. IfSome found (λ checked. (c : CheckedData)
+        × IsCheckedUnresolved (named_of named.entry) text.now values.now c
+        × IsCheckedAs form (c ∷ []) checked)) }
+{
+    match unresolved_report(alloc, values)? {
         Some(report) => Ok(Some(checked_report(alloc, form, named, text, &report)?)),
         None => Ok(None),
     }

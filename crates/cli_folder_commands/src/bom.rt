@@ -155,10 +155,21 @@ fn text_of_packages<R: Files + AllocGlobal>(
         (string_bytes text)) }
 {
     let given = given_root(rt.alloc(), options, packages, own)?;
-    let properties = properties(rt.alloc(), texts::among(options, "property"))?;
     let licenses = bill_licenses::asked(rt, options, packages)?;
-    let said = said_of_bill(options, &given, time, properties.as_slice(), &licenses);
+    let properties = properties(rt.alloc(), texts::among(options, "property"))?;
+    let more = Additions {
+        properties,
+        licenses,
+    };
+    let said = said_of_bill(options, &given, time, &more);
     asked_line(rt.alloc(), options, packages, &said)
+}
+
+/// What a bill has that the lockfile does not say: properties, and the licences of packages.
+#[derive(Drop)]
+struct Additions {
+    properties: Vec<Property>,
+    licenses: Vec<Option<License>>,
 }
 
 /// The root of a bill, if it is given, and which packages the bill lists.
@@ -197,7 +208,7 @@ fn given_root(
 }
 
 /// The properties that texts name. Fails if one has no `=`.
-fn properties<'a>(alloc: Global, texts: &[&'a str]) -> Result<Vec<Property<'a>>, Fault>
+fn properties(alloc: Global, texts: &[&str]) -> Result<Vec<Property>, Fault>
     ensures { IfOk result (λ all. AllZip IsPropertyBy (map (λ text. text.now) texts.now)
         (map property_of all.items)) }
 {
@@ -209,11 +220,15 @@ fn properties<'a>(alloc: Global, texts: &[&'a str]) -> Result<Vec<Property<'a>>,
 }
 
 /// The property that a text names. Fails if it has no `=`.
-fn property<'a>(alloc: Global, text: &'a str) -> Result<Property<'a>, Fault>
+fn property(alloc: Global, text: &str) -> Result<Property, Fault>
     ensures { IfOk result (λ property. IsPropertyBy text.now (property_of property)) }
 {
     match text.split_once('=') {
-        Some((name, value)) => Ok(Property { name, value }),
+        Some((name, value)) => {
+            let name = String::from_str(alloc, name)?;
+            let value = String::from_str(alloc, value)?;
+            Ok(Property { name, value })
+        }
         None => Err(refused(alloc, PROPERTY, text)),
     }
 }
@@ -231,21 +246,21 @@ fn only_fitting(alloc: Global, packages: &[Package], spec: &str) -> Result<NodeI
 }
 
 /// The options of a bill that the arguments ask for, with this root and this time, if they are
-/// given, and with these properties and licence expressions.
+/// given, and with these additions.
 fn said_of_bill<'a>(
     options: &'a ArgMatches<'_>,
     given: &GivenRoot,
     time: Option<u64>,
-    properties: &'a [Property<'a>],
-    licenses: &'a [Option<License>],
+    more: &'a Additions,
 ) -> Options<'a>
     ensures root { «result».root ≡ given.now.node }
     ensures listed { «result».listed ≡ given.now.listed }
     ensures timestamp { «result».timestamp ≡ time }
     ensures authors { «result».authors ≡ given_texts (found_of options.now) (codes "author") }
-    ensures properties { «result».properties ≡ map property_of properties.now }
+    ensures properties { «result».properties ≡ map property_of more.now.properties.items }
     ensures serial { IsFlag (found_of options.now) (codes "serial") «result».has_serial }
-    ensures licenses { «result».licenses ≡ map (option_map license_of) licenses.now }
+    ensures licenses { «result».licenses
+        ≡ map (option_map license_of) more.now.licenses.items }
 {
     Options {
         root: given.node,
@@ -253,9 +268,9 @@ fn said_of_bill<'a>(
         tool_version: VERSION,
         timestamp: time,
         authors: texts::among(options, "author"),
-        properties,
+        properties: more.properties.as_slice(),
         has_serial: options.get_flag("serial"),
-        licenses,
+        licenses: more.licenses.as_slice(),
     }
 }
 

@@ -1,4 +1,4 @@
-use Rattle.std.proofs.Common.{◌≡◌, ◌∙◌, ap, arith, get_or, refl, sym, take}
+use Rattle.std.proofs.Common.{◌≡◌, ◌∙◌, ap, arith, sym, take}
 use Rattle.std.proofs.lemmas.List.{take_all}
 use Rattle.std.proofs.lemmas.Simd.{map-map}
 use Rattle.serde_json.specs.Data.{array}
@@ -17,7 +17,7 @@ loop-property-init c = c.in_ok-begin_array.ensures.is
 
 pub loop-property-preserved : goal.loop-property-preserved
 loop-property-preserved c =
-    next c.args.out.now (λ (p : Property). property_object (property_of p)) c.args.properties.now c.loop-property.property-index _ (get_or c.args.properties.now c.loop-property.property-index _) c.loop-property-test.true refl
+    next c.args.out.now (λ (p : Property). property_object (property_of p)) c.args.properties.now c.loop-property.property-index c.property-item.result c.property-item.result c.loop-property-test.true c.property-item.is
     c.loop-property.invariant c.in_ok-put_property.ensures
 
 pub returns : goal.returns
