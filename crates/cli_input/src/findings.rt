@@ -156,12 +156,20 @@ impl Told {
             → IsToldAs form first self.old → IsToldAs form second more
             → IsToldAs form (first ++ second) self.new) }
     {
-        self.text.push_str(&more.text)?;
-        for finding in more.reported {
-            self.reported.push(finding)?;
-        }
-        Ok(())
+        let Told { text, reported } = more;
+        self.text.push_str(&text)?;
+        put_reported(&mut self.reported, reported)
     }
+}
+
+/// Adds findings to others.
+fn put_reported(all: &mut Vec<Reported>, more: Vec<Reported>) -> Result<(), AllocError>
+    ensures { OnOk result (all.new.items ≡ all.old.items ++ more.items) }
+{
+    for finding in more {
+        all.push(finding)?;
+    }
+    Ok(())
 }
 
 /// The document of what is found in a lockfile, and a newline.
