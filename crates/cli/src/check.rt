@@ -6,7 +6,7 @@ ghost use Rattle.cli.specs.Check.{IsFindingsStatus, PrintsCheck, PrintsCheckOf};
 ghost use Rattle.cli.specs.Check as spec;
 ghost use Rattle.cli.specs.Ending.{IsEnd, counts_in, status_in};
 
-use crate::checked::{Named, checked};
+use crate::checked::{Named, checked_text};
 use crate::counts::counts_line;
 use crate::ending::Ended;
 use crate::several::check_several;
@@ -156,7 +156,7 @@ fn print_check<W: Write>(
     ensures end { IfOk result IsEnd }
 {
     let form = asked_form(options);
-    let checked = checked(alloc, form, named, text)?;
+    let checked = checked_text(alloc, form, named, text)?;
     let counts = counts_line(alloc, checked.packages, checked.findings)?;
     print_told(alloc, form, &checked.told, out)?;
     Ok(ended(checked.findings, counts))

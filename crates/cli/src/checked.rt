@@ -48,7 +48,7 @@ pub(crate) struct Checked {
 
 /// What is wrong with a text, in this form: with the lockfile that it is, or else what keeps its
 /// table from being one. Fails if it is no table, or nothing of that is found in it.
-pub(crate) fn checked(
+pub(crate) fn checked_text(
     alloc: Global,
     form: Form,
     named: Named<'_>,

@@ -8,7 +8,7 @@ ghost use Rattle.cli.specs.Check.{IsSeveralOf};
 ghost use Rattle.cli.specs.Ending.{IsEnd, counts_in, status_in};
 
 use crate::check::ended;
-use crate::checked::{Checked, Named, checked};
+use crate::checked::{Checked, Named, checked_text};
 use crate::counts::counts_line;
 use crate::ending::Ended;
 use cargo_lock::Error;
@@ -164,5 +164,5 @@ fn checked_at<R: Files + Input + Env + AllocGlobal>(
         path: path.as_str(),
         prefix: Some(argument),
     };
-    checked(rt.alloc(), form, named, text.as_str())
+    checked_text(rt.alloc(), form, named, text.as_str())
 }
