@@ -81,7 +81,6 @@ pub(crate) fn command<'a>(alloc: Global) -> Result<Command<'a>, AllocError> {
 fn paths<'a>(alloc: Global) -> Result<Arg<'a>, AllocError> {
     Arg::new(alloc, "paths")
         .value_name("PATH")
-        .num_args(1..)
         .action(ArgAction::Append)
         .help(PATHS_HELP)
         .conflicts_with("file")
