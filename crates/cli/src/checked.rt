@@ -1,9 +1,7 @@
 //! What the command `check` finds in the text of a lockfile.
-ghost use Rattle.std.specs.Prelude.{◌≡◌, ◌∷◌, [], IfOk, IfSome, Some, map};
-ghost use Rattle.std.specs.Fmt.{DisplaysOnOk};
-ghost use Rattle.cargo_lock_check.specs.Findings.{placed_finding_of};
-ghost use Rattle.cli.specs.Check.{CheckedData, IsCheckedAs, IsCheckedLockfile, IsCheckedText};
-ghost use Rattle.cli.specs.Check.{checked_lockfile, named_of, prefix_text};
+ghost use Rattle.std.specs.Prelude.{◌∷◌, [], IfOk};
+ghost use Rattle.cli.specs.Check.{CheckedData, IsCheckedAs, IsCheckedLockfile, IsCheckedTable};
+ghost use Rattle.cli.specs.Check.{IsCheckedText, named_of};
 
 use crate::refused::checked_table;
 use cargo_lock::{Error, Lockfile};
