@@ -42,14 +42,18 @@ impl ToReport for Judged<'_, '_> {
         if !self.is_finding() {
             return Ok(None);
         }
-        let reported = reported(alloc, self, spot)?;
+        let reported = finding_reported(alloc, self, spot)?;
         Ok(Some(reported))
     }
 }
 
 // What is said of a package, as a finding of reports.
 #[tactic(auto, unfolding(crate::specs::Reporting::judged_reported))]
-fn reported(alloc: Global, judged: &Judged<'_, '_>, spot: Spot<'_>) -> Result<Reported, AllocError>
+fn finding_reported(
+    alloc: Global,
+    judged: &Judged<'_, '_>,
+    spot: Spot<'_>,
+) -> Result<Reported, AllocError>
     ensures { IfOk result
         (λ reported. reported ≡ judged_reported (spot_of spot.entry) (judged_of judged.now)) }
 {

@@ -1,5 +1,5 @@
 -- Which bytes annotations have, and where their lines end.
-use Rattle.std.proofs.Common.{◌≡◌, ◌<◌, ◌≤◌, ◌∙◌, ◌==◌, ◌||◌, ◌++◌, ◌⊎◌, [], ◌∷◌, ℕ, Bool, true, false, List, Option, None, Some, IsUtf8, ap, append-nil, append_assoc, arith, chars, codes, decimal, inl, inr, length, get_or, map, refl, subst, sym}
+use Rattle.std.proofs.Common.{◌≡◌, ◌<◌, ◌≤◌, ◌∙◌, ◌==◌, ◌++◌, ◌⊎◌, [], ◌∷◌, ℕ, Bool, true, false, List, Option, None, Some, ap, append-nil, append_assoc, arith, chars, codes, decimal, inl, inr, get_or, refl, subst, sym}
 use Rattle.std.specs.Prelude.{eqb, if◌then◌else◌, nat_lt}
 use Rattle.std.specs.Char.{encode_utf8}
 use Rattle.std.specs.Int.{IsInRange}
@@ -13,12 +13,11 @@ use Rattle.std.proofs.lemmas.List.Splits.{slice_split_at}
 use Rattle.std.proofs.lemmas.Str.{NoCharPasses-append, NoCharPasses-byte, NoCharPasses-nil}
 use Rattle.printing.proofs.Printable.{Prints, decimal-prints, literal, words}
 use Rattle.cargo_lock_parts.specs.Ascii.{newline}
-use Rattle.cargo_lock_report.specs.declared.escape.Escape.{Escape}
 use Rattle.cargo_lock_report.specs.declared.escape.Escape.TheVariants.{Message, Property}
 use Rattle.cargo_lock_report.specs.declared.reported.Level.TheVariants.{Error, Warning}
 use Rattle.cargo_lock_report.specs.declared.reported.Level.{Level}
 use Rattle.cargo_lock_report.specs.Annotations.{EachAnnotationIsOneLine, EachLineIsOwn, PropertiesAreApart, annotation_line, annotations_text, ends_line, ends_property, line_property}
-use Rattle.cargo_lock_report.specs.Escapes.{char_as, message_char, property_char, text_as}
+use Rattle.cargo_lock_report.specs.Escapes.{message_char, property_char, text_as}
 use Rattle.cargo_lock_report.specs.Log.{level_word}
 use Rattle.cargo_lock_report.specs.Reported.{ReportedData}
 

@@ -31,7 +31,7 @@ fn put_rule<'a>(rules: &mut Vec<ListedRule<'a>>, rule: &'a Rule) -> Result<(), A
     ensures { OnOk result (map listed_rule rules.new.items
         ≡ with_rule (map listed_rule rules.old.items) rule.now) }
 {
-    if !has_rule(rules, &rule.id) {
+    if !has_rule(rules.as_slice(), &rule.id) {
         rules.push(ListedRule(rule))?;
     }
     Ok(())

@@ -205,11 +205,14 @@ PrintsCheckBy (argument ∷ []) found counts old new failure success fault =
 PrintsCheckBy (argument ∷ other ∷ rest) found counts old new failure success fault =
     PrintsSeveral found (argument ∷ other ∷ rest) counts old new failure success fault
 
--- the same of the paths that the arguments have
+-- the paths that the arguments have
+abbrev pub given_paths : Found → List (List ℕ)
+given_paths found = unwrap_or (option_map raw_values (matched_of found (codes "paths"))) []
+
+-- the same of these paths
 abbrev pub PrintsCheck : Found → List ℕ → Option (List ℕ) → Option (List ℕ) → Type 0 → Type 0
     → Type 0 → Type 0
-PrintsCheck found = PrintsCheckBy
-    (unwrap_or (option_map raw_values (matched_of found (codes "paths"))) []) found
+PrintsCheck found = PrintsCheckBy (given_paths found) found
 
 -- ---- what is kept until it is printed
 

@@ -1,5 +1,5 @@
 //! The command `check`: what is wrong with lockfiles.
-ghost use Rattle.std.specs.Prelude.{◌≡◌, IfOk, None, string_bytes};
+ghost use Rattle.std.specs.Prelude.{◌≡◌, IfOk, None, map, string_bytes};
 ghost use Rattle.std.specs.Process.{exit_status};
 ghost use Rattle.clap.specs.Matches.{found_of};
 ghost use Rattle.cli.specs.Check.{IsFindingsStatus, PrintsCheck, PrintsCheckOf};
@@ -81,7 +81,6 @@ pub(crate) fn command<'a>(alloc: Global) -> Result<Command<'a>, AllocError> {
 fn paths<'a>(alloc: Global) -> Result<Arg<'a>, AllocError> {
     Arg::new(alloc, "paths")
         .value_name("PATH")
-        .num_args(1..)
         .action(ArgAction::Append)
         .help(PATHS_HELP)
         .conflicts_with("file")
@@ -105,11 +104,18 @@ pub(crate) fn run<R: Files + Input + Env + AllocGlobal, W: Write>(
         (exit_status (status_in ended) ≡ 2)) }
     ensures end { IfOk result IsEnd }
 {
-    match options.get_strs("paths").unwrap_or(&[]) {
+    match given_paths(options) {
         [] => check_one(rt, options, words::given_path(options, "file"), out),
         [argument] => check_one(rt, options, argument, out),
         arguments => check_several(rt, options, arguments, out),
     }
+}
+
+/// The paths that the arguments have.
+fn given_paths<'a>(options: &'a ArgMatches<'_>) -> &'a [&'a str]
+    ensures { map (λ path. path.now) result.now ≡ spec.given_paths (found_of options.now) }
+{
+    options.get_strs("paths").unwrap_or(&[])
 }
 
 /// Prints what is wrong with the lockfile at this path.

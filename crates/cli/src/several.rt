@@ -1,11 +1,13 @@
 //! The command `check` of several lockfiles.
-ghost use Rattle.std.specs.Prelude.{◌≡◌, ◌++◌, ◌∷◌, [], IfOk, List, None, OnOk, Option, Some, map};
+ghost use Rattle.std.specs.Prelude.{◌≡◌, ◌++◌, ◌∷◌, [], IfErr, IfOk, List, None, OnOk, Option, Some};
+ghost use Rattle.std.specs.Prelude.{map};
 ghost use Rattle.std.specs.List.{AllZip};
 ghost use Rattle.std.specs.Process.{exit_status};
 ghost use Rattle.clap.specs.Matches.{found_of};
 ghost use Rattle.cli.specs.Check.{CheckedData, IsCheckedAs, IsOutcome, PrintsSeveral};
 ghost use Rattle.cli.specs.Check.{IsSeveralOf};
 ghost use Rattle.cli.specs.Ending.{IsEnd, counts_in, status_in};
+ghost use Rattle.cli_input.specs.declared.findings.Form as declared;
 
 use crate::check::ended;
 use crate::checked::{Checked, Named, checked_text};
@@ -97,11 +99,11 @@ impl Several {
     /// the fault of no lockfile.
     fn add(&mut self, outcome: Result<Checked, Fault>) -> Result<(), AllocError>
         ensures ok { IfOk outcome (λ checked. OnOk result
-            ((form : Form) (before : List (Option CheckedData)) (c : CheckedData)
+            ((form : declared.Form) (before : List (Option CheckedData)) (c : CheckedData)
             → IsSeveralOf form before self.old → IsCheckedAs form (c ∷ []) checked
             → IsSeveralOf form (before ++ Some c ∷ []) self.new)) }
         ensures err { IfErr outcome (λ _. OnOk result
-            ((form : Form) (before : List (Option CheckedData))
+            ((form : declared.Form) (before : List (Option CheckedData))
             → IsSeveralOf form before self.old
             → IsSeveralOf form (before ++ None ∷ []) self.new)) }
     {
@@ -119,7 +121,7 @@ impl Several {
 impl Checked {
     /// What is found where nothing is looked at.
     fn nothing(alloc: Global) -> Checked
-        ensures { (form : Form) → IsCheckedAs form [] result }
+        ensures { (form : declared.Form) → IsCheckedAs form [] result }
     {
         Checked {
             told: Told::nothing(alloc),
@@ -130,7 +132,7 @@ impl Checked {
 
     /// Adds what is found in further lockfiles. Fails when out of memory.
     fn append(&mut self, more: Checked) -> Result<(), AllocError>
-        ensures { OnOk result ((form : Form) (first second : List CheckedData)
+        ensures { OnOk result ((form : declared.Form) (first second : List CheckedData)
             → IsCheckedAs form first self.old → IsCheckedAs form second more
             → IsCheckedAs form (first ++ second) self.new) }
     {

@@ -1,12 +1,12 @@
 //! What commands find in lockfiles: lines, a document of JSON, a log of SARIF, or annotations of
 //! GitHub.
-ghost use Rattle.std.specs.Prelude.{◌≡◌, ◌++◌, ◌∷◌, [], IfOk, IfSome, List, OnOk, ℕ, string_bytes};
+ghost use Rattle.std.specs.Prelude.{◌≡◌, ◌++◌, ◌∷◌, [], ℕ, IfOk, IfSome, List, OnOk, string_bytes};
 ghost use Rattle.clap.specs.Matches.{found_of};
 ghost use Rattle.cargo_lock_parts.specs.Ascii.{newline};
 ghost use Rattle.printing.specs.Json.{IsJsonText};
-ghost use Rattle.cli_input.specs.declared.findings.Form.{Form};
 ghost use Rattle.cli_input.specs.Told.{IsForm, IsToldAs, LockfileFound, PrintsAs, PrintsFound};
 ghost use Rattle.cli_input.specs.Told.{found_in_lockfile, lines_in, subject_of};
+ghost use Rattle.cli_input.specs.declared.findings.Form as declared;
 
 use crate::subject::Subject;
 use cargo_lock_audit::{advisories_json, reported_advisories};
@@ -114,7 +114,7 @@ impl Model for Told {
 impl Told {
     /// What is printed where nothing is looked at.
     pub fn nothing(alloc: Global) -> Told
-        ensures { (form : Form) → IsToldAs form [] result }
+        ensures { (form : declared.Form) → IsToldAs form [] result }
     {
         let text = String::new(alloc);
         Told {
@@ -153,7 +153,7 @@ impl Told {
 
     /// Adds what is printed of further lockfiles. Fails when out of memory.
     pub fn append(&mut self, more: Told) -> Result<(), AllocError>
-        ensures { OnOk result ((form : Form) (first second : List LockfileFound)
+        ensures { OnOk result ((form : declared.Form) (first second : List LockfileFound)
             → IsToldAs form first self.old → IsToldAs form second more
             → IsToldAs form (first ++ second) self.new) }
     {

@@ -1,6 +1,6 @@
 //! A lockfile of which findings are printed.
 
-ghost use Rattle.std.specs.Prelude.{◌≡◌, ◌⊎◌, IfOk, List, ℕ, string_bytes};
+ghost use Rattle.std.specs.Prelude.{◌≡◌, ◌⊎◌, ℕ, IfOk, List, string_bytes};
 ghost use Rattle.std.specs.Path.{StripsPrefix};
 ghost use Rattle.clap.specs.Matches.{found_of};
 ghost use Rattle.cli_input.specs.Told.{IsReportPath, subject_of};
