@@ -44,8 +44,8 @@ _cargo_lock() {
         -f | --file | -o | --output) _cargo_lock_files ;;
         --manifests) _cargo_lock_files ;;
         --root) _cargo_lock_packages ;;
-        --author) ;;
-        *) _cargo_lock_offer '-f --file --any-size -o --output --root --author --timestamp --serial --manifests --compact -h --help' ;;
+        --author | --property) ;;
+        *) _cargo_lock_offer '-f --file --any-size -o --output --root --author --property --timestamp --serial --manifests --compact -h --help' ;;
         esac
         ;;
     json)
@@ -55,8 +55,10 @@ _cargo_lock() {
         esac
         ;;
     diff)
-        if [[ $current == -* ]]; then
-            _cargo_lock_offer '--any-size -d --dependencies --exit-code --json -h --help'
+        if [[ $previous == --moved-ok ]]; then
+            _cargo_lock_offer 'path'
+        elif [[ $current == -* ]]; then
+            _cargo_lock_offer '--any-size -d --dependencies --exit-code --full --moved-ok --json -h --help'
         else
             _cargo_lock_files
         fi
@@ -114,7 +116,8 @@ _cargo_lock() {
         case $previous in
         -f | --file) _cargo_lock_files ;;
         --cache | --vendor) _cargo_lock_files ;;
-        *) _cargo_lock_offer '-f --file --any-size --cache --vendor --all --others --json -h --help' ;;
+        --mirror) ;;
+        *) _cargo_lock_offer '-f --file --any-size --cache --vendor --all --mirror --others --json -h --help' ;;
         esac
         ;;
     licenses)
@@ -133,7 +136,9 @@ _cargo_lock() {
         --db) _cargo_lock_files ;;
         --ignore) ;;
         --deny) _cargo_lock_offer 'unmaintained unsound notice warnings' ;;
-        *) _cargo_lock_offer '-f --file --any-size --db --ignore --deny --json -h --help' ;;
+        --registry) ;;
+        --since) _cargo_lock_files ;;
+        *) _cargo_lock_offer '-f --file --any-size --db --ignore --deny --registry --since --json -h --help' ;;
         esac
         ;;
     help) _cargo_lock_offer 'list translate tree bom json diff check why duplicates graph merge verify licenses audit help' ;;

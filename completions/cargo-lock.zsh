@@ -64,8 +64,9 @@ _cargo-lock() {
             '(-f --file)'{-f,--file}'[The lockfile, - for standard input]:PATH:_files' \
             '--any-size[Reads a lockfile of 256 MiB or more too]' \
             '(-o --output)'{-o,--output}'[The file that is written, - for standard output]:PATH:_files' \
-            '--root[The package that the bill is about, as for tree]:SPEC:_cargo-lock-packages' \
+            '--root[The package that the bill is about, as for tree, of which only one may fit]:SPEC:_cargo-lock-packages' \
             '*--author[Names this author of the bill, and others that are given so]:NAME:' \
+            '*--property[Adds a property to the metadata, and others that are given so]:NAME=VALUE:' \
             '--timestamp[Adds the time: of SOURCE_DATE_EPOCH, or else of the clock]' \
             '--serial[Adds a serial number, equal for equal bills]' \
             '--manifests[Adds licences, by the folder of `cargo vendor`, or registry/src of Cargo]:FOLDER:_files -/' \
@@ -83,6 +84,8 @@ _cargo-lock() {
             '--any-size[Reads a lockfile of 256 MiB or more too]' \
             '(-d --dependencies)'{-d,--dependencies}'[Shows other dependencies of packages too]' \
             '--exit-code[Ends with status 1 where anything differs, dependencies only with -d]' \
+            '--full[Prints all digits of commits that move]' \
+            '*--moved-ok[Packages may come from this new source, or from a folder: no alarm then]:URL|path:(path)' \
             '--json[Prints one line of JSON]' \
             '(- *)'{-h,--help}'[Print help]' \
             '1:OLD:_files' \
@@ -137,6 +140,7 @@ _cargo-lock() {
             '--cache[The folder of the archives, as registry/cache of Cargo]:FOLDER:_files -/' \
             '--vendor[The folder that `cargo vendor` made]:FOLDER:_files -/' \
             '--all[Counts packages without an archive or a checksum too]' \
+            '*--mirror[Takes archives of this host for those of each registry]:HOST:' \
             '--others[Passes over folders of packages that the lockfile does not have]' \
             '--json[Prints one line of JSON]' \
             '(- *)'{-h,--help}'[Print help]'
@@ -159,6 +163,8 @@ _cargo-lock() {
             '--db[The folder of the advisories]:FOLDER:_files -/' \
             '*--ignore[Leaves out the advisory of this id or alias, and others that are given so]:ID:' \
             '*--deny[Counts informational advisories of this kind as vulnerabilities]:KIND:(unmaintained unsound notice warnings)' \
+            '*--registry[Takes packages of this registry for those of crates.io]:URL:' \
+            '--since[Counts only what this older lockfile does not have]:OLD:_files' \
             '--json[Prints one line of JSON]' \
             '(- *)'{-h,--help}'[Print help]'
         ;;

@@ -16,6 +16,7 @@ firmware file machine-learning-model data cryptographic-asset""".split()
 
 PHASES = "design pre-build build post-build operations discovery decommission".split()
 
+ACKNOWLEDGEMENTS = ("declared", "concluded")
 DIGITS = {"MD5": 32, "SHA-1": 40, "SHA-256": 64, "SHA-384": 96, "SHA-512": 128, "SHA3-256": 64,
           "SHA3-384": 96, "SHA3-512": 128, "BLAKE2b-256": 64, "BLAKE2b-384": 96,
           "BLAKE2b-512": 128, "BLAKE3": 64}
@@ -133,9 +134,18 @@ def expression(value, where):
     ask(re.fullmatch(TERMS, left), f"{where}: {value!r}")
 
 
+def declared_name(value, where):
+    known = {"name": text, "acknowledgement": one_of(ACKNOWLEDGEMENTS)}
+    fields(value, where, known, ("name",))
+
+
 def licenses(value, where):
-    ask(isinstance(value, list) and len(value) == 1, f"{where} is no list of one expression")
-    fields(value[0], f"{where}[0]", {"expression": expression}, ("expression",))
+    ask(isinstance(value, list) and len(value) == 1, f"{where} is no list of one licence")
+    if isinstance(value[0], dict) and "license" in value[0]:
+        fields(value[0], f"{where}[0]", {"license": declared_name}, ("license",))
+        return
+    known = {"expression": expression, "acknowledgement": one_of(ACKNOWLEDGEMENTS)}
+    fields(value[0], f"{where}[0]", known, ("expression",))
 
 
 def external(value, where):
@@ -201,10 +211,15 @@ def author(value, where):
     fields(value, where, {"bom-ref": some_text, "name": text, "email": text, "phone": text})
 
 
+def named_value(value, where):
+    fields(value, where, {"name": text, "value": text}, ("name",))
+
+
 def metadata(value, where):
     fields(value, where, {
         "timestamp": time, "lifecycles": each(phase, False), "tools": tools,
         "authors": each(author, False), "component": component,
+        "properties": each(named_value, False),
     })
 
 

@@ -11,6 +11,12 @@ FAULTS = ["none", "none", "no folder", "other archive", "missing", "changed", "u
 LICENSES = ["license = \"MIT OR Apache-2.0\"", "license = \"GPL-3.0\"", "license = \"a \\\" b\"",
             "license-file = \"LICENSE\"", ""]
 KINDS = ["", "informational = \"unmaintained\"\n", "informational = \"unsound\"\n"]
+# What an advisory may say besides, of itself and of what is affected.
+DETAILS = ["", "url = \"https://example.org/a\"\n", "cvss = \"CVSS:3.1/AV:N\"\nkeywords = []\n",
+           "references = [\"https://example.org/b\", \"c\\\"\"]\n",
+           "categories = [\"crypto-failure\"]\nkeywords = [\"ssl\"]\n"]
+AFFECTED = ["", "[affected]\n", "[affected]\nos = [\"windows\"]\narch = [\"x86\", \"arm\"]\n",
+            "[affected.functions]\n\"a::b\" = [\"< 1.0\"]\n\"a::B::c\" = []\n"]
 
 
 def digest(text):
@@ -75,5 +81,19 @@ def make_advisory(folder, name, draw):
     patched = draw.choice(["", "\">= 99.0.0\"", "\">= 98.0.0, < 98.1.0\", \">= 99.0.0\""])
     write(f"{folder}/RUSTSEC-2020-{number}.md",
           f"```toml\n[advisory]\nid = \"RUSTSEC-2020-{number}\"\npackage = \"{name}\"\n"
-          f"date = \"2020-01-01\"\n{draw.choice(KINDS)}\n[versions]\npatched = [{patched}]\n```\n\n"
+          f"date = \"2020-01-01\"\n{draw.choice(KINDS)}{draw.choice(DETAILS)}\n"
+          f"[versions]\npatched = [{patched}]\n{draw.choice(AFFECTED)}```\n\n"
           "# A `title` \\ with \"quotes\"\n")
+
+
+def details_of(path):
+    """What the file of an advisory says besides, as the document has it."""
+    with open(path, encoding="utf-8") as file:
+        front = file.read().split("```toml\n", 1)[1].split("\n```", 1)[0]
+    table = tomllib.loads(front)
+    about, affected = table["advisory"], table.get("affected")
+    if affected is not None:
+        affected = {"functions": {}, "os": [], "arch": [], **affected}
+    texts = {key: about.get(key) for key in ["date", "url", "cvss"]}
+    lists = {key: about.get(key, []) for key in ["references", "categories", "keywords"]}
+    return {**texts, **lists, "affected": affected}

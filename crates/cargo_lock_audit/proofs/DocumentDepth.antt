@@ -1,19 +1,47 @@
 -- The depth of the document of advisories.
-use Rattle.std.proofs.Common.{◌≤◌, ℕ, List, arith, map}
-use Rattle.json.specs.Json.{string}
-use Rattle.json.specs.Tree.{depth}
+use Rattle.std.proofs.Common.{◌≤◌, ℕ, List, [], ◌∷◌, Bool, Option, None, Some, arith, codes, map}
+use Rattle.json.specs.Json.{Members, member, no_members, string}
+use Rattle.json.specs.Tree.{depth, members_depth}
+use Rattle.cargo_lock_audit.specs.Details.{AffectedData, DetailsData, FunctionData}
 use Rattle.cargo_lock_audit.specs.Findings.{AdvisoryFindingData}
 use Rattle.cargo_lock_audit.specs.Requirement.{RequirementData}
 use Rattle.cargo_lock_audit.specs.Report.{ReportData}
 use Rattle.cargo_lock_display.specs.PackageJson.{package_json}
 use Rattle.cargo_lock_parts.specs.Identity.{PackageData, identity_of}
-use Rattle.cargo_lock_audit.specs.Document.{advisories_json, advisory_finding_json, texts_json}
+use Rattle.cargo_lock_audit.specs.Document.{advisories_json, advisory_finding_json, affected_json, affected_or_null, details_members, functions_members, texts_json, truth_or_null}
 use Rattle.cargo_lock_display.specs.File.{FileData, document_json}
 use Rattle.cargo_lock_display.proofs.Depth.{identity-depth}
 use Rattle.printing.proofs.Depth.{array-depth, text-depth}
 
 texts-depth : (texts : List (List ℕ)) → depth (texts_json texts) ≤ 1
 texts-depth = array-depth 0 string (λ (text : List ℕ). omega arith)
+
+functions-depth : (fs : List FunctionData) → members_depth (functions_members fs) ≤ 1
+functions-depth [] = omega arith
+functions-depth (f ∷ fs) = omega (arith, texts-depth f.versions, functions-depth fs)
+
+affected-depth : (a : Option AffectedData) → depth (affected_or_null a) ≤ 3
+unfolding affected_json
+affected-depth None = omega arith
+affected-depth (Some a) = omega (arith, functions-depth a.functions, texts-depth a.os, texts-depth a.arch)
+
+brought-depth : (truth : Option Bool) → members_depth (member (codes "brought") (truth_or_null truth) no_members) ≤ 3
+brought-depth None = omega arith
+brought-depth (Some b) = omega arith
+
+-- what an advisory says besides, before further members
+details-depth : (d : DetailsData) (further : Members) → members_depth further ≤ 3 → members_depth (details_members d further) ≤ 3
+unfolding details_members
+details-depth d further low = omega (
+  arith,
+  low,
+  text-depth d.url,
+  text-depth d.cvss,
+  texts-depth d.references,
+  texts-depth d.categories,
+  texts-depth d.keywords,
+  affected-depth d.affected,
+)
 
 finding-depth : (f : AdvisoryFindingData) → depth (advisory_finding_json f) ≤ 4
 unfolding advisory_finding_json
@@ -23,6 +51,7 @@ finding-depth f = omega (
   texts-depth (map (λ (r : RequirementData). r.text) f.advisory.patched),
   texts-depth f.advisory.aliases,
   texts-depth (map (λ (r : RequirementData). r.text) f.advisory.unaffected),
+  details-depth f.advisory.details (member (codes "brought") (truth_or_null f.brought) no_members) (brought-depth f.brought),
 )
 
 pub advisories-depth : (file : FileData) (r : ReportData) → depth (advisories_json file r) ≤ 6

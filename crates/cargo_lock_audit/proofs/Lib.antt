@@ -1,5 +1,6 @@
 mod Covered
 mod Exact
+mod Members
 mod OneLine
 mod Ordered
 pub mod Strips

@@ -1,5 +1,5 @@
 -- Each line of a report is one line: each part of it is printable.
-use Rattle.std.proofs.Common.{◌≡◌, ◌==◌, encode_utf8, ◌++◌, ◌∙◌, [], ◌∷◌, ℕ, List, Option, None, Some, ap, codes, length, map, refl, string_bytes, sym}
+use Rattle.std.proofs.Common.{◌≡◌, ◌==◌, encode_utf8, ◌++◌, ◌∙◌, [], ◌∷◌, ℕ, Bool, true, false, List, Option, None, Some, ap, codes, length, map, refl, string_bytes, sym}
 use Rattle.std.specs.List.{All, flat_map}
 use Rattle.std.specs.Str.{chars}
 use Rattle.std.specs.Str.Lines.{lines}
@@ -17,7 +17,7 @@ use Rattle.cargo_lock_audit.specs.declared.coverage.Origin.TheVariants as origin
 use Rattle.cargo_lock_audit.specs.Advisory.{AdvisoryData}
 use Rattle.cargo_lock_audit.specs.Coverage.{CoverageData, count_from, coverage_line, lead_after, not_compared_text, noun, counted_part}
 use Rattle.cargo_lock_audit.specs.Findings.{AdvisoryFindingData}
-use Rattle.cargo_lock_audit.specs.Lines.{EachAuditedIsOneLine, FaultsArePrintable, LinesArePrintable, advisory_finding_line, audit_report_text, file_line, or_text, patched_text, said, text_of_lines, title_char, title_text, titled, unmet_line, unmet_text}
+use Rattle.cargo_lock_audit.specs.Lines.{EachAuditedIsOneLine, FaultsArePrintable, LinesArePrintable, advisory_finding_line, audit_report_text, file_line, mark_text, or_text, patched_text, said, text_of_lines, title_char, title_text, titled, unmet_line, unmet_text}
 use Rattle.cargo_lock_audit.specs.Report.{ReportData}
 use Rattle.cargo_lock_audit.specs.Requirement.{RequirementData}
 use Rattle.cargo_lock_parts.specs.Identity.{PackageData}
@@ -38,8 +38,13 @@ said-prints : (a : AdvisoryData) (kind : Option (List ℕ)) → Prints (said a k
 said-prints a None = titled-prints a
 said-prints a (Some kind) = join (shown-prints Plain kind) (words (codes ": ") refl (titled-prints a))
 
+mark-prints : (brought : Option Bool) (is_denied : Bool) → Prints (mark_text brought is_denied)
+mark-prints (Some false) is_denied = literal (codes "=") refl
+mark-prints (Some true) is_denied = either_text is_denied (literal (codes "!") refl) (literal (codes "?") refl)
+mark-prints None is_denied = either_text is_denied (literal (codes "!") refl) (literal (codes "?") refl)
+
 line-prints : (f : AdvisoryFindingData) → Prints (advisory_finding_line f)
-line-prints f = join (either_text f.is_denied (literal (codes "!") refl) (literal (codes "?") refl))
+line-prints f = join (mark-prints f.brought f.is_denied)
     (words (codes " ") refl (join (package-prints f.content) (words (codes ": ") refl
     (join (shown-prints Plain f.advisory.id) (words (codes ": ") refl (said-prints f.advisory f.advisory.informational))))))
 

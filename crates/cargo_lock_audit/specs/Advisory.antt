@@ -7,12 +7,14 @@ use Rattle.semver.specs.Parse.{Parts}
 use Rattle.cargo_lock_parts.specs.Identity.{PackageData}
 use Rattle.cargo_lock_parts.specs.Source.{Source}
 use Rattle.cargo_lock_order.specs.Canonical.{is_canonically_crates_io}
+use Rattle.cargo_lock_order.specs.Order.{is_canonically_same}
+use Rattle.cargo_lock_audit.specs.Details.{DetailsData}
 use Rattle.cargo_lock_audit.specs.Texts.{is_listed}
 use Rattle.cargo_lock_audit.specs.Requirement.{BoundData, RequirementData, lies_in, meets}
 
 -- an advisory: its id, its ids in other databases, the name of its package, its title; its kind if it
 -- is no vulnerability; the source and the collection of its package, if they are said; whether it was
--- withdrawn; and which versions are patched, or were never affected
+-- withdrawn; which versions are patched, or were never affected; and what its file says besides
 pub record AdvisoryData : Type 0 where
   pub id : List ℕ
   pub aliases : List (List ℕ)
@@ -24,6 +26,7 @@ pub record AdvisoryData : Type 0 where
   pub is_withdrawn : Bool
   pub patched : List RequirementData
   pub unaffected : List RequirementData
+  pub details : DetailsData
 
 -- the text is the id of the advisory or one of its aliases
 abbrev pub is_name_of : AdvisoryData → List ℕ → Bool
@@ -34,7 +37,18 @@ abbrev pub comes_from_crates_io : Option Source → Bool
 comes_from_crates_io None = false
 comes_from_crates_io (Some s) = is_canonically_crates_io s
 
--- the source is that, or none is named
+-- Cargo takes the source for one of these
+abbrev pub is_of_registry_among : List Source → Source → Bool
+is_of_registry_among sources s = list_any (is_canonically_same s) sources
+
+-- packages of the source count as those of crates.io: Cargo takes it for crates.io or for one of
+-- these registries, however it is spelt
+abbrev pub counts_as_crates_io : List Source → Option Source → Bool
+counts_as_crates_io registries None = false
+counts_as_crates_io registries (Some s) =
+    is_canonically_crates_io s || is_of_registry_among registries s
+
+-- the source is crates.io for Cargo, or none is named
 abbrev pub is_of_source : Option Source → Bool
 is_of_source None = true
 is_of_source (Some s) = is_canonically_crates_io s
@@ -56,9 +70,11 @@ affects a v = not (list_any (lies_in v) a.patched) && not (list_any (lies_in v) 
 abbrev pub affects_package : AdvisoryData → PackageData → Bool
 affects_package a p = bytes_eq a.name p.name && (not a.is_withdrawn && affects a p.version)
 
--- the advisory concerns the package
-abbrev pub concerns : AdvisoryData → PackageData → Bool
-concerns a p = affects_package a p && (is_about_crates a && comes_from_crates_io p.source)
+-- the advisory concerns the package, where the packages of these registries count as those of
+-- crates.io
+abbrev pub concerns : List Source → AdvisoryData → PackageData → Bool
+concerns registries a p =
+    affects_package a p && (is_about_crates a && counts_as_crates_io registries p.source)
 
 -- ---- the same as relations
 
@@ -70,10 +86,11 @@ IsNameOf a text = (a.id ≡ text) ⊎ Contains a.aliases text
 abbrev pub LiesIn : Parts → RequirementData → Type 0
 LiesIn v r = (b : BoundData) → Contains r.bounds b → meets v b ≡ true
 
--- the package is of crates.io, and the advisory is about it: it has the name, it names no other
--- source and no other collection, it was not withdrawn, and the version lies in no requirement
-pub record Concerns (a : AdvisoryData) (p : PackageData) : Type 0 where
-  pub registry : comes_from_crates_io p.source ≡ true
+-- the package counts as one of crates.io, and the advisory is about it: it has the name, it names
+-- no other source and no other collection, it was not withdrawn, and the version lies in no
+-- requirement
+pub record Concerns (registries : List Source) (a : AdvisoryData) (p : PackageData) : Type 0 where
+  pub registry : counts_as_crates_io registries p.source ≡ true
   pub name : a.name ≡ p.name
   pub source : (a.source ≡ None) ⊎ (comes_from_crates_io a.source ≡ true)
   pub collection : (a.collection ≡ None) ⊎ (a.collection ≡ Some (codes "crates"))
@@ -83,4 +100,5 @@ pub record Concerns (a : AdvisoryData) (p : PackageData) : Type 0 where
 
 -- an advisory concerns a package exactly by that
 abbrev pub ConcernIsExact : Type 0
-ConcernIsExact = (a : AdvisoryData) (p : PackageData) → (concerns a p ≡ true) ↔ Concerns a p
+ConcernIsExact = (registries : List Source) (a : AdvisoryData) (p : PackageData)
+    → (concerns registries a p ≡ true) ↔ Concerns registries a p

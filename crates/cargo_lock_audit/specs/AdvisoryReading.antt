@@ -1,63 +1,24 @@
 -- The advisory that the text of a file is.
-use Rattle.std.specs.Prelude.{◌+◌, [], ◌∷◌, ℕ, Bool, List, Option, None, Some, codes, drop, is_some}
-use Rattle.std.specs.Prelude.{option_map, take}
-use Rattle.std.specs.Option.{option_and_then, option_copied}
+use Rattle.std.specs.Prelude.{◌+◌, [], ℕ, Bool, List, Option, None, Some, codes, drop, is_some}
+use Rattle.std.specs.Prelude.{take}
+use Rattle.std.specs.Option.{option_copied}
 use Rattle.std.specs.Str.{trim_start}
 use Rattle.std.specs.Str.Lines.{lines}
-use Rattle.toml.specs.Data.{Data, string, array, table, Items, no_items, item, Members, get_member}
+use Rattle.toml.specs.Data.{Data, Members, get_member}
 use Rattle.toml.specs.Parse.{parse_document}
 use Rattle.cargo_lock_references.specs.Optional.{◌>>=◌}
 use Rattle.cargo_lock_parts.specs.Source.{Source}
 use Rattle.cargo_lock_parts.specs.SourceReading.{source_of}
 use Rattle.cargo_lock_audit.specs.declared.advisory_reading.Fields.{Fields}
 use Rattle.cargo_lock_audit.specs.Advisory.{AdvisoryData}
+use Rattle.cargo_lock_audit.specs.Details.{DetailsData}
+use Rattle.cargo_lock_audit.specs.DetailsReading.{details_at}
 use Rattle.cargo_lock_audit.specs.FrontMatter.{body_of, front_length, joined, title_in}
 use Rattle.cargo_lock_audit.specs.Requirement.{RequirementData}
 use Rattle.cargo_lock_audit.specs.RequirementReading.{requirement_of}
-
--- ---- values by their types
-
--- the text that a value is
-abbrev pub text_in : Data → Option (List ℕ)
-text_in (string s) = Some s
-text_in _ = None
-
--- the list that a value is
-abbrev pub items_in : Data → Option Items
-items_in (array ds) = Some ds
-items_in _ = None
-
--- the table that a value is
-abbrev pub members_in : Data → Option Members
-members_in (table ms) = Some ms
-members_in _ = None
-
--- what a value reads as, if it may be absent
-abbrev pub optional_by : {X : Type 0} → (Data → Option X) → Option Data → Option (Option X)
-optional_by read None = Some None
-optional_by read (Some d) = option_map Some (read d)
-
--- a text that is required
-abbrev pub required_text : Option Data → Option (List ℕ)
-required_text o = option_and_then text_in o
-
--- a table that is required
-abbrev pub required_members : Option Data → Option Members
-required_members o = option_and_then members_in o
-
--- a text that may be absent
-abbrev pub optional_text : Option Data → Option (Option (List ℕ))
-optional_text = optional_by text_in
-
--- each item read, or none if some item reads as none
-abbrev pub read_all : {X : Type 0} → (Data → Option X) → Items → Option (List X)
-read_all read no_items = Some []
-read_all read (item d ds) = read d >>= λ x. option_map (λ xs. x ∷ xs) (read_all read ds)
-
--- texts, none if they are absent
-abbrev pub texts_at_key : Option Data → Option (List (List ℕ))
-texts_at_key None = Some []
-texts_at_key (Some d) = items_in d >>= read_all text_in
+use Rattle.cargo_lock_audit.specs.Values.{items_in, members_in, optional_by, optional_text}
+use Rattle.cargo_lock_audit.specs.Values.{read_all, required_members, required_text, text_in}
+use Rattle.cargo_lock_audit.specs.Values.{texts_at_key}
 
 -- the source that a value reads as
 abbrev pub source_in : Data → Option Source
@@ -111,12 +72,11 @@ fields_of f = record {
   is_withdrawn = f.is_withdrawn;
 }
 
--- what the table of an advisory says; it has to have a date
+-- what the table of an advisory says
 unfoldable pub fields_at : Members → Option FieldsData
 fields_at ms = do
   id ← required_text (get_member (codes "id") ms)
   name ← required_text (get_member (codes "package") ms)
-  date ← required_text (get_member (codes "date") ms)
   informational ← optional_text (get_member (codes "informational") ms)
   collection ← optional_text (get_member (codes "collection") ms)
   withdrawn ← optional_text (get_member (codes "withdrawn") ms)
@@ -150,8 +110,9 @@ abbrev pub kinds_of : FieldsData → KindsData
 kinds_of f = record { informational = f.informational; collection = f.collection }
 
 -- the advisory of these parts
-abbrev pub assembled : NamesData → KindsData → Option Source → RangesData → Bool → AdvisoryData
-assembled n k source ranges is_withdrawn = record {
+abbrev pub assembled : NamesData → KindsData → Option Source → RangesData → DetailsData → Bool
+    → AdvisoryData
+assembled n k source ranges details is_withdrawn = record {
   id = n.id;
   aliases = n.aliases;
   name = n.name;
@@ -162,6 +123,7 @@ assembled n k source ranges is_withdrawn = record {
   is_withdrawn = is_withdrawn;
   patched = ranges.patched;
   unaffected = ranges.unaffected;
+  details = details;
 }
 
 -- the advisory with this title that a table is
@@ -172,7 +134,8 @@ advisory_at title ms = do
   source ← optional_by source_in (get_member (codes "source") members)
   ranges ← ranges_in (get_member (codes "versions") ms)
   aliases ← texts_at_key (get_member (codes "aliases") members)
-  Some (assembled (titled_names title fields aliases) (kinds_of fields) source ranges
+  details ← details_at members ms
+  Some (assembled (titled_names title fields aliases) (kinds_of fields) source ranges details
       fields.is_withdrawn)
 
 -- ---- the text

@@ -9,7 +9,7 @@ use Rattle.cargo_lock_parts.specs.Source.{Source, is_git, is_registry}
 use Rattle.cargo_lock_audit.specs.declared.coverage.Coverage.{Coverage}
 use Rattle.cargo_lock_audit.specs.declared.coverage.Origin.{Origin}
 use Rattle.cargo_lock_audit.specs.declared.coverage.Origin.TheVariants as origin
-use Rattle.cargo_lock_audit.specs.Advisory.{comes_from_crates_io}
+use Rattle.cargo_lock_audit.specs.Advisory.{counts_as_crates_io}
 
 -- the packages that are compared, those that are not, and how many advisories the database has
 pub record CoverageData : Type 0 where
@@ -29,29 +29,29 @@ coverage_data_of c = record {
   advisories = c.advisories;
 }
 
--- a package is compared if it is of crates.io
-abbrev pub is_compared : PackageData → Bool
-is_compared p = comes_from_crates_io p.source
+-- a package is compared if it counts as one of crates.io, as those of these registries do
+abbrev pub is_compared : List Source → PackageData → Bool
+is_compared registries p = counts_as_crates_io registries p.source
 
 -- it is not compared otherwise
-abbrev pub is_not_compared : PackageData → Bool
-is_not_compared p = not (is_compared p)
+abbrev pub is_not_compared : List Source → PackageData → Bool
+is_not_compared registries p = not (is_compared registries p)
 
 -- which packages are compared with a database of so many advisories
-abbrev pub coverage_of : List PackageData → ℕ → CoverageData
-coverage_of packages advisories = record {
-  compared = filter is_compared packages;
-  not_compared = filter is_not_compared packages;
+abbrev pub coverage_of : List Source → List PackageData → ℕ → CoverageData
+coverage_of registries packages advisories = record {
+  compared = filter (is_compared registries) packages;
+  not_compared = filter (is_not_compared registries) packages;
   advisories = advisories;
 }
 
 -- the package, if it is compared
-abbrev pub compared_if : PackageData → List PackageData
-compared_if p = if is_compared p then p ∷ [] else []
+abbrev pub compared_if : List Source → PackageData → List PackageData
+compared_if registries p = if is_compared registries p then p ∷ [] else []
 
 -- the package, if it is not compared
-abbrev pub not_compared_if : PackageData → List PackageData
-not_compared_if p = if is_compared p then [] else p ∷ []
+abbrev pub not_compared_if : List Source → PackageData → List PackageData
+not_compared_if registries p = if is_compared registries p then [] else p ∷ []
 
 -- ---- the line
 
@@ -117,11 +117,16 @@ coverage_line c = decimal (length c.compared)
 -- ---- law
 
 -- the packages that are compared and those that are not are together the packages, each once, and
--- exactly those of crates.io are compared
+-- exactly those that count as those of crates.io are compared
+pub record IsExactCoverage (registries : List Source) (packages : List PackageData)
+    (coverage : CoverageData) : Type 0 where
+  pub together : IsPermutation packages (coverage.compared ++ coverage.not_compared)
+  pub compared : (p : PackageData) → Contains coverage.compared p
+      ↔ (Contains packages p × (counts_as_crates_io registries p.source ≡ true))
+  pub not_compared : (p : PackageData) → Contains coverage.not_compared p
+      ↔ (Contains packages p × (counts_as_crates_io registries p.source ≡ false))
+
+-- that holds of each coverage
 abbrev pub CoverageIsExact : Type 0
-CoverageIsExact = (packages : List PackageData) (n : ℕ)
-    → IsPermutation packages ((coverage_of packages n).compared ++ (coverage_of packages n).not_compared)
-    × ((p : PackageData) → Contains (coverage_of packages n).compared p
-    ↔ (Contains packages p × (comes_from_crates_io p.source ≡ true)))
-    × ((p : PackageData) → Contains (coverage_of packages n).not_compared p
-    ↔ (Contains packages p × (comes_from_crates_io p.source ≡ false)))
+CoverageIsExact = (registries : List Source) (packages : List PackageData) (advisories : ℕ)
+    → IsExactCoverage registries packages (coverage_of registries packages advisories)

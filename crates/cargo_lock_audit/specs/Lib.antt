@@ -1,7 +1,10 @@
 pub mod Advisory
 pub mod AdvisoryReading
+pub mod Audited
 pub mod Coverage
 pub mod Database
+pub mod Details
+pub mod DetailsReading
 pub mod Findings
 pub mod FrontMatter
 pub mod Lines
@@ -9,5 +12,7 @@ pub mod Pairs
 pub mod Report
 pub mod Requirement
 pub mod RequirementReading
+pub mod Settings
 pub mod Texts
+pub mod Values
 pub mod Document

@@ -1,6 +1,6 @@
 -- The lines of what is found, and of why a database is refused.
-use Rattle.std.specs.Prelude.{◌≡◌, ◌==◌, ◌++◌, [], ◌∷◌, ℕ, Bool, List, Option, None, Some, codes}
-use Rattle.std.specs.Prelude.{IfSome, encode_utf8, if◌then◌else◌, map, string_bytes}
+use Rattle.std.specs.Prelude.{◌≡◌, ◌==◌, ◌++◌, [], ◌∷◌, ℕ, Bool, false, List, Option, None, Some}
+use Rattle.std.specs.Prelude.{IfSome, codes, encode_utf8, if◌then◌else◌, map, string_bytes}
 use Rattle.std.specs.List.{flat_map}
 use Rattle.std.specs.Str.{chars}
 use Rattle.std.specs.Str.Lines.{lines}
@@ -18,9 +18,10 @@ use Rattle.cargo_lock_audit.specs.Findings.{AdvisoryFindingData}
 use Rattle.cargo_lock_audit.specs.Report.{ReportData}
 use Rattle.cargo_lock_audit.specs.Requirement.{RequirementData}
 
--- `!` for what is denied, and `?` for the rest
-abbrev pub mark_text : Bool → List ℕ
-mark_text is_denied = if is_denied then codes "!" else codes "?"
+-- `=` for what an older lockfile has too, else `!` for what is denied, and `?` for the rest
+abbrev pub mark_text : Option Bool → Bool → List ℕ
+mark_text (Some false) is_denied = codes "="
+mark_text other is_denied = if is_denied then codes "!" else codes "?"
 
 -- a character of a title: as between backquotes, but that the backquote is kept
 abbrev pub title_char : ℕ → List ℕ
@@ -58,7 +59,7 @@ advisory_text a = shown Plain a.id ++ (codes ": " ++ said a a.informational)
 
 -- the line of a finding
 abbrev pub advisory_finding_line : AdvisoryFindingData → List ℕ
-advisory_finding_line f = mark_text f.is_denied ++ (codes " " ++ (package_text f.content
+advisory_finding_line f = mark_text f.brought f.is_denied ++ (codes " " ++ (package_text f.content
     ++ (codes ": " ++ advisory_text f.advisory)))
 
 -- the line of a text that is ignored, and of which no package has the advisory

@@ -3,21 +3,22 @@
 ghost use Rattle.std.specs.Prelude.{◌≡◌, IfOk, bytes_eq, option_map, string_bytes};
 ghost use Rattle.std.specs.List.{list_any};
 ghost use Rattle.semver.specs.Identifiers.{parts_of};
-ghost use Rattle.cargo_lock_audit.specs.Advisory.{affects, affects_package, comes_from_crates_io};
-ghost use Rattle.cargo_lock_audit.specs.Advisory.{concerns, is_about_crates, is_name_of};
-ghost use Rattle.cargo_lock_audit.specs.Advisory.{is_of_collection};
+ghost use Rattle.cargo_lock_audit.specs.Advisory.{affects, affects_package, concerns};
+ghost use Rattle.cargo_lock_audit.specs.Advisory.{counts_as_crates_io, is_about_crates, is_name_of};
+ghost use Rattle.cargo_lock_audit.specs.Advisory.{is_of_collection, is_of_registry_among};
 ghost use Rattle.cargo_lock_audit.specs.Requirement.{lies_in};
 
+use crate::details::Details;
 use crate::requirement::Requirement;
 use crate::texts::is_listed;
-use cargo_lock_order::is_canonically_crates_io;
+use cargo_lock_order::{is_canonically_crates_io, is_canonically_same};
 use cargo_lock_parts::package::{Package, SourceId};
 use semver::Version;
 use std::alloc::{AllocError, Global};
 use std::marker::Model;
 
-/// What an advisory says, as far as it decides which packages the advisory concerns, and what is
-/// printed of it.
+/// What an advisory says: what decides which packages it concerns, what is printed of it, and what
+/// its file says besides.
 #[derive(Drop)]
 pub struct Advisory {
     /// Its id, as `RUSTSEC-2021-0003`.
@@ -49,6 +50,9 @@ pub struct Advisory {
 
     /// Which versions were never affected.
     pub unaffected: Vec<Requirement>,
+
+    /// What its file says besides.
+    pub details: Details,
 }
 
 impl Model for Advisory {
@@ -69,31 +73,38 @@ impl Model for Advisory {
       is_withdrawn = a.is_withdrawn;
       patched = a.patched.items;
       unaffected = a.unaffected.items;
+      details = a.details;
     } };
 }
 
 impl Advisory {
     /// Whether the advisory concerns the package: both are about a crate of crates.io with one
     /// name, the advisory was not withdrawn, and the version lies in none of its requirements. A
-    /// source is crates.io if Cargo takes it for that, however it is spelt.
+    /// source is crates.io if Cargo takes it for that, however it is spelt. The packages of these
+    /// registries count as those of crates.io (see `is_canonically_same` of `cargo_lock_order`).
     ///
     /// # Errors
     ///
     /// Fails when out of memory.
     ///
     /// ```
-    /// if advisory.concerns(rt.alloc(), package)? {
+    /// if advisory.concerns(rt.alloc(), package, registries)? {
     ///     let id = &advisory.id;
     ///     println!(rt; "{id}")?;
     /// }
     /// ```
-    pub fn concerns(&self, alloc: Global, package: &Package) -> Result<bool, AllocError>
-        ensures { IfOk result (λ is_so. is_so ≡ concerns self.now «package».now) }
+    pub fn concerns(
+        &self,
+        alloc: Global,
+        package: &Package,
+        registries: &[SourceId],
+    ) -> Result<bool, AllocError>
+        ensures { IfOk result (λ is_so. is_so ≡ concerns registries.now self.now «package».now) }
     {
         if !self.fits(package) || !self.is_about_crates(alloc)? {
             return Ok(false);
         }
-        is_crates_io(alloc, &package.source)
+        counts_as_crates_io(alloc, registries, &package.source)
     }
 
     /// Whether the text is its id or one of its aliases.
@@ -137,12 +148,36 @@ impl Advisory {
     }
 }
 
-// Whether the source is crates.io for Cargo.
-pub(crate) fn is_crates_io(alloc: Global, source: &Option<SourceId>) -> Result<bool, AllocError>
-    ensures { IfOk result (λ is_so. is_so ≡ comes_from_crates_io source.now) }
+// Whether packages of the source count as those of crates.io: Cargo takes it for crates.io, or for
+// one of these registries.
+pub(crate) fn counts_as_crates_io(
+    alloc: Global,
+    registries: &[SourceId],
+    source: &Option<SourceId>,
+) -> Result<bool, AllocError>
+    ensures { IfOk result (λ counts. counts ≡ counts_as_crates_io registries.now source.now) }
 {
-    if let Some(source) = source {
-        return is_canonically_crates_io(alloc, source);
+    let Some(source) = source else {
+        return Ok(false);
+    };
+    if is_canonically_crates_io(alloc, source)? {
+        return Ok(true);
+    }
+    is_of_registry_among(alloc, registries, source)
+}
+
+// Whether Cargo takes the source for one of these.
+fn is_of_registry_among(
+    alloc: Global,
+    sources: &[SourceId],
+    source: &SourceId,
+) -> Result<bool, AllocError>
+    ensures { IfOk result (λ is_so. is_so ≡ is_of_registry_among sources.now source.now) }
+{
+    for other in sources {
+        if is_canonically_same(alloc, source, other)? {
+            return Ok(true);
+        }
     }
     Ok(false)
 }

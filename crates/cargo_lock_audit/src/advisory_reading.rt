@@ -1,24 +1,26 @@
 //! Advisories, from the texts of their files.
 
-ghost use Rattle.std.specs.Prelude.{◌≡◌, IfOk, option_map, string_bytes};
-ghost use Rattle.std.specs.Option.{option_copied};
+ghost use Rattle.std.specs.Prelude.{◌≡◌, IfOk};
 ghost use Rattle.toml.specs.Data.{get_member};
 ghost use Rattle.toml.specs.Parse.{parse_document};
 ghost use Rattle.toml.specs.View.{items_view, table_view, view};
 ghost use Rattle.cargo_lock_parts.specs.Error.{IsParseOrMemory, Reads, ReadsUrls};
 ghost use Rattle.cargo_lock_audit.specs.AdvisoryReading.{advisory_at, advisory_of, fields_at};
-ghost use Rattle.cargo_lock_audit.specs.AdvisoryReading.{fields_of, items_in, members_in};
-ghost use Rattle.cargo_lock_audit.specs.AdvisoryReading.{optional_by, optional_text, ranges_at};
-ghost use Rattle.cargo_lock_audit.specs.AdvisoryReading.{ranges_in, read_all, required_members};
-ghost use Rattle.cargo_lock_audit.specs.AdvisoryReading.{required_text, requirement_in};
-ghost use Rattle.cargo_lock_audit.specs.AdvisoryReading.{requirements_in, source_in, text_in};
-ghost use Rattle.cargo_lock_audit.specs.AdvisoryReading.{texts_at_key};
-ghost use Rattle.cargo_lock_audit.specs.AdvisoryReading.{assembled, kinds_of, titled_names};
+ghost use Rattle.cargo_lock_audit.specs.AdvisoryReading.{assembled, fields_of, kinds_of};
+ghost use Rattle.cargo_lock_audit.specs.AdvisoryReading.{ranges_at, ranges_in, requirement_in};
+ghost use Rattle.cargo_lock_audit.specs.AdvisoryReading.{requirements_in, source_in, titled_names};
 ghost use Rattle.cargo_lock_audit.specs.Texts.{bytes_of_texts};
+ghost use Rattle.cargo_lock_audit.specs.Values.{optional_by, read_all};
 
 use crate::advisory::Advisory;
+use crate::details::Details;
+use crate::details_reading::details_at;
 use crate::front_matter::{body_of, front_length, front_of, lines_from_first, title_after};
 use crate::requirement::Requirement;
+use crate::values::{
+    copied, list_in, members_in, optional_text, required_members, required_text, text_in,
+    texts_at_key, value_at,
+};
 use cargo_lock_parts::error::{Error, Result};
 use cargo_lock_parts::package::SourceId;
 use printing::Quoted;
@@ -32,9 +34,11 @@ impl Advisory {
     /// "```toml"; the front matter follows, a table of TOML, up to the next line that begins with
     /// "```"; and the first line after that which is not empty is `# TITLE`. In the table,
     /// `advisory` is a table with the texts `id`, `package` and `date`, and perhaps
-    /// `informational`, `source`, `collection` and `withdrawn`, and a list of texts `aliases`;
-    /// `versions` may be a table with the lists `patched` and `unaffected`, of requirements. Other
-    /// keys count for nothing.
+    /// `informational`, `source`, `collection`, `withdrawn`, `url` and `cvss`, and the lists of
+    /// texts `aliases`, `references`, `categories` and `keywords`; `versions` may be a table with
+    /// the lists `patched` and `unaffected`, of requirements; and `affected` one with the lists of
+    /// texts `os` and `arch`, and with a table `functions` of lists of texts. Other keys count for
+    /// nothing.
     ///
     /// `Parse` says what is wrong: a line that is missing, text that is no TOML, a key that is
     /// missing or of another type, a source or a requirement that does not read. It also comes for
@@ -88,10 +92,11 @@ fn advisory_at(alloc: Global, table: &Table, title: &str) -> Result<Advisory>
     let source = source_at(alloc, members, "source")?;
     let ranges = ranges_in(alloc, table, "versions")?;
     let aliases = texts_at_key(alloc, members, "aliases")?;
+    let details = details_at(alloc, members, table)?;
     let names = names_of(alloc, title, &fields, aliases)?;
     let kinds = kinds_of(alloc, &fields)?;
     let is_withdrawn = fields.is_withdrawn;
-    Ok(assembled(names, kinds, source, ranges, is_withdrawn))
+    Ok(assembled(names, kinds, source, ranges, details, is_withdrawn))
 }
 
 // What the table `advisory` says.
@@ -110,9 +115,10 @@ fn assembled(
     kinds: Kinds,
     source: Option<SourceId>,
     ranges: Ranges,
+    details: Details,
     is_withdrawn: bool,
 ) -> Advisory
-    ensures { result ≡ assembled names kinds source ranges is_withdrawn }
+    ensures { result ≡ assembled names kinds source ranges details is_withdrawn }
 {
     let Names {
         id,
@@ -139,6 +145,7 @@ fn assembled(
         is_withdrawn,
         patched,
         unaffected,
+        details,
     }
 }
 
@@ -211,17 +218,6 @@ fn kinds_of(alloc: Global, fields: &Fields<'_>) -> std::result::Result<Kinds, Al
     })
 }
 
-// A copy of a text that may be absent.
-fn copied(alloc: Global, text: Option<&str>) -> std::result::Result<Option<String>, AllocError>
-    ensures { IfOk result
-        (λ copy. option_map string_bytes copy ≡ option_copied text.entry) }
-{
-    match text {
-        Some(text) => Ok(Some(String::from_str(alloc, text)?)),
-        None => Ok(None),
-    }
-}
-
 // What the table `advisory` says, but for the source.
 #[tactic(auto, unfolding(crate::specs::AdvisoryReading::fields_at))]
 fn fields_at<'a>(alloc: Global, table: &'a Table) -> Result<Fields<'a>>
@@ -229,7 +225,6 @@ fn fields_at<'a>(alloc: Global, table: &'a Table) -> Result<Fields<'a>>
 {
     let id = required_text(alloc, table, "id")?;
     let package = required_text(alloc, table, "package")?;
-    let _date = required_text(alloc, table, "date")?;
     let informational = optional_text(alloc, table, "informational")?;
     let collection = optional_text(alloc, table, "collection")?;
     let withdrawn = optional_text(alloc, table, "withdrawn")?;
@@ -260,42 +255,6 @@ fn source_in(alloc: Global, value: &Value, key: &str) -> Result<SourceId>
     let text = text_in(alloc, value, key)?;
     let source = SourceId::from_str(alloc, text)?;
     Ok(source)
-}
-
-// ---- texts
-
-// The texts at a key, or none if the key is absent.
-fn texts_at_key(alloc: Global, table: &Table, key: &str) -> Result<Vec<String>>
-    ensures { Reads (λ v. bytes_of_texts v.items) result
-        (texts_at_key (get_member key.now (table_view table.now))) }
-{
-    let Some(value) = value_at(table, key) else {
-        return Ok(Vec::new(alloc));
-    };
-    let list = list_in(alloc, value, key)?;
-    texts_of(alloc, list, key)
-}
-
-// The texts of a list.
-fn texts_of(alloc: Global, list: &[Value], key: &str) -> Result<Vec<String>>
-    ensures { Reads (λ v. bytes_of_texts v.items) result
-        (read_all text_in (items_view list.now)) }
-{
-    let mut texts = Vec::with_capacity(alloc, list.len())?;
-    for value in list {
-        let text = owned_text_in(alloc, value, key)?;
-        texts.push(text)?;
-    }
-    Ok(texts)
-}
-
-// The text that a value is, as a text of its own.
-fn owned_text_in(alloc: Global, value: &Value, key: &str) -> Result<String>
-    ensures { Reads string_bytes result (text_in (view value.now)) }
-{
-    let text = text_in(alloc, value, key)?;
-    let text = String::from_str(alloc, text)?;
-    Ok(text)
 }
 
 // ---- requirements
@@ -373,89 +332,4 @@ fn requirement_in(alloc: Global, value: &Value, key: &str) -> Result<Requirement
     let text = text_in(alloc, value, key)?;
     let requirement = Requirement::parse(alloc, text)?;
     Ok(requirement)
-}
-
-// ---- values by their types
-
-fn value_at<'a>(table: &'a Table, key: &str) -> Option<&'a Value>
-    ensures { option_map (λ v. view v.now) result ≡ get_member key.now (table_view table.now) }
-{
-    table.get(key)
-}
-
-// The error for a key whose value has another type.
-fn wrong_type(alloc: Global, key: &str) -> Error
-    ensures { IsParseOrMemory result }
-{
-    Error::parse(format!(in alloc; "wrong type: `{key}`"))
-}
-
-// The error for a key that is missing.
-fn missing_key(alloc: Global, key: &str) -> Error
-    ensures { IsParseOrMemory result }
-{
-    Error::parse(format!(in alloc; "missing key: `{key}`"))
-}
-
-// The text that a value is.
-fn text_in<'a>(alloc: Global, value: &'a Value, key: &str) -> Result<&'a str>
-    ensures { Reads (λ s. s.now) result (text_in (view value.now)) }
-{
-    match value.as_str() {
-        Some(text) => Ok(text),
-        None => Err(wrong_type(alloc, key)),
-    }
-}
-
-// The table that a value is.
-fn members_in<'a>(alloc: Global, value: &'a Value, key: &str) -> Result<&'a Table>
-    ensures { Reads (λ m. table_view m.now) result (members_in (view value.now)) }
-{
-    match value.as_table() {
-        Some(table) => Ok(table),
-        None => Err(wrong_type(alloc, key)),
-    }
-}
-
-// The list that a value is.
-fn list_in<'a>(alloc: Global, value: &'a Value, key: &str) -> Result<&'a [Value]>
-    ensures { Reads (λ s. items_view s.now) result (items_in (view value.now)) }
-{
-    match value.as_array() {
-        Some(list) => Ok(list.as_slice()),
-        None => Err(wrong_type(alloc, key)),
-    }
-}
-
-// The text at a key.
-fn required_text<'a>(alloc: Global, table: &'a Table, key: &str) -> Result<&'a str>
-    ensures { Reads
-        (λ s. s.now) result (required_text (get_member key.now (table_view table.now))) }
-{
-    match value_at(table, key) {
-        Some(value) => text_in(alloc, value, key),
-        None => Err(missing_key(alloc, key)),
-    }
-}
-
-// The table at a key.
-fn required_members<'a>(alloc: Global, table: &'a Table, key: &str) -> Result<&'a Table>
-    ensures { Reads (λ m. table_view m.now) result
-        (required_members (get_member key.now (table_view table.now))) }
-{
-    match value_at(table, key) {
-        Some(value) => members_in(alloc, value, key),
-        None => Err(missing_key(alloc, key)),
-    }
-}
-
-// The text at a key, if the key is present.
-fn optional_text<'a>(alloc: Global, table: &'a Table, key: &str) -> Result<Option<&'a str>>
-    ensures { Reads (λ o. option_copied o) result
-        (optional_text (get_member key.now (table_view table.now))) }
-{
-    match value_at(table, key) {
-        Some(value) => Ok(Some(text_in(alloc, value, key)?)),
-        None => Ok(None),
-    }
 }

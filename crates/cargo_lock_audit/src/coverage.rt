@@ -6,7 +6,7 @@ ghost use Rattle.cargo_lock_audit.specs.Coverage.{not_compared_if, package_by_pl
 ghost use Rattle.cargo_lock_audit.specs.Coverage as spec;
 ghost use Rattle.cargo_lock_parts.specs.Identity.{PackageData};
 
-use crate::advisory::is_crates_io;
+use crate::advisory::counts_as_crates_io;
 use cargo_lock_parts::package::{Package, SourceId};
 use std::alloc::{AllocError, Global};
 use std::fmt;
@@ -18,7 +18,7 @@ use std::fmt;
 /// is compared.
 #[derive(Drop)]
 pub struct Coverage<'p> {
-    /// The packages of crates.io, in their order.
+    /// The packages that count as those of crates.io, in their order.
     pub compared: Vec<&'p Package>,
 
     /// The other packages, in their order.
@@ -30,18 +30,20 @@ pub struct Coverage<'p> {
 
 impl<'p> Coverage<'p> {
     /// Which of these packages are compared with a database of this many advisories: those of
-    /// crates.io, however Cargo lets its source be spelt. Fails when out of memory.
+    /// crates.io and of these registries, however Cargo lets their sources be spelt. Fails when out
+    /// of memory.
     ///
     /// ```
-    /// let coverage = Coverage::of(alloc, &lockfile.packages, database.size)?;
+    /// let coverage = Coverage::of(alloc, &lockfile.packages, registries, database.size)?;
     /// ```
     pub fn of(
         alloc: Global,
         packages: &'p [Package],
+        registries: &[SourceId],
         advisories: usize,
     ) -> Result<Coverage<'p>, AllocError>
         ensures { IfOk result (λ made.
-            coverage_data_of made ≡ spec.coverage_of packages.now advisories) }
+            coverage_data_of made ≡ spec.coverage_of registries.now packages.now advisories) }
     {
         let mut coverage = Coverage {
             compared: Vec::new(alloc),
@@ -49,7 +51,7 @@ impl<'p> Coverage<'p> {
             advisories,
         };
         for package in packages {
-            put_package(alloc, &mut coverage, package)?;
+            put_package(alloc, &mut coverage, registries, package)?;
         }
         Ok(coverage)
     }
@@ -59,15 +61,18 @@ impl<'p> Coverage<'p> {
 fn put_package<'p>(
     alloc: Global,
     coverage: &mut Coverage<'p>,
+    registries: &[SourceId],
     package: &'p Package,
 ) -> Result<(), AllocError>
     ensures compared { OnOk result (map package_by_place coverage.new.compared.items
-        ≡ map package_by_place coverage.old.compared.items ++ compared_if «package».now) }
+        ≡ map package_by_place coverage.old.compared.items
+        ++ compared_if registries.now «package».now) }
     ensures not_compared { OnOk result (map package_by_place coverage.new.not_compared.items
-        ≡ map package_by_place coverage.old.not_compared.items ++ not_compared_if «package».now) }
+        ≡ map package_by_place coverage.old.not_compared.items
+        ++ not_compared_if registries.now «package».now) }
     ensures advisories { OnOk result (coverage.new.advisories ≡ coverage.old.advisories) }
 {
-    if is_crates_io(alloc, &package.source)? {
+    if counts_as_crates_io(alloc, registries, &package.source)? {
         coverage.compared.push(package)?;
     } else {
         coverage.not_compared.push(package)?;

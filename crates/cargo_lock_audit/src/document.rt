@@ -1,18 +1,24 @@
 //! What is found of packages by advisories, as a document of JSON.
 
-ghost use Rattle.std.specs.Prelude.{◌≡◌, ◌∷◌, IfOk, codes, decimal, length, string_bytes};
+ghost use Rattle.std.specs.Prelude.{◌≡◌, ◌∷◌, IfOk, codes, decimal, length, option_map};
+ghost use Rattle.std.specs.Prelude.{string_bytes};
+ghost use Rattle.json.specs.Json.{object};
 ghost use Rattle.json.specs.Token.{key, number, string};
 ghost use Rattle.json.specs.Tree.{json_tokens};
 ghost use Rattle.cargo_lock_audit.specs.Coverage.{coverage_data_of};
-ghost use Rattle.cargo_lock_audit.specs.Document.{advisory_kind, requirements_json, texts_json};
+ghost use Rattle.cargo_lock_audit.specs.Document.{advisory_kind, affected_json, affected_or_null};
+ghost use Rattle.cargo_lock_audit.specs.Document.{details_tokens, functions_members};
+ghost use Rattle.cargo_lock_audit.specs.Document.{requirements_json, texts_json, truth_or_null};
 ghost use Rattle.cargo_lock_audit.specs.Document as spec;
 ghost use Rattle.cargo_lock_audit.specs.Report.{report_data_of};
 ghost use Rattle.cargo_lock_audit.specs.Texts.{bytes_of_texts};
 ghost use Rattle.cargo_lock_display.specs.PackageJson.{packages_json};
 ghost use Rattle.printing.specs.Json.{Adds, IsJsonText};
+ghost use Rattle.printing.specs.Value.{text_or_null};
 
 use crate::advisory::Advisory;
 use crate::coverage::Coverage;
+use crate::details::{Affected, Details, Function};
 use crate::finding::Finding;
 use crate::report::{Report, Unmet};
 use crate::requirement::Requirement;
@@ -93,6 +99,8 @@ impl ToJson for Finding<'_, '_> {
         put_advisory(out, advisory)?;
         put_aliases(out, advisory)?;
         put_unaffected(out, advisory)?;
+        put_details(out, advisory)?;
+        put_truth_or_null(out, "brought", self.brought)?;
         out.end_object()
     }
 }
@@ -123,8 +131,7 @@ fn put_aliases(out: &mut JsonWriter, advisory: &Advisory) -> Result<(), AllocErr
     ensures { Adds result out.old out.new
         (key (codes "aliases") ∷ json_tokens (texts_json advisory.now.aliases)) }
 {
-    out.key("aliases")?;
-    write_texts(out, &advisory.aliases)
+    put_texts(out, "aliases", &advisory.aliases)
 }
 
 // Writes the member with the versions that were never affected.
@@ -146,6 +153,115 @@ fn put_requirements(
 {
     out.key(name)?;
     write_array(out, requirements)
+}
+
+// Writes the members of what an advisory says besides.
+fn put_details(out: &mut JsonWriter, advisory: &Advisory) -> Result<(), AllocError>
+    ensures { Adds result out.old out.new (details_tokens advisory.now.details) }
+{
+    write_details(out, &advisory.details)
+}
+
+fn write_details(out: &mut JsonWriter, details: &Details) -> Result<(), AllocError>
+    ensures { Adds result out.old out.new (details_tokens details.now) }
+{
+    out.string_member("date", details.date.as_str())?;
+    put_text_or_null(out, "url", &details.url)?;
+    put_text_or_null(out, "cvss", &details.cvss)?;
+    put_texts(out, "references", &details.references)?;
+    put_texts(out, "categories", &details.categories)?;
+    put_texts(out, "keywords", &details.keywords)?;
+    put_affected(out, &details.affected)
+}
+
+// Writes the member with what is affected, or null.
+fn put_affected(out: &mut JsonWriter, affected: &Option<Affected>) -> Result<(), AllocError>
+    ensures { Adds result out.old out.new
+        (key (codes "affected") ∷ json_tokens (affected_or_null affected.now)) }
+{
+    match affected {
+        Some(affected) => {
+            out.key("affected")?;
+            write_affected(out, affected)
+        }
+        None => out.null_member("affected"),
+    }
+}
+
+fn write_affected(out: &mut JsonWriter, affected: &Affected) -> Result<(), AllocError>
+    ensures { Adds result out.old out.new (json_tokens (affected_json affected.now)) }
+{
+    out.begin_object()?;
+    put_functions(out, &affected.functions)?;
+    put_texts(out, "os", &affected.os)?;
+    put_texts(out, "arch", &affected.arch)?;
+    out.end_object()
+}
+
+// Writes the member with the functions that are affected.
+fn put_functions(out: &mut JsonWriter, functions: &[Function]) -> Result<(), AllocError>
+    ensures { Adds result out.old out.new
+        (key (codes "functions") ∷ json_tokens (object (functions_members functions.now))) }
+{
+    out.key("functions")?;
+    write_functions(out, functions)
+}
+
+fn write_functions(out: &mut JsonWriter, functions: &[Function]) -> Result<(), AllocError>
+    ensures { Adds result out.old out.new
+        (json_tokens (object (functions_members functions.now))) }
+{
+    out.begin_object()?;
+    for function in functions {
+        put_function(out, function)?;
+    }
+    out.end_object()
+}
+
+// Writes the member with the versions in which a function is affected.
+fn put_function(out: &mut JsonWriter, function: &Function) -> Result<(), AllocError>
+    ensures { Adds result out.old out.new
+        (key function.now.path ∷ json_tokens (texts_json function.now.versions)) }
+{
+    put_texts(out, function.path.as_str(), &function.versions)
+}
+
+// Writes a member whose value is a text, or null.
+fn put_text_or_null(
+    out: &mut JsonWriter,
+    name: &str,
+    text: &Option<String>,
+) -> Result<(), AllocError>
+    ensures { Adds result out.old out.new (key name.now
+        ∷ json_tokens (text_or_null (option_map string_bytes text.now))) }
+{
+    match text {
+        Some(text) => out.string_member(name, text.as_str()),
+        None => out.null_member(name),
+    }
+}
+
+// Writes a member whose value is true, false or null.
+fn put_truth_or_null(
+    out: &mut JsonWriter,
+    name: &str,
+    truth: Option<bool>,
+) -> Result<(), AllocError>
+    ensures { Adds result out.old out.new (key name.now ∷ json_tokens (truth_or_null truth)) }
+{
+    match truth {
+        Some(is_so) => out.boolean_member(name, is_so),
+        None => out.null_member(name),
+    }
+}
+
+// Writes a member whose value is a list of texts.
+fn put_texts(out: &mut JsonWriter, name: &str, texts: &[String]) -> Result<(), AllocError>
+    ensures { Adds result out.old out.new
+        (key name.now ∷ json_tokens (texts_json (bytes_of_texts texts.now))) }
+{
+    out.key(name)?;
+    write_texts(out, texts)
 }
 
 // Writes the array of texts.

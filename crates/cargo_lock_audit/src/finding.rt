@@ -14,8 +14,8 @@ use std::fmt;
 /// A package that an advisory concerns. `Display` writes a line without a newline:
 /// `! NAME VERSION: ID: TITLE; patched REQUIREMENT or REQUIREMENT`, or `; no patched version`, for
 /// a vulnerability, and `? NAME VERSION: ID: KIND: TITLE; patched REQUIREMENT` for an informational
-/// advisory, with `!` if its kind is denied. Texts of a stranger are shown as the crate `shown` does; in a title the
-/// backquote is kept.
+/// advisory, with `!` if its kind is denied. What an older lockfile has too begins with `=` instead.
+/// Texts of a stranger are shown as the crate `printing` does; in a title the backquote is kept.
 #[derive(Clone, Copy)]
 pub struct Finding<'p, 'a> {
     /// The package.
@@ -24,8 +24,13 @@ pub struct Finding<'p, 'a> {
     /// The advisory.
     pub advisory: &'a Advisory,
 
-    /// Whether the package is denied: the advisory is a vulnerability, or of a kind that is denied.
+    /// Whether the package is denied: the advisory is a vulnerability, or of a kind that is denied,
+    /// and no older lockfile has it too.
     pub is_denied: bool,
+
+    /// Whether it is brought since an older lockfile: the advisory concerns no package of that one.
+    /// `None` if there is no older lockfile.
+    pub brought: Option<bool>,
 }
 
 impl fmt::Display for Finding<'_, '_> {
@@ -36,18 +41,22 @@ impl fmt::Display for Finding<'_, '_> {
     ghost output = { λ finding. Some (advisory_finding_line (advisory_finding_of finding)) };
 
     fn fmt<W: fmt::Write>(&self, f: &mut fmt::Formatter<W>) -> fmt::Result {
-        let mark = mark_of(self.is_denied);
+        let mark = mark_of(self.brought, self.is_denied);
         let package = PackageText(self.package);
         let advisory = AdvisoryText(self.advisory);
         write!(f, "{mark} {package}: {advisory}")
     }
 }
 
-// `!` or `?`.
-fn mark_of(is_denied: bool) -> &'static str
-    ensures { result.now ≡ mark_text is_denied }
+// `=`, `!` or `?`.
+fn mark_of(brought: Option<bool>, is_denied: bool) -> &'static str
+    ensures { result.now ≡ mark_text brought is_denied }
 {
-    if is_denied { "!" } else { "?" }
+    match brought {
+        Some(false) => "=",
+        _ if is_denied => "!",
+        _ => "?",
+    }
 }
 
 // The id of an advisory, and what it says.

@@ -5,7 +5,7 @@ ghost use Rattle.cargo_lock_audit.specs.Pairs.{advisory_pair_of, advisory_pairs_
 ghost use Rattle.cargo_lock_audit.specs.Pairs as spec;
 
 use crate::advisory::Advisory;
-use cargo_lock_parts::package::Package;
+use cargo_lock_parts::package::{Package, SourceId};
 use std::alloc::{AllocError, Global};
 
 /// A package, and an advisory that concerns it.
@@ -19,22 +19,24 @@ pub struct Pair<'p, 'a> {
 }
 
 /// Each package with each advisory that concerns it, in the order of the packages and then of the
-/// advisories. Fails when out of memory.
+/// advisories. The packages of these registries count as those of crates.io. Fails when out of
+/// memory.
 ///
 /// ```
-/// let pairs = pairs(alloc, &lockfile.packages, &advisories)?;
+/// let pairs = pairs(alloc, &lockfile.packages, &advisories, registries)?;
 /// ```
 pub fn pairs<'p, 'a>(
     alloc: Global,
     packages: &'p [Package],
     advisories: &'a [Advisory],
+    registries: &[SourceId],
 ) -> Result<Vec<Pair<'p, 'a>>, AllocError>
     ensures { IfOk result (λ v. map advisory_pair_of v.items
-        ≡ spec.pairs packages.now advisories.now) }
+        ≡ spec.pairs registries.now packages.now advisories.now) }
 {
     let mut pairs = Vec::new(alloc);
     for package in packages {
-        put_pairs(alloc, &mut pairs, package, advisories)?;
+        put_pairs(alloc, &mut pairs, package, advisories, registries)?;
     }
     Ok(pairs)
 }
@@ -45,12 +47,14 @@ fn put_pairs<'p, 'a>(
     pairs: &mut Vec<Pair<'p, 'a>>,
     package: &'p Package,
     advisories: &'a [Advisory],
+    registries: &[SourceId],
 ) -> Result<(), AllocError>
     ensures { OnOk result (map advisory_pair_of pairs.new.items
-        ≡ map advisory_pair_of pairs.old.items ++ advisory_pairs_of advisories.now «package».now) }
+        ≡ map advisory_pair_of pairs.old.items
+        ++ advisory_pairs_of registries.now advisories.now «package».now) }
 {
     for advisory in advisories {
-        put_pair(alloc, pairs, package, advisory)?;
+        put_pair(alloc, pairs, package, advisory, registries)?;
     }
     Ok(())
 }
@@ -61,11 +65,13 @@ fn put_pair<'p, 'a>(
     pairs: &mut Vec<Pair<'p, 'a>>,
     package: &'p Package,
     advisory: &'a Advisory,
+    registries: &[SourceId],
 ) -> Result<(), AllocError>
     ensures { OnOk result (map advisory_pair_of pairs.new.items
-        ≡ map advisory_pair_of pairs.old.items ++ pair_if «package».now advisory.now) }
+        ≡ map advisory_pair_of pairs.old.items
+        ++ pair_if registries.now «package».now advisory.now) }
 {
-    if advisory.concerns(alloc, package)? {
+    if advisory.concerns(alloc, package, registries)? {
         pairs.push(Pair { package, advisory })?;
     }
     Ok(())

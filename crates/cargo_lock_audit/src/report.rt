@@ -1,24 +1,30 @@
 //! What an audit of packages by advisories reports.
 
-ghost use Rattle.std.specs.Prelude.{◌≡◌, ◌++◌, IfOk, OnOk, Some, map, option_map, string_bytes};
+ghost use Rattle.std.specs.Prelude.{◌≡◌, ◌++◌, IfOk, OnOk, Some, map, option_copied, option_map};
+ghost use Rattle.std.specs.Prelude.{string_bytes};
 ghost use Rattle.std.specs.Fmt.{DisplaysOnOk};
 ghost use Rattle.std.specs.List.{list_any};
 ghost use Rattle.cargo_lock_audit.specs.Advisory.{is_name_of};
-ghost use Rattle.cargo_lock_audit.specs.Findings.{advisory_finding_of, finding_if, findings_of};
-ghost use Rattle.cargo_lock_audit.specs.Findings.{id_of, is_denied_kind, is_ignored, is_pair_with};
-ghost use Rattle.cargo_lock_audit.specs.Findings.{unmet, unmet_if};
+ghost use Rattle.cargo_lock_audit.specs.Audited.{audited_of};
+ghost use Rattle.cargo_lock_audit.specs.Findings.{advisory_finding_of, brought_of, counts_still};
+ghost use Rattle.cargo_lock_audit.specs.Findings.{finding_if, findings_of, id_of, is_brought};
+ghost use Rattle.cargo_lock_audit.specs.Findings.{is_denied_kind, is_ignored, is_pair_with, unmet};
+ghost use Rattle.cargo_lock_audit.specs.Findings.{unmet_if};
 ghost use Rattle.cargo_lock_audit.specs.Lines.{advisory_findings_text, unmet_text};
 ghost use Rattle.cargo_lock_audit.specs.Pairs.{advisory_pair_of};
 ghost use Rattle.cargo_lock_audit.specs.Report.{report_data_of, report_of};
+ghost use Rattle.cargo_lock_audit.specs.Settings.{settings_of};
 ghost use Rattle.cargo_lock_audit.specs.Texts.{bytes_of_texts};
 
 use crate::advisory::Advisory;
+use crate::audited::Audited;
 use crate::coverage::Coverage;
 use crate::database::Database;
 use crate::finding::Finding;
 use crate::pair::{Pair, pairs};
+use crate::settings::Settings;
 use crate::texts::is_listed;
-use cargo_lock_parts::package::Package;
+use cargo_lock_parts::package::{Package, SourceId};
 use printing::Shown;
 use std::alloc::{AllocError, Global};
 use std::fmt;
@@ -62,28 +68,28 @@ impl fmt::Display for Unmet<'_> {
 }
 
 impl<'p, 'a, 'i> Report<'p, 'a, 'i> {
-    /// What is reported of these packages: each advisory that concerns one, but for those whose id or
-    /// alias is ignored. `denied` are the kinds of informational advisories that count as much as a
-    /// vulnerability; `warnings` names all kinds. Fails when out of memory.
+    /// What is reported of the packages: each advisory that concerns one, but for those whose id or
+    /// alias is ignored. If there is an older lockfile, a finding is brought if its advisory concerns
+    /// no package of that one, and the others are not denied. Fails when out of memory.
     ///
     /// ```
-    /// let report = Report::of(alloc, &lockfile.packages, &database, &ignored, &denied)?;
+    /// let report = Report::of(alloc, &audited, &database, &settings)?;
     /// ```
     pub fn of(
         alloc: Global,
-        packages: &'p [Package],
+        audited: &Audited<'p>,
         database: &'a Database,
-        ignored: &'i [String],
-        denied: &[String],
+        settings: &'i Settings,
     ) -> Result<Report<'p, 'a, 'i>, AllocError>
-        ensures { IfOk result (λ report. report_data_of report ≡ report_of packages.now
-            database.now.advisories.items database.now.size (bytes_of_texts ignored.now)
-            (bytes_of_texts denied.now)) }
+        ensures { IfOk result (λ report. report_data_of report ≡ report_of
+            (settings_of settings.now) (audited_of audited.now) database.now.advisories.items
+            database.now.size) }
     {
-        let pairs = pairs(alloc, packages, &database.advisories)?;
-        let unmet = unmet_of(alloc, &pairs, ignored)?;
-        let findings = findings_of(alloc, &pairs, ignored, denied)?;
-        let coverage = Coverage::of(alloc, packages, database.size)?;
+        let Audited { packages, older } = *audited;
+        let pairs = pairs(alloc, packages, &database.advisories, &settings.registries)?;
+        let unmet = unmet_of(alloc, &pairs, &settings.ignored)?;
+        let findings = findings_of(alloc, &pairs, settings, older)?;
+        let coverage = Coverage::of(alloc, packages, &settings.registries, database.size)?;
         Ok(Report {
             findings,
             unmet,
@@ -99,45 +105,94 @@ impl<'p, 'a, 'i> Report<'p, 'a, 'i> {
     }
 }
 
-// What is found of pairs.
+// What is found of pairs, since an older lockfile if there is one.
 fn findings_of<'p, 'a>(
     alloc: Global,
     pairs: &[Pair<'p, 'a>],
-    ignored: &[String],
-    denied: &[String],
+    settings: &Settings,
+    older: Option<&[Package]>,
 ) -> Result<Vec<Finding<'p, 'a>>, AllocError>
     ensures { IfOk result (λ v. map advisory_finding_of v.items
-        ≡ findings_of (bytes_of_texts ignored.now) (bytes_of_texts denied.now)
+        ≡ findings_of (settings_of settings.now) (option_copied older.entry)
         (map advisory_pair_of pairs.now)) }
 {
     let mut found = Vec::new(alloc);
     for pair in pairs {
-        put_finding(&mut found, *pair, ignored, denied)?;
+        put_finding(alloc, &mut found, *pair, settings, older)?;
     }
     Ok(found)
 }
 
 // Adds the finding of a pair, unless its advisory is ignored.
 fn put_finding<'p, 'a>(
+    alloc: Global,
     found: &mut Vec<Finding<'p, 'a>>,
     pair: Pair<'p, 'a>,
-    ignored: &[String],
-    denied: &[String],
+    settings: &Settings,
+    older: Option<&[Package]>,
 ) -> Result<(), AllocError>
     ensures { OnOk result (map advisory_finding_of found.new.items
-        ≡ map advisory_finding_of found.old.items ++ finding_if (bytes_of_texts ignored.now)
-        (bytes_of_texts denied.now) (advisory_pair_of pair.entry)) }
+        ≡ map advisory_finding_of found.old.items
+        ++ finding_if (settings_of settings.now) (option_copied older.entry)
+        (advisory_pair_of pair.entry)) }
 {
     let Pair { package, advisory } = pair;
-    if !is_ignored(ignored, advisory) {
-        let is_denied = is_denied_kind(denied, &advisory.informational);
+    if !is_ignored(&settings.ignored, advisory) {
+        let brought = brought_of(alloc, &settings.registries, older, advisory)?;
+        let is_denied = is_denied_kind(&settings.denied, &advisory.informational)
+            && counts_still(brought);
         found.push(Finding {
             package,
             advisory,
             is_denied,
+            brought,
         })?;
     }
     Ok(())
+}
+
+// Whether what is found by an advisory is brought, if there is an older lockfile.
+fn brought_of(
+    alloc: Global,
+    registries: &[SourceId],
+    older: Option<&[Package]>,
+    advisory: &Advisory,
+) -> Result<Option<bool>, AllocError>
+    ensures { IfOk result (λ brought. brought
+        ≡ brought_of registries.now (option_copied older.entry) advisory.now) }
+{
+    match older {
+        Some(packages) => Ok(Some(is_brought(alloc, registries, packages, advisory)?)),
+        None => Ok(None),
+    }
+}
+
+// Whether the advisory concerns none of the packages.
+fn is_brought(
+    alloc: Global,
+    registries: &[SourceId],
+    packages: &[Package],
+    advisory: &Advisory,
+) -> Result<bool, AllocError>
+    ensures { IfOk result
+        (λ is_so. is_so ≡ is_brought registries.now packages.now advisory.now) }
+{
+    for package in packages {
+        if advisory.concerns(alloc, package, registries)? {
+            return Ok(false);
+        }
+    }
+    Ok(true)
+}
+
+// Whether what is found counts, though there may be an older lockfile.
+fn counts_still(brought: Option<bool>) -> bool
+    ensures { result ≡ counts_still brought }
+{
+    match brought {
+        Some(brought) => brought,
+        None => true,
+    }
 }
 
 // Whether an advisory of this kind is denied.

@@ -1,6 +1,6 @@
 -- How deep a bill nests: a document, a list of components, a component, its hashes, a hash.
-use Rattle.std.proofs.Common.{◌≡◌, ℕ, ◌≤◌, suc, max, Bool, true, false, IfSome, List, [], ◌∷◌, ◌++◌, map, length, slice_get, codes, Option, Some, None, option_map, arith, lit≤}
-use Rattle.std.specs.List.{AllZip, range_with_len}
+use Rattle.std.proofs.Common.{◌≡◌, ℕ, ◌≤◌, suc, max, Bool, true, false, IfSome, List, [], ◌∷◌, ◌++◌, map, slice_get, codes, Option, Some, None, option_map, arith, lit≤}
+use Rattle.std.specs.List.{AllZip}
 use Rattle.std.proofs.Math.Nat.{max-le}
 use Rattle.std.specs.Cmp.Lexicographic.{slice_cmp}
 use Rattle.std.specs.declared.cmp.Ordering.{Ordering}
@@ -19,8 +19,8 @@ use Rattle.cargo_lock_bom.specs.Component.{AreComponents, base_members, componen
 use Rattle.cargo_lock_bom.specs.Dependencies.{AreBillEntries, AreOwnEntries, IsNodeEntry, entry_with, node_reference}
 use Rattle.cargo_lock_bom.specs.Document.{IsAbout, IsBill, bill_document}
 use Rattle.cargo_lock_bom.specs.Iri.{iri_text}
-use Rattle.cargo_lock_bom.specs.Metadata.{IsBillMetadata, author_of, authors_if, bill_metadata, own_members}
-use Rattle.cargo_lock_bom.specs.Options.{OptionsData}
+use Rattle.cargo_lock_bom.specs.Metadata.{IsBillMetadata, author_of, authors_if, bill_metadata, own_members, properties_if, property_object}
+use Rattle.cargo_lock_bom.specs.Options.{Expression, LicenseData, Named, OptionsData}
 use Rattle.cargo_lock_bom.specs.Purl.{purl_of}
 use Rattle.cargo_lock_bom.specs.References.{workspace_reference}
 use Rattle.cargo_lock_bom.specs.Root.{is_application}
@@ -87,11 +87,11 @@ map_low f (Some x) n low = low x
 
 -- ---- components
 
-repository_low : (url : List ℕ) (precise : Option (List ℕ)) → depth (repositories_of url precise) ≤ 2
+repository_low : (url : List ℕ) (precise : Option (List ℕ)) → depth (repositories_of url precise) ≤ 3
 repository_low url None = lit≤ tt
 repository_low url (Some text) = lit≤ tt
 
-kind_low : (kind : Kind) (url : List ℕ) (precise : Option (List ℕ)) → IfLow (repositories_by kind url precise) 2
+kind_low : (kind : Kind) (url : List ℕ) (precise : Option (List ℕ)) → IfLow (repositories_by kind url precise) 3
 kind_low (Git reference) url precise = repository_low url precise
 kind_low Path url precise = tt
 kind_low Registry url precise = tt
@@ -99,33 +99,37 @@ kind_low SparseRegistry url precise = tt
 kind_low LocalRegistry url precise = tt
 kind_low Directory url precise = tt
 
-repositories_low : (source : Option Source) → IfLow (repositories_if source) 2
+repositories_low : (source : Option Source) → IfLow (repositories_if source) 3
 repositories_low None = tt
 repositories_low (Some s) = kind_low s.kind (iri_text (without_user_info s.url)) s.precise
 
-base_low : (application : Bool) (p : PackageData) → members_depth (base_members application p) ≤ 2
+base_low : (application : Bool) (p : PackageData) → members_depth (base_members application p) ≤ 3
 base_low application p = lit≤ tt
 
-component_low : (application : Bool) (license : Option (List ℕ)) (p : PackageData) → depth (component_of application license p) ≤ 3
+license_low : (license : LicenseData) → depth (licenses_of license) ≤ 3
+license_low (Expression text) = lit≤ tt
+license_low (Named text) = lit≤ tt
+
+component_low : (application : Bool) (license : Option LicenseData) (p : PackageData) → depth (component_of application license p) ≤ 4
 unfolding component_of
 component_low application license p =
-    suc_low _ 2
-    (put_some_low (codes "externalReferences") (repositories_if p.source) _ 2 (repositories_low p.source)
-    (put_some_low (codes "hashes") (option_map hashes_of p.checksum) _ 2 (map_low hashes_of p.checksum 2 (λ d. lit≤ tt))
-    (put_some_low (codes "licenses") (option_map licenses_of license) _ 2 (map_low licenses_of license 2 (λ t. lit≤ tt))
-    (put_some_low (codes "purl") (option_map string (purl_of (identity_of p))) _ 2 (map_low string (purl_of (identity_of p)) 2 (λ t. lit≤ tt))
+    suc_low _ 3
+    (put_some_low (codes "externalReferences") (repositories_if p.source) _ 3 (repositories_low p.source)
+    (put_some_low (codes "hashes") (option_map hashes_of p.checksum) _ 3 (map_low hashes_of p.checksum 3 (λ d. lit≤ tt))
+    (put_some_low (codes "licenses") (option_map licenses_of license) _ 3 (map_low licenses_of license 3 license_low)
+    (put_some_low (codes "purl") (option_map string (purl_of (identity_of p))) _ 3 (map_low string (purl_of (identity_of p)) 3 (λ t. lit≤ tt))
     (base_low application p)))))
 
-if_low : (application : Bool) (license : Option (List ℕ)) (o : Option PackageData) → depth (component_if application license o) ≤ 3
+if_low : (application : Bool) (license : Option LicenseData) (o : Option PackageData) → depth (component_if application license o) ≤ 4
 if_low application license None = omega arith
 if_low application license (Some p) = component_low application license p
 
-component_at_low : (graph : GraphData) (licenses : List (Option (List ℕ))) (node : ℕ) → depth (component_at graph licenses node) ≤ 3
+component_at_low : (graph : GraphData) (licenses : List (Option LicenseData)) (node : ℕ) → depth (component_at graph licenses node) ≤ 4
 component_at_low graph licenses node = if_low (is_application graph node) (license_at licenses node) (slice_get graph.packages node)
 
-components_low : (graph : GraphData) (licenses : List (Option (List ℕ))) (root : Root) (components : List Data) → AreComponents graph licenses root components → items_depth (items_of components) ≤ 3
-components_low graph licenses root components are =
-    rw are.are (items_depth-map (component_at graph licenses) 3 (component_at_low graph licenses) are.nodes)
+components_low : (graph : GraphData) (options : OptionsData) (root : Root) (components : List Data) → AreComponents graph options root components → items_depth (items_of components) ≤ 4
+components_low graph options root components are =
+    rw are.are (items_depth-map (component_at graph options.licenses) 4 (component_at_low graph options.licenses) are.nodes)
 
 with_low : (packages : List PackageData) (own : List ℕ) (targets : List ℕ) → depth (entry_with packages own targets) ≤ 2
 unfolding entry_with
@@ -148,38 +152,44 @@ items_depth-append : (n : ℕ) (xs ys : List Data) → items_depth (items_of xs)
 items_depth-append n [] ys a b = b
 items_depth-append n (x ∷ xs) ys a b = max-le (first_low (depth x) (items_depth (items_of xs)) n a) (items_depth-append n xs ys (later_low (depth x) (items_depth (items_of xs)) n a) b)
 
-entries_low : (graph : GraphData) (root : Root) (entries : List Data) → AreBillEntries graph root entries → items_depth (items_of entries) ≤ 2
-entries_low graph root entries are =
+entries_low : (graph : GraphData) (options : OptionsData) (root : Root) (entries : List Data) → AreBillEntries graph options root entries → items_depth (items_of entries) ≤ 2
+entries_low graph options root entries bill =
+    let are = bill.are_entries in
     rw are.are (items_depth-append 2 are.of_nodes are.own
-    (items_depth-zip (IsNodeEntry graph) 2 (entry_low graph) (range_with_len 0 (length graph.packages)) are.of_nodes are.are_of_nodes)
+    (items_depth-zip (IsNodeEntry graph) 2 (entry_low graph) bill.nodes are.of_nodes are.are_of_nodes)
     (own_low graph.packages root are.own are.are_own))
 
 -- ---- the metadata
 
-root_low : (graph : GraphData) (licenses : List (Option (List ℕ))) (root : Root) → IfLow (root_component graph licenses root) 3
+root_low : (graph : GraphData) (licenses : List (Option LicenseData)) (root : Root) → IfLow (root_component graph licenses root) 4
 root_low graph licenses (Package node) = component_at_low graph licenses node
 root_low graph licenses Workspace = lit≤ tt
 root_low graph licenses Nothing = tt
 
-authors_low : (names : List (List ℕ)) → IfLow (authors_if names) 3
+authors_low : (names : List (List ℕ)) → IfLow (authors_if names) 4
 authors_low [] = tt
-authors_low (name ∷ names) = suc_low _ 2 (items_depth-map author_of 2 (λ n. lit≤ tt) (name ∷ names))
+authors_low (name ∷ names) = suc_low _ 3 (items_depth-map author_of 3 (λ n. lit≤ tt) (name ∷ names))
 
-metadata_low : (graph : GraphData) (root : Root) (options : OptionsData) (d : Data) → IsBillMetadata graph root options d → depth d ≤ 4
+properties_low : (properties : List (List ℕ × List ℕ)) → IfLow (properties_if properties) 4
+properties_low [] = tt
+properties_low (p ∷ ps) = suc_low _ 3 (items_depth-map property_object 3 (λ q. lit≤ tt) (p ∷ ps))
+
+metadata_low : (graph : GraphData) (root : Root) (options : OptionsData) (d : Data) → IsBillMetadata graph root options d → depth d ≤ 5
 unfolding bill_metadata
 metadata_low graph root options d is =
-    rw is.is (suc_low _ 3
-    (put_some_low (codes "timestamp") (option_map string is.time) _ 3 (map_low string is.time 3 (λ t. lit≤ tt))
-    (put_some_low (codes "component") (root_component graph options.licenses root) _ 3 (root_low graph options.licenses root)
-    (put_some_low (codes "authors") (authors_if options.authors) _ 3 (authors_low options.authors)
-    (let own : members_depth (own_members options.tool_version) ≤ 3 = lit≤ tt in own)))))
+    rw is.is (suc_low _ 4
+    (put_some_low (codes "timestamp") (option_map string is.time) _ 4 (map_low string is.time 4 (λ t. lit≤ tt))
+    (put_some_low (codes "properties") (properties_if options.properties) _ 4 (properties_low options.properties)
+    (put_some_low (codes "component") (root_component graph options.licenses root) _ 4 (root_low graph options.licenses root)
+    (put_some_low (codes "authors") (authors_if options.authors) _ 4 (authors_low options.authors)
+    (let own : members_depth (own_members options.tool_version) ≤ 4 = lit≤ tt in own))))))
 
 -- a bill nests less deep than a reader of JSON follows
 about_low : (graph : GraphData) (root : Root) (options : OptionsData) (d : Data) → IsAbout graph root options d → depth d ≤ 126
 unfolding bill_document
 about_low graph root options d about =
-    let components = components_low graph options.licenses root about.components about.are_components in
-    let entries = entries_low graph root about.entries about.are_entries in
+    let components = components_low graph options root about.components about.are_components in
+    let entries = entries_low graph options root about.entries about.are_entries in
     let metadata = metadata_low graph root options about.metadata about.is_metadata in
     let components_list : suc (items_depth (items_of about.components)) ≤ 125 = omega (arith, components) in
     let entries_list : suc (items_depth (items_of about.entries)) ≤ 125 = omega (arith, entries) in

@@ -13,3 +13,4 @@ pub mod Ats
 pub mod Ways
 pub mod ReachedNodes
 pub mod Tops
+pub mod Closed

@@ -9,11 +9,12 @@ use Rattle.serde_json.specs.Data.{Data, Members, array, member, no_members, obje
 use Rattle.serde_json.specs.View.{items_of}
 use Rattle.serde_json.specs.Written.{members_outline}
 use Rattle.cargo_lock_parts.specs.Identity.{PackageData, identity_of}
+use Rattle.cargo_lock_bom.specs.Options.{LicenseData}
 use Rattle.cargo_lock_bom.specs.Component.{component_of, hashes_of, licenses_of, put_some, repositories_if, repositories_of, type_text}
 use Rattle.cargo_lock_bom.specs.Contents.{with_serial_if}
 use Rattle.cargo_lock_bom.specs.Document.{bill_document}
 use Rattle.cargo_lock_bom.specs.Tokens.{data_tokens, member_tokens}
-use Rattle.cargo_lock_bom.specs.Metadata.{authors_if, bill_metadata, lifecycles, own_members, tools_of}
+use Rattle.cargo_lock_bom.specs.Metadata.{authors_if, bill_metadata, lifecycles, own_members, properties_if, tools_of}
 use Rattle.cargo_lock_bom.specs.Purl.{purl_of}
 use Rattle.cargo_lock_bom.specs.References.{package_reference}
 
@@ -57,20 +58,28 @@ component-members reference name type version (Some r) (Some h) (Some l) None = 
 component-members reference name type version (Some r) (Some h) (Some l) (Some u) = refl
 
 -- the members of the metadata
-pub metadata-members : (version : List ℕ) (a c t : Option Data)
-    → put_some (codes "timestamp") t (put_some (codes "component") c
-    (put_some (codes "authors") a (own_members version)))
+pub metadata-members : (version : List ℕ) (a p c t : Option Data)
+    → put_some (codes "timestamp") t (put_some (codes "properties") p (put_some (codes "component") c
+    (put_some (codes "authors") a (own_members version))))
     ≡ with_some (codes "authors") a (with_some (codes "component") c
-    (member (codes "lifecycles") lifecycles (with_some (codes "timestamp") t
-    (member (codes "tools") (tools_of version) no_members))))
-metadata-members version None None None = refl
-metadata-members version None None (Some t) = refl
-metadata-members version None (Some c) None = refl
-metadata-members version None (Some c) (Some t) = refl
-metadata-members version (Some a) None None = refl
-metadata-members version (Some a) None (Some t) = refl
-metadata-members version (Some a) (Some c) None = refl
-metadata-members version (Some a) (Some c) (Some t) = refl
+    (member (codes "lifecycles") lifecycles (with_some (codes "properties") p (with_some (codes "timestamp") t
+    (member (codes "tools") (tools_of version) no_members)))))
+metadata-members version None None None None = refl
+metadata-members version None None None (Some t) = refl
+metadata-members version None None (Some c) None = refl
+metadata-members version None None (Some c) (Some t) = refl
+metadata-members version None (Some p) None None = refl
+metadata-members version None (Some p) None (Some t) = refl
+metadata-members version None (Some p) (Some c) None = refl
+metadata-members version None (Some p) (Some c) (Some t) = refl
+metadata-members version (Some a) None None None = refl
+metadata-members version (Some a) None None (Some t) = refl
+metadata-members version (Some a) None (Some c) None = refl
+metadata-members version (Some a) None (Some c) (Some t) = refl
+metadata-members version (Some a) (Some p) None None = refl
+metadata-members version (Some a) (Some p) None (Some t) = refl
+metadata-members version (Some a) (Some p) (Some c) None = refl
+metadata-members version (Some a) (Some p) (Some c) (Some t) = refl
 
 -- ---- their tokens
 
@@ -83,7 +92,7 @@ pub repository-tokens : (url : List ℕ) (precise : Option (List ℕ))
 repository-tokens url None = refl
 repository-tokens url (Some text) = refl
 
-pub component-tokens : (application : Bool) (license : Option (List ℕ)) (p : PackageData)
+pub component-tokens : (application : Bool) (license : Option LicenseData) (p : PackageData)
     → data_tokens (component_of application license p)
     ≡ token.begin_object ∷ token.key (codes "bom-ref") ∷ token.string (package_reference p)
     ∷ (member_tokens (codes "externalReferences") (repositories_if p.source)
@@ -109,24 +118,28 @@ component-tokens application license p =
     ∙ ap (λ ts. member_tokens (codes "licenses") l ++ token.key (codes "name") ∷ token.string p.name ∷ ts)
     (some-tokens (codes "purl") u _))))
 
-pub metadata-tokens : (version : List ℕ) (authors : List (List ℕ)) (component : Option Data) (time : Option (List ℕ))
-    → data_tokens (bill_metadata version authors component time)
+pub metadata-tokens : (version : List ℕ) (authors : List (List ℕ)) (properties : List (List ℕ × List ℕ)) (component : Option Data) (time : Option (List ℕ))
+    → data_tokens (bill_metadata version authors properties component time)
     ≡ token.begin_object ∷ (member_tokens (codes "authors") (authors_if authors)
     ++ (member_tokens (codes "component") component
     ++ token.key (codes "lifecycles") ∷ (data_tokens lifecycles
+    ++ (member_tokens (codes "properties") (properties_if properties)
     ++ (member_tokens (codes "timestamp") (option_map string time)
-    ++ token.key (codes "tools") ∷ (data_tokens (tools_of version) ++ token.end_object ∷ [])))))
+    ++ token.key (codes "tools") ∷ (data_tokens (tools_of version) ++ token.end_object ∷ []))))))
 unfolding bill_metadata
-metadata-tokens version authors component time =
+metadata-tokens version authors properties component time =
     let a = authors_if authors in
+    let p = properties_if properties in
     let t = option_map string time in
-    ap (λ ms. data_tokens (object ms)) (metadata-members version a component t)
+    ap (λ ms. data_tokens (object ms)) (metadata-members version a p component t)
     ∙ ap (λ ts. token.begin_object ∷ ts)
     (some-tokens (codes "authors") a _
     ∙ ap (λ ts. member_tokens (codes "authors") a ++ ts)
     (some-tokens (codes "component") component _
     ∙ ap (λ ts. member_tokens (codes "component") component ++ token.key (codes "lifecycles") ∷ (data_tokens lifecycles ++ ts))
-    (some-tokens (codes "timestamp") t _)))
+    (some-tokens (codes "properties") p _
+    ∙ ap (λ ts. member_tokens (codes "properties") p ++ ts)
+    (some-tokens (codes "timestamp") t _))))
 
 pub bill-tokens : (serial : Option (List ℕ)) (components entries : List Data) (metadata : Data)
     → data_tokens (with_serial_if serial (bill_document components entries metadata))

@@ -1,9 +1,9 @@
 -- A bill has its members in the order of their keys.
-use Rattle.std.proofs.Common.{◌≡◌, ◌∙◌, ℕ, arith, Bool, true, false, IfSome, List, [], ◌∷◌, ◌++◌, map, length, slice_get, codes, Option, Some, None, option_map, ap, refl, sym, subst}
+use Rattle.std.proofs.Common.{◌≡◌, ◌∙◌, ℕ, arith, Bool, true, false, IfSome, List, [], ◌∷◌, ◌++◌, map, slice_get, codes, Option, Some, None, option_map, ap, refl, sym, subst}
 use Rattle.std.specs.Cmp.Lexicographic.{slice_cmp}
 use Rattle.std.specs.Ordering.{nat_cmp}
 use Rattle.std.specs.declared.cmp.Ordering.TheVariants.{Greater}
-use Rattle.std.specs.List.{AllZip, range_with_len}
+use Rattle.std.specs.List.{AllZip}
 use Rattle.serde_json.specs.Data.{Data, Members, member, no_members, string}
 use Rattle.serde_json.specs.View.{items_of}
 use Rattle.serde_json.specs.Written.{compact_text}
@@ -17,8 +17,8 @@ use Rattle.cargo_lock_bom.specs.Component.{AreComponents, component_at, componen
 use Rattle.cargo_lock_bom.specs.Dependencies.{AreBillEntries, AreOwnEntries, IsNodeEntry, entry_with, node_reference}
 use Rattle.cargo_lock_bom.specs.Document.{IsBill, bill_document}
 use Rattle.cargo_lock_bom.specs.Iri.{iri_text}
-use Rattle.cargo_lock_bom.specs.Metadata.{IsBillMetadata, author_of, authors_if, bill_metadata, own_members}
-use Rattle.cargo_lock_bom.specs.Options.{OptionsData}
+use Rattle.cargo_lock_bom.specs.Metadata.{IsBillMetadata, author_of, authors_if, bill_metadata, own_members, properties_if, property_object}
+use Rattle.cargo_lock_bom.specs.Options.{Expression, LicenseData, Named, OptionsData}
 use Rattle.cargo_lock_bom.specs.Purl.{purl_of}
 use Rattle.cargo_lock_bom.specs.References.{workspace_reference}
 use Rattle.cargo_lock_bom.specs.Root.{is_application}
@@ -106,24 +106,28 @@ component_order-members reference name type version r h l u a b c d =
           ))),
     )
 
-component_order : (application : Bool) (license : Option (List ℕ)) (p : PackageData) → InOrder (component_of application license p)
+license_order : (license : LicenseData) → InOrder (licenses_of license)
+license_order (Expression text) = (((refl, tt), tt, (tt, tt, tt)), tt)
+license_order (Named text) = ((tt, ((refl, tt), tt, (tt, tt, tt)), tt), tt)
+
+component_order : (application : Bool) (license : Option LicenseData) (p : PackageData) → InOrder (component_of application license p)
 unfolding component_of
 component_order application license p =
     component_order-members _ _ _ _ (repositories_if p.source) (option_map hashes_of p.checksum) (option_map licenses_of license) (option_map string (purl_of (identity_of p)))
     (repositories_order p.source) (map-order hashes_of p.checksum (λ d. (((refl, tt), tt, (tt, tt, tt)), tt)))
-    (map-order licenses_of license (λ t. ((tt, tt, tt), tt))) (map-order string (purl_of (identity_of p)) (λ t. tt))
+    (map-order licenses_of license license_order) (map-order string (purl_of (identity_of p)) (λ t. tt))
 
-if_order : (application : Bool) (license : Option (List ℕ)) (o : Option PackageData) → InOrder (component_if application license o)
+if_order : (application : Bool) (license : Option LicenseData) (o : Option PackageData) → InOrder (component_if application license o)
 if_order application license None = tt
 if_order application license (Some p) = component_order application license p
 
-component_at_order : (graph : GraphData) (licenses : List (Option (List ℕ))) (node : ℕ) → InOrder (component_at graph licenses node)
+component_at_order : (graph : GraphData) (licenses : List (Option LicenseData)) (node : ℕ) → InOrder (component_at graph licenses node)
 component_at_order graph licenses node = if_order (is_application graph node) (license_at licenses node) (slice_get graph.packages node)
 
-components_order : (graph : GraphData) (licenses : List (Option (List ℕ))) (root : Root) (components : List Data)
-    → AreComponents graph licenses root components → ItemsInOrder (items_of components)
-components_order graph licenses root components are =
-    subst (λ (ds : List Data). ItemsInOrder (items_of ds)) (sym are.are) (items-map (component_at graph licenses) (component_at_order graph licenses) are.nodes)
+components_order : (graph : GraphData) (options : OptionsData) (root : Root) (components : List Data)
+    → AreComponents graph options root components → ItemsInOrder (items_of components)
+components_order graph options root components are =
+    subst (λ (ds : List Data). ItemsInOrder (items_of ds)) (sym are.are) (items-map (component_at graph options.licenses) (component_at_order graph options.licenses) are.nodes)
 
 -- ---- entries
 
@@ -141,43 +145,49 @@ own_order packages Workspace own are =
     subst (λ (ds : List Data). ItemsInOrder (items_of ds)) (sym are.2) (order, tt)
 own_order packages Nothing own are = subst (λ (ds : List Data). ItemsInOrder (items_of ds)) (sym are) tt
 
-entries_order : (graph : GraphData) (root : Root) (entries : List Data) → AreBillEntries graph root entries → ItemsInOrder (items_of entries)
-entries_order graph root entries are =
+entries_order : (graph : GraphData) (options : OptionsData) (root : Root) (entries : List Data) → AreBillEntries graph options root entries → ItemsInOrder (items_of entries)
+entries_order graph options root entries bill =
+    let are = bill.are_entries in
     subst (λ (ds : List Data). ItemsInOrder (items_of ds)) (sym are.are) (items-append are.of_nodes are.own
-    (items-zip (IsNodeEntry graph) (entry_order graph) (range_with_len 0 (length graph.packages)) are.of_nodes are.are_of_nodes)
+    (items-zip (IsNodeEntry graph) (entry_order graph) bill.nodes are.of_nodes are.are_of_nodes)
     (own_order graph.packages root are.own are.are_own))
 
 -- ---- the metadata
 
-root_order : (graph : GraphData) (licenses : List (Option (List ℕ))) (root : Root) → IfOrder (root_component graph licenses root)
+root_order : (graph : GraphData) (licenses : List (Option LicenseData)) (root : Root) → IfOrder (root_component graph licenses root)
 root_order graph licenses (Package node) = component_at_order graph licenses node
 root_order graph licenses Workspace = ((refl, (refl, tt)), tt, ((refl, tt), tt, (tt, tt, tt)))
 root_order graph licenses Nothing = tt
 
-metadata_order-members : (version : List ℕ) (a c t : Option Data) → IfOrder a → IfOrder c → IfOrder t
-    → MembersInOrder (put_some (codes "timestamp") t (put_some (codes "component") c (put_some (codes "authors") a (own_members version))))
-metadata_order-members version a c t x y z =
-    subst MembersInOrder (sym (metadata-members version a c t))
+metadata_order-members : (version : List ℕ) (a p c t : Option Data) → IfOrder a → IfOrder p → IfOrder c → IfOrder t
+    → MembersInOrder (put_some (codes "timestamp") t (put_some (codes "properties") p (put_some (codes "component") c (put_some (codes "authors") a (own_members version)))))
+metadata_order-members version a p c t x v y z =
+    subst MembersInOrder (sym (metadata-members version a p c t))
     (order-some (codes "authors") a _ x
     (before-some (codes "authors") (codes "component") c _ refl
-    (refl, before-some (codes "authors") (codes "timestamp") t _ refl (refl, tt)))
+    (refl, before-some (codes "authors") (codes "properties") p _ refl (before-some (codes "authors") (codes "timestamp") t _ refl (refl, tt))))
     (order-some (codes "component") c _ y
-    (refl, before-some (codes "component") (codes "timestamp") t _ refl (refl, tt)) (
-      before-some (codes "lifecycles") (codes "timestamp") t _ refl (refl, tt),
+    (refl, before-some (codes "component") (codes "properties") p _ refl (before-some (codes "component") (codes "timestamp") t _ refl (refl, tt))) (
+      before-some (codes "lifecycles") (codes "properties") p _ refl (before-some (codes "lifecycles") (codes "timestamp") t _ refl (refl, tt)),
       ((tt, tt, tt), tt),
-      order-some (codes "timestamp") t _ z (refl, tt) (tt, (tt, (((refl, (refl, tt)), tt, ((refl, tt), tt, (tt, tt, tt))), tt), tt), tt),
+      order-some (codes "properties") p _ v (before-some (codes "properties") (codes "timestamp") t _ refl (refl, tt))
+          (order-some (codes "timestamp") t _ z (refl, tt) (tt, (tt, (((refl, (refl, tt)), tt, ((refl, tt), tt, (tt, tt, tt))), tt), tt), tt)),
     )))
 
 authors_order : (names : List (List ℕ)) → IfOrder (authors_if names)
 authors_order [] = tt
 authors_order (name ∷ names) = items-map author_of (λ n. (tt, tt, tt)) (name ∷ names)
 
+properties_order : (properties : List (List ℕ × List ℕ)) → IfOrder (properties_if properties)
+properties_order [] = tt
+properties_order (p ∷ ps) = items-map property_object (λ q. ((refl, tt), tt, (tt, tt, tt))) (p ∷ ps)
+
 metadata_order : (graph : GraphData) (root : Root) (options : OptionsData) (d : Data) → IsBillMetadata graph root options d → InOrder d
 unfolding bill_metadata
 metadata_order graph root options d is =
     subst InOrder (sym is.is)
-    (metadata_order-members options.tool_version (authors_if options.authors) (root_component graph options.licenses root) (option_map string is.time)
-    (authors_order options.authors) (root_order graph options.licenses root) (map-order string is.time (λ t. tt)))
+    (metadata_order-members options.tool_version (authors_if options.authors) (properties_if options.properties) (root_component graph options.licenses root) (option_map string is.time)
+    (authors_order options.authors) (properties_order options.properties) (root_order graph options.licenses root) (map-order string is.time (λ t. tt)))
 
 -- ---- the document
 
@@ -204,6 +214,6 @@ bill_order graph options d bill =
     let about = bill.about in
     subst InOrder (sym (bill.is ∙ ap (numbered options.has_serial) about.is))
     (numbered_order options.has_serial about.components about.entries about.metadata
-    (components_order graph options.licenses bill.root about.components about.are_components)
-    (entries_order graph bill.root about.entries about.are_entries)
+    (components_order graph options bill.root about.components about.are_components)
+    (entries_order graph options bill.root about.entries about.are_entries)
     (metadata_order graph bill.root options about.metadata about.is_metadata))

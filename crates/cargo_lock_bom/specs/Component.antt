@@ -16,7 +16,8 @@ use Rattle.cargo_lock_bom.specs.Iri.{iri_text}
 use Rattle.lists.specs.Places.{IsPlaces}
 use Rattle.cargo_lock_bom.specs.Purl.{purl_of}
 use Rattle.cargo_lock_bom.specs.References.{package_reference, workspace_reference}
-use Rattle.cargo_lock_bom.specs.Root.{is_application}
+use Rattle.cargo_lock_bom.specs.Options.{Expression, LicenseData, Named, OptionsData}
+use Rattle.cargo_lock_bom.specs.Root.{IsInBill, is_application}
 use Rattle.cargo_lock_bom.specs.UserInfo.{without_user_info}
 
 -- the type of a component: an application, or else a library
@@ -61,19 +62,28 @@ abbrev pub repositories_if : Option Source → Option Data
 repositories_if None = None
 repositories_if (Some s) = repositories_by s.kind (iri_text (without_user_info s.url)) s.precise
 
--- the list with the one licence expression of a package
-abbrev pub licenses_of : List ℕ → Data
-licenses_of expression = array
-    (item (object (member (codes "expression") (string expression) no_members)) no_items)
+-- a licence text at this key, which the author of the package declared
+abbrev pub declared : List ℕ → List ℕ → Data
+declared key text = object (member (codes "acknowledgement") (string (codes "declared"))
+    (member key (string text) no_members))
 
--- the licence expression of the package of a node, among those of packages by their place, if it
--- is there
-abbrev pub license_at : List (Option (List ℕ)) → ℕ → Option (List ℕ)
+-- a licence: an expression, or the name of one
+abbrev pub license_data : LicenseData → Data
+license_data (Expression text) = declared (codes "expression") text
+license_data (Named text) =
+    object (member (codes "license") (declared (codes "name") text) no_members)
+
+-- the list with the one licence of a package
+abbrev pub licenses_of : LicenseData → Data
+licenses_of license = array (item (license_data license) no_items)
+
+-- the licence of the package of a node, among those of packages by their place, if it is there
+abbrev pub license_at : List (Option LicenseData) → ℕ → Option LicenseData
 license_at licenses node = option_and_then (λ license. license) (slice_get licenses node)
 
--- the component of a package: `purl` if it has a package URL, `licenses` if it has this licence
--- expression, `hashes` if it has a checksum, and `externalReferences` if it comes from a repository
-unfoldable pub component_of : Bool → Option (List ℕ) → PackageData → Data
+-- the component of a package: `purl` if it has a package URL, `licenses` if it has this licence,
+-- `hashes` if it has a checksum, and `externalReferences` if it comes from a repository
+unfoldable pub component_of : Bool → Option LicenseData → PackageData → Data
 component_of application license p = object
     (put_some (codes "externalReferences") (repositories_if p.source)
     (put_some (codes "hashes") (option_map hashes_of p.checksum)
@@ -82,23 +92,28 @@ component_of application license p = object
     (base_members application p)))))
 
 -- the component of a package, if there is one
-abbrev pub component_if : Bool → Option (List ℕ) → Option PackageData → Data
+abbrev pub component_if : Bool → Option LicenseData → Option PackageData → Data
 component_if application license None = null
 component_if application license (Some p) = component_of application license p
 
--- the component of the package of a node, with its licence expression among those of the packages:
+-- the component of the package of a node, with its licence among those of the packages:
 -- an application if the package has no source and no other package needs it
-abbrev pub component_at : GraphData → List (Option (List ℕ)) → ℕ → Data
+abbrev pub component_at : GraphData → List (Option LicenseData) → ℕ → Data
 component_at graph licenses node = component_if (is_application graph node)
     (license_at licenses node) (slice_get graph.packages node)
 
--- the components of the packages that are not the root, in order, each listed once, with these
--- licence expressions of the packages
-pub record AreComponents (graph : GraphData) (licenses : List (Option (List ℕ))) (root : Root)
+-- the bill lists the package of the node, which is not the root
+abbrev pub IsComponent : GraphData → OptionsData → Root → ℕ → Type 0
+IsComponent graph options root k =
+    IsInBill graph options.listed options.root k × ¬ (root ≡ Package k)
+
+-- the components of the packages that are listed and not the root, in order, each listed once, with
+-- the licences of the packages
+pub record AreComponents (graph : GraphData) (options : OptionsData) (root : Root)
     (components : List Data) : Type 0 where
   pub nodes : List ℕ
-  pub are_others : IsPlaces (λ k. ¬ (root ≡ Package k)) (length graph.packages) nodes
-  pub are : components ≡ map (component_at graph licenses) nodes
+  pub are_others : IsPlaces (IsComponent graph options root) (length graph.packages) nodes
+  pub are : components ≡ map (component_at graph options.licenses) nodes
 
 -- the component of the workspace
 abbrev pub workspace_component : Data
@@ -106,8 +121,8 @@ workspace_component = object (member (codes "bom-ref") (string workspace_referen
     (member (codes "name") (string (codes "workspace"))
     (member (codes "type") (string (codes "application")) no_members)))
 
--- the component of the root, if there is one, with these licence expressions of the packages
-abbrev pub root_component : GraphData → List (Option (List ℕ)) → Root → Option Data
+-- the component of the root, if there is one, with these licences of the packages
+abbrev pub root_component : GraphData → List (Option LicenseData) → Root → Option Data
 root_component graph licenses (Package node) = Some (component_at graph licenses node)
 root_component graph licenses Workspace = Some workspace_component
 root_component graph licenses Nothing = None

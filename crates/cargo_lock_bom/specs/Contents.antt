@@ -8,8 +8,7 @@ use Rattle.cargo_lock_parts.specs.Identity.{PackageData}
 use Rattle.cargo_lock_graph.specs.Edges.{GraphData}
 use Rattle.cargo_lock_bom.specs.declared.contents.Contents.{Contents}
 use Rattle.cargo_lock_bom.specs.declared.dependencies.Entry.{Entry}
-use Rattle.cargo_lock_bom.specs.declared.root.Root.TheVariants.{Package}
-use Rattle.cargo_lock_bom.specs.Component.{component_at, root_component}
+use Rattle.cargo_lock_bom.specs.Component.{IsComponent, component_at, root_component}
 use Rattle.cargo_lock_bom.specs.Dependencies.{AreBillEntries, entry_with, node_reference}
 use Rattle.cargo_lock_bom.specs.Document.{bill_document}
 use Rattle.cargo_lock_bom.specs.Tokens.{data_tokens}
@@ -51,9 +50,9 @@ pub record AreContents (graph : GraphData) (options : OptionsData) (contents : C
   where
     pub is_root : IsRootOf graph options.root contents.root
     pub within : IsWithin graph.packages contents.root
-    pub are_others : IsPlaces (λ k. ¬ (contents.root ≡ Package k)) (length graph.packages)
+    pub are_others : IsPlaces (IsComponent graph options contents.root) (length graph.packages)
         contents.nodes.items
-    pub are_entries : AreBillEntries graph contents.root
+    pub are_entries : AreBillEntries graph options contents.root
         (map (entry_for graph.packages) contents.entries.items)
     pub are_texts : map string_bytes contents.texts.items ≡ map package_reference graph.packages
     pub is_time : IsTimeTextIf options.timestamp (option_map string_bytes contents.time)
@@ -61,7 +60,8 @@ pub record AreContents (graph : GraphData) (options : OptionsData) (contents : C
 -- the metadata of a bill with these contents
 abbrev pub metadata_with : GraphData → OptionsData → Contents → Data
 metadata_with graph options contents = bill_metadata options.tool_version options.authors
-    (root_component graph options.licenses contents.root) (option_map string_bytes contents.time)
+    options.properties (root_component graph options.licenses contents.root)
+    (option_map string_bytes contents.time)
 
 -- the bill with these contents, without a serial number
 abbrev pub bill_with : GraphData → OptionsData → Contents → Data

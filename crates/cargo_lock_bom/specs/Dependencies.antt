@@ -2,7 +2,7 @@
 -- The members are those of `dependency` in the JSON schema of CycloneDX 1.6.
 use Rattle.std.specs.Prelude.{◌≡◌, ℕ, ◌<◌, ◌↔◌, List, [], All, Contains, Option, Some, None, map}
 use Rattle.std.specs.Prelude.{◌∷◌, ◌++◌, true, length, codes, slice_get}
-use Rattle.std.specs.List.{AllZip, range_with_len}
+use Rattle.std.specs.List.{AllZip}
 use Rattle.std.specs.List.Sorted.{IsStrictlyIncreasing}
 use Rattle.serde_json.specs.Data.{Data, string, array, object, member, no_members}
 use Rattle.serde_json.specs.View.{items_of}
@@ -13,7 +13,8 @@ use Rattle.cargo_lock_bom.specs.declared.root.Root.{Root}
 use Rattle.cargo_lock_bom.specs.declared.root.Root.TheVariants.{Package, Workspace, Nothing}
 use Rattle.lists.specs.Places.{IsPlaces}
 use Rattle.cargo_lock_bom.specs.References.{package_reference, workspace_reference}
-use Rattle.cargo_lock_bom.specs.Root.{is_member}
+use Rattle.cargo_lock_bom.specs.Options.{OptionsData}
+use Rattle.cargo_lock_bom.specs.Root.{IsInBill, is_member}
 
 -- the nodes to which edges lead from a node, ascending, each listed once
 pub record AreEdgeTargets (graph : GraphData) (node : ℕ) (targets : List ℕ) : Type 0 where
@@ -59,10 +60,19 @@ AreOwnEntries packages (Package node) own = own ≡ []
 AreOwnEntries packages Workspace own = (d : Data) × IsWorkspaceEntry packages d × (own ≡ d ∷ [])
 AreOwnEntries packages Nothing own = own ≡ []
 
--- the entries: one for each node, in order, and then one for the workspace, if that is the root
-pub record AreBillEntries (graph : GraphData) (root : Root) (entries : List Data) : Type 0 where
+-- the entries of these nodes, in order, and then one for the workspace, if that is the root
+pub record AreEntries (graph : GraphData) (root : Root) (nodes : List ℕ) (entries : List Data)
+    : Type 0 where
   pub of_nodes : List Data
   pub own : List Data
-  pub are_of_nodes : AllZip (IsNodeEntry graph) (range_with_len 0 (length graph.packages)) of_nodes
+  pub are_of_nodes : AllZip (IsNodeEntry graph) nodes of_nodes
   pub are_own : AreOwnEntries graph.packages root own
   pub are : entries ≡ of_nodes ++ own
+
+-- the entries of the nodes that are listed, and of the workspace, if that is the root
+pub record AreBillEntries (graph : GraphData) (options : OptionsData) (root : Root)
+    (entries : List Data) : Type 0 where
+  pub nodes : List ℕ
+  pub are_nodes : IsPlaces (IsInBill graph options.listed options.root) (length graph.packages)
+      nodes
+  pub are_entries : AreEntries graph root nodes entries

@@ -33,16 +33,16 @@ pub record IsAbout (graph : GraphData) (root : Root) (options : OptionsData) (d 
     pub components : List Data
     pub entries : List Data
     pub metadata : Data
-    pub are_components : AreComponents graph options.licenses root components
-    pub are_entries : AreBillEntries graph root entries
+    pub are_components : AreComponents graph options root components
+    pub are_entries : AreBillEntries graph options root entries
     pub is_metadata : IsBillMetadata graph root options metadata
     pub is : d ≡ bill_document components entries metadata
 
--- The bill of a graph: the root is the component of the metadata, each other package is one of the
--- components, in order, each listed once, each package has an entry, and so does the workspace if
--- it is the root, and each text refers to one component. A component has the licence expression
--- that the options have of its package, if they have one. If they ask for it, the bill has a serial
--- number.
+-- The bill of a graph: the root is the component of the metadata, each other package that the
+-- options list is one of the components, in order, each listed once, each package that is listed
+-- has an entry, and so does the workspace if it is the root, and each text refers to one component.
+-- A component has the licence that the options have of its package, if they have one. If they ask
+-- for it, the bill has a serial number.
 pub record IsBill (graph : GraphData) (options : OptionsData) (d : Data) : Type 0 where
   pub root : Root
   pub is_root : IsRootOf graph options.root root

@@ -1,4 +1,5 @@
 pub mod UserInfo
+pub mod Options
 pub mod Root
 pub mod Search
 pub mod Purl
@@ -6,7 +7,6 @@ pub mod Iri
 pub mod References
 pub mod Component
 pub mod Dependencies
-pub mod Options
 pub mod Metadata
 pub mod Serial
 pub mod Document

@@ -42,6 +42,20 @@ abbrev pub authors_if : List (List ℕ) → Option Data
 authors_if [] = None
 authors_if (name ∷ names) = Some (authors_of (name ∷ names))
 
+-- a property of this name and value
+abbrev pub property_object : List ℕ × List ℕ → Data
+property_object p =
+    object (member (codes "name") (string p.0) (member (codes "value") (string p.1) no_members))
+
+-- the list of these properties
+abbrev pub properties_of : List (List ℕ × List ℕ) → Data
+properties_of properties = array (items_of (map property_object properties))
+
+-- that list, if there is a property
+abbrev pub properties_if : List (List ℕ × List ℕ) → Option Data
+properties_if [] = None
+properties_if (p ∷ ps) = Some (properties_of (p ∷ ps))
+
 -- the bill is made from a lockfile, before anything is built
 abbrev pub lifecycles : Data
 lifecycles =
@@ -61,17 +75,19 @@ abbrev pub own_members : List ℕ → Members
 own_members version = member (codes "lifecycles") lifecycles
     (member (codes "tools") (tools_of version) no_members)
 
--- these, and the authors, the component of the root and the time, if there are any
-unfoldable pub bill_metadata : List ℕ → List (List ℕ) → Option Data → Option (List ℕ) → Data
-bill_metadata version authors component time = object
+-- these, and the authors, the properties, the component of the root and the time, if there are any
+unfoldable pub bill_metadata : List ℕ → List (List ℕ) → List (List ℕ × List ℕ) → Option Data
+    → Option (List ℕ) → Data
+bill_metadata version authors properties component time = object
     (put_some (codes "timestamp") (option_map string time)
+    (put_some (codes "properties") (properties_if properties)
     (put_some (codes "component") component
-    (put_some (codes "authors") (authors_if authors) (own_members version))))
+    (put_some (codes "authors") (authors_if authors) (own_members version)))))
 
 -- the metadata of the bill of a graph with this root
 pub record IsBillMetadata (graph : GraphData) (root : Root) (options : OptionsData) (d : Data)
     : Type 0 where
   pub time : Option (List ℕ)
   pub is_time : IsTimeTextIf options.timestamp time
-  pub is : d ≡ bill_metadata options.tool_version options.authors
+  pub is : d ≡ bill_metadata options.tool_version options.authors options.properties
       (root_component graph options.licenses root) time

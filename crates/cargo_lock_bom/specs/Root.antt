@@ -1,11 +1,13 @@
 -- The root of a bill: one package, the packages of the workspace together, or nothing.
 use Rattle.std.specs.Prelude.{◌≡◌, ℕ, Bool, true, false, not, ◌&&◌, ◌==◌, ◌↔◌, List, Option, Some}
 use Rattle.std.specs.Prelude.{◌<◌, None, is_none, length, slice_get}
-use Rattle.std.specs.List.{list_any}
+use Rattle.std.specs.List.{Contains, list_any}
 use Rattle.cargo_lock_parts.specs.Identity.{PackageData}
 use Rattle.cargo_lock_graph.specs.declared.graph.EdgeDirection.TheVariants.{Incoming, Outgoing}
 use Rattle.cargo_lock_graph.specs.Edges.{Edge, GraphData, far_ends}
 use Rattle.cargo_lock_graph.specs.Paths.{IsReachable}
+use Rattle.cargo_lock_bom.specs.declared.options.Listed.{Listed}
+use Rattle.cargo_lock_bom.specs.declared.options.Listed.TheVariants.{All, Reached}
 use Rattle.cargo_lock_bom.specs.declared.root.Root.{Root}
 use Rattle.cargo_lock_bom.specs.declared.root.Root.TheVariants.{Package, Workspace, Nothing}
 
@@ -34,6 +36,19 @@ EdgesLeadTo graph a b = IsReachable (far_ends Outgoing graph.edges) a b
 abbrev pub LeadsToMembers : GraphData → ℕ → Type 0
 LeadsToMembers graph node = (k : ℕ) → is_member graph.packages k ≡ true → EdgesLeadTo graph node k
 
+-- The bill lists the package of the node: with `Reached`, if the caller gives a root, where edges
+-- lead from this to it, and otherwise always.
+abbrev pub IsInBill : GraphData → Listed → Option ℕ → ℕ → Type 0
+IsInBill graph All given node = Unit {0}
+IsInBill graph Reached None node = Unit {0}
+IsInBill graph Reached (Some root) node = EdgesLeadTo graph root node
+
+-- no edge leads from what is listed to what is not
+abbrev pub ListedIsClosed : Type 0
+ListedIsClosed = (graph : GraphData) (listed : Listed) (given : Option ℕ) (a b : ℕ)
+    → IsInBill graph listed given a → Contains (far_ends Outgoing graph.edges a) b
+    → IsInBill graph listed given b
+
 -- the package of the workspace that no other package needs, and that leads to each package of the
 -- workspace
 pub record IsTop (graph : GraphData) (node : ℕ) : Type 0 where
@@ -48,6 +63,12 @@ IsRootOf graph None (Package node) = IsTop graph node
 IsRootOf graph None Workspace = ((k : ℕ) → ¬ IsTop graph k)
     × ((k : ℕ) × (is_member graph.packages k ≡ true))
 IsRootOf graph None Nothing = (k : ℕ) → is_member graph.packages k ≡ false
+
+-- the root is the package of the node
+abbrev pub is_root_at : Root → ℕ → Bool
+is_root_at (Package own) node = own == node
+is_root_at Workspace node = false
+is_root_at Nothing node = false
 
 -- ---- what the root leads to
 

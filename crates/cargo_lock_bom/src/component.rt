@@ -8,9 +8,11 @@ ghost use Rattle.serde_json.specs.View.{items_of};
 ghost use Rattle.cargo_lock_parts.specs.Checksum.{digest_of};
 ghost use Rattle.cargo_lock_parts.specs.Identity.{identity_of};
 ghost use Rattle.cargo_lock_bom.specs.Component.{component_at, component_of, hashes_of};
-ghost use Rattle.cargo_lock_bom.specs.Component.{license_at, licenses_of, repositories_if};
+ghost use Rattle.cargo_lock_bom.specs.Component.{declared, license_at, license_data, licenses_of};
+ghost use Rattle.cargo_lock_bom.specs.Component.{repositories_if};
 ghost use Rattle.cargo_lock_bom.specs.Component.{repositories_of, root_component, type_text};
 ghost use Rattle.cargo_lock_bom.specs.Component.{workspace_component};
+ghost use Rattle.cargo_lock_bom.specs.Options.{Expression, Named, license_of};
 ghost use Rattle.cargo_lock_bom.specs.Tokens.{data_tokens, member_tokens};
 ghost use Rattle.printing.specs.Json.{Adds};
 ghost use Rattle.cargo_lock_bom.specs.Purl.{purl_of};
@@ -18,6 +20,7 @@ ghost use Rattle.cargo_lock_bom.specs.References.{package_reference};
 ghost use Rattle.cargo_lock_bom.specs.Root.{IsWithin};
 
 use crate::iri::iri_text;
+use crate::options::License;
 use crate::purl::purl;
 use crate::reference::text_at;
 use crate::root::{Root, is_application};
@@ -26,20 +29,20 @@ use cargo_lock_parts::package::{Checksum, Package, SourceId, SourceKind};
 use printing::JsonWriter;
 use std::alloc::{AllocError, Global};
 
-/// Writes the components of the packages of some nodes, with these licence expressions of the
+/// Writes the components of the packages of some nodes, with these licences of the
 /// packages and these texts that refer to them. Fails when out of memory.
 pub(crate) fn put_components(
     out: &mut JsonWriter,
     alloc: Global,
     graph: &Graph,
-    licenses: &[Option<String>],
+    licenses: &[Option<License>],
     texts: &[String],
     nodes: &[usize],
 ) -> Result<(), AllocError>
     requires within { All (λ k. k < length graph.now.packages) nodes.now }
     requires texts { map string_bytes texts.now ≡ map package_reference graph.now.packages }
     ensures { Adds result out.old out.new (data_tokens (array (items_of
-        (map (component_at graph.now (map (option_map string_bytes) licenses.now)) nodes.now)))) }
+        (map (component_at graph.now (map (option_map license_of) licenses.now)) nodes.now)))) }
 {
     out.begin_array()?;
     for node in nodes {
@@ -48,20 +51,20 @@ pub(crate) fn put_components(
     out.end_array()
 }
 
-/// Writes the member with the component of the root, if there is one, with these licence
-/// expressions of the packages and these texts that refer to them. Fails when out of memory.
+/// Writes the member with the component of the root, if there is one, with these licences
+/// of the packages and these texts that refer to them. Fails when out of memory.
 pub(crate) fn put_root(
     out: &mut JsonWriter,
     alloc: Global,
     graph: &Graph,
-    licenses: &[Option<String>],
+    licenses: &[Option<License>],
     texts: &[String],
     root: &Root,
 ) -> Result<(), AllocError>
     requires within { IsWithin graph.now.packages root.now }
     requires texts { map string_bytes texts.now ≡ map package_reference graph.now.packages }
     ensures { Adds result out.old out.new (member_tokens (codes "component")
-        (root_component graph.now (map (option_map string_bytes) licenses.now) root.now)) }
+        (root_component graph.now (map (option_map license_of) licenses.now) root.now)) }
 {
     match root {
         Root::Package(node) => put_package(out, alloc, graph, licenses, texts, *node),
@@ -75,14 +78,14 @@ fn put_package(
     out: &mut JsonWriter,
     alloc: Global,
     graph: &Graph,
-    licenses: &[Option<String>],
+    licenses: &[Option<License>],
     texts: &[String],
     node: NodeIndex,
 ) -> Result<(), AllocError>
     requires within { node < length graph.now.packages }
     requires texts { map string_bytes texts.now ≡ map package_reference graph.now.packages }
     ensures { Adds result out.old out.new (member_tokens (codes "component")
-        (Some (component_at graph.now (map (option_map string_bytes) licenses.now) node))) }
+        (Some (component_at graph.now (map (option_map license_of) licenses.now) node))) }
 {
     out.key("component")?;
     put_component(out, alloc, graph, licenses, texts, node)
@@ -105,14 +108,14 @@ fn put_component(
     out: &mut JsonWriter,
     alloc: Global,
     graph: &Graph,
-    licenses: &[Option<String>],
+    licenses: &[Option<License>],
     texts: &[String],
     node: NodeIndex,
 ) -> Result<(), AllocError>
     requires within { node < length graph.now.packages }
     requires texts { map string_bytes texts.now ≡ map package_reference graph.now.packages }
     ensures { Adds result out.old out.new (data_tokens
-        (component_at graph.now (map (option_map string_bytes) licenses.now) node)) }
+        (component_at graph.now (map (option_map license_of) licenses.now) node)) }
 {
     let application = is_application(alloc, graph, node)?;
     let license = license_at(licenses, node);
@@ -120,29 +123,31 @@ fn put_component(
     put_component_of(out, alloc, application, license, text, &graph[node])
 }
 
-// The licence expression of the package of a node, if it is there.
-fn license_at(licenses: &[Option<String>], node: NodeIndex) -> Option<&str>
-    ensures { option_copied result ≡ license_at (map (option_map string_bytes) licenses.now) node }
+// The licence of the package of a node, if it is there.
+fn license_at(licenses: &[Option<License>], node: NodeIndex) -> Option<&License>
+    ensures { option_map (λ l. license_of l.now) result
+        ≡ license_at (map (option_map license_of) licenses.now) node }
 {
     match licenses.get(node.index()) {
-        Some(Some(license)) => Some(license.as_str()),
+        Some(Some(license)) => Some(license),
         _ => None,
     }
 }
 
-// Writes the component of a package, as an application or as a library, with this licence
-// expression, if it is there, and with the text that refers to it.
+// Writes the component of a package, as an application or as a library, with this licence, if it is
+// there, and with the text that refers to it.
 fn put_component_of(
     out: &mut JsonWriter,
     alloc: Global,
     application: bool,
-    license: Option<&str>,
+    license: Option<&License>,
     text: &str,
     package: &Package,
 ) -> Result<(), AllocError>
     requires { text.now ≡ package_reference «package».now }
     ensures { Adds result out.old out.new (data_tokens
-        (component_of application (option_copied license.entry) «package».now)) }
+        (component_of application (option_map (λ l. license_of l.now) license.entry)
+        «package».now)) }
 {
     out.begin_object()?;
     out.string_member("bom-ref", text)?;
@@ -191,10 +196,10 @@ pub(crate) fn put_text_if(
     }
 }
 
-// Writes the member with the licence expression of a package, if it is there.
-fn put_licenses(out: &mut JsonWriter, license: Option<&str>) -> Result<(), AllocError>
+// Writes the member with the licence of a package, if it is there.
+fn put_licenses(out: &mut JsonWriter, license: Option<&License>) -> Result<(), AllocError>
     ensures { Adds result out.old out.new (member_tokens (codes "licenses")
-        (option_map licenses_of (option_copied license.entry))) }
+        (option_map licenses_of (option_map (λ l. license_of l.now) license.entry))) }
 {
     match license {
         Some(license) => put_license(out, license),
@@ -202,16 +207,51 @@ fn put_licenses(out: &mut JsonWriter, license: Option<&str>) -> Result<(), Alloc
     }
 }
 
-fn put_license(out: &mut JsonWriter, license: &str) -> Result<(), AllocError>
+fn put_license(out: &mut JsonWriter, license: &License) -> Result<(), AllocError>
     ensures { Adds result out.old out.new (member_tokens (codes "licenses")
-        (Some (licenses_of license.now))) }
+        (Some (licenses_of (license_of license.now)))) }
 {
     out.key("licenses")?;
     out.begin_array()?;
-    out.begin_object()?;
-    out.string_member("expression", license)?;
-    out.end_object()?;
+    put_license_data(out, license)?;
     out.end_array()
+}
+
+// Writes a licence.
+fn put_license_data(out: &mut JsonWriter, license: &License) -> Result<(), AllocError>
+    ensures { Adds result out.old out.new (data_tokens (license_data (license_of license.now))) }
+{
+    match license {
+        License::Expression(text) => put_expression(out, text.as_str()),
+        License::Named(text) => put_named(out, text.as_str()),
+    }
+}
+
+// Writes a licence that is an expression.
+fn put_expression(out: &mut JsonWriter, text: &str) -> Result<(), AllocError>
+    ensures { Adds result out.old out.new (data_tokens (license_data (Expression text.now))) }
+{
+    put_declared(out, "expression", text)
+}
+
+// Writes a licence of this name.
+fn put_named(out: &mut JsonWriter, text: &str) -> Result<(), AllocError>
+    ensures { Adds result out.old out.new (data_tokens (license_data (Named text.now))) }
+{
+    out.begin_object()?;
+    out.key("license")?;
+    put_declared(out, "name", text)?;
+    out.end_object()
+}
+
+// Writes a licence text at this key, which the author of the package declared.
+fn put_declared(out: &mut JsonWriter, key: &str, text: &str) -> Result<(), AllocError>
+    ensures { Adds result out.old out.new (data_tokens (declared key.now text.now)) }
+{
+    out.begin_object()?;
+    out.string_member("acknowledgement", "declared")?;
+    out.string_member(key, text)?;
+    out.end_object()
 }
 
 // Writes the member with the hash of a package, if it has a checksum.

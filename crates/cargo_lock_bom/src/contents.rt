@@ -8,7 +8,7 @@ ghost use Rattle.cargo_lock_bom.specs.References.{package_reference};
 use crate::dependencies::{Entry, entries};
 use crate::metadata::time_text_if;
 use crate::options::Options;
-use crate::root::{Root, others, root_of};
+use crate::root::{Root, listed, others, root_of};
 use cargo_lock_graph::graph::Graph;
 use std::alloc::{AllocError, Global};
 
@@ -21,7 +21,7 @@ pub(crate) struct Contents {
     /// The texts that refer to the packages of the graph, in order.
     pub texts: Vec<String>,
 
-    /// The nodes of its components, which are those of the packages that are not the root.
+    /// The nodes of its components: those of the packages that are listed and not the root.
     pub nodes: Vec<usize>,
 
     /// Its entries.
@@ -45,8 +45,9 @@ pub(crate) fn contents_of(
     ensures { IfOk result (AreContents graph.now «options».now) }
 {
     let root = root_of(alloc, graph, options.root)?;
-    let nodes = others(alloc, graph, &root)?;
-    let entries = entries(alloc, graph, &root)?;
+    let listed = listed(alloc, graph, options.listed, options.root)?;
+    let nodes = others(alloc, listed.as_slice(), &root)?;
+    let entries = entries(alloc, graph, listed.as_slice(), &root)?;
     let time = time_text_if(alloc, options.timestamp)?;
     Ok(Contents {
         root,

@@ -2,14 +2,14 @@
 
 ghost use Rattle.std.specs.Prelude.{◌≡◌, ◌<◌, ◌∷◌, ◌++◌, [], All, IfOk, codes, length, map};
 ghost use Rattle.std.specs.Prelude.{string_bytes};
-ghost use Rattle.std.specs.List.{AllZip, range_with_len};
+ghost use Rattle.std.specs.List.{AllZip};
 ghost use Rattle.json.specs.Token as token;
 ghost use Rattle.serde_json.specs.Data.{Data, array, string};
 ghost use Rattle.serde_json.specs.View.{items_of};
 ghost use Rattle.cargo_lock_graph.specs.declared.graph.EdgeDirection.TheVariants.{Outgoing};
 ghost use Rattle.cargo_lock_graph.specs.Edges.{far_ends};
 ghost use Rattle.cargo_lock_bom.specs.Contents.{entry_by, entry_for, own_text, text_at};
-ghost use Rattle.cargo_lock_bom.specs.Dependencies.{AreBillEntries, AreEdgeTargets, IsNodeEntry};
+ghost use Rattle.cargo_lock_bom.specs.Dependencies.{AreEdgeTargets, AreEntries, IsNodeEntry};
 ghost use Rattle.cargo_lock_bom.specs.Dependencies.{IsWorkspaceEntry};
 ghost use Rattle.cargo_lock_bom.specs.Tokens.{data_tokens};
 ghost use Rattle.printing.specs.Json.{Adds};
@@ -31,13 +31,19 @@ pub(crate) struct Entry {
     pub on: Vec<usize>,
 }
 
-/// The entries of the nodes of a graph, in order, and then the entry of the workspace, if it is the
-/// root. Fails when out of memory.
-pub(crate) fn entries(alloc: Global, graph: &Graph, root: &Root) -> Result<Vec<Entry>, AllocError>
-    ensures { IfOk result (λ made. AreBillEntries graph.now root.now
+/// The entries of some nodes of a graph, in order, and then the entry of the workspace, if it is
+/// the root. Fails when out of memory.
+pub(crate) fn entries(
+    alloc: Global,
+    graph: &Graph,
+    nodes: &[usize],
+    root: &Root,
+) -> Result<Vec<Entry>, AllocError>
+    requires { All (λ k. k < length graph.now.packages) nodes.now }
+    ensures { IfOk result (λ made. AreEntries graph.now root.now nodes.now
         (map (entry_for graph.now.packages) made.items)) }
 {
-    let made = node_entries(alloc, graph)?;
+    let made = node_entries(alloc, graph, nodes)?;
     match root {
         Root::Package(_) => Ok(made),
         Root::Workspace => with_workspace(alloc, graph, made),
@@ -69,16 +75,15 @@ fn workspace_entry(alloc: Global, graph: &Graph) -> Result<Entry, AllocError>
     Ok(Entry { of: None, on })
 }
 
-// The entries of the nodes of a graph, in order.
-fn node_entries(alloc: Global, graph: &Graph) -> Result<Vec<Entry>, AllocError>
-    ensures { IfOk result (λ made. AllZip (IsNodeEntry graph.now)
-        (range_with_len 0 (length graph.now.packages))
+// The entries of some nodes of a graph, in order.
+fn node_entries(alloc: Global, graph: &Graph, nodes: &[usize]) -> Result<Vec<Entry>, AllocError>
+    requires { All (λ k. k < length graph.now.packages) nodes.now }
+    ensures { IfOk result (λ made. AllZip (IsNodeEntry graph.now) nodes.now
         (map (entry_for graph.now.packages) made.items)) }
 {
-    let count = graph.node_count();
-    let mut made = Vec::with_capacity(alloc, count)?;
-    for node in 0..count {
-        made.push(node_entry(alloc, graph, NodeIndex::new(node))?)?;
+    let mut made = Vec::with_capacity(alloc, nodes.len())?;
+    for node in nodes {
+        made.push(node_entry(alloc, graph, NodeIndex::new(*node))?)?;
     }
     Ok(made)
 }

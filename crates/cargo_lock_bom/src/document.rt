@@ -38,18 +38,24 @@ use std::alloc::{AllocError, Global};
 /// "SHA-256", "content": "7253ab.."}], "name": "serde", "purl": "pkg:cargo/serde@1.0.203", "type":
 /// "library", "version": "1.0.203"}`, without `hashes` if there is no checksum, and without `purl`
 /// if there is no source. A package of a repository also has `"externalReferences": [{"comment":
-/// COMMIT, "type": "vcs", "url": URL}]`, and one for which the options have a licence expression
-/// `"licenses": [{"expression": "MIT OR Apache-2.0"}]`. The `type` is `application` if the package
-/// has no source and no other package needs it. The member `dependencies` has, for each component,
-/// `{"dependsOn": [..], "ref": ".."}`, by their `bom-ref`.
+/// COMMIT, "type": "vcs", "url": URL}]`. One for which the options have a licence also has
+/// `"licenses": [{"acknowledgement": "declared", "expression": "MIT OR Apache-2.0"}]`. A text that
+/// is no expression is in `"licenses": [{"license": {"acknowledgement": "declared", "name": TEXT}}]`.
+/// The `type` is `application` if the package has no source and no other package needs it. The
+/// member `dependencies` has, for each component, `{"dependsOn": [..], "ref": ".."}`, by their
+/// `bom-ref`.
+///
+/// If the options list what is reached alone, and give a root, these are the packages to which
+/// edges lead from the root, and no others, in both members.
 ///
 /// The member `metadata` has the component of the root, which `root_of` chooses. If the root is a
 /// package, it is in `metadata` in place of `components`; if it is the workspace, it is
 /// `{"bom-ref": "workspace", "name": "workspace", "type": "application"}`, whose entry depends on
 /// each package without a source. The member also has `"lifecycles": [{"phase": "pre-build"}]`, the
-/// program that wrote the bill, and what the options ask for: `"timestamp": "2024-06-19T17:30:05Z"`
-/// and `"authors": [{"name": AUTHOR}, ..]`. The member `serialNumber`, if they ask for it, is
-/// `urn:uuid:ID`, where ID is computed from the document's text in one line without that member.
+/// program that wrote the bill, and what the options ask for:
+/// `"timestamp": "2024-06-19T17:30:05Z"`, `"authors": [{"name": AUTHOR}, ..]` and
+/// `"properties": [{"name": NAME, "value": VALUE}, ..]`. The member `serialNumber`, if they ask for
+/// it, is `urn:uuid:ID`, where ID is computed from the document's text in one line without that member.
 ///
 /// `Parse` means that two packages have the same `bom-ref`, so the bill would refer to both:
 /// `two packages are NAME VERSION (SOURCE)`. The other error is `Memory`.

@@ -7,11 +7,13 @@ ghost use Rattle.cargo_lock_bom.specs.Contents.{AreContents, metadata_with};
 ghost use Rattle.cargo_lock_bom.specs.Tokens.{data_tokens, member_tokens};
 ghost use Rattle.printing.specs.Json.{Adds};
 ghost use Rattle.cargo_lock_bom.specs.Metadata.{IsTimeText, IsTimeTextIf, author_of, authors_if};
-ghost use Rattle.cargo_lock_bom.specs.Metadata.{authors_of, lifecycles, tools_of};
+ghost use Rattle.cargo_lock_bom.specs.Metadata.{authors_of, lifecycles, properties_if};
+ghost use Rattle.cargo_lock_bom.specs.Metadata.{properties_of, property_object, tools_of};
+ghost use Rattle.cargo_lock_bom.specs.Options.{property_of};
 
 use crate::component::{put_root, put_text_if};
 use crate::contents::Contents;
-use crate::options::Options;
+use crate::options::{Options, Property};
 use cargo_lock_graph::graph::Graph;
 use jiff_core::civil::DateTime;
 use jiff_fmt::temporal::DateTimePrinter;
@@ -35,6 +37,7 @@ pub(crate) fn put_metadata(
     put_authors(out, options.authors)?;
     put_root(out, alloc, graph, options.licenses, texts, &contents.root)?;
     put_lifecycles(out)?;
+    put_properties(out, options.properties)?;
     put_text_if(out, "timestamp", &contents.time)?;
     put_tools(out, options.tool_version)?;
     out.end_object()
@@ -68,6 +71,39 @@ fn put_author(out: &mut JsonWriter, name: &str) -> Result<(), AllocError>
 {
     out.begin_object()?;
     out.string_member("name", name)?;
+    out.end_object()
+}
+
+// Writes the member with these properties, if there is one.
+fn put_properties(out: &mut JsonWriter, properties: &[Property]) -> Result<(), AllocError>
+    ensures { Adds result out.old out.new (member_tokens (codes "properties")
+        (properties_if (map property_of properties.now))) }
+{
+    if properties.is_empty() {
+        return Ok(());
+    }
+    out.key("properties")?;
+    put_property_list(out, properties)
+}
+
+fn put_property_list(out: &mut JsonWriter, properties: &[Property]) -> Result<(), AllocError>
+    ensures { Adds result out.old out.new (data_tokens
+        (properties_of (map property_of properties.now))) }
+{
+    out.begin_array()?;
+    for property in properties {
+        put_property(out, property)?;
+    }
+    out.end_array()
+}
+
+fn put_property(out: &mut JsonWriter, property: &Property) -> Result<(), AllocError>
+    ensures { Adds result out.old out.new (data_tokens
+        (property_object (property_of property.now))) }
+{
+    out.begin_object()?;
+    out.string_member("name", property.name.as_str())?;
+    out.string_member("value", property.value.as_str())?;
     out.end_object()
 }
 

@@ -1,17 +1,21 @@
 //! The root of a bill of materials.
 
 ghost use Rattle.std.specs.Prelude.{◌≡◌, ◌<◌, ◌↔◌, ℕ, true, IfOk, IfSome, IsTrue};
-ghost use Rattle.std.specs.Prelude.{MatchOption, None, length};
-ghost use Rattle.cargo_lock_bom.specs.declared.root.Root.TheVariants.{Package};
+ghost use Rattle.std.specs.Prelude.{MatchOption, None, filter, length, not};
 ghost use Rattle.lists.specs.Places.{IsPlaces};
-ghost use Rattle.cargo_lock_bom.specs.Root.{IsRootOf, IsTop, LeadsToAllButOrphans, LeadsToMembers};
-ghost use Rattle.cargo_lock_bom.specs.Root.{IsWithin, is_member};
+ghost use Rattle.lists.specs.Marks.{IsMarked};
+ghost use Rattle.cargo_lock_bom.specs.declared.options.Listed.TheVariants.{Reached};
+ghost use Rattle.cargo_lock_bom.specs.Root.{EdgesLeadTo, IsInBill, IsRootOf, IsTop, IsWithin};
+ghost use Rattle.cargo_lock_bom.specs.Root.{LeadsToAllButOrphans, LeadsToMembers, is_member};
+ghost use Rattle.cargo_lock_bom.specs.Root.{is_root_at};
 ghost use Rattle.cargo_lock_bom.specs.Root as spec;
 ghost use Rattle.cargo_lock_bom.specs.Search.{HaveMarks};
 
+use crate::options::Listed;
 use crate::reach::reached_from;
 use cargo_lock_graph::graph::{EdgeDirection, Graph, NodeIndex};
 use cargo_lock_graph::listed::list_ends;
+use lists::marks::is_marked;
 use std::alloc::{AllocError, Global};
 
 /// The root of a bill of materials, which is what the bill describes.
@@ -30,7 +34,7 @@ pub enum Root {
 impl Root {
     // Whether the root is the package of a node.
     fn is_package(&self, node: NodeIndex) -> bool
-        ensures { IsTrue result ↔ (self.now ≡ Package node) }
+        ensures { result ≡ is_root_at self.now node }
     {
         match self {
             Root::Package(own) => *own == node,
@@ -54,10 +58,10 @@ pub fn root_of(alloc: Global, graph: &Graph, given: Option<NodeIndex>) -> Result
     ensures root { IfOk result (IsRootOf graph.now given) }
     ensures reaches { given ≡ None → IfOk result (LeadsToAllButOrphans graph.now) }
 {
-    match given {
-        Some(node) => Ok(Root::Package(node)),
-        None => own_root(alloc, graph),
+    if let Some(node) = given {
+        return Ok(Root::Package(node));
     }
+    own_root(alloc, graph)
 }
 
 // The root if no node is given.
@@ -201,15 +205,86 @@ pub(crate) fn members(alloc: Global, graph: &Graph) -> Result<Vec<usize>, AllocE
     Ok(members)
 }
 
-/// The nodes of the packages that are not the root, ascending. Fails when out of memory.
-pub(crate) fn others(alloc: Global, graph: &Graph, root: &Root) -> Result<Vec<usize>, AllocError>
-    ensures { IfOk result (λ nodes. IsPlaces
-        (λ k. ¬ (root.now ≡ Package k)) (length graph.now.packages) nodes.items) }
+/// The nodes of the packages that a bill lists, ascending, where the caller gives this root. Fails
+/// when out of memory.
+pub(crate) fn listed(
+    alloc: Global,
+    graph: &Graph,
+    listed: Listed,
+    given: Option<NodeIndex>,
+) -> Result<Vec<usize>, AllocError>
+    requires { IfSome given (λ node. node < length graph.now.packages) }
+    ensures { IfOk result (λ nodes. IsPlaces (IsInBill graph.now listed given)
+        (length graph.now.packages) nodes.items) }
+{
+    match listed {
+        Listed::All => all_nodes(alloc, graph),
+        Listed::Reached => reached_or_all(alloc, graph, given),
+    }
+}
+
+// The nodes to which edges lead from a root, ascending, or each node if there is no root.
+fn reached_or_all(
+    alloc: Global,
+    graph: &Graph,
+    given: Option<NodeIndex>,
+) -> Result<Vec<usize>, AllocError>
+    requires { IfSome given (λ node. node < length graph.now.packages) }
+    ensures { IfOk result (λ nodes. IsPlaces (IsInBill graph.now Reached given)
+        (length graph.now.packages) nodes.items) }
+{
+    match given {
+        Some(root) => reached_nodes(alloc, graph, root),
+        None => all_nodes(alloc, graph),
+    }
+}
+
+// Each node, ascending.
+fn all_nodes(alloc: Global, graph: &Graph) -> Result<Vec<usize>, AllocError>
+    ensures { IfOk result
+        (λ nodes. IsPlaces (λ k. Unit {0}) (length graph.now.packages) nodes.items) }
+{
+    let mut nodes = Vec::with_capacity(alloc, graph.node_count())?;
+    for node in 0..graph.node_count() {
+        nodes.push(node)?;
+    }
+    Ok(nodes)
+}
+
+// The nodes to which edges lead from a root, ascending.
+fn reached_nodes(alloc: Global, graph: &Graph, root: NodeIndex) -> Result<Vec<usize>, AllocError>
+    requires { root < length graph.now.packages }
+    ensures { IfOk result (λ nodes. IsPlaces (EdgesLeadTo graph.now root)
+        (length graph.now.packages) nodes.items) }
+{
+    let marks = reached_from(alloc, graph, root)?;
+    let nodes = marked_places(alloc, marks.as_slice())?;
+    Ok(nodes)
+}
+
+// The places that have a mark, ascending.
+fn marked_places(alloc: Global, marks: &[bool]) -> Result<Vec<usize>, AllocError>
+    ensures { IfOk result
+        (λ places. IsPlaces (IsMarked marks.now) (length marks.now) places.items) }
+{
+    let mut places = Vec::new(alloc);
+    for place in 0..marks.len() {
+        if is_marked(marks, place) {
+            places.push(place)?;
+        }
+    }
+    Ok(places)
+}
+
+/// Those of some nodes, ascending, whose package is not the root. Fails when out of memory.
+pub(crate) fn others(alloc: Global, listed: &[usize], root: &Root) -> Result<Vec<usize>, AllocError>
+    ensures { IfOk result
+        (λ nodes. nodes.items ≡ filter (λ k. not (is_root_at root.now k)) listed.now) }
 {
     let mut nodes = Vec::new(alloc);
-    for node in 0..graph.node_count() {
-        if !root.is_package(NodeIndex::new(node)) {
-            nodes.push(node)?;
+    for node in listed {
+        if !root.is_package(NodeIndex::new(*node)) {
+            nodes.push(*node)?;
         }
     }
     Ok(nodes)

@@ -2,6 +2,7 @@
 use Rattle.std.specs.Prelude.{[], ℕ, Bool, false, List, Option, None}
 use Rattle.cargo_lock_parts.specs.Identity.{Identity, PackageData}
 use Rattle.cargo_lock_graph.specs.Targets.{IsFirstLost, links}
+use Rattle.cargo_lock_bom.specs.declared.options.Listed.TheVariants.{All}
 use Rattle.cargo_lock_bom.specs.declared.options.TheConstants.{VERSION}
 use Rattle.cargo_lock_bom.specs.Options.{OptionsData}
 use Rattle.cargo_lock_bom.specs.Printed.{IsPrintedBill, bill_packages, own_root}
@@ -17,9 +18,11 @@ use Rattle.cargo_lock_c.specs.declared.refusal.Refusal.TheVariants.{NoMemory, Un
 abbrev pub own_options : Option ℕ → OptionsData
 own_options own = record {
   root = own;
+  listed = All;
   tool_version = VERSION.now;
   timestamp = None;
   authors = [];
+  properties = [];
   has_serial = false;
   licenses = [];
 }

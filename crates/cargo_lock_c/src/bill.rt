@@ -15,7 +15,7 @@ use crate::reading::read;
 use crate::refusal::Refusal;
 use cargo_lock::dependency::graph::NodeIndex;
 use cargo_lock::{Lockfile, Package};
-use cargo_lock_bom::options::{Options, VERSION};
+use cargo_lock_bom::options::{Listed, Options, VERSION};
 use cargo_lock_bom::printed::{printed_bill, with_root};
 use std::alloc::Global;
 
@@ -93,9 +93,11 @@ fn options_of(own: Option<NodeIndex>) -> Options<'static>
 {
     Options {
         root: own,
+        listed: Listed::All,
         tool_version: VERSION,
         timestamp: None,
         authors: &[],
+        properties: &[],
         has_serial: false,
         licenses: &[],
     }

@@ -18,7 +18,8 @@ use Rattle.cargo_lock_diff.specs.Keys.{PlaceKey, WholeKey, place_key, place_of_s
 use Rattle.cargo_lock_diff.specs.Likeness.{is_alike, likeness_cmp}
 use Rattle.cargo_lock_diff.specs.Place.{other_source, place_cmp, placed_identity_cmp}
 use Rattle.cargo_lock_diff.specs.Matching.{firsts, seconds}
-use Rattle.cargo_lock_diff.specs.Difference.{DifferenceData, EmptyIfPermuted, IsDifference, HasNoChanges, ToldByCount, ToldOnce, count_of_package, new_told, old_told}
+use Rattle.cargo_lock_diff.specs.declared.accepted.Accepted.{Accepted}
+use Rattle.cargo_lock_diff.specs.Difference.{DifferenceData, EmptyIfPermuted, IsDifferenceBut, HasNoChanges, ToldByCount, ToldOnce, count_of_package, new_told, old_told}
 use Rattle.cargo_lock_diff.proofs.Orders.{likeness_total}
 use Rattle.cargo_lock_diff.proofs.Counts.{count-cons, count-permutation, left-counts}
 use Rattle.cargo_lock_diff.proofs.Pairs.{AreAlike, news-told, olds-told, told-apart}
@@ -28,10 +29,10 @@ pub whole_laws : IsEquivalence (is_alike Whole)
 whole_laws = eq_by_cmp_equiv (likeness_total Whole)
 
 pub told_once : ToldOnce
-told_once olds news d h = (olds-told h.paired, news-told h.paired)
+told_once accepted olds news d h = (olds-told h.paired, news-told h.paired)
 
 pub told_by_count : ToldByCount
-told_by_count olds news d h p =
+told_by_count accepted olds news d h p =
     left-counts (is_alike Whole) whole_laws p olds news d.kept (old_told d) (new_told d)
     (olds-told h.paired) (news-told h.paired) h.paired.wholly.paired (told-apart h.paired)
 
@@ -107,7 +108,7 @@ old-none d e = λ i. firsts (e.pairs i) ++ e.removed i
 new-none : (d : DifferenceData) → HasNoChanges d → new_told d ≡ []
 new-none d e = λ i. seconds (e.pairs i) ++ e.added i
 
-permuted : (olds news : List PackageData) (d : DifferenceData) → IsDifference olds news d → HasNoChanges d → IsPermutation (map whole_key olds) (map whole_key news)
+permuted : {accepted : List Accepted} (olds news : List PackageData) (d : DifferenceData) → IsDifferenceBut accepted olds news d → HasNoChanges d → IsPermutation (map whole_key olds) (map whole_key news)
 permuted olds news d h e =
     let p : IsPermutation olds (firsts d.kept) = subst (λ zs. IsPermutation olds zs) (ap (λ zs. firsts d.kept ++ zs) (old-none d e) ∙ append-nil (firsts d.kept)) (olds-told h.paired) in
     let q : IsPermutation news (seconds d.kept) = subst (λ zs. IsPermutation news zs) (ap (λ zs. seconds d.kept ++ zs) (new-none d e) ∙ append-nil (seconds d.kept)) (news-told h.paired) in
@@ -126,11 +127,11 @@ none-there (x ∷ xs) h =
 pub same-counts : (xs ys : List PackageData) → IsPermutation (map whole_key xs) (map whole_key ys) → (p : PackageData) → count_of_package p xs ≡ count_of_package p ys
 same-counts xs ys perm p = count-keys p xs ∙ sym (count-permutation (has_key p) (map whole_key xs) (map whole_key ys) perm) ∙ sym (count-keys p ys)
 
-emptied : (olds news : List PackageData) (d : DifferenceData) → IsDifference olds news d → IsPermutation (map whole_key olds) (map whole_key news) → HasNoChanges d
-emptied olds news d h perm =
+emptied : (accepted : List Accepted) (olds news : List PackageData) (d : DifferenceData) → IsDifferenceBut accepted olds news d → IsPermutation (map whole_key olds) (map whole_key news) → HasNoChanges d
+emptied accepted olds news d h perm =
     let same : (p : PackageData) → count_of_package p news ≡ count_of_package p olds = λ p. count-keys p news ∙ count-permutation (has_key p) (map whole_key olds) (map whole_key news) perm ∙ sym (count-keys p olds) in
-    let o : old_told d ≡ [] = none-there (old_told d) (λ p. (told_by_count olds news d h p).0 ∙ level _ _ (sym (same p))) in
-    let n : new_told d ≡ [] = none-there (new_told d) (λ p. (told_by_count olds news d h p).1 ∙ level _ _ (same p)) in
+    let o : old_told d ≡ [] = none-there (old_told d) (λ p. (told_by_count accepted olds news d h p).0 ∙ level _ _ (sym (same p))) in
+    let n : new_told d ≡ [] = none-there (new_told d) (λ p. (told_by_count accepted olds news d h p).1 ∙ level _ _ (same p)) in
     let o1 = append-none (firsts d.pairs) d.removed o in
     let n1 = append-none (seconds d.pairs) d.added n in
     record {
@@ -143,4 +144,4 @@ emptied olds news d h perm =
     level m n e = omega arith
 
 pub empty_if_permuted : EmptyIfPermuted
-empty_if_permuted olds news d h = (permuted olds news d h, emptied olds news d h)
+empty_if_permuted accepted olds news d h = (permuted olds news d h, emptied accepted olds news d h)

@@ -17,7 +17,7 @@ use Rattle.std.proofs.lemmas.List.Sums.{take_while-cons}
 use Rattle.std.proofs.lemmas.Map.Keys.{Less-from_sorted}
 use Rattle.cargo_lock_parts.specs.Identity.{Identity, PackageData, identity_of}
 use Rattle.cargo_lock_diff.specs.Change.{OtherDependencies, dependency_change_of, other_dependencies}
-use Rattle.cargo_lock_diff.specs.Dependencies.{are_targets, have_other_dependencies, is_carried, is_carried_either, is_met, is_target, only_in}
+use Rattle.cargo_lock_diff.specs.Dependencies.{are_one, are_targets, have_other_dependencies, is_carried, is_carried_either, is_met, is_target, only_in}
 use Rattle.cargo_lock_diff.specs.Difference.{dependencies_at, referred_pairs}
 use Rattle.cargo_lock_diff.specs.Pairing.{exchanged_pair}
 use Rattle.cargo_lock_diff.specs.Place.{target_cmp}
@@ -183,28 +183,28 @@ turned-not : (r s : Ordering) → r ≡ ordering_reverse s → ((s ≡ Less) ⊎
 turned-not r s e (inl h) = ap is_eq (e ∙ ap ordering_reverse h)
 turned-not r s e (inr h) = ap is_eq (e ∙ ap ordering_reverse h)
 
-pub among-found : (p : PackageData) (xs : List (Bor Identity)) (k : ℕ) → k < length xs
-    → ((x : Bor Identity) → target_cmp (get_or xs k x).now (identity_of p) ≡ Equal) → list_any (is_target p) (dependencies_at xs) ≡ true
-among-found p [] k lt tie = absurd (omega (arith, lt))
-among-found p (y ∷ ys) k lt tie =
+pub among-found : (one : Identity) (xs : List (Bor Identity)) (k : ℕ) → k < length xs
+    → ((x : Bor Identity) → target_cmp (get_or xs k x).now one ≡ Equal) → list_any (are_one one) (dependencies_at xs) ≡ true
+among-found one [] k lt tie = absurd (omega (arith, lt))
+among-found one (y ∷ ys) k lt tie =
     let xs : List (Bor Identity) = y ∷ ys in
-    any-there (is_target p) (dependencies_at xs) (get_or xs k y).now (map-there (λ (b : Bor Identity). b.now) xs (get_or xs k y) (Contains-get_or xs k y lt))
-    (turned _ _ (target_total.antisymm (identity_of p) (get_or xs k y).now) (tie y))
+    any-there (are_one one) (dependencies_at xs) (get_or xs k y).now (map-there (λ (b : Bor Identity). b.now) xs (get_or xs k y) (Contains-get_or xs k y lt))
+    (turned _ _ (target_total.antisymm one (get_or xs k y).now) (tie y))
 
-pub among-none : (p : PackageData) (xs : List (Bor Identity)) (i : ℕ) → IsSorted dependencies_cmp xs
-    → (IsNonDecreasingBy (λ (b : Bor Identity). ordering_index (target_cmp b.now (identity_of p))) xs
-    → IsPartitionPoint (λ (b : Bor Identity). target_cmp b.now (identity_of p) ≡ Less)
-    (λ (b : Bor Identity). target_cmp b.now (identity_of p) ≡ Greater) xs i)
-    → list_any (is_target p) (dependencies_at xs) ≡ false
-among-none p xs i up parted =
-    let parts = parted (searchable_from_sorted target_total (λ (b : Bor Identity). b.now) xs (identity_of p) up) in
-    list_any_none (is_target p) (dependencies_at xs) (All-map (λ (d : Identity). is_target p d ≡ false) (λ (b : Bor Identity). b.now) xs
-    (λ k x lt. turned-not _ _ (target_total.antisymm (identity_of p) (get_or xs k x).now) (apart parts k x lt (cases_order k i))))
+pub among-none : (one : Identity) (xs : List (Bor Identity)) (i : ℕ) → IsSorted dependencies_cmp xs
+    → (IsNonDecreasingBy (λ (b : Bor Identity). ordering_index (target_cmp b.now one)) xs
+    → IsPartitionPoint (λ (b : Bor Identity). target_cmp b.now one ≡ Less)
+    (λ (b : Bor Identity). target_cmp b.now one ≡ Greater) xs i)
+    → list_any (are_one one) (dependencies_at xs) ≡ false
+among-none one xs i up parted =
+    let parts = parted (searchable_from_sorted target_total (λ (b : Bor Identity). b.now) xs one up) in
+    list_any_none (are_one one) (dependencies_at xs) (All-map (λ (d : Identity). are_one one d ≡ false) (λ (b : Bor Identity). b.now) xs
+    (λ k x lt. turned-not _ _ (target_total.antisymm one (get_or xs k x).now) (apart parts k x lt (cases_order k i))))
   where
-    apart : IsPartitionPoint (λ (b : Bor Identity). target_cmp b.now (identity_of p) ≡ Less)
-        (λ (b : Bor Identity). target_cmp b.now (identity_of p) ≡ Greater) xs i
+    apart : IsPartitionPoint (λ (b : Bor Identity). target_cmp b.now one ≡ Less)
+        (λ (b : Bor Identity). target_cmp b.now one ≡ Greater) xs i
         → (k : ℕ) (x : Bor Identity) → k < length xs → ((k ≡ i) ⊎ ((k < i) ⊎ (i < k)))
-        → (target_cmp (get_or xs k x).now (identity_of p) ≡ Less) ⊎ (target_cmp (get_or xs k x).now (identity_of p) ≡ Greater)
+        → (target_cmp (get_or xs k x).now one ≡ Less) ⊎ (target_cmp (get_or xs k x).now one ≡ Greater)
     apart parts k x lt (inl h) = inr (parts.1 k x (omega (arith, h)) lt)
     apart parts k x lt (inr (inl below)) = inl (parts.0 k x (omega arith) below)
     apart parts k x lt (inr (inr above)) = inr (parts.1 k x (omega arith) lt)
@@ -268,7 +268,8 @@ pub only-by-sorted : (forward : Bool) (pairs : List (PackageData × PackageData)
     → filter (λ d. not (is_met forward pairs sorted d)) these ≡ only_in forward pairs these others
 only-by-sorted forward pairs these others sorted perm =
     filter-same (λ d. not (is_met forward pairs sorted d)) (λ d. not (is_met forward pairs others d))
-    (λ d. ap not (sym (list_any-IsPermutation (is_carried_either forward pairs d) others sorted perm))) these
+    (λ d. λ i. not (sym (list_any-IsPermutation (are_one d) others sorted perm) i
+    || sym (list_any-IsPermutation (is_carried_either forward pairs d) others sorted perm) i)) these
 
 pub none-passes : {X : Type 0} (p : X → Bool) (xs : List X) → length (filter p xs) ≡ 0 → list_any p xs ≡ false
 none-passes p [] h = refl
@@ -300,7 +301,7 @@ no-others targets old new gone came g a h k =
     = none-passes (λ d. not (is_met false targets old.dependencies d)) new.dependencies (ap length (sym a) ∙ length-map came (λ (b : Bor Identity). b.now) ∙ k) in
     λ i. map (dependency_change_of targets) (cond (one i || other i) ((old, new) ∷ []) [])
 
-or-true : (a b : Bool) → (a ≡ true) ⊎ (b ≡ true) → (a || b) ≡ true
+pub or-true : (a b : Bool) → (a ≡ true) ⊎ (b ≡ true) → (a || b) ≡ true
 or-true true b h = refl
 or-true false b (inl h) = cc h
 or-true false b (inr h) = h

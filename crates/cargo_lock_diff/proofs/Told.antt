@@ -1,6 +1,6 @@
 -- Laws of differences: mirrored pairs, what is left alone, and no change where the keys are permuted.
 use Rattle.std.proofs.Common.{◌≡◌, ℕ, get_or, Bool, true, false, true≢false, not, cond, List, [], ◌∷◌, ◌++◌, Option, Some, None, map, refl, ap, sym, ◌∙◌, subst, IsPermutation, All}
-use Rattle.std.specs.Prelude.{◌&&◌, ◌||◌, is_some}
+use Rattle.std.specs.Prelude.{◌&&◌, is_some}
 use Rattle.std.specs.List.{filter, flat_map}
 use Rattle.std.specs.Option.{option_cmp}
 use Rattle.std.specs.Ordering.{is_eq, ordering_then}
@@ -14,13 +14,15 @@ use Rattle.cargo_lock_diff.specs.Place.{place_cmp, placed_identity_cmp}
 use Rattle.cargo_lock_diff.specs.declared.change.Aspect.{Aspect}
 use Rattle.cargo_lock_diff.specs.declared.change.Aspect.TheVariants as aspect
 use Rattle.cargo_lock_diff.specs.declared.likeness.Likeness.TheVariants.{Name, Origin, Version, Line, Place, Whole}
+use Rattle.cargo_lock_diff.specs.declared.accepted.Accepted.{Accepted}
 use Rattle.cargo_lock_diff.specs.Alarm.{is_alarm, is_altered, is_suspect}
-use Rattle.cargo_lock_diff.specs.Change.{Added, Alarm, ChangeData, NoneIfPermuted, Removed, change_in, changes_in, changes_of, differs_in}
-use Rattle.cargo_lock_diff.specs.Difference.{DifferenceData, IsDifference, HasNoChanges, IsPairing, NoneIsLeftAlone, PairingMirrored, turns}
+use Rattle.cargo_lock_diff.specs.Change.{Added, Alarm, ChangeData, NewSource, NoneIfPermuted, Removed, change_in, changes_in, changes_of, differs_in, has_lost_checksum, has_new_checksum, strange_change}
+use Rattle.cargo_lock_diff.specs.Difference.{DifferenceData, IsDifferenceBut, HasNoChanges, IsPairing, NoneIsLeftAlone, PairingMirrored, turns}
 use Rattle.cargo_lock_diff.specs.Likeness.{is_alike}
 use Rattle.cargo_lock_diff.specs.Matching.{AreMatched, PassesWithNone, firsts, seconds}
 use Rattle.cargo_lock_diff.specs.Pairing.{exchanged_pair}
 use Rattle.cargo_lock_diff.specs.Same.{have_one_checksum, have_one_place, have_one_replacement, have_one_version}
+use Rattle.cargo_lock_diff.specs.Stranger.{is_strange_pair, is_stranger}
 use Rattle.cargo_lock_diff.proofs.Exact.{mirrored_in_turn, none_is_left_in_turn}
 use Rattle.cargo_lock_diff.proofs.Finer.{eq-both, names-in-turn, none-name, none-origin, none-place}
 use Rattle.cargo_lock_diff.proofs.InTurn.{all_pairs}
@@ -74,7 +76,7 @@ pairing_mirrored olds news kept pairs removed added h = record {
 -- ---- what is left alone
 
 pub none_is_left_alone : NoneIsLeftAlone
-none_is_left_alone olds news d h =
+none_is_left_alone accepted olds news d h =
     let t = h.paired.in_turn in (
       none_is_left_in_turn [] Place (Line ∷ Version ∷ Origin ∷ Name ∷ []) none-place h.paired.old h.paired.new h.paired.passes d.removed d.added t,
       none_is_left_in_turn (Place ∷ Line ∷ Version ∷ []) Origin (Name ∷ []) none-origin h.paired.old h.paired.new h.paired.passes d.removed d.added t,
@@ -129,7 +131,7 @@ changed olds p name apart calm same =
     let version : have_one_version p.0 p.1 ≡ true = not-false (have_one_version p.0 p.1) (same aspect.Version) in
     let place : have_one_place p.0 p.1 ≡ true = not-false (have_one_place p.0 p.1) (and-second (have_one_version p.0 p.1) _ version (same aspect.Source)) in
     let replace : have_one_replacement p.0 p.1 ≡ true = not-false (have_one_replacement p.0 p.1) (and-second (have_one_version p.0 p.1) _ version (same aspect.Replacement)) in
-    let appeared = and-second (have_one_version p.0 p.1) _ version (same aspect.Checksum) in
+    let appeared = or-first (has_new_checksum p.0 p.1) (has_lost_checksum p.0 p.1) (and-second (have_one_version p.0 p.1) _ version (same aspect.Checksum)) in
     let altered = and-second (have_one_version p.0 p.1) _ version (or-first (is_altered p.0 p.1) (is_suspect olds p.1) calm) in
     let checksum : have_one_checksum p.0 p.1 ≡ true = one-checksum p.0.checksum p.1.checksum (have_one_place p.0 p.1) place appeared altered in
     let a = p.0 in
@@ -151,26 +153,48 @@ no-pairs olds (p ∷ ps) removed added names apart calm same =
     absurd (changed olds p (All-head (λ (q : PackageData × PackageData). is_alike Name q.0 q.1 ≡ true) p ps names)
     (pair-apart p ps removed added apart) (filter-head (is_alarm olds) p ps calm) (λ one. no-change one p ps (same one)))
 
-no_change-empty : (olds news : List PackageData) (d : DifferenceData) → IsDifference olds news d → changes_of d ≡ [] → HasNoChanges d
-no_change-empty olds news d h e =
+-- where none passes, all do not
+all-others : {X : Type 0} (q : X → Bool) (xs : List X) → filter q xs ≡ [] → filter (λ x. not (q x)) xs ≡ xs
+all-others q [] e = refl
+all-others {X} q (x ∷ xs) e = go (λ rest. all-others q xs rest) (q x) refl
+  where
+    go : (filter q xs ≡ [] → filter (λ y. not (q y)) xs ≡ xs) → (b : Bool) → q x ≡ b
+        → cond (not (q x)) (x ∷ filter (λ y. not (q y)) xs) (filter (λ y. not (q y)) xs) ≡ x ∷ xs
+    go others true hit =
+        let bad : x ∷ filter q xs ≡ [] = sym (ap (λ b. cond b (x ∷ filter q xs) (filter q xs)) hit) ∙ e in
+        cc bad
+    go others false miss =
+        let rest : filter q xs ≡ [] = sym (ap (λ b. cond b (x ∷ filter q xs) (filter q xs)) miss) ∙ e in
+        (λ i. cond (not (miss i)) (x ∷ filter (λ y. not (q y)) xs) (filter (λ y. not (q y)) xs))
+        ∙ ap (λ zs. x ∷ zs) (others rest)
+
+no_change-empty : (accepted : List Accepted) (olds news : List PackageData) (d : DifferenceData) → IsDifferenceBut accepted olds news d → changes_of d ≡ [] → HasNoChanges d
+no_change-empty accepted olds news d h e =
     let alarms : List ChangeData = map (λ a. Alarm a.0 a.1) d.alarms in
+    let strange : List ChangeData = map strange_change d.strange in
+    let strangers : List ChangeData = map (λ a. NewSource a.0 a.1) d.came in
     let came : List ChangeData = map Removed d.removed ++ map Added d.added in
-    let versions : List ChangeData = changes_in aspect.Version d.pairs in
+    let versions : List ChangeData = changes_in aspect.Version d.usual in
     let replacements : List ChangeData = changes_in aspect.Replacement d.pairs in
     let checksums : List ChangeData = changes_in aspect.Checksum d.pairs in
-    let sources : List ChangeData = changes_in aspect.Source d.pairs in
-    let e1 = append-none alarms (sources ++ (checksums ++ (replacements ++ (versions ++ came)))) e in
+    let sources : List ChangeData = changes_in aspect.Source d.usual in
+    let e1 = append-none (alarms ++ (strange ++ strangers)) (sources ++ (checksums ++ (replacements ++ (versions ++ came)))) e in
     let e2 = append-none sources (checksums ++ (replacements ++ (versions ++ came))) e1.1 in
     let e3 = append-none checksums (replacements ++ (versions ++ came)) e2.1 in
     let e4 = append-none replacements (versions ++ came) e3.1 in
     let e5 = append-none versions came e4.1 in
     let e6 = append-none (map Removed d.removed) (map Added d.added) e5.1 in
-    let none : d.alarms ≡ [] = map-none (λ (a : PackageData × PackageData). Alarm a.0 a.1) d.alarms e1.0 in
+    let a1 = append-none alarms (strange ++ strangers) e1.0 in
+    let a2 = append-none strange strangers a1.1 in
+    let none : d.alarms ≡ [] = map-none (λ (a : PackageData × PackageData). Alarm a.0 a.1) d.alarms a1.0 in
     let untold : seconds (filter (is_alarm olds) d.pairs) ++ filter (is_suspect olds) d.added ≡ [] = sym h.alarmed.told ∙ ap seconds none in
     let calm : filter (is_alarm olds) d.pairs ≡ [] = map-none (λ (a : PackageData × PackageData). a.1) (filter (is_alarm olds) d.pairs)
     (append-none (seconds (filter (is_alarm olds) d.pairs)) (filter (is_suspect olds) d.added) untold).0 in
+    let familiar : filter (is_strange_pair accepted olds) d.pairs ≡ [] = sym h.estranged.are_strange ∙ map-none strange_change d.strange a2.0 in
+    let usual : d.usual ≡ d.pairs = h.estranged.are_usual ∙ all-others (is_strange_pair accepted olds) d.pairs familiar in
     record {
-      pairs = no-pairs olds d.pairs d.removed d.added (names-tie h.paired) (told-apart h.paired) calm (by_aspect e2.0 e3.0 e4.0 e5.0);
+      pairs = no-pairs olds d.pairs d.removed d.added (names-tie h.paired) (told-apart h.paired) calm
+          (by_aspect (sym (ap (changes_in aspect.Source) usual) ∙ e2.0) e3.0 e4.0 (sym (ap (changes_in aspect.Version) usual) ∙ e5.0));
       removed = map-none Removed d.removed e6.0;
       added = map-none Added d.added e6.1;
     }
@@ -182,15 +206,19 @@ no_change-empty olds news d h e =
     by_aspect s c r v aspect.Replacement = r
     by_aspect s c r v aspect.Version = v
 
-empty-no_change : (olds news : List PackageData) (d : DifferenceData) → IsDifference olds news d → HasNoChanges d → changes_of d ≡ []
-empty-no_change olds news d h e =
+empty-no_change : (accepted : List Accepted) (olds news : List PackageData) (d : DifferenceData) → IsDifferenceBut accepted olds news d → HasNoChanges d → changes_of d ≡ []
+empty-no_change accepted olds news d h e =
     let told : seconds d.alarms ≡ [] = h.alarmed.told ∙ (λ i. seconds (filter (is_alarm olds) (e.pairs i)) ++ filter (is_suspect olds) (e.added i)) in
     let none : d.alarms ≡ [] = map-none (λ (a : PackageData × PackageData). a.1) d.alarms told in
-    λ i. map (λ a. Alarm a.0 a.1) (none i) ++ (changes_in aspect.Source (e.pairs i) ++ (changes_in aspect.Checksum (e.pairs i)
-    ++ (changes_in aspect.Replacement (e.pairs i) ++ (changes_in aspect.Version (e.pairs i) ++ (map Removed (e.removed i) ++ map Added (e.added i))))))
+    let strange : d.strange ≡ [] = h.estranged.are_strange ∙ (λ i. filter (is_strange_pair accepted olds) (e.pairs i)) in
+    let usual : d.usual ≡ [] = h.estranged.are_usual ∙ (λ i. filter (λ p. not (is_strange_pair accepted olds p)) (e.pairs i)) in
+    let came : d.came ≡ [] = map-none (λ (a : PackageData × PackageData). a.1) d.came (h.estranged.have_come ∙ (λ i. filter (is_stranger accepted olds) (e.added i))) in
+    λ i. (map (λ a. Alarm a.0 a.1) (none i) ++ (map strange_change (strange i) ++ map (λ a. NewSource a.0 a.1) (came i)))
+    ++ (changes_in aspect.Source (usual i) ++ (changes_in aspect.Checksum (e.pairs i)
+    ++ (changes_in aspect.Replacement (e.pairs i) ++ (changes_in aspect.Version (usual i) ++ (map Removed (e.removed i) ++ map Added (e.added i))))))
 
 pub none_if_permuted : NoneIfPermuted
-none_if_permuted olds news d h = (
-  λ none. (empty_if_permuted olds news d h).0 (no_change-empty olds news d h none),
-  λ perm. empty-no_change olds news d h ((empty_if_permuted olds news d h).1 perm),
+none_if_permuted accepted olds news d h = (
+  λ none. (empty_if_permuted accepted olds news d h).0 (no_change-empty accepted olds news d h none),
+  λ perm. empty-no_change accepted olds news d h ((empty_if_permuted accepted olds news d h).1 perm),
 )

@@ -24,7 +24,7 @@ use Rattle.cargo_lock_diff.proofs.Orders.{likeness_total}
 
 -- ---- counts
 
-count-map : {X Y : Type 0} (q : Y → Bool) (f : X → Y) (xs : List X) → count_by q (map f xs) ≡ count_by (λ x. q (f x)) xs
+pub count-map : {X Y : Type 0} (q : Y → Bool) (f : X → Y) (xs : List X) → count_by q (map f xs) ≡ count_by (λ x. q (f x)) xs
 count-map q f [] = refl
 count-map q f (x ∷ xs) = count-cons q (f x) (map f xs) ∙ ap (λ n. cond (q (f x)) 1 0 + n) (count-map q f xs) ∙ sym (count-cons (λ z. q (f z)) x xs)
 
@@ -43,7 +43,7 @@ count-weaker p q h (x ∷ xs) =
     omega (arith, a, b, c, d)
 
 -- each stands as often in both lists
-abbrev SameCounts : {X : Type 0} → (X → X → Bool) → List X → List X → Type 0
+abbrev pub SameCounts : {X : Type 0} → (X → X → Bool) → List X → List X → Type 0
 SameCounts {X} same xs ys = (x : X) → count_by (same x) xs ≡ count_by (same x) ys
 
 same-at : {X : Type 0} (W : X → X → Bool) → IsEquivalence W → (p x y : X) → W x y ≡ true → W p x ≡ W p y
@@ -61,14 +61,15 @@ other-one {X} W w xs ys same x there = go (count_by (W x) ys) refl
         absurd (omega (arith, e, a, b))
     go (suc n) e = counted (W x) ys n e
 
--- lists with the same counts by a test have the same counts by a coarser one
-coarse-counts : {X : Type 0} (W S : X → X → Bool) → IsEquivalence W → IsEquivalence S → IsFiner W S → (xs ys : List X) → SameCounts W xs ys → SameCounts S xs ys
-coarse-counts W S w s finer [] [] same a = refl
-coarse-counts W S w s finer [] (y ∷ ys) same a =
+-- lists with the same counts by a test have the same count of what does not distinguish the alike
+pub count-same : {X : Type 0} (W : X → X → Bool) → IsEquivalence W → (q : X → Bool) → ((x y : X) → W x y ≡ true → q x ≡ q y)
+    → (xs ys : List X) → SameCounts W xs ys → count_by q xs ≡ count_by q ys
+count-same W w q respects [] [] same = refl
+count-same W w q respects [] (y ∷ ys) same =
     let e = same y in
     let f = count-there (W y) (y ∷ ys) y (0, omega arith, refl) (w.refl y) in
     absurd (omega (arith, e, f))
-coarse-counts {X} W S w s finer (x ∷ xs) ys same a =
+count-same {X} W w q respects (x ∷ xs) ys same =
     let o = other-one W w (x ∷ xs) ys same x (0, omega arith, refl) in
     let y = o.0 in
     let zs : List X = remove ys o.1.0 in
@@ -80,12 +81,16 @@ coarse-counts {X} W S w s finer (x ∷ xs) ys same a =
     let e = count-cons (W p) y zs in
     let f = ap {B = ℕ} (λ (t : Bool). cond t 1 0) (same-at W w p x y o.2) in
     omega (arith, b, c, d, e, f) in
-    let b = coarse-counts W S w s finer xs zs rest a in
-    let c = count-cons (S a) x xs in
-    let d = count-permutation (S a) ys (y ∷ zs) perm in
-    let e = count-cons (S a) y zs in
-    let f = ap {B = ℕ} (λ (t : Bool). cond t 1 0) (same-at S s a x y (finer x y o.2)) in
+    let b = count-same W w q respects xs zs rest in
+    let c = count-cons q x xs in
+    let d = count-permutation q ys (y ∷ zs) perm in
+    let e = count-cons q y zs in
+    let f = ap {B = ℕ} (λ (t : Bool). cond t 1 0) (respects x y o.2) in
     omega (arith, b, c, d, e, f)
+
+-- lists with the same counts by a test have the same counts by a coarser one
+coarse-counts : {X : Type 0} (W S : X → X → Bool) → IsEquivalence W → IsEquivalence S → IsFiner W S → (xs ys : List X) → SameCounts W xs ys → SameCounts S xs ys
+coarse-counts W S w s finer xs ys same a = count-same W w (S a) (λ x y h. same-at S s a x y (finer x y h)) xs ys same
 
 -- ---- one pairing
 

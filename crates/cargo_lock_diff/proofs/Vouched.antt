@@ -251,10 +251,10 @@ vouchers-of olds all vs made perm = subst (λ zs. IsPermutation zs (referred_pac
 
 -- ---- one more
 
-filter-hit : {X : Type 0} (q : X → Bool) (xs : List X) (x : X) → q x ≡ true → filter q (xs ++ x ∷ []) ≡ filter q xs ++ x ∷ []
+pub filter-hit : {X : Type 0} (q : X → Bool) (xs : List X) (x : X) → q x ≡ true → filter q (xs ++ x ∷ []) ≡ filter q xs ++ x ∷ []
 filter-hit {X} q xs x hit = filter-append q xs (x ∷ []) ∙ ap (λ (b : Bool). filter q xs ++ cond b (x ∷ []) []) hit
 
-filter-miss : {X : Type 0} (q : X → Bool) (xs : List X) (x : X) → q x ≡ false → filter q (xs ++ x ∷ []) ≡ filter q xs
+pub filter-miss : {X : Type 0} (q : X → Bool) (xs : List X) (x : X) → q x ≡ false → filter q (xs ++ x ∷ []) ≡ filter q xs
 filter-miss {X} q xs x miss = filter-append q xs (x ∷ []) ∙ ap (λ (b : Bool). filter q xs ++ cond b (x ∷ []) []) miss ∙ append-nil (filter q xs)
 
 pub record AlarmsSo (known told : List PackageData) (all : List (Bor PackageData × Bor PackageData)) : Type 0 where

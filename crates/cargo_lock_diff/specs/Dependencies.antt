@@ -1,7 +1,8 @@
--- The dependencies that only one of the two packages of a pair has. Dependencies are compared by
--- their packages, and not by the references that are written: an old and a new dependency are the
--- same if their packages are a pair.
-use Rattle.std.specs.Prelude.{◌≡◌, ◌↔◌, ◌&&◌, ◌||◌, Bool, true, false, not, List, if◌then◌else◌}
+-- The dependencies that only one of the two packages of a pair has. An old and a new dependency are
+-- the same if they are one, or if their packages are a pair. So a dependency that no package fits
+-- is the same as itself.
+use Rattle.std.specs.Prelude.{◌≡◌, ◌↔◌, ◌⊎◌, ◌&&◌, ◌||◌, Bool, true, false, not, List}
+use Rattle.std.specs.Prelude.{if◌then◌else◌}
 use Rattle.std.specs.List.{Contains, filter, list_any}
 use Rattle.std.specs.Ordering.{eq_by_cmp}
 use Rattle.cargo_lock_parts.specs.Identity.{Identity, PackageData, identity_of}
@@ -24,9 +25,14 @@ is_carried pairs d e = list_any (λ p. are_targets p d e) pairs
 abbrev pub is_carried_either : Bool → List (PackageData × PackageData) → Identity → Identity → Bool
 is_carried_either forward pairs d e = if forward then is_carried pairs d e else is_carried pairs e d
 
--- some of the others is carried onto the dependency, or it onto that one
+-- dependencies are one: they have one name, one version and one origin, as above
+abbrev pub are_one : Identity → Identity → Bool
+are_one = eq_by_cmp target_cmp
+
+-- the dependency is one of the others, or some of these is carried onto it, or it onto that one
 abbrev pub is_met : Bool → List (PackageData × PackageData) → List Identity → Identity → Bool
-is_met forward pairs others d = list_any (is_carried_either forward pairs d) others
+is_met forward pairs others d =
+    list_any (are_one d) others || list_any (is_carried_either forward pairs d) others
 
 -- the dependencies of the first list that meet none of the second
 abbrev pub only_in : Bool → List (PackageData × PackageData) → List Identity → List Identity
@@ -47,12 +53,16 @@ abbrev pub IsCarried : List (PackageData × PackageData) → Identity → Identi
 IsCarried pairs d e = (p : PackageData × PackageData) × Contains pairs p
     × (is_target p.0 d ≡ true) × (is_target p.1 e ≡ true)
 
--- Packages have the same dependencies exactly if the pairs carry the old ones onto the new ones:
--- each old one onto some new one, and onto each new one some old one.
+-- an old and a new dependency are the same
+abbrev pub AreSame : List (PackageData × PackageData) → Identity → Identity → Type 0
+AreSame pairs d e = (are_one d e ≡ true) ⊎ IsCarried pairs d e
+
+-- Packages have the same dependencies exactly if each old one is the same as some new one, and each
+-- new one as some old one.
 abbrev pub EqualIfCarried : Type 0
 EqualIfCarried = (pairs : List (PackageData × PackageData)) (old new : PackageData)
     → (have_other_dependencies pairs old new ≡ false)
     ↔ (((d : Identity) → Contains old.dependencies d
-    → (e : Identity) × Contains new.dependencies e × IsCarried pairs d e)
+    → (e : Identity) × Contains new.dependencies e × AreSame pairs d e)
     × ((e : Identity) → Contains new.dependencies e
-    → (d : Identity) × Contains old.dependencies d × IsCarried pairs d e))
+    → (d : Identity) × Contains old.dependencies d × AreSame pairs d e))

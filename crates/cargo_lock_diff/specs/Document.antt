@@ -3,7 +3,8 @@ use Rattle.std.specs.Prelude.{ℕ, ◌==◌, Bool, true, false, List, [], codes,
 use Rattle.std.specs.Prelude.{Option, None, Some, if◌then◌else◌}
 use Rattle.json.specs.Json.{Json, array, boolean, number, string, object, member, no_members}
 use Rattle.cargo_lock_parts.specs.Identity.{Identity, PackageData}
-use Rattle.cargo_lock_diff.specs.Change.{ChangeData, Alarm, Moved, Checksum, Replaced, Updated}
+use Rattle.cargo_lock_diff.specs.Change.{ChangeData, Alarm, NewSource, NewSourceUpdate, Moved}
+use Rattle.cargo_lock_diff.specs.Change.{Checksum, Replaced, Updated}
 use Rattle.cargo_lock_diff.specs.Change.{Removed, Added, OtherDependencies, is_downgrade}
 use Rattle.cargo_lock_diff.specs.Summary.{summary_of}
 use Rattle.cargo_lock_diff.specs.declared.summary.Summary.{Summary}
@@ -13,14 +14,19 @@ use Rattle.printing.specs.Json.{items_of}
 
 -- ---- changes
 
--- the kind of a change; an alarm is about a checksum
+-- the kind of another version
+abbrev pub update_kind_text : PackageData → PackageData → List ℕ
+update_kind_text old new = if is_downgrade old new then codes "downgraded" else codes "updated"
+
+-- the kind of a change; an alarm is about a checksum or a source, or about an update
 abbrev pub change_kind_text : ChangeData → List ℕ
 change_kind_text (Alarm old new) = codes "checksum"
+change_kind_text (NewSource old new) = codes "source"
+change_kind_text (NewSourceUpdate old new) = update_kind_text old new
 change_kind_text (Moved old new) = codes "source"
 change_kind_text (Checksum old new) = codes "checksum"
 change_kind_text (Replaced old new) = codes "replacement"
-change_kind_text (Updated old new) =
-    if is_downgrade old new then codes "downgraded" else codes "updated"
+change_kind_text (Updated old new) = update_kind_text old new
 change_kind_text (Removed old) = codes "removed"
 change_kind_text (Added new) = codes "added"
 change_kind_text (OtherDependencies old new gone came) = codes "dependencies"
@@ -28,11 +34,15 @@ change_kind_text (OtherDependencies old new gone came) = codes "dependencies"
 -- the change is an alarm
 abbrev pub is_alarm_change : ChangeData → Bool
 is_alarm_change (Alarm old new) = true
+is_alarm_change (NewSource old new) = true
+is_alarm_change (NewSourceUpdate old new) = true
 is_alarm_change other = false
 
 -- the old package of a change, none if a package was added
 abbrev pub old_of : ChangeData → Option PackageData
 old_of (Alarm old new) = Some old
+old_of (NewSource old new) = Some old
+old_of (NewSourceUpdate old new) = Some old
 old_of (Moved old new) = Some old
 old_of (Checksum old new) = Some old
 old_of (Replaced old new) = Some old
@@ -44,6 +54,8 @@ old_of (OtherDependencies old new gone came) = Some old
 -- the new package of a change, none if a package was removed
 abbrev pub new_of : ChangeData → Option PackageData
 new_of (Alarm old new) = Some new
+new_of (NewSource old new) = Some new
+new_of (NewSourceUpdate old new) = Some new
 new_of (Moved old new) = Some new
 new_of (Checksum old new) = Some new
 new_of (Replaced old new) = Some new

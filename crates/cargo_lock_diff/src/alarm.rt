@@ -107,8 +107,8 @@ fn with_checksum<'a>(
     Ok(all)
 }
 
-// The packages, sorted by what the likeness compares.
-fn sorted<'a>(
+/// The packages, sorted by what the likeness compares. Fails when out of memory.
+pub(crate) fn sorted<'a>(
     alloc: Global,
     likeness: Likeness,
     packages: &Vec<&'a Package>,
@@ -122,8 +122,12 @@ fn sorted<'a>(
     Ok(all)
 }
 
-// A package that is like another one, if there is one, among packages in that order.
-fn find<'a>(likeness: Likeness, sorted: &Vec<&'a Package>, one: &Package) -> Option<&'a Package>
+/// A package that is like another one, if there is one, among packages in that order.
+pub(crate) fn find<'a>(
+    likeness: Likeness,
+    sorted: &Vec<&'a Package>,
+    one: &Package,
+) -> Option<&'a Package>
     requires { IsSorted (cmp_at likeness) sorted.now.items }
     ensures { MatchOption result
         (list_any (is_alike likeness one.now) (referred_packages sorted.now.items) ≡ false)

@@ -1,23 +1,23 @@
 //! The changes that a difference reports, each as a line.
 
-ghost use Rattle.std.specs.Prelude.{◌≡◌, [], ◌∷◌, ◌++◌, IfOk, OnOk, map};
-ghost use Rattle.cargo_lock_diff.specs.Change.{Added, Alarm, Removed, change_in, change_of};
-ghost use Rattle.cargo_lock_diff.specs.Change.{changes_in, differs_in};
+ghost use Rattle.std.specs.Prelude.{◌≡◌, ◌||◌, [], ◌∷◌, ◌++◌, IfOk, OnOk, map};
+ghost use Rattle.cargo_lock_diff.specs.Change.{Added, Alarm, NewSource, Removed, change_in};
+ghost use Rattle.cargo_lock_diff.specs.Change.{change_of, changes_in, differs_in, has_lost_checksum};
+ghost use Rattle.cargo_lock_diff.specs.Change.{has_new_checksum, strange_change};
 ghost use Rattle.cargo_lock_diff.specs.Change as spec;
 ghost use Rattle.cargo_lock_diff.specs.Difference.{referred_packages, referred_pairs};
 
+use crate::commits::Commits;
 use crate::dependencies::Targets;
-use crate::parts::{ChecksumMark, Checksums, DowngradeMark, Signed, Sources, UpdatedSources};
+use crate::line::Line;
 use crate::same::{have_one_place, have_one_replacement, have_one_version};
-use cargo_lock_display::{NameVersion, PackageText, ReplacementText};
 use cargo_lock_parts::dependency::Dependency;
 use cargo_lock_parts::package::Package;
-use printing::Shown;
 use std::alloc::{AllocError, Global};
 use std::fmt;
 
 /// One thing that differs. `Display` writes it as a line without a newline, whose first sign says
-/// what it is.
+/// what it is, and commits short. `Line` writes them in full too.
 ///
 /// `SRC` is the source as a V4 lockfile has it, in round brackets; a package without a source has
 /// `(path)`, and one of crates.io nothing. Texts that come from a lockfile are shown as `Shown`
@@ -28,20 +28,32 @@ pub enum Change<'a> {
     /// name and the version of the new one and a checksum, which the new one does not have.
     Alarm(&'a Package, &'a Package),
 
+    /// An alarm: `! NAME VERSION: OLD -> NEW`, with the sources as in `Moved`. The new package comes
+    /// from a new source. It was added, or it is in a pair of the same version. The old one has its
+    /// name.
+    NewSource(&'a Package, &'a Package),
+
+    /// An alarm: `! NAME OLD -> NEW: OLD -> NEW`, as in `Updated`. The new package of a pair of two
+    /// versions comes from a new source.
+    NewSourceUpdate(&'a Package, &'a Package),
+
     /// A pair of the same version from another place: `> NAME VERSION: OLD -> NEW`. Here a source
-    /// has no brackets, and crates.io is named.
+    /// has no brackets, and crates.io is named. Where only the commit of a repository differs, it is
+    /// `> NAME VERSION: rev OLD -> NEW`.
     Moved(&'a Package, &'a Package),
 
-    /// A pair of the same version, of which only the new package has a checksum:
-    /// `? NAME VERSION SRC: checksum none -> NEW`.
+    /// A pair of the same version, of which only one package has a checksum:
+    /// `? NAME VERSION SRC: checksum none -> NEW`, or `OLD -> none` where the place differs too. At
+    /// one place that is an alarm.
     Checksum(&'a Package, &'a Package),
 
     /// A pair of the same version with another replacement:
     /// `@ NAME VERSION SRC: replacement OLD -> NEW`, each as `NAME VERSION SRC` or `none`.
     Replaced(&'a Package, &'a Package),
 
-    /// A pair of two versions: `~ NAME OLD -> NEW`, then `: OLD -> NEW` if the places differ, and
-    /// otherwise `SRC`, and at last `(downgrade)` if the new version is less than the old one.
+    /// A pair of two versions: `~ NAME OLD -> NEW`, then `: OLD -> NEW` or `: rev OLD -> NEW` if the
+    /// places differ, and otherwise `SRC`, then `(incompatible)` if the release lines differ, and at
+    /// last `(downgrade)` if the new version is less than the old one.
     Updated(&'a Package, &'a Package),
 
     /// A package that was removed: `- NAME VERSION SRC`.
@@ -55,7 +67,8 @@ pub enum Change<'a> {
     /// have: `= NAME VERSION SRC:`, of the new one, then ` - NAME VERSION SRC` for each dependency
     /// that only the old one has, and ` + NAME VERSION SRC` for each that only the new one has.
     /// After the packages come these dependencies, each list in the order of its package. An old
-    /// and a new dependency are the same if their packages are a pair of the difference.
+    /// and a new dependency are the same if they have one name, version and origin, or if their
+    /// packages are a pair of the difference.
     OtherDependencies(&'a Package, &'a Package, Vec<&'a Dependency>, Vec<&'a Dependency>),
 }
 
@@ -66,51 +79,8 @@ impl fmt::Display for Change<'_> {
     ghost output = { λ change. Some (change_line (change_of change)) };
 
     fn fmt<W: fmt::Write>(&self, f: &mut fmt::Formatter<W>) -> fmt::Result {
-        match self {
-            Change::Alarm(old, new) => {
-                let package = PackageText(new);
-                let checksums = Checksums(old, new);
-                write!(f, "! {package}{checksums}")
-            }
-            Change::Moved(old, new) => {
-                let package = NameVersion(new);
-                let sources = Sources(old, new);
-                write!(f, "> {package}{sources}")
-            }
-            Change::Checksum(old, new) => {
-                let package = PackageText(new);
-                let checksums = Checksums(old, new);
-                write!(f, "? {package}{checksums}")
-            }
-            Change::Replaced(old, new) => {
-                let package = PackageText(new);
-                let from = ReplacementText(old);
-                let to = ReplacementText(new);
-                write!(f, "@ {package}: replacement {from} -> {to}")
-            }
-            Change::Updated(old, new) => {
-                let package = NameVersion(old);
-                let version = Shown(&new.version);
-                let sources = UpdatedSources(old, new);
-                let mark = DowngradeMark(old, new);
-                write!(f, "~ {package} -> {version}{sources}{mark}")
-            }
-            Change::Removed(old) => {
-                let package = PackageText(old);
-                write!(f, "- {package}")
-            }
-            Change::Added(new) => {
-                let package = PackageText(new);
-                let mark = ChecksumMark(new);
-                write!(f, "+ {package}{mark}")
-            }
-            Change::OtherDependencies(_, new, gone, came) => {
-                let package = PackageText(new);
-                let gone = Signed(true, gone);
-                let came = Signed(false, came);
-                write!(f, "= {package}:{gone}{came}")
-            }
-        }
+        let line = Line(self, Commits::Short);
+        write!(f, "{line}")
     }
 }
 
@@ -132,7 +102,7 @@ impl Aspect {
         let one_version = have_one_version(old, new);
         match self {
             Aspect::Source => one_version && !have_one_place(old, new),
-            Aspect::Checksum => { one_version && old.checksum.is_none() && new.checksum.is_some() }
+            Aspect::Checksum => one_version && has_other_checksum(old, new),
             Aspect::Replacement => one_version && !have_one_replacement(old, new),
             Aspect::Version => !one_version,
         }
@@ -151,6 +121,18 @@ impl Aspect {
     }
 }
 
+// Whether only one package of a pair has a checksum: the new one, or the old one where the new one
+// comes from another place.
+fn has_other_checksum(old: &Package, new: &Package) -> bool
+    ensures { result ≡ (has_new_checksum old.now new.now || has_lost_checksum old.now new.now) }
+{
+    if old.checksum.is_none() {
+        new.checksum.is_some()
+    } else {
+        new.checksum.is_none() && !have_one_place(old, new)
+    }
+}
+
 pub(crate) fn add_alarms<'a>(
     all: &mut Vec<Change<'a>>,
     alarms: &Vec<(&'a Package, &'a Package)>,
@@ -160,6 +142,46 @@ pub(crate) fn add_alarms<'a>(
 {
     for alarm in alarms {
         all.push(Change::Alarm(alarm.0, alarm.1))?;
+    }
+    Ok(())
+}
+
+// Adds the alarms of pairs whose new package comes from a new source.
+pub(crate) fn add_strange<'a>(
+    all: &mut Vec<Change<'a>>,
+    pairs: &Vec<(&'a Package, &'a Package)>,
+) -> Result<(), AllocError>
+    ensures { OnOk result (map change_of all.new.items
+        ≡ map change_of all.old.items ++ map strange_change (referred_pairs pairs.now.items)) }
+{
+    for pair in pairs {
+        all.push(strange(pair.0, pair.1))?;
+    }
+    Ok(())
+}
+
+// The alarm of a pair whose new package comes from a new source.
+fn strange<'a>(old: &'a Package, new: &'a Package) -> Change<'a>
+    ensures { change_of result ≡ strange_change (old.now, new.now) }
+{
+    if have_one_version(old, new) {
+        Change::NewSource(old, new)
+    } else {
+        Change::NewSourceUpdate(old, new)
+    }
+}
+
+// Adds the alarms of added packages that come from a new source, each with an old one of its name.
+pub(crate) fn add_came<'a>(
+    all: &mut Vec<Change<'a>>,
+    came: &Vec<(&'a Package, &'a Package)>,
+) -> Result<(), AllocError>
+    ensures { OnOk result (map change_of all.new.items
+        ≡ map change_of all.old.items
+        ++ map (λ a. NewSource a.0 a.1) (referred_pairs came.now.items)) }
+{
+    for pair in came {
+        all.push(Change::NewSource(pair.0, pair.1))?;
     }
     Ok(())
 }

@@ -7,10 +7,12 @@ ghost use Rattle.cargo_lock_diff.specs.Change.{change_of};
 ghost use Rattle.cargo_lock_diff.specs.Difference.{dependencies_at};
 ghost use Rattle.cargo_lock_diff.specs.Document.{added_of, change_kind_text};
 ghost use Rattle.cargo_lock_diff.specs.Document.{dependencies_json, new_of, old_of, removed_of};
+ghost use Rattle.cargo_lock_diff.specs.Document.{update_kind_text};
 ghost use Rattle.cargo_lock_diff.specs.Document as spec;
 ghost use Rattle.printing.specs.Json.{Adds};
 
 use crate::change::Change;
+use crate::parts::is_downgrade;
 use crate::summary::Kind;
 use cargo_lock_display::{put_dependency, put_package_or_null};
 use cargo_lock_parts::dependency::Dependency;
@@ -42,25 +44,30 @@ fn kind(change: &Change<'_>) -> &'static str
 {
     match change {
         Change::Alarm(_, _) | Change::Checksum(_, _) => "checksum",
-        Change::Moved(_, _) => "source",
+        Change::NewSource(_, _) | Change::Moved(_, _) => "source",
         Change::Replaced(_, _) => "replacement",
-        Change::Updated(_, _) => {
-            if Kind::Downgraded.is_of(change) {
-                "downgraded"
-            } else {
-                "updated"
-            }
-        }
+        Change::NewSourceUpdate(old, new) | Change::Updated(old, new) => update_kind(old, new),
         Change::Removed(_) => "removed",
         Change::Added(_) => "added",
         Change::OtherDependencies(_, _, _, _) => "dependencies",
     }
 }
 
+// The kind of another version.
+fn update_kind(old: &Package, new: &Package) -> &'static str
+    ensures { result.now ≡ update_kind_text old.now new.now }
+{
+    if is_downgrade(old, new) {
+        "downgraded"
+    } else {
+        "updated"
+    }
+}
+
 fn is_alarm(change: &Change<'_>) -> bool
     ensures { result ≡ spec.is_alarm_change (change_of change.now) }
 {
-    matches!(change, Change::Alarm(_, _))
+    Kind::Alarm.is_of(change)
 }
 
 fn old<'a>(change: &Change<'a>) -> Option<&'a Package>
@@ -68,6 +75,8 @@ fn old<'a>(change: &Change<'a>) -> Option<&'a Package>
 {
     match *change {
         Change::Alarm(old, _)
+        | Change::NewSource(old, _)
+        | Change::NewSourceUpdate(old, _)
         | Change::Moved(old, _)
         | Change::Checksum(old, _)
         | Change::Replaced(old, _)
@@ -83,6 +92,8 @@ fn new<'a>(change: &Change<'a>) -> Option<&'a Package>
 {
     match *change {
         Change::Alarm(_, new)
+        | Change::NewSource(_, new)
+        | Change::NewSourceUpdate(_, new)
         | Change::Moved(_, new)
         | Change::Checksum(_, new)
         | Change::Replaced(_, new)

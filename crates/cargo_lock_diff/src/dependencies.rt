@@ -4,7 +4,8 @@ ghost use Rattle.std.specs.Prelude.{◌≡◌, ◌++◌, ◌&&◌, IfOk, IsPermu
 ghost use Rattle.std.specs.List.{list_any, take_while};
 ghost use Rattle.std.specs.List.Sorted.{IsStrictlySortedBy};
 ghost use Rattle.cargo_lock_parts.specs.Identity.{identity_of};
-ghost use Rattle.cargo_lock_diff.specs.Dependencies.{is_carried, is_met, is_target, only_in};
+ghost use Rattle.cargo_lock_diff.specs.Dependencies.{are_one, is_carried, is_carried_either};
+ghost use Rattle.cargo_lock_diff.specs.Dependencies.{is_met, is_target, only_in};
 ghost use Rattle.cargo_lock_diff.specs.Difference.{dependencies_at, referred_pairs};
 ghost use Rattle.cargo_lock_diff.specs.Pairing.{exchanged_pair};
 ghost use Rattle.cargo_lock_diff.specs.Place.{target_cmp};
@@ -17,8 +18,8 @@ use std::alloc::{AllocError, Global};
 use std::cmp::Ordering;
 use std::marker::Model;
 
-// The pairs of a difference, by which an old and a new dependency are the same: if their packages
-// are a pair. A dependency is of the package that has its name, its version and its origin; the
+// The pairs of a difference, by which an old and a new dependency are the same: if they are one, or
+// if their packages are a pair. A dependency is of the package that has its name, its version and its origin; the
 // commit is ignored, since a reference may have none, and the branch `master` is the default
 // branch, as which it was written before V3.
 //
@@ -100,16 +101,36 @@ impl<'a> Targets<'a> {
         Ok(only)
     }
 
-    // Whether a dependency meets one of some that are in order.
+    // Whether a dependency is one of some that are in order, or meets one of them.
     fn meets(&self, forward: bool, one: &Dependency, others: &Vec<&Dependency>) -> bool
         requires { IsSorted dependencies_cmp others.now.items }
         ensures { result ≡ is_met forward self.now (dependencies_at others.now.items) one.now }
+    {
+        is_listed(one, others) || self.is_carried(forward, one, others)
+    }
+
+    // Whether a dependency is carried onto one of some that are in order, or one of them onto it.
+    fn is_carried(&self, forward: bool, one: &Dependency, others: &Vec<&Dependency>) -> bool
+        requires { IsSorted dependencies_cmp others.now.items }
+        ensures { result ≡ list_any (is_carried_either forward self.now one.now)
+            (dependencies_at others.now.items) }
     {
         if forward {
             leads(&self.by_old, one, others)
         } else {
             leads(&self.by_new, one, others)
         }
+    }
+}
+
+// Whether a dependency is one of some that are in order.
+fn is_listed(one: &Dependency, others: &Vec<&Dependency>) -> bool
+    requires { IsSorted dependencies_cmp others.now.items }
+    ensures { result ≡ list_any (are_one one.now) (dependencies_at others.now.items) }
+{
+    match others.binary_search_by(|other| cmp_dependencies(other, one)) {
+        Ok(_) => true,
+        Err(_) => false,
     }
 }
 

@@ -1,12 +1,21 @@
 //! The difference of two lists of packages.
 
-ghost use Rattle.std.specs.Prelude.{◌≡◌, ◌++◌, IfOk, map};
-ghost use Rattle.cargo_lock_diff.specs.Difference.{IsDifference, referred_packages};
+ghost use Rattle.std.specs.Prelude.{◌≡◌, ◌++◌, All, IfOk, map, true};
+ghost use Rattle.std.specs.List.{Contains};
+ghost use Rattle.cargo_lock_diff.specs.Alarm.{AreAlarms};
+ghost use Rattle.cargo_lock_diff.specs.Difference.{IsDifference, IsDifferenceBut};
+ghost use Rattle.cargo_lock_diff.specs.Difference.{referred_packages, referred_pairs};
+ghost use Rattle.cargo_lock_diff.specs.Likeness.{is_alike};
+ghost use Rattle.cargo_lock_diff.specs.Stranger.{AreStrangers};
 
+use crate::accepted::Accepted;
 use crate::alarm::{Vouchers, alarms};
 use crate::change::{self, Aspect, Change};
 use crate::dependencies::Targets;
-use crate::pairing::pair;
+use crate::home::Residents;
+use crate::likeness::Likeness;
+use crate::pairing::{Pairing, pair};
+use crate::stranger::Strangers;
 use cargo_lock_parts::package::Package;
 use std::alloc::{AllocError, Global};
 use std::marker::Model;
@@ -48,6 +57,20 @@ pub struct Difference<'a> {
     /// package is not kept. The new package of a pair with the same version and two checksums is an
     /// alarm too.
     pub alarms: Vec<(&'a Package, &'a Package)>,
+
+    /// Those of `pairs` whose new package comes from a new source: no old package comes from its
+    /// home, and the caller does not accept its source. The home of a package is its source, in the
+    /// spelling by which Cargo compares URLs, whatever branch, tag, revision and commit it has;
+    /// crates.io is one home by either of its two indexes. Of packages without a source each name
+    /// has a home of its own.
+    pub strange: Vec<(&'a Package, &'a Package)>,
+
+    /// The others of `pairs`.
+    pub usual: Vec<(&'a Package, &'a Package)>,
+
+    /// Those of `added` that come from a new source, although the old list has their name, each with
+    /// an old package of that name.
+    pub came: Vec<(&'a Package, &'a Package)>,
 }
 
 impl<'a> Model for Difference<'a> {
@@ -62,16 +85,20 @@ impl<'a> Model for Difference<'a> {
       removed = referred_packages d.removed.items;
       added = referred_packages d.added.items;
       alarms = referred_pairs d.alarms.items;
+      strange = referred_pairs d.strange.items;
+      usual = referred_pairs d.usual.items;
+      came = referred_pairs d.came.items;
     } };
 }
 
 impl<'a> Difference<'a> {
-    ghost use Rattle.std.specs.Prelude.{◌↔◌, ◌≢◌, [], IsTrue, false};
+    ghost use Rattle.std.specs.Prelude.{◌↔◌, IsTrue, false};
     ghost use Rattle.cargo_lock_diff.specs.Change.{change_of, changes_of, dependency_changes_of};
-    ghost use Rattle.cargo_lock_diff.specs.Change.{all_changes_of};
-    ghost use Rattle.cargo_lock_diff.specs.Difference.{HasNoChanges};
+    ghost use Rattle.cargo_lock_diff.specs.Change.{alarms_of, all_changes_of};
+    ghost use Rattle.cargo_lock_diff.specs.Difference.{HasNoAlarms, HasNoChanges};
 
-    /// What differs between an old and a new list of packages. Fails when out of memory.
+    /// What differs between an old and a new list of packages. No source is accepted. Fails when
+    /// out of memory.
     pub fn of(
         alloc: Global,
         old: &'a [Package],
@@ -79,17 +106,38 @@ impl<'a> Difference<'a> {
     ) -> Result<Difference<'a>, AllocError>
         ensures { IfOk result (λ d. IsDifference old.now new.now d) }
     {
+        Difference::accepting(alloc, &[], old, new)
+    }
+
+    /// The same, where packages may come from some new sources without an alarm. Fails when out of
+    /// memory.
+    ///
+    /// ```
+    /// let accepted = [Accepted::Path];
+    /// let difference = Difference::accepting(rt.alloc(), &accepted, &old.packages, &new.packages)?;
+    /// ```
+    pub fn accepting(
+        alloc: Global,
+        accepted: &[Accepted],
+        old: &'a [Package],
+        new: &'a [Package],
+    ) -> Result<Difference<'a>, AllocError>
+        ensures { IfOk result (λ d. IsDifferenceBut accepted.now old.now new.now d) }
+    {
         let old = references_to(alloc, old)?;
         let new = references_to(alloc, new)?;
         let pairing = pair(alloc, &old, &new)?;
-        let vouchers = Vouchers::of(alloc, &old)?;
-        let alarms = alarms(alloc, &vouchers, &pairing.pairs, &pairing.added)?;
+        let alarms = checksum_alarms(alloc, &old, &pairing)?;
+        let strangers = strangers(alloc, accepted, &old, &pairing)?;
         Ok(Difference {
             kept: pairing.kept,
             pairs: pairing.pairs,
             removed: pairing.removed,
             added: pairing.added,
             alarms,
+            strange: strangers.strange,
+            usual: strangers.usual,
+            came: strangers.came,
         })
     }
 
@@ -100,34 +148,45 @@ impl<'a> Difference<'a> {
         self.pairs.is_empty() && self.removed.is_empty() && self.added.is_empty()
     }
 
-    /// Whether there is an alarm.
+    /// Whether there is an alarm: of a checksum, or of a new source.
     pub fn has_alarm(&self) -> bool
-        ensures some { IsTrue result → self.now.alarms ≢ [] }
-        ensures none { result ≡ false → self.now.alarms ≡ [] }
+        ensures { (result ≡ false) ↔ HasNoAlarms self.now }
     {
-        !self.alarms.is_empty()
+        !self.alarms.is_empty() || !self.strange.is_empty() || !self.came.is_empty()
     }
 
     /// The changes, in their order: alarms first, then other sources, new checksums, other
-    /// replacements, other versions, packages that were removed and packages that were added. Fails
+    /// replacements, other versions, packages that were removed and packages that were added. The
+    /// alarm of a pair from a new source is in the place of its other source or other version. Fails
     /// when out of memory.
     pub fn changes(&self, alloc: Global) -> Result<Vec<Change<'a>>, AllocError>
         ensures { IfOk result (λ all. map change_of all.items ≡ changes_of self.now) }
     {
-        let mut all = Vec::new(alloc);
-        change::add_alarms(&mut all, &self.alarms)?;
-        change::add_pairs(&mut all, Aspect::Source, &self.pairs)?;
+        let mut all = self.alarm_changes(alloc)?;
+        change::add_pairs(&mut all, Aspect::Source, &self.usual)?;
         change::add_pairs(&mut all, Aspect::Checksum, &self.pairs)?;
         change::add_pairs(&mut all, Aspect::Replacement, &self.pairs)?;
-        change::add_pairs(&mut all, Aspect::Version, &self.pairs)?;
+        change::add_pairs(&mut all, Aspect::Version, &self.usual)?;
         change::add_removed(&mut all, &self.removed)?;
         change::add_added(&mut all, &self.added)?;
         Ok(all)
     }
 
+    // The alarms, in their order.
+    fn alarm_changes(&self, alloc: Global) -> Result<Vec<Change<'a>>, AllocError>
+        ensures { IfOk result (λ all. map change_of all.items ≡ alarms_of self.now) }
+    {
+        let mut all = Vec::new(alloc);
+        change::add_alarms(&mut all, &self.alarms)?;
+        change::add_strange(&mut all, &self.strange)?;
+        change::add_came(&mut all, &self.came)?;
+        Ok(all)
+    }
+
     /// The pairs of which one package has a dependency that the other does not have, each as
     /// `Change::OtherDependencies`: first of the pairs that are kept, then of the others. An old
-    /// and a new dependency are the same if their packages are a pair. Fails when out of memory.
+    /// and a new dependency are the same if they have one name, version and origin, or if their
+    /// packages are a pair. Fails when out of memory.
     pub fn dependency_changes(&self, alloc: Global) -> Result<Vec<Change<'a>>, AllocError>
         ensures { IfOk result (λ all. map change_of all.items ≡ dependency_changes_of self.now) }
     {
@@ -157,6 +216,42 @@ impl<'a> Difference<'a> {
             Ok(changes)
         }
     }
+}
+
+// The alarms of checksums of a pairing, for these old packages.
+fn checksum_alarms<'a>(
+    alloc: Global,
+    old: &Vec<&'a Package>,
+    pairing: &Pairing<'a>,
+) -> Result<Vec<(&'a Package, &'a Package)>, AllocError>
+    requires named { All (λ p. is_alike Likeness.Name p.0 p.1 ≡ true)
+        (referred_pairs pairing.now.pairs.items) }
+    requires among { All (λ p. Contains (referred_packages old.now.items) p.0)
+        (referred_pairs pairing.now.pairs.items) }
+    ensures { IfOk result (λ all. AreAlarms (referred_packages old.now.items)
+        (referred_pairs pairing.now.pairs.items) (referred_packages pairing.now.added.items)
+        (referred_pairs all.items)) }
+{
+    let vouchers = Vouchers::of(alloc, old)?;
+    let alarms = alarms(alloc, &vouchers, &pairing.pairs, &pairing.added)?;
+    Ok(alarms)
+}
+
+// The strangers of a pairing, for these old packages.
+fn strangers<'a>(
+    alloc: Global,
+    accepted: &[Accepted],
+    old: &Vec<&'a Package>,
+    pairing: &Pairing<'a>,
+) -> Result<Strangers<'a>, AllocError>
+    ensures { IfOk result (λ s. AreStrangers accepted.now (referred_packages old.now.items)
+        (referred_pairs pairing.now.pairs.items) (referred_packages pairing.now.added.items)
+        (referred_pairs s.strange.items) (referred_pairs s.usual.items)
+        (referred_pairs s.came.items)) }
+{
+    let residents = Residents::of(alloc, old)?;
+    let strangers = Strangers::of(alloc, accepted, &residents, &pairing.pairs, &pairing.added)?;
+    Ok(strangers)
 }
 
 // One list after another.

@@ -7,6 +7,7 @@ ghost use Rattle.cargo_lock_diff.specs.Dependencies.{EqualIfCarried};
 ghost use Rattle.cargo_lock_diff.specs.Difference.{EmptyIfPermuted, NoneIsLeftAlone};
 ghost use Rattle.cargo_lock_diff.specs.Difference.{OrderDoesNotCount};
 ghost use Rattle.cargo_lock_diff.specs.Difference.{PairingMirrored, ToldByCount, ToldOnce};
+ghost use Rattle.cargo_lock_diff.specs.Mirror.{AsManyLinesThereAndBack, NoneToItself};
 ghost use Rattle.cargo_lock_diff.specs.PairingLaws.{MirroredInTurn, NoneIsLeftInTurn};
 ghost use Rattle.cargo_lock_diff.specs.PairingLaws.{PairedExactly, ToldInTurn};
 ghost use Rattle.cargo_lock_diff.specs.Summary.{SummaryIsOneLine};
@@ -40,6 +41,19 @@ pub fn equal_packages_tell_no_change()
 /// are left.
 pub fn exchanged_packages_have_exchanged_pairs()
     ensures { PairingMirrored }
+{}
+
+/// As many lines report the changes there and back, but for alarms that have a line beside others:
+/// of a checksum that is not that of the old package of the pair, or of an added package, and of an
+/// added package that comes from a new source.
+pub fn lines_are_as_many_there_and_back()
+    ensures { AsManyLinesThereAndBack }
+{}
+
+/// A list in which no two packages are wholly alike has no change to itself, dependencies included,
+/// whether packages fit them or not.
+pub fn no_list_has_a_change_to_itself()
+    ensures { NoneToItself }
 {}
 
 /// The order of the lists does not matter: for other lists with the same packages, each as often,

@@ -2,6 +2,8 @@
 
 ghost use Rattle.std.specs.Prelude.{◌≡◌};
 ghost use Rattle.std.specs.Option.{option_cmp};
+ghost use Rattle.std.specs.Ordering.{nat_cmp};
+ghost use Rattle.std.specs.Cmp.Lexicographic.{slice_cmp};
 ghost use Rattle.semver.specs.Identifiers.{parts_of};
 ghost use Rattle.cargo_lock_parts.specs.SourceKey.{text_cmp};
 ghost use Rattle.cargo_lock_diff.specs.Likeness.{likeness_cmp};
@@ -81,7 +83,7 @@ fn by_version(one: &Package, other: &Package) -> Ordering
 fn by_line(one: &Package, other: &Package) -> Ordering
     ensures { result ≡ likeness_cmp Likeness.Line one.now other.now }
 {
-    by_origin(one, other).then(release_line(&one.version).cmp(&release_line(&other.version)))
+    by_origin(one, other).then(cmp_lines(one, other))
 }
 
 // The order by name, version and place.
@@ -98,6 +100,14 @@ fn by_all(one: &Package, other: &Package) -> Ordering
     by_place(one, other)
         .then(cmp_checksums(one, other))
         .then(cmp_replacements(&one.replace, &other.replace))
+}
+
+/// The order of the release lines.
+pub(crate) fn cmp_lines(one: &Package, other: &Package) -> Ordering
+    ensures { result ≡ slice_cmp nat_cmp (spec.release_line one.now.version)
+        (spec.release_line other.now.version) }
+{
+    release_line(&one.version).cmp(&release_line(&other.version))
 }
 
 // The release line of a version, with zero for each number after it.

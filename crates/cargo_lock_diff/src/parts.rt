@@ -3,16 +3,68 @@
 ghost use Rattle.std.specs.Prelude.{◌≡◌};
 ghost use Rattle.cargo_lock_diff.specs.Change as spec;
 
-use crate::same::have_one_place;
-use cargo_lock_display::{ChecksumText, DependencyText, SourceBehind, SourceText};
+use crate::commits::{Commits, Revisions, have_one_repository};
+use crate::same::{have_one_line, have_one_place};
+use cargo_lock_display::{ChecksumText, DependencyText, NameVersion, SourceBehind, SourceText};
 use cargo_lock_parts::dependency::Dependency;
 use cargo_lock_parts::package::{Package, SourceId};
+use printing::Shown;
 use std::cmp::Ordering;
 use std::fmt;
 
+// A package that moves: its version, and both sources or commits.
+#[derive(Clone, Copy)]
+pub(crate) struct Moved<'a>(
+    pub(crate) Commits,
+    pub(crate) &'a Package,
+    pub(crate) &'a Package,
+);
+
+impl fmt::Display for Moved<'_> {
+    ghost use Rattle.std.specs.Prelude.{Some};
+    ghost use Rattle.cargo_lock_diff.specs.Change.{moved_package};
+
+    ghost output = { λ shown. Some (moved_package shown.0 shown.1.now shown.2.now) };
+
+    fn fmt<W: fmt::Write>(&self, f: &mut fmt::Formatter<W>) -> fmt::Result {
+        let Moved(commits, old, new) = *self;
+        let package = NameVersion(new);
+        let sources = MovedSources(commits, old, new);
+        write!(f, "{package}{sources}")
+    }
+}
+
+// A pair of two versions: both, the source or both sources, and the marks.
+#[derive(Clone, Copy)]
+pub(crate) struct Updated<'a>(
+    pub(crate) Commits,
+    pub(crate) &'a Package,
+    pub(crate) &'a Package,
+);
+
+impl fmt::Display for Updated<'_> {
+    ghost use Rattle.std.specs.Prelude.{Some};
+    ghost use Rattle.cargo_lock_diff.specs.Change.{updated_text};
+
+    ghost output = { λ shown. Some (updated_text shown.0 shown.1.now shown.2.now) };
+
+    fn fmt<W: fmt::Write>(&self, f: &mut fmt::Formatter<W>) -> fmt::Result {
+        let Updated(commits, old, new) = *self;
+        let package = NameVersion(old);
+        let version = Shown(&new.version);
+        let sources = UpdatedSources(commits, old, new);
+        let incompatible = IncompatibleMark(old, new);
+        let downgrade = DowngradeMark(old, new);
+        write!(
+            f,
+            "{package} -> {version}{sources}{incompatible}{downgrade}"
+        )
+    }
+}
+
 // Both sources of a pair.
 #[derive(Clone, Copy)]
-pub(crate) struct Sources<'a>(pub(crate) &'a Package, pub(crate) &'a Package);
+struct Sources<'a>(&'a Package, &'a Package);
 
 impl fmt::Display for Sources<'_> {
     ghost use Rattle.std.specs.Prelude.{Some};
@@ -30,28 +82,69 @@ impl fmt::Display for Sources<'_> {
 
 // For a pair with other versions: both sources if the places differ, or else the source.
 #[derive(Clone, Copy)]
-pub(crate) struct UpdatedSources<'a>(pub(crate) &'a Package, pub(crate) &'a Package);
+struct UpdatedSources<'a>(Commits, &'a Package, &'a Package);
 
 impl fmt::Display for UpdatedSources<'_> {
     ghost use Rattle.std.specs.Prelude.{Some};
     ghost use Rattle.cargo_lock_diff.specs.Change.{updated_sources};
 
-    ghost output = { λ shown. Some (updated_sources shown.0.now shown.1.now) };
+    ghost output = { λ shown. Some (updated_sources shown.0 shown.1.now shown.2.now) };
 
     fn fmt<W: fmt::Write>(&self, f: &mut fmt::Formatter<W>) -> fmt::Result {
-        let UpdatedSources(old, new) = *self;
+        let UpdatedSources(commits, old, new) = *self;
         if have_one_place(old, new) {
             let behind = SourceBehind(&new.source);
             return write!(f, "{behind}");
+        }
+        let sources = MovedSources(commits, old, new);
+        write!(f, "{sources}")
+    }
+}
+
+// Both sources of a pair, or both commits where all else of the sources stays.
+#[derive(Clone, Copy)]
+struct MovedSources<'a>(Commits, &'a Package, &'a Package);
+
+impl fmt::Display for MovedSources<'_> {
+    ghost use Rattle.std.specs.Prelude.{Some};
+    ghost use Rattle.cargo_lock_diff.specs.Change.{moved_sources};
+
+    ghost output = { λ shown. Some (moved_sources shown.0 shown.1.now shown.2.now) };
+
+    fn fmt<W: fmt::Write>(&self, f: &mut fmt::Formatter<W>) -> fmt::Result {
+        let MovedSources(commits, old, new) = *self;
+        if have_one_repository(old, new) {
+            let revisions = Revisions(commits, old, new);
+            return write!(f, "{revisions}");
         }
         let sources = Sources(old, new);
         write!(f, "{sources}")
     }
 }
 
+// The mark of a pair whose versions are of two release lines.
+#[derive(Clone, Copy)]
+struct IncompatibleMark<'a>(&'a Package, &'a Package);
+
+impl fmt::Display for IncompatibleMark<'_> {
+    ghost use Rattle.std.specs.Prelude.{Some};
+    ghost use Rattle.cargo_lock_diff.specs.Change.{incompatible_mark};
+
+    ghost output = { λ shown. Some (incompatible_mark shown.0.now shown.1.now) };
+
+    fn fmt<W: fmt::Write>(&self, f: &mut fmt::Formatter<W>) -> fmt::Result {
+        let IncompatibleMark(old, new) = *self;
+        if have_one_line(old, new) {
+            Ok(())
+        } else {
+            f.write_str(" (incompatible)")
+        }
+    }
+}
+
 // The mark of a pair whose new version is less than the old one.
 #[derive(Clone, Copy)]
-pub(crate) struct DowngradeMark<'a>(pub(crate) &'a Package, pub(crate) &'a Package);
+struct DowngradeMark<'a>(&'a Package, &'a Package);
 
 impl fmt::Display for DowngradeMark<'_> {
     ghost use Rattle.std.specs.Prelude.{Some};

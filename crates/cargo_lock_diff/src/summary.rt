@@ -11,14 +11,17 @@ use std::fmt;
 /// The kind of a change.
 #[derive(Debug, Clone, Copy, PartialEq, Eq)]
 pub enum Kind {
-    /// `!`: an alarm.
+    /// `!`: an alarm, of a checksum or of a new source.
     Alarm,
 
     /// `>`: another source.
     Source,
 
-    /// `?`: a checksum that was not there.
+    /// `?`: a checksum that only one package of a pair has.
     Checksum,
+
+    /// Those of `Checksum` whose new package has none.
+    LostChecksum,
 
     /// `@`: another replacement.
     Replacement,
@@ -45,9 +48,10 @@ impl Kind {
         ensures { result ≡ spec.is_of_kind self (change_of change.now) }
     {
         match self {
-            Kind::Alarm => matches!(change, Change::Alarm(_, _)),
+            Kind::Alarm => is_alarm(change),
             Kind::Source => matches!(change, Change::Moved(_, _)),
             Kind::Checksum => matches!(change, Change::Checksum(_, _)),
+            Kind::LostChecksum => is_lost(change),
             Kind::Replacement => matches!(change, Change::Replaced(_, _)),
             Kind::Updated => is_update(change, false),
             Kind::Downgraded => is_update(change, true),
@@ -55,6 +59,26 @@ impl Kind {
             Kind::Added => matches!(change, Change::Added(_)),
             Kind::Dependencies => matches!(change, Change::OtherDependencies(_, _, _, _)),
         }
+    }
+}
+
+// Whether a change is an alarm.
+fn is_alarm(change: &Change<'_>) -> bool
+    ensures { result ≡ spec.is_of_kind Kind.Alarm (change_of change.now) }
+{
+    matches!(
+        change,
+        Change::Alarm(_, _) | Change::NewSource(_, _) | Change::NewSourceUpdate(_, _)
+    )
+}
+
+// Whether a change is a checksum that is gone.
+fn is_lost(change: &Change<'_>) -> bool
+    ensures { result ≡ spec.is_lost (change_of change.now) }
+{
+    match change {
+        Change::Checksum(old, _) => old.checksum.is_some(),
+        _ => false,
     }
 }
 
@@ -75,9 +99,9 @@ fn is_update(change: &Change<'_>, downgrade: bool) -> bool
 }
 
 /// How many changes of each kind a difference has. `Display` writes it as the last line without its
-/// newline: `2 updated, 1 downgraded, 1 removed, 1 added, 1 moved, 1 new checksum, 1 replacement,
-/// 1 with other dependencies, 1 alarm`. Counts of zero are left out, and the plural nouns are
-/// `new checksums`, `replacements` and `alarms`.
+/// newline: `2 updated, 1 downgraded, 1 removed, 1 added, 1 moved, 1 new checksum, 1 lost checksum,
+/// 1 replacement, 1 with other dependencies, 1 alarm`. Counts of zero are left out, and the plural
+/// nouns are `new checksums`, `lost checksums`, `replacements` and `alarms`.
 #[derive(Debug, Clone, Copy, PartialEq, Eq)]
 pub struct Summary {
     /// How many alarms.
@@ -86,8 +110,11 @@ pub struct Summary {
     /// How many pairs of the same version from another source.
     pub sources: usize,
 
-    /// How many pairs of the same version with a checksum that was not there.
+    /// How many pairs of the same version of which only one package has a checksum.
     pub checksums: usize,
+
+    /// How many of these have lost it.
+    pub lost_checksums: usize,
 
     /// How many pairs of the same version with another replacement.
     pub replacements: usize,
@@ -123,6 +150,7 @@ impl Summary {
             alarms: count(changes, Kind::Alarm),
             sources: count(changes, Kind::Source),
             checksums: count(changes, Kind::Checksum),
+            lost_checksums: count(changes, Kind::LostChecksum),
             replacements: count(changes, Kind::Replacement),
             updated: count(changes, Kind::Updated),
             downgraded: count(changes, Kind::Downgraded),
@@ -158,14 +186,16 @@ impl fmt::Display for Summary {
         let removed = downgraded.then(self.removed, "removed", "removed");
         let added = removed.then(self.added, "added", "added");
         let sources = added.then(self.sources, "moved", "moved");
-        let checksums = sources.then(self.checksums, "new checksum", "new checksums");
-        let replacements = checksums.then(self.replacements, "replacement", "replacements");
+        let new_checksums = self.checksums.saturating_sub(self.lost_checksums);
+        let checksums = sources.then(new_checksums, "new checksum", "new checksums");
+        let lost = checksums.then(self.lost_checksums, "lost checksum", "lost checksums");
+        let replacements = lost.then(self.replacements, "replacement", "replacements");
         let words = "with other dependencies";
         let dependencies = replacements.then(self.dependencies, words, words);
         let alarms = dependencies.then(self.alarms, "alarm", "alarms");
         write!(
             f,
-            "{updated}{downgraded}{removed}{added}{sources}{checksums}{replacements}{dependencies}{alarms}"
+            "{updated}{downgraded}{removed}{added}{sources}{checksums}{lost}{replacements}{dependencies}{alarms}"
         )
     }
 }

@@ -2,9 +2,9 @@
 -- source.
 -- The rule is measured on the lockfiles in `tests/cargo`, which Cargo 1.95.0 wrote; Cargo's own is
 -- in its `src/cargo/core/package_id.rs` and `source_id.rs`.
-use Rattle.std.specs.Prelude.{ℕ, List}
+use Rattle.std.specs.Prelude.{ℕ, Bool, List}
 use Rattle.std.specs.declared.cmp.Ordering.{Ordering}
-use Rattle.std.specs.Ordering.{nat_cmp, on, then_cmp}
+use Rattle.std.specs.Ordering.{eq_by_cmp, nat_cmp, on, then_cmp}
 use Rattle.semver.specs.Identifiers.{parts_text}
 use Rattle.url.specs.Parts.{Parts, serialize}
 use Rattle.cargo_lock_parts.specs.Identity.{Identity, PackageData}
@@ -34,6 +34,11 @@ kind_order = then_cmp (on kind_place nat_cmp) (on git_reference_text text_cmp)
 abbrev pub by_kind_and_url : (Parts → List ℕ) → Source → Source → Ordering
 by_kind_and_url url_text = then_cmp (on (λ s. s.kind) kind_order)
     (on (λ s. url_text s.url) text_cmp)
+
+-- Cargo takes two sources for one, whatever commit they name: they have one kind, with the tag,
+-- branch or revision of a repository, and one URL, as Cargo rewrites it
+abbrev pub is_canonically_same : Source → Source → Bool
+is_canonically_same = eq_by_cmp (by_kind_and_url canonical)
 
 -- packages compare by name, then by version, then by source, and one without a source is first;
 -- URLs compare as Cargo rewrites them

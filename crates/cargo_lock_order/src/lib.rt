@@ -6,4 +6,4 @@ pub mod crates_io;
 pub mod order;
 
 pub use crate::crates_io::is_canonically_crates_io;
-pub use crate::order::{dependency_order, package_order};
+pub use crate::order::{dependency_order, is_canonically_same, package_order};

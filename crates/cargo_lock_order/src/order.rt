@@ -80,6 +80,26 @@ fn package_source_order(
     Ok(order)
 }
 
+/// Whether Cargo takes two sources of packages for one, whatever commit they name: they have one
+/// kind, with the tag, branch or revision of a repository, and one URL, where URLs compare as
+/// `package_order` compares them. So a registry by its index in git is another one than by its
+/// sparse index. Fails when out of memory.
+///
+/// ```
+/// let mirror = SourceId::from_url(alloc, "sparse+https://mirror.example/index/")?;
+/// let is_same = is_canonically_same(alloc, &source, &mirror)?;
+/// ```
+pub fn is_canonically_same(
+    alloc: Global,
+    one: &SourceId,
+    other: &SourceId,
+) -> Result<bool, AllocError>
+    ensures { IfOk result (λ is_same. is_same ≡ spec.is_canonically_same one.now other.now) }
+{
+    let order = package_source_order(alloc, one, other)?;
+    Ok(order == Ordering::Equal)
+}
+
 // The order of URLs as Cargo compares those of packages.
 fn cmp_canonical(alloc: Global, one: &Url, other: &Url) -> Result<Ordering, AllocError>
     ensures { IfOk result

@@ -13,3 +13,4 @@ pub mod Rowing
 pub mod Answering
 pub mod Digests
 pub mod DocumentDepth
+pub mod Distinct

@@ -4,7 +4,10 @@ use Rattle.std.specs.Prelude.{Option, None}
 use Rattle.std.specs.Prelude.{Some, codes, if◌then◌else◌, length, map, option_map, replicate}
 use Rattle.std.specs.Prelude.{slice_get, string_bytes}
 use Rattle.std.specs.List.{flat_map}
+use Rattle.std.specs.Ordering.{eq_by_cmp}
+use Rattle.std.specs.Set.{distinct_count}
 use Rattle.cargo_lock_parts.specs.Identity.{PackageData}
+use Rattle.cargo_lock_parts.specs.IdentityOrder.{version_cmp}
 use Rattle.cargo_lock_query.specs.Lines.{packages_at}
 use Rattle.cargo_lock_display.specs.Line.{named_text, source_after_version, version_shown}
 use Rattle.cargo_lock_query.specs.declared.listing.Row.{Row}
@@ -46,6 +49,10 @@ row_for packages d = option_map (row_with packages d.needers.items) (slice_get p
 pub record IsWidest (rows : List RowData) (width : ℕ) : Type 0 where
   pub fits : All (λ row. length row.version ≤ width) rows
   pub taken : (width ≡ 0) ⊎ ((row : RowData) × Contains rows row × (length row.version ≡ width))
+
+-- how many different versions the rows have
+abbrev pub count_versions : List RowData → ℕ
+count_versions rows = distinct_count (eq_by_cmp version_cmp) (map (λ row. row.listed.version) rows)
 
 -- ---- lines
 

@@ -2,7 +2,11 @@
 
 ghost use Rattle.std.specs.Prelude.{◌≡◌, ◌++◌, ◌∷◌, [], IfOk, OnOk, map, option_map, string_bytes};
 ghost use Rattle.std.specs.List.{filter_map};
-ghost use Rattle.cargo_lock_query.specs.Listing.{IsWidest, row_for, row_of};
+ghost use Rattle.std.specs.Ordering.{eq_by_cmp};
+ghost use Rattle.std.specs.Set.{distinct_count};
+ghost use Rattle.semver.specs.Identifiers.{parts_of};
+ghost use Rattle.cargo_lock_parts.specs.IdentityOrder.{version_cmp};
+ghost use Rattle.cargo_lock_query.specs.Listing.{IsWidest, count_versions, row_for, row_of};
 ghost use Rattle.cargo_lock_query.specs.Listing.{version_text};
 ghost use Rattle.cargo_lock_query.specs.Listing as spec;
 
@@ -10,9 +14,10 @@ use crate::lines::packages_at;
 use crate::repeated::Duplicate;
 use cargo_lock_display::{NameVersion, SourceBehind};
 use cargo_lock_graph::graph::{Graph, NodeIndex};
-use cargo_lock_parts::package::Package;
+use cargo_lock_parts::package::{Package, Version};
 use printing::Shown;
 use std::alloc::{AllocError, Global};
+use std::collections::BTreeSet;
 use std::fmt;
 
 /// A package of several with one name, as a line.
@@ -49,6 +54,9 @@ pub struct Rows<'a> {
 
     /// The width of the column of versions and sources.
     pub width: usize,
+
+    /// How many different versions the packages have.
+    pub versions: usize,
 }
 
 impl<'a> Rows<'a> {
@@ -57,13 +65,20 @@ impl<'a> Rows<'a> {
         ensures rows { IfOk result (λ made.
             map row_of made.rows.items ≡ filter_map (row_for graph.now.packages) group.now) }
         ensures width { IfOk result (λ made. IsWidest (map row_of made.rows.items) made.width) }
+        ensures versions { IfOk result
+            (λ made. made.versions ≡ count_versions (map row_of made.rows.items)) }
     {
         let mut rows = Vec::with_capacity(alloc, group.len())?;
         for one in group {
             add_row(alloc, graph, one, &mut rows)?;
         }
         let width = widest(&rows);
-        Ok(Rows { rows, width })
+        let versions = count_versions(alloc, &rows)?;
+        Ok(Rows {
+            rows,
+            width,
+            versions,
+        })
     }
 }
 
@@ -123,6 +138,31 @@ fn widest(rows: &[Row<'_>]) -> usize
         }
     }
     width
+}
+
+// How many different versions there are.
+fn count_versions(alloc: Global, rows: &[Row<'_>]) -> Result<usize, AllocError>
+    ensures { IfOk result (λ count. count ≡ count_versions (map row_of rows.now)) }
+{
+    let mut versions = Vec::with_capacity(alloc, rows.len())?;
+    for row in rows {
+        let package = row.package;
+        versions.push(&package.version)?;
+    }
+    count_different(alloc, &versions)
+}
+
+// How many of some versions are different. They are in a tree, so that a stranger who chooses them
+// cannot make this slow.
+fn count_different<'a>(alloc: Global, versions: &[&'a Version]) -> Result<usize, AllocError>
+    ensures { IfOk result (λ count. count ≡ distinct_count (eq_by_cmp version_cmp)
+        (map (λ version. parts_of version.now) versions.now)) }
+{
+    let mut different = BTreeSet::new(alloc);
+    for version in versions {
+        different.insert(*version)?;
+    }
+    Ok(different.len())
 }
 
 impl fmt::Display for Rows<'_> {

@@ -3,7 +3,7 @@
 ghost use Rattle.std.specs.Prelude.{◌≡◌, IfOk, if◌then◌else◌, map};
 ghost use Rattle.std.specs.List.{AllZip};
 ghost use Rattle.cargo_lock_query.specs.Tally.{AreGroupsOf, IsGroupOf, group_of_rows};
-ghost use Rattle.cargo_lock_query.specs.Tally.{surplus_of_all};
+ghost use Rattle.cargo_lock_query.specs.Tally.{surplus_of_all, versions_of_all};
 
 use crate::listing::Rows;
 use crate::repeated::{Duplicate, duplicates};
@@ -12,7 +12,10 @@ use std::alloc::{AllocError, Global};
 use std::fmt;
 
 /// The names that several packages have. `Display` writes the lines of each, and a last line that
-/// counts them: `2 names, 3 packages more than one of each`. It writes nothing if there is none.
+/// counts them: `2 crates in 5 versions (3 surplus packages)`. It writes nothing if there is none.
+///
+/// A version counts once for each name, though packages of several sources have it. The packages
+/// that are more than one of each name are the surplus.
 ///
 /// ```
 /// let listing = Listing::of(rt.alloc(), tree.graph(), &groups)?;
@@ -64,7 +67,8 @@ impl fmt::Display for Listing<'_> {
     fn fmt<W: fmt::Write>(&self, f: &mut fmt::Formatter<W>) -> fmt::Result {
         let groups = GroupLines(&self.groups);
         let tally = Tally {
-            names: self.groups.len(),
+            crates: self.groups.len(),
+            versions: versions(&self.groups),
             more: surplus(&self.groups),
         };
         write!(f, "{groups}{tally}")
@@ -81,6 +85,17 @@ fn surplus(groups: &[Rows<'_>]) -> u128
         more += group.rows.len().saturating_sub(1) as u128;
     }
     more
+}
+
+// How many versions the names have.
+fn versions(groups: &[Rows<'_>]) -> u128
+    ensures { result ≡ versions_of_all (map group_of_rows groups.now) }
+{
+    let mut versions = 0u128;
+    for group in groups {
+        versions += group.versions as u128;
+    }
+    versions
 }
 
 // The lines of each group.
@@ -103,10 +118,12 @@ impl fmt::Display for GroupLines<'_> {
     }
 }
 
-// How many names there are, and how many packages more than one of each.
+// How many crates there are, how many versions they have, and how many packages there are more than
+// one of each.
 #[derive(Clone, Copy)]
 struct Tally {
-    names: usize,
+    crates: usize,
+    versions: u128,
     more: u128,
 }
 
@@ -114,18 +131,23 @@ impl fmt::Display for Tally {
     ghost use Rattle.std.specs.Prelude.{Some};
     ghost use Rattle.cargo_lock_query.specs.Tally.{tally_line};
 
-    ghost output = { λ tally. Some (tally_line tally.names tally.more) };
+    ghost output = { λ tally. Some (tally_line tally.crates tally.versions tally.more) };
 
     fn fmt<W: fmt::Write>(&self, f: &mut fmt::Formatter<W>) -> fmt::Result {
-        let Tally { names, more } = *self;
-        if names == 0 {
+        let Tally {
+            crates,
+            versions,
+            more,
+        } = *self;
+        if crates == 0 {
             return Ok(());
         }
-        let name = noun(names == 1, "name", "names");
-        let package = noun(more == 1, "package", "packages");
+        let name = noun(crates == 1, "crate", "crates");
+        let version = noun(versions == 1, "version", "versions");
+        let package = noun(more == 1, "surplus package", "surplus packages");
         write!(
             f,
-            "{names} {name}, {more} {package} more than one of each\n"
+            "{crates} {name} in {versions} {version} ({more} {package})\n"
         )
     }
 }

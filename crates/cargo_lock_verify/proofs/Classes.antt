@@ -10,11 +10,11 @@ use Rattle.cargo_lock_verify.specs.declared.class.Class.{Class}
 use Rattle.cargo_lock_verify.specs.declared.class.Class.TheVariants as class
 use Rattle.cargo_lock_verify.specs.declared.class.Counts.{Counts}
 use Rattle.cargo_lock_verify.specs.Class.{CountsArePartition, is_class, is_clean, is_of_registry}
-use Rattle.cargo_lock_verify.specs.Archives.{ArchiveClassesAreExact, ArchiveData, ArchiveSubjectData, ArchivesAreClean, IsChanged, IsCleanOf, IsMissing, IsNotCompared, IsOfArchiveClass, IsOfRegistryUnchecked, IsVerified}
-use Rattle.cargo_lock_verify.specs.Archives.{archive_class, archive_counts, class_by_checksum, class_of_unverified, is_digest}
+use Rattle.cargo_lock_verify.specs.Archives.{ArchiveClassesAreExact, ArchiveSubjectData, ArchivesAreClean, CacheData, IsChanged, IsCleanOf, IsMatching, IsMissing, IsNotCompared, IsOfArchiveClass, IsOfRegistryUnchecked, IsVerified}
+use Rattle.cargo_lock_verify.specs.Archives.{archive_class, archive_counts, class_by_checksum, class_unless, class_with_checksum, is_changed, is_digest}
 use Rattle.cargo_lock_verify.specs.Vendored.{FolderClassesAreExact, IsCompared, IsOfFolderClass, VendoredData}
 use Rattle.cargo_lock_verify.specs.Vendored.{class_by_source, class_of_sourced, folder_class, is_as_listed, is_unchecked}
-use Rattle.cargo_lock_verify.proofs.Exact.{has-one, is-verified, no-archives, verified-is}
+use Rattle.cargo_lock_verify.proofs.Exact.{changed-some, has-one, is-verified, none-changed, some-changed, verified-is}
 use Rattle.cargo_lock_verify.proofs.ExactFolders.{empty-if-vendored, vendored-if-empty}
 
 -- ---- a partition
@@ -90,62 +90,75 @@ some-counted {X} of c xs some = by (filter (is_class c) (map of xs)) refl
 
 -- ---- the class of a package by its archives
 
-unverified-so : (s : ArchiveSubjectData) → s.content.checksum ≢ None → (¬ IsVerified s) → (all : List ArchiveData) → s.archives ≡ all
-    → IsOfArchiveClass s (class_of_unverified all)
-unverified-so s has unseen [] is = (has, is)
-unverified-so s has unseen (a ∷ rest) is = (has, λ empty. no-element a (subst (λ xs. Contains xs a) (sym is ∙ empty) (first a rest)), unseen)
-
-class-so : (s : ArchiveSubjectData) → IsOfArchiveClass s (archive_class s)
-class-so s = by s.content.checksum refl
+compared-so : (cache : CacheData) (s : ArchiveSubjectData) (c : List ℕ) → s.content.checksum ≡ Some c
+    → IsOfArchiveClass cache s (class_with_checksum cache s.content s.archives c)
+compared-so cache s c is = by (list_any (is_changed cache s.content) s.archives) refl
   where
-    by : (o : Option (List ℕ)) → s.content.checksum ≡ o → IsOfArchiveClass s (class_by_checksum s o)
+    by : (b : Bool) → list_any (is_changed cache s.content) s.archives ≡ b
+        → IsOfArchiveClass cache s (if b then class.Changed else class_unless (list_any (is_digest c) s.archives))
+    by true e = some-changed cache s (has-one s c is) e
+    by false e = either (list_any (is_digest c) s.archives) refl
+      where
+        either : (b : Bool) → list_any (is_digest c) s.archives ≡ b → IsOfArchiveClass cache s (class_unless b)
+        either true h = record { verified = is-verified s c is h; unchanged = none-changed cache s e }
+        either false h = record {
+          has_checksum = has-one s c is;
+          unseen = λ v. true≢false (sym (verified-is s c is v) ∙ h);
+          unchanged = none-changed cache s e;
+        }
+
+class-so : (cache : CacheData) (s : ArchiveSubjectData) → IsOfArchiveClass cache s (archive_class cache s)
+class-so cache s = by s.content.checksum refl
+  where
+    by : (o : Option (List ℕ)) → s.content.checksum ≡ o → IsOfArchiveClass cache s (class_by_checksum cache s o)
     by None is = either (is_of_registry s.content.source) refl
       where
-        either : (b : Bool) → is_of_registry s.content.source ≡ b → IsOfArchiveClass s (if b then class.NoChecksum else class.NotCompared)
+        either : (b : Bool) → is_of_registry s.content.source ≡ b → IsOfArchiveClass cache s (if b then class.NoChecksum else class.NotCompared)
         either true e = (is, e)
         either false e = (is, e)
-    by (Some c) is = either (list_any (is_digest c) s.archives) refl
-      where
-        either : (b : Bool) → list_any (is_digest c) s.archives ≡ b
-            → IsOfArchiveClass s (if b then class.Matches else class_of_unverified s.archives)
-        either true e = is-verified s c is e
-        either false e = unverified-so s (has-one s c is) (λ v. true≢false (sym (verified-is s c is v) ∙ e)) s.archives refl
+    by (Some c) is = compared-so cache s c is
 
-class-unchecked : (s : ArchiveSubjectData) (b : Bool) → s.content.checksum ≡ None → is_of_registry s.content.source ≡ b
-    → archive_class s ≡ (if b then class.NoChecksum else class.NotCompared)
-class-unchecked s b none is = subst (λ o. class_by_checksum s o ≡ (if b then class.NoChecksum else class.NotCompared)) (sym none)
+class-unchecked : (cache : CacheData) (s : ArchiveSubjectData) (b : Bool) → s.content.checksum ≡ None → is_of_registry s.content.source ≡ b
+    → archive_class cache s ≡ (if b then class.NoChecksum else class.NotCompared)
+class-unchecked cache s b none is = subst (λ o. class_by_checksum cache s o ≡ (if b then class.NoChecksum else class.NotCompared)) (sym none)
     (ap (λ (x : Bool). if x then class.NoChecksum else class.NotCompared) is)
 
-class-unverified : (s : ArchiveSubjectData) (d : Class) → s.content.checksum ≢ None → (¬ IsVerified s) → class_of_unverified s.archives ≡ d
-    → archive_class s ≡ d
-class-unverified s d has unseen is-it = by s.content.checksum refl
+-- the class of a package with a checksum, by whether an archive is changed and one has the checksum
+class-compared : (cache : CacheData) (s : ArchiveSubjectData) (changed : Bool) (d : Class) → s.content.checksum ≢ None
+    → list_any (is_changed cache s.content) s.archives ≡ changed
+    → ((c : List ℕ) → s.content.checksum ≡ Some c → (if changed then class.Changed else class_unless (list_any (is_digest c) s.archives)) ≡ d)
+    → archive_class cache s ≡ d
+class-compared cache s changed d has is each = by s.content.checksum refl
   where
-    by : (o : Option (List ℕ)) → s.content.checksum ≡ o → class_by_checksum s o ≡ d
-    by None is = absurd (has is)
-    by (Some c) is = either (list_any (is_digest c) s.archives) refl
-      where
-        either : (b : Bool) → list_any (is_digest c) s.archives ≡ b → (if b then class.Matches else class_of_unverified s.archives) ≡ d
-        either true e = absurd (unseen (is-verified s c is e))
-        either false e = is-it
+    by : (o : Option (List ℕ)) → s.content.checksum ≡ o → class_by_checksum cache s o ≡ d
+    by None none = absurd (has none)
+    by (Some c) some = ap (λ (b : Bool). if b then class.Changed else class_unless (list_any (is_digest c) s.archives)) is ∙ each c some
 
-some-changed : (all : List ArchiveData) → all ≢ [] → class_of_unverified all ≡ class.Changed
-some-changed [] some = absurd (some refl)
-some-changed (a ∷ rest) some = refl
+is-unchanged : (cache : CacheData) (s : ArchiveSubjectData) → s.content.checksum ≢ None → (¬ IsChanged cache s)
+    → list_any (is_changed cache s.content) s.archives ≡ false
+is-unchanged cache s has none = untrue _ (λ e. none (some-changed cache s has e))
 
-class-verified : (s : ArchiveSubjectData) → IsVerified s → archive_class s ≡ class.Matches
-class-verified s v = let (a, there, is) = v in
-    subst (λ o. class_by_checksum s o ≡ class.Matches) (sym is)
-    (ap (λ (b : Bool). if b then class.Matches else class_of_unverified s.archives) (verified-is s a.digest is v))
+class-matching : (cache : CacheData) (s : ArchiveSubjectData) → IsMatching cache s → archive_class cache s ≡ class.Matches
+class-matching cache s h = let (a, there, is) = h.verified in let has : s.content.checksum ≢ None = has-one s a.digest is in
+    class-compared cache s false class.Matches has (is-unchanged cache s has h.unchanged)
+    (λ c some. ap class_unless (verified-is s c some h.verified))
 
-of-class : (s : ArchiveSubjectData) (c : Class) → IsOfArchiveClass s c → archive_class s ≡ c
-of-class s class.Matches h = class-verified s h
-of-class s class.Changed h = class-unverified s class.Changed h.0 h.2 (some-changed s.archives h.1)
-of-class s class.Missing h = class-unverified s class.Missing h.0 (no-archives s h.1) (ap class_of_unverified h.1)
-of-class s class.NoChecksum h = class-unchecked s true h.0 h.1
-of-class s class.NotCompared h = class-unchecked s false h.0 h.1
+class-missing : (cache : CacheData) (s : ArchiveSubjectData) → IsMissing cache s → archive_class cache s ≡ class.Missing
+class-missing cache s h = class-compared cache s false class.Missing h.has_checksum (is-unchanged cache s h.has_checksum h.unchanged)
+    (λ c some. ap class_unless (untrue _ (λ e. h.unseen (is-verified s c some e))))
+
+class-changed : (cache : CacheData) (s : ArchiveSubjectData) → IsChanged cache s → archive_class cache s ≡ class.Changed
+class-changed cache s (a, h) = class-compared cache s true class.Changed h.has_checksum (changed-some cache s (a, h)) (λ c some. refl)
+
+of-class : (cache : CacheData) (s : ArchiveSubjectData) (c : Class) → IsOfArchiveClass cache s c → archive_class cache s ≡ c
+of-class cache s class.Matches h = class-matching cache s h
+of-class cache s class.Changed h = class-changed cache s h
+of-class cache s class.Missing h = class-missing cache s h
+of-class cache s class.NoChecksum h = class-unchecked cache s true h.0 h.1
+of-class cache s class.NotCompared h = class-unchecked cache s false h.0 h.1
 
 pub archive-classes-are-exact : ArchiveClassesAreExact
-archive-classes-are-exact s c = (λ is. subst (IsOfArchiveClass s) is (class-so s), of-class s c)
+archive-classes-are-exact cache s c = (λ is. subst (IsOfArchiveClass cache s) is (class-so cache s), of-class cache s c)
 
 -- ---- the class of a package by its folders
 
@@ -252,58 +265,60 @@ zero-is n e = eq-eqb n 0 e
 not-zero : (n : ℕ) → (n == 0) ≡ false → n ≢ 0
 not-zero n e z = true≢false (sym (zero-is n z) ∙ e)
 
-no-such : (subjects : List ArchiveSubjectData) (c : Class) → count_by (is_class c) (map archive_class subjects) ≡ 0
-    → (s : ArchiveSubjectData) → Contains subjects s → ¬ IsOfArchiveClass s c
-no-such subjects c zero s there h = none-counted archive_class c subjects s zero there (of-class s c h)
+no-such : (cache : CacheData) (c : Class) → count_by (is_class c) (map (archive_class cache) cache.subjects) ≡ 0
+    → (s : ArchiveSubjectData) → Contains cache.subjects s → ¬ IsOfArchiveClass cache s c
+no-such cache c zero s there h = none-counted (archive_class cache) c cache.subjects s zero there (of-class cache s c h)
 
 -- one of the packages that can be compared matches
-one-of : (subjects : List ArchiveSubjectData) (s : ArchiveSubjectData) → Contains subjects s → (¬ IsNotCompared s) → (¬ IsChanged s) → (¬ IsMissing s)
-    → (¬ IsOfRegistryUnchecked s.content) → (t : ArchiveSubjectData) × Contains subjects t × IsVerified t
-one-of subjects s there compared unchanged present checked = by (archive_class s) (class-so s)
+one-of : (cache : CacheData) (s : ArchiveSubjectData) → Contains cache.subjects s → (¬ IsNotCompared s) → (¬ IsChanged cache s) → (¬ IsMissing cache s)
+    → (¬ IsOfRegistryUnchecked s.content) → (t : ArchiveSubjectData) × Contains cache.subjects t × IsVerified t
+one-of cache s there compared unchanged present checked = by (archive_class cache s) (class-so cache s)
   where
-    by : (c : Class) → IsOfArchiveClass s c → (t : ArchiveSubjectData) × Contains subjects t × IsVerified t
-    by class.Matches h = (s, there, h)
+    by : (c : Class) → IsOfArchiveClass cache s c → (t : ArchiveSubjectData) × Contains cache.subjects t × IsVerified t
+    by class.Matches h = (s, there, h.verified)
     by class.Changed h = absurd (unchanged h)
     by class.Missing h = absurd (present h)
     by class.NoChecksum h = absurd (checked h)
     by class.NotCompared h = absurd (compared h)
 
-clean-so : (all : Bool) (subjects : List ArchiveSubjectData) → is_clean all (archive_counts subjects) ≡ true → IsCleanOf all subjects
-clean-so all subjects e = by (split all (k.changed == 0) (k.missing == 0) (k.without_checksum == 0) (k.matches == 0) e)
+clean-so : (all : Bool) (cache : CacheData) → is_clean all (archive_counts cache) ≡ true → IsCleanOf all cache
+clean-so all cache e = by (split all (k.changed == 0) (k.missing == 0) (k.without_checksum == 0) (k.matches == 0) e)
   where
     k : Counts
-    k = archive_counts subjects
+    k = archive_counts cache
 
     by : ((k.changed == 0) ≡ true) × ((((k.missing == 0) ≡ true) × ((k.without_checksum == 0) ≡ true)) ⊎ ((all ≡ false) × ((k.matches == 0) ≡ false)))
-        → IsCleanOf all subjects
+        → IsCleanOf all cache
     by (changed, inl (missing, without)) = record {
-      unchanged = no-such subjects class.Changed (is-zero _ changed);
-      complete = λ asked s there. (no-such subjects class.Missing (is-zero _ missing) s there, no-such subjects class.NoChecksum (is-zero _ without) s there);
-      one = λ s there compared. one-of subjects s there compared (no-such subjects class.Changed (is-zero _ changed) s there)
-          (no-such subjects class.Missing (is-zero _ missing) s there) (no-such subjects class.NoChecksum (is-zero _ without) s there);
+      unchanged = no-such cache class.Changed (is-zero _ changed);
+      complete = λ asked s there. (no-such cache class.Missing (is-zero _ missing) s there, no-such cache class.NoChecksum (is-zero _ without) s there);
+      one = λ s there compared. one-of cache s there compared (no-such cache class.Changed (is-zero _ changed) s there)
+          (no-such cache class.Missing (is-zero _ missing) s there) (no-such cache class.NoChecksum (is-zero _ without) s there);
     }
     by (changed, inr (unasked, matches)) = record {
-      unchanged = no-such subjects class.Changed (is-zero _ changed);
+      unchanged = no-such cache class.Changed (is-zero _ changed);
       complete = λ asked s there. absurd (true≢false (sym asked ∙ unasked));
-      one = λ s there compared. let (t, in-it, is) = some-counted archive_class class.Matches subjects (not-zero _ matches) in
-          (t, in-it, subst (IsOfArchiveClass t) is (class-so t));
+      one = λ s there compared. let (t, in-it, is) = some-counted (archive_class cache) class.Matches cache.subjects (not-zero _ matches) in
+          let h : IsMatching cache t = subst (IsOfArchiveClass cache t) is (class-so cache t) in
+          (t, in-it, h.verified);
     }
 
-count-zero : (subjects : List ArchiveSubjectData) (c : Class) → ((s : ArchiveSubjectData) → Contains subjects s → ¬ IsOfArchiveClass s c)
-    → count_by (is_class c) (map archive_class subjects) ≡ 0
-count-zero subjects c none = count-none archive_class c subjects (λ s there is. none s there (subst (IsOfArchiveClass s) is (class-so s)))
+count-zero : (cache : CacheData) (c : Class) → ((s : ArchiveSubjectData) → Contains cache.subjects s → ¬ IsOfArchiveClass cache s c)
+    → count_by (is_class c) (map (archive_class cache) cache.subjects) ≡ 0
+count-zero cache c none = count-none (archive_class cache) c cache.subjects (λ s there is. none s there (subst (IsOfArchiveClass cache s) is (class-so cache s)))
 
 -- the tests of packages of which one lacks what it is compared with
-lacking : (all : Bool) (subjects : List ArchiveSubjectData) → IsCleanOf all subjects → (c : Class) → ((s : ArchiveSubjectData) → IsOfArchiveClass s c → ¬ IsNotCompared s)
-    → (all ≡ true → (s : ArchiveSubjectData) → Contains subjects s → ¬ IsOfArchiveClass s c)
-    → (count_by (is_class c) (map archive_class subjects) == 0) ≡ false
-    → (all ≡ false) × ((count_by (is_class class.Matches) (map archive_class subjects) == 0) ≡ false)
-lacking all subjects is c compared none some =
-    let (s, there, at) = some-counted archive_class c subjects (not-zero _ some) in
-    let h : IsOfArchiveClass s c = subst (IsOfArchiveClass s) at (class-so s) in
+lacking : (all : Bool) (cache : CacheData) → IsCleanOf all cache → (c : Class) → ((s : ArchiveSubjectData) → IsOfArchiveClass cache s c → ¬ IsNotCompared s)
+    → (all ≡ true → (s : ArchiveSubjectData) → Contains cache.subjects s → ¬ IsOfArchiveClass cache s c)
+    → (count_by (is_class c) (map (archive_class cache) cache.subjects) == 0) ≡ false
+    → (all ≡ false) × ((count_by (is_class class.Matches) (map (archive_class cache) cache.subjects) == 0) ≡ false)
+lacking all cache is c compared none some =
+    let (s, there, at) = some-counted (archive_class cache) c cache.subjects (not-zero _ some) in
+    let h : IsOfArchiveClass cache s c = subst (IsOfArchiveClass cache s) at (class-so cache s) in
     let (t, in-it, verified) = is.one s there (compared s h) in (
       untrue all (λ asked. none asked s there h),
-      untrue _ (λ zero. none-counted archive_class class.Matches subjects t (is-zero _ zero) in-it (class-verified t verified)),
+      untrue _ (λ zero. none-counted (archive_class cache) class.Matches cache.subjects t (is-zero _ zero) in-it
+          (class-matching cache t (record { verified = verified; unchanged = is.unchanged t in-it }))),
     )
 
 -- clean tests
@@ -314,14 +329,14 @@ join-tests all true true true matches e m w = refl
 join-tests all true true false matches e m w = ap (λ (b : Bool). not b && not matches) (w refl).0 ∙ ap not (w refl).1
 join-tests all true false without matches e m w = ap (λ (b : Bool). not b && not matches) (m refl).0 ∙ ap not (m refl).1
 
-so-clean : (all : Bool) (subjects : List ArchiveSubjectData) → IsCleanOf all subjects → is_clean all (archive_counts subjects) ≡ true
-so-clean all subjects is = join-tests all (k.changed == 0) (k.missing == 0) (k.without_checksum == 0) (k.matches == 0)
-    (zero-is _ (count-zero subjects class.Changed is.unchanged))
-    (lacking all subjects is class.Missing (λ s h other. h.0 other.0) (λ asked s there. (is.complete asked s there).0))
-    (lacking all subjects is class.NoChecksum (λ s h other. true≢false (sym h.1 ∙ other.1)) (λ asked s there. (is.complete asked s there).1))
+so-clean : (all : Bool) (cache : CacheData) → IsCleanOf all cache → is_clean all (archive_counts cache) ≡ true
+so-clean all cache is = join-tests all (k.changed == 0) (k.missing == 0) (k.without_checksum == 0) (k.matches == 0)
+    (zero-is _ (count-zero cache class.Changed is.unchanged))
+    (lacking all cache is class.Missing (λ s h other. h.has_checksum other.0) (λ asked s there. (is.complete asked s there).0))
+    (lacking all cache is class.NoChecksum (λ s h other. true≢false (sym h.1 ∙ other.1)) (λ asked s there. (is.complete asked s there).1))
   where
     k : Counts
-    k = archive_counts subjects
+    k = archive_counts cache
 
 pub archives-are-clean : ArchivesAreClean
-archives-are-clean all subjects = (clean-so all subjects, so-clean all subjects)
+archives-are-clean all cache = (clean-so all cache, so-clean all cache)

@@ -7,6 +7,7 @@ use Rattle.cargo_lock_display.specs.File.{FileData, document_json}
 use Rattle.cargo_lock_verify.specs.Document.{FoundData, compared_json, found_json}
 use Rattle.cargo_lock_verify.specs.declared.class.Counts.{Counts}
 use Rattle.cargo_lock_verify.specs.declared.document.Compared.{Compared}
+use Rattle.cargo_lock_verify.specs.declared.document.Compared.TheVariants.{Archives, Folders}
 use Rattle.cargo_lock_display.proofs.Depth.{package-depth}
 use Rattle.printing.proofs.Depth.{array-depth, text-depth}
 
@@ -24,5 +25,7 @@ pub compared-depth : {A : Type 0} (json : A → Json) (deep : ℕ) → ((x : A) 
     → (compared : Compared) (file : FileData) (counts : Counts) (findings : List A)
     → depth (compared_json compared file counts (map json findings)) ≤ deep + 2
 unfolding document_json compared_json
-compared-depth json deep each compared file counts findings =
+compared-depth json deep each (Archives others) file counts findings =
+    omega (arith, text-depth file.path, array-depth deep json each findings)
+compared-depth json deep each Folders file counts findings =
     omega (arith, text-depth file.path, array-depth deep json each findings)

@@ -54,7 +54,8 @@ said_of_archive_finding f = record {
 abbrev pub archive_finding_json : ArchiveFindingData → Json
 archive_finding_json f = found_json (said_of_archive_finding f)
 
--- how many packages are in each class, and the findings, each once and in order
-abbrev pub archives_json : FileData → Counts → List ArchiveFindingData → Json
-archives_json file counts findings =
-    compared_json Archives file counts (map archive_finding_json findings)
+-- how many packages are in each class and archives are passed over, and the findings, each once and
+-- in order
+abbrev pub archives_json : FileData → Counts → ℕ → List ArchiveFindingData → Json
+archives_json file counts others findings =
+    compared_json (Archives others) file counts (map archive_finding_json findings)

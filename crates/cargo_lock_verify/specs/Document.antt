@@ -1,6 +1,6 @@
 -- Whether packages are verified, in JSON: the document that `verify --json` prints.
 use Rattle.std.specs.Prelude.{ℕ, List, Option, codes, decimal, option_map}
-use Rattle.json.specs.Json.{Json, array, number, string, object, member, no_members}
+use Rattle.json.specs.Json.{Json, array, null, number, string, object, member, no_members}
 use Rattle.cargo_lock_parts.specs.Checksum.{digest_text}
 use Rattle.cargo_lock_parts.specs.Identity.{PackageData}
 use Rattle.cargo_lock_display.specs.File.{FileData, document_json}
@@ -34,13 +34,18 @@ found_json f = object
 
 -- the key of the number of the packages that have no archive, or no folder
 abbrev pub missing_key : Compared → List ℕ
-missing_key Archives = codes "without_archive"
+missing_key (Archives others) = codes "without_archive"
 missing_key Folders = codes "without_folder"
 
 -- the key of the number of the packages of which there is nothing to compare
 abbrev pub not_compared_key : Compared → List ℕ
-not_compared_key Archives = codes "without_registry"
+not_compared_key (Archives others) = codes "without_registry"
 not_compared_key Folders = codes "without_source"
+
+-- how many archives are passed over, or null for folders
+abbrev pub passed_over : Compared → Json
+passed_over (Archives others) = number (decimal others)
+passed_over Folders = null
 
 -- how many packages are in each class, and the JSON of each finding, in order
 unfoldable pub compared_json : Compared → FileData → Counts → List Json → Json
@@ -50,4 +55,5 @@ compared_json compared file counts findings = document_json (codes "cargo-lock-v
     (member (missing_key compared) (number (decimal counts.missing))
     (member (codes "without_checksum") (number (decimal counts.without_checksum))
     (member (not_compared_key compared) (number (decimal counts.not_compared))
-    (member (codes "findings") (array (items_of findings)) no_members))))))
+    (member (codes "archives_of_others") (passed_over compared)
+    (member (codes "findings") (array (items_of findings)) no_members)))))))

@@ -1,6 +1,7 @@
 pub mod Class
 pub mod Summary
 pub mod Entries
+pub mod Hosts
 pub mod Archives
 pub mod Lines
 pub mod Reading

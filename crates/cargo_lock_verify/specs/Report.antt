@@ -16,7 +16,7 @@ is_of_archive (NoChecksum p) = false
 abbrev pub reported : Bool → List ArchiveFindingData → List ArchiveFindingData
 reported all found = if all then found else filter is_of_archive found
 
--- the line of each finding, and how many packages are in each class
-abbrev pub archive_report_text : List ArchiveFindingData → Counts → List ℕ
-archive_report_text found counts =
-    archive_findings_text found ++ (archive_summary counts ++ newline ∷ [])
+-- the line of each finding, and how many packages are in each class and archives are passed over
+abbrev pub archive_report_text : List ArchiveFindingData → Counts → ℕ → List ℕ
+archive_report_text found counts others =
+    archive_findings_text found ++ (archive_summary counts others ++ newline ∷ [])

@@ -15,14 +15,17 @@ abbrev pub unchecked_behind : ℕ → List ℕ
 unchecked_behind n = text_behind n (codes "package of a registry has no checksum")
     (codes "packages of a registry have no checksum")
 
--- how many archives match, and those of the other numbers that are not zero
-abbrev pub archive_summary : Counts → List ℕ
-archive_summary c = amount_text c.matches (codes "archive matches") (codes "archives match")
+-- how many archives match, and those of the other numbers that are not zero, at last how many
+-- archives are passed over
+abbrev pub archive_summary : Counts → ℕ → List ℕ
+archive_summary c others = amount_text c.matches (codes "archive matches") (codes "archives match")
     ++ (text_behind c.changed (codes "does not") (codes "do not")
     ++ (text_behind c.missing (codes "package has no archive") (codes "packages have no archive")
     ++ (unchecked_behind c.without_checksum
-    ++ text_behind c.not_compared (codes "package has no registry")
-    (codes "packages have no registry"))))
+    ++ (text_behind c.not_compared (codes "package has no registry")
+    (codes "packages have no registry")
+    ++ text_behind others (codes "archive of another registry")
+    (codes "archives of other registries")))))
 
 -- the same of folders
 abbrev pub folder_summary : Counts → List ℕ

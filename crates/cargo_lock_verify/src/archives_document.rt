@@ -36,13 +36,13 @@ pub fn archives_json(
     report: &Report<'_, '_>,
 ) -> Result<String, AllocError>
     ensures { IfOk result (λ text. IsJsonText
-        (spec.archives_json file.now report.now.counts
+        (spec.archives_json file.now report.now.counts report.now.others
         (map archive_finding_of report.now.findings.items)) (string_bytes text)) }
 {
     compared_document(
         alloc,
         file,
-        Compared::Archives,
+        Compared::Archives(report.others),
         report.counts,
         &report.findings,
     )

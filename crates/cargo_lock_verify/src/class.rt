@@ -8,13 +8,14 @@ use cargo_lock_parts::package::SourceId;
 /// What is known of a package by a comparison. Each package is in exactly one class.
 #[derive(Debug, Clone, Copy, PartialEq, Eq)]
 pub enum Class {
-    /// An archive has the checksum of the package, or each of its folders is as its list says.
+    /// An archive has the checksum of the package, and none is changed; or each of its folders is as
+    /// its list says.
     Matches,
 
-    /// There are archives, and none has the checksum, or a folder is not as its list says.
+    /// An archive is changed, or a folder is not as its list says.
     Changed,
 
-    /// There is no archive, or no folder.
+    /// There is no archive of its own, or no folder.
     Missing,
 
     /// The package is of a registry, and the lockfile has no checksum of it.
@@ -77,7 +78,7 @@ impl Counts {
     /// with, or, if `all` is not asked for, one that matches is enough.
     ///
     /// ```
-    /// let report = Report::of(rt.alloc(), subjects, all)?;
+    /// let report = Report::of(rt.alloc(), cache, all)?;
     /// let is_clean = report.counts.is_clean(all);
     /// ```
     pub fn is_clean(&self, all: bool) -> bool

@@ -1,10 +1,11 @@
 //! What the documents of `verify` have in common.
 
-ghost use Rattle.std.specs.Prelude.{◌≡◌, ◌≤◌, IfOk, map, string_bytes};
-ghost use Rattle.json.specs.Tree.{depth};
-ghost use Rattle.printing.specs.Json.{IsJsonText};
+ghost use Rattle.std.specs.Prelude.{◌≡◌, ◌≤◌, ◌∷◌, [], IfOk, codes, map, string_bytes};
+ghost use Rattle.json.specs.Token.{key};
+ghost use Rattle.json.specs.Tree.{depth, json_tokens};
+ghost use Rattle.printing.specs.Json.{Adds, IsJsonText};
 ghost use Rattle.cargo_lock_verify.specs.Document.{compared_json};
-ghost use Rattle.cargo_lock_verify.specs.Document.{missing_key, not_compared_key};
+ghost use Rattle.cargo_lock_verify.specs.Document.{missing_key, not_compared_key, passed_over};
 
 use crate::class::Counts;
 use cargo_lock_display::{File, begin_document};
@@ -14,8 +15,8 @@ use std::alloc::{AllocError, Global};
 // What packages are compared with.
 #[derive(Debug, Clone, Copy, PartialEq, Eq)]
 pub(crate) enum Compared {
-    // Archives.
-    Archives,
+    // Archives, of which so many are passed over.
+    Archives(usize),
 
     // Folders.
     Folders,
@@ -27,7 +28,7 @@ impl Compared {
         ensures { result.now ≡ missing_key self }
     {
         match self {
-            Compared::Archives => "without_archive",
+            Compared::Archives(_) => "without_archive",
             Compared::Folders => "without_folder",
         }
     }
@@ -37,8 +38,19 @@ impl Compared {
         ensures { result.now ≡ not_compared_key self }
     {
         match self {
-            Compared::Archives => "without_registry",
+            Compared::Archives(_) => "without_registry",
             Compared::Folders => "without_source",
+        }
+    }
+
+    // Writes the member with how many archives are passed over, or null for folders.
+    fn put_passed_over(self, out: &mut JsonWriter) -> Result<(), AllocError>
+        ensures { Adds result out.old out.new
+            (key (codes "archives_of_others") ∷ json_tokens (passed_over self)) }
+    {
+        match self {
+            Compared::Archives(others) => out.number_member("archives_of_others", others as u64),
+            Compared::Folders => out.null_member("archives_of_others"),
         }
     }
 }
@@ -88,6 +100,7 @@ impl<T: ToJson> ToJson for Comparison<'_, T> {
         out.number_member("without_checksum", self.counts.without_checksum as u64)?;
         let not_compared = self.compared.not_compared_key();
         out.number_member(not_compared, self.counts.not_compared as u64)?;
+        self.compared.put_passed_over(out)?;
         out.key("findings")?;
         write_array(out, self.findings)?;
         out.end_object()

@@ -13,6 +13,10 @@ pub struct Archive {
 
     /// The SHA-256 of its bytes, as `digest` returns it.
     pub digest: Checksum,
+
+    /// The host in the name of the index folder that it lies in, such as `index.crates.io`. None if it
+    /// lies in the folder of archives itself.
+    pub host: Option<String>,
 }
 
 /// What is wrong with the archives of a package. `Display` writes a line without a newline:
@@ -20,11 +24,12 @@ pub struct Archive {
 /// stranger, the path among them, are shown as the crate `shown` does.
 #[derive(Drop)]
 pub enum Finding<'p, 'a> {
-    /// No archive of the package has its checksum, and this is one of them:
+    /// This archive lies where those of the package do, and is of no package of that name and version:
     /// ``! NAME VERSION SRC: `PATH` is DIGEST, not CHECKSUM``.
     Changed(&'p Package, &'a Archive),
 
-    /// The package has no archive: `- NAME VERSION SRC: no archive`.
+    /// No archive has the checksum of the package, and none is changed:
+    /// `- NAME VERSION SRC: no archive`.
     Missing(&'p Package),
 
     /// The package is of a registry, and the lockfile has no checksum of it:

@@ -5,18 +5,18 @@ ghost use Rattle.std.specs.Prelude.{◌≡◌};
 use crate::class::Counts;
 use std::fmt;
 
-// The last line of a report on archives.
+// The last line of a report on archives, with how many are passed over.
 #[derive(Clone, Copy)]
-pub(crate) struct ArchiveSummary(pub(crate) Counts);
+pub(crate) struct ArchiveSummary(pub(crate) Counts, pub(crate) usize);
 
 impl fmt::Display for ArchiveSummary {
     ghost use Rattle.std.specs.Prelude.{Some};
     ghost use Rattle.cargo_lock_verify.specs.Summary.{archive_summary};
 
-    ghost output = { λ summary. Some (archive_summary summary.0) };
+    ghost output = { λ summary. Some (archive_summary summary.0 summary.1) };
 
     fn fmt<W: fmt::Write>(&self, f: &mut fmt::Formatter<W>) -> fmt::Result {
-        let ArchiveSummary(counts) = *self;
+        let ArchiveSummary(counts, others) = *self;
         let matches = Amount::of(counts.matches, "archive matches", "archives match");
         let changed = Behind::of(counts.changed, "does not", "do not");
         let missing = Behind::of(
@@ -34,9 +34,14 @@ impl fmt::Display for ArchiveSummary {
             "package has no registry",
             "packages have no registry",
         );
+        let others = Behind::of(
+            others,
+            "archive of another registry",
+            "archives of other registries",
+        );
         write!(
             f,
-            "{matches}{changed}{missing}{without_checksum}{not_compared}"
+            "{matches}{changed}{missing}{without_checksum}{not_compared}{others}"
         )
     }
 }

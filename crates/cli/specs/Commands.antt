@@ -1,5 +1,5 @@
 -- What each command leaves in the writer that stands for standard output, and its status.
-use Rattle.std.specs.Prelude.{◌≡◌, ℕ, List, Option, Some, codes}
+use Rattle.std.specs.Prelude.{◌≡◌, ◌⊎◌, ℕ, List, Option, Some, codes}
 use Rattle.clap.specs.Simple.{subcommand_rows_of}
 use Rattle.clap.specs.Walk.{rows_of}
 use Rattle.clap.specs.declared.parser.matches.ArgMatches.{ArgMatches}
@@ -22,6 +22,7 @@ use Rattle.cli_lockfile_commands.specs.Translate.{PrintsTranslation}
 use Rattle.cli_lockfile_commands.specs.Tree.{PrintsTrees}
 use Rattle.cli_folder_commands.specs.Verify.{PrintsVerified}
 use Rattle.cli_lockfile_commands.specs.Why.{PrintsWhy}
+use Rattle.cli_support.specs.Status.{IsCommandNamed}
 
 -- the name of a command
 abbrev pub name_of : Chosen → List ℕ
@@ -46,7 +47,8 @@ name_of Why = codes "why"
 abbrev pub Follows : Chosen → Found → Option (List ℕ) → Option (List ℕ) → Type 0 → Type 0 → Type 0
 Follows Audit found old new failure success = PrintsAudit found old new failure success
 Follows Bom found old new failure success = PrintsBill found old new × success
-Follows Check found old new failure success = PrintsCheck found old new failure success
+Follows Check found old new failure success = (counts : List ℕ)
+    × PrintsCheck found counts old new failure success
 Follows Diff found old new failure success = PrintsDifference found old new failure success
 Follows Duplicates found old new failure success = PrintsDuplicates found old new failure success
 Follows Graph found old new failure success = DrawsGraph found old new × success
@@ -58,6 +60,10 @@ Follows Translate found old new failure success = PrintsTranslation found old ne
 Follows Tree found old new failure success = PrintsTrees found old new × success
 Follows Verify found old new failure success = PrintsVerified found old new failure success
 Follows Why found old new failure success = PrintsWhy found old new × success
+
+-- the arguments name one of the commands that may write to standard error without a fault
+abbrev pub TellsMore : List (List ℕ) → Type 0
+TellsMore words = IsCommandNamed (codes "merge") words ⊎ IsCommandNamed (codes "check") words
 
 -- a command is followed whose name and options the parse found
 pub record FollowsMatches (m : ArgMatches) (old new : Option (List ℕ))

@@ -1,4 +1,5 @@
 pub mod Check
 pub mod Commands
+pub mod Counts
 pub mod Ending
 pub mod Merge

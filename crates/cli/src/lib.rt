@@ -14,14 +14,18 @@ ghost use Rattle.std.specs.Prelude.{◌≡◌, ◌⊎◌, IfErr, IfOk, IfSome, c
 ghost use Rattle.std.specs.Io.KnownBytes.{Keeps};
 ghost use Rattle.clap.specs.Matches.{found_of};
 ghost use Rattle.cli_support.specs.Status.{IsCommandNamed, IsFaultStatus};
-ghost use Rattle.cli.specs.Commands.{Follows, FollowsMatches, name_of};
-ghost use Rattle.cli.specs.Ending.{status_in};
+ghost use Rattle.cli.specs.Commands.{Follows, FollowsMatches, TellsMore, name_of};
+ghost use Rattle.cli.specs.Ending.{IsCountedFor, status_in};
+ghost use Rattle.cli.specs.declared.ending.Reader.TheVariants.{Person, Program};
 
 mod check;
+mod counts;
 mod ending;
 mod merge;
+mod refused;
 
 use crate::ending::Ended;
+pub use crate::ending::Reader;
 use cargo_lock_bom::options::VERSION;
 use clap::{ArgMatches, Command};
 use cli_folder_commands::{audit, bom, json, licenses, verify};
@@ -38,9 +42,10 @@ use std::rt::Files;
 use std::time::Clock;
 
 /// Runs the command that `words`, the arguments without the program's own name, ask for. Its output
-/// goes to `out`, which is then flushed, and an error goes to `err`, as one message, as do the lines
-/// of `merge`. For each other command, if it returns success, nothing was written to `err`; if
-/// something was, the status is that of an error.
+/// goes to `out`, which is then flushed, and an error goes to `err`, as one message, as do the
+/// lines of `merge` and, if there are findings, the line of counts of `check`. For each command but
+/// `merge`, if it returns success, nothing was written to `err`. For each other one, if something
+/// was, the status is that of an error.
 pub fn run<R: Files + Input + Env + Clock + AllocGlobal, S: AsStr, W: Write, E: Write>(
     rt: &R,
     words: &[S],
@@ -51,22 +56,42 @@ pub fn run<R: Files + Input + Env + Clock + AllocGlobal, S: AsStr, W: Write, E: 
         → (¬ IsCommandNamed (codes "merge") (map S.text words.now))
         → Keeps (E.contents err.old) (E.contents err.new) }
     ensures fault { (Keeps (E.contents err.old) (E.contents err.new))
-        ⊎ (IsCommandNamed (codes "merge") (map S.text words.now)
-        ⊎ IsFaultStatus (map S.text words.now) result) }
+        ⊎ (TellsMore (map S.text words.now) ⊎ IsFaultStatus (map S.text words.now) result) }
 {
-    status_of(err, words, execute(rt, words, out))
+    run_for(rt, words, out, err, Reader::Program)
 }
 
-/// Returns the status of a finished command, and prints the lines of `merge`. If the command failed,
-/// prints the message of the error, and returns the status of an error of the command.
+/// The same for this reader of `err`: a person is told by `check` how much was looked at, also
+/// where nothing is found.
+pub fn run_for<R: Files + Input + Env + Clock + AllocGlobal, S: AsStr, W: Write, E: Write>(
+    rt: &R,
+    words: &[S],
+    out: &mut W,
+    err: &mut E,
+    reader: Reader,
+) -> ExitCode
+    ensures kept { result ≡ ExitCode.SUCCESS
+        → (¬ IsCommandNamed (codes "merge") (map S.text words.now))
+        → Keeps (E.contents err.old) (E.contents err.new) ⊎ (reader ≡ Person) }
+    ensures fault { (Keeps (E.contents err.old) (E.contents err.new))
+        ⊎ (TellsMore (map S.text words.now) ⊎ IsFaultStatus (map S.text words.now) result) }
+{
+    status_of(err, words, execute(rt, words, out), reader)
+}
+
+/// Returns the status of a finished command, and prints the lines of `merge` and the counts of
+/// `check`. If the command failed, prints the message of the error, and returns the status of an
+/// error of the command.
 fn status_of<S: AsStr, E: Write>(
     err: &mut E,
     words: &[S],
     outcome: Result<Ended, Fault>,
+    reader: Reader,
 ) -> ExitCode
     ensures status { IfOk outcome (λ ended. result ≡ status_in ended) }
-    ensures ok { IfOk outcome (λ _. (Keeps (E.contents err.old) (E.contents err.new))
-        ⊎ IsCommandNamed (codes "merge") (map S.text words.now)) }
+    ensures ok { IfOk outcome (λ ended. (Keeps (E.contents err.old) (E.contents err.new))
+        ⊎ (IsCommandNamed (codes "merge") (map S.text words.now)
+        ⊎ (IsCommandNamed (codes "check") (map S.text words.now) × IsCountedFor reader ended))) }
     ensures fault { IfErr outcome (λ _. IsFaultStatus (map S.text words.now) result) }
 {
     match outcome {
@@ -76,6 +101,18 @@ fn status_of<S: AsStr, E: Write>(
                 put_lines(err, &lines);
             }
             status
+        }
+        Ok(Ended::Found(counts)) => {
+            if words::name_command(words, "check") {
+                put_lines(err, &counts);
+            }
+            ExitCode::FAILURE
+        }
+        Ok(Ended::FoundNothing(counts)) => {
+            if reader.is_person() && words::name_command(words, "check") {
+                put_lines(err, &counts);
+            }
+            ExitCode::SUCCESS
         }
         Err(fault) => report(err, &fault, status::of_fault(words)),
     }
@@ -221,7 +258,7 @@ fn follow<R: Files + Input + Env + Clock + AllocGlobal, W: Write>(
             bom::run(rt, options, out)?;
             Ok(Ended::Silent(ExitCode::SUCCESS))
         }
-        Chosen::Check => Ok(Ended::Silent(check::run(rt, options, out)?)),
+        Chosen::Check => check::run(rt, options, out),
         Chosen::Diff => Ok(Ended::Silent(diff::run(rt, options, out)?)),
         Chosen::Duplicates => Ok(Ended::Silent(duplicates::run(rt, options, out)?)),
         Chosen::Graph => {

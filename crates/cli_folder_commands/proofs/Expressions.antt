@@ -1,7 +1,9 @@
--- The licence expressions that a bill has of packages.
-use Rattle.std.proofs.Common.{◌≡◌, ◌∙◌, ◌+◌, ◌<◌, ◌++◌, ◌∷◌, [], ℕ, Bor, List, Option, String, ap, get_or, length, map, option_map, string_bytes, sym, take}
+-- The licences that a bill has of packages.
+use Rattle.std.proofs.Common.{◌≡◌, ◌∙◌, ◌+◌, ◌<◌, ◌++◌, ◌∷◌, [], ℕ, Bor, List, Option, ap, get_or, length, map, option_map, sym, take}
 use Rattle.std.specs.List.{AllZip}
 use Rattle.std.proofs.lemmas.List.{get_or_default, map-append, take_more}
+use Rattle.cargo_lock_bom.specs.Options.{license_of}
+use Rattle.cargo_lock_bom.specs.declared.options.License.{License}
 use Rattle.cargo_lock_graph.proofs.Zipped.{zip-push}
 use Rattle.cargo_lock_licenses.specs.declared.subject.Subject.{Subject}
 use Rattle.cargo_lock_licenses.specs.Subjects.{license_subject_of}
@@ -27,7 +29,7 @@ next-text R g texts i old new y within all one grown =
     next-zipped R (λ (text : Bor (List ℕ)). text.now) g texts i (get_or texts i past) old new y within (get_or_default texts i past (get_or texts i past) within) all one grown
 
 -- a step of the loop over the subjects
-pub next-license : {Y : Type 0} (subjects : List Subject) (i : ℕ) (s : Subject) (old new : List (Option (String Y))) (license : Option (String Y)) → i < length subjects → s ≡ get_or subjects i s
-    → AllZip IsLicense (map license_subject_of (take i subjects)) (map (option_map string_bytes) old) → IsLicense (license_subject_of s) (option_map string_bytes license) → new ≡ old ++ license ∷ []
-    → AllZip IsLicense (map license_subject_of (take (i + 1) subjects)) (map (option_map string_bytes) new)
-next-license subjects i s old new license within is all one grown = next-zipped IsLicense license_subject_of (option_map string_bytes) subjects i s old new license within is all one grown
+pub next-license : (subjects : List Subject) (i : ℕ) (s : Subject) (old new : List (Option License)) (license : Option License) → i < length subjects → s ≡ get_or subjects i s
+    → AllZip IsLicense (map license_subject_of (take i subjects)) (map (option_map license_of) old) → IsLicense (license_subject_of s) (option_map license_of license) → new ≡ old ++ license ∷ []
+    → AllZip IsLicense (map license_subject_of (take (i + 1) subjects)) (map (option_map license_of) new)
+next-license subjects i s old new license within is all one grown = next-zipped IsLicense license_subject_of (option_map license_of) subjects i s old new license within is all one grown

@@ -1,18 +1,21 @@
 -- What `audit` prints, and its status.
-use Rattle.std.specs.Prelude.{◌≡◌, ◌<◌, ℕ, List, Option, codes, false, true}
+use Rattle.std.specs.Prelude.{◌≡◌, ◌<◌, ℕ, List, Option, None, Some, codes, false, option_map, true}
 use Rattle.std.specs.List.{list_any}
+use Rattle.clap.specs.Matches.{first_value}
 use Rattle.clap.specs.declared.parser.matches.Found.{Found}
 use Rattle.cargo_lock.specs.Loads.{IsMeant}
 use Rattle.cargo_lock_audit.specs.Advisory.{AdvisoryData}
+use Rattle.cargo_lock_audit.specs.Audited.{AuditedData}
 use Rattle.cargo_lock_audit.specs.Database.{AreInOrderOfIds}
 use Rattle.cargo_lock_audit.specs.Lines.{audit_report_text}
 use Rattle.cargo_lock_audit.specs.Report.{ReportData, report_of}
+use Rattle.cargo_lock_audit.specs.Settings.{SettingsData}
 use Rattle.cargo_lock_encoding.specs.Lockfiles.{LockfileData}
 use Rattle.cargo_lock_audit.specs.Document.{advisories_json}
 use Rattle.cargo_lock_display.specs.File.{FileData}
 use Rattle.cargo_lock_parts.specs.Identity.{PackageData}
 use Rattle.cli_input.specs.Json.{PrintsAnswer, named_file_of}
-use Rattle.cli_folder_commands.specs.Texts.{given_texts}
+use Rattle.cli_folder_commands.specs.Settings.{AreSettings}
 
 -- a report is printed, with the status of its findings
 pub record PrintsAudited (found : Found) (file : FileData) (told : ReportData)
@@ -21,12 +24,11 @@ pub record PrintsAudited (found : Found) (file : FileData) (told : ReportData)
   pub some : list_any (λ f. f.is_denied) told.findings ≡ true → failure
   pub none : list_any (λ f. f.is_denied) told.findings ≡ false → success
 
--- what is reported of the packages by these advisories is printed, as the arguments ask for
-abbrev pub PrintsAuditReport : Found → FileData → List PackageData → List AdvisoryData → ℕ
-    → Option (List ℕ) → Option (List ℕ) → Type 0 → Type 0 → Type 0
-PrintsAuditReport found file packages advisories size = PrintsAudited found file
-    (report_of packages advisories size (given_texts found (codes "ignore"))
-    (given_texts found (codes "deny")))
+-- what is reported of what is audited, by settings and by these advisories, is printed
+abbrev pub PrintsAuditReport : Found → SettingsData → FileData → AuditedData → List AdvisoryData
+    → ℕ → Option (List ℕ) → Option (List ℕ) → Type 0 → Type 0 → Type 0
+PrintsAuditReport found settings file audited advisories size =
+    PrintsAudited found file (report_of settings audited advisories size)
 
 -- advisories in the order of their ids, of a database that has this many, and one or more
 pub record IsSomeDatabase (advisories : List AdvisoryData) (size : ℕ) : Type 0 where
@@ -34,13 +36,33 @@ pub record IsSomeDatabase (advisories : List AdvisoryData) (size : ℕ) : Type 0
   pub some : 0 < size
 
 -- the same by the advisories of some database
-abbrev pub PrintsAuditOf : Found → FileData → List PackageData → Option (List ℕ) → Option (List ℕ)
-    → Type 0 → Type 0 → Type 0
-PrintsAuditOf found file packages old new failure success =
+abbrev pub PrintsAuditOf : Found → SettingsData → FileData → AuditedData → Option (List ℕ)
+    → Option (List ℕ) → Type 0 → Type 0 → Type 0
+PrintsAuditOf found settings file audited old new failure success =
     (advisories : List AdvisoryData) × (size : ℕ) × IsSomeDatabase advisories size
-    × PrintsAuditReport found file packages advisories size old new failure success
+    × PrintsAuditReport found settings file audited advisories size old new failure success
 
--- the same of the packages of a lockfile that some text means
+-- the older lockfile, if the arguments name one, is one that some text means
+abbrev pub IsOlder : Option (List ℕ) → Option LockfileData → Type 0
+IsOlder None None = Unit {0}
+IsOlder (Some path) (Some l) = IsMeant l
+IsOlder path older = ⊥
+
+-- the packages of a lockfile, if there is one
+abbrev pub packages_before : Option LockfileData → Option (List PackageData)
+packages_before = option_map (λ l. l.packages)
+
+-- the same of packages, since an older lockfile if the arguments name one
+abbrev pub PrintsAuditSince : Found → SettingsData → FileData → List PackageData
+    → Option (List ℕ) → Option (List ℕ) → Type 0 → Type 0 → Type 0
+PrintsAuditSince found settings file packages old new failure success =
+    (older : Option LockfileData) × IsOlder (first_value found (codes "since")) older
+    × PrintsAuditOf found settings file (record { packages = packages; older = packages_before older })
+    old new failure success
+
+-- the same of the packages of a lockfile that some text means, by the settings of the arguments
 abbrev pub PrintsAudit : Found → Option (List ℕ) → Option (List ℕ) → Type 0 → Type 0 → Type 0
-PrintsAudit found old new failure success = (l : LockfileData) × IsMeant l
-    × PrintsAuditOf found (named_file_of found (codes "file") l) l.packages old new failure success
+PrintsAudit found old new failure success = (l : LockfileData) × (settings : SettingsData)
+    × IsMeant l × AreSettings found settings
+    × PrintsAuditSince found settings (named_file_of found (codes "file") l) l.packages old new
+    failure success

@@ -1,6 +1,7 @@
--- The licence expressions that a bill has of packages.
+-- The licences that a bill has of packages.
 use Rattle.std.specs.Prelude.{◌≡◌, [], ℕ, Bool, false, true, List, Option, None, Some}
 use Rattle.std.specs.List.{AllZip}
+use Rattle.cargo_lock_bom.specs.Options.{Expression, LicenseData, Named}
 use Rattle.cargo_lock_licenses.specs.Grammar.{IsExpression, Tree}
 use Rattle.cargo_lock_licenses.specs.Printed.{printed}
 use Rattle.cargo_lock_licenses.specs.Subjects.{LicenseSubjectData, subject_has_source}
@@ -11,15 +12,16 @@ use Rattle.cargo_lock_licenses.specs.Verdicts.{OnlyFile}
 use Rattle.cargo_lock_parts.specs.Identity.{PackageData}
 use Rattle.cli_folder_commands.specs.Licenses.{AreLicensed}
 
--- the expression of a verdict that has an allowed one, as it is printed
-abbrev pub expression_in : VerdictData → Option (List ℕ)
-expression_in (Allowed p text) = Some (printed (tokens text))
-expression_in (NotAllowed p text) = None
-expression_in (NoExpression p text) = None
-expression_in (OnlyFile p path) = None
-expression_in (NoLicense p) = None
-expression_in (NoManifest p) = None
-expression_in (Differ p) = None
+-- the licence of a verdict that has one: an allowed expression, as it is printed, or a text that is
+-- no expression
+abbrev pub license_in : VerdictData → Option LicenseData
+license_in (Allowed p text) = Some (Expression (printed (tokens text)))
+license_in (NotAllowed p text) = None
+license_in (NoExpression p text) = Some (Named text)
+license_in (OnlyFile p path) = None
+license_in (NoLicense p) = None
+license_in (NoManifest p) = None
+license_in (Differ p) = None
 
 -- the text of a verdict that has an allowed one is an expression
 abbrev pub IsReadable : VerdictData → Type 0
@@ -31,23 +33,23 @@ IsReadable (NoLicense p) = Unit {0}
 IsReadable (NoManifest p) = Unit {0}
 IsReadable (Differ p) = Unit {0}
 
--- the licence expression of a subject whose package has a source, or not: that of its verdict where
--- each expression is allowed, or none
-abbrev pub IsLicenseIf : Bool → LicenseSubjectData → Option (List ℕ) → Type 0
+-- the licence of a subject whose package has a source, or not: that of its verdict where each
+-- expression is allowed, or none
+abbrev pub IsLicenseIf : Bool → LicenseSubjectData → Option LicenseData → Type 0
 IsLicenseIf false s license = license ≡ None
-IsLicenseIf true s license = (v : VerdictData) × IsVerdict [] s v × (license ≡ expression_in v)
+IsLicenseIf true s license = (v : VerdictData) × IsVerdict [] s v × (license ≡ license_in v)
 
--- the licence expression that a bill has of a subject
-abbrev pub IsLicense : LicenseSubjectData → Option (List ℕ) → Type 0
+-- the licence that a bill has of a subject
+abbrev pub IsLicense : LicenseSubjectData → Option LicenseData → Type 0
 IsLicense s = IsLicenseIf (subject_has_source s) s
 
--- the licence expressions of these packages, each with some manifests, in their order
-abbrev pub AreLicensesOf : List PackageData → List (Option (List ℕ)) → Type 0
+-- the licences of these packages, each with some manifests, in their order
+abbrev pub AreLicensesOf : List PackageData → List (Option LicenseData) → Type 0
 AreLicensesOf packages licenses = (subjects : List LicenseSubjectData)
     × AreLicensed packages subjects × AllZip IsLicense subjects licenses
 
--- the licence expressions that a bill of packages has, if the arguments have a folder of manifests;
+-- the licences that a bill of packages has, if the arguments have a folder of manifests;
 -- without one it has none
-abbrev pub AreLicensesBy : Option (List ℕ) → List PackageData → List (Option (List ℕ)) → Type 0
+abbrev pub AreLicensesBy : Option (List ℕ) → List PackageData → List (Option LicenseData) → Type 0
 AreLicensesBy None packages licenses = licenses ≡ []
 AreLicensesBy (Some folder) packages licenses = AreLicensesOf packages licenses

@@ -5,5 +5,6 @@ pub mod Folders
 pub mod Json
 pub mod Texts
 pub mod Policy
+pub mod Settings
 pub mod Licenses
 pub mod Verify

@@ -1,6 +1,6 @@
 -- What `verify` prints, and its status.
 use Rattle.std.specs.Prelude.{◌≡◌, ◌≢◌, ℕ, Bool, List, [], Option, None, Some, codes, false}
-use Rattle.std.specs.Prelude.{if◌then◌else◌, map, true}
+use Rattle.std.specs.Prelude.{if◌then◌else◌, length, map, true}
 use Rattle.clap.specs.Matches.{first_value}
 use Rattle.clap.specs.declared.parser.matches.Found.{Found}
 use Rattle.cargo_lock_encoding.specs.Lockfiles.{LockfileData}
@@ -8,8 +8,8 @@ use Rattle.cargo_lock_verify.specs.ArchivesDocument.{archives_json}
 use Rattle.cargo_lock_display.specs.File.{FileData}
 use Rattle.cargo_lock_verify.specs.FoldersDocument.{folders_json}
 use Rattle.cargo_lock_parts.specs.Identity.{PackageData}
-use Rattle.cargo_lock_verify.specs.Archives.{ArchiveFindingData, ArchiveSubjectData}
-use Rattle.cargo_lock_verify.specs.Archives.{archive_counts, archive_findings}
+use Rattle.cargo_lock_verify.specs.Archives.{ArchiveFindingData, ArchiveSubjectData, CacheData}
+use Rattle.cargo_lock_verify.specs.Archives.{archive_counts, archive_findings, archives_of_others}
 use Rattle.cargo_lock_verify.specs.Class.{is_clean}
 use Rattle.cargo_lock_verify.specs.declared.class.Counts.{Counts}
 use Rattle.cargo_lock_verify.specs.declared.entry.Others.{Others}
@@ -18,6 +18,7 @@ use Rattle.cargo_lock_verify.specs.Entries.{EntryData}
 use Rattle.cargo_lock_verify.specs.Report.{archive_report_text, reported}
 use Rattle.cargo_lock_verify.specs.Vendored.{FolderFindingData, VendoredData, folder_counts}
 use Rattle.cargo_lock_verify.specs.VendorReport.{folder_report_text, vendor_findings}
+use Rattle.cli_folder_commands.specs.Texts.{given_texts}
 use Rattle.cli_input.specs.Load.{IsMeantWithCargoChecksums}
 use Rattle.cli_input.specs.Json.{IsFlag, PrintsAnswer, named_file_of}
 
@@ -25,24 +26,34 @@ use Rattle.cli_input.specs.Json.{IsFlag, PrintsAnswer, named_file_of}
 abbrev pub AreSubjectsOf : List PackageData → List ArchiveSubjectData → Type 0
 AreSubjectsOf packages subjects = map (λ s. s.content) subjects ≡ packages
 
--- findings of archives, and how many packages are in each class, are printed, with the status of
--- these numbers
+-- findings of archives, and how many packages are in each class and archives are passed over, are
+-- printed, with the status of these numbers
 pub record PrintsFound (found : Found) (file : FileData) (all : Bool)
-    (told : List ArchiveFindingData) (counts : Counts) (old new : Option (List ℕ))
+    (told : List ArchiveFindingData) (counts : Counts) (others : ℕ) (old new : Option (List ℕ))
     (failure success : Type 0) : Type 0 where
-  pub printed : PrintsAnswer found (archives_json file counts told)
-      (archive_report_text told counts) old new
+  pub printed : PrintsAnswer found (archives_json file counts others told)
+      (archive_report_text told counts others) old new
   pub some : is_clean all counts ≡ false → failure
   pub none : is_clean all counts ≡ true → success
 
--- what is found of these subjects is reported, packages of a registry without a checksum if the
--- arguments ask for all
+-- the subjects, and the hosts of mirrors that the arguments have
+abbrev pub cache_by : Found → List ArchiveSubjectData → CacheData
+cache_by found subjects =
+    record { subjects = subjects; mirrors = given_texts found (codes "mirror") }
+
+-- what is found in this cache is printed, packages of a registry without a checksum if the arguments
+-- ask for all
+abbrev pub PrintsReportOf : Found → FileData → CacheData → Option (List ℕ) → Option (List ℕ)
+    → Type 0 → Type 0 → Type 0
+PrintsReportOf found file cache old new failure success = (all : Bool)
+    × IsFlag found (codes "all") all
+    × PrintsFound found file all (reported all (archive_findings cache)) (archive_counts cache)
+    (length (archives_of_others cache)) old new failure success
+
+-- what is found of these subjects is printed, by the mirrors that the arguments have
 abbrev pub PrintsReport : Found → FileData → List ArchiveSubjectData → Option (List ℕ)
     → Option (List ℕ) → Type 0 → Type 0 → Type 0
-PrintsReport found file subjects old new failure success = (all : Bool)
-    × IsFlag found (codes "all") all
-    × PrintsFound found file all (reported all (archive_findings subjects))
-    (archive_counts subjects) old new failure success
+PrintsReport found file subjects = PrintsReportOf found file (cache_by found subjects)
 
 -- the same of these packages, each with some archives
 abbrev pub PrintsArchivesOf : Found → FileData → List PackageData → Option (List ℕ)

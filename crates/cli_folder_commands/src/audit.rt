@@ -1,25 +1,29 @@
 //! The command `audit`: which packages of a lockfile have a known vulnerability, by a folder of
 //! advisories.
-ghost use Rattle.std.specs.Prelude.{◌≡◌, IfOk};
+ghost use Rattle.std.specs.Prelude.{◌≡◌, IfOk, codes, option_copied};
 ghost use Rattle.std.specs.List.{list_any};
-ghost use Rattle.clap.specs.Matches.{found_of};
+ghost use Rattle.clap.specs.Matches.{first_value, found_of};
+ghost use Rattle.cargo_lock_audit.specs.Audited.{audited_of};
 ghost use Rattle.cargo_lock_audit.specs.Database.{AreInOrderOfIds};
 ghost use Rattle.cargo_lock_audit.specs.Report.{report_data_of};
-ghost use Rattle.cli_folder_commands.specs.Audit.{IsSomeDatabase, PrintsAudit, PrintsAuditOf};
-ghost use Rattle.cli_folder_commands.specs.Audit.{PrintsAuditReport};
+ghost use Rattle.cargo_lock_audit.specs.Settings.{settings_of};
+ghost use Rattle.cli_folder_commands.specs.Audit.{IsOlder, IsSomeDatabase, PrintsAudit};
+ghost use Rattle.cli_folder_commands.specs.Audit.{PrintsAuditOf, PrintsAuditReport};
+ghost use Rattle.cli_folder_commands.specs.Audit.{PrintsAuditSince, packages_before};
 
 use crate::folders::folder;
+use crate::settings::settings_of;
 use crate::texts;
 use crate::verify::status_of;
 use cargo_lock::Lockfile;
 use cargo_lock::package::Package;
-use cargo_lock_audit::{Advisory, AdvisoryFile, Database, Report, database_of};
+use cargo_lock_audit::{Advisory, AdvisoryFile, Audited, Database, Report, Settings, database_of};
 use cargo_lock_display::File;
-use clap::{Arg, ArgMatches, Command};
+use clap::{Arg, ArgAction, ArgMatches, Command};
 use cli_folders::{AdvisoryFiles, advisory_files, database_fault};
 use cli_input::answer::print_answer;
 use cli_input::load::{file, named_lockfile};
-use cli_support::words::{any_size, json};
+use cli_support::words::{any_size, is_standard, json};
 use cli_support::{Fault, words};
 use std::alloc::{AllocError, Global};
 use std::io::{Input, Write};
@@ -31,9 +35,10 @@ const AUDIT_HELP: &str = "\
 Each advisory that concerns a package of crates.io has a line, for each such package:
   ! NAME VERSION SRC: ID: TITLE; patched REQUIREMENT or REQUIREMENT
   ? NAME VERSION SRC: ID: KIND: TITLE; patched ..   it is informational, as `unmaintained`
+  = NAME VERSION SRC: ID: ..                        either, and OLD of `--since` has it too
   - ID: nothing to ignore                           no package has this advisory
 The last line says how many packages were compared with how many advisories of FOLDER, and how many \
-were not, since they are not of crates.io:
+were not, since they are neither of crates.io nor of a registry of `--registry`:
   39 packages of crates.io compared with 812 advisories; not compared: 2 from git
 
 An advisory concerns a package with its name whose version lies in none of the requirements of \
@@ -45,8 +50,10 @@ FOLDER/crates/NAME/RUSTSEC-*.md. Those of names in the lockfile are read, and th
 If one does not read, if another file or folder lies beside it whose name begins with no dot, or if \
 FOLDER has no advisory, nothing else is printed.
 
-The status is 1 where a line begins with `!`, and 2 where the lockfile, a folder or an advisory \
-cannot be read.";
+OLD has it too if the advisory concerns a package of OLD with that name, whatever its version.
+
+The status is 1 where a line begins with `!`, and 2 where a lockfile, a folder or an advisory \
+cannot be read, or a URL of `--registry` is none of a registry.";
 
 /// The options, as help shows them.
 const DATABASE_HELP: &str = "The folder of the advisories";
@@ -56,6 +63,11 @@ const IGNORE_HELP: &str =
 
 const DENY_HELP: &str =
     "Counts informational advisories of this kind as vulnerabilities; warnings are all kinds";
+
+const REGISTRY_HELP: &str =
+    "Takes packages of this registry for those of crates.io; URL is as in a lockfile";
+
+const SINCE_HELP: &str = "Counts only what this older lockfile does not have; - for standard input";
 
 /// The kinds of informational advisories that RustSec has, and the word for all of them.
 const KINDS: [&str; 4] = ["unmaintained", "unsound", "notice", "warnings"];
@@ -70,6 +82,8 @@ pub fn command<'a>(alloc: Global) -> Result<Command<'a>, AllocError> {
         .arg(database_option(alloc))?
         .arg(texts::option(alloc, "ignore", "ID").help(IGNORE_HELP))?
         .arg(kinds_option(alloc))?
+        .arg(texts::option(alloc, "registry", "URL").help(REGISTRY_HELP))?
+        .arg(since_option(alloc))?
         .arg(json(alloc)?)
 }
 
@@ -85,11 +99,22 @@ fn kinds_option<'a>(alloc: Global) -> Arg<'a> {
         .help(DENY_HELP)
 }
 
-/// Prints which advisories concern packages of the lockfile, a line for each, and what was compared,
-/// or, if the arguments ask for it, all as one line of JSON. The status is 1 if one of them is a vulnerability or of a
-/// kind that is denied, and otherwise 0. Fails if the lockfile, a folder or an advisory is not read,
-/// or if `out` fails; a prefix of the text was then written in the last case, and nothing in the
-/// others.
+/// The option for an older lockfile.
+fn since_option<'a>(alloc: Global) -> Arg<'a> {
+    Arg::new(alloc, "since")
+        .long("since")
+        .value_name("OLD")
+        .allow_hyphen_values(true)
+        .action(ArgAction::Set)
+        .help(SINCE_HELP)
+}
+
+/// Prints which advisories concern packages of the lockfile, a line for each, and what was
+/// compared, or, if the arguments ask for it, all as one line of JSON. The status is 1 if one of
+/// them is a vulnerability or of a kind that is denied, and no older lockfile that the arguments
+/// name has it too, and otherwise 0. Fails if a URL is none of a registry, if a lockfile, a folder or
+/// an advisory is not read, or if `out` fails; a prefix of the text was then written in the last
+/// case, and nothing in the others.
 pub fn run<R: Files + Input + AllocGlobal, W: Write>(
     rt: &R,
     options: &ArgMatches<'_>,
@@ -99,26 +124,93 @@ pub fn run<R: Files + Input + AllocGlobal, W: Write>(
         (W.contents out.old) (W.contents out.new)
         (status ≡ ExitCode.FAILURE) (status ≡ ExitCode.SUCCESS)) }
 {
+    let settings = settings_of(rt.alloc(), options)?;
+    check_inputs(options)?;
     let lockfile = named_lockfile(rt, options, "file")?;
     let file = file(options, "file", &lockfile);
-    print_audit(rt, options, &file, &lockfile, out)
+    print_audit(rt, options, &settings, &file, &lockfile, out)
 }
 
-/// Prints which advisories concern packages of this lockfile. Returns the status.
-fn print_audit<R: Files + AllocGlobal, W: Write>(
+/// Refuses standard input for both lockfiles.
+fn check_inputs(options: &ArgMatches<'_>) -> Result<(), Fault> {
+    if is_standard(options, "file") && is_standard(options, "since") {
+        return Err(Fault::OneInput);
+    }
+    Ok(())
+}
+
+/// Prints which advisories concern packages of this lockfile, by settings. Returns the status.
+fn print_audit<R: Files + Input + AllocGlobal, W: Write>(
     rt: &R,
     options: &ArgMatches<'_>,
+    settings: &Settings,
     file: &File<'_>,
     lockfile: &Lockfile,
     out: &mut W,
 ) -> Result<ExitCode, Fault>
-    ensures { IfOk result (λ status. PrintsAuditOf (found_of options.now) file.now
-        lockfile.now.packages (W.contents out.old) (W.contents out.new)
+    ensures { IfOk result (λ status. PrintsAuditSince (found_of options.now)
+        (settings_of settings.now) file.now lockfile.now.packages
+        (W.contents out.old) (W.contents out.new)
         (status ≡ ExitCode.FAILURE) (status ≡ ExitCode.SUCCESS)) }
 {
-    let packages = lockfile.packages.as_slice();
-    let database = database_in(rt, options.get_str("db").unwrap_or(""), packages)?;
-    print_report(rt.alloc(), options, file, packages, &database, out)
+    let older = older_lockfile(rt, options)?;
+    let audited = audited_since(lockfile, &older);
+    print_audited(rt, options, settings, file, &audited, out)
+}
+
+/// The older lockfile, if the arguments name one. Fails if it is not read.
+fn older_lockfile<R: Files + Input + AllocGlobal>(
+    rt: &R,
+    options: &ArgMatches<'_>,
+) -> Result<Option<Lockfile>, Fault>
+    ensures { IfOk result
+        (λ older. IsOlder (first_value (found_of options.now) (codes "since")) older) }
+{
+    match options.get_str("since") {
+        Some(_) => Ok(Some(named_lockfile(rt, options, "since")?)),
+        None => Ok(None),
+    }
+}
+
+/// What is audited: the packages of a lockfile, since an older one if there is one.
+fn audited_since<'p>(lockfile: &'p Lockfile, older: &'p Option<Lockfile>) -> Audited<'p>
+    ensures packages { result.packages.now ≡ lockfile.now.packages }
+    ensures older { option_copied result.older ≡ packages_before older.now }
+{
+    let before = packages_before(older);
+    Audited {
+        packages: lockfile.packages.as_slice(),
+        older: before,
+    }
+}
+
+/// The packages of a lockfile, if there is one.
+fn packages_before(lockfile: &Option<Lockfile>) -> Option<&[Package]>
+    ensures { option_copied result ≡ packages_before lockfile.now }
+{
+    match lockfile {
+        Some(lockfile) => Some(lockfile.packages.as_slice()),
+        None => None,
+    }
+}
+
+/// Prints which advisories concern what is audited, by settings. Returns the status.
+fn print_audited<R: Files + AllocGlobal, W: Write>(
+    rt: &R,
+    options: &ArgMatches<'_>,
+    settings: &Settings,
+    file: &File<'_>,
+    audited: &Audited<'_>,
+    out: &mut W,
+) -> Result<ExitCode, Fault>
+    ensures { IfOk result (λ status. PrintsAuditOf (found_of options.now)
+        (settings_of settings.now) file.now (audited_of audited.now)
+        (W.contents out.old) (W.contents out.new)
+        (status ≡ ExitCode.FAILURE) (status ≡ ExitCode.SUCCESS)) }
+{
+    let folder = options.get_str("db").unwrap_or("");
+    let database = database_in(rt, folder, audited.packages)?;
+    print_report(rt.alloc(), options, settings, file, audited, &database, out)
 }
 
 /// The database in a folder, with the advisories about packages with the name of one of these.
@@ -147,22 +239,22 @@ fn advisories_of(alloc: Global, files: Vec<AdvisoryFile>) -> Result<Vec<Advisory
     }
 }
 
-/// Prints which advisories of this database concern packages. Returns the status.
+/// Prints which advisories of this database concern what is audited. Returns the status.
 fn print_report<W: Write>(
     alloc: Global,
     options: &ArgMatches<'_>,
+    settings: &Settings,
     file: &File<'_>,
-    packages: &[Package],
+    audited: &Audited<'_>,
     database: &Database,
     out: &mut W,
 ) -> Result<ExitCode, Fault>
-    ensures { IfOk result (λ status. PrintsAuditReport (found_of options.now) file.now packages.now
+    ensures { IfOk result (λ status. PrintsAuditReport (found_of options.now)
+        (settings_of settings.now) file.now (audited_of audited.now)
         database.now.advisories.items database.now.size (W.contents out.old) (W.contents out.new)
         (status ≡ ExitCode.FAILURE) (status ≡ ExitCode.SUCCESS)) }
 {
-    let ignored = texts::given(alloc, options, "ignore")?;
-    let denied = texts::given(alloc, options, "deny")?;
-    let report = Report::of(alloc, packages, database, &ignored, &denied)?;
+    let report = Report::of(alloc, audited, database, settings)?;
     print_answer(alloc, options, file, &report, out)?;
     Ok(status_of(!is_denied(&report)))
 }

@@ -1,7 +1,9 @@
-//! The licence expressions that a bill has of packages, by their manifests in a folder.
-ghost use Rattle.std.specs.Prelude.{◌≡◌, IfOk, Some, codes, map, option_map, string_bytes, true};
+//! The licences that a bill has of packages, by their manifests in a folder.
+ghost use Rattle.std.specs.Prelude.{◌≡◌, IfOk, Some, codes, map, option_map, true};
 ghost use Rattle.std.specs.List.{AllZip};
 ghost use Rattle.clap.specs.Matches.{first_value, found_of};
+ghost use Rattle.cargo_lock_bom.specs.Options as bill;
+ghost use Rattle.cargo_lock_bom.specs.Options.{license_of};
 ghost use Rattle.cargo_lock_licenses.specs.Grammar.{IsExpression, Tree};
 ghost use Rattle.cargo_lock_licenses.specs.Printed.{printed};
 ghost use Rattle.cargo_lock_licenses.specs.Subjects.{license_subject_of};
@@ -15,6 +17,7 @@ ghost use Rattle.cli_folder_commands.specs.BillLicenses as spec;
 use crate::folders::manifests;
 use crate::licenses::subjects_in;
 use cargo_lock::package::Package;
+use cargo_lock_bom::options::License;
 use cargo_lock_licenses::{Expression, Subject, Verdict};
 use clap::{Arg, ArgMatches};
 use cli_support::Fault;
@@ -30,16 +33,16 @@ pub(crate) fn option<'a>(alloc: Global) -> Arg<'a> {
     manifests(alloc, MANIFESTS_HELP)
 }
 
-/// The licence expressions of these packages, in their order, if the arguments name a folder of
+/// The licences of these packages, in their order, if the arguments name a folder of
 /// manifests, and an empty list if they name none. Fails if the folder or a manifest is not read.
 pub(crate) fn asked<R: Files + AllocGlobal>(
     rt: &R,
     options: &ArgMatches<'_>,
     packages: &[Package],
-) -> Result<Vec<Option<String>>, Fault>
+) -> Result<Vec<Option<License>>, Fault>
     ensures { IfOk result (λ licenses. AreLicensesBy
         (first_value (found_of options.now) (codes "manifests")) packages.now
-        (map (option_map string_bytes) licenses.items)) }
+        (map (option_map license_of) licenses.items)) }
 {
     match options.get_str("manifests") {
         Some(folder) => licenses_in(rt, folder, packages),
@@ -47,24 +50,24 @@ pub(crate) fn asked<R: Files + AllocGlobal>(
     }
 }
 
-/// The licence expressions of these packages, by their manifests in a folder.
+/// The licences of these packages, by their manifests in a folder.
 fn licenses_in<R: Files + AllocGlobal>(
     rt: &R,
     folder: &str,
     packages: &[Package],
-) -> Result<Vec<Option<String>>, Fault>
+) -> Result<Vec<Option<License>>, Fault>
     ensures { IfOk result (λ licenses. AreLicensesOf packages.now
-        (map (option_map string_bytes) licenses.items)) }
+        (map (option_map license_of) licenses.items)) }
 {
     let subjects = subjects_in(rt, folder, packages)?;
     let licenses = licenses_of(rt.alloc(), &subjects)?;
     Ok(licenses)
 }
 
-/// The licence expressions of these subjects, in their order.
-fn licenses_of(alloc: Global, subjects: &[Subject<'_>]) -> Result<Vec<Option<String>>, AllocError>
+/// The licences of these subjects, in their order.
+fn licenses_of(alloc: Global, subjects: &[Subject<'_>]) -> Result<Vec<Option<License>>, AllocError>
     ensures { IfOk result (λ licenses. AllZip IsLicense (map license_subject_of subjects.now)
-        (map (option_map string_bytes) licenses.items)) }
+        (map (option_map license_of) licenses.items)) }
 {
     let mut licenses = Vec::with_capacity(alloc, subjects.len())?;
     for subject in subjects {
@@ -73,10 +76,10 @@ fn licenses_of(alloc: Global, subjects: &[Subject<'_>]) -> Result<Vec<Option<Str
     Ok(licenses)
 }
 
-/// The licence expression of a subject, if its package has a source and its manifests agree on one.
-fn license_of(alloc: Global, subject: &Subject<'_>) -> Result<Option<String>, AllocError>
+/// The licence of a subject, if its package has a source and its manifests agree on one.
+fn license_of(alloc: Global, subject: &Subject<'_>) -> Result<Option<License>, AllocError>
     ensures { IfOk result
-        (λ license. IsLicense (license_subject_of subject.now) (option_map string_bytes license)) }
+        (λ license. IsLicense (license_subject_of subject.now) (option_map license_of license)) }
 {
     let package = subject.package;
     if package.source.is_none() {
@@ -85,36 +88,45 @@ fn license_of(alloc: Global, subject: &Subject<'_>) -> Result<Option<String>, Al
     agreed(alloc, subject)
 }
 
-/// The licence expression on which the manifests of a subject agree, if they agree on one.
-fn agreed(alloc: Global, subject: &Subject<'_>) -> Result<Option<String>, AllocError>
+/// The licence on which the manifests of a subject agree, if they agree on one.
+fn agreed(alloc: Global, subject: &Subject<'_>) -> Result<Option<License>, AllocError>
     ensures { IfOk result (λ license. IsLicenseIf true (license_subject_of subject.now)
-        (option_map string_bytes license)) }
+        (option_map license_of license)) }
 {
     let verdict = Verdict::of(alloc, subject, &[])?;
-    expression_in(alloc, &verdict)
+    license_in(alloc, &verdict)
 }
 
-/// The expression of a verdict that has an allowed one, as it is printed.
-fn expression_in(alloc: Global, verdict: &Verdict<'_, '_>) -> Result<Option<String>, AllocError>
+/// The licence of a verdict that has one: an allowed expression, as it is printed, or a text that is
+/// no expression.
+fn license_in(alloc: Global, verdict: &Verdict<'_, '_>) -> Result<Option<License>, AllocError>
     ensures { IfOk result (λ license. IsReadable (verdict_of verdict.now)
-        → option_map string_bytes license ≡ spec.expression_in (verdict_of verdict.now)) }
+        → option_map license_of license ≡ spec.license_in (verdict_of verdict.now)) }
 {
     match *verdict {
         Verdict::Allowed(_, text) => printed_text(alloc, text),
-        Verdict::NotAllowed(_, _) | Verdict::NoExpression(_, _) | Verdict::OnlyFile(_, _) => {
-            Ok(None)
-        }
+        Verdict::NoExpression(_, text) => named(alloc, text),
+        Verdict::NotAllowed(_, _) | Verdict::OnlyFile(_, _) => Ok(None),
         Verdict::NoLicense(_) | Verdict::NoManifest(_) | Verdict::Differ(_) => Ok(None),
     }
 }
 
 /// The expression in a text, as it is printed, if the text is one.
-fn printed_text(alloc: Global, text: &str) -> Result<Option<String>, AllocError>
+fn printed_text(alloc: Global, text: &str) -> Result<Option<License>, AllocError>
     ensures { IfOk result (λ made. (e : Tree) → IsExpression text.now e
-        → option_map string_bytes made ≡ Some (printed (tokens text.now))) }
+        → option_map license_of made ≡ Some (bill.Expression (printed (tokens text.now)))) }
 {
     match Expression::parse(alloc, text)? {
-        Some(expression) => Ok(Some(format!(in alloc; "{expression}")?)),
+        Some(expression) => Ok(Some(License::Expression(format!(in alloc; "{expression}")?))),
         None => Ok(None),
     }
+}
+
+/// A text that is no expression.
+fn named(alloc: Global, text: &str) -> Result<Option<License>, AllocError>
+    ensures { IfOk result
+        (λ made. option_map license_of made ≡ Some (bill.Named text.now)) }
+{
+    let name = String::from_str(alloc, text)?;
+    Ok(Some(License::Named(name)))
 }

@@ -1,15 +1,22 @@
 //! The command `bom`: the bill of materials of a lockfile.
-ghost use Rattle.std.specs.Prelude.{◌≡◌, None, IfOk, OnOk, codes, map, option_map, string_bytes};
+ghost use Rattle.std.specs.Prelude.{◌≡◌, ◌∷◌, [], IfOk, OnOk, codes, length, map, option_map};
+ghost use Rattle.std.specs.Prelude.{string_bytes};
+ghost use Rattle.std.specs.List.{AllZip};
 ghost use Rattle.clap.specs.Matches.{first_value, found_of};
+ghost use Rattle.cargo_lock_bom.specs.Options.{license_of, property_of};
+ghost use Rattle.cargo_lock_query.specs.Spec.{SpecFits};
 ghost use Rattle.cli_folder_commands.specs.Bom.{IsAskedBill, IsAskedBillOf, IsAskedLine};
-ghost use Rattle.cli_folder_commands.specs.Bom.{IsBillWith, IsTimeAsked, PrintsBill};
+ghost use Rattle.cli_folder_commands.specs.Bom.{IsBillWith, IsPropertyBy, IsRootAsked};
+ghost use Rattle.cli_folder_commands.specs.Bom.{IsTimeAsked, PrintsBill};
+ghost use Rattle.lists.specs.Places.{IsPlaces};
 ghost use Rattle.cli_folder_commands.specs.Texts.{given_texts};
 ghost use Rattle.cli_input.specs.Json.{IsFlag};
 
+use crate::texts::refused;
 use crate::{bill_licenses, texts};
 use cargo_lock::dependency::graph::NodeIndex;
 use cargo_lock::{Lockfile, Package};
-use cargo_lock_bom::options::{Options, VERSION};
+use cargo_lock_bom::options::{License, Listed, Options, Property, VERSION};
 use cargo_lock_bom::printed::{printed_bill, with_root};
 use cargo_lock_query::fitting;
 use clap::{Arg, ArgAction, ArgMatches, Command};
@@ -33,10 +40,18 @@ With --manifests, a package with a source has the expression that its manifests 
 `license`, if they say the same one: what their author wrote, with OR for `/`, and no judgement";
 
 /// The package that a bill is about, as help shows it.
-const ROOT_HELP: &str = "The package that the bill is about, as for tree; only one may fit";
+const ROOT_HELP: &str =
+    "The package that the bill is about, as for tree, of which only one may fit; \
+the bill lists what is reached from it";
 
 /// The authors of a bill, as help shows them.
 const AUTHOR_HELP: &str = "Names this author of the bill, and others that are given so";
+
+/// The properties of a bill, as help shows them.
+const PROPERTY_HELP: &str = "Adds a property to the metadata, and others that are given so";
+
+/// What `--property` takes, as a fault says it.
+const PROPERTY: &str = "--property takes NAME=VALUE";
 
 /// How the time is chosen, as help shows it.
 const TIME_HELP: &str = "Adds the time: of SOURCE_DATE_EPOCH, or else of the clock";
@@ -51,6 +66,7 @@ pub fn command<'a>(alloc: Global) -> Result<Command<'a>, AllocError> {
         .arg(output(alloc))?
         .arg(root(alloc).help(ROOT_HELP))?
         .arg(texts::option(alloc, "author", "NAME").help(AUTHOR_HELP))?
+        .arg(texts::option(alloc, "property", "NAME=VALUE").help(PROPERTY_HELP))?
         .arg(long_flag(alloc, "timestamp")?.help(TIME_HELP))?
         .arg(long_flag(alloc, "serial")?.help("Adds a serial number, equal for equal bills"))?
         .arg(bill_licenses::option(alloc))?
@@ -67,9 +83,9 @@ fn root<'a>(alloc: Global) -> Arg<'a> {
 
 /// Writes the bill of materials of the lockfile and a newline: into the output file, or to `out`.
 /// Fails if the time is not known, if the lockfile is not read or has no tree, if not exactly one
-/// package matches the root that the arguments name, if the folder of manifests that they name or a
-/// manifest is not read, if the same text would refer to two of its packages, and if the output
-/// fails.
+/// package matches the root that the arguments name, if a property has no `=`, if the folder of
+/// manifests that they name or a manifest is not read, if the same text would refer to two of its
+/// packages, and if the output fails.
 pub fn run<R: Files + Input + Env + Clock + AllocGlobal, W: Write>(
     rt: &R,
     options: &ArgMatches<'_>,
@@ -140,32 +156,88 @@ fn text_of_packages<R: Files + AllocGlobal>(
 {
     let given = given_root(rt.alloc(), options, packages, own)?;
     let licenses = bill_licenses::asked(rt, options, packages)?;
-    let said = said_of_bill(options, given, time, &licenses);
+    let properties = properties(rt.alloc(), texts::among(options, "property"))?;
+    let more = Additions {
+        properties,
+        licenses,
+    };
+    let said = said_of_bill(options, &given, time, &more);
     asked_line(rt.alloc(), options, packages, &said)
 }
 
-/// The root that the arguments name, or else the lockfile's own one. Fails if no package matches
-/// its specification, or several do.
+/// What a bill has that the lockfile does not say: properties, and the licences of packages.
+#[derive(Drop)]
+struct Additions {
+    properties: Vec<Property>,
+    licenses: Vec<Option<License>>,
+}
+
+/// The root of a bill, if it is given, and which packages the bill lists.
+#[derive(Clone, Copy)]
+struct GivenRoot {
+    node: Option<NodeIndex>,
+    listed: Listed,
+}
+
+/// The root that the arguments name, whose bill lists what is reached from it, or else the lockfile's
+/// own one, whose bill lists each package. Fails if no package matches its specification, or several
+/// do.
 fn given_root(
     alloc: Global,
     options: &ArgMatches<'_>,
     packages: &[Package],
     own: Option<NodeIndex>,
-) -> Result<Option<NodeIndex>, Fault>
-    ensures { IfOk result (λ given.
-        first_value (found_of options.now) (codes "root") ≡ None → given ≡ own) }
+) -> Result<GivenRoot, Fault>
+    ensures { IfOk result (λ given. IsRootAsked
+        (first_value (found_of options.now) (codes "root")) packages.now own
+        given.node given.listed) }
 {
     match options.get_str("root") {
         Some(spec) => {
             let node = only_fitting(alloc, packages, spec)?;
-            Ok(Some(node))
+            Ok(GivenRoot {
+                node: Some(node),
+                listed: Listed::Reached,
+            })
         }
-        None => Ok(own),
+        None => Ok(GivenRoot {
+            node: own,
+            listed: Listed::All,
+        }),
+    }
+}
+
+/// The properties that texts name. Fails if one has no `=`.
+fn properties(alloc: Global, texts: &[&str]) -> Result<Vec<Property>, Fault>
+    ensures { IfOk result (λ all. AllZip IsPropertyBy (map (λ text. text.now) texts.now)
+        (map property_of all.items)) }
+{
+    let mut all = Vec::new(alloc);
+    for text in texts {
+        all.push(property(alloc, text)?)?;
+    }
+    Ok(all)
+}
+
+/// The property that a text names. Fails if it has no `=`.
+fn property(alloc: Global, text: &str) -> Result<Property, Fault>
+    ensures { IfOk result (λ property. IsPropertyBy text.now (property_of property)) }
+{
+    match text.split_once('=') {
+        Some((name, value)) => {
+            let name = String::from_str(alloc, name)?;
+            let value = String::from_str(alloc, value)?;
+            Ok(Property { name, value })
+        }
+        None => Err(refused(alloc, PROPERTY, text)),
     }
 }
 
 /// The node of the only package that matches a specification.
-fn only_fitting(alloc: Global, packages: &[Package], spec: &str) -> Result<NodeIndex, Fault> {
+fn only_fitting(alloc: Global, packages: &[Package], spec: &str) -> Result<NodeIndex, Fault>
+    ensures { IfOk result (λ node. IsPlaces (SpecFits spec.now packages.now)
+        (length packages.now) (node ∷ [])) }
+{
     let fitting = fitting(alloc, packages, spec)?;
     match fitting.as_slice() {
         [node] => Ok(*node),
@@ -174,26 +246,31 @@ fn only_fitting(alloc: Global, packages: &[Package], spec: &str) -> Result<NodeI
 }
 
 /// The options of a bill that the arguments ask for, with this root and this time, if they are
-/// given, and with these licence expressions.
+/// given, and with these additions.
 fn said_of_bill<'a>(
     options: &'a ArgMatches<'_>,
-    given: Option<NodeIndex>,
+    given: &GivenRoot,
     time: Option<u64>,
-    licenses: &'a [Option<String>],
+    more: &'a Additions,
 ) -> Options<'a>
-    ensures root { «result».root ≡ given }
+    ensures root { «result».root ≡ given.now.node }
+    ensures listed { «result».listed ≡ given.now.listed }
     ensures timestamp { «result».timestamp ≡ time }
     ensures authors { «result».authors ≡ given_texts (found_of options.now) (codes "author") }
+    ensures properties { «result».properties ≡ map property_of more.now.properties.items }
     ensures serial { IsFlag (found_of options.now) (codes "serial") «result».has_serial }
-    ensures licenses { «result».licenses ≡ map (option_map string_bytes) licenses.now }
+    ensures licenses { «result».licenses
+        ≡ map (option_map license_of) more.now.licenses.items }
 {
     Options {
-        root: given,
+        root: given.node,
+        listed: given.listed,
         tool_version: VERSION,
         timestamp: time,
         authors: texts::among(options, "author"),
+        properties: more.properties.as_slice(),
         has_serial: options.get_flag("serial"),
-        licenses,
+        licenses: more.licenses.as_slice(),
     }
 }
 

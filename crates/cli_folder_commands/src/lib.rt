@@ -9,5 +9,6 @@ mod folders;
 pub mod json;
 pub mod licenses;
 mod policy;
+mod settings;
 mod texts;
 pub mod verify;

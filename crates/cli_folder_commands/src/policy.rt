@@ -9,12 +9,11 @@ ghost use Rattle.cargo_lock_licenses.specs.Terms.{IsTerm};
 ghost use Rattle.cli_folder_commands.specs.Policy.{IsExemptionBy, IsGivenBy, IsPolicy, IsTermBy};
 
 use crate::texts;
+use crate::texts::refused;
 use cargo_lock_licenses::{Exemption, Given, Policy, is_term};
-use cargo_lock_parts::Error;
 use clap::ArgMatches;
 use cli_support::Fault;
-use cli_support::terminal::in_line;
-use std::alloc::{AllocError, Global};
+use std::alloc::Global;
 
 /// What each option takes, as a fault says it.
 const ALLOW: &str = "--allow takes one term, as `MIT` or `Apache-2.0 WITH LLVM-exception`";
@@ -103,17 +102,4 @@ fn exemption(alloc: Global, words: &str) -> Result<Exemption, Fault>
         Some(exemption) => Ok(exemption),
         None => Err(refused(alloc, EXEMPT, words)),
     }
-}
-
-// The fault of words that an option does not take.
-fn refused(alloc: Global, takes: &str, words: &str) -> Fault {
-    match refusal(alloc, takes, words) {
-        Ok(text) => Fault::Refused(text),
-        Err(_) => Fault::Library(Error::Memory),
-    }
-}
-
-fn refusal(alloc: Global, takes: &str, words: &str) -> Result<String, AllocError> {
-    let words = in_line(alloc, words)?;
-    format!(in alloc; "{takes}, not `{words}`")
 }

@@ -3,7 +3,10 @@ ghost use Rattle.std.specs.Prelude.{◌≡◌, IfOk, map, string_bytes};
 ghost use Rattle.clap.specs.Matches.{found_of};
 ghost use Rattle.cli_folder_commands.specs.Texts.{given_texts};
 
+use cargo_lock_parts::Error;
 use clap::{Arg, ArgAction, ArgMatches};
+use cli_support::Fault;
+use cli_support::terminal::in_line;
 use std::alloc::{AllocError, Global};
 
 /// An option for texts, one each time that it is given.
@@ -45,4 +48,17 @@ fn owned(alloc: Global, texts: &[&str]) -> Result<Vec<String>, AllocError>
         owned.push(String::from_str(alloc, text)?)?;
     }
     Ok(owned)
+}
+
+/// The fault of words that an option does not take.
+pub(crate) fn refused(alloc: Global, takes: &str, words: &str) -> Fault {
+    match refusal(alloc, takes, words) {
+        Ok(text) => Fault::Refused(text),
+        Err(_) => Fault::Library(Error::Memory),
+    }
+}
+
+fn refusal(alloc: Global, takes: &str, words: &str) -> Result<String, AllocError> {
+    let words = in_line(alloc, words)?;
+    format!(in alloc; "{takes}, not `{words}`")
 }

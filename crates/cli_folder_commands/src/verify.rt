@@ -1,8 +1,8 @@
 //! The command `verify`: whether the archives of packages are those that a lockfile names, or the
 //! folders that `cargo vendor` made are as their lists say.
-ghost use Rattle.std.specs.Prelude.{◌≡◌, IfOk, false, map, true};
+ghost use Rattle.std.specs.Prelude.{◌≡◌, IfOk, codes, false, map, true};
 ghost use Rattle.clap.specs.Matches.{found_of};
-ghost use Rattle.cargo_lock_verify.specs.Archives.{archive_subject_of};
+ghost use Rattle.cargo_lock_verify.specs.Archives.{archive_subject_of, cache_of};
 ghost use Rattle.cargo_lock_verify.specs.Entries.{vendored_entry};
 ghost use Rattle.cargo_lock_verify.specs.Vendored.{vendored_of};
 ghost use Rattle.cli_folder_commands.specs.Verify as spec;
@@ -10,10 +10,11 @@ ghost use Rattle.cli_folder_commands.specs.Verify.{AreSubjectsOf, AreVendoredOf,
 ghost use Rattle.cli_folder_commands.specs.Verify.{PrintsVendorReport, PrintsVerified, PrintsVerifiedOf};
 
 use crate::folders::{cache, check_folder, vendor};
+use crate::texts;
 use cargo_lock::Lockfile;
 use cargo_lock::package::Package;
 use cargo_lock_display::File;
-use cargo_lock_verify::{Entry, Others, Report, Subject, VendorReport, Vendored};
+use cargo_lock_verify::{Cache, Entry, Others, Report, Subject, VendorReport, Vendored};
 use clap::{Arg, ArgMatches, Command};
 use cli_folders::{Entries, Vendor};
 use cli_input::answer::print_answer;
@@ -28,10 +29,13 @@ use std::rt::Files;
 /// The lines of `verify`, as help shows them.
 const VERIFY_HELP: &str = "\
 With --cache, the archive of a package is NAME-VERSION.crate, in FOLDER or in a folder in it. Each \
-package with a checksum has an archive with that SHA-256, or a line:
-  ! NAME VERSION SRC: `PATH` is DIGEST, not CHECKSUM    none has it, and this is one of them
-  - NAME VERSION SRC: no archive                        counts with --all
+package with a checksum has an archive with that SHA-256, wherever it lies, or a line:
+  ! NAME VERSION SRC: `PATH` is DIGEST, not CHECKSUM    of no package of that name and version
+  - NAME VERSION SRC: no archive                        none has it; counts with --all
   ! NAME VERSION SRC: no checksum in the lockfile       of a registry, and only with --all
+A line with `!` is of an archive in FOLDER itself, or in a folder HOST-HASH whose HOST is that of the \
+package's registry (github.com and index.crates.io for crates.io) or of a --mirror. In other folders \
+archives with another digest are passed over and counted. \
 Cargo compares an archive with its checksum once, when it downloads it. The unpacked sources that \
 Cargo compiles, in registry/src, are not looked at.
 
@@ -52,7 +56,8 @@ Cargo.toml. Any other that is no folder of a package has a line:
   ! `ENTRY`: no name and version                        as texts in package of its manifest
   + `ENTRY`: of no package                              not with --others
 
-The last line is how many archives or folders match, and how many packages do not, by why. The \
+The last line is how many archives or folders match, how many packages do not, by why, and how many \
+archives are passed over. The \
 status is 1 where there is a line that counts, or no archive matches of packages of a registry, and \
 2 where the lockfile, an archive or a folder cannot be read.";
 
@@ -60,6 +65,8 @@ status is 1 where there is a line that counts, or no archive matches of packages
 const CACHE_HELP: &str = "The folder of the archives, as registry/cache of Cargo";
 
 const ALL_HELP: &str = "Counts packages without an archive or a checksum too";
+
+const MIRROR_HELP: &str = "Takes archives of this host for those of each registry";
 
 const OTHERS_HELP: &str = "Passes over folders of packages that the lockfile does not have";
 
@@ -73,8 +80,16 @@ pub fn command<'a>(alloc: Global) -> Result<Command<'a>, AllocError> {
         .arg(cache(alloc, CACHE_HELP))?
         .arg(vendor(alloc)?)?
         .arg(all(alloc)?)?
+        .arg(mirror(alloc)?)?
         .arg(others(alloc)?)?
         .arg(json(alloc)?)
+}
+
+/// The option for the hosts of mirrors.
+fn mirror<'a>(alloc: Global) -> Result<Arg<'a>, AllocError> {
+    texts::option(alloc, "mirror", "HOST")
+        .help(MIRROR_HELP)
+        .conflicts_with("vendor")
 }
 
 /// The option to pass over folders of other packages.
@@ -229,7 +244,8 @@ fn print_archive_report<W: Write>(
         (status ≡ ExitCode.FAILURE) (status ≡ ExitCode.SUCCESS)) }
 {
     let all = options.get_flag("all");
-    let report = Report::of(alloc, subjects, all)?;
+    let mirrors = texts::among(options, "mirror");
+    let report = Report::of(alloc, &Cache { subjects, mirrors }, all)?;
     print_answer(alloc, options, file, &report, out)?;
     Ok(status_of(report.counts.is_clean(all)))
 }

@@ -1,8 +1,9 @@
-//! The entries of a folder that is like Cargo's `registry/cache` or `registry/src`.
+//! The archives in a folder that is like Cargo's `registry/cache`.
 
 ghost use Rattle.std.specs.Prelude.{◌≡◌, [], IfOk, None};
 
-use crate::files::{Entry, digest_at, fault_at, fault_of, names_in, path_of, target_at};
+use crate::files::{Entry, digest_at, fault_at, fault_of, host_in, names_in, path_of, target_at};
+use crate::found::copied;
 use cargo_lock_parts::package::Package;
 use cargo_lock_verify::Archive;
 use cli_support::Fault;
@@ -10,11 +11,18 @@ use std::alloc::{AllocError, Global};
 use std::collections::BTreeMap;
 use std::rt::Files;
 
-/// The paths of what is in a folder, and in each folder in it, by their names. No path is made of a
-/// name of a lockfile.
+/// What is in a folder, and in each folder in it, by its name. No path is made of a name of a
+/// lockfile.
 #[derive(Drop)]
 pub struct Entries {
-    paths: BTreeMap<String, Vec<String>>,
+    places: BTreeMap<String, Vec<Place>>,
+}
+
+// A path, and the host in the name of the index folder that it is in, if it is in one.
+#[derive(Drop)]
+struct Place {
+    path: String,
+    host: Option<String>,
 }
 
 impl Entries {
@@ -22,7 +30,7 @@ impl Entries {
     /// read.
     pub fn of<R: Files + AllocGlobal>(rt: &R, folder: &str) -> Result<Entries, Fault> {
         let mut entries = Entries {
-            paths: BTreeMap::new(rt.alloc()),
+            places: BTreeMap::new(rt.alloc()),
         };
         for name in &names_in(rt, folder)? {
             entries.put_entry(rt, path_of(rt.alloc(), folder, name)?, name)?;
@@ -38,28 +46,35 @@ impl Entries {
         name: &str,
     ) -> Result<(), Fault> {
         if target_at(rt, &path)? == Some(Entry::Folder) {
-            self.put_all(rt, &path)?;
+            self.put_all(rt, &path, host_in(name))?;
         }
-        self.put(rt.alloc(), name, path)?;
+        self.put(rt.alloc(), name, Place { path, host: None })?;
         Ok(())
     }
 
-    // Adds what is in a folder.
-    fn put_all<R: Files + AllocGlobal>(&mut self, rt: &R, folder: &str) -> Result<(), Fault> {
+    // Adds what is in an index folder of this host.
+    fn put_all<R: Files + AllocGlobal>(
+        &mut self,
+        rt: &R,
+        folder: &str,
+        host: &str,
+    ) -> Result<(), Fault> {
         for name in &names_in(rt, folder)? {
-            self.put(rt.alloc(), name, path_of(rt.alloc(), folder, name)?)?;
+            let path = path_of(rt.alloc(), folder, name)?;
+            let host = Some(String::from_str(rt.alloc(), host)?);
+            self.put(rt.alloc(), name, Place { path, host })?;
         }
         Ok(())
     }
 
-    // Adds a path with this name.
-    fn put(&mut self, alloc: Global, name: &str, path: String) -> Result<(), AllocError> {
-        if let Some(paths) = self.paths.get_mut(name) {
-            paths.push(path)?;
+    // Adds a place with this name.
+    fn put(&mut self, alloc: Global, name: &str, place: Place) -> Result<(), AllocError> {
+        if let Some(places) = self.places.get_mut(name) {
+            places.push(place)?;
             return Ok(());
         }
-        let paths = list_of(alloc, path)?;
-        self.paths.insert(String::from_str(alloc, name)?, paths)?;
+        let places = list_of(alloc, place)?;
+        self.places.insert(String::from_str(alloc, name)?, places)?;
         Ok(())
     }
 
@@ -77,36 +92,26 @@ impl Entries {
             return Ok(archives);
         }
         let name = archive_name(rt.alloc(), package)?;
-        for path in self.paths_of(&name) {
-            put_archive(rt, path, &mut archives)?;
+        for place in self.places_of(&name) {
+            put_archive(rt, place, &mut archives)?;
         }
         Ok(archives)
     }
 
-    /// The paths that are named as Cargo names the folder of an unpacked archive of a package.
-    pub(crate) fn folder_paths(
-        &self,
-        alloc: Global,
-        package: &Package,
-    ) -> Result<&[String], AllocError> {
-        let name = folder_name(alloc, package)?;
-        Ok(self.paths_of(&name))
-    }
-
-    // The paths with this name.
-    fn paths_of(&self, name: &str) -> &[String] {
-        match self.paths.get(name) {
-            Some(paths) => paths.as_slice(),
+    // The places with this name.
+    fn places_of(&self, name: &str) -> &[Place] {
+        match self.places.get(name) {
+            Some(places) => places.as_slice(),
             None => &[],
         }
     }
 }
 
-// A list of one path.
-fn list_of(alloc: Global, path: String) -> Result<Vec<String>, AllocError> {
-    let mut paths = Vec::new(alloc);
-    paths.push(path)?;
-    Ok(paths)
+// A list of one place.
+fn list_of(alloc: Global, place: Place) -> Result<Vec<Place>, AllocError> {
+    let mut places = Vec::new(alloc);
+    places.push(place)?;
+    Ok(places)
 }
 
 // The name of the archive of a package.
@@ -116,26 +121,21 @@ fn archive_name(alloc: Global, package: &Package) -> Result<String, AllocError> 
     format!(in alloc; "{name}-{version}.crate")
 }
 
-// The name of the folder in which Cargo unpacks it.
-fn folder_name(alloc: Global, package: &Package) -> Result<String, AllocError> {
-    let name = &package.name;
-    let version = &package.version;
-    format!(in alloc; "{name}-{version}")
-}
-
-// Adds the archive at a path. Fails if what is there, or at the end of the link there, is no file.
+// Adds the archive at a place. Fails if what is there, or at the end of the link there, is no file.
 fn put_archive<R: Files + AllocGlobal>(
     rt: &R,
-    path: &str,
+    place: &Place,
     archives: &mut Vec<Archive>,
 ) -> Result<(), Fault> {
+    let path = place.path.as_str();
     if target_at(rt, path)? != Some(Entry::File) {
         return Err(fault_of(rt.alloc(), path, "it is no file"));
     }
     match digest_at(rt, path) {
         Ok(digest) => {
             let path = String::from_str(rt.alloc(), path)?;
-            archives.push(Archive { path, digest })?;
+            let host = copied(rt.alloc(), &place.host)?;
+            archives.push(Archive { path, digest, host })?;
             Ok(())
         }
         Err(error) => Err(fault_at(rt.alloc(), path, error)),

@@ -90,6 +90,15 @@ pub(crate) fn path_of(alloc: Global, folder: &str, name: &str) -> Result<String,
     }
 }
 
+/// The host in the name of an index folder, which Cargo names `HOST-HASH`: the text before the last
+/// hyphen.
+pub(crate) fn host_in(name: &str) -> &str {
+    match name.rsplit_once('-') {
+        Some((host, _)) => host,
+        None => name,
+    }
+}
+
 /// What is at a path.
 #[derive(Clone, Copy, PartialEq, Eq)]
 pub(crate) enum Entry {

@@ -3,8 +3,10 @@
 ghost use Rattle.std.specs.Prelude.{◌≡◌, ◌++◌, IfOk, OnOk, map, option_map, option_to_list};
 ghost use Rattle.std.specs.Prelude.{string_bytes};
 ghost use Rattle.cargo_lock_licenses.specs.Subjects.{manifest_of};
-ghost use Rattle.cli_folders.specs.Manifests.{found_of, is_named_as, is_without, manifests_if};
+ghost use Rattle.cli_folders.specs.Manifests.{counts, found_of, is_named_as, is_without};
+ghost use Rattle.cli_folders.specs.Manifests.{manifests_if, sought_of};
 
+use crate::sought::Sought;
 use cargo_lock_licenses::Manifest;
 use cargo_lock_parts::package::{Package, Version};
 use cargo_lock_references::package_version::same_version;
@@ -22,6 +24,9 @@ pub struct Found {
 
     /// What the manifest says.
     pub(crate) manifest: Option<Manifest>,
+
+    /// The host in the name of the index folder that it is in, if it is in one.
+    pub(crate) host: Option<String>,
 }
 
 impl Found {
@@ -31,7 +36,18 @@ impl Found {
             name: String::from_str(alloc, package.name.as_str())?,
             version: package.version.clone()?,
             manifest: None,
+            host: None,
         })
+    }
+
+    /// The same, in an index folder of this host, if there is one.
+    pub(crate) fn at(self, host: Option<String>) -> Found {
+        Found {
+            name: self.name,
+            version: self.version,
+            manifest: self.manifest,
+            host,
+        }
     }
 
     /// Whether it has the name and the version of a package.
@@ -41,24 +57,32 @@ impl Found {
         package.name.as_str() == self.name.as_str() && same_version(&package.version, &self.version)
     }
 
-    /// Whether it has them, and no manifest that counts.
-    pub(crate) fn is_without(&self, package: &Package) -> bool
-        ensures { result ≡ is_without «package».now (found_of self.now) }
+    /// Whether it counts for a package that is sought.
+    pub(crate) fn counts(&self, sought: &Sought<'_>) -> bool
+        ensures { result ≡ counts (sought_of sought.now) (found_of self.now) }
     {
-        self.is_named_as(package) && self.manifest.is_none()
+        self.is_named_as(sought.package) && sought.reaches(&self.host)
     }
 
-    /// Adds its manifest, if it is of a package.
+    /// Whether it counts, and has no manifest that does.
+    pub(crate) fn is_without(&self, sought: &Sought<'_>) -> bool
+        ensures { result ≡ is_without (sought_of sought.now) (found_of self.now) }
+    {
+        self.counts(sought) && self.manifest.is_none()
+    }
+
+    /// Adds its manifest, if it counts.
     pub(crate) fn put_if(
         &self,
         alloc: Global,
         manifests: &mut Vec<Manifest>,
-        package: &Package,
+        sought: &Sought<'_>,
     ) -> Result<(), AllocError>
         ensures { OnOk result (map manifest_of manifests.new.items
-            ≡ map manifest_of manifests.old.items ++ manifests_if «package».now (found_of self.now)) }
+            ≡ map manifest_of manifests.old.items
+            ++ manifests_if (sought_of sought.now) (found_of self.now)) }
     {
-        if !self.is_named_as(package) {
+        if !self.counts(sought) {
             return Ok(());
         }
         self.put(alloc, manifests)
@@ -88,8 +112,8 @@ fn copy_of(alloc: Global, manifest: &Manifest) -> Result<Manifest, AllocError>
     })
 }
 
-// The text once more, if there is one.
-fn copied(alloc: Global, text: &Option<String>) -> Result<Option<String>, AllocError>
+/// The text once more, if there is one.
+pub(crate) fn copied(alloc: Global, text: &Option<String>) -> Result<Option<String>, AllocError>
     ensures { IfOk result
         (λ copy. option_map string_bytes copy ≡ option_map string_bytes text.now) }
 {

@@ -11,6 +11,7 @@ mod files;
 mod found;
 mod manifest;
 mod manifests;
+mod sought;
 mod vendor;
 
 pub use crate::advisories::{AdvisoryFiles, advisory_files, database_fault};

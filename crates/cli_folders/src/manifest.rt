@@ -55,6 +55,7 @@ fn found_in(alloc: Global, table: &Table) -> Result<Option<Found>, Fault> {
             name: String::from_str(alloc, name)?,
             version,
             manifest: Some(licenses_in(alloc, table)?),
+            host: None,
         })),
         Err(Error::Memory) => Err(Fault::Library(Error::Memory)),
         Err(_) => Ok(None),

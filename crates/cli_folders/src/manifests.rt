@@ -1,16 +1,20 @@
 //! The manifests of packages in a folder.
 
-ghost use Rattle.std.specs.Prelude.{◌≡◌, IfOk, map};
+ghost use Rattle.std.specs.Prelude.{◌≡◌, IfOk, if◌then◌else◌, map};
 ghost use Rattle.std.specs.List.{flat_map, list_any};
 ghost use Rattle.cargo_lock_licenses.specs.Subjects.{manifest_of};
-ghost use Rattle.cli_folders.specs.Manifests.{found_of, is_sought, is_without, manifests_if};
-ghost use Rattle.cli_folders.specs.Manifests.{manifests_of};
+ghost use Rattle.cli_folders.specs.Manifests.{counts, found_of, is_sought, is_without};
+ghost use Rattle.cli_folders.specs.Manifests.{manifests_by, manifests_if, manifests_of, reach_of};
+ghost use Rattle.cli_folders.specs.Manifests.{sought_for, sought_of};
+ghost use Rattle.cli_folders.specs.declared.sought.Reach.TheVariants.{All, Near};
 
-use crate::files::{Entry, all_names_in, entry_at, fault_of, path_of};
-use crate::found::Found;
+use crate::files::{Entry, all_names_in, entry_at, fault_of, host_in, path_of};
+use crate::found::{Found, copied};
 use crate::manifest::{MANIFEST, manifest_at, manifest_path};
+use crate::sought::{Reach, Sought};
 use cargo_lock_licenses::Manifest;
 use cargo_lock_parts::package::Package;
+use cargo_lock_verify::Hosts;
 use cli_support::Fault;
 use std::alloc::{AllocError, Global};
 use std::collections::BTreeMap;
@@ -66,7 +70,7 @@ impl Manifests {
         };
         match kind_of(rt, &folders)? {
             Kind::Vendored => manifests.put_vendored(rt, &folders)?,
-            Kind::Unpacked => manifests.put_unpacked(rt, folder, packages)?,
+            Kind::Unpacked => manifests.put_unpacked(rt, folder, &None, packages)?,
             Kind::Indices => manifests.put_indices(rt, &folders, packages)?,
             Kind::Other => {}
         }
@@ -75,15 +79,14 @@ impl Manifests {
     }
 
     /// What the manifests of a package with a source say of its licence: those of its name and
-    /// version, if each folder that is named so has one. Fails when out of memory.
+    /// version, if each folder that is named so has one. Where one lies in an index folder of the
+    /// package's registry, others do not count. Fails when out of memory.
     pub fn of_package(&self, alloc: Global, package: &Package) -> Result<Vec<Manifest>, AllocError>
         ensures { IfOk result (λ manifests. map manifest_of manifests.items
             ≡ manifests_of «package».now (map found_of self.now.found.items)) }
     {
-        if !is_sought(&self.found, package) {
-            return Ok(Vec::new(alloc));
-        }
-        manifests_of(alloc, &self.found, package)
+        let sought = sought_in(alloc, &self.found, package)?;
+        manifests_by(alloc, &self.found, &sought)
     }
 
     // Refuses a folder in which nothing was found of packages with a source.
@@ -141,78 +144,153 @@ impl Manifests {
         packages: &[Package],
     ) -> Result<(), Fault> {
         for folder in folders {
-            self.put_unpacked(rt, folder, packages)?;
+            let host = host_of(rt.alloc(), folder)?;
+            self.put_unpacked(rt, folder, &host, packages)?;
         }
         Ok(())
     }
 
-    // Adds what is in the folders in a folder that are named as Cargo names those of packages.
+    // Adds what is in the folders in a folder that are named as Cargo names those of packages. The
+    // folder has this host in its name, if it is an index folder.
     fn put_unpacked<R: Files + AllocGlobal>(
         &mut self,
         rt: &R,
         folder: &str,
+        host: &Option<String>,
         packages: &[Package],
     ) -> Result<(), Fault> {
         let wanted = by_folder(rt.alloc(), packages)?;
         for name in &all_names_in(rt, folder)? {
             if let Some(package) = wanted.get(name.as_str()) {
                 let path = path_of(rt.alloc(), folder, name)?;
-                self.put_unpacked_one(rt, &path, package)?;
+                let found = unpacked_one(rt, &path, package)?;
+                self.found.push(found.at(copied(rt.alloc(), host)?))?;
             }
         }
         Ok(())
     }
+}
 
-    // Adds what is at the path that has the name of the folder of a package.
-    fn put_unpacked_one<R: Files + AllocGlobal>(
-        &mut self,
-        rt: &R,
-        path: &str,
-        package: &Package,
-    ) -> Result<(), Fault> {
-        match unpacked_at(rt, path)? {
-            Some(found) if found.is_named_as(package) => self.found.push(found)?,
-            _ => self
-                .found
-                .push(Found::without_manifest(rt.alloc(), package)?)?,
-        }
-        Ok(())
+// What is at the path that has the name of the folder of a package.
+fn unpacked_one<R: Files + AllocGlobal>(
+    rt: &R,
+    path: &str,
+    package: &Package,
+) -> Result<Found, Fault> {
+    match unpacked_at(rt, path)? {
+        Some(found) if found.is_named_as(package) => Ok(found),
+        _ => Ok(Found::without_manifest(rt.alloc(), package)?),
     }
 }
 
-// Whether a package has a source, and all counts that was found under its name and its version.
-fn is_sought(found: &[Found], package: &Package) -> bool
-    ensures { result ≡ is_sought «package».now (map found_of found.now) }
-{
-    package.source.is_some() && !is_one_without(found, package)
+// The host in the name of an index folder.
+fn host_of(alloc: Global, folder: &str) -> Result<Option<String>, AllocError> {
+    let name = match folder.rsplit_once('/') {
+        Some((_, name)) => name,
+        None => folder,
+    };
+    Ok(Some(String::from_str(alloc, host_in(name))?))
 }
 
-// Whether something was found of a package that has no manifest that counts.
-fn is_one_without(found: &[Found], package: &Package) -> bool
-    ensures { result ≡ list_any (is_without «package».now) (map found_of found.now) }
+// ---- the manifests of a package
+
+// A package, and which manifests of it count.
+fn sought_in<'p>(
+    alloc: Global,
+    found: &[Found],
+    package: &'p Package,
+) -> Result<Sought<'p>, AllocError>
+    ensures { IfOk result (λ sought. sought_of sought
+        ≡ sought_for «package».now (reach_of «package».now (map found_of found.now))) }
 {
-    has_one_without(found, package)
+    let hosts = Hosts::of(alloc, package)?;
+    let near = Sought {
+        package,
+        hosts,
+        reach: Reach::Near,
+    };
+    let reach = reach_by(has_one(found, &near));
+    Ok(Sought {
+        package,
+        hosts,
+        reach,
+    })
+}
+
+// Which manifests count, by whether one is near.
+fn reach_by(has_one_near: bool) -> Reach
+    ensures { result ≡ (if has_one_near then Near else All) }
+{
+    if has_one_near {
+        Reach::Near
+    } else {
+        Reach::All
+    }
+}
+
+// Whether something that was found counts.
+fn has_one(found: &[Found], sought: &Sought<'_>) -> bool
+    ensures { result ≡ list_any (counts (sought_of sought.now)) (map found_of found.now) }
+{
+    has_one_of(found, sought)
 }
 
 // The same, as a test of each that was found.
-fn has_one_without(found: &[Found], package: &Package) -> bool
-    ensures { result ≡ list_any (λ f. is_without «package».now (found_of f)) found.now }
+fn has_one_of(found: &[Found], sought: &Sought<'_>) -> bool
+    ensures { result ≡ list_any (λ f. counts (sought_of sought.now) (found_of f)) found.now }
 {
-    found.iter().any(|found| found.is_without(package))
+    found.iter().any(|found| found.counts(sought))
 }
 
-// The manifests that were found of a package.
-fn manifests_of(
+// The manifests that count.
+fn manifests_by(
     alloc: Global,
     found: &[Found],
-    package: &Package,
+    sought: &Sought<'_>,
 ) -> Result<Vec<Manifest>, AllocError>
     ensures { IfOk result (λ manifests. map manifest_of manifests.items
-        ≡ flat_map (manifests_if «package».now) (map found_of found.now)) }
+        ≡ manifests_by (sought_of sought.now) (map found_of found.now)) }
+{
+    if !is_sought(found, sought) {
+        return Ok(Vec::new(alloc));
+    }
+    manifests_in(alloc, found, sought)
+}
+
+// Whether a package has a source, and each that counts has a manifest.
+fn is_sought(found: &[Found], sought: &Sought<'_>) -> bool
+    ensures { result ≡ is_sought (sought_of sought.now) (map found_of found.now) }
+{
+    let package = sought.package;
+    package.source.is_some() && !is_one_without(found, sought)
+}
+
+// Whether something that counts has no manifest that does.
+fn is_one_without(found: &[Found], sought: &Sought<'_>) -> bool
+    ensures { result ≡ list_any (is_without (sought_of sought.now)) (map found_of found.now) }
+{
+    has_one_without(found, sought)
+}
+
+// The same, as a test of each that was found.
+fn has_one_without(found: &[Found], sought: &Sought<'_>) -> bool
+    ensures { result ≡ list_any (λ f. is_without (sought_of sought.now) (found_of f)) found.now }
+{
+    found.iter().any(|found| found.is_without(sought))
+}
+
+// The manifests of all that counts.
+fn manifests_in(
+    alloc: Global,
+    found: &[Found],
+    sought: &Sought<'_>,
+) -> Result<Vec<Manifest>, AllocError>
+    ensures { IfOk result (λ manifests. map manifest_of manifests.items
+        ≡ flat_map (manifests_if (sought_of sought.now)) (map found_of found.now)) }
 {
     let mut manifests = Vec::new(alloc);
     for one in found {
-        one.put_if(alloc, &mut manifests, package)?;
+        one.put_if(alloc, &mut manifests, sought)?;
     }
     Ok(manifests)
 }

@@ -1,14 +1,17 @@
 -- Lockfiles that are read, their graphs, and why a lockfile is not read.
-use Rattle.std.specs.Prelude.{◌≡◌, ℕ, List, string_bytes}
+use Rattle.std.specs.Prelude.{◌≡◌, ℕ, List, None, Some, string_bytes}
 use Rattle.cargo_lock.specs.CargoChecksums.{with_cargo_checksums_in}
 use Rattle.cargo_lock.specs.Loads.{IsMeant, IsOfFile}
 use Rattle.cargo_lock_encoding.specs.Lockfiles.{LockfileData}
 use Rattle.cargo_lock_references.specs.declared.version.ResolveVersion.{ResolveVersion}
+use Rattle.cargo_lock_parts.specs.declared.error.Error.{Error}
 use Rattle.cargo_lock_parts.specs.declared.error.Error.TheVariants.{Memory}
+use Rattle.cargo_lock_table_flaws.specs.Marks.{conflict_mark_line}
 use Rattle.cargo_lock_graph.specs.Edges.{GraphData}
 use Rattle.cargo_lock_graph.specs.Targets.{AreEdgesOf}
 use Rattle.cli_support.specs.declared.fault.Fault.{Fault}
-use Rattle.cli_support.specs.declared.fault.Fault.TheVariants.{FileAfter, Library, TooLarge}
+use Rattle.cli_support.specs.declared.fault.Fault.TheVariants.{ConflictMarks, File, FileAfter}
+use Rattle.cli_support.specs.declared.fault.Fault.TheVariants.{Library, TooLarge}
 use Rattle.cli_support.specs.Input.{IsInputShown}
 
 -- the error for a lockfile of this argument: the file is too long, the system does not read it, it is
@@ -25,6 +28,17 @@ IsOfLockfile argument (FileAfter name error) = IsInputShown argument (string_byt
     × IsOfFile error
 IsOfLockfile argument (Library Memory) = Unit {0}
 IsOfLockfile argument other = ⊥
+
+-- the error for a text that is no lockfile, of the file of this argument, where the library says
+-- this error: the first line with a mark of a conflict, in a text that is no TOML, and where there
+-- is none that error, with the name of the file; or memory ran out
+abbrev pub IsReadingFault : List ℕ → List ℕ → Error → Fault → Type 0
+IsReadingFault argument text error (ConflictMarks name line) =
+    IsInputShown argument (string_bytes name) × (conflict_mark_line text ≡ Some line)
+IsReadingFault argument text error (File name said) = IsInputShown argument (string_bytes name)
+    × (conflict_mark_line text ≡ None) × (said ≡ error)
+IsReadingFault argument text error (Library Memory) = Unit {0}
+IsReadingFault argument text error other = ⊥
 
 -- the lockfile is one that some text means, with the checksums that Cargo reads
 abbrev pub IsMeantWithCargoChecksums : LockfileData → Type 0

@@ -7,6 +7,7 @@ use cargo_lock_audit::advisories_json;
 use cargo_lock_display::File;
 use cargo_lock_licenses::licenses_json;
 use cargo_lock_query::{Answers, Listing, answers_json, groups_json};
+use cargo_lock_table_flaws::{TableReport, table_findings_json};
 use cargo_lock_verify::{VendorReport, archives_json, folders_json};
 use clap::ArgMatches;
 use cli_support::Fault;
@@ -80,8 +81,8 @@ impl Answer for cargo_lock_verify::Report<'_, '_> {
     ghost use Rattle.cargo_lock_verify.specs.ArchivesDocument.{archives_json};
     ghost use Rattle.cargo_lock_verify.specs.Archives.{archive_finding_of};
 
-    ghost json = { λ file report.
-        archives_json file report.counts (map archive_finding_of report.findings.items) };
+    ghost json = { λ file report. archives_json file report.counts report.others
+        (map archive_finding_of report.findings.items) };
 
     fn document(&self, alloc: Global, file: &File<'_>) -> Result<String, AllocError> {
         archives_json(alloc, file, self)
@@ -121,5 +122,15 @@ impl Answer for cargo_lock_audit::Report<'_, '_, '_> {
 
     fn document(&self, alloc: Global, file: &File<'_>) -> Result<String, AllocError> {
         advisories_json(alloc, file, self)
+    }
+}
+
+impl Answer for TableReport<'_> {
+    ghost use Rattle.cargo_lock_table_flaws.specs.Document.{table_findings_json};
+
+    ghost json = { λ file report. table_findings_json file report.findings };
+
+    fn document(&self, alloc: Global, file: &File<'_>) -> Result<String, AllocError> {
+        table_findings_json(alloc, file, self)
     }
 }

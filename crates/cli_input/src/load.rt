@@ -1,16 +1,19 @@
 //! The lockfiles that the arguments name.
-ghost use Rattle.std.specs.Prelude.{◌≡◌, IfErr, IfOk, List, ℕ, option_map};
+ghost use Rattle.std.specs.Prelude.{◌≡◌, IfErr, IfOk, List, None, Some, ℕ, option_map};
 ghost use Rattle.clap.specs.Matches.{found_of};
 ghost use Rattle.cargo_lock.specs.Loads.{IsMeant};
+ghost use Rattle.cargo_lock_parts.specs.declared.error.Error as declared;
+ghost use Rattle.cargo_lock_table_flaws.specs.Marks as marks;
 ghost use Rattle.cargo_lock_encoding.specs.Means.{TextMeans};
 ghost use Rattle.cli_input.specs.Json.{document_path, named_file_of};
 ghost use Rattle.cli_input.specs.Load.{IsGraphOf, IsGraphRead, IsMeantWithCargoChecksums};
-ghost use Rattle.cli_input.specs.Load.{IsOfLockfile, IsOfLockfileUnnamed};
+ghost use Rattle.cli_input.specs.Load.{IsOfLockfile, IsOfLockfileUnnamed, IsReadingFault};
 ghost use Rattle.cli_support.specs.Input.{given_path_in};
 
 use cargo_lock::dependency::graph::Graph;
 use cargo_lock::{Error, Lockfile, ResolveVersion};
 use cargo_lock_display::File;
+use cargo_lock_table_flaws::conflict_mark_line;
 use clap::ArgMatches;
 use cli_support::{Fault, words};
 use std::alloc::Global;
@@ -70,9 +73,10 @@ pub fn named_lockfile<R: Files + Input + AllocGlobal>(
 ) -> Result<Lockfile, Fault>
     ensures { IfOk result IsMeant }
 {
-    match lockfile(rt, options, name) {
+    let text = named_text(rt, options, name)?;
+    match named_lockfile_of(rt.alloc(), options, name, text.as_str()) {
         Ok(lockfile) => Ok(lockfile),
-        Err(fault) => Err(fault.with_file_first()),
+        Err(fault) => Err(fault),
     }
 }
 
@@ -134,18 +138,62 @@ pub fn named_text<R: Files + Input + AllocGlobal>(
 }
 
 /// The lockfile of the text that was read for the option `name`. Fails if the text is not a
-/// lockfile, with the path in the error.
+/// lockfile, as `refusal` says.
 pub fn named_lockfile_of(
     alloc: Global,
     options: &ArgMatches<'_>,
     name: &str,
     text: &str,
 ) -> Result<Lockfile, Fault>
-    ensures { IfOk result (TextMeans text.now) }
+    ensures ok { IfOk result (TextMeans text.now) }
+    ensures err { IfErr result (λ fault. (error : declared.Error)
+        × IsReadingFault (given_path_in (found_of options.now) name.now) text.now error fault) }
 {
-    match lockfile_of(alloc, text) {
+    let read = Lockfile::from_str(alloc, text);
+    match read {
         Ok(lockfile) => Ok(lockfile),
-        Err(fault) => Err(named(alloc, options, name, fault).with_file_first()),
+        Err(error) => Err(refusal(alloc, options, name, text, error)),
+    }
+}
+
+/// The error for a text that was read for the option `name` and is not a lockfile, where `error` is
+/// that of the library: that it has marks of a conflict, if it is no TOML and has some, and
+/// otherwise `error` with the path first. Out of memory has no path.
+pub fn refusal(
+    alloc: Global,
+    options: &ArgMatches<'_>,
+    name: &str,
+    text: &str,
+    error: Error,
+) -> Fault
+    ensures { IsReadingFault (given_path_in (found_of options.now) name.now) text.now error result }
+{
+    match conflict_mark_line(alloc, text) {
+        Ok(Some(line)) => marked(alloc, options, name, line),
+        Ok(None) => unmarked(alloc, options, name, error),
+        Err(refused) => Fault::from(refused),
+    }
+}
+
+/// The error for a text whose first mark of a conflict is in this line, or out of memory.
+fn marked(alloc: Global, options: &ArgMatches<'_>, name: &str, line: usize) -> Fault
+    ensures { (text : List ℕ) (error : declared.Error) → marks.conflict_mark_line text ≡ Some line
+        → IsReadingFault (given_path_in (found_of options.now) name.now) text error result }
+{
+    match words::input_shown(alloc, options, name) {
+        Ok(path) => Fault::ConflictMarks(path, line),
+        Err(refused) => Fault::from(refused),
+    }
+}
+
+/// The error for a text without marks of a conflict, or out of memory.
+fn unmarked(alloc: Global, options: &ArgMatches<'_>, name: &str, error: Error) -> Fault
+    ensures { (text : List ℕ) → marks.conflict_mark_line text ≡ None
+        → IsReadingFault (given_path_in (found_of options.now) name.now) text error result }
+{
+    match words::input_shown(alloc, options, name) {
+        Ok(path) => Fault::Library(error).in_file(path).with_file_first(),
+        Err(refused) => Fault::from(refused),
     }
 }
 

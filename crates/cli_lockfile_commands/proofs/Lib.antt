@@ -1,3 +1,4 @@
 pub mod Pieces
 pub mod Fitting
 pub mod Starting
+pub mod Words

@@ -1,10 +1,17 @@
 -- What `diff` prints, and its status.
 use Rattle.std.specs.Prelude.{◌≡◌, ◌≢◌, ℕ, List, [], ◌∷◌, ◌++◌, Option, true, false}
-use Rattle.std.specs.Prelude.{codes}
+use Rattle.std.specs.Prelude.{Some, codes, map, option_map, unwrap_or}
+use Rattle.std.specs.List.{AllZip}
+use Rattle.clap.specs.Matches.{matched_of, raw_values}
 use Rattle.clap.specs.declared.parser.matches.Found.{Found}
+use Rattle.cargo_lock_parts.specs.Error.{IsShort}
 use Rattle.cargo_lock_parts.specs.Ascii.{newline}
-use Rattle.cargo_lock_diff.specs.Change.{ChangeData, changes_text, all_changes_of}
-use Rattle.cargo_lock_diff.specs.Difference.{DifferenceData, IsDifference}
+use Rattle.cargo_lock_diff.specs.declared.accepted.Accepted.{Accepted}
+use Rattle.cargo_lock_diff.specs.Accepted.{accepted_by}
+use Rattle.cargo_lock_diff.specs.declared.commits.Commits.{Commits}
+use Rattle.cargo_lock_diff.specs.declared.commits.Commits.TheVariants.{Short, Full}
+use Rattle.cargo_lock_diff.specs.Change.{ChangeData, changes_by, all_changes_of}
+use Rattle.cargo_lock_diff.specs.Difference.{DifferenceData, HasNoAlarms, IsDifferenceBut}
 use Rattle.cargo_lock_diff.specs.Summary.{summary_of, summary_text}
 use Rattle.cargo_lock_encoding.specs.Lockfiles.{LockfileData}
 use Rattle.cargo_lock_diff.specs.Document.{difference_json}
@@ -12,20 +19,33 @@ use Rattle.cargo_lock_display.specs.File.{FileData}
 use Rattle.cli_input.specs.Json.{IsAsked, IsUnasked, PrintsAnswer, named_file_of}
 use Rattle.cli_input.specs.Load.{IsMeantWithCargoChecksums}
 
+-- the words that are given for the option of this name, in their order
+abbrev pub given_words : Found → List ℕ → List (List ℕ)
+given_words found name = unwrap_or (option_map raw_values (matched_of found name)) []
+
+-- a word of less than 256 MiB names this source
+abbrev pub IsAcceptedBy : List ℕ → Accepted → Type 0
+IsAcceptedBy word accepted = IsShort word → accepted_by word ≡ Some accepted
+
 -- these are the changes that are printed of a difference: with dependencies if the arguments ask
 -- for them
 pub record IsTold (found : Found) (d : DifferenceData) (told : List ChangeData) : Type 0 where
   pub asked : IsAsked found (codes "dependencies") → told ≡ all_changes_of true d
   pub unasked : IsUnasked found (codes "dependencies") → told ≡ all_changes_of false d
 
+-- commits are printed in full if the arguments ask for that
+pub record AreCommitsAsked (found : Found) (commits : Commits) : Type 0 where
+  pub asked : IsAsked found (codes "full") → commits ≡ Full
+  pub unasked : IsUnasked found (codes "full") → commits ≡ Short
+
 -- The status is a failure if there is an alarm, and, if the arguments ask for that, if any change
 -- is printed. Otherwise it is a success.
 pub record IsStatus (found : Found) (d : DifferenceData) (told : List ChangeData)
     (failure success : Type 0) : Type 0 where
-  pub alarm : d.alarms ≢ [] → failure
+  pub alarm : ¬ HasNoAlarms d → failure
   pub asked : IsAsked found (codes "exit-code") → told ≢ [] → failure
-  pub unasked : d.alarms ≡ [] → IsUnasked found (codes "exit-code") → success
-  pub empty : d.alarms ≡ [] → told ≡ [] → success
+  pub unasked : HasNoAlarms d → IsUnasked found (codes "exit-code") → success
+  pub empty : HasNoAlarms d → told ≡ [] → success
 
 -- the last line, if any change is printed: how many changes of each kind there are
 abbrev pub last_line : List ChangeData → List ℕ
@@ -34,28 +54,30 @@ last_line (change ∷ changes) =
     summary_text (summary_of (change ∷ changes)) ++ newline ∷ []
 
 -- the line of each change, and the last line
-abbrev pub told_text : List ChangeData → List ℕ
-told_text told = changes_text told ++ last_line told
+abbrev pub told_text : Commits → List ChangeData → List ℕ
+told_text commits told = changes_by commits told ++ last_line told
 
 -- the text is that of the changes of a difference, and the status is that of both
 abbrev pub PrintsChanges : Found → FileData → FileData → DifferenceData → Option (List ℕ)
     → Option (List ℕ) → Type 0 → Type 0 → Type 0
 PrintsChanges found before after d old new failure success = (told : List ChangeData)
-    × IsTold found d told
-    × PrintsAnswer found (difference_json before after told) (told_text told) old new
+    × (commits : Commits) × IsTold found d told × AreCommitsAsked found commits
+    × PrintsAnswer found (difference_json before after told) (told_text commits told) old new
     × IsStatus found d told failure success
 
--- the same for the difference of the packages of two lockfiles
-abbrev pub PrintsDifferenceOf : Found → LockfileData → LockfileData → Option (List ℕ)
-    → Option (List ℕ) → Type 0 → Type 0 → Type 0
-PrintsDifferenceOf found before after old new failure success = (d : DifferenceData)
-    × IsDifference before.packages after.packages d
+-- the same for the difference of the packages of two lockfiles, where these sources are accepted
+abbrev pub PrintsDifferenceOf : Found → List Accepted → LockfileData → LockfileData
+    → Option (List ℕ) → Option (List ℕ) → Type 0 → Type 0 → Type 0
+PrintsDifferenceOf found accepted before after old new failure success = (d : DifferenceData)
+    × IsDifferenceBut accepted before.packages after.packages d
     × PrintsChanges found (named_file_of found (codes "old") before)
     (named_file_of found (codes "new") after) d
     old new failure success
 
--- the same for two such lockfiles
+-- the same for two such lockfiles, and the sources that the words of `--moved-ok` name
 abbrev pub PrintsDifference : Found → Option (List ℕ) → Option (List ℕ) → Type 0 → Type 0 → Type 0
 PrintsDifference found old new failure success = (before after : LockfileData)
+    × (accepted : List Accepted)
     × IsMeantWithCargoChecksums before × IsMeantWithCargoChecksums after
-    × PrintsDifferenceOf found before after old new failure success
+    × AllZip IsAcceptedBy (given_words found (codes "moved-ok")) accepted
+    × PrintsDifferenceOf found accepted before after old new failure success

@@ -1,18 +1,22 @@
 //! The command `diff`: what differs between the packages of two lockfiles.
-ghost use Rattle.std.specs.Prelude.{◌≡◌, IfOk, Some, map};
+ghost use Rattle.std.specs.Prelude.{◌≡◌, IfOk, Some, codes, map};
 ghost use Rattle.std.specs.Fmt.{DisplaysOnOk};
+ghost use Rattle.std.specs.List.{AllZip};
 ghost use Rattle.clap.specs.Matches.{found_of};
-ghost use Rattle.cargo_lock_diff.specs.Change.{change_of, changes_text};
-ghost use Rattle.cli_lockfile_commands.specs.Diff.{IsStatus, IsTold, PrintsChanges};
-ghost use Rattle.cli_lockfile_commands.specs.Diff.{PrintsDifference, PrintsDifferenceOf, last_line};
+ghost use Rattle.cargo_lock_diff.specs.Change.{change_of, changes_by};
+ghost use Rattle.cli_lockfile_commands.specs.Diff.{AreCommitsAsked, IsAcceptedBy, IsStatus};
+ghost use Rattle.cli_lockfile_commands.specs.Diff.{IsTold, PrintsChanges};
+ghost use Rattle.cli_lockfile_commands.specs.Diff.{PrintsDifference, PrintsDifferenceOf};
+ghost use Rattle.cli_lockfile_commands.specs.Diff.{given_words, last_line};
 
-use cargo_lock::Lockfile;
-use cargo_lock_diff::{Change, Difference, Summary, difference_json};
+use cargo_lock::{Error, Lockfile};
+use cargo_lock_diff::{Accepted, Change, Commits, Difference, Line, Summary, difference_json};
 use cargo_lock_display::File;
 use clap::{Arg, ArgAction, ArgMatches, Command};
 use cli_input::answer::{Answer, print_answer};
 use cli_input::load::{compared_lockfile, file};
 use cli_support::Fault;
+use cli_support::terminal::in_line;
 use cli_support::words::{any_size, flag, is_standard, json, long_flag};
 use std::alloc::{AllocError, Global};
 use std::fmt;
@@ -24,16 +28,24 @@ use std::rt::Files;
 const DIFF_HELP: &str = "\
 Each change is a line, in this order:
   ! NAME VERSION SRC: checksum OLD -> NEW     an alarm: one version with another archive
+  ! NAME VERSION: SRC -> SRC                  an alarm: a source that OLD does not have
+  ! NAME OLD -> NEW: SRC -> SRC               the same, and another version
   > NAME VERSION: SRC -> SRC                  another source
-  ? NAME VERSION SRC: checksum none -> NEW    a checksum that was not there
+  ? NAME VERSION SRC: checksum none -> NEW    a checksum that was not there, or, OLD -> none, one
+                                              that is gone with another source
   @ NAME VERSION SRC: replacement OLD -> NEW  another replacement
-  ~ NAME OLD -> NEW                           another version, (downgrade) if an earlier one
+  ~ NAME OLD -> NEW                           another version, (incompatible) if of another release
+                                              line, (downgrade) if an earlier one
   - NAME VERSION SRC                          a package only in OLD
   + NAME VERSION SRC                          a package only in NEW
   = NAME VERSION SRC: - DEP + DEP             other dependencies, with -d
 SRC is in round brackets: (path) for a package without a source, and nothing for crates.io. The last \
 line counts the changes. The order of the packages and the format do not matter. No lockfile says \
 whether a version was yanked.
+
+A package of a name that OLD has is an alarm where no package of OLD comes from its source, and, if \
+it is in a folder, where none of its name was in one. Branch, tag, revision, commit and spelling of a \
+source do not count. --moved-ok names what is meant.
 
 The status is 1 where there is an alarm, and with --exit-code where anything is printed. It is 2 \
 where a lockfile cannot be read.";
@@ -42,6 +54,13 @@ where a lockfile cannot be read.";
 const OLD_HELP: &str = "The old lockfile, - for standard input";
 
 const NEW_HELP: &str = "The new lockfile, - for standard input";
+
+/// What may move without an alarm, as help shows it.
+const MOVED_OK_HELP: &str =
+    "Packages may come from this new source, or from a folder: no alarm then; as often as needed";
+
+/// What `--moved-ok` takes, as a fault says it.
+const MOVED_OK: &str = "--moved-ok takes a URL, as `https://github.com/rust-lang/log`, or `path`";
 
 /// The parser of this command: its options and the paths of two lockfiles.
 pub fn command<'a>(alloc: Global) -> Result<Command<'a>, AllocError> {
@@ -55,7 +74,17 @@ pub fn command<'a>(alloc: Global) -> Result<Command<'a>, AllocError> {
         .arg(long_flag(alloc, "exit-code")?.help(
             "Ends with status 1 where anything differs, dependencies only with -d",
         ))?
+        .arg(long_flag(alloc, "full")?.help("Prints all digits of commits that move"))?
+        .arg(moved_ok(alloc).help(MOVED_OK_HELP))?
         .arg(json(alloc)?)
+}
+
+/// The option for a source to which packages may move, one each time that it is given.
+fn moved_ok<'a>(alloc: Global) -> Arg<'a> {
+    Arg::new(alloc, "moved-ok")
+        .long("moved-ok")
+        .value_name("URL|path")
+        .action(ArgAction::Append)
 }
 
 /// The path of a lockfile, which help shows as `shown`.
@@ -69,8 +98,8 @@ fn path<'a>(alloc: Global, name: &'a str, shown: &'a str) -> Arg<'a> {
 /// Prints what differs between the packages of two lockfiles, a line for each change, and if the
 /// arguments ask for it also what differs between their dependencies, or all as one line of JSON.
 /// The status is 1 if there is an alarm, or, if the arguments ask for it, if anything differs.
-/// Otherwise it is 0. Fails if a lockfile is not read or `out` fails; a prefix of the text was then
-/// written in the last case, and nothing in the others.
+/// Otherwise it is 0. Fails if a word of `--moved-ok` names no source, a lockfile is not read or
+/// `out` fails; a prefix of the text was then written in the last case, and nothing in the others.
 pub fn run<R: Files + Input + AllocGlobal, W: Write>(
     rt: &R,
     options: &ArgMatches<'_>,
@@ -83,24 +112,73 @@ pub fn run<R: Files + Input + AllocGlobal, W: Write>(
     if is_standard(options, "old") && is_standard(options, "new") {
         return Err(Fault::OneInput);
     }
+    let accepted = accepted(rt.alloc(), options)?;
     let old = compared_lockfile(rt, options, "old")?;
     let new = compared_lockfile(rt, options, "new")?;
-    report(rt.alloc(), options, &old, &new, out)
+    report(rt.alloc(), options, &accepted, &old, &new, out)
 }
 
-/// Prints what differs between the packages of two lockfiles. Returns the status.
+/// The sources that the arguments accept. Fails if one of their words names none.
+fn accepted(alloc: Global, options: &ArgMatches<'_>) -> Result<Vec<Accepted>, Fault>
+    ensures { IfOk result (λ accepted. AllZip IsAcceptedBy
+        (given_words (found_of options.now) (codes "moved-ok")) accepted.items) }
+{
+    match options.get_strs("moved-ok") {
+        Some(words) => all_accepted(alloc, words),
+        None => Ok(Vec::new(alloc)),
+    }
+}
+
+/// The sources that words name. Fails if one of them names none.
+fn all_accepted(alloc: Global, words: &[&str]) -> Result<Vec<Accepted>, Fault>
+    ensures { IfOk result
+        (λ all. AllZip IsAcceptedBy (map (λ word. word.now) words.now) all.items) }
+{
+    let mut all = Vec::new(alloc);
+    for word in words {
+        all.push(accepted_by(alloc, word)?)?;
+    }
+    Ok(all)
+}
+
+/// The source that a word names. Fails if it names none.
+fn accepted_by(alloc: Global, word: &str) -> Result<Accepted, Fault>
+    ensures { IfOk result (IsAcceptedBy word.now) }
+{
+    match Accepted::parse(alloc, word)? {
+        Some(accepted) => Ok(accepted),
+        None => Err(refused(alloc, word)),
+    }
+}
+
+/// The fault of a word that names no source.
+fn refused(alloc: Global, word: &str) -> Fault {
+    match refusal(alloc, word) {
+        Ok(text) => Fault::Refused(text),
+        Err(_) => Fault::Library(Error::Memory),
+    }
+}
+
+fn refusal(alloc: Global, word: &str) -> Result<String, AllocError> {
+    let word = in_line(alloc, word)?;
+    format!(in alloc; "{MOVED_OK}, not `{word}`")
+}
+
+/// Prints what differs between the packages of two lockfiles, where these sources are accepted.
+/// Returns the status.
 fn report<W: Write>(
     alloc: Global,
     options: &ArgMatches<'_>,
+    accepted: &[Accepted],
     old: &Lockfile,
     new: &Lockfile,
     out: &mut W,
 ) -> Result<ExitCode, Fault>
-    ensures { IfOk result (λ status. PrintsDifferenceOf (found_of options.now) old.now new.now
-        (W.contents out.old) (W.contents out.new)
+    ensures { IfOk result (λ status. PrintsDifferenceOf (found_of options.now) accepted.now
+        old.now new.now (W.contents out.old) (W.contents out.new)
         (status ≡ ExitCode.FAILURE) (status ≡ ExitCode.SUCCESS)) }
 {
-    let difference = Difference::of(alloc, &old.packages, &new.packages)?;
+    let difference = Difference::accepting(alloc, accepted, &old.packages, &new.packages)?;
     let before = file(options, "old", old);
     let after = file(options, "new", new);
     report_changes(alloc, options, &before, &after, &difference, out)
@@ -123,6 +201,7 @@ fn report_changes<W: Write>(
     let told = Told {
         before,
         changes: &changes,
+        commits: commits(options),
     };
     print_answer(alloc, options, after, &told, out)?;
     Ok(status(options, difference, &changes))
@@ -141,12 +220,24 @@ fn changes<'d>(
     Ok(changes)
 }
 
-/// The changes that are printed, and the lockfile before them. `Display` writes the changes in their
-/// order, and then how many of each kind there are.
+/// How the arguments ask for commits.
+fn commits(options: &ArgMatches<'_>) -> Commits
+    ensures { AreCommitsAsked (found_of options.now) result }
+{
+    if options.get_flag("full") {
+        Commits::Full
+    } else {
+        Commits::Short
+    }
+}
+
+/// The changes that are printed, the lockfile before them, and how commits are printed. `Display`
+/// writes the changes in their order, and then how many of each kind there are.
 #[derive(Clone, Copy)]
 struct Told<'a, 'b, 'd> {
     before: &'a File<'b>,
     changes: &'a [Change<'d>],
+    commits: Commits,
 }
 
 impl fmt::Display for Told<'_, '_, '_> {
@@ -154,10 +245,10 @@ impl fmt::Display for Told<'_, '_, '_> {
     ghost use Rattle.cargo_lock_diff.specs.Change.{change_of};
     ghost use Rattle.cli_lockfile_commands.specs.Diff.{told_text};
 
-    ghost output = { λ told. Some (told_text (map change_of told.changes.now)) };
+    ghost output = { λ told. Some (told_text told.commits (map change_of told.changes.now)) };
 
     fn fmt<W: fmt::Write>(&self, f: &mut fmt::Formatter<W>) -> fmt::Result {
-        write_changes(self.changes, f)?;
+        write_changes(self.changes, self.commits, f)?;
         write_last_line(self.changes, f)
     }
 }
@@ -176,12 +267,17 @@ impl Answer for Told<'_, '_, '_> {
 }
 
 /// Writes the changes in their order.
-fn write_changes<W: fmt::Write>(changes: &[Change<'_>], f: &mut fmt::Formatter<W>) -> fmt::Result
+fn write_changes<W: fmt::Write>(
+    changes: &[Change<'_>],
+    commits: Commits,
+    f: &mut fmt::Formatter<W>,
+) -> fmt::Result
     ensures { DisplaysOnOk W.write_str_gives f.old result
-        (Some (changes_text (map change_of changes.now))) f.new }
+        (Some (changes_by commits (map change_of changes.now))) f.new }
 {
     for change in changes {
-        write!(f, "{change}\n")?;
+        let line = Line(change, commits);
+        write!(f, "{line}\n")?;
     }
     Ok(())
 }

@@ -23,8 +23,8 @@ Each name that several packages have is shown with these packages:
   NAME
     VERSION SRC  needed by NAME VERSION, ..    a package, and those that depend on it
 SRC is in round brackets: (path) for a package without a source, and nothing for crates.io. The last \
-line counts the names, and the packages that are more than one of each. Where no name is there, \
-nothing is printed.";
+line counts these crates, their versions, and the packages that are more than one of each: \
+1 crate in 2 versions (1 surplus package). Where no name is there, nothing is printed.";
 
 /// The status, as help shows it.
 const STATUS_HELP: &str = "Ends with status 1 where several packages have one name";

@@ -50,6 +50,10 @@ pub enum Fault {
     #[error("error: {0}: lockfile of 256 MiB or more; --any-size reads it\n")]
     TooLarge(String),
 
+    /// The lockfile at this path is no TOML, and its line of this number has a mark of a conflict.
+    #[error("error: {0} has conflict marks (line {1})\n")]
+    ConflictMarks(String, usize),
+
     /// The argument of this number, counted from 1, is not UTF-8.
     #[error("error: I/O operation failed: invalid data in argument {0}\n")]
     NotUtf8(usize),

@@ -1,8 +1,9 @@
-use Rattle.std.proofs.Common.{◌∙◌, List, [], ◌∷◌, ℕ, ap, codes, option_copied, option_map, subst, sym}
+use Rattle.std.proofs.Common.{◌∙◌, List, [], ◌∷◌, ℕ, ap, codes, option_map, subst, sym}
 use Rattle.semver.specs.Identifiers.{parts_text}
 use Rattle.json.specs.Token.{key, string}
 use Rattle.cargo_lock_parts.specs.Identity.{PackageData}
 use Rattle.cargo_lock_bom.specs.Component.{hashes_of, repositories_if}
+use Rattle.cargo_lock_bom.specs.Options.{license_of}
 use Rattle.cargo_lock_bom.specs.Tokens.{member_tokens}
 use Rattle.printing.specs.Json.{Adds}
 use Rattle.cargo_lock_bom.proofs.Members.{component-tokens}
@@ -20,7 +21,7 @@ returns c =
     let type = ap (λ (t : List ℕ). key (codes "type") ∷ string t ∷ []) c.type_text.ensures in
     let version = ap (λ (p : PackageData). key (codes "version") ∷ string (parts_text p.version) ∷ []) same in
     subst (Adds c.end_object.result c.args.out.now c.end_object.new.self)
-    (sym (component-tokens c.args.application (option_copied c.args.license) c.args.«package».now))
+    (sym (component-tokens c.args.application (option_map (λ l. license_of l.now) c.args.license) c.args.«package».now))
     (then c.in_ok-begin_object.ensures (then (as_tokens reference c.in_ok-string_member.ensures)
     (then (as_tokens repositories c.in_ok-put_repositories.ensures) (then (as_tokens hashes c.in_ok-put_hashes.ensures)
     (then c.in_ok-put_licenses.ensures (then (as_tokens name c.in_ok-string_member-2.ensures)

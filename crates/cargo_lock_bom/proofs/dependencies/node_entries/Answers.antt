@@ -1,4 +1,3 @@
-use Rattle.std.proofs.Common.{ℕ, subst}
 use Rattle.cargo_lock_bom.specs.Contents.{entry_for}
 use Rattle.cargo_lock_bom.specs.Dependencies.{IsNodeEntry}
 use Rattle.cargo_lock_bom.proofs.Entries.{next-entry}
@@ -8,6 +7,5 @@ pub loop-node-preserved : goal.loop-node-preserved
 loop-node-preserved c =
     let graph = c.args.graph.now in
     let entry = c.in_ok-node_entry.field-0 in
-    let one = subst (λ (k : ℕ). IsNodeEntry graph k (entry_for graph.packages entry)) c.new.ensures c.in_ok-node_entry.ensures in
-    next-entry (IsNodeEntry graph) (entry_for graph.packages) c.loop-node.node c.loop-node.made.items c.push.new.self.items entry
-    c.loop-node.invariant one c.in_ok-push.ensures.items
+    next-entry (IsNodeEntry graph) (entry_for graph.packages) c.args.nodes.now c.loop-node.node-index c.new.result c.loop-node.made.items c.push.new.self.items entry
+    c.loop-node-test.true c.new.ensures c.loop-node.invariant c.in_ok-node_entry.ensures c.in_ok-push.ensures.items

@@ -1,9 +1,8 @@
-use Rattle.std.proofs.Common.{◌≡◌, ◌∙◌, ◌<◌, All, List, ℕ, ap, arith, length, map, option_map, string_bytes, subst, sym}
+use Rattle.std.proofs.Common.{◌∙◌, ◌<◌, All, List, ℕ, ap, length, map, option_map, string_bytes, subst, sym}
 use Rattle.serde_json.specs.Data.{Data, array}
 use Rattle.serde_json.specs.View.{items_of}
 use Rattle.cargo_lock_bom.specs.declared.dependencies.Entry.{Entry}
-use Rattle.cargo_lock_bom.specs.declared.root.Root.TheVariants.{Package}
-use Rattle.cargo_lock_bom.specs.Component.{component_at}
+use Rattle.cargo_lock_bom.specs.Component.{IsComponent, component_at}
 use Rattle.cargo_lock_bom.specs.Contents.{entry_by, entry_for, metadata_with}
 use Rattle.cargo_lock_bom.specs.Tokens.{data_tokens}
 use Rattle.printing.specs.Json.{Adds}
@@ -19,7 +18,7 @@ pub put_components-requires-clause-within : goal.put_components-requires-clause-
 put_components-requires-clause-within c =
     let n : ℕ = length c.args.graph.now.packages in
     subst (λ (ks : List ℕ). All (λ k. k < n) ks) (sym c.as_slice-nodes.ensures.value)
-    (places-within (λ k. ¬ (c.args.contents.now.root ≡ Package k)) n c.args.contents.now.nodes.items c.requires.are_others)
+    (places-within (IsComponent c.args.graph.now c.args.options.now c.args.contents.now.root) n c.args.contents.now.nodes.items c.requires.are_others)
 
 pub returns : goal.returns
 returns c =

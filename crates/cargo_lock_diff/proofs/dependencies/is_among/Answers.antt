@@ -13,11 +13,11 @@ returns-in-Ok c =
     let ord : Bor Identity → Ordering = λ b. target_cmp b.now (identity_of p) in
     let hit = c.in-Ok.ensures.position ord (always_returns_same _ _ _ (λ a r f k. search rules)) in
     let within = subst (λ (zs : List (Bor Identity)). c.in-Ok.field-0 < length zs) c.deref.ensures.value c.in-Ok.ensures.bound in
-    sym (among-found p c.args.others.now.items c.in-Ok.field-0 within (rw c.deref.ensures.value at hit))
+    sym (among-found (identity_of p) c.args.others.now.items c.in-Ok.field-0 within (rw c.deref.ensures.value at hit))
 
 pub returns-in-Err : goal.returns-in-Err
 returns-in-Err c =
     let p = c.args.package.now in
     let ord : Bor Identity → Ordering = λ b. target_cmp b.now (identity_of p) in
     let parted = c.in-Err.ensures.position ord (always_returns_same _ _ _ (λ a r f k. search rules)) in
-    sym (among-none p c.args.others.now.items c.in-Err.field-0 c.requires (rw c.deref.ensures.value at parted))
+    sym (among-none (identity_of p) c.args.others.now.items c.in-Err.field-0 c.requires (rw c.deref.ensures.value at parted))

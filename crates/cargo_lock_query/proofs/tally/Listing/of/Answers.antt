@@ -11,5 +11,5 @@ loop-group-preserved c =
     let made = c.in_ok-of.field-0 in
     zip-next (IsGroupOf packages) items group_of_rows c.args.groups.now c.loop-group.group-index c.group-item.result c.loop-group.made.items c.push.new.self.items made
     c.loop-group-test.true c.group-item.is c.loop-group.invariant
-    (subst (λ (ds : List Duplicate). IsGroupOf packages ds (group_of_rows made)) c.deref.ensures.value record { rows = c.in_ok-of.ensures.rows; width = c.in_ok-of.ensures.width })
+    (subst (λ (ds : List Duplicate). IsGroupOf packages ds (group_of_rows made)) c.deref.ensures.value record { rows = c.in_ok-of.ensures.rows; width = c.in_ok-of.ensures.width; versions = c.in_ok-of.ensures.versions })
     c.in_ok-push.ensures.items

@@ -1,0 +1,5 @@
+use Rattle.printing.proofs.Behind.{then}
+use Rattle.cargo_lock_audit.proofs.document.put_texts.Goals as goal
+
+pub returns : goal.returns
+returns c = then c.in_ok-key.ensures c.write_texts.ensures

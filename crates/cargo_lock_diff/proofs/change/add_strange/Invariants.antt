@@ -1,0 +1,7 @@
+use Rattle.std.proofs.Common.{◌≡◌, ◌++◌, map, take}
+use Rattle.cargo_lock_diff.specs.Change.{change_of, strange_change}
+use Rattle.cargo_lock_diff.specs.Difference.{referred_pairs}
+use Rattle.cargo_lock_diff.proofs.change.add_strange.Given as goal
+
+abbrev pub invariant-loop-pair : goal.invariant-loop-pair
+invariant-loop-pair l = map change_of l.all.items ≡ map change_of l.fn.all.items ++ map strange_change (referred_pairs (take l.pair-index l.pair-items))
