@@ -35,7 +35,7 @@ pub resolved-found : (packages : List PackageData) (i : Identity) → IsResolved
     → ¬ IsLost packages i
 resolved-found packages i (place, target) lost = lost place target.rank target.fits
 
-link-of : PackageData → Identity → Link
+abbrev link-of : PackageData → Identity → Link
 link-of p i = record { from = p; dependency = i }
 
 -- so does each dependency of a package of the list, if each of all packages does
