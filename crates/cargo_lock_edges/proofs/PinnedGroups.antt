@@ -24,7 +24,7 @@ pinned-none i none = ap (pinned_group i) none
 made-of : PartialIdentity → Source → List ℕ → Group
 made-of i s text = record (group_with 2 false i s text) { kind = Some s.kind }
 
-pub pinned-without : (i : PartialIdentity) (s : Source) → i.source ≡ Some s → group_of 2 false i ≡ None
+pinned-without : (i : PartialIdentity) (s : Source) → i.source ≡ Some s → group_of 2 false i ≡ None
     → pinned_group_of i ≡ None
 unfolding made-of
 pinned-without i s some none =
@@ -35,7 +35,7 @@ pinned-without i s some none =
     go None h = refl
     go (Some text) h = cc h
 
-pub pinned-with : (i : PartialIdentity) (s : Source) (g : Group) → i.source ≡ Some s
+pinned-with : (i : PartialIdentity) (s : Source) (g : Group) → i.source ≡ Some s
     → group_of 2 false i ≡ Some g → pinned_group_of i ≡ Some record g { kind = Some s.kind }
 unfolding made-of
 pinned-with i s g some has =
@@ -46,6 +46,12 @@ pinned-with i s g some has =
     go None h = cc h
     go (Some text) h = ap (λ (x : Group). Some record x { kind = Some s.kind })
         (same_Some (group_with 2 false i s text) g h)
+
+pub pinned-made : (i : PartialIdentity) (s : Source) (o : Option Group) → i.source ≡ Some s
+    → group_of 2 false i ≡ o
+    → pinned_group_of i ≡ option_map (λ (g : Group). record g { kind = Some s.kind }) o
+pinned-made i s None some none = pinned-without i s some none
+pinned-made i s (Some g) some has = pinned-with i s g some has
 
 -- ---- a package that matches with its commit and has the reference is in the group
 

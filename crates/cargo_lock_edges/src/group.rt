@@ -165,9 +165,20 @@ pub(crate) fn group_of<'a>(
 pub(crate) fn pinned_group_of<'a>(identity: PartialIdentity<'a>) -> Option<Group<'a>>
     ensures { result ≡ spec.pinned_group_of identity.entry }
 {
-    let source = identity.source?;
-    let group = group_of(2, false, identity)?;
-    Some(with_kind(group, source))
+    match identity.source {
+        Some(source) => with_kind_if(group_of(2, false, identity), source),
+        None => None,
+    }
+}
+
+// The group with the kind of a source, if the group is there.
+fn with_kind_if<'a>(group: Option<Group<'a>>, source: &'a SourceId) -> Option<Group<'a>>
+    ensures { result ≡ option_map (λ g. record g { kind = Some source.now.kind }) group.entry }
+{
+    match group {
+        Some(group) => Some(with_kind(group, source)),
+        None => None,
+    }
 }
 
 // The group with the kind of a source.

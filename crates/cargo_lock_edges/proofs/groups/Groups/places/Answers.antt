@@ -7,4 +7,4 @@ use Rattle.cargo_lock_edges.proofs.groups.Groups.places.Goals as goal
 pub returns-clause-ascend : goal.returns-clause-ascend
 returns-clause-ascend c =
     subst (λ (ks : List ℕ). AllPairs (λ a b. a ≤ b) ks) (sym c.places.ensures)
-    (ascending-places _ _ c.args.number c.self.invariant.groups.ascend)
+    (ascending-places c.self.inside.groups _ c.args.number c.self.invariant.groups.ascend)
