@@ -102,11 +102,15 @@ group_of rank is_open i =
     }
     else source_group rank is_open i i.source
 
+-- the group with the kind of this source
+abbrev pub with_kind : Source → Group → Group
+with_kind s g = record g { kind = Some s.kind }
+
 -- the group of those that have the commit of this source by its reference
 abbrev pub pinned_group : PartialIdentity → Option Source → Option Group
 pinned_group i None = None
 pinned_group i (Some s) = option_map
-    (λ text. record (group_with 2 false i s text) { kind = Some s.kind }) (compared_text 2 s)
+    (λ text. with_kind s (group_with 2 false i s text)) (compared_text 2 s)
 
 -- the group of those that have the commit of an identity by its reference
 abbrev pub pinned_group_of : PartialIdentity → Option Group

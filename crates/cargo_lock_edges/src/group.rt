@@ -173,7 +173,7 @@ pub(crate) fn pinned_group_of<'a>(identity: PartialIdentity<'a>) -> Option<Group
 
 // The group with the kind of a source, if the group is there.
 fn with_kind_if<'a>(group: Option<Group<'a>>, source: &'a SourceId) -> Option<Group<'a>>
-    ensures { result ≡ option_map (λ g. record g { kind = Some source.now.kind }) group.entry }
+    ensures { result ≡ option_map (spec.with_kind source.now) group.entry }
 {
     match group {
         Some(group) => Some(with_kind(group, source)),
@@ -183,7 +183,7 @@ fn with_kind_if<'a>(group: Option<Group<'a>>, source: &'a SourceId) -> Option<Gr
 
 // The group with the kind of a source.
 fn with_kind<'a>(group: Group<'a>, source: &'a SourceId) -> Group<'a>
-    ensures { result ≡ record group.entry { kind = Some source.now.kind } }
+    ensures { result ≡ spec.with_kind source.now group.entry }
 {
     let own = source.kind();
     let kind = Some(own);

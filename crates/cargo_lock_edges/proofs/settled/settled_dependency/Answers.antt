@@ -17,5 +17,5 @@ returns-in-Some-clause-ok c =
     })
     c.of.ensures.ok
 
-pub returns-in-None-clause-ok : goal.returns-in-None-clause-ok
-returns-in-None-clause-ok c = inr (c.in-None.ensures, c.in_ok-clone-in-None.ensures.cases)
+pub returns-in_ok-clone-in-None-clause-ok : goal.returns-in_ok-clone-in-None-clause-ok
+returns-in_ok-clone-in-None-clause-ok c = inr (c.in-None.ensures, c.in_ok-clone-in-None.ensures.cases)

@@ -1,6 +1,5 @@
-use Rattle.std.proofs.Common.{◌≡◌, ◌∙◌, ◌≤◌, ◌<◌, ◌+◌, ◌-◌, ℕ, List, arith, get_or, length, subst, sym}
+use Rattle.std.proofs.Common.{◌≡◌, ◌∙◌, ◌≤◌, ◌<◌, ◌+◌, ◌-◌, ℕ, List, arith, length, subst, sym}
 use Rattle.std.proofs.lemmas.Bool.{false≢true}
-use Rattle.lists.proofs.Members.{same-place}
 use Rattle.cargo_lock_edges.specs.Likeness.{IsLikeAt}
 use Rattle.cargo_lock_edges.proofs.LastPlaces.{IsFreeFrom, free-all, free-more, last-here}
 use Rattle.cargo_lock_edges.proofs.groups.Groups.last_among.Goals as goal
@@ -18,14 +17,9 @@ returns-then-is_like c =
     let at = c.loop-after.after - 1 in
     let next : c.loop-after.after ≡ at + 1 = omega arith in
     let low : at < length places = omega arith in
-    let place = c.index-places-after.result in
-    let here : place ≡ get_or places at 0 = c.index-places-after.is ∙ same-place places at 0 place low in
     let free : IsFreeFrom P places (at + 1) =
-    subst (λ n. IsFreeFrom P places n) next c.loop-after.invariant.free in (
-      c.is_like.ensures.0 c.if-is_like.true,
-      λ k there f. subst (λ n. k ≤ n) (sym here)
-          (last-here P places at c.requires low free k there f),
-    )
+    subst (λ n. IsFreeFrom P places n) next c.loop-after.invariant.free in
+    (c.is_like.ensures.0 c.if-is_like.true, last-here P places at c.requires low free)
 
 pub loop-after-preserved : goal.loop-after-preserved
 loop-after-preserved c =
@@ -33,13 +27,10 @@ loop-after-preserved c =
     let places : List ℕ = c.args.places.now in
     let at = c.loop-after.after - 1 in
     let next : c.loop-after.after ≡ at + 1 = omega arith in
-    let low : at < length places = omega arith in
-    let place = c.index-places-after.result in
-    let here : place ≡ get_or places at 0 = c.index-places-after.is ∙ same-place places at 0 place low in
     record {
       within = omega arith;
       free = free-more P places at
-          (λ f. false≢true (sym c.if-is_like.false ∙ c.is_like.ensures.1 (subst P (sym here) f)))
+          (λ f. false≢true (sym c.if-is_like.false ∙ c.is_like.ensures.1 f))
           (subst (λ n. IsFreeFrom P places n) next c.loop-after.invariant.free);
     }
 
