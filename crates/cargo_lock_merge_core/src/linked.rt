@@ -63,6 +63,7 @@ impl<'a> Linked<'a> {
         ensures within { IfOk result (λ targets. All (λ k. k < length self.now) targets.items) }
         ensures err { IsOkUnless result Memory }
     {
+        let _ = &self.groups;
         let package = self.package(at);
         self.targets_of(alloc, &package.dependencies)
     }

@@ -16,7 +16,10 @@ loop-package-preserved c =
     let packages : List PackageData = c.args.groups.now.packages in
     all-more (λ (p : PackageData). All (IsResolved packages) p.dependencies) c.args.packages.now
     c.loop-package.package-index c.package-item.result c.loop-package-test.true c.package-item.is
-    c.loop-package.invariant (c.each_resolves.ensures c.if-not-each_resolves.false)
+    c.loop-package.invariant
+    (subst (λ (ds : List Identity). All (IsResolved packages) ds)
+    (c.deref.ensures.value ∙ ap (λ (p : PackageData). p.dependencies) c.«package».view_is)
+    (c.each_resolves.ensures c.if-not-each_resolves.false))
 
 pub returns : goal.returns
 returns c = λ yes.
