@@ -1,5 +1,5 @@
 -- The last of some places at which something holds, as a walk from the last one back finds it.
-use Rattle.std.proofs.Common.{◌≡◌, ◌≤◌, ◌<◌, ◌+◌, ◌∙◌, inl, inr, ℕ, List, Option, None, Some, MatchOption, arith, get_or, length, nat_lt, refl, subst, sym}
+use Rattle.std.proofs.Common.{◌≡◌, ◌≤◌, ◌<◌, ◌+◌, ◌∙◌, inl, inr, ℕ, List, Option, None, Some, MatchOption, arith, get_or, length, nat_lt, subst, sym}
 use Rattle.std.specs.List.{AllPairs, Contains}
 use Rattle.std.proofs.lemmas.Bool.{cases_Bool, cases_eq, ltb-false, ltb-true}
 use Rattle.cargo_lock_graph.specs.Targets.{IsLost, IsTarget}

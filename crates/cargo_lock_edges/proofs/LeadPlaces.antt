@@ -1,8 +1,7 @@
 -- Where dependencies lead.
-use Rattle.std.proofs.Common.{◌≡◌, ◌<◌, ◌∙◌, inl, inr, ℕ, List, Option, None, Some, length, slice_get, subst, sym}
-use Rattle.std.proofs.lemmas.Option.{same_Some, slice_get_within}
+use Rattle.std.proofs.Common.{◌≡◌, ◌<◌, inl, inr, ℕ, List, Option, None, Some, length, slice_get, subst}
 use Rattle.cargo_lock_parts.specs.Identity.{Identity, PackageData, identity_of}
-use Rattle.cargo_lock_graph.specs.Targets.{HoldsOf, IsLastWith, IsLost}
+use Rattle.cargo_lock_graph.specs.Targets.{IsLastWith, IsLost}
 use Rattle.cargo_lock_edges.specs.Leads.{LeadsToPackage, IsInItsPlace}
 use Rattle.cargo_lock_edges.specs.Nearest.{IsNearestPackage}
 use Rattle.cargo_lock_edges.proofs.NearestPlaces.{nearest-found, nearest-last, nearest-within}

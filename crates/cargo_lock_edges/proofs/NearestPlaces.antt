@@ -6,7 +6,7 @@ use Rattle.cargo_lock_parts.specs.Identity.{Identity, PackageData, identity_of}
 use Rattle.cargo_lock_graph.specs.Targets.{HasIdentity, HoldsOf, IsLastWith, IsLost, IsTarget, Matches, MatchesAt, rank_between}
 use Rattle.cargo_lock_edges.specs.declared.likeness.Likeness.TheVariants.{Pinned, Rank}
 use Rattle.cargo_lock_edges.specs.Groups.{IsNamedAt, IsOnlyPlace, IsPinnedMatch, fits_source}
-use Rattle.cargo_lock_edges.specs.Likeness.{IsLastLike, IsLikeAt}
+use Rattle.cargo_lock_edges.specs.Likeness.{IsLastLike}
 use Rattle.cargo_lock_edges.specs.Nearest.{HasNoOwn, IsNearestPackage, IsOfOwnWords, IsOwnMatch, IsOwnTarget}
 use Rattle.cargo_lock_edges.proofs.Grouping.{rank-positive, rank-small}
 use Rattle.cargo_lock_edges.proofs.OnlyOnes.{match-named, rank-there}

@@ -11,7 +11,7 @@ use Rattle.cargo_lock_graph.specs.Targets.{rank_between}
 use Rattle.lists.specs.Groups.{GroupedData, group_number, places_or_none}
 use Rattle.lists.proofs.Members.{none-in}
 use Rattle.cargo_lock_edges.specs.Group.{Group, compared_text, group_cmp, group_of, group_with, have_one_kind, pinned_group, pinned_group_of, source_group}
-use Rattle.cargo_lock_edges.specs.Groups.{AreInGroups, AreShared, Grouping, HasPinned, IsGrouped, IsPinned, IsPinnedMatch}
+use Rattle.cargo_lock_edges.specs.Groups.{AreInGroups, AreShared, HasPinned, IsGrouped, IsPinned, IsPinnedMatch}
 use Rattle.cargo_lock_edges.proofs.GroupMatch.{AreTied, IsIn, Meet, kinds-tied, meet-2, put-tied, rank-cases, texts-tie, with-text}
 use Rattle.cargo_lock_edges.proofs.Grouping.{grouping}
 

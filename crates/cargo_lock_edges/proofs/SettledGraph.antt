@@ -1,8 +1,8 @@
 -- The graph of settled packages has the edges of the packages, as they lead.
-use Rattle.std.proofs.Common.{◌≡◌, ◌≤◌, ◌<◌, ◌++◌, ◌∷◌, ◌∙◌, [], inl, inr, ℕ, zero, suc, List, None, Some, Result, Ok, Err, IfOk, ap, arith, length, map, refl, slice_get, subst, sym}
-use Rattle.std.specs.List.{All, AllZip, flat_map}
+use Rattle.std.proofs.Common.{◌≡◌, ◌++◌, ◌∷◌, ◌∙◌, [], inl, inr, ℕ, zero, suc, List, Some, Result, Ok, Err, IfOk, ap, arith, refl, slice_get, subst, sym}
+use Rattle.std.specs.List.{All, AllZip}
 use Rattle.std.proofs.lemmas.List.Elements.{All-cons, All-head, All-nil, All-tail}
-use Rattle.std.proofs.lemmas.Option.{same_Some, slice_get_within}
+use Rattle.std.proofs.lemmas.Option.{same_Some}
 use Rattle.std.proofs.lemmas.Slice.Zip.{AllZip-long}
 use Rattle.cargo_lock_parts.specs.Identity.{Identity, PackageData, identity_key, identity_of}
 use Rattle.cargo_lock_parts.specs.declared.error.Error.{Error}
@@ -11,7 +11,7 @@ use Rattle.cargo_lock_graph.specs.Edges.{Edge, GraphData}
 use Rattle.cargo_lock_graph.specs.Targets.{AreEdgesOf, HasIdentity, HasTarget, HoldsOf, IsEdgeOf, IsFirstLost, IsLastWith, IsLost, IsTarget, IsUnresolved, Link, Matches, MatchesAt, links, links_of, links_to, rank_between}
 use Rattle.cargo_lock_graph.proofs.BestCandidates.{exact-target}
 use Rattle.cargo_lock_edges.specs.Leads.{LeadsToPackage}
-use Rattle.cargo_lock_edges.specs.OwnGraph.{AreOwnEdges, IsAlikeButForWords, IsOwnEdgeOf, IsOwnGraph}
+use Rattle.cargo_lock_edges.specs.OwnGraph.{IsAlikeButForWords, IsOwnEdgeOf, IsOwnGraph}
 use Rattle.cargo_lock_edges.specs.Settled.{AreSettled, IsOfLead, IsSettledAs, IsSettledPackage}
 use Rattle.cargo_lock_edges.proofs.TargetsFound.{target-or-lost}
 use Rattle.cargo_lock_edges.proofs.LeadPlaces.{lead-found, lead-last}

@@ -1,5 +1,5 @@
 -- The graph of packages for this project's own commands.
-use Rattle.std.specs.Prelude.{◌≡◌, ℕ, List, Some}
+use Rattle.std.specs.Prelude.{◌≡◌, List, Some}
 use Rattle.std.specs.List.{AllZip}
 use Rattle.cargo_lock_parts.specs.Identity.{PackageData, identity_of}
 use Rattle.cargo_lock_graph.specs.Edges.{Edge, GraphData}

@@ -1,6 +1,5 @@
 use Rattle.std.proofs.Common.{◌∙◌, ℕ, List, MatchOption, ap, subst, sym}
 use Rattle.cargo_lock_parts.specs.Identity.{PackageData}
-use Rattle.cargo_lock_parts.specs.PartialIdentity.{PartialIdentity}
 use Rattle.lists.specs.Groups.{GroupedData}
 use Rattle.cargo_lock_edges.specs.Group.{Group, pinned_group_of}
 use Rattle.cargo_lock_edges.specs.Groups.{AreShared, Grouping, HasPinned, IsPinnedMatch}

@@ -1,6 +1,5 @@
-use Rattle.std.proofs.Common.{◌≤◌, ◌∙◌, ℕ, List, ap, subst, sym, unwrap_or, slice_get, []}
+use Rattle.std.proofs.Common.{◌≤◌, ℕ, List, subst, sym}
 use Rattle.std.specs.List.{AllPairs}
-use Rattle.cargo_lock_edges.specs.Groups.{Grouping, group_places}
 use Rattle.cargo_lock_edges.proofs.GroupsAscend.{ascending-places}
 use Rattle.cargo_lock_edges.proofs.groups.Groups.places.Goals as goal
 
