@@ -1,6 +1,7 @@
 -- Sums that the code counts, of which none is greater than the greatest number.
-use Rattle.std.proofs.Common.{◌≡◌, ◌+◌, ◌<◌, ◌^◌, ℕ, List, ap, arith, get_or, length, take}
+use Rattle.std.proofs.Common.{◌≡◌, ◌+◌, ◌<◌, ◌^◌, ◌↔◌, ℕ, IsTrue, List, ap, arith, get_or, length, nat_lt, take}
 use Rattle.std.specs.List.{sum_by}
+use Rattle.std.proofs.lemmas.Bool.Decides.{Decides-ltb}
 use Rattle.std.proofs.lemmas.List.Sums.{sum_by_more}
 use Rattle.cargo_lock_limit.specs.Lengths.{capped}
 
@@ -17,8 +18,7 @@ counted-next f xs i x number total next low there was is =
 
 -- a limit that is no greatest number is below a number as it is counted exactly if it is below the
 -- number
-pub counted-beyond : (limit n : ℕ) → limit < 2 ^ 32 → limit < capped n → limit < n
-counted-beyond limit n small below = omega arith
-
-pub beyond-counted : (limit n : ℕ) → limit < 2 ^ 32 → limit < n → limit < capped n
-beyond-counted limit n small below = omega arith
+pub counted-beyond : (limit n counted : ℕ) → limit < 2 ^ 32 → counted ≡ capped (0 + n) → IsTrue (nat_lt limit counted) ↔ (limit < n)
+counted-beyond limit n counted small is =
+    let (below, above) = Decides-ltb limit counted in
+    (λ yes. let low : limit < counted = below yes in omega (arith, low, is), λ beyond. above (omega (arith, beyond, is)))
