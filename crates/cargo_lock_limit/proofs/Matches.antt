@@ -1,6 +1,6 @@
 -- What references match has no more bytes than what they resolve to.
-use Rattle.std.proofs.Common.{◌≡◌, ◌∙◌, ◌≤◌, ◌⊎◌, ℕ, List, [], ◌∷◌, inl, inr, map, Option, None, Some, IfSome, refl, sym, ap, subst, arith}
-use Rattle.std.specs.List.{AllZip, find, sum_by}
+use Rattle.std.proofs.Common.{◌≡◌, ◌∙◌, ◌≤◌, ◌⊎◌, List, [], ◌∷◌, inl, inr, map, Option, None, Some, IfSome, refl, sym, ap, subst, arith}
+use Rattle.std.specs.List.{AllZip, find}
 use Rattle.std.proofs.lemmas.List.Sums.{sum_by-cons}
 use Rattle.std.proofs.lemmas.Option.{same_Some, none-some}
 use Rattle.semver.specs.Parse.{Parts}
