@@ -1,6 +1,6 @@
 -- What references match has no more bytes than what they resolve to.
-use Rattle.std.proofs.Common.{◌≡◌, ◌∙◌, ◌≤◌, ◌⊎◌, ℕ, List, [], ◌∷◌, inl, inr, map, Option, None, Some, IfSome, refl, sym, ap, subst, arith}
-use Rattle.std.specs.List.{AllZip, find, sum_by}
+use Rattle.std.proofs.Common.{◌≡◌, ◌∙◌, ◌≤◌, ◌⊎◌, List, [], ◌∷◌, inl, inr, map, Option, None, Some, IfSome, refl, sym, ap, subst, arith}
+use Rattle.std.specs.List.{AllZip, find}
 use Rattle.std.proofs.lemmas.List.Sums.{sum_by-cons}
 use Rattle.std.proofs.lemmas.Option.{same_Some, none-some}
 use Rattle.semver.specs.Parse.{Parts}
@@ -99,7 +99,7 @@ references-le list ids either (f ∷ fs) [] h = absurd h
 references-le list ids either (f ∷ fs) (i ∷ is) h =
     let one : matched_length list f ≤ version_length i.version = reference-le list ids either f i h.0 in
     let rest : matched_by_each list fs ≤ dependencies_length is = references-le list ids either fs is h.1 in
-    rw (sum_by-cons (matched_length list) f fs, sum_by-cons (λ (d : Identity). version_length d.version) i is) (omega arith)
+    omega (arith, one, rest, sum_by-cons (matched_length list) f fs, sum_by-cons (λ (d : Identity). version_length d.version) i is)
 
 packages-le : (list : List EncodedPackage) (v : ResolveVersion) (m : Texts) (es : List EncodedPackage) (ps : List PackageData)
     → AllZip (IsListed v (map encoded_identity list) m) es ps → matched_by_all list es ≤ packages_length ps
@@ -109,7 +109,7 @@ packages-le list v m (e ∷ es) [] h = absurd h
 packages-le list v m (e ∷ es) (p ∷ ps) h =
     let one : matched_by_each list e.dependencies ≤ dependencies_length p.dependencies = references-le list (reading_list v (map encoded_identity list)) (reading_list-either v list) e.dependencies p.dependencies h.0.dependencies in
     let rest : matched_by_all list es ≤ packages_length ps = packages-le list v m es ps h.1 in
-    rw (sum_by-cons (λ (x : EncodedPackage). matched_by_each list x.dependencies) e es, sum_by-cons (λ (x : PackageData). dependencies_length x.dependencies) p ps) (omega arith)
+    omega (arith, one, rest, sum_by-cons (λ (x : EncodedPackage). matched_by_each list x.dependencies) e es, sum_by-cons (λ (x : PackageData). dependencies_length x.dependencies) p ps)
 
 -- the references of values match no more bytes than the dependencies of their lockfile have
 pub locked-le : (e : EncodedData) (l : LockfileData) → IsLocked e l → matched_by_all e.packages e.packages ≤ packages_length l.packages

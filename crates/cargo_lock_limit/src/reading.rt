@@ -2,9 +2,10 @@
 
 ghost use Rattle.std.specs.Prelude.{◌≡◌, IfErr, IfOk, MatchOption};
 ghost use Rattle.toml.specs.View.{table_view};
-ghost use Rattle.cargo_lock_parts.specs.Error.{IsLong, Refuses, RefusesUrls};
+ghost use Rattle.cargo_lock_parts.specs.Error.{IsLong, Reads, Refuses, RefusesUrls};
 ghost use Rattle.cargo_lock_encoding.specs.Lockfiles.{LockfileData};
 ghost use Rattle.cargo_lock_encoding.specs.Means.{IsLocked, Means, TextMeans};
+ghost use Rattle.cargo_lock_encoding.specs.TableReading.{encoded_at};
 ghost use Rattle.cargo_lock_limit.specs.Limits.{AreBeyond, HoldsWithin};
 
 use crate::look::may_be_beyond;
@@ -33,7 +34,8 @@ pub fn lockfile_within(alloc: Global, text: &str, limit: u32) -> Result<Option<L
     ensures err { IfErr result (λ error.
         RefusesUrls (IsLong text.now) error ((l : LockfileData) → ¬ TextMeans text.now l)) }
 {
-    match read(alloc, text, limit)? {
+    let found = read(alloc, text, limit)?;
+    match found {
         Some(lockfile) => Ok(within(lockfile, limit)),
         None => Ok(None),
     }
@@ -81,18 +83,28 @@ fn read_with_care(alloc: Global, text: &str, limit: u32) -> Result<Option<Lockfi
     }
 }
 
-// Reads a table that is not used again. A URL of 4 GB or more is reported as refused memory.
+// Reads a table that is not used again.
 fn read_table(alloc: Global, table: Table, limit: u32) -> Result<Option<Lockfile>>
     ensures ok { IfOk result (λ found. MatchOption found
         (AreBeyond limit (Means (table_view table))) (Means (table_view table))) }
     ensures err { IfErr result (λ error.
         Refuses error ((l : LockfileData) → ¬ Means (table_view table) l)) }
 {
-    match encoded_at(alloc, &table) {
+    match values_of(alloc, &table) {
         Ok(values) => {
             drop(table);
             read_values(alloc, values, limit)
         }
+        Err(error) => Err(error),
+    }
+}
+
+// The values of a table. A URL of 4 GB or more is reported as refused memory.
+fn values_of(alloc: Global, table: &Table) -> Result<EncodableLockfile>
+    ensures { Reads (λ e. e) result (encoded_at (table_view table.now)) }
+{
+    match encoded_at(alloc, table) {
+        Ok(values) => Ok(values),
         Err(error) if error.is_too_long() => Err(Error::Memory),
         Err(error) => Err(error),
     }

@@ -1,6 +1,9 @@
 -- Errors with the name of their file.
 use Rattle.std.proofs.Common.{◌≡◌, ℕ, List, None, String, refl, string_bytes}
 use Rattle.std.specs.declared.alloc.Global.{Global}
+use Rattle.cargo_lock_encoding.specs.Lockfiles.{LockfileData}
+use Rattle.cargo_lock_encoding.specs.Means.{TextMeans}
+use Rattle.cargo_lock_parts.specs.Error.{IsLong, RefusesUrls}
 use Rattle.cargo_lock_parts.specs.declared.error.Error.{Error}
 use Rattle.cargo_lock_parts.specs.declared.error.Error.TheVariants.{Io, Memory, Parse, Resolution, Version}
 use Rattle.cargo_lock_table_flaws.specs.Marks.{conflict_mark_line}
@@ -31,6 +34,14 @@ named-refusal argument text name (Io kind) shown none = (shown, none, refl)
 named-refusal argument text name (Parse message) shown none = (shown, none, refl)
 named-refusal argument text name (Version fault) shown none = (shown, none, refl)
 named-refusal argument text name (Resolution message) shown none = (shown, none, refl)
+
+-- the error for a text that means no lockfile is one of a lockfile
+pub refused-unnamed : (argument text : List ℕ) (error : Error) → RefusesUrls (IsLong text) error ((l : LockfileData) → ¬ TextMeans text l) → IsOfLockfileUnnamed argument (Library error)
+refused-unnamed argument text (Parse message) h = (text, h)
+refused-unnamed argument text Memory h = tt
+refused-unnamed argument text (Io kind) h = absurd h
+refused-unnamed argument text (Version fault) h = absurd h
+refused-unnamed argument text (Resolution message) h = absurd h
 
 -- ---- the limit
 

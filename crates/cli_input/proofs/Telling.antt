@@ -1,8 +1,10 @@
 -- What is told of lockfiles, and of further ones.
-use Rattle.std.proofs.Common.{◌≡◌, ◌∙◌, ◌++◌, ◌∷◌, [], ℕ, List, ap, map, sym}
+use Rattle.std.proofs.Common.{◌≡◌, ◌∙◌, ◌++◌, ◌∷◌, [], ℕ, IfSome, List, None, Option, Some, ap, map, sym}
 use Rattle.std.specs.List.{AllZip, flat_map}
 use Rattle.std.proofs.lemmas.Grind.{flat_map-append}
-use Rattle.std.proofs.lemmas.List.{map-append}
+use Rattle.std.proofs.lemmas.List.{append-nil, map-append}
+use Rattle.std.proofs.lemmas.List.Concat.{flat_map-cons}
+use Rattle.std.proofs.lemmas.Option.{IfSome_then}
 use Rattle.json.specs.Json.{Json}
 use Rattle.printing.specs.Json.{IsJsonText}
 use Rattle.cargo_lock_parts.specs.Ascii.{newline}
@@ -48,3 +50,23 @@ told-both form.Sarif first second old more new text reported before later =
     reports-both first second old.reported more.reported new.reported reported before later
 told-both form.Github first second old more new text reported before later =
     reports-both first second old.reported more.reported new.reported reported before later
+
+-- ---- one lockfile
+
+-- a text of one piece
+one-piece : {X : Type 0} (f : X → List ℕ) (x : X) (text : List ℕ) → text ≡ f x → text ≡ flat_map f (x ∷ [])
+one-piece f x text is = is ∙ sym (append-nil (f x)) ∙ sym (flat_map-cons f x [])
+
+-- a text that is the lines of a lockfile
+pub told-lines : (asked : Form) (o : Option (List ℕ)) (told : KeptTold) (document : Json) (reported : List ReportedData) → asked ≡ form.Lines → IfSome o (λ lines. told.text ≡ lines)
+    → IfSome o (λ lines. IsToldAs asked (record { lines = lines; document = document; reported = reported } ∷ []) told)
+told-lines asked o told document reported is said =
+    rw is (IfSome_then o said (λ lines same. one-piece (λ (f : LockfileFound). f.lines) (record { lines = lines; document = document; reported = reported }) told.text same))
+
+-- a text that is the document of a lockfile, and a newline
+pub told-document : (asked : Form) (o : Option (List ℕ)) (told : KeptTold) (document : Json) (reported : List ReportedData) → asked ≡ form.Json
+    → (text : List ℕ) × IsJsonText document text × (told.text ≡ text ++ newline ∷ [])
+    → IfSome o (λ lines. IsToldAs asked (record { lines = lines; document = document; reported = reported } ∷ []) told)
+told-document asked None told document reported is said = tt
+told-document asked (Some lines) told document reported is (text, holds, same) =
+    rw is (text ∷ [], (holds, tt), one-piece (λ (t : List ℕ). t ++ newline ∷ []) text told.text same)

@@ -136,18 +136,27 @@ impl Told {
             ∷ []) told)) }
     {
         match form {
-            Form::Lines => Ok(Told {
-                text: format!(in alloc; "{findings}")?,
-                reported: Vec::new(alloc),
-            }),
-            Form::Json => Ok(Told {
-                text: document_line(alloc, subject, findings)?,
-                reported: Vec::new(alloc),
-            }),
-            Form::Sarif | Form::Github => Ok(Told {
-                text: String::new(alloc),
-                reported: reported_in(alloc, subject, findings)?,
-            }),
+            Form::Lines => {
+                let text = format!(in alloc; "{findings}")?;
+                Ok(Told {
+                    text,
+                    reported: Vec::new(alloc),
+                })
+            }
+            Form::Json => {
+                let text = document_line(alloc, subject, findings)?;
+                Ok(Told {
+                    text,
+                    reported: Vec::new(alloc),
+                })
+            }
+            Form::Sarif | Form::Github => {
+                let reported = reported_in(alloc, subject, findings)?;
+                Ok(Told {
+                    text: String::new(alloc),
+                    reported,
+                })
+            }
         }
     }
 

@@ -173,14 +173,16 @@ fn report<W: Write>(
         (status ≡ ExitCode.FAILURE) (status ≡ ExitCode.SUCCESS)) }
 {
     let lockfile = &new.lockfile;
-    let difference = Difference::accepting(alloc, accepted, &old.packages, &lockfile.packages)?;
+    let packages = lockfile.packages.as_slice();
+    let difference = Difference::accepting(alloc, accepted, &old.packages, packages)?;
     let before = file(options, "old", old);
     let after = file(options, "new", lockfile);
+    let text = new.text.as_str();
     let sides = Sides {
         before: &before,
         after: &after,
-        text: &new.text,
-        packages: &lockfile.packages,
+        text,
+        packages,
     };
     report_changes(alloc, options, sides, &difference, out)
 }
