@@ -1,1 +1,2 @@
 pub mod Subcommand
+pub mod Outcomes
