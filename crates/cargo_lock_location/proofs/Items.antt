@@ -1,5 +1,5 @@
 -- What is found, each with its line, as items of a document.
-use Rattle.std.proofs.Common.{◌≡◌, ◌∙◌, ℕ, List, Option, Bor, ap, map, sym}
+use Rattle.std.proofs.Common.{◌≡◌, ◌∙◌, ℕ, List, Option, ap, map, sym}
 use Rattle.std.proofs.lemmas.Simd.{map-map}
 use Rattle.json.specs.Json.{Json}
 use Rattle.cargo_lock_location.specs.declared.located.Located.{Located}

@@ -1,12 +1,12 @@
 -- The numbers of packages, and what they say of the lines.
-use Rattle.std.proofs.Common.{◌≡◌, ◌∙◌, ◌+◌, ◌-◌, ◌<◌, ◌≤◌, ◌++◌, ◌||◌, ◌&&◌, ℕ, zero, suc, Bool, true, false, List, [], ◌∷◌, None, Option, Some, ap, arith, bytes_eq, codes, drop, eqb, get_or, if◌then◌else◌, length, map, nat_eq, not, refl, slice_get, subst, sym, take, zero-add}
+use Rattle.std.proofs.Common.{◌≡◌, ◌∙◌, ◌+◌, ◌<◌, ◌++◌, ◌||◌, ◌&&◌, ℕ, zero, suc, Bool, true, false, List, [], ◌∷◌, None, Option, Some, ap, arith, bytes_eq, codes, drop, eqb, get_or, if◌then◌else◌, length, map, nat_eq, not, refl, slice_get, subst, sym, take, zero-add}
 use Rattle.std.specs.List.{list_all, starts_with}
 use Rattle.std.proofs.lemmas.Bool.{and_parts, eq-eqb, eqb-true, false≢true}
 use Rattle.std.proofs.lemmas.List.{length-map, length-take-le, map-append, take_more}
 use Rattle.std.proofs.lemmas.Option.{same_Some, slice_get-get_or, slice_get_within}
 use Rattle.std.proofs.lemmas.Slice.Eq.{bytes_eq-Decides}
 use Rattle.cargo_lock_parts.specs.Identity.{PackageData}
-use Rattle.cargo_lock_location.specs.Location.{EachPackageIsAnswered, IsLineIf, IsLineOf, IsNamedBelow, LinesAreThoseOfPackages, LinesBeginPackages, header_of, headers_from, is_among, is_clear, is_package_header, line_below, line_of_header, name_line, numbers_from, package_header, lines_of_packages, shows_each}
+use Rattle.cargo_lock_location.specs.Location.{EachPackageIsAnswered, IsLineIf, IsLineOf, IsNamedBelow, LinesAreThoseOfPackages, LinesBeginPackages, header_of, headers_from, is_among, is_clear, is_package_header, line_of_header, name_line, numbers_from, package_header, lines_of_packages, shows_each}
 
 -- ---- one package more
 

@@ -1,14 +1,14 @@
 -- The number that is found for a package is that of its own place.
-use Rattle.std.proofs.Common.{◌≡◌, ◌∙◌, ◌+◌, ◌≤◌, ℕ, zero, suc, Bool, true, false, cond, if◌then◌else◌, List, [], ◌∷◌, None, Option, Some, ap, arith, map, option_map, refl, slice_get, subst, sym, zero-add}
+use Rattle.std.proofs.Common.{◌≡◌, ◌∙◌, ◌+◌, ◌≤◌, ℕ, zero, suc, Bool, true, false, cond, if◌then◌else◌, List, [], ◌∷◌, None, Option, Some, ap, arith, option_map, refl, slice_get, sym, zero-add}
 use Rattle.std.specs.List.{count_by}
 use Rattle.std.specs.Option.{option_and_then}
-use Rattle.std.proofs.lemmas.Bool.{eqb-true, false≢true}
+use Rattle.std.proofs.lemmas.Bool.{eqb-true}
 use Rattle.std.proofs.lemmas.List.Sums.{sum_by-cons}
 use Rattle.std.proofs.lemmas.Option.{same_Some, slice_get-map}
 use Rattle.cargo_lock_index.specs.Near.{first_from, first_place, is_only}
 use Rattle.cargo_lock_parts.specs.Identity.{PackageData}
 use Rattle.cargo_lock_parts.specs.PartialIdentity.{PartialIdentity, is_same_partial_identity, is_same_partial_identity-Decides}
-use Rattle.cargo_lock_location.specs.Lines.{LinesAreOwn, LinesData, line_number_at, only_place, package_key_of, package_keys_of}
+use Rattle.cargo_lock_location.specs.Lines.{LinesAreOwn, line_number_at, only_place, package_key_of, package_keys_of}
 
 module _ (p : PartialIdentity → Bool) where
   counted : (keys : List PartialIdentity) (k : ℕ) (x : PartialIdentity) → slice_get keys k ≡ Some x → p x ≡ true → 1 ≤ count_by p keys

@@ -1,5 +1,5 @@
 -- What a walk over the bytes or the lines of a text finds.
-use Rattle.std.proofs.Common.{◌≡◌, ◌∙◌, ◌+◌, ◌-◌, ◌<◌, ◌≤◌, ◌++◌, ◌||◌, ◌&&◌, ℕ, Bool, true, false, List, [], ◌∷◌, Bor, None, Option, Some, ap, append-nil, arith, bytes_eq, codes, drop, eqb, get_or, if◌then◌else◌, length, length-drop, map, nat_eq, not, refl, sym, take, zero-add}
+use Rattle.std.proofs.Common.{◌≡◌, ◌∙◌, ◌+◌, ◌-◌, ◌<◌, ◌≤◌, ◌++◌, ◌||◌, ◌&&◌, ℕ, Bool, true, false, List, [], ◌∷◌, Bor, None, Some, ap, arith, bytes_eq, codes, drop, eqb, get_or, if◌then◌else◌, length, length-drop, map, nat_eq, not, refl, sym, take, zero-add}
 use Rattle.std.specs.List.{starts_with}
 use Rattle.std.proofs.lemmas.Bool.{ne_eqb}
 use Rattle.std.proofs.lemmas.List.{drop-map, drop_all, drop_more, length-map, length-take-le, map-append, take_all, take_more}

@@ -1,2 +1,3 @@
-pub mod Subcommand
+pub mod Arguments
 pub mod Outcomes
+pub mod Subcommand

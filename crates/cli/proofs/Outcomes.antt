@@ -1,15 +1,18 @@
 -- The outcomes of several arguments: what is read of them, and how much is counted.
-use Rattle.std.proofs.Common.{◌≡◌, ◌≢◌, ◌∙◌, ◌+◌, ◌-◌, ◌<◌, ◌≤◌, ◌++◌, ◌∷◌, [], ◌&&◌, ◌^◌, ℕ, Bool, true, false, List, None, Option, Some, ap, append-nil, arith, length, length-append, map, min, refl, sym}
+use Rattle.std.proofs.Common.{◌≡◌, ◌≢◌, ◌∙◌, ◌+◌, ◌-◌, ◌<◌, ◌≤◌, ◌++◌, ◌∷◌, [], ◌&&◌, ◌^◌, ℕ, Bool, true, false, List, None, Option, Some, Result, Ok, Err, ap, append-nil, arith, length, length-append, map, min, refl, sym}
+use Rattle.std.specs.Prelude.{IfErr, IfOk}
 use Rattle.std.specs.List.{AllZip, filter_map, list_all, sum_by}
 use Rattle.std.proofs.lemmas.Bool.{false≢true}
 use Rattle.std.proofs.lemmas.List.{map-append}
 use Rattle.std.proofs.lemmas.List.Elements.{filter_map-append}
 use Rattle.std.proofs.lemmas.List.Sums.{sum_by-append}
+use Rattle.clap.specs.declared.parser.matches.Found.{Found}
+use Rattle.cargo_lock_graph.proofs.Zipped.{zip-push}
 use Rattle.cli_input.specs.Told.{IsToldAs}
 use Rattle.cli_input.specs.declared.findings.Form.{Form}
 use Rattle.cli.specs.declared.checked.Checked.{Checked}
 use Rattle.cli.specs.declared.several.Several.{Several}
-use Rattle.cli.specs.Check.{CheckedData, IsCheckedAs, IsSeveralOf, are_all_read, read_of}
+use Rattle.cli.specs.Check.{CheckedData, IsCheckedAs, IsOutcome, IsSeveralOf, are_all_read, read_of}
 
 -- ---- how many are read
 
@@ -55,10 +58,10 @@ pub checked-both : (form : Form) (first second : List CheckedData) (old more new
     → IsToldAs form (map (λ (c : CheckedData). c.found) first ++ map (λ (c : CheckedData). c.found) second) new.told)
     → new.packages ≡ min (old.packages + more.packages) (2 ^ 64 - 1) → new.findings ≡ min (old.findings + more.findings) (2 ^ 64 - 1)
     → IsCheckedAs form first old → IsCheckedAs form second more → IsCheckedAs form (first ++ second) new
-checked-both form first second old more new told packages findings before later = record {
-  told = rw (map-append (λ (c : CheckedData). c.found) first second) (told before.told later.told);
-  packages = counted-both (λ c. c.packages) first second (2 ^ 64 - 1) old.packages more.packages new.packages packages before.packages later.packages;
-  findings = counted-both (λ c. c.count) first second (2 ^ 64 - 1) old.findings more.findings new.findings findings before.findings later.findings;
+checked-both form first second old more new tells ps fs before later = record {
+  told = rw (map-append (λ (c : CheckedData). c.found) first second) (tells before.told later.told);
+  packages = counted-both (λ c. c.packages) first second (2 ^ 64 - 1) old.packages more.packages new.packages ps before.packages later.packages;
+  findings = counted-both (λ c. c.count) first second (2 ^ 64 - 1) old.findings more.findings new.findings fs before.findings later.findings;
 }
 
 -- ---- several
@@ -67,19 +70,26 @@ checked-both form first second old more new told packages findings before later 
 pub several-read : (form : Form) (before : List (Option CheckedData)) (c : CheckedData) (old new : Several)
     → (IsCheckedAs form (read_of before) old.checked → IsCheckedAs form (read_of before ++ c ∷ []) new.checked)
     → length new.faults.items ≡ length old.faults.items → IsSeveralOf form before old → IsSeveralOf form (before ++ Some c ∷ []) new
-several-read form before c old new checked faults is = record {
-  checked = rw (read-more before c) (checked is.checked);
-  faults = let count = is.faults in let more = length-append before (Some c ∷ []) in
-      let read = ap length (read-more before c) ∙ length-append (read_of before) (c ∷ []) in omega (arith, faults, count, more, read);
+several-read form before c old new more same is = record {
+  checked = rw (read-more before c) (more is.checked);
+  faults =
+      let count = is.faults in
+      let all = length-append before (Some c ∷ []) in
+      let read = ap length (read-more before c) ∙ length-append (read_of before) (c ∷ []) in
+      omega (arith, same, count, all, read);
 }
 
 -- one more is not
 pub several-unread : (form : Form) (before : List (Option CheckedData)) (old new : Several) → new.checked ≡ old.checked
     → length new.faults.items ≡ length old.faults.items + 1 → IsSeveralOf form before old → IsSeveralOf form (before ++ None ∷ []) new
-several-unread form before old new checked faults is = record {
-  checked = rw (none-more before, checked) is.checked;
-  faults = let count = is.faults in let more = length-append before (None ∷ []) in
-      let read = ap length (none-more before) in let low = read-length before in omega (arith, faults, count, more, read, low);
+several-unread form before old new kept one is = record {
+  checked = rw (none-more before, kept) is.checked;
+  faults =
+      let count = is.faults in
+      let all = length-append before (None ∷ []) in
+      let read = ap length (none-more before) in
+      let low = read-length before in
+      omega (arith, one, count, all, read, low);
 }
 
 -- no fault is kept exactly where each is read
@@ -92,3 +102,19 @@ pub some-unread : (form : Form) (outcomes : List (Option CheckedData)) (several 
     → length several.faults.items ≢ 0 → are_all_read outcomes ≡ true → ⊥
 some-unread form outcomes several is some all =
     let count = is.faults in let same = all-read outcomes all in some (omega (arith, count, same))
+
+-- one more argument, of which something is found or no lockfile is read
+pub outcome-more : {E : Type 0} (found : Found) (form : Form) (argument : List ℕ) (arguments : List (List ℕ)) (outcome : Result Checked E) (old new : Several)
+    → IfOk outcome (λ checked. (c : CheckedData) × IsOutcome found argument (Some c) × IsCheckedAs form (c ∷ []) checked)
+    → IfOk outcome (λ checked. (f : Form) (before : List (Option CheckedData)) (c : CheckedData) → IsSeveralOf f before old
+    → IsCheckedAs f (c ∷ []) checked → IsSeveralOf f (before ++ Some c ∷ []) new)
+    → IfErr outcome (λ _. (f : Form) (before : List (Option CheckedData)) → IsSeveralOf f before old → IsSeveralOf f (before ++ None ∷ []) new)
+    → (outcomes : List (Option CheckedData)) × AllZip (IsOutcome found) arguments outcomes × IsSeveralOf form outcomes old
+    → (outcomes : List (Option CheckedData)) × AllZip (IsOutcome found) (arguments ++ argument ∷ []) outcomes × IsSeveralOf form outcomes new
+outcome-more found form argument arguments (Ok checked) old new is read unread before =
+    let (c, told, kept) = is in
+    let (outcomes, zip, several) = before in
+    (outcomes ++ Some c ∷ [], zip-push (IsOutcome found) arguments outcomes argument (Some c) zip told, read form outcomes c several kept)
+outcome-more found form argument arguments (Err fault) old new is read unread before =
+    let (outcomes, zip, several) = before in
+    (outcomes ++ None ∷ [], zip-push (IsOutcome found) arguments outcomes argument None zip tt, unread form outcomes several)

@@ -1,4 +1,4 @@
-use Rattle.std.proofs.Common.{◌++◌, ◌∷◌, [], ◌∙◌, List, Option, ap, arith, map, sym, take, ℕ}
+use Rattle.std.proofs.Common.{◌++◌, ◌∷◌, [], ◌∙◌, Option, ap, arith, map, sym, take, ℕ}
 use Rattle.std.proofs.lemmas.List.{map-append, map_more, take_all}
 use Rattle.cargo_lock_location.specs.declared.located.Located.{Located}
 use Rattle.cargo_lock_location.proofs.located.locate.Goals as goal

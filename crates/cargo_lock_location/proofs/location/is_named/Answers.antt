@@ -1,8 +1,8 @@
-use Rattle.std.proofs.Common.{[], ◌∙◌, Bor, List, ap, arith, codes, drop, eqb, map, sym, ℕ}
+use Rattle.std.proofs.Common.{[], ◌∙◌, Bor, List, ap, arith, codes, eqb, map, sym, ℕ}
 use Rattle.std.specs.List.{starts_with}
 use Rattle.std.proofs.lemmas.List.{drop_all}
 use Rattle.cargo_lock_location.specs.Location.{is_among}
-use Rattle.cargo_lock_location.proofs.Walks.{named-ends, named-here, named-later}
+use Rattle.cargo_lock_location.proofs.Walks.{named-ends, named-later}
 use Rattle.cargo_lock_location.proofs.location.is_named.Goals as goal
 
 pub returns-then-starts_with : goal.returns-then-starts_with

@@ -1,7 +1,7 @@
-use Rattle.std.proofs.Common.{◌≡◌, ◌++◌, ◌∷◌, [], ◌∙◌, ℕ, List, None, Option, ap, arith, if◌then◌else◌, map, slice_get, sym, take}
+use Rattle.std.proofs.Common.{◌++◌, ◌∷◌, [], ◌∙◌, ℕ, List, None, Option, ap, arith, if◌then◌else◌, map, slice_get, sym, take}
 use Rattle.std.proofs.lemmas.List.{take_all}
 use Rattle.cargo_lock_parts.specs.Identity.{PackageData}
-use Rattle.cargo_lock_location.specs.Location.{header_of, line_of_header, numbers_from}
+use Rattle.cargo_lock_location.specs.Location.{line_of_header, numbers_from}
 use Rattle.cargo_lock_location.proofs.Numbers.{numbers-more}
 use Rattle.cargo_lock_location.proofs.location.numbers.Goals as goal
 
