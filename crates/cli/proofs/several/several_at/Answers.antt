@@ -23,7 +23,7 @@ returns g c =
     let l = c.loop-argument in
     let (outcomes, zip, is) = l.invariant in (
       outcomes,
-      subst (λ (as : List (Bor (List ℕ))). AllZip (IsOutcome (found_of c.args.options.now)) (map (λ a. a.now) as) outcomes)
+      subst (λ (before : List (Bor (List ℕ))). AllZip (IsOutcome (found_of c.args.options.now)) (map (λ a. a.now) before) outcomes)
           (take_all l.argument-index c.args.arguments.now (omega arith)) zip,
       is,
     )
