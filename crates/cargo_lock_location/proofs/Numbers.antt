@@ -1,12 +1,12 @@
 -- The numbers of packages, and what they say of the lines.
-use Rattle.std.proofs.Common.{◌≡◌, ◌∙◌, ◌+◌, ◌-◌, ◌<◌, ◌≤◌, ◌++◌, ◌||◌, ◌&&◌, ℕ, zero, suc, Bool, true, false, List, [], ◌∷◌, None, Option, Some, ap, arith, bytes_eq, codes, drop, eqb, get_or, if◌then◌else◌, length, map, nat_eq, not, refl, slice_get, subst, sym, take, zero-add}
+use Rattle.std.proofs.Common.{◌≡◌, ◌∙◌, ◌+◌, ◌<◌, ◌++◌, ◌||◌, ◌&&◌, ℕ, zero, suc, Bool, true, false, List, [], ◌∷◌, None, Option, Some, ap, arith, bytes_eq, codes, drop, eqb, get_or, if◌then◌else◌, length, map, nat_eq, not, refl, slice_get, subst, sym, take, zero-add}
 use Rattle.std.specs.List.{list_all, starts_with}
 use Rattle.std.proofs.lemmas.Bool.{and_parts, eq-eqb, eqb-true, false≢true}
 use Rattle.std.proofs.lemmas.List.{length-map, length-take-le, map-append, take_more}
 use Rattle.std.proofs.lemmas.Option.{same_Some, slice_get-get_or, slice_get_within}
 use Rattle.std.proofs.lemmas.Slice.Eq.{bytes_eq-Decides}
 use Rattle.cargo_lock_parts.specs.Identity.{PackageData}
-use Rattle.cargo_lock_location.specs.Location.{EachPackageIsAnswered, IsLineIf, IsLineOf, IsNamedBelow, LinesAreThoseOfPackages, LinesBeginPackages, header_of, headers_from, is_among, is_clear, is_package_header, line_below, line_of_header, name_line, numbers_from, package_header, lines_of_packages, shows_each}
+use Rattle.cargo_lock_location.specs.Location.{EachPackageIsAnswered, IsLineIf, IsLineOf, IsNamedBelow, LinesAreThoseOfPackages, LinesBeginPackages, header_of, headers_from, is_among, is_clear, is_package_header, line_of_header, name_line, numbers_from, package_header, lines_of_packages, shows_each}
 
 -- ---- one package more
 
@@ -27,7 +27,7 @@ numbers-more shown lines packages i p within is =
     ap (λ (ps : List PackageData). numbers_from 0 shown lines (map (λ q. q.name) ps)) (take_more packages i p within ∙ ap (λ q. take i packages ++ q ∷ []) (sym is))
     ∙ ap (numbers_from 0 shown lines) (map-append (λ (q : PackageData). q.name) (take i packages) (p ∷ []))
     ∙ numbers-append 0 shown lines before (p.name ∷ [])
-    ∙ ap (λ k. numbers_from 0 shown lines before ++ (line_of_header lines p.name (header_of shown lines k) ∷ [])) long
+    ∙ ap (λ k. numbers_from 0 shown lines before ++ (line_of_header lines p.name (header_of shown lines k) ∷ [])) (zero-add (length before) ∙ long)
 
 -- ---- the number at a place
 
@@ -54,15 +54,15 @@ among-named : (name : List ℕ) (ls : List (List ℕ)) → is_among (name_line n
 among-named name [] e = absurd (false≢true e)
 among-named name (line ∷ rest) e =
     let (plain, found) = and_parts (not (starts_with eqb line (codes "["))) (bytes_eq line (name_line name) || is_among (name_line name) rest) e in
-    by (bytes_eq line (name_line name)) refl (not-true (starts_with eqb line (codes "[")) plain) found
+    by (bytes_eq line (name_line name)) refl (not-true (starts_with eqb line (codes "[")) plain) found (among-named name rest)
   where
     not-true : (b : Bool) → not b ≡ true → b ≡ false
     not-true true h = absurd (false≢true h)
     not-true false h = refl
 
     by : (b : Bool) → bytes_eq line (name_line name) ≡ b → starts_with eqb line (codes "[") ≡ false
-        → (b || is_among (name_line name) rest) ≡ true → IsNamedBelow (line ∷ rest) name
-    by true same plain found = record {
+        → (b || is_among (name_line name) rest) ≡ true → (is_among (name_line name) rest ≡ true → IsNamedBelow rest name) → IsNamedBelow (line ∷ rest) name
+    by true same plain found among = record {
       place = 0;
       is = ap Some ((bytes_eq-Decides line (name_line name)).0 same);
       between = first;
@@ -71,8 +71,8 @@ among-named name (line ∷ rest) e =
         first : (j : ℕ) (l : List ℕ) → j < 0 + 1 → slice_get (line ∷ rest) j ≡ Some l → starts_with eqb l (codes "[") ≡ false
         first zero l low at = subst (λ (x : List ℕ). starts_with eqb x (codes "[") ≡ false) (same_Some line l at) plain
         first (suc j) l low at = absurd (omega (arith, low))
-    by false other plain found =
-        let below : IsNamedBelow rest name = among-named name rest found in
+    by false other plain found among =
+        let below : IsNamedBelow rest name = among found in
         record {
           place = suc below.place;
           is = below.is;
@@ -178,18 +178,19 @@ lines_are_those_of_packages lines names k name found at is =
 header-at : (n : ℕ) (lines : List (List ℕ)) (k q : ℕ) → slice_get (headers_from n lines) k ≡ Some q
     → (j : ℕ) × (q ≡ n + j) × (slice_get lines j ≡ Some package_header)
 header-at n [] k q at = cc at
-header-at n (line ∷ rest) k q at = by (is_package_header line) refl k at
+header-at n (line ∷ rest) k q at = by (is_package_header line) refl k at (λ j. header-at (n + 1) rest j q)
   where
-    later : (k : ℕ) → slice_get (headers_from (n + 1) rest) k ≡ Some q
+    later : ((j : ℕ) × (q ≡ n + 1 + j) × (slice_get rest j ≡ Some package_header))
         → (j : ℕ) × (q ≡ n + j) × (slice_get (line ∷ rest) j ≡ Some package_header)
-    later k at = let below = header-at (n + 1) rest k q at in let e = below.1 in (suc below.0, omega (arith, e), below.2)
+    later below = let e = below.1 in (suc below.0, omega (arith, e), below.2)
 
     by : (b : Bool) → is_package_header line ≡ b → (k : ℕ)
         → slice_get (if b then n ∷ headers_from (n + 1) rest else headers_from (n + 1) rest) k ≡ Some q
+        → ((i : ℕ) → slice_get (headers_from (n + 1) rest) i ≡ Some q → (j : ℕ) × (q ≡ n + 1 + j) × (slice_get rest j ≡ Some package_header))
         → (j : ℕ) × (q ≡ n + j) × (slice_get (line ∷ rest) j ≡ Some package_header)
-    by true is zero at = (0, (let e = same_Some n q at in omega (arith, e)), ap Some ((bytes_eq-Decides line package_header).0 is))
-    by true is (suc k) at = later k at
-    by false is k at = later k at
+    by true is zero at below = (0, (let e = same_Some n q at in omega (arith, e)), ap Some ((bytes_eq-Decides line package_header).0 is))
+    by true is (suc k) at below = later (below k at)
+    by false is k at below = later (below k at)
 
 pub lines_begin_packages : LinesBeginPackages
 lines_begin_packages lines names k place at =

@@ -1,39 +1,46 @@
 -- The number that is found for a package is that of its own place.
-use Rattle.std.proofs.Common.{◌≡◌, ◌∙◌, ◌+◌, ◌≤◌, ℕ, zero, suc, Bool, true, false, cond, if◌then◌else◌, List, [], ◌∷◌, None, Option, Some, ap, arith, map, option_map, refl, slice_get, subst, sym, zero-add}
+use Rattle.std.proofs.Common.{◌≡◌, ◌∙◌, ◌+◌, ◌≤◌, ℕ, zero, suc, Bool, true, false, cond, if◌then◌else◌, List, [], ◌∷◌, None, Option, Some, ap, arith, option_map, refl, slice_get, sym, zero-add}
 use Rattle.std.specs.List.{count_by}
 use Rattle.std.specs.Option.{option_and_then}
-use Rattle.std.proofs.lemmas.Bool.{eqb-true, false≢true}
+use Rattle.std.proofs.lemmas.Bool.{eqb-true}
+use Rattle.std.proofs.lemmas.List.Sums.{sum_by-cons}
 use Rattle.std.proofs.lemmas.Option.{same_Some, slice_get-map}
 use Rattle.cargo_lock_index.specs.Near.{first_from, first_place, is_only}
 use Rattle.cargo_lock_parts.specs.Identity.{PackageData}
 use Rattle.cargo_lock_parts.specs.PartialIdentity.{PartialIdentity, is_same_partial_identity, is_same_partial_identity-Decides}
-use Rattle.cargo_lock_location.specs.Lines.{LinesAreOwn, LinesData, line_number_at, only_place, package_key_of, package_keys_of}
+use Rattle.cargo_lock_location.specs.Lines.{LinesAreOwn, line_number_at, only_place, package_key_of, package_keys_of}
 
 module _ (p : PartialIdentity → Bool) where
   counted : (keys : List PartialIdentity) (k : ℕ) (x : PartialIdentity) → slice_get keys k ≡ Some x → p x ≡ true → 1 ≤ count_by p keys
   counted [] k x at passes = cc at
   counted (y ∷ ys) zero x at passes =
-      let here : cond (p y) 1 0 ≡ 1 = ap (λ (b : Bool). cond b 1 0) (ap p (same_Some y x at) ∙ passes) in
-      omega (arith, here)
-  counted (y ∷ ys) (suc k) x at passes = let rest = counted ys k x at passes in omega (arith, rest)
+      let here : ◌≡◌ {A = ℕ} (cond (p y) 1 0) 1 = ap (λ (b : Bool). cond b 1 0) (ap p (same_Some y x at) ∙ passes) in
+      let sums = sum_by-cons (λ (x : PartialIdentity). cond (p x) 1 0) y ys in
+      omega (arith, here, sums)
+  counted (y ∷ ys) (suc k) x at passes =
+      let rest = counted ys k x at passes in
+      let sums = sum_by-cons (λ (x : PartialIdentity). cond (p x) 1 0) y ys in
+      omega (arith, rest, sums)
 
   first-only : (n : ℕ) (keys : List PartialIdentity) (k : ℕ) (x : PartialIdentity) → slice_get keys k ≡ Some x → p x ≡ true
       → count_by p keys ≡ 1 → first_from p n keys ≡ Some (n + k)
   first-only n [] k x at passes one = cc at
   first-only n (y ∷ ys) zero x at passes one =
       ap (λ (b : Bool). if b then Some n else first_from p (n + 1) ys) (ap p (same_Some y x at) ∙ passes) ∙ ap Some (omega arith)
-  first-only n (y ∷ ys) (suc k) x at passes one = by (p y) refl
+  first-only n (y ∷ ys) (suc k) x at passes one = by (p y) refl (first-only (n + 1) ys k x at passes)
     where
-      by : (b : Bool) → p y ≡ b → first_from p n (y ∷ ys) ≡ Some (n + suc k)
-      by true here =
+      by : (b : Bool) → p y ≡ b → (count_by p ys ≡ 1 → first_from p (n + 1) ys ≡ Some (n + 1 + k)) → first_from p n (y ∷ ys) ≡ Some (n + suc k)
+      by true here below =
           let more = counted ys k x at passes in
-          let this : cond (p y) 1 0 ≡ 1 = ap (λ (b : Bool). cond b 1 0) here in
-          absurd (omega (arith, more, this, one))
-      by false other =
-          let this : cond (p y) 1 0 ≡ 0 = ap (λ (b : Bool). cond b 1 0) other in
-          let rest : count_by p ys ≡ 1 = omega (arith, this, one) in
+          let this : ◌≡◌ {A = ℕ} (cond (p y) 1 0) 1 = ap (λ (b : Bool). cond b 1 0) here in
+          let sums = sum_by-cons (λ (x : PartialIdentity). cond (p x) 1 0) y ys in
+          absurd (omega (arith, more, this, one, sums))
+      by false other below =
+          let this : ◌≡◌ {A = ℕ} (cond (p y) 1 0) 0 = ap (λ (b : Bool). cond b 1 0) other in
+          let sums = sum_by-cons (λ (x : PartialIdentity). cond (p x) 1 0) y ys in
+          let rest : count_by p ys ≡ 1 = omega (arith, this, one, sums) in
           ap (λ (b : Bool). if b then Some n else first_from p (n + 1) ys) other
-          ∙ first-only (n + 1) ys k x at passes rest ∙ ap Some (omega arith)
+          ∙ below rest ∙ ap Some (omega arith)
 
 own-place : (packages : List PackageData) (k : ℕ) (p : PackageData) → slice_get packages k ≡ Some p → (b : Bool)
     → is_only (package_key_of p) (package_keys_of packages) ≡ b → only_place packages p ≡ (if b then Some k else None)

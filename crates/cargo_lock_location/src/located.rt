@@ -1,6 +1,6 @@
 //! What is found at a line, each as an item of a document of JSON.
 
-ghost use Rattle.std.specs.Prelude.{◌≡◌, ◌∷◌, IfOk, codes, map};
+ghost use Rattle.std.specs.Prelude.{◌≡◌, ◌∷◌, ℕ, IfOk, Option, codes, map};
 ghost use Rattle.json.specs.Token.{key};
 ghost use Rattle.json.specs.Tree.{json_tokens};
 ghost use Rattle.printing.specs.Json.{Adds};
@@ -61,7 +61,8 @@ pub fn locate<'d, T: Lined>(
     all: &'d [T],
     lines: &PackageLines<'_>,
 ) -> Result<Vec<Located<'d, T>>, AllocError>
-    ensures { IfOk result (λ located. map (λ l. (l.found.now, l.line)) located.items
+    ensures { IfOk result (λ located.
+        map {B = T × Option ℕ} (λ l. (l.found.now, l.line)) located.items
         ≡ map (λ found. (found, T.line_in lines.now found)) all.now) }
 {
     let mut located = Vec::with_capacity(alloc, all.len())?;

@@ -10,7 +10,7 @@ use Rattle.std.proofs.lemmas.Bool.Decides.{nat_tests}
 use Rattle.std.proofs.lemmas.Grind.{get_or_default_zero}
 use Rattle.std.proofs.lemmas.List.Elements.{All-append, All-nil, All-weaker}
 use Rattle.std.proofs.lemmas.List.Splits.{slice_split_at}
-use Rattle.std.proofs.lemmas.Str.{NoCharPasses-append, NoCharPasses-byte, NoCharPasses-nil}
+use Rattle.std.proofs.lemmas.Str.{encode_ascii, NoCharPasses-append, NoCharPasses-byte, NoCharPasses-nil}
 use Rattle.printing.proofs.Printable.{Prints, decimal-prints, literal, words}
 use Rattle.cargo_lock_parts.specs.Ascii.{newline}
 use Rattle.cargo_lock_report.specs.declared.escape.Escape.TheVariants.{Message, Property}
@@ -27,7 +27,7 @@ none-of-char : (p : ℕ → Bool) (c : ℕ) → p c ≡ false → NoCharPasses p
 none-of-char p c h = (c ∷ [], append-nil (encode_utf8 c), (h, tt))
 
 none-of-ascii : (p : ℕ → Bool) (c d e : ℕ) → p c ≡ false → p d ≡ false → p e ≡ false → c < 128 → d < 128 → e < 128 → NoCharPasses p (c ∷ d ∷ e ∷ [])
-none-of-ascii p c d e h i j low-c low-d low-e = (c ∷ d ∷ e ∷ [], grind (arith, nat_tests), (h, (i, (j, tt))))
+none-of-ascii p c d e h k j low-c low-d low-e = (c ∷ d ∷ e ∷ [], (λ i. encode_ascii c low-c i ++ (encode_ascii d low-d i ++ (encode_ascii e low-e i ++ []))), (h, (k, (j, tt))))
 
 none-of-each : (p : ℕ → Bool) (f : ℕ → List ℕ) → ((c : ℕ) → NoCharPasses p (f c)) → (cs : List ℕ) → NoCharPasses p (flat_map f cs)
 none-of-each p f h [] = NoCharPasses-nil p

@@ -1,10 +1,11 @@
 -- The tokens and the depth of a log.
 use Rattle.std.proofs.Common.{◌≡◌, ◌≤◌, ◌∙◌, ◌++◌, [], ◌∷◌, ℕ, Bool, true, false, List, Option, None, Some, ap, append_assoc, arith, codes, decimal, map, refl, sym}
 use Rattle.std.specs.Prelude.{if◌then◌else◌}
-use Rattle.json.specs.Json.{Members, member, no_members, object, string}
+use Rattle.json.specs.Json.{Members, array, member, no_members, object, string}
 use Rattle.json.specs.Token as token
 use Rattle.json.specs.Token.{Token, key}
 use Rattle.json.specs.Tree.{depth, json_tokens, members_depth, members_tokens}
+use Rattle.printing.specs.Json.{items_of}
 use Rattle.printing.proofs.Depth.{array-depth}
 use Rattle.cargo_lock_report.specs.Log.{fingerprints_json, line_tokens, link_member, link_tokens, location_json, log_json, message_json, region_member, region_tokens, result_json, rule_json, run_json, title_before, title_tokens, tokens_if_link, tool_json}
 use Rattle.cargo_lock_report.specs.Reported.{ReportedData, RuleData}
@@ -35,6 +36,30 @@ pub rule-tokens : (r : RuleData) → (token.begin_object ∷ []) ++ ((key (codes
     ≡ token.begin_object ∷ key (codes "id") ∷ token.string r.id ∷ members_tokens (title_before r.title (link_member r.url))
 rule-tokens r = ap (λ (ts : List Token). token.begin_object ∷ key (codes "id") ∷ token.string r.id ∷ ts)
     (ap (λ ts. title_tokens r.title ++ ts) (link-tokens r.url) ∙ title-tokens r.title (link_member r.url))
+
+-- those of a result with this id of a rule, this word for its level and this message
+abbrev pub result_pieces : List ℕ → List ℕ → List ℕ → ReportedData → List Token
+result_pieces id word message f = token.begin_object ∷ key (codes "ruleId") ∷ token.string id ∷ key (codes "level") ∷ token.string word
+    ∷ key (codes "message") ∷ (json_tokens (message_json message)
+    ++ ((key (codes "locations") ∷ json_tokens (array (items_of (location_json f.spot ∷ []))))
+    ++ ((key (codes "partialFingerprints") ∷ json_tokens (fingerprints_json f)) ++ (token.end_object ∷ []))))
+
+-- those of a tool, of which these are the rules
+pub tool-tokens : (rules : List Token) → (token.begin_object ∷ []) ++ ((key (codes "driver") ∷ []) ++ ((token.begin_object ∷ [])
+    ++ ((key (codes "name") ∷ token.string (codes "cargo-lock") ∷ []) ++ ((key (codes "rules") ∷ [])
+    ++ (rules ++ ((token.end_object ∷ []) ++ (token.end_object ∷ [])))))))
+    ≡ token.begin_object ∷ key (codes "driver") ∷ token.begin_object ∷ key (codes "name") ∷ token.string (codes "cargo-lock")
+    ∷ key (codes "rules") ∷ ((rules ++ (token.end_object ∷ [])) ++ (token.end_object ∷ []))
+tool-tokens rules =
+    ap (λ (ts : List Token). token.begin_object ∷ key (codes "driver") ∷ token.begin_object ∷ key (codes "name") ∷ token.string (codes "cargo-lock")
+    ∷ key (codes "rules") ∷ ts)
+    (sym (append_assoc rules (token.end_object ∷ []) (token.end_object ∷ [])))
+
+-- those of a log, of which these are the run
+pub log-tokens : (begin run : List Token) → begin ++ ((token.begin_array ∷ []) ++ (run ++ ((token.end_array ∷ []) ++ (token.end_object ∷ []))))
+    ≡ begin ++ (token.begin_array ∷ ((run ++ (token.end_array ∷ [])) ++ (token.end_object ∷ [])))
+log-tokens begin run =
+    ap (λ (ts : List Token). begin ++ (token.begin_array ∷ ts)) (sym (append_assoc run (token.end_array ∷ []) (token.end_object ∷ [])))
 
 -- the tokens of a location, one after another
 pub location-tokens : (path : List ℕ) (line : Option ℕ)

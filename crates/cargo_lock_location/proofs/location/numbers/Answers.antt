@@ -1,7 +1,7 @@
-use Rattle.std.proofs.Common.{◌≡◌, ◌++◌, ◌∷◌, [], ◌∙◌, ℕ, List, None, Option, ap, arith, if◌then◌else◌, map, slice_get, sym, take}
+use Rattle.std.proofs.Common.{◌++◌, ◌∷◌, [], ◌∙◌, ℕ, List, None, Option, ap, arith, if◌then◌else◌, map, slice_get, sym, take}
 use Rattle.std.proofs.lemmas.List.{take_all}
 use Rattle.cargo_lock_parts.specs.Identity.{PackageData}
-use Rattle.cargo_lock_location.specs.Location.{header_of, line_of_header, numbers_from}
+use Rattle.cargo_lock_location.specs.Location.{line_of_header, numbers_from}
 use Rattle.cargo_lock_location.proofs.Numbers.{numbers-more}
 use Rattle.cargo_lock_location.proofs.location.numbers.Goals as goal
 
@@ -14,7 +14,7 @@ loop-place-preserved c =
     c.in_ok-push.ensures.items
     ∙ ap (λ (ns : List (Option ℕ)). ns ++ (c.in_ok-line_of_header.field-0 ∷ [])) l.invariant
     ∙ ap (λ (n : Option ℕ). numbers_from 0 c.args.shown lines (map (λ q. q.name) (take l.place c.args.packages.now)) ++ (n ∷ []))
-    (c.in_ok-line_of_header.ensures ∙ ap (line_of_header lines p.name) header)
+    (c.in_ok-line_of_header.ensures ∙ ap (λ name. line_of_header lines name c.header_at-header.result) (c.as_str.ensures ∙ ap (λ (q : PackageData). q.name) c.package.view_is) ∙ ap (line_of_header lines p.name) header)
     ∙ sym (numbers-more c.args.shown lines c.args.packages.now l.place p c.loop-place-test.true c.index-packages-place.is)
 
 pub returns : goal.returns

@@ -1,4 +1,4 @@
-use Rattle.std.proofs.Common.{◌∙◌, ap, arith, drop, sym}
+use Rattle.std.proofs.Common.{◌∙◌, ap, arith, sym}
 use Rattle.std.proofs.lemmas.List.{drop_all}
 use Rattle.cargo_lock_location.specs.Location.{without_blanks}
 use Rattle.cargo_lock_location.proofs.Walks.{blank-ends, blank-later, rest-from}

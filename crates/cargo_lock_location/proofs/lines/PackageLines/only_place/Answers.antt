@@ -10,7 +10,7 @@ returns-then-is_only c =
     let key : PartialIdentity = package_key_of c.args.package.now in
     let index : IsIndexOf keys c.self.inside.places = subst (λ (d : LinesData). IsIndexOf (package_keys_of d.packages) c.self.inside.places) c.self.view_is c.self.invariant in
     let only : is_only key keys ≡ true = sym (c.is_only.ensures keys index ∙ ap (λ k. is_only k keys) c.key_of.ensures) ∙ c.if-is_only.true in
-    c.first.ensures keys index ∙ ap (λ k. first_place k keys) c.key_of-2.ensures
+    c.first.ensures keys index ∙ ap (λ k. first_place k keys) c.key_of-then-is_only.ensures
     ∙ sym (ap (λ b. if b then first_place key keys else None) only)
 
 pub returns-else-is_only : goal.returns-else-is_only
