@@ -113,7 +113,7 @@ pub fn required_list<'a>(alloc: Global, table: &'a Table, key: &str) -> Result<&
         (λ s. items_view s.now) result (required_list (get_member key.now (table_view table.now))) }
 {
     match value_at(table, key) {
-        Some(value) => list_in(alloc, value, key),
+        Some(list) => list_in(alloc, list, key),
         None => Err(missing_key(alloc, key)),
     }
 }
@@ -135,7 +135,7 @@ pub fn required_members<'a>(alloc: Global, table: &'a Table, key: &str) -> Resul
         (required_members (get_member key.now (table_view table.now))) }
 {
     match value_at(table, key) {
-        Some(value) => members_in(alloc, value, key),
+        Some(members) => members_in(alloc, members, key),
         None => Err(missing_key(alloc, key)),
     }
 }
