@@ -49,20 +49,9 @@ pub extern "C" fn cargo_lock_tree(
     ensures status { (result ≤ 3) ⊎ (result ≡ 5) ⊎ (result ≡ 7) ⊎ (result ≡ 8) }
 {
     let node = NodeIndex::new(number);
-    match drawing(alloc, text, node, direction(inverted), exact) {
+    match drawing(alloc, text, node, EdgeDirection::of_tree(inverted), exact) {
         Ok(drawing) => hand_out(drawing.as_slice(), out, length),
         Err(refusal) => refusal.status(),
-    }
-}
-
-/// The direction of the edges that are followed.
-fn direction(inverted: bool) -> EdgeDirection
-    ensures { result ≡ cond inverted Incoming Outgoing }
-{
-    if inverted {
-        EdgeDirection::Incoming
-    } else {
-        EdgeDirection::Outgoing
     }
 }
 

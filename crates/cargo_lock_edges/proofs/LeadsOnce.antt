@@ -6,6 +6,7 @@ use Rattle.std.proofs.lemmas.Option.{same_Some}
 use Rattle.cargo_lock_parts.specs.Identity.{Identity, PackageData, identity_of}
 use Rattle.cargo_lock_graph.specs.Edges.{Edge}
 use Rattle.cargo_lock_graph.specs.Targets.{HasIdentity, HoldsOf, IsLastBelow, IsTarget, Link, MatchesAt, links}
+use Rattle.cargo_lock_graph.proofs.EdgesOnce.{target-one}
 use Rattle.cargo_lock_edges.specs.Laws.{LeadIsOne, NearestIsOne, OwnEndsAreOne}
 use Rattle.cargo_lock_edges.specs.Leads.{IsInItsPlace}
 use Rattle.cargo_lock_edges.specs.Nearest.{IsOwnMatch, IsOwnTarget}
@@ -48,17 +49,12 @@ own-as-best packages d place t = record {
   last = t.last;
 }
 
-pub one-target : (packages : List PackageData) (d : Identity) (j k : ℕ) → IsTarget packages d j
-    → IsTarget packages d k → j ≡ k
-one-target packages d j k a b = best-one (MatchesAt packages d) j k (as-best packages d j a)
-    (as-best packages d k b)
-
 pub nearest_is_one : NearestIsOne
 nearest_is_one packages d j k (inl a) (inl b) = best-one (IsOwnMatch packages d) j k
     (own-as-best packages d j a) (own-as-best packages d k b)
 nearest_is_one packages d j k (inl a) (inr (none, b)) = absurd (none j a.rank a.fits)
 nearest_is_one packages d j k (inr (none, a)) (inl b) = absurd (none k b.rank b.fits)
-nearest_is_one packages d j k (inr (none, a)) (inr (other, b)) = one-target packages d j k a b
+nearest_is_one packages d j k (inr (none, a)) (inr (other, b)) = target-one packages d j k a b
 
 -- ---- what stands for a package
 

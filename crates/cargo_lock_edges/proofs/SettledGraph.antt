@@ -15,7 +15,7 @@ use Rattle.cargo_lock_edges.specs.OwnGraph.{IsAlikeButForWords, IsOwnEdgeOf, IsO
 use Rattle.cargo_lock_edges.specs.Settled.{AreSettled, IsOfLead, IsSettledAs, IsSettledPackage}
 use Rattle.cargo_lock_edges.proofs.TargetsFound.{target-or-lost}
 use Rattle.cargo_lock_edges.proofs.LeadPlaces.{lead-found, lead-last}
-use Rattle.cargo_lock_edges.proofs.LeadsOnce.{one-target}
+use Rattle.cargo_lock_graph.proofs.EdgesOnce.{target-one}
 
 -- ---- related lists, place by place
 
@@ -194,7 +194,7 @@ edge-leads packages settled l m e are link edge = record {
 
     to : IsSettledAs packages l.dependency m.dependency → LeadsToPackage packages l.dependency e.to
     to (inl lead) = subst (LeadsToPackage packages l.dependency)
-        (one-target packages m.dependency lead.place e.to
+        (target-one packages m.dependency lead.place e.to
         (lead-target packages l.dependency m.dependency lead) there) lead.leads
     to (inr (lost, same)) = absurd (lost e.to there.rank
         (subst (λ i. MatchesAt packages i e.to there.rank) same there.fits))

@@ -26,8 +26,9 @@ ghost use Rattle.cargo_lock_edges.specs.Words.{HasOwnWords};
 use crate::group::{
     Group, group_for, group_of, has_precise, have_one_kind, pinned_group_of, words_group_of,
 };
-use crate::index::{identity, package_key, version_places};
+use crate::index::{identity, package_key};
 use crate::words::is_of_own_words;
+use cargo_lock_graph::versions::{rank_between, version_places};
 use cargo_lock_index::places::Places;
 use cargo_lock_parts::dependency::Dependency;
 use cargo_lock_parts::error;
@@ -450,15 +451,4 @@ fn is_pinned_match(dependency: &Dependency, package: &Package) -> bool
     ensures { Decides result (IsPinned dependency.now «package».now) }
 {
     is_match(2, dependency, package) && have_one_kind(&dependency.source, &package.source)
-}
-
-// The rank of two sources that may be absent.
-fn rank_between(a: &Option<SourceId>, b: &Option<SourceId>) -> Option<u8>
-    ensures { result ≡ target.rank_between a.now b.now }
-{
-    match (a, b) {
-        (None, None) => Some(1),
-        (Some(a), Some(b)) => a.match_rank(b),
-        _ => None,
-    }
 }

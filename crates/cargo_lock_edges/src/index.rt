@@ -1,29 +1,11 @@
-//! Packages and dependencies as keys, and the places of the packages of each name and version.
+//! Packages and dependencies as keys.
 
-ghost use Rattle.std.specs.Prelude.{◌≡◌, IfOk};
-ghost use Rattle.cargo_lock_index.specs.Near.{IsIndexOf};
+ghost use Rattle.std.specs.Prelude.{◌≡◌};
 ghost use Rattle.cargo_lock_parts.specs.Identity.{identity_of};
-ghost use Rattle.cargo_lock_graph.specs.Candidates.{identity_as_key, versions_of};
+ghost use Rattle.cargo_lock_graph.specs.Candidates.{identity_as_key};
 
-use cargo_lock_index::places::{Keys, Places};
 use cargo_lock_parts::dependency::Dependency;
 use cargo_lock_parts::package::{Package, PartialIdentity};
-use std::alloc::{AllocError, Global};
-
-// The places of the packages with each name and version. Fails when out of memory.
-pub(crate) fn version_places<'a>(
-    alloc: Global,
-    packages: &'a [Package],
-) -> Result<Places<'a>, AllocError>
-    ensures { IfOk result (λ places. IsIndexOf (versions_of packages.now) places) }
-{
-    let mut keys = Keys::with_capacity(alloc, packages.len())?;
-    for place in 0..packages.len() {
-        let package = &packages[place];
-        keys.add(PartialIdentity::name_and_version(&package.name, &package.version))?;
-    }
-    keys.into_places()
-}
 
 /// The identity of a package, as a key.
 ///

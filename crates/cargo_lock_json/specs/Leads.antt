@@ -4,7 +4,7 @@ use Rattle.std.specs.List.{AllZip}
 use Rattle.cargo_lock_parts.specs.Identity.{Identity, PackageData}
 use Rattle.cargo_lock_graph.specs.Targets.{IsLost}
 use Rattle.cargo_lock_edges.specs.Leads.{LeadsToPackage}
-use Rattle.cargo_lock_references.specs.Optional.{BothOrNone}
+use Rattle.cargo_lock_parts.specs.Optional.{BothOrNone}
 use Rattle.cargo_lock_json.specs.Linked.{LeadData, LinkedData}
 
 -- the dependency leads to the place, or there is none because no package fits the dependency

@@ -56,8 +56,16 @@ fn numbers(
     Ok(found)
 }
 
-// The lines of a text, each without its newline.
-fn lines_in<'a>(alloc: Global, text: &'a str) -> Result<Vec<&'a str>, AllocError>
+/// The lines of a text, each without its newline.
+///
+/// # Errors
+///
+/// Out of memory.
+///
+/// ```
+/// let lines = lines_in(alloc, text)?;
+/// ```
+pub fn lines_in<'a>(alloc: Global, text: &'a str) -> Result<Vec<&'a str>, AllocError>
     ensures { IfOk result (λ all. map (λ line. line.now) all.items ≡ lines text.now) }
 {
     let mut all = Vec::new(alloc);

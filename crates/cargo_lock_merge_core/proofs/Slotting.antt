@@ -25,15 +25,9 @@ use Rattle.cargo_lock_merge_core.specs.declared.numbered.Replaced.TheVariants.{A
 use Rattle.cargo_lock_merge_core.specs.Renaming.{Has, rename, rename_all}
 use Rattle.cargo_lock_merge_core.proofs.Ascending.{far-below, up-push}
 use Rattle.cargo_lock_merge_core.proofs.Linking.{refers-within}
+use Rattle.cargo_lock_graph.proofs.EdgesOnce.{last-one}
 use Rattle.lists.proofs.Members.{contains-cases, first-in, got-in, in-got, in-map, map-in, none-in}
 use Rattle.cargo_lock_merge_core.proofs.Planning.{map-push}
-
-pub last-one : (P : ℕ → Type 0) (bound j k : ℕ) → IsLastBelow P bound (Some j) → IsLastBelow P bound (Some k) → j ≡ k
-last-one P bound j k a b = elim (cases_order j k) [
-  | inl same ↦ same
-  | inr (inl less) ↦ absurd (a.2 k less b.0 b.1)
-  | inr (inr more) ↦ absurd (b.2 j more a.0 a.1)
-]
 
 at-most : (n i : ℕ) → n < i + 1 → (n < i) ⊎ (n ≡ i)
 at-most n i low = elim (cases_Bool (nat_lt n i)) [
