@@ -25,8 +25,9 @@ use std::alloc::{AllocError, Global};
 use std::marker::Model;
 use toml::de::Error as TomlError;
 use toml::{Table, Value};
-use toml_fields::{list_in, members_in, optional_text, required_members, required_text, text_in};
-use toml_fields::value_at;
+use toml_fields::{
+    list_in, members_in, optional_text, required_members, required_text, text_in, value_at,
+};
 
 impl Advisory {
     /// The advisory that a file is. White space before the first line is dropped. The first line is

@@ -38,8 +38,10 @@ use cargo_lock_references::{EncodableDependency, EncodablePackage, EncodableSour
 use std::alloc::Global;
 use std::marker::Model;
 use toml::{Table, Value};
-use toml_fields::{list_in, missing_key, number_at, optional_list, required_list, required_text};
-use toml_fields::{text_in, value_at, wrong_type};
+use toml_fields::{
+    list_in, missing_key, number_at, optional_list, required_list, required_text, text_in,
+    value_at, wrong_type,
+};
 
 /// Reads the values of a table. `Parse` says which value is refused: the first one that is absent,
 /// of another type, or a text that does not read, in the order of the keys here. `Parse` also comes

@@ -154,7 +154,9 @@ fn own_references(
 }
 
 // A copy of a version that may be absent.
-pub(crate) fn own_version(version: Option<&Version>) -> std::result::Result<Option<Version>, AllocError>
+pub(crate) fn own_version(
+    version: Option<&Version>,
+) -> std::result::Result<Option<Version>, AllocError>
     ensures { IfOk result
         (λ copy. option_map parts_of copy ≡ option_map (λ v. parts_of v.now) version.entry) }
 {

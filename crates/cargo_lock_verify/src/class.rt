@@ -3,7 +3,6 @@
 ghost use Rattle.std.specs.Prelude.{◌≡◌, count_by};
 ghost use Rattle.cargo_lock_verify.specs.Class as spec;
 
-
 /// What is known of a package by a comparison. Each package is in exactly one class.
 #[derive(Debug, Clone, Copy, PartialEq, Eq)]
 pub enum Class {
