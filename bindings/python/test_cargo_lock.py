@@ -467,7 +467,7 @@ class Lockfiles(unittest.TestCase):
         self.assertEqual(lockfile.bom(), cargo_lock.bill(LOCKFILE))
         self.assertEqual(lockfile.bom(True), cargo_lock.bill(LOCKFILE, True))
         other = Lockfile.parse(LOCKFILE.replace("0.1.0", "0.2.0"))
-        self.assertEqual(lockfile.diff(other), ("~ app 0.1.0 -> 0.2.0 (path)",))
+        self.assertEqual(lockfile.diff(other), ("~ app 0.1.0 -> 0.2.0 (path) (incompatible)",))
         self.assertEqual(lockfile.diff(lockfile), ())
 
     def test_findings_have_kinds(self):

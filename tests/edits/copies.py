@@ -156,8 +156,9 @@ def is_judged(said):
 def proves_others(copies, said):
     """Returns whether a check of a whole crate proved each function that is no copy."""
     names = {it.path for it in copies}
-    others = {verdict for name, verdict in VERDICT.findall(said) if name not in names}
-    return others == {"proved"}
+    others = [verdict for name, verdict in VERDICT.findall(said) if name not in names]
+    # (of a closure it says "proved where its callers give what it asks")
+    return bool(others) and all(it.split()[0] == "proved" for it in others)
 
 
 def try_all(crate, edits, kept, say):

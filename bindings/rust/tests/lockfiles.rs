@@ -353,7 +353,8 @@ fn methods_answer_as_the_functions() {
     assert_eq!(read.survives(3), Ok(true));
     assert_eq!(read.bom(true), bill(&text, true));
     let other = Lockfile::parse(text.replace("0.1.0", "0.2.0")).unwrap();
-    assert_eq!(read.diff(&other, false), Ok("~ app 0.1.0 -> 0.2.0 (path)\n".to_owned()));
+    let update = "~ app 0.1.0 -> 0.2.0 (path) (incompatible)\n";
+    assert_eq!(read.diff(&other, false), Ok(update.to_owned()));
     assert!(Lockfile::parse("version = 5").is_err());
 }
 

@@ -131,8 +131,8 @@ fn status_of<S: AsStr, E: Write>(
 
 /// Prints the messages of faults, each as `report` does.
 fn put_faults<E: Write>(err: &mut E, faults: &[Fault]) {
-    for fault in faults {
-        let _ = put_message(err, fault);
+    for one in faults {
+        let _ = put_message(err, one);
     }
 }
 
