@@ -72,7 +72,7 @@ impl EdgeDirection {
     /// inverted, to its dependents.
     ///
     /// ```
-    /// let direction = EdgeDirection::of_tree(options.get_flag("invert"));
+    /// let direction = EdgeDirection::of_tree(is_inverted);
     /// ```
     pub fn of_tree(is_inverted: bool) -> EdgeDirection
         ensures { result ≡ cond is_inverted Incoming Outgoing }
