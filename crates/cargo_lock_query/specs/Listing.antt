@@ -1,7 +1,7 @@
 -- The lines of the packages of one name, with what needs each.
 use Rattle.std.specs.Prelude.{◌≡◌, ◌-◌, ◌≤◌, ◌⊎◌, ℕ, All, Contains, List, [], ◌∷◌, ◌++◌}
 use Rattle.std.specs.Prelude.{Option, None}
-use Rattle.std.specs.Prelude.{Some, codes, if◌then◌else◌, length, map, option_map, replicate}
+use Rattle.std.specs.Prelude.{Some, codes, length, map, option_map, replicate}
 use Rattle.std.specs.Prelude.{slice_get, string_bytes}
 use Rattle.std.specs.List.{flat_map}
 use Rattle.std.specs.Ordering.{eq_by_cmp}

@@ -28,9 +28,10 @@ pub enum Answer<'a> {
 /// `Shown` shows them.
 ///
 /// ```
-/// let answer = Answer::Nothing(package);
-/// let text = AnswerText(&list, &answer);
-/// println!(rt; "{text}")?;
+/// for answer in &answers.answers {
+///     let text = AnswerText(&answers.list, answer);
+///     println!(rt; "{text}")?;
+/// }
 /// ```
 #[derive(Clone, Copy)]
 pub struct AnswerText<'a>(pub &'a Indexed<'a, Package>, pub &'a Answer<'a>);

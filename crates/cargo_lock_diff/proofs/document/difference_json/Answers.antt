@@ -10,5 +10,5 @@ pub returns : goal.returns
 returns c =
     let lines = c.args.lines.now in
     let items = items-located (λ line (x : Change). change_json line (change_of x))
-    (λ (x : Change). change_line_in lines (change_of x)) c.in_ok-locate.located.items c.args.changes.now c.in_ok-locate.ensures in
+    (λ (x : Change). change_line_in lines (change_of x)) c.in_ok-located.located.items c.args.changes.now c.in_ok-located.ensures in
     rw (map-map (lined_change_json lines) change_of c.args.changes.now, sym items, sym c.of-summary.ensures, sym c.deref.ensures.value) c.difference_document.ensures
