@@ -5,5 +5,5 @@ use Rattle.cargo_lock_verify.proofs.reporting.reported_archives.Given as goal
 
 -- what is reported of the findings so far
 abbrev pub invariant-loop-finding : goal.invariant-loop-finding
-invariant-loop-finding l = l.reported.items ≡ reported_archives l.fn.report.now.is_of_all l.fn.report.now.counts l.fn.path.now l.fn.lines.now
+invariant-loop-finding l = l.reported.items ≡ reported_archives l.report.is_of_all l.report.counts l.path l.lines
     (map archive_finding_of (take l.finding-index l.report.findings.items))
