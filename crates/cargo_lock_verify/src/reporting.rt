@@ -36,7 +36,7 @@ pub fn reported_archives(
         ≡ spec.reported_archives report.now.is_of_all report.now.counts path.now lines.now
         (map archive_finding_of report.now.findings.items)) }
 {
-    let missing = report.is_of_all || report.counts.matches == 0;
+    let missing = missing_counts(report);
     let mut reported = Vec::with_capacity(alloc, report.findings.len())?;
     for finding in &report.findings {
         let line = finding.line(lines);
@@ -44,6 +44,13 @@ pub fn reported_archives(
         reported.push(reported_archive(alloc, finding, missing, spot)?)?;
     }
     Ok(reported)
+}
+
+// Whether a package without an archive counts: all packages are asked for, or no archive matches.
+fn missing_counts(report: &Report<'_, '_>) -> bool
+    ensures { result ≡ spec.missing_counts report.now.is_of_all report.now.counts }
+{
+    report.is_of_all || report.counts.matches == 0
 }
 
 // A finding of archives at a spot, where a package without an archive counts or does not.
