@@ -39,11 +39,24 @@ pub fn reported_archives(
     let missing = missing_counts(report);
     let mut reported = Vec::with_capacity(alloc, report.findings.len())?;
     for finding in &report.findings {
-        let line = finding.line(lines);
-        let spot = Spot { path, line };
-        reported.push(reported_archive(alloc, finding, missing, spot)?)?;
+        reported.push(archive_at_line(alloc, path, finding, missing, lines)?)?;
     }
     Ok(reported)
+}
+
+// A finding of archives in the lockfile at a path, at the line of its package.
+fn archive_at_line(
+    alloc: Global,
+    path: &str,
+    finding: &Finding<'_, '_>,
+    missing: bool,
+    lines: &PackageLines<'_>,
+) -> Result<Reported, AllocError>
+    ensures { IfOk result (λ reported. reported
+        ≡ reported_archive missing path.now lines.now (archive_finding_of finding.now)) }
+{
+    let line = finding.line(lines);
+    reported_archive(alloc, finding, missing, Spot { path, line })
 }
 
 // Whether a package without an archive counts: all packages are asked for, or no archive matches.
