@@ -37,8 +37,9 @@ pub fn reported_archives(
         (map archive_finding_of report.now.findings.items)) }
 {
     let missing = missing_counts(report);
-    let mut reported = Vec::with_capacity(alloc, report.findings.len())?;
-    for finding in &report.findings {
+    let findings = report.findings.as_slice();
+    let mut reported = Vec::with_capacity(alloc, findings.len())?;
+    for finding in findings {
         reported.push(archive_at_line(alloc, path, finding, missing, lines)?)?;
     }
     Ok(reported)
